@@ -1,0 +1,4 @@
+pub mod Rank
+pub mod Cert
+pub mod Names
+pub mod Padding

@@ -1,0 +1,30 @@
+//! What every other crate names: node ids, ranks, certificates, group names, the small list types
+//! and want of memory.
+//!
+//! The types stand here for good, and the definitions of the model speak of them. A list type is a
+//! vector that contracts see as the list of its items, so a message, an event or a record that holds
+//! one *is* a value of the model. A [`NodeId`] is seen as its number, a [`GroupName`] as its bytes.
+//!
+//! The contracts used above: `GroupName::parse` accepts exactly the names with `IsGroupName`, and its
+//! refusals are `name_fault`; `of` and `items` of each list type are that list.
+#![tactic(auto)]
+
+mod cert;
+mod cutter;
+mod group_name;
+mod lists;
+mod memory;
+mod node_id;
+mod rank;
+mod shelf;
+mod why;
+
+pub use cert::{Cert, Child, Line};
+pub use cutter::cut;
+pub use group_name::{GroupName, NameFault};
+pub use lists::{Bytes, CertList, ChildList, IdList, LineList, ShelfList, Text};
+pub use memory::Memory;
+pub use node_id::NodeId;
+pub use rank::Rank;
+pub use shelf::Shelf;
+pub use why::Why;

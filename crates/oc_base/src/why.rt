@@ -1,0 +1,42 @@
+use std::fmt;
+
+/// Why a line of a text is refused.
+#[derive(Clone, Copy, Debug, PartialEq, Eq, Hash)]
+pub enum Why {
+    /// The first line is not the header in full.
+    Header,
+    /// The word names nothing that may stand there.
+    Word,
+    /// The number of words is wrong.
+    Count,
+    /// A field is not spelled as a number.
+    Number,
+    /// A number is out of its range.
+    Range,
+    /// A field is no group name.
+    Group,
+    /// A field is no hexadecimal.
+    Hex,
+}
+
+impl Why {
+    /// The word that names the cause in an error line.
+    pub fn word(self) -> &'static str {
+        match self {
+            Why::Header => "header",
+            Why::Word => "word",
+            Why::Count => "count",
+            Why::Number => "number",
+            Why::Range => "range",
+            Why::Group => "group",
+            Why::Hex => "hex",
+        }
+    }
+}
+
+impl fmt::Display for Why {
+    fn fmt<W: fmt::Write>(&self, f: &mut fmt::Formatter<W>) -> fmt::Result {
+        let word = self.word();
+        write!(f, "{word}")
+    }
+}

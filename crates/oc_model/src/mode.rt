@@ -1,0 +1,14 @@
+use oc_base::NodeId;
+
+/// Where a node stands in the tree.
+#[derive(Clone, Copy, Debug, PartialEq, Eq)]
+pub enum Mode {
+    /// Out of the tree.
+    Idle,
+    /// It has asked this node to be its parent.
+    Asking(NodeId),
+    /// This node is its parent.
+    Joined(NodeId),
+    /// It is a root.
+    Acting,
+}

@@ -1,0 +1,26 @@
+//! What lies outside a program: where bytes come from and where they go.
+//!
+//! A [`Source`] gives bytes and a [`Sink`] takes them. Each is seen by relations between the value
+//! before a call and the value after it: `gives old bytes new` says that these bytes came and that
+//! nothing else happened, `fails old bytes new` that these bytes came and a call then failed. A
+//! source in memory gives the front of what is left, and a real stream any bytes. Each counts its
+//! faults: no count falls, and a call answers [`Failed`] only where its count rose.
+//!
+//! The layers above use [`read_all`] and [`write_all`]. `read_all` gives exactly the bytes up to
+//! the end, or says that a call failed or that more bytes came than were allowed. `write_all` has
+//! all bytes taken, or says that a call failed when a front of them had been taken.
+#![tactic(auto)]
+
+mod fault;
+mod read_fault;
+mod reading;
+mod sink;
+mod source;
+mod writing;
+
+pub use fault::Failed;
+pub use read_fault::ReadFault;
+pub use reading::read_all;
+pub use sink::Sink;
+pub use source::Source;
+pub use writing::write_all;

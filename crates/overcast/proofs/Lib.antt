@@ -1,0 +1,2 @@
+mod PureKinds
+mod WordLemmas

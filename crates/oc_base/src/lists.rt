@@ -1,11 +1,11 @@
-ghost use Rattle.std.specs.Prelude.{◌≡◌, IfOk};
+ghost use Rattle.std.specs.Prelude.{◌≡◌, ◌++◌, OnOk, OnErr};
 
 use crate::{Cert, Child, Line, NodeId, Shelf};
 use std::alloc::AllocError;
 use std::marker::Model;
 
 /// Bytes, as those of a chunk. Contracts see it as the list of its items.
-#[derive(Debug, Drop)]
+#[derive(Clone, Debug, Drop)]
 pub struct Bytes {
     items: Vec<u8>,
 }
@@ -31,18 +31,17 @@ impl Bytes {
         self.items.as_slice()
     }
 
-    /// The same list, in memory of its own.
-    pub fn copied(&self) -> Result<Bytes, AllocError>
-        ensures { IfOk result (λ list. list ≡ self.now) }
+    /// Puts more bytes at the end. Where memory is wanted the bytes stay as they were.
+    pub fn append(&mut self, more: &[u8]) -> Result<(), AllocError>
+        ensures ok { OnOk result (self.new ≡ self.old ++ more.now) }
+        ensures err { OnErr result (self.new ≡ self.old) }
     {
-        Ok(Bytes {
-            items: self.items.clone()?,
-        })
+        self.items.extend_from_slice(more)
     }
 }
 
 /// The bytes of a text, as of a part of an HTTP head. Contracts see it as the list of its items.
-#[derive(Debug, Drop)]
+#[derive(Clone, Debug, Drop)]
 pub struct Text {
     items: Vec<u8>,
 }
@@ -67,19 +66,10 @@ impl Text {
     {
         self.items.as_slice()
     }
-
-    /// The same list, in memory of its own.
-    pub fn copied(&self) -> Result<Text, AllocError>
-        ensures { IfOk result (λ list. list ≡ self.now) }
-    {
-        Ok(Text {
-            items: self.items.clone()?,
-        })
-    }
 }
 
 /// Node ids. Contracts see it as the list of its items.
-#[derive(Debug, Drop)]
+#[derive(Clone, Debug, Drop)]
 pub struct IdList {
     items: Vec<NodeId>,
 }
@@ -104,19 +94,10 @@ impl IdList {
     {
         self.items.as_slice()
     }
-
-    /// The same list, in memory of its own.
-    pub fn copied(&self) -> Result<IdList, AllocError>
-        ensures { IfOk result (λ list. list ≡ self.now) }
-    {
-        Ok(IdList {
-            items: self.items.clone()?,
-        })
-    }
 }
 
 /// Certificates. Contracts see it as the list of its items.
-#[derive(Debug, Drop)]
+#[derive(Clone, Debug, Drop)]
 pub struct CertList {
     items: Vec<Cert>,
 }
@@ -142,19 +123,10 @@ impl CertList {
     {
         self.items.as_slice()
     }
-
-    /// The same list, in memory of its own.
-    pub fn copied(&self) -> Result<CertList, AllocError>
-        ensures { IfOk result (λ list. list ≡ self.now) }
-    {
-        Ok(CertList {
-            items: self.items.clone()?,
-        })
-    }
 }
 
 /// Lines of a listing. Contracts see it as the list of its items.
-#[derive(Debug, Drop)]
+#[derive(Clone, Debug, Drop)]
 pub struct LineList {
     items: Vec<Line>,
 }
@@ -180,19 +152,10 @@ impl LineList {
     {
         self.items.as_slice()
     }
-
-    /// The same list, in memory of its own.
-    pub fn copied(&self) -> Result<LineList, AllocError>
-        ensures { IfOk result (λ list. list ≡ self.now) }
-    {
-        Ok(LineList {
-            items: self.items.clone()?,
-        })
-    }
 }
 
 /// What is held, group by group. Contracts see it as the list of its items.
-#[derive(Debug, Drop)]
+#[derive(Clone, Debug, Drop)]
 pub struct ShelfList {
     items: Vec<Shelf>,
 }
@@ -218,19 +181,10 @@ impl ShelfList {
     {
         self.items.as_slice()
     }
-
-    /// The same list, in memory of its own.
-    pub fn copied(&self) -> Result<ShelfList, AllocError>
-        ensures { IfOk result (λ list. list ≡ self.now) }
-    {
-        Ok(ShelfList {
-            items: self.items.clone()?,
-        })
-    }
 }
 
 /// Children with their rates. Contracts see it as the list of its items.
-#[derive(Debug, Drop)]
+#[derive(Clone, Debug, Drop)]
 pub struct ChildList {
     items: Vec<Child>,
 }
@@ -255,14 +209,5 @@ impl ChildList {
         ensures { result.now ≡ self.now }
     {
         self.items.as_slice()
-    }
-
-    /// The same list, in memory of its own.
-    pub fn copied(&self) -> Result<ChildList, AllocError>
-        ensures { IfOk result (λ list. list ≡ self.now) }
-    {
-        Ok(ChildList {
-            items: self.items.clone()?,
-        })
     }
 }

@@ -1,13 +1,12 @@
-// A library with one function.
+//! What holds of every world that events lead to from a new one, whatever they are: laws of the
+//! definitions of `oc_model`, with no premise.
+//!
+//! A law is a public function with an empty body. Code that relies on it calls it, and then knows its
+//! clauses: `content_stays_true` speaks of the world after a list of events, and
+//! `content_stays_true_throughout` of each world on the way, as a replay needs it. The lemmas on
+//! processes and groups in `proofs/` are of the model alone, for whoever stands above.
 #![tactic(auto)]
 
-ghost use Rattle.std.specs.Prelude.{◌≡◌};
-ghost use Rattle.oc_laws.specs.Echo.{echo_of};
+mod content;
 
-// The `ensures` clause is the contract: what `echo` returns is `echo_of` of its argument, a definition
-// in `specs/Echo.antt`, which a caller's clause can cite too.
-pub fn echo(x: usize) -> usize
-    ensures { result ≡ echo_of x }
-{
-    x
-}
+pub use content::{content_stays_true, content_stays_true_throughout};

@@ -82,7 +82,8 @@ abbrev pub grown : Group → ℕ → List ℕ → Bool → Group
 grown k start bytes last = record {
   name = k.name;
   bytes = k.bytes ++ drop (length k.bytes - start) bytes;
-  sealed = k.sealed || adds_seal k (start + length bytes) last }
+  sealed = k.sealed || adds_seal k (start + length bytes) last;
+}
 
 -- where Joined to the sender, a fetch goes to it
 abbrev pub asks_on : Mode → ℕ → Outcome → Outcome

@@ -18,6 +18,6 @@ first_path =
 -- node 2 fetches, node 1 answers with all five bytes, and node 2 holds them
 pub record FirstPath : Type 0 where
   pub sent : (world_after (new_world two_nodes) first_path).net
-    ≡ record { from = 2; to = 1; body = Fetch [] } ∷ record { from = 1; to = 2; body = Chunk (codes "/a") 0 (codes "hello") false } ∷ []
+      ≡ record { from = 2; to = 1; body = Fetch [] } ∷ record { from = 1; to = 2; body = Chunk (codes "/a") 0 (codes "hello") false } ∷ []
   pub held : shelf (node (world_after (new_world two_nodes) first_path) 2).groups
-    ≡ record { group = codes "/a"; held = 5; sealed = false } ∷ []
+      ≡ record { group = codes "/a"; held = 5; sealed = false } ∷ []

@@ -1,12 +1,12 @@
-use Rattle.std.specs.Prelude.{ℕ, ◌+◌, Bool, true, false, not, ◌&&◌, nat_lt, nat_le, if◌then◌else◌, Option, Some, None, List, [], ◌∷◌, length, map, is_some}
+use Rattle.std.specs.Prelude.{◌≡◌, ℕ, ◌+◌, Bool, true, false, not, ◌&&◌, nat_lt, nat_le, if◌then◌else◌, Option, Some, None, List, [], ◌∷◌, length, map, is_some}
+use Rattle.std.specs.List.{AllByRecursion}
+use Rattle.std.specs.declared.cmp.Ordering.TheVariants.{Less}
 use Rattle.std.specs.Ordering.{nat_cmp, is_eq, match_ordering}
 use Rattle.std.specs.Cmp.Lexicographic.{slice_cmp}
 use Rattle.oc_base.specs.declared.shelf.Shelf.{Shelf}
 use Rattle.oc_model.specs.declared.answer.Answer.{Answer}
 use Rattle.oc_model.specs.declared.answer.Answer.TheVariants as answers
 use Rattle.oc_model.specs.declared.group.Group.{Group}
-
--- the groups of a node are a list, ascending by the bytes of the name
 
 -- whether two names are one
 abbrev pub same_name : List ℕ → List ℕ → Bool
@@ -55,3 +55,12 @@ limit ks g end =
     if not (is_some (group_of g ks)) && nat_le most_groups (length ks) then Some answers.Groups
     else if nat_lt most_bytes end then Some answers.TooLong
     else None
+
+-- all these groups have greater names
+abbrev pub AreAbove : List ℕ → List Group → Type 0
+AreAbove g ks = AllByRecursion (λ k. slice_cmp nat_cmp g k.name ≡ Less) ks
+
+-- each name is greater than those before it
+abbrev pub IsAscending : List Group → Type 0
+IsAscending [] = Unit {0}
+IsAscending (k ∷ ks) = AreAbove k.name ks × IsAscending ks

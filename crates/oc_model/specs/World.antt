@@ -76,7 +76,8 @@ abbrev pub stepped : World → Input → Outcome → World
 stepped w input o = record {
   processes = with_process w.processes (record { node = o.node; up = true });
   net = w.net ++ o.sends;
-  source = source_after w.source input o.answer }
+  source = source_after w.source input o.answer;
+}
 
 -- to whom an input goes
 pub record Aimed : Type 0 where

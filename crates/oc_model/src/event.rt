@@ -1,7 +1,7 @@
 use oc_base::{Bytes, GroupName, NodeId};
 
 /// One line of a schedule: what happens next in the network.
-#[derive(Debug, Drop)]
+#[derive(Clone, Debug, Drop)]
 pub enum Event {
     /// The node starts from its disks.
     Up(NodeId),
@@ -12,7 +12,7 @@ pub enum Event {
 }
 
 /// An event that is an input of one node.
-#[derive(Debug, Drop)]
+#[derive(Clone, Debug, Drop)]
 pub enum Act {
     Pull {
         node: NodeId,

@@ -2,7 +2,7 @@ use crate::Message;
 use oc_base::{Bytes, GroupName, NodeId};
 
 /// What comes to a node.
-#[derive(Debug, Drop)]
+#[derive(Clone, Debug, Drop)]
 pub enum Input {
     /// To ask this node for more of every group.
     Pull(NodeId),

@@ -1,7 +1,7 @@
 use oc_base::{Bytes, GroupName, NodeId, ShelfList};
 
 /// A message from one node to another.
-#[derive(Debug, Drop)]
+#[derive(Clone, Debug, Drop)]
 pub struct Message {
     pub from: NodeId,
     pub to: NodeId,
@@ -9,10 +9,12 @@ pub struct Message {
 }
 
 /// What a message says.
-#[derive(Debug, Drop)]
+#[derive(Clone, Debug, Drop)]
 pub enum Body {
     /// Asks for more, and names all that the sender holds.
-    Fetch { have: ShelfList },
+    Fetch {
+        have: ShelfList,
+    },
     /// Brings the bytes of a group from `start` on; `last` where they end a sealed group.
     Chunk {
         group: GroupName,

@@ -1,1 +1,4 @@
 pub mod Faults
+pub mod Tally
+pub mod SourceView
+pub mod SinkView

@@ -9,9 +9,16 @@
 //! The layers above use [`read_all`] and [`write_all`]. `read_all` gives exactly the bytes up to
 //! the end, or says that a call failed or that more bytes came than were allowed. `write_all` has
 //! all bytes taken, or says that a call failed when a front of them had been taken.
+//!
+//! [`MemSource`] and [`MemSink`] keep their bytes in memory and fail at given calls. There the
+//! relations say which bytes came or went, and a call fails only where it is listed or the sink is
+//! full.
 #![tactic(auto)]
 
+mod call_tally;
 mod fault;
+mod mem_sink;
+mod mem_source;
 mod read_fault;
 mod reading;
 mod sink;
@@ -19,6 +26,8 @@ mod source;
 mod writing;
 
 pub use fault::Failed;
+pub use mem_sink::MemSink;
+pub use mem_source::MemSource;
 pub use read_fault::ReadFault;
 pub use reading::read_all;
 pub use sink::Sink;

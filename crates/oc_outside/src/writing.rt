@@ -1,4 +1,4 @@
-ghost use Rattle.std.specs.Prelude.{◌≡◌, ℕ, ◌<◌, ◌≤◌, List, length, take, OnOk, OnErr};
+ghost use Rattle.std.specs.Prelude.{◌≡◌, ℕ, ◌<◌, length, take, OnOk, OnErr};
 ghost use Rattle.oc_outside.specs.Faults.{NoFall, Rose};
 
 use crate::fault::Failed;
@@ -10,7 +10,7 @@ pub fn write_all<K: Sink>(sink: &mut K, bytes: &[u8]) -> Result<(), Failed>
 
     // A front had been taken when a call failed.
     ensures fails { OnErr result
-        ((n : ℕ) × (n ≤ length bytes.now) × K.fails sink.old (take n bytes.now) sink.new) }
+        ((n : ℕ) × (n < length bytes.now) × K.fails sink.old (take n bytes.now) sink.new) }
 
     ensures count { NoFall (K.faults sink.old) (K.faults sink.new) }
     ensures cause { OnErr result (Rose (K.faults sink.old) (K.faults sink.new)) }

@@ -1,13 +1,16 @@
-// A library with one function.
+//! Schedules: the text of a run, read line by line into a header and a list of events.
 #![tactic(auto)]
 
-ghost use Rattle.std.specs.Prelude.{◌≡◌};
-ghost use Rattle.oc_schedule.specs.Echo.{echo_of};
+mod draft;
+mod fault;
+mod fields;
+mod law;
+mod lines;
+mod schedule;
+mod words;
 
-// The `ensures` clause is the contract: what `echo` returns is `echo_of` of its argument, a definition
-// in `specs/Echo.antt`, which a caller's clause can cite too.
-pub fn echo(x: usize) -> usize
-    ensures { result ≡ echo_of x }
-{
-    x
-}
+pub use fault::{ScheduleFault, What};
+pub use law::examples_are_read;
+pub use oc_base::Why;
+pub use oc_model::{Act, Event};
+pub use schedule::Schedule;

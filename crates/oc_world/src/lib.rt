@@ -1,13 +1,13 @@
-// A library with one function.
+//! All nodes of a network and every message between them, and what a replay plays on.
+//!
+//! [`Stage`] is the one contract that the layer above uses: a stage shows a world of the model, and
+//! says what world an event leads to and in which word. [`World`] is the stage whose three functions
+//! are those of the model: `new_world`, `next_world` and `word_of`.
 #![tactic(auto)]
 
-ghost use Rattle.std.specs.Prelude.{◌≡◌};
-ghost use Rattle.oc_world.specs.Echo.{echo_of};
 
-// The `ensures` clause is the contract: what `echo` returns is `echo_of` of its argument, a definition
-// in `specs/Echo.antt`, which a caller's clause can cite too.
-pub fn echo(x: usize) -> usize
-    ensures { result ≡ echo_of x }
-{
-    x
-}
+
+mod groups;
+mod stage;
+
+pub use stage::{Said, Stage};

@@ -14,7 +14,7 @@ use Rattle.clap.specs.Matches.{count_text}
 use Rattle.clap.specs.Walk.{Held, Names, Row, Rule, Step, Text, Waiting, Walk, is_pending, takes_several, idle, option, positional, next, trailing, subcommand, value, action_of, arg_by_id, arg_by_index, arg_by_long, arg_by_short, attached_value, count_of, has_row, is_empty, most_values, settled, takes_values, walked, with_default, finished, nothing_held, walk, walk_from, word_met, answers_to, subcommand_met, values_or_missing}
 use Rattle.clap.specs.Simple.{App, Shape, argument_words, built, entered, label_of, names_of}
 use Rattle.clap.specs.Takes.{is_given}
-use Rattle.clap.specs.Faults.{action_fault, bundle_step_fault, count_fault, fault_of, flag_word_fault, flags_fault, long_fault, option_fault, other_fault, positional_fault, react_fault, set_fault, settle_fault, short_fault, stray_fault, use_fault, walk_fault, word_fault, step_fault, turn_fault, given_default_fault, default_fault, defaults_fault, check_fault, level_fault, entered_fault, built_fault, values_fault}
+use Rattle.clap.specs.Faults.{action_fault, bundle_step_fault, count_fault, fault_of, flag_word_fault, flags_fault, long_fault, option_fault, other_fault, positional_fault, react_fault, set_fault, settle_fault, short_fault, stray_fault, use_fault, walk_fault, word_fault, step_fault, turn_fault, default_fault, defaults_fault, check_fault, level_fault, entered_fault}
 use Rattle.clap.specs.declared.builder.action.ArgAction.{ArgAction}
 use Rattle.clap.specs.declared.builder.action.ArgAction.TheVariants as action
 use Rattle.clap.specs.declared.builder.value_parser.ValueParser.{ValueParser}

@@ -1,4 +1,4 @@
-use Rattle.std.proofs.Common.{ℕ, ◌≡◌, ◌≤◌, ◌<◌, ◌+◌, List, length, take, ◌++◌, [], ap, subst, arith, vec_len, length-append}
+use Rattle.std.proofs.Common.{ℕ, ◌≡◌, ◌≤◌, ◌<◌, ◌+◌, List, length, take, ◌++◌, [], ap, subst, arith, length-append}
 use Rattle.std.proofs.lemmas.List.{append-nil, length-take-le}
 use Rattle.std.proofs.lemmas.Grind.{common_steps}
 use Rattle.oc_outside.proofs.Counts.{Rose-after}

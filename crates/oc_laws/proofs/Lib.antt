@@ -1,0 +1,11 @@
+pub mod Lists
+pub mod Names
+pub mod Groups
+pub mod Processes
+pub mod Places
+pub mod Fronts
+pub mod Truth
+pub mod Fair
+pub mod Rules
+pub mod Worlds
+pub mod Kept

@@ -1,0 +1,45 @@
+use Rattle.std.specs.Prelude.{◌≡◌, ℕ, Result, Ok, Err}
+use Rattle.oc_schedule.specs.declared.fault.LineFault.{LineFault}
+use Rattle.oc_schedule.specs.declared.fault.LineFault.TheVariants as lines
+use Rattle.oc_schedule.specs.declared.fault.ScheduleFault.{ScheduleFault}
+use Rattle.oc_schedule.specs.declared.fault.ScheduleFault.TheVariants.{Line, Limit, Memory}
+use Rattle.oc_base.specs.declared.why.Why.{Why}
+
+-- How reading is said: a function on lists gives a value or the first fault, and a call gives what it gives.
+
+-- the `?` of the definitions: the second step, if the first gave a value
+infixl 10 ◌>>=◌
+abbrev pub ◌>>=◌ : {A B E : Type 0} → Result A E → (A → Result B E) → Result B E
+Ok x >>= f = f x
+Err e >>= f = Err e
+
+-- this fault in the place of each
+abbrev pub with_fault : {A E F : Type 0} → F → Result A E → Result A F
+with_fault fault (Ok x) = Ok x
+with_fault fault (Err e) = Err fault
+
+-- a cause, at this line
+abbrev pub at_line : {A : Type 0} → ℕ → Result A Why → Result A ScheduleFault
+at_line i (Ok x) = Ok x
+at_line i (Err why) = Err (Line i why)
+
+-- what a call gave is what reading says, unless memory ran out
+abbrev pub Gives : {A : Type 0} → Result A ScheduleFault → Result A ScheduleFault → Type 0
+Gives (Ok x) read = read ≡ Ok x
+Gives (Err (Line i why)) read = read ≡ Err (Line i why)
+Gives (Err (Limit what)) read = read ≡ Err (Limit what)
+Gives (Err Memory) read = Unit {0}
+
+-- the same of one line, seen by view, where the only fault is a cause
+abbrev pub GivesLineBy : {X A : Type 0} → (X → A) → Result X LineFault → Result A Why → Type 0
+GivesLineBy view (Ok x) read = read ≡ Ok (view x)
+GivesLineBy view (Err (lines.Cause why)) read = read ≡ Err why
+GivesLineBy view (Err lines.Memory) read = Unit {0}
+
+abbrev pub GivesLine : {A : Type 0} → Result A LineFault → Result A Why → Type 0
+GivesLine = GivesLineBy (λ x. x)
+
+-- and of fields, seen by view, which take no memory
+abbrev pub GivesFields : {X A : Type 0} → (X → A) → Result X Why → Result A Why → Type 0
+GivesFields view (Ok x) read = read ≡ Ok (view x)
+GivesFields view (Err why) read = read ≡ Err why

@@ -1,0 +1,49 @@
+use Rattle.std.specs.Prelude.{◌≡◌, ℕ, ◌+◌, ◌<◌, ◌≤◌, max, List, [], ◌∷◌, ◌++◌, length}
+use Rattle.std.specs.List.{range_with_len, AllByRecursion}
+use Rattle.oc_model.specs.declared.group.Group.{Group}
+use Rattle.oc_model.specs.declared.message.Message.{Message}
+use Rattle.oc_model.specs.declared.word.Word.{Word}
+use Rattle.oc_model.specs.Groups.{most_groups, most_bytes}
+use Rattle.oc_model.specs.World.{World, Process, Header, ids}
+use Rattle.oc_world.specs.declared.stage.Said.{Said}
+
+-- what is said of an event that turned one world into another: this word, and by which messages the net grew
+pub record IsSaid (told : Word) (old new : World) (said : Said) : Type 0 where
+  pub word : said.word ≡ told
+  pub first : said.first ≡ length old.net + 1
+  pub count : length new.net ≡ length old.net + said.count
+  pub few : length new.net < 9223372036854775808
+
+-- a node holds nothing
+abbrev pub HoldsNothing : Process → Type 0
+HoldsNothing p = p.node.groups ≡ []
+
+-- no clock is past this time
+abbrev pub IsBefore : ℕ → Process → Type 0
+IsBefore t p = p.node.clock ≤ t
+
+-- the ids are those of the header, nothing was sent, no group is held, and no clock has run
+pub record IsBlank (h : Header) (w : World) : Type 0 where
+  pub ids : ids w ≡ range_with_len 1 h.nodes
+  pub net : w.net ≡ []
+  pub groups : AllByRecursion HoldsNothing w.processes
+  pub clocks : AllByRecursion (IsBefore 1099511627776) w.processes
+
+-- all that was sent stays sent
+abbrev pub IsLater : World → World → Type 0
+IsLater old new = (more : List Message) × (new.net ≡ old.net ++ more)
+
+-- an event takes no clock past the latest one, or past 2^40, by more than 60 seconds
+abbrev pub KeepsTime : World → World → Type 0
+KeepsTime old new = (t : ℕ) → 1099511627776 ≤ t → AllByRecursion (IsBefore t) old.processes → AllByRecursion (IsBefore (t + 60)) new.processes
+
+abbrev pub IsSmall : Group → Type 0
+IsSmall k = length k.bytes ≤ most_bytes
+
+-- a node holds no more than the limits allow
+abbrev pub IsWithinLimits : Process → Type 0
+IsWithinLimits p = (length p.node.groups ≤ most_groups) × AllByRecursion IsSmall p.node.groups
+
+-- an event takes no node past the limits
+abbrev pub KeepsLimits : World → World → Type 0
+KeepsLimits old new = AllByRecursion IsWithinLimits old.processes → AllByRecursion IsWithinLimits new.processes

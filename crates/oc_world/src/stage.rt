@@ -1,0 +1,70 @@
+ghost use Rattle.std.specs.Prelude.{◌≡◌, ℕ, ◌<◌, List, [], length, OnOk, IfOk};
+ghost use Rattle.std.specs.List.{range_with_len};
+ghost use Rattle.oc_model.specs.declared.event.Event.{Event as ModelEvent};
+ghost use Rattle.oc_model.specs.declared.word.Word.{Word as ModelWord};
+ghost use Rattle.oc_model.specs.Groups.{shelf};
+ghost use Rattle.oc_model.specs.Lawful.{IsHeader, IsEvent, IsNode};
+ghost use Rattle.oc_model.specs.World.{World as WorldState, Header, ids, node as node_in, message_at};
+ghost use Rattle.oc_world.specs.Stage.{IsSaid, IsBlank, IsLater, KeepsTime, KeepsLimits};
+
+use oc_base::{Memory, NodeId, Shelf};
+use oc_model::{Event, Message, Word};
+
+/// What is said of an event: its word, and the messages that it sent.
+#[derive(Clone, Copy, Debug, PartialEq, Eq)]
+pub struct Said {
+    pub word: Word,
+    /// The number of the first message that the event sent, or of the next to come where it sent none.
+    pub first: u64,
+    /// How many messages it sent.
+    pub count: u64,
+}
+
+/// What a replay plays on. Its meaning is a world of the model.
+///
+/// Each stage type says which world a header opens, which world an event leads to, and in which
+/// word. So whoever writes a report over a stage of any type knows a word only from the stage.
+pub trait Stage {
+    /// The world that it shows.
+    ghost world: { Self → WorldState };
+
+    /// The world that a header opens.
+    ghost first: { Header → WorldState };
+
+    /// The world after an event.
+    ghost after: { WorldState → ModelEvent → WorldState };
+
+    /// The word of an event.
+    ghost word: { WorldState → ModelEvent → ModelWord };
+
+    /// Opens the world of a header: nodes from 1 to 1,024, a chain from 1 to 16 that is no longer,
+    /// and the area of each node, ascending by id.
+    fn open(&mut self, nodes: u32, chain: u32, areas: &[u8]) -> Result<(), Memory>
+        requires { IsHeader (record { nodes = nodes; chain = chain; areas = areas.now }) }
+        ensures { OnOk result (world self.new ≡ first (record { nodes = nodes; chain = chain; areas = areas.now })) };
+
+    /// Does what an event does. Nothing is said of the stage after want of memory.
+    fn event(&mut self, event: &Event) -> Result<Said, Memory>
+        requires { IsEvent (length (ids (world self.old))) event.now }
+        ensures world { OnOk result (world self.new ≡ after (world self.old) event.now) }
+        ensures said { IfOk result (λ said. IsSaid (word (world self.old) event.now) (world self.old) (world self.new) said) };
+
+    /// The message of this number, counted from 1 over all that were sent; none where there is none.
+    fn message(&self, number: u64) -> Result<Option<Message>, Memory>
+        ensures { IfOk result (λ found. found ≡ message_at (world self.now).net number) };
+
+    /// The groups of a node, ascending by name.
+    fn held(&self, node: NodeId) -> Result<Vec<Shelf>, Memory>
+        requires { IsNode (length (ids (world self.now))) node }
+        ensures { IfOk result (λ lines. lines.items ≡ shelf (node_in (world self.now) node).groups) };
+
+    ghost opens: { (h : Header) → IsHeader h → IsBlank h (first h) };
+
+    ghost keeps_ids: { (w : WorldState) (e : ModelEvent) → IsEvent (length (ids w)) e → ids (after w e) ≡ ids w };
+
+    ghost keeps_net: { (w : WorldState) (e : ModelEvent) → IsEvent (length (ids w)) e → IsLater w (after w e) };
+
+    ghost keeps_time: { (w : WorldState) (e : ModelEvent) → IsEvent (length (ids w)) e → KeepsTime w (after w e) };
+
+    ghost keeps_limits: { (w : WorldState) (e : ModelEvent) → IsEvent (length (ids w)) e → KeepsLimits w (after w e) };
+}

@@ -1,0 +1,28 @@
+-- The command by which `clap` reads the words, as a term: what its builders make.
+use Rattle.std.specs.Prelude.{◌≡◌, true, false, codes}
+use Rattle.clap.specs.Words.{App, Shape, new_app, shape_of, with_subcommand}
+use Rattle.clap.specs.Simple.{new_shape, on_top}
+use Rattle.clap.specs.declared.builder.command.Command.{Command}
+use Rattle.clap.specs.declared.builder.command.Command.TheViews.{out-Command as fields_of}
+
+-- the words begin behind the program's name, one of them has to be a subcommand, and there is no
+-- subcommand `help`
+abbrev pub bare_command : App
+bare_command = on_top (λ s. record s {
+  no_binary_name = true;
+  disable_help_subcommand = true;
+  subcommand_required = true;
+}) (new_app (codes "overcast"))
+
+-- `replay`, which takes no further word
+abbrev pub replay_shape : Shape
+replay_shape = new_shape (codes "replay")
+
+-- the command with each of its subcommands
+unfoldable pub command : App
+command = with_subcommand bare_command replay_shape
+
+-- c is a subcommand of this shape, and no argument of it reaches past it
+pub record IsSubcommand (shape : Shape) (c : Command) : Type 0 where
+  pub reads : shape_of c ≡ shape
+  pub is_local : (fields_of c).has_globals ≡ false

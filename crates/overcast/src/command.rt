@@ -1,0 +1,31 @@
+//! The command by which `clap` reads the words of the program. Each subcommand is one function.
+ghost use Rattle.std.specs.Prelude.{◌≡◌, IfOk};
+ghost use Rattle.clap.specs.Words.{app_of};
+ghost use Rattle.overcast.specs.Command.{IsSubcommand, bare_command, command, replay_shape};
+
+use clap::Command;
+use std::alloc::{AllocError, Global};
+
+/// The command, with each of its subcommands.
+#[tactic(auto, unfolding(crate::specs::Command::command))]
+pub fn command<'a>(alloc: Global) -> Result<Command<'a>, AllocError>
+    ensures { IfOk result (λ c. app_of c ≡ command) }
+{
+    bare_command(alloc).subcommand(replay_command(alloc))
+}
+
+/// The command without its subcommands, for words that do not begin with the program's name.
+fn bare_command<'a>(alloc: Global) -> Command<'a>
+    ensures { app_of result ≡ bare_command }
+{
+    Command::new(alloc, "overcast")
+        .no_binary_name(true)
+        .disable_help_subcommand(true)
+        .subcommand_required(true)
+}
+
+fn replay_command<'a>(alloc: Global) -> Command<'a>
+    ensures { IsSubcommand replay_shape result }
+{
+    Command::new(alloc, "replay")
+}

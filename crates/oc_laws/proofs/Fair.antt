@@ -8,8 +8,8 @@ use Rattle.oc_model.specs.declared.message.Message.{Message}
 use Rattle.oc_model.specs.Groups.{with_group}
 use Rattle.oc_model.specs.Node.{Node, Outcome, says, sends, keeps}
 use Rattle.oc_model.specs.Content.{fetches}
-use Rattle.oc_laws.proofs.Groups.{ascend-with_group}
-use Rattle.oc_laws.proofs.Lists.{all_append}
+use Rattle.oc_model.proofs.Groups.{ascend-with_group}
+use Rattle.oc_model.proofs.Lists.{all_append}
 use Rattle.oc_laws.proofs.Truth.{Grows, grows_itself, grows_with, MayReplace, IsHeld, Holds, holds_with, holds_same, AreSame, same_with, IsTrue, shelf_true}
 
 -- a node with groups of this source, and with all of them if it is node 1

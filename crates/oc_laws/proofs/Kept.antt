@@ -6,8 +6,8 @@ use Rattle.oc_model.specs.declared.message.Body.TheVariants.{Fetch, Chunk}
 use Rattle.oc_model.specs.Claims.{HoldPrefixes, HoldAcknowledged, IsAcknowledged, SealedAreWhole, IsTrueChunk, ChunksAreTrue, SealedSourceStays}
 use Rattle.oc_model.specs.World.{World, Header, node, new_world, next_world, world_after}
 use Rattle.oc_laws.specs.Throughout.{Throughout}
-use Rattle.oc_laws.proofs.Lists.{all_weaker}
-use Rattle.oc_laws.proofs.Processes.{process_in-me}
+use Rattle.oc_model.proofs.Lists.{all_weaker}
+use Rattle.oc_model.proofs.Processes.{process_in-me}
 use Rattle.oc_laws.proofs.Truth.{IsTrueOfSource, IsTrueOfSender}
 use Rattle.oc_laws.proofs.Worlds.{Sound, IsTrueIn, sound_new, sound_after, event_turn}
 

@@ -1,8 +1,3 @@
-pub mod Lists
-pub mod Names
-pub mod Groups
-pub mod Processes
-pub mod Places
 pub mod Fronts
 pub mod Truth
 pub mod Fair

@@ -19,7 +19,7 @@ use Rattle.oc_model.specs.Step.{received, step}
 use Rattle.oc_model.specs.World.{source_after}
 use Rattle.oc_laws.proofs.Fair.{Ready, Fair, fair_says, fair_sends, fair_fetches, fair_source, fair_keeps}
 use Rattle.oc_laws.proofs.Fronts.{IsFront, IsPiece, front_append, front_whole, front_itself, joined, joined_front, joined_length, joined_within}
-use Rattle.oc_laws.proofs.Groups.{ascend-found, group_of-name, group_or_empty-name, group_or_empty-held}
+use Rattle.oc_model.proofs.Groups.{ascend-found, group_of-name, group_or_empty-name, group_or_empty-held}
 use Rattle.oc_laws.proofs.Truth.{MayReplace, IsHeld, Holds, IsTrueOfSource, chunk_true}
 
 -- what an input does, with the source after it

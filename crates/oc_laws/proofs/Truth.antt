@@ -10,9 +10,9 @@ use Rattle.oc_model.specs.Claims.{Keeps, IsPieceOf}
 use Rattle.oc_model.specs.Content.{chunk_at}
 use Rattle.oc_model.specs.Groups.{same_name, group_of, with_group, shelf, most_chunk, IsAscending}
 use Rattle.oc_laws.proofs.Fronts.{IsFront, front_itself, front_along, front_length, piece_along, piece_cut}
-use Rattle.oc_laws.proofs.Groups.{AreFoundIn, ascend-found, ascend-with_group, group_of-with_group}
-use Rattle.oc_laws.proofs.Lists.{all_weaker}
-use Rattle.oc_laws.proofs.Names.{names_equal}
+use Rattle.oc_model.proofs.Groups.{AreFoundIn, ascend-found, ascend-with_group, group_of-with_group}
+use Rattle.oc_model.proofs.Lists.{all_weaker}
+use Rattle.oc_model.proofs.Names.{names_equal}
 
 -- what is found at this name has at least the bytes of k, and is k if k is sealed
 pub record IsGrown (k : Group) (g : List ℕ) (new : List Group) : Type 0 where

@@ -12,8 +12,8 @@ use Rattle.oc_model.specs.Node.{Node, Outcome, new_node, restarted}
 use Rattle.oc_model.specs.Step.{step}
 use Rattle.oc_model.specs.World.{World, Process, Header, Aimed, node, process, process_in, with_process, new_world, message_at, source_after, stepped, delivery, aimed, acted, next_world, world_after}
 use Rattle.oc_laws.proofs.Fair.{Ready, Fair, MaySend}
-use Rattle.oc_laws.proofs.Lists.{all_weaker, all_append, all_get}
-use Rattle.oc_laws.proofs.Processes.{process_in-me, process_in-with_up, process_in-down, at_put, at_put_up}
+use Rattle.oc_model.proofs.Lists.{all_weaker, all_append, all_get}
+use Rattle.oc_model.proofs.Processes.{process_in-me, process_in-with_up, process_in-down, at_put, at_put_up}
 use Rattle.oc_laws.proofs.Rules.{IsTrueInput, step_fair}
 use Rattle.oc_laws.proofs.Truth.{Grows, grows_itself, holds_along, AreSame, IsTrue, true_along}
 

@@ -1,8 +1,7 @@
 -- The list of a node's groups: what is found after one was put, and that it stays ascending.
-use Rattle.std.proofs.Common.{◌≡◌, ℕ, Bool, true, false, cond, List, [], ◌∷◌, Option, Some, None, Ordering, Less, Equal, Greater, nat_cmp, is_eq, if◌then◌else◌, refl, ap, sym, subst, ◌∙◌}
+use Rattle.std.proofs.Common.{◌≡◌, ℕ, Bool, true, false, List, [], ◌∷◌, Option, Some, None, Ordering, Less, Equal, Greater, nat_cmp, is_eq, if◌then◌else◌, refl, ap, sym, subst, ◌∙◌}
 use Rattle.std.specs.Cmp.Lexicographic.{slice_cmp}
 use Rattle.std.specs.List.{AllByRecursion}
-use Rattle.std.specs.Ordering.{match_ordering}
 use Rattle.oc_model.specs.declared.group.Group.{Group}
 use Rattle.oc_model.specs.Groups.{same_name, group_of, with_group, group_or_empty, or_empty, AreAbove, IsAscending}
 use Rattle.oc_model.proofs.Lists.{all_weaker, all_both}
@@ -22,6 +21,7 @@ over_head g k j js e = by_test (same_name g k.name) refl where
   by_test true h = rw h
   by_test false h = let other : same_name g j.name ≡ false = rw (← e) h in rw (h, other)
 
+-- a group with a greater name than the head is put behind it
 past_head : (g : List ℕ) (k j : Group) (js : List Group) → slice_cmp nat_cmp k.name j.name ≡ Greater → put_found g k js → group_of g (j ∷ with_group k js) ≡ put_at g k (group_of g (j ∷ js))
 past_head g k j js e rest = by_test (same_name g j.name) refl where
   by_test : (b : Bool) → same_name g j.name ≡ b → group_of g (j ∷ with_group k js) ≡ put_at g k (group_of g (j ∷ js))
@@ -40,9 +40,11 @@ group_of-with_group g k (j ∷ js) = by_order (group_of-with_group g k js) (slic
   by_order rest Equal e = rw e (over_head g k j js (names_tied k.name j.name e))
   by_order rest Greater e = rw e (past_head g k j js e rest)
 
+-- at its own name the group that was put is found
 pub group_of-with_group_same : (k : Group) (ks : List Group) → group_of k.name (with_group k ks) ≡ Some k
 group_of-with_group_same k ks = group_of-with_group k.name k ks ∙ rw (same_name-itself k.name)
 
+-- at another name, what was found before
 pub group_of-with_group_other : (g : List ℕ) (k : Group) (ks : List Group) → same_name g k.name ≡ false → group_of g (with_group k ks) ≡ group_of g ks
 group_of-with_group_other g k ks h = group_of-with_group g k ks ∙ rw h
 
@@ -70,6 +72,7 @@ group_or_empty-held g ks t h =
     let found : group_of g ks ≡ Some t = rw (group_or_empty-name g ks) at h in
     ap (or_empty g) found
 
+-- a group with a greater name may be put among greater names
 above_more : (g : List ℕ) (k : Group) (ks : List Group) → slice_cmp nat_cmp g k.name ≡ Less → AreAbove g ks → AreAbove g (with_group k ks)
 above_more g k [] h all = (h, tt)
 above_more g k (j ∷ js) h all = by_order (above_more g k js h all.1) (slice_cmp nat_cmp k.name j.name) refl where
@@ -78,13 +81,14 @@ above_more g k (j ∷ js) h all = by_order (above_more g k js h all.1) (slice_cm
   by_order rest Equal e = rw e (h, all.1)
   by_order rest Greater e = rw e (all.0, rest)
 
+-- what is above a name is above a lesser one
 pub above_lower : (a b : List ℕ) (ks : List Group) → slice_cmp nat_cmp a b ≡ Less → AreAbove b ks → AreAbove a ks
 above_lower a b ks h all = all_weaker (λ k. slice_cmp nat_cmp b k.name ≡ Less) (λ k. slice_cmp nat_cmp a k.name ≡ Less) (λ k e. names_rise a b k.name h e) ks all
 
 -- a list that ascends does so once a group was put
-pub IsAscending-with_group : (k : Group) (ks : List Group) → IsAscending ks → IsAscending (with_group k ks)
-IsAscending-with_group k [] up = (tt, tt)
-IsAscending-with_group k (j ∷ js) up = by_order (IsAscending-with_group k js up.1) (slice_cmp nat_cmp k.name j.name) refl where
+pub ascend-with_group : (k : Group) (ks : List Group) → IsAscending ks → IsAscending (with_group k ks)
+ascend-with_group k [] up = (tt, tt)
+ascend-with_group k (j ∷ js) up = by_order (ascend-with_group k js up.1) (slice_cmp nat_cmp k.name j.name) refl where
   by_order : IsAscending (with_group k js) → (o : Ordering) → slice_cmp nat_cmp k.name j.name ≡ o → IsAscending (with_group k (j ∷ js))
   by_order rest Less e = rw e ((e, above_lower k.name j.name js e up.0), up)
   by_order rest Equal e = rw e (subst (λ g. AreAbove g js) (sym (names_tied k.name j.name e)) up.0, up.1)
@@ -94,12 +98,14 @@ IsAscending-with_group k (j ∷ js) up = by_order (IsAscending-with_group k js u
 abbrev pub AreFoundIn : List Group → List Group → Type 0
 AreFoundIn all ks = AllByRecursion (λ k. group_of k.name all ≡ Some k) ks
 
+-- what is found behind a lesser name is found with it
 behind_head : (j k : Group) (js : List Group) → slice_cmp nat_cmp j.name k.name ≡ Less → group_of k.name js ≡ Some k → group_of k.name (j ∷ js) ≡ Some k
 behind_head j k js e h = rw (names_apart j.name k.name e) h
 
-pub IsAscending-found : (ks : List Group) → IsAscending ks → AreFoundIn ks ks
-IsAscending-found [] up = tt
-IsAscending-found (j ∷ js) up = (
+-- in a list that ascends each group is found by its name
+pub ascend-found : (ks : List Group) → IsAscending ks → AreFoundIn ks ks
+ascend-found [] up = tt
+ascend-found (j ∷ js) up = (
   rw (same_name-itself j.name),
-  all_both (λ k. slice_cmp nat_cmp j.name k.name ≡ Less) (λ k. group_of k.name js ≡ Some k) (λ k. group_of k.name (j ∷ js) ≡ Some k) (λ k e h. behind_head j k js e h) js up.0 (IsAscending-found js up.1),
+  all_both (λ k. slice_cmp nat_cmp j.name k.name ≡ Less) (λ k. group_of k.name js ≡ Some k) (λ k. group_of k.name (j ∷ js) ≡ Some k) (λ k e h. behind_head j k js e h) js up.0 (ascend-found js up.1),
 )

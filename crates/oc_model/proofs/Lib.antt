@@ -2,3 +2,4 @@ pub mod Lists
 pub mod Names
 pub mod Groups
 pub mod Processes
+pub mod Places

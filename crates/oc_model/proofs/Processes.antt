@@ -1,5 +1,6 @@
 -- The list of processes: what is found at an id after one was put, and what a new world has.
-use Rattle.std.proofs.Common.{◌≡◌, ℕ, Bool, true, false, List, [], ◌∷◌, ◌⊎◌, inl, inr, map, if◌then◌else◌, ◌==◌, refl, ap, sym, ◌∙◌, eqb-true, eq-eqb, ne_eqb}
+use Rattle.std.proofs.Common.{◌≡◌, ℕ, Bool, true, false, List, [], ◌∷◌, ◌⊎◌, inl, inr, map, if◌then◌else◌, ◌==◌, refl, ap, sym, subst, ◌∙◌, ⊎_elim, eqb-true, eq-eqb, ne_eqb}
+use Rattle.std.proofs.lemmas.Bool.{cases_eq}
 use Rattle.oc_model.specs.Node.{Node}
 use Rattle.oc_model.specs.World.{Process, down, process_in, with_process}
 
@@ -26,6 +27,7 @@ process_in-with_other (p ∷ ps) q x away = by_test (process_in-with_other ps q 
 abbrev pub IsPutOrDown : List Process → Process → Type 0
 IsPutOrDown ps q = (process_in (with_process ps q) q.node.me ≡ q) ⊎ ((process_in ps q.node.me ≡ down q.node.me) × (process_in (with_process ps q) q.node.me ≡ down q.node.me))
 
+-- at the id of the process that was put, it or a new node's is found
 pub process_in-with_same : (ps : List Process) (q : Process) → IsPutOrDown ps q
 process_in-with_same [] q = inr (refl, refl)
 process_in-with_same (p ∷ ps) q = by_test (process_in-with_same ps q) (p.node.me == q.node.me) refl where
@@ -48,3 +50,26 @@ process_in-down (y ∷ ys) x = by_test (process_in-down ys x) (y == x) refl wher
   by_test : process_in (map down ys) x ≡ down x → (b : Bool) → (y == x) ≡ b → process_in (map down (y ∷ ys)) x ≡ down x
   by_test rest true e = rw e (ap down (eqb-true y x e))
   by_test rest false e = rw e rest
+
+-- what is so of the node that was put and of those before is so at each id
+pub at_put : (ps : List Process) (q : Process) (P : Node → Type 0) (x : ℕ) → (q.node.me ≡ x → P q.node) → P (process_in ps x).node → P (process_in (with_process ps q) x).node
+at_put ps q P x new old = ⊎_elim here there (cases_eq q.node.me x) where
+  by_case : q.node.me ≡ x → IsPutOrDown ps q → P (process_in (with_process ps q) q.node.me).node
+  by_case e (inl put) = subst (λ (p : Process). P p.node) (sym put) (new e)
+  by_case e (inr none) = subst (λ (p : Process). P p.node) (none.0 ∙ sym (none.1)) (subst (λ (y : ℕ). P (process_in ps y).node) (sym e) old)
+
+  here : q.node.me ≡ x → P (process_in (with_process ps q) x).node
+  here e = subst (λ (y : ℕ). P (process_in (with_process ps q) y).node) e (by_case e (process_in-with_same ps q))
+
+  there : (q.node.me ≡ x → ⊥) → P (process_in (with_process ps q) x).node
+  there apart = subst (λ (p : Process). P p.node) (sym (process_in-with_other ps q x apart)) old
+
+-- where it is put over one that is up, nothing need be known of that one
+pub at_put_up : (ps : List Process) (q : Process) (P : Node → Type 0) (x : ℕ) → (process_in ps q.node.me).up ≡ true
+    → (q.node.me ≡ x → P q.node) → ((q.node.me ≡ x → ⊥) → P (process_in ps x).node) → P (process_in (with_process ps q) x).node
+at_put_up ps q P x up new old = ⊎_elim here there (cases_eq q.node.me x) where
+  here : q.node.me ≡ x → P (process_in (with_process ps q) x).node
+  here e = subst (λ (y : ℕ). P (process_in (with_process ps q) y).node) e (subst (λ (p : Process). P p.node) (sym (process_in-with_up ps q up)) (new e))
+
+  there : (q.node.me ≡ x → ⊥) → P (process_in (with_process ps q) x).node
+  there apart = subst (λ (p : Process). P p.node) (sym (process_in-with_other ps q x apart)) (old apart)

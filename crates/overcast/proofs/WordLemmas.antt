@@ -16,18 +16,21 @@ use Rattle.overcast.proofs.PureKinds.{pure_faults}
 
 -- ---- from the verdict to the clauses
 
+-- `Replay` comes exactly where the words are accepted
 pub exactly_replay : (v : Verdict) (r : Result Request WordsFault) → Gives v r → ExactlyWhere r (Ok Replay) (v ≡ accepted)
 exactly_replay v (Ok Replay) g = record { only = λ _. g; wherever = λ _. inl refl }
 exactly_replay v (Ok Help) g = record { only = λ e. cc; wherever = λ e. cc }
 exactly_replay v (Err Usage) g = record { only = λ e. cc; wherever = λ e. cc }
 exactly_replay v (Err Memory) g = record { only = λ e. cc; wherever = λ _. inr refl }
 
+-- `Help` comes exactly where they are answered by help
 pub exactly_help : (v : Verdict) (r : Result Request WordsFault) → Gives v r → ExactlyWhere r (Ok Help) (v ≡ helped)
 exactly_help v (Ok Replay) g = record { only = λ e. cc; wherever = λ e. cc }
 exactly_help v (Ok Help) g = record { only = λ _. g; wherever = λ _. inl refl }
 exactly_help v (Err Usage) g = record { only = λ e. cc; wherever = λ e. cc }
 exactly_help v (Err Memory) g = record { only = λ e. cc; wherever = λ _. inr refl }
 
+-- `Usage` comes exactly where they are refused
 pub exactly_usage : (v : Verdict) (r : Result Request WordsFault) → Gives v r → ExactlyWhere r (Err Usage) (v ≡ refused)
 exactly_usage v (Ok Replay) g = record { only = λ e. cc; wherever = λ e. cc }
 exactly_usage v (Ok Help) g = record { only = λ e. cc; wherever = λ e. cc }
@@ -39,7 +42,9 @@ plain_accepted : verdict_of (codes "replay" ∷ []) ≡ accepted
 unfolding verdict_of command clap_on_literals
 plain_accepted = refl
 
-pub plainly : (words : List Text) (r : Result Request WordsFault) → Gives (verdict_of words) r → IsPlain words → (r ≡ Ok Replay) ⊎ (r ≡ Err Memory)
+-- so their answer is `Replay`
+pub plainly : (words : List Text) (r : Result Request WordsFault) → Gives (verdict_of words) r → IsPlain words
+    → (r ≡ Ok Replay) ⊎ (r ≡ Err Memory)
 plainly words r g plain = (exactly_replay (verdict_of words) r g).wherever (ap verdict_of plain ∙ plain_accepted)
 
 -- ---- from `clap` to the verdict
@@ -57,6 +62,7 @@ is_exact : is_simple_and_free command ≡ true
 unfolding command
 is_exact = refl
 
+-- it has no subcommand `help`
 has_no_help : (built command).top.disable_help_subcommand ≡ true
 unfolding command
 has_no_help = refl
@@ -70,8 +76,8 @@ module _ (a : App) (is : a ≡ command) (words : List Text) where
       ap verdict_among (ap (λ x. fault_of x words) (sym is) ∙ none)
 
   -- an error came, which is of one of the kinds that can
-  pub failed : (e : Error) (r : Result Request WordsFault) → (is_simple_and_free a ≡ true → HasKind (fault_of a words) e)
-      → r ≡ answer_by (kind_of e) → Gives (verdict_of words) r
+  pub failed : (e : Error) (r : Result Request WordsFault)
+      → (is_simple_and_free a ≡ true → HasKind (fault_of a words) e) → r ≡ answer_by (kind_of e) → Gives (verdict_of words) r
   unfolding verdict_of
   failed e r h answer =
       let among = subst (λ (x : App). HasKind (fault_of x words) e) is (h (ap is_simple_and_free is ∙ is_exact)) in

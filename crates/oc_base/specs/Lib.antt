@@ -2,3 +2,4 @@ pub mod Rank
 pub mod Cert
 pub mod Names
 pub mod Padding
+pub mod Why

@@ -1,3 +1,6 @@
+ghost use Rattle.std.specs.Prelude.{◌≡◌};
+ghost use Rattle.oc_base.specs.Why.{why_text};
+
 use std::fmt;
 
 /// Why a line of a text is refused.
@@ -21,7 +24,9 @@ pub enum Why {
 
 impl Why {
     /// The word that names the cause in an error line.
-    pub fn word(self) -> &'static str {
+    pub fn word(self) -> &'static str
+        ensures { result.now ≡ why_text self }
+    {
         match self {
             Why::Header => "header",
             Why::Word => "word",

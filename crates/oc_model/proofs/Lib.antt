@@ -3,3 +3,4 @@ pub mod Names
 pub mod Groups
 pub mod Processes
 pub mod Places
+pub mod Outcomes

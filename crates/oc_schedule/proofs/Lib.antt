@@ -1,2 +1,5 @@
 pub mod Cuts
 pub mod Numbers
+pub mod Steps
+pub mod Ranges
+pub mod Lawful

@@ -1,11 +1,12 @@
-use Rattle.std.proofs.Common.{◌≡◌, ℕ, ◌<◌, ◌^◌, Bool, true, not, ◌&&◌, ◌==◌, List, length, slice_index, Result, Ok, Err, ltb, refl, arith, rules}
+use Rattle.std.proofs.Common.{◌≡◌, ℕ, ◌<◌, ◌^◌, ◌==◌, true, not, List, length, Result, Ok, Err, arith, rules}
 use Rattle.std.specs.Char.{is_ascii_digit}
 use Rattle.std.specs.List.{list_all}
 use Rattle.std.specs.Option.{SomeIff}
 use Rattle.std.specs.Result.{OkIff, result_ok}
 use Rattle.std.specs.Str.{IsUtf8}
 use Rattle.std.specs.Str.Parse.{ParsesUnsigned, digits_value}
-use Rattle.std.proofs.lemmas.Bool.{and_parts, ltb-true}
+use Rattle.std.proofs.lemmas.Bool.{and_parts}
+use Rattle.std.proofs.lemmas.Bool.Decides.{nat_tests}
 use Rattle.std.proofs.lemmas.Fmt.{IsAscii-from_digits}
 use Rattle.std.proofs.lemmas.Str.{IsUtf8-from_ascii}
 use Rattle.std.proofs.lemmas.Str.Parse.{IsNumeralModel, numerals_by_value, parse_digits}
@@ -22,9 +23,10 @@ numerals = numerals_by_value AreDigits (search rules)
 -- a number has some digits, and nothing else
 digits_from_number : (field : List ℕ) → is_number field ≡ true → (0 < length field) × AreDigits field
 digits_from_number field spelled =
-    let parts = and_parts _ _ spelled in
-    let front = and_parts _ _ parts.0 in
-    (ltb-true _ _ front.0, parts.1)
+    let parts = and_parts _ (list_all is_ascii_digit field) spelled in
+    let front = and_parts (not (length field == 0)) _ parts.0 in
+    let some : 0 < length field = grind (arith, nat_tests) in
+    (some, parts.1)
 
 -- and is text
 pub IsUtf8-number : (field : List ℕ) → is_number field ≡ true → IsUtf8 field

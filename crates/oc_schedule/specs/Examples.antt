@@ -1,4 +1,5 @@
-use Rattle.std.specs.Prelude.{◌≡◌, ℕ, Result, Ok, Err, List, [], ◌∷◌, ◌++◌, codes}
+use Rattle.std.specs.Prelude.{◌≡◌, ℕ, Ok, Err, List, [], ◌∷◌, ◌++◌, codes}
+use Rattle.oc_base.specs.declared.why.Why.{Why}
 use Rattle.oc_base.specs.declared.why.Why.TheVariants as causes
 use Rattle.oc_model.specs.declared.event.Act.TheVariants.{Pull, Publish, Seal, Deliver}
 use Rattle.oc_model.specs.declared.event.Event.{Event}
@@ -6,15 +7,44 @@ use Rattle.oc_model.specs.declared.event.Event.TheVariants.{Up, Do, Held}
 use Rattle.oc_schedule.specs.declared.fault.ScheduleFault.TheVariants.{Line}
 use Rattle.oc_schedule.specs.Schedule.{schedule_of}
 
--- The examples of schedules, and what they say.
+-- Worked examples: what these texts say.
 
 abbrev two_nodes : List ℕ
 two_nodes = codes "overcast 1 nodes 2 chain 1\n"
 
+-- two nodes in the area 0, and these events
+abbrev says : List ℕ → List Event → Type 0
+says text events = schedule_of text ≡ Ok (record { header = record { nodes = 2; chain = 1; areas = 0 ∷ 0 ∷ [] }; events = events })
+
+abbrev refuses : List ℕ → ℕ → Why → Type 0
+refuses text line why = schedule_of text ≡ Err (Line line why)
+
+abbrev hello : Event
+hello = Do (Publish 1 (codes "/a") (codes "hello"))
+
 pub record AreRead : Type 0 where
-  pub empty_schedule : schedule_of two_nodes
-    ≡ Ok (record { header = record { nodes = 2; chain = 1; areas = 0 ∷ 0 ∷ [] }; events = [] })
-  pub empty : schedule_of [] ≡ Err (Line 1 causes.Header)
-  pub first_path : schedule_of (codes "overcast 1 nodes 2 chain 1\nup 1\nup 2\npublish 1 /a 68656c6c6f\npull 2 1\ndeliver 1\ndeliver 2\nheld 2\n")
-    ≡ Ok (record { header = record { nodes = 2; chain = 1; areas = 0 ∷ 0 ∷ [] };
-      events = Up 1 ∷ Up 2 ∷ Do (Publish 1 (codes "/a") (codes "hello")) ∷ Do (Pull 2 1) ∷ Do (Deliver 1) ∷ Do (Deliver 2) ∷ Held 2 ∷ [] })
+  pub empty_schedule : says two_nodes []
+  pub first_path : says (two_nodes ++ codes "up 1\nup 2\npublish 1 /a 68656c6c6f\npull 2 1\ndeliver 1\ndeliver 2\nheld 2\n")
+      (Up 1 ∷ Up 2 ∷ hello ∷ Do (Pull 2 1) ∷ Do (Deliver 1) ∷ Do (Deliver 2) ∷ Held 2 ∷ [])
+  pub repeated_delivery : says (two_nodes ++ codes "up 1\nup 2\npublish 1 /a 68656c6c6f\npull 2 1\ndeliver 1\ndeliver 2\ndeliver 2\nheld 2\n")
+      (Up 1 ∷ Up 2 ∷ hello ∷ Do (Pull 2 1) ∷ Do (Deliver 1) ∷ Do (Deliver 2) ∷ Do (Deliver 2) ∷ Held 2 ∷ [])
+  pub publish_elsewhere : says (two_nodes ++ codes "up 1\nup 2\npublish 1 /a -\npublish 2 /a 61\nheld 1\n")
+      (Up 1 ∷ Up 2 ∷ Do (Publish 1 (codes "/a") []) ∷ Do (Publish 2 (codes "/a") (codes "a")) ∷ Held 1 ∷ [])
+  pub sealed_group : says (two_nodes ++ codes "up 1\nup 2\npublish 1 /a 6869\nseal 1 /a\npublish 1 /a 21\npull 2 1\ndeliver 1\ndeliver 2\nheld 2\npull 2 1\ndeliver 3\n")
+      (Up 1 ∷ Up 2 ∷ Do (Publish 1 (codes "/a") (codes "hi")) ∷ Do (Seal 1 (codes "/a")) ∷ Do (Publish 1 (codes "/a") (codes "!"))
+      ∷ Do (Pull 2 1) ∷ Do (Deliver 1) ∷ Do (Deliver 2) ∷ Held 2 ∷ Do (Pull 2 1) ∷ Do (Deliver 3) ∷ [])
+  pub skipped_lines : says (codes "\n  # a comment\n" ++ two_nodes ++ codes "# another\n\nup 1") (Up 1 ∷ [])
+  pub spaces_and_returns : says (codes "  overcast 1  nodes 2 chain 1 \r\nup 1\r\n") (Up 1 ∷ [])
+  pub areas : schedule_of (two_nodes ++ codes "area 2 7\narea 1 9\narea 2 255\n")
+      ≡ Ok (record { header = record { nodes = 2; chain = 1; areas = 9 ∷ 255 ∷ [] }; events = [] })
+  pub empty : refuses [] 1 causes.Header
+  pub no_header : refuses (codes "# nothing\n\n") 3 causes.Header
+  pub chain_too_long : refuses (codes "overcast 1 nodes 2 chain 3\n") 1 causes.Header
+  pub lone_return : refuses (two_nodes ++ codes "up 1\r") 2 causes.Number
+  pub late_area : refuses (two_nodes ++ codes "up 1\narea 1 9\n") 3 causes.Word
+  pub message_nought : refuses (two_nodes ++ codes "deliver 0\n") 2 causes.Range
+  pub leading_zero : refuses (two_nodes ++ codes "deliver 01\n") 2 causes.Number
+  pub too_many_words : refuses (two_nodes ++ codes "up x y\n") 2 causes.Count
+  pub first_field_first : refuses (two_nodes ++ codes "publish 3 a 0\n") 2 causes.Range
+  pub no_group : refuses (two_nodes ++ codes "publish 1 a 0\n") 2 causes.Group
+  pub odd_digits : refuses (two_nodes ++ codes "publish 1 /a 0\n") 2 causes.Hex

@@ -1,7 +1,7 @@
-use Rattle.std.specs.Prelude.{◌≡◌, ℕ, Bool, true, false, not, ◌&&◌, ◌==◌, nat_le, nat_lt, if◌then◌else◌, Result, Ok, Err, List, [], ◌∷◌, length, slice_index, filter, codes}
+use Rattle.std.specs.Prelude.{◌≡◌, ℕ, Bool, not, ◌&&◌, ◌==◌, nat_le, nat_lt, if◌then◌else◌, Result, Ok, Err, List, [], ◌∷◌, length, slice_index, filter, codes}
 use Rattle.std.specs.Char.{is_ascii_digit}
 use Rattle.std.specs.List.{list_all, slice_split}
-use Rattle.std.specs.Str.{bytes_eq}
+use Rattle.std.specs.Str.{byte, bytes_eq}
 use Rattle.std.specs.Str.Parse.{digits_value}
 use Rattle.hex.specs.Hex.{decode_of}
 use Rattle.oc_base.specs.Names.{parsed_name}
@@ -13,9 +13,9 @@ use Rattle.oc_schedule.specs.Reading.{with_fault}
 
 -- what stands between spaces
 abbrev pub words : List ℕ → List (List ℕ)
-words line = filter (λ word. not (length word == 0)) (slice_split (λ b. b == 32) line)
+words line = filter (λ word. not (length word == 0)) (slice_split (λ b. b == byte " ") line)
 
--- there is a field
+-- there is a field more
 abbrev pub IsMore : List (List ℕ) → Type 0
 IsMore fields = (a : List ℕ) × (rest : List (List ℕ)) × (fields ≡ a ∷ rest)
 
@@ -39,7 +39,7 @@ six fields = Err Count
 -- whether a field is spelled as a number: some digits, and no zero in front of others
 abbrev pub is_number : List ℕ → Bool
 is_number field =
-    nat_lt 0 (length field) && not (nat_lt 1 (length field) && slice_index field 0 == 48) && list_all is_ascii_digit field
+    not (length field == 0) && not (nat_lt 1 (length field) && slice_index field 0 == byte "0") && list_all is_ascii_digit field
 
 -- the number that a field spells, from least to most
 abbrev pub number_in : ℕ → ℕ → List ℕ → Result ℕ Why

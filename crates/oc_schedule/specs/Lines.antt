@@ -1,4 +1,4 @@
-use Rattle.std.specs.Prelude.{ℕ, ◌&&◌, if◌then◌else◌, Result, Ok, Err, List, [], ◌∷◌, min, replicate, codes}
+use Rattle.std.specs.Prelude.{ℕ, ◌&&◌, if◌then◌else◌, Result, Ok, Err, List, min, replicate, codes}
 use Rattle.std.specs.Str.{bytes_eq}
 use Rattle.oc_base.specs.declared.why.Why.{Why}
 use Rattle.oc_base.specs.declared.why.Why.TheVariants as causes
@@ -8,15 +8,16 @@ use Rattle.oc_model.specs.declared.event.Event.{Event}
 use Rattle.oc_model.specs.declared.event.Event.TheVariants.{Up, Do, Held}
 use Rattle.oc_model.specs.World.{Header}
 use Rattle.oc_schedule.specs.Fields.{one, two, three, six, number_in, node_in, group_in, bytes_in}
+use Rattle.oc_schedule.specs.Limits.{most_nodes, most_chain, most_area, most_number}
 use Rattle.oc_schedule.specs.Reading.{◌>>=◌, with_fault}
 
--- What a line says: one definition for each kind of line. A further kind is one more, and a row in `act_in` or `event_in`.
+-- What a line says, by its words: one definition for each kind of line, and a row for it in `act_in` or `event_in`.
 
 -- the numbers of nodes and of chain members
 abbrev pub sizes_in : List ℕ → List ℕ → Result (ℕ × ℕ) Why
 sizes_in n c = do
-  nodes ← number_in 1 1024 n
-  chain ← number_in 1 (min 16 nodes) c
+  nodes ← number_in 1 most_nodes n
+  chain ← number_in 1 (min most_chain nodes) c
   Ok (nodes, chain)
 
 -- `overcast 1 nodes N chain C`
@@ -24,8 +25,8 @@ abbrev pub opening_in : List (List ℕ) → Result (ℕ × ℕ) Why
 opening_in words = do
   (overcast, version, nodes, n, chain, c) ← six words
   if bytes_eq overcast (codes "overcast") && bytes_eq version (codes "1") && bytes_eq nodes (codes "nodes") && bytes_eq chain (codes "chain")
-    then sizes_in n c
-    else Err causes.Word
+      then sizes_in n c
+      else Err causes.Word
 
 -- the header, each fault of which is `header`; areas are 0
 abbrev pub header_in : List (List ℕ) → Result Header Why
@@ -38,7 +39,7 @@ abbrev pub area_in : ℕ → List (List ℕ) → Result (ℕ × ℕ) Why
 area_in nodes fields = do
   (n, a) ← two fields
   node ← node_in nodes n
-  area ← number_in 0 255 a
+  area ← number_in 0 most_area a
   Ok (node, area)
 
 -- `pull N P`
@@ -70,7 +71,7 @@ seal_in nodes fields = do
 abbrev pub deliver_in : List (List ℕ) → Result Act Why
 deliver_in fields = do
   k ← one fields
-  number ← number_in 1 18446744073709551615 k
+  number ← number_in 1 most_number k
   Ok (Deliver number)
 
 -- an act line, by its word
@@ -97,8 +98,8 @@ held_in nodes fields = do
   Ok (Held node)
 
 -- an act line that stands alone
-abbrev pub done_in : ℕ → List ℕ → List (List ℕ) → Result Event Why
-done_in nodes word fields = do
+abbrev pub act_alone_in : ℕ → List ℕ → List (List ℕ) → Result Event Why
+act_alone_in nodes word fields = do
   act ← act_in nodes word fields
   Ok (Do act)
 
@@ -107,4 +108,4 @@ abbrev pub event_in : ℕ → List ℕ → List (List ℕ) → Result Event Why
 event_in nodes word fields =
     if bytes_eq word (codes "up") then up_in nodes fields
     else if bytes_eq word (codes "held") then held_in nodes fields
-    else done_in nodes word fields
+    else act_alone_in nodes word fields

@@ -23,12 +23,20 @@ abbrev pub at_line : {A : Type 0} → ℕ → Result A Why → Result A Schedule
 at_line i (Ok x) = Ok x
 at_line i (Err why) = Err (Line i why)
 
--- what a call gave is what reading says, unless memory ran out
+-- what a call gave, seen by view, is what reading says, unless memory ran out
+abbrev pub GivesBy : {X A : Type 0} → (X → A) → Result X ScheduleFault → Result A ScheduleFault → Type 0
+GivesBy view (Ok x) read = read ≡ Ok (view x)
+GivesBy view (Err (Line i why)) read = read ≡ Err (Line i why)
+GivesBy view (Err (Limit what)) read = read ≡ Err (Limit what)
+GivesBy view (Err Memory) read = Unit {0}
+
 abbrev pub Gives : {A : Type 0} → Result A ScheduleFault → Result A ScheduleFault → Type 0
-Gives (Ok x) read = read ≡ Ok x
-Gives (Err (Line i why)) read = read ≡ Err (Line i why)
-Gives (Err (Limit what)) read = read ≡ Err (Limit what)
-Gives (Err Memory) read = Unit {0}
+Gives = GivesBy (λ x. x)
+
+-- a fault of the line of this number
+abbrev pub fault_at : ℕ → LineFault → ScheduleFault
+fault_at i (lines.Cause why) = Line i why
+fault_at i lines.Memory = Memory
 
 -- the same of one line, seen by view, where the only fault is a cause
 abbrev pub GivesLineBy : {X A : Type 0} → (X → A) → Result X LineFault → Result A Why → Type 0

@@ -1,41 +1,36 @@
-ghost use Rattle.std.specs.Prelude.{◌≡◌, ◌≤◌, ◌∷◌, ◌<◌, length};
+ghost use Rattle.std.specs.Prelude.{◌≡◌, ◌≤◌, length, Some};
 ghost use Rattle.oc_model.specs.Lawful.{IsNode};
 ghost use Rattle.oc_schedule.specs.Fields.{words};
-ghost use Rattle.oc_schedule.specs.Reading.{GivesLineBy};
-ghost use Rattle.oc_schedule.specs.Schedule.{opened, with_area, most_published};
+ghost use Rattle.oc_schedule.specs.Limits.{most_published};
+ghost use Rattle.oc_schedule.specs.Reading.{GivesBy, GivesLineBy};
+ghost use Rattle.oc_schedule.specs.Schedule.{first_script, read_statement, with_area, with_event, within_published};
 ghost use Rattle.oc_schedule.specs.Script.{published_by, published_in};
 
-use crate::fault::{LineFault, ScheduleFault};
+use crate::Schedule;
+use crate::fault::{LineFault, MOST_PUBLISHED, ScheduleFault, What};
 use crate::lines::{area, event, opening};
 use crate::words::is;
-use crate::Schedule;
 use oc_base::{NodeId, Why};
 use oc_model::{Act, Event};
-use std::alloc::{AllocError, Global};
+use std::alloc::Global;
 
-/// The most bytes that all publish events have together.
-const MOST_PUBLISHED: usize = 262_144;
-
-/// What the lines so far say, from the header on.
+/// The schedule of the lines so far, from the header on.
 #[derive(Drop)]
 pub(crate) struct Draft {
-    pub schedule: Schedule,
-    /// The bytes that all its events publish.
+    schedule: Schedule,
+    /// The bytes that its events publish.
     published: usize,
     ghost counted: { published ≡ published_in schedule.events },
-    ghost few: { published ≤ most_published },
+    ghost within: { published ≤ most_published },
     ghost areas: { length schedule.header.areas ≡ schedule.header.nodes },
 }
 
 impl Draft {
-    /// The draft that a header opens.
-    fn opened(alloc: Global, line: &[u8]) -> Result<Draft, LineFault>
-        ensures { GivesLineBy (λ d. d.schedule) result (opened (words line.now)) }
+    /// The draft after the header.
+    pub fn from_header(alloc: Global, line: &[u8]) -> Result<Draft, LineFault>
+        ensures { GivesLineBy (λ d. d.schedule) result (first_script (words line.now)) }
     {
-        let (nodes, chain) = match opening(line) {
-            Ok(sizes) => sizes,
-            Err(_) => return Err(LineFault::Cause(Why::Header)),
-        };
+        let (nodes, chain) = opening(line).map_err(|_| Why::Header)?;
         let areas = vec![in alloc; 0; nodes as usize]?;
         Ok(Draft {
             schedule: Schedule {
@@ -46,6 +41,36 @@ impl Draft {
             },
             published: 0,
         })
+    }
+
+    /// The draft after one line more, which is not skipped and has this number, first word and
+    /// fields.
+    pub fn with_line(
+        self,
+        alloc: Global,
+        number: u32,
+        word: &[u8],
+        fields: &[u8],
+    ) -> Result<Draft, ScheduleFault>
+        ensures { GivesBy (λ d. d.schedule) result
+            (read_statement number (Some self.schedule) word.now (words fields.now)) }
+    {
+        let nodes = self.schedule.nodes;
+        if is(word, "area") && self.schedule.events.is_empty() {
+            let (node, area) = area(nodes, fields).map_err(|why| LineFault::Cause(why).at(number))?;
+            Ok(self.with_area(node, area))
+        } else {
+            let event = event(alloc, nodes, word, fields).map_err(|fault| fault.at(number))?;
+            self.with_event(event)
+        }
+    }
+
+    /// The schedule, once all lines are read.
+    pub fn into_schedule(self) -> Schedule
+        ensures { result ≡ self.schedule }
+    {
+        let Draft { schedule, .. } = self;
+        schedule
     }
 
     /// The draft with this area of a node.
@@ -62,6 +87,26 @@ impl Draft {
             schedule,
             published,
         }
+    }
+
+    /// The draft with one event more, where it does not publish too much.
+    fn with_event(self, event: Event) -> Result<Draft, ScheduleFault>
+        ensures { GivesBy (λ d. d.schedule) result
+            (within_published (with_event self.schedule event)) }
+    {
+        let Draft {
+            mut schedule,
+            published,
+        } = self;
+        let more = published_by(&event);
+        if more > MOST_PUBLISHED - published {
+            return Err(ScheduleFault::Limit(What::Published));
+        }
+        schedule.events.push(event)?;
+        Ok(Draft {
+            schedule,
+            published: published + more,
+        })
     }
 }
 

@@ -1,3 +1,7 @@
+ghost use Rattle.std.specs.Prelude.{◌≡◌};
+ghost use Rattle.oc_schedule.specs.Limits.{most_of, what_text};
+ghost use Rattle.oc_schedule.specs.Reading.{fault_at};
+
 use oc_base::Why;
 use std::alloc::{AllocError, AllocFailed};
 use std::error::Error;
@@ -6,7 +10,7 @@ use std::fmt;
 /// Why a text is no schedule.
 #[derive(Clone, Copy, Debug, PartialEq, Eq)]
 pub enum ScheduleFault {
-    /// A line, counted from 1, is refused for this cause.
+    /// This line, counted from 1, is refused for this cause.
     Line { line: u32, why: Why },
     /// The text passes a limit.
     Limit(What),
@@ -14,29 +18,115 @@ pub enum ScheduleFault {
     Memory,
 }
 
-/// What has a limit.
+/// What a text may not have too many of.
 #[derive(Clone, Copy, Debug, PartialEq, Eq)]
 pub enum What {
-    /// The lines of a text: 100,000, those that are skipped too.
+    /// Lines, those that are skipped too.
     Lines,
-    /// The bytes of a text: 67,108,864.
+    /// Bytes.
     Bytes,
-    /// The bytes that all publish events have together: 262,144.
+    /// Bytes that its events publish.
     Published,
 }
 
-/// Why a line says nothing.
+impl What {
+    /// The word that names the limit in an error line.
+    pub fn word(self) -> &'static str
+        ensures { result.now ≡ what_text self }
+    {
+        match self {
+            What::Lines => "lines",
+            What::Bytes => "bytes",
+            What::Published => "published",
+        }
+    }
+
+    /// How many there may be.
+    pub fn most(self) -> usize
+        ensures { result ≡ most_of self }
+    {
+        match self {
+            What::Lines => MOST_LINES as usize,
+            What::Bytes => MOST_BYTES,
+            What::Published => MOST_PUBLISHED,
+        }
+    }
+}
+
+/// The most lines of a text.
+pub(crate) const MOST_LINES: u32 = 100_000;
+
+/// The most bytes of a text.
+pub(crate) const MOST_BYTES: usize = 67_108_864;
+
+/// The most bytes that the events of a text publish.
+pub(crate) const MOST_PUBLISHED: usize = 262_144;
+
+impl fmt::Display for What {
+    fn fmt<W: fmt::Write>(&self, f: &mut fmt::Formatter<W>) -> fmt::Result {
+        let word = self.word();
+        let most = self.most();
+        write!(f, "{word} {most}")
+    }
+}
+
+impl fmt::Display for ScheduleFault {
+    fn fmt<W: fmt::Write>(&self, f: &mut fmt::Formatter<W>) -> fmt::Result {
+        match self {
+            ScheduleFault::Line { line, why } => write!(f, "line {line}: {why}"),
+            ScheduleFault::Limit(what) => write!(f, "limit {what}"),
+            ScheduleFault::Memory => write!(f, "out of memory"),
+        }
+    }
+}
+
+impl Error for ScheduleFault {}
+
+impl From<AllocError> for ScheduleFault {
+    ghost use Rattle.oc_schedule.specs.declared.fault.ScheduleFault.TheVariants.{Memory};
+
+    ghost from_gives = { λ _ fault. fault ≡ Memory };
+
+    fn from(_error: AllocError) -> ScheduleFault {
+        ScheduleFault::Memory
+    }
+}
+
+impl<T: Drop> From<AllocFailed<T>> for ScheduleFault {
+    ghost use Rattle.oc_schedule.specs.declared.fault.ScheduleFault.TheVariants.{Memory};
+
+    ghost from_gives = { λ _ fault. fault ≡ Memory };
+
+    fn from(_error: AllocFailed<T>) -> ScheduleFault {
+        ScheduleFault::Memory
+    }
+}
+
+/// Why a line is not read, where its number is not known.
 #[derive(Clone, Copy, Debug, PartialEq, Eq)]
 pub(crate) enum LineFault {
+    /// It is refused for this cause.
     Cause(Why),
+    /// Memory ran out.
     Memory,
 }
 
+impl LineFault {
+    /// The fault of the text, where the line has this number.
+    pub(crate) fn at(self, line: u32) -> ScheduleFault
+        ensures { result ≡ fault_at line self }
+    {
+        match self {
+            LineFault::Cause(why) => ScheduleFault::Line { line, why },
+            LineFault::Memory => ScheduleFault::Memory,
+        }
+    }
+}
+
 impl From<Why> for LineFault {
-    ghost use Rattle.std.specs.Prelude.{◌≡◌};
     ghost use Rattle.oc_schedule.specs.declared.fault.LineFault.TheVariants.{Cause};
 
-    ghost from_gives = { λ why e. e ≡ Cause why };
+    ghost from_gives = { λ why fault. fault ≡ Cause why };
 
     fn from(why: Why) -> LineFault {
         LineFault::Cause(why)
@@ -44,10 +134,9 @@ impl From<Why> for LineFault {
 }
 
 impl From<AllocError> for LineFault {
-    ghost use Rattle.std.specs.Prelude.{◌≡◌};
     ghost use Rattle.oc_schedule.specs.declared.fault.LineFault.TheVariants.{Memory};
 
-    ghost from_gives = { λ _ e. e ≡ Memory };
+    ghost from_gives = { λ _ fault. fault ≡ Memory };
 
     fn from(_error: AllocError) -> LineFault {
         LineFault::Memory
@@ -55,10 +144,9 @@ impl From<AllocError> for LineFault {
 }
 
 impl<T: Drop> From<AllocFailed<T>> for LineFault {
-    ghost use Rattle.std.specs.Prelude.{◌≡◌};
     ghost use Rattle.oc_schedule.specs.declared.fault.LineFault.TheVariants.{Memory};
 
-    ghost from_gives = { λ _ e. e ≡ Memory };
+    ghost from_gives = { λ _ fault. fault ≡ Memory };
 
     fn from(_error: AllocFailed<T>) -> LineFault {
         LineFault::Memory

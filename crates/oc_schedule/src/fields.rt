@@ -8,8 +8,8 @@ ghost use Rattle.oc_schedule.specs.Fields.{is_number, number_in, node_in, group_
 ghost use Rattle.oc_schedule.specs.Reading.{GivesLine};
 
 use crate::fault::LineFault;
-use oc_base::{Bytes, GroupName, NodeId, Why};
 use hex::FromHexError;
+use oc_base::{Bytes, GroupName, NodeId, Why};
 use std::alloc::Global;
 use std::str;
 
@@ -30,7 +30,7 @@ pub(crate) fn number(field: &[u8], least: u64, most: u64) -> Result<u64, Why>
 fn is_spelled(field: &[u8]) -> bool
     ensures { result ≡ is_number field.now }
 {
-    0 < field.len() && !(1 < field.len() && field[0] == b'0') && are_digits(field)
+    !field.is_empty() && !(field.len() > 1 && field[0] == b'0') && are_digits(field)
 }
 
 fn are_digits(field: &[u8]) -> bool
@@ -63,10 +63,7 @@ pub(crate) fn node(field: &[u8], nodes: u32) -> Result<NodeId, Why>
 pub(crate) fn group(field: &[u8]) -> Result<GroupName, Why>
     ensures { result ≡ group_in field.now }
 {
-    match GroupName::parse(field) {
-        Ok(name) => Ok(name),
-        Err(_) => Err(Why::Group),
-    }
+    GroupName::parse(field).map_err(|_| Why::Group)
 }
 
 /// The bytes that a field writes in hexadecimal, or none by `-`.

@@ -1,4 +1,13 @@
-//! Schedules: the text of a run, read line by line into a header and a list of events.
+//! Schedules: the text of a run, and the header and the events that it says.
+//!
+//! [`read`] is what the layer above uses. It gives exactly what `schedule_of` makes of the bytes, the
+//! schedule or the first fault, unless memory runs out. `specs/Schedule` says how the lines follow
+//! one another and where the limits come, `specs/Lines` what each kind of line says, and
+//! `specs/Fields` what one word says. What is read is within the ranges and the limits
+//! (`IsSchedule`), so that each event may be given to a stage.
+//!
+//! A further kind of line is one definition in `specs/Lines` and one reader in `lines`, and a branch
+//! of `act_in` and `act` or of `event_in` and `event`.
 #![tactic(auto)]
 
 mod draft;
@@ -6,6 +15,7 @@ mod fault;
 mod fields;
 mod law;
 mod lines;
+mod reading;
 mod schedule;
 mod words;
 
@@ -13,4 +23,5 @@ pub use fault::{ScheduleFault, What};
 pub use law::examples_are_read;
 pub use oc_base::Why;
 pub use oc_model::{Act, Event};
+pub use reading::read;
 pub use schedule::Schedule;

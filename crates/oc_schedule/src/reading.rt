@@ -1,0 +1,78 @@
+ghost use Rattle.std.specs.Prelude.{◌≡◌, ◌≤◌, IfOk, None, length};
+ghost use Rattle.std.specs.Str.Lines.{lines};
+ghost use Rattle.oc_schedule.specs.Draft.{script_of};
+ghost use Rattle.oc_schedule.specs.Limits.{most_lines};
+ghost use Rattle.oc_schedule.specs.Reading.{Gives, GivesBy};
+ghost use Rattle.oc_schedule.specs.Schedule.{IsSchedule, read_line, read_lines, schedule_of};
+
+use crate::Schedule;
+use crate::draft::Draft;
+use crate::fault::{MOST_BYTES, MOST_LINES, ScheduleFault, What};
+use crate::words::{first_line, first_word};
+use oc_base::Why;
+use std::alloc::Global;
+
+/// Reads the text of a schedule, any bytes: what it says, or its first fault.
+///
+/// A text of too many bytes is refused before all else. Then each line is refused in this order:
+/// where there are too many lines, for the cause of the line, where too many bytes are published. A
+/// text without a header is refused at the line behind its last.
+pub fn read(alloc: Global, bytes: &[u8]) -> Result<Schedule, ScheduleFault>
+    ensures exact { Gives result (schedule_of bytes.now) }
+
+    // The header and the events are within their ranges, and there are not too many events.
+    ensures lawful { IfOk result IsSchedule }
+    ensures areas { IfOk result (λ s. length s.header.areas ≡ s.header.nodes) }
+{
+    if bytes.len() > MOST_BYTES {
+        return Err(ScheduleFault::Limit(What::Bytes));
+    }
+    read_lines(alloc, bytes)
+}
+
+/// Reads the lines of a text, one after another.
+fn read_lines(alloc: Global, bytes: &[u8]) -> Result<Schedule, ScheduleFault>
+    ensures { Gives result (read_lines 1 None (lines bytes.now)) }
+{
+    let mut draft = None;
+    let mut number = 1;
+    let mut rest = bytes;
+    'lines: while !rest.is_empty() {
+        let (line, behind) = first_line(rest);
+        if number > MOST_LINES {
+            return Err(ScheduleFault::Limit(What::Lines));
+        }
+        draft = read_line(alloc, draft, number, line)?;
+        number += 1;
+        rest = behind;
+    }
+    match draft {
+        Some(draft) => Ok(draft.into_schedule()),
+        None => Err(ScheduleFault::Line {
+            line: number,
+            why: Why::Header,
+        }),
+    }
+}
+
+/// The draft after one line more, where there is none before the header.
+fn read_line(
+    alloc: Global,
+    draft: Option<Draft>,
+    number: u32,
+    line: &[u8],
+) -> Result<Option<Draft>, ScheduleFault>
+    requires { number ≤ most_lines }
+    ensures { GivesBy script_of result (read_line number (script_of draft) line.now) }
+{
+    match first_word(line) {
+        None | Some(([b'#', ..], _)) => Ok(draft),
+        Some((word, fields)) => match draft {
+            None => {
+                let draft = Draft::from_header(alloc, line).map_err(|fault| fault.at(number))?;
+                Ok(Some(draft))
+            }
+            Some(draft) => Ok(Some(draft.with_line(alloc, number, word, fields)?)),
+        },
+    }
+}

@@ -1,4 +1,4 @@
-use Rattle.std.specs.Prelude.{◌≡◌, ℕ, ◌+◌, ◌-◌, ◌<◌, ◌≤◌, Bool, true, false, not, ◌&&◌, ◌||◌, nat_lt, nat_le, if◌then◌else◌, Option, Some, None, List, [], ◌∷◌, ◌++◌, length, slice_get, slice_set, insert}
+use Rattle.std.specs.Prelude.{◌≡◌, ℕ, ◌+◌, ◌<◌, ◌≤◌, Bool, false, ◌&&◌, nat_lt, if◌then◌else◌, Option, Some, None, List, [], ◌++◌, length, slice_get, slice_set, insert}
 use Rattle.oc_model.specs.declared.answer.Answer.{Answer}
 use Rattle.oc_model.specs.declared.answer.Answer.TheVariants as answers
 use Rattle.oc_model.specs.declared.group.Group.{Group}
@@ -46,3 +46,8 @@ quiet x ks a = record { node = idle_node x ks; sends = []; answer = a }
 -- the outcome of an input that leaves the groups as they are
 abbrev pub answered : ℕ → List Group → List Message → Answer → Outcome
 answered x ks ms a = record { node = idle_node x ks; sends = ms; answer = a }
+
+-- what a pull answers, by whether a fetch was sent
+abbrev pub pull_answer : Option Message → Answer
+pull_answer None = answers.Own
+pull_answer (Some m) = answers.Ok

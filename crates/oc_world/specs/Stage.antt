@@ -1,9 +1,9 @@
-use Rattle.std.specs.Prelude.{◌≡◌, ℕ, ◌+◌, ◌<◌, ◌≤◌, max, List, [], ◌∷◌, ◌++◌, length}
+use Rattle.std.specs.Prelude.{◌≡◌, ℕ, ◌+◌, ◌<◌, ◌≤◌, List, [], ◌++◌, length}
 use Rattle.std.specs.List.{range_with_len, AllByRecursion}
 use Rattle.oc_model.specs.declared.group.Group.{Group}
 use Rattle.oc_model.specs.declared.message.Message.{Message}
 use Rattle.oc_model.specs.declared.word.Word.{Word}
-use Rattle.oc_model.specs.Groups.{most_groups, most_bytes}
+use Rattle.oc_model.specs.Groups.{most_groups, most_bytes, IsAscending}
 use Rattle.oc_model.specs.World.{World, Process, Header, ids}
 use Rattle.oc_world.specs.declared.stage.Said.{Said}
 
@@ -14,15 +14,15 @@ pub record IsSaid (told : Word) (old new : World) (said : Said) : Type 0 where
   pub count : length new.net ≡ length old.net + said.count
   pub few : length new.net < 9223372036854775808
 
--- a node holds nothing
+-- it holds no group
 abbrev pub HoldsNothing : Process → Type 0
 HoldsNothing p = p.node.groups ≡ []
 
--- no clock is past this time
+-- its clock is not past this time
 abbrev pub IsBefore : ℕ → Process → Type 0
 IsBefore t p = p.node.clock ≤ t
 
--- the ids are those of the header, nothing was sent, no group is held, and no clock has run
+-- the ids are those of the header, nothing was sent, no group is held, and no clock is past 2^40
 pub record IsBlank (h : Header) (w : World) : Type 0 where
   pub ids : ids w ≡ range_with_len 1 h.nodes
   pub net : w.net ≡ []
@@ -37,12 +37,13 @@ IsLater old new = (more : List Message) × (new.net ≡ old.net ++ more)
 abbrev pub KeepsTime : World → World → Type 0
 KeepsTime old new = (t : ℕ) → 1099511627776 ≤ t → AllByRecursion (IsBefore t) old.processes → AllByRecursion (IsBefore (t + 60)) new.processes
 
+-- a group is no longer than the limit allows
 abbrev pub IsSmall : Group → Type 0
 IsSmall k = length k.bytes ≤ most_bytes
 
--- a node holds no more than the limits allow
+-- its groups ascend by name, are at most 64, and each has at most 2^30 bytes
 abbrev pub IsWithinLimits : Process → Type 0
-IsWithinLimits p = (length p.node.groups ≤ most_groups) × AllByRecursion IsSmall p.node.groups
+IsWithinLimits p = IsAscending p.node.groups × (length p.node.groups ≤ most_groups) × AllByRecursion IsSmall p.node.groups
 
 -- an event takes no node past the limits
 abbrev pub KeepsLimits : World → World → Type 0

@@ -1,4 +1,4 @@
-use Rattle.std.specs.Prelude.{◌≡◌, ℕ, ◌+◌, ◌<◌, ◌≤◌, List, [], ◌∷◌, ◌++◌, length, map}
+use Rattle.std.specs.Prelude.{◌≡◌, ℕ, List, length, map}
 use Rattle.std.specs.List.{range_with_len}
 use Rattle.oc_model.specs.declared.event.Event.{Event}
 use Rattle.oc_model.specs.declared.message.Message.{Message}
@@ -9,6 +9,7 @@ use Rattle.oc_model.specs.World.{World, Process, process_in, next_world, word_of
 abbrev pub world_of : List Process → List Message → World
 world_of ps net = record { processes = ps; net = net; source = (process_in ps 1).node.groups }
 
+-- the id of a process
 abbrev pub id_of : Process → ℕ
 id_of p = p.node.me
 

@@ -196,7 +196,8 @@ fn chunk_onto(group: &mut Group, start: u64, bytes: &[u8], last: bool) -> Result
 fn grow(group: &mut Group, start: u64, bytes: &[u8]) -> Result<(), Memory>
     requires { start ≤ length group.old.bytes }
     ensures ok { OnOk result (group.new ≡ record group.old {
-        bytes = group.old.bytes ++ drop (length group.old.bytes - start) bytes.now }) }
+      bytes = group.old.bytes ++ drop (length group.old.bytes - start) bytes.now;
+    }) }
     ensures err { OnErr result (group.new ≡ group.old) }
 {
     let overlap = group.bytes.items().len() - start as usize;

@@ -5,9 +5,10 @@
 //! are those of the model: `new_world`, `next_world` and `word_of`.
 #![tactic(auto)]
 
-
-
 mod groups;
+mod process;
 mod stage;
+mod world;
 
 pub use stage::{Said, Stage};
+pub use world::World;

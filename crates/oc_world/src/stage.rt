@@ -20,10 +20,11 @@ pub struct Said {
     pub count: u64,
 }
 
-/// What a replay plays on. Its meaning is a world of the model.
+/// What a replay plays on. It shows a world of the model.
 ///
 /// Each stage type says which world a header opens, which world an event leads to, and in which
-/// word. So whoever writes a report over a stage of any type knows a word only from the stage.
+/// word. So whoever writes a report over a stage of any type knows a word only from the stage. The
+/// laws below the calls hold of every stage: what a caller may know of a world whatever its type.
 pub trait Stage {
     /// The world that it shows.
     ghost world: { Self → WorldState };
@@ -37,8 +38,8 @@ pub trait Stage {
     /// The word of an event.
     ghost word: { WorldState → ModelEvent → ModelWord };
 
-    /// Opens the world of a header: nodes from 1 to 1,024, a chain from 1 to 16 that is no longer,
-    /// and the area of each node, ascending by id.
+    /// Opens the world of a header: 1 to 1,024 nodes, a chain of 1 to 16 and no more than the nodes,
+    /// and the area of each node, ascending by id. Nothing is said of the stage after want of memory.
     fn open(&mut self, nodes: u32, chain: u32, areas: &[u8]) -> Result<(), Memory>
         requires { IsHeader (record { nodes = nodes; chain = chain; areas = areas.now }) }
         ensures { OnOk result (world self.new ≡ first (record { nodes = nodes; chain = chain; areas = areas.now })) };
@@ -53,18 +54,23 @@ pub trait Stage {
     fn message(&self, number: u64) -> Result<Option<Message>, Memory>
         ensures { IfOk result (λ found. found ≡ message_at (world self.now).net number) };
 
-    /// The groups of a node, ascending by name.
+    /// The groups of a node with their lengths and seals, ascending by name.
     fn held(&self, node: NodeId) -> Result<Vec<Shelf>, Memory>
         requires { IsNode (length (ids (world self.now))) node }
         ensures { IfOk result (λ lines. lines.items ≡ shelf (node_in (world self.now) node).groups) };
 
+    /// The world of a header has its nodes; nothing was sent, nothing is held, and no clock is past 2^40.
     ghost opens: { (h : Header) → IsHeader h → IsBlank h (first h) };
 
+    /// An event changes no id.
     ghost keeps_ids: { (w : WorldState) (e : ModelEvent) → IsEvent (length (ids w)) e → ids (after w e) ≡ ids w };
 
+    /// All that was sent stays sent.
     ghost keeps_net: { (w : WorldState) (e : ModelEvent) → IsEvent (length (ids w)) e → IsLater w (after w e) };
 
+    /// An event takes no clock past the latest one, or past 2^40, by more than 60 seconds.
     ghost keeps_time: { (w : WorldState) (e : ModelEvent) → IsEvent (length (ids w)) e → KeepsTime w (after w e) };
 
+    /// Where each node's groups ascend by name and are within the limits, they are so after an event.
     ghost keeps_limits: { (w : WorldState) (e : ModelEvent) → IsEvent (length (ids w)) e → KeepsLimits w (after w e) };
 }

@@ -1,5 +1,5 @@
 use Rattle.std.proofs.Common.{sym, arith}
-use Rattle.oc_world.proofs.Places.{passed_more, place_before, place_here, place_at_end}
+use Rattle.oc_world.proofs.Places.{place_before, place_here, place_at_end}
 use Rattle.oc_world.proofs.groups.place_of.Goals as goal
 
 pub returns-in-Less : goal.returns-in-Less

@@ -1,7 +1,8 @@
 use Rattle.oc_model.specs.declared.group.Group.{Group}
 use Rattle.std.proofs.Common.{◌∙◌}
 use Rattle.std.proofs.lemmas.Result.{IfOk-weaker}
-use Rattle.oc_world.proofs.Rules.{chunk_found, read_at, in_list}
+use Rattle.oc_world.proofs.Places.{read_at}
+use Rattle.oc_world.proofs.Rules.{chunk_found, in_list}
 use Rattle.std.proofs.Common.{subst, List}
 use Rattle.oc_world.specs.Groups.{IsPlace}
 use Rattle.oc_world.specs.declared.groups.Place.TheVariants.{Found}
@@ -13,5 +14,5 @@ returns-in-Found-clause-ok c =
     let k = c.index_mut.result.now in
     let there = subst (λ (l : List Group). IsPlace l c.args.name.now (Found c.in-Found.at)) c.deref.ensures.value c.in-Found.ensures in
     IfOk-weaker c.chunk_onto.result _ _ (λ a h x from away.
-      chunk_found x from ks c.args.name.now c.in-Found.at k c.args.start c.args.bytes.now c.args.last away there (read_at ks c.in-Found.at k there.0 c.index_mut.ensures.value)
-        ∙ in_list x ks c.in-Found.at c.chunk_onto.new.group a _ h) c.chunk_onto.ensures.ok
+    chunk_found x from ks c.args.name.now c.in-Found.at k c.args.start c.args.bytes.now c.args.last away there (read_at ks c.in-Found.at k there.0 c.index_mut.ensures.value)
+    ∙ in_list x ks c.in-Found.at c.chunk_onto.new.group a _ h) c.chunk_onto.ensures.ok

@@ -1,13 +1,26 @@
-// A library with one function.
+//! A schedule of events, played on a stage and told in a report.
+//!
+//! The layer above uses [`replay`]. Over a stage of any type, and over any source and sink, it ends
+//! with `Done` only where all input came and is a schedule s, the bytes that the sink took are
+//! exactly `told_text` of s, and the stage is at the last world that its type states for s. With
+//! `Text` and `Limit` it names the first fault of the text, with `Source` and `Sink` that count of
+//! faults rose, and where there is no schedule nothing is written and the stage is as it was.
+//!
+//! `specs/Lines` has the lines of a report, `specs/Report` what is told of a run, `specs/Replay` what
+//! is told of a schedule. `told_text` takes its words and worlds from the functions of the stage's
+//! type, so a body that doesn't give the stage the events can't know it. The text is gathered in one
+//! buffer, which is written and used again whenever it has reached 64 KiB.
 #![tactic(auto)]
 
-ghost use Rattle.std.specs.Prelude.{◌≡◌};
-ghost use Rattle.oc_replay.specs.Echo.{echo_of};
+mod end;
+mod law;
+mod lines;
+mod replaying;
+mod reporting;
 
-// The `ensures` clause is the contract: what `echo` returns is `echo_of` of its argument, a definition
-// in `specs/Echo.antt`, which a caller's clause can cite too.
-pub fn echo(x: usize) -> usize
-    ensures { result ≡ echo_of x }
-{
-    x
-}
+pub use end::ReplayEnd;
+pub use law::examples_are_told;
+pub use lines::held_text;
+pub use oc_base::{Shelf, Why};
+pub use oc_schedule::What;
+pub use replaying::replay;

@@ -1,0 +1,5 @@
+pub mod Limits
+pub mod Messages
+pub mod Opened
+pub mod Runs
+pub mod Written

@@ -1,0 +1,45 @@
+-- A run, one event on.
+use Rattle.std.proofs.Common.{◌≡◌, ℕ, ◌+◌, ◌<◌, ◌≤◌, List, [], ◌∷◌, ◌++◌, length, take, drop, get_or, fold, refl, sym, ap, ◌∙◌, subst, arith}
+use Rattle.std.specs.List.{AllByRecursion}
+use Rattle.std.proofs.lemmas.List.{at_drop_more, at_drop_all, drop_more}
+use Rattle.std.proofs.lemmas.List.Sums.{fold_more}
+use Rattle.oc_model.specs.declared.event.Event.{Event}
+use Rattle.oc_model.specs.declared.word.Word.{Word}
+use Rattle.oc_model.specs.World.{World}
+use Rattle.oc_replay.specs.Lines.{end_line}
+use Rattle.oc_replay.specs.Report.{event_text, told_from}
+use Rattle.oc_replay.proofs.Written.{IsWritten, gathers, gathers_all}
+
+-- what holds of the rest holds of its first item, and of the rest behind it
+pub All-drop : {A : Type 0} (P : A → Type 0) (xs : List A) (i : ℕ) (x : A) → i < length xs → x ≡ get_or xs i x → AllByRecursion P (drop i xs) → P x × AllByRecursion P (drop (i + 1) xs)
+All-drop P xs i x within read all =
+    let both : P (get_or xs i x) × AllByRecursion P (drop (i + 1) xs) = subst (AllByRecursion P) (drop_more xs i x within) all in
+    (subst P (sym read) both.0, both.1)
+
+module _ (after : World → Event → World) (word : World → Event → Word) where
+  -- the next event is told, and then the events behind it
+  pub told_from-drop : (i : ℕ) (w new : World) (es : List Event) (e : Event) → i < length es → e ≡ get_or es i e → new ≡ after w e → told_from after word i w (drop i es) ≡ event_text (i + 1) (word w e) w new e ++ told_from after word (i + 1) new (drop (i + 1) es)
+  told_from-drop i w new es e within read next =
+      at_drop_more (told_from after word i w) es i e within
+      ∙ ap (λ (x : Event). told_from after word i w (x ∷ drop (i + 1) es)) (sym read)
+      ∙ ap (λ (v : World). event_text (i + 1) (word w e) w v e ++ told_from after word (i + 1) v (drop (i + 1) es)) (sym next)
+
+  -- the world after one event more
+  pub fold-take : (i : ℕ) (first w new : World) (es : List Event) (e : Event) → i < length es → e ≡ get_or es i e → new ≡ after w e → w ≡ fold after first (take i es) → new ≡ fold after first (take (i + 1) es)
+  fold-take i first w new es e within read next so_far =
+      next ∙ ap (λ (v : World). after v e) so_far ∙ ap (after (fold after first (take i es))) read ∙ sym (fold_more after first es i e within)
+
+  -- with one event more gathered, the events behind it are left
+  pub written-next : {K : Type 0} (takes : K → List ℕ → K → Type 0) (old mid : K) (gathered put text : List ℕ) (i : ℕ) (w new : World) (es : List Event) (e : Event) → i < length es → e ≡ get_or es i e → new ≡ after w e → put ≡ gathered ++ event_text (i + 1) (word w e) w new e → IsWritten takes old mid gathered (told_from after word i w (drop i es)) text → IsWritten takes old mid put (told_from after word (i + 1) new (drop (i + 1) es)) text
+  written-next takes old mid gathered put text i w new es e within read next told written =
+      let more = event_text (i + 1) (word w e) w new e in
+      let rest = told_from after word (i + 1) new (drop (i + 1) es) in
+      gathers takes old mid gathered more put rest text told (subst (λ left. IsWritten takes old mid gathered left text) (told_from-drop i w new es e within read next) written)
+
+  -- behind the last event comes the end
+  pub written-end : {K : Type 0} (takes : K → List ℕ → K → Type 0) (old mid : K) (gathered put text : List ℕ) (i sent : ℕ) (w : World) (es : List Event) → length es ≤ i → i ≤ length es → sent ≡ length w.net → put ≡ gathered ++ end_line (length es) sent → IsWritten takes old mid gathered (told_from after word i w (drop i es)) text → IsWritten takes old mid put [] text
+  written-end takes old mid gathered put text i sent w es past within count told written =
+      let last : i ≡ length es = omega arith in
+      let rest : told_from after word i w (drop i es) ≡ end_line (length es) sent =
+      at_drop_all (told_from after word i w) es i past ∙ ap (λ n. end_line n (length w.net)) last ∙ ap (end_line (length es)) (sym count) in
+      gathers_all takes old mid gathered (end_line (length es) sent) put text told (subst (λ left. IsWritten takes old mid gathered left text) rest written)

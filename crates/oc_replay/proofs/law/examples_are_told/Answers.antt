@@ -1,0 +1,8 @@
+use Rattle.std.proofs.Common.{refl}
+use Rattle.std.specs.Fmt.{digits}
+use Rattle.hex.proofs.OnLiterals.{hex_on_literals}
+use Rattle.oc_replay.proofs.law.examples_are_told.Goals as goal
+
+pub returns : goal.returns
+unfolding hex_on_literals digits
+returns c = record { empty_schedule = refl; first_path = refl; publish_elsewhere = refl; repeated_delivery = refl; sealed_group = refl }

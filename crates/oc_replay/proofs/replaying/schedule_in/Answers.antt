@@ -1,0 +1,11 @@
+use Rattle.std.proofs.Common.{ℕ, List, sym, subst}
+use Rattle.std.proofs.lemmas.Result.{err_from_is_err_and}
+use Rattle.oc_replay.proofs.Limits.{limit-at}
+use Rattle.oc_replay.proofs.replaying.schedule_in.Goals as goal
+
+-- the fault of a text that came whole
+pub returns-in_err-read-clause-limit : goal.returns-in_err-read-clause-limit
+returns-in_err-read-clause-limit g c =
+    let came = subst (λ (bytes : List ℕ). g.S.Source.gives c.args.source.now bytes c.read_all.new.source) (sym c.deref.ensures.value) c.in_ok-bytes.ensures.gives in
+    let p = err_from_is_err_and c.from_residual-in_err-read.result c.from_residual-in_err-read.ensures.1 in
+    rw (p.1, p.2) (limit-at g.S.Source.gives g.S.Source.ended c.args.source.now c.read_all.new.source c.deref.result.now c.in_err-read.field-0.0 came c.in_ok-bytes.ensures.end c.in_err-read.ensures.exact)

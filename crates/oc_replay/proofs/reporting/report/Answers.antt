@@ -1,0 +1,68 @@
+use Rattle.std.proofs.Common.{◌≡◌, ℕ, ◌+◌, List, [], length, take, drop, sym, ap, ◌∙◌, subst, arith}
+use Rattle.std.specs.List.{AllByRecursion}
+use Rattle.oc_model.specs.Lawful.{IsEvent}
+use Rattle.oc_model.specs.World.{ids}
+use Rattle.oc_replay.specs.Report.{told_from, run_text}
+use Rattle.oc_replay.proofs.Runs.{All-drop, written-next, written-end, fold-take}
+use Rattle.oc_replay.proofs.Written.{passes, stops, fails_on}
+use Rattle.oc_replay.proofs.reporting.report.Goals as goal
+
+-- one event more is gathered, and a front of what is gathered is passed on
+pub loop-place-preserved : goal.loop-place-preserved
+loop-place-preserved g c =
+    let stage = g.T.Stage in
+    let takes = g.K.Sink.takes in
+    let events = c.args.events.now in
+    let event = c.index-events-place.result in
+    let place = c.loop-place.place in
+    let opened = stage.world c.args.stage.now in
+    let world = stage.world c.loop-place.stage in
+    let next = stage.world c.tell.new.stage in
+    let text = run_text stage.after stage.word opened events in
+    let written = written-next stage.after stage.word takes c.args.sink.now c.loop-place.sink c.loop-place.out.items c.tell.new.out.items text place world next events event (omega arith) c.index-events-place.is c.in_ok-sent.ensures.world c.in_ok-sent.ensures.text c.loop-place.invariant.written in
+    let lawful = All-drop (IsEvent (length (ids world))) events place event (omega arith) c.index-events-place.is c.loop-place.invariant.lawful in
+    record {
+      written = passes takes g.met.K.Sink.takes_then c.args.sink.now c.loop-place.sink c.pass_on.new.sink c.tell.new.out.items c.pass_on.new.out.items (told_from stage.after stage.word (place + 1) next (drop (place + 1) events)) text c.in_ok-pass_on.ensures.passed written;
+      played = fold-take stage.after stage.word place opened world next events event (omega arith) c.index-events-place.is c.in_ok-sent.ensures.world c.loop-place.invariant.played;
+      lawful = subst (λ (xs : List ℕ). AllByRecursion (IsEvent (length xs)) (drop (place + 1) events)) (sym (ap ids c.in_ok-sent.ensures.world ∙ g.met.T.Stage.keeps_ids world event lawful.0)) lawful.1;
+      sent = c.in_ok-sent.ensures.sent;
+      count = omega (arith, c.in_ok-pass_on.ensures.count);
+    }
+
+-- a front was taken when memory ran out
+pub returns-in_err-sent-clause-memory : goal.returns-in_err-sent-clause-memory
+returns-in_err-sent-clause-memory g c = λ _. stops g.K.Sink.takes c.args.sink.now c.loop-place.sink c.loop-place.out.items _ _ c.loop-place.invariant.written
+
+pub returns-in_err-put_end-clause-memory : goal.returns-in_err-put_end-clause-memory
+returns-in_err-put_end-clause-memory g c = λ _. stops g.K.Sink.takes c.args.sink.now c.loop-place.sink c.loop-place.out.items _ _ c.loop-place.invariant.written
+
+-- a front was taken when a call failed
+pub returns-in_err-pass_on-clause-failed : goal.returns-in_err-pass_on-clause-failed
+returns-in_err-pass_on-clause-failed g c = λ _.
+    let stage = g.T.Stage in
+    let takes = g.K.Sink.takes in
+    let events = c.args.events.now in
+    let event = c.index-events-place.result in
+    let place = c.loop-place.place in
+    let next = stage.world c.tell.new.stage in
+    let text = run_text stage.after stage.word (stage.world c.args.stage.now) events in
+    let written = written-next stage.after stage.word takes c.args.sink.now c.loop-place.sink c.loop-place.out.items c.tell.new.out.items text place (stage.world c.loop-place.stage) next events event (omega arith) c.index-events-place.is c.in_ok-sent.ensures.world c.in_ok-sent.ensures.text c.loop-place.invariant.written in
+    fails_on takes g.K.Sink.fails g.met.K.Sink.takes_fails c.args.sink.now c.loop-place.sink c.pass_on.new.sink c.tell.new.out.items (told_from stage.after stage.word (place + 1) next (drop (place + 1) events)) text written c.in_err-pass_on.ensures.failed
+
+pub returns-in_err-pass_on-clause-stopped : goal.returns-in_err-pass_on-clause-stopped
+returns-in_err-pass_on-clause-stopped g c = λ _.
+    let stage = g.T.Stage in
+    let events = c.args.events.now in
+    (c.loop-place.place + 1, fold-take stage.after stage.word c.loop-place.place (stage.world c.args.stage.now) (stage.world c.loop-place.stage) (stage.world c.tell.new.stage) events c.index-events-place.result (omega arith) c.index-events-place.is c.in_ok-sent.ensures.world c.loop-place.invariant.played)
+
+pub returns-in_err-write_all-clause-failed : goal.returns-in_err-write_all-clause-failed
+returns-in_err-write_all-clause-failed g c = λ _.
+    let stage = g.T.Stage in
+    let takes = g.K.Sink.takes in
+    let events = c.args.events.now in
+    let text = run_text stage.after stage.word (stage.world c.args.stage.now) events in
+    let out = c.put_end.new.out.items in
+    let written = written-end stage.after stage.word takes c.args.sink.now c.loop-place.sink c.loop-place.out.items out text c.loop-place.place c.loop-place.sent (stage.world c.loop-place.stage) events (omega arith) (omega arith) c.loop-place.invariant.sent c.in_ok-put_end.ensures c.loop-place.invariant.written in
+    let failed = c.in_err-write_all.ensures.fails in
+    let part = subst (λ (bytes : List ℕ). g.K.Sink.fails c.loop-place.sink (take failed.0 bytes) c.write_all.new.sink) c.deref.ensures.value failed.2 in
+    fails_on takes g.K.Sink.fails g.met.K.Sink.takes_fails c.args.sink.now c.loop-place.sink c.write_all.new.sink out [] text written (failed.0, part)

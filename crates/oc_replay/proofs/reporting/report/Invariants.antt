@@ -1,0 +1,23 @@
+use Rattle.std.proofs.Common.{◌≡◌, ◌≤◌, length, take, drop, fold}
+use Rattle.std.specs.List.{AllByRecursion}
+use Rattle.oc_model.specs.Lawful.{IsEvent}
+use Rattle.oc_model.specs.World.{ids}
+use Rattle.oc_outside.specs.Faults.{NoFall}
+use Rattle.oc_replay.specs.Report.{told_from, run_text}
+use Rattle.oc_replay.proofs.Written.{IsWritten}
+use Rattle.oc_replay.proofs.reporting.report.Given as goal
+
+-- the report is written as far as the events went
+abbrev pub invariant-loop-place : goal.invariant-loop-place
+invariant-loop-place g l =
+    let after = g.T.Stage.after in
+    let word = g.T.Stage.word in
+    let opened = g.T.Stage.world l.fn.stage in
+    let world = g.T.Stage.world l.stage in
+    record {
+      written : IsWritten g.K.Sink.takes l.fn.sink l.sink l.out.items (told_from after word l.place world (drop l.place l.events)) (run_text after word opened l.events);
+      played : world ≡ fold after opened (take l.place l.events);
+      lawful : AllByRecursion (IsEvent (length (ids world))) (drop l.place l.events);
+      sent : l.sent ≡ length world.net;
+      count : NoFall (g.K.Sink.faults l.fn.sink) (g.K.Sink.faults l.sink);
+    }

@@ -1,0 +1,27 @@
+use Rattle.std.specs.Prelude.{◌≡◌, ℕ, Result, Ok, List, codes}
+use Rattle.oc_model.specs.World.{new_world, next_world, word_of}
+use Rattle.oc_schedule.specs.declared.fault.ScheduleFault.{ScheduleFault}
+use Rattle.oc_schedule.specs.Reading.{◌>>=◌}
+use Rattle.oc_schedule.specs.Schedule.{schedule_of}
+use Rattle.oc_replay.specs.Replay.{told_text}
+
+-- The worked examples, from the text of a schedule to that of its report.
+
+-- what the model tells of the schedule that a text is
+abbrev told : List ℕ → Result (List ℕ) ScheduleFault
+told text = schedule_of text >>= λ s. Ok (told_text new_world next_world word_of s)
+
+pub record AreTold : Type 0 where
+  pub empty_schedule : told (codes "overcast 1 nodes 2 chain 1\n") ≡ Ok (codes "end 0 0\n")
+  pub first_path :
+      told (codes "overcast 1 nodes 2 chain 1\nup 1\nup 2\npublish 1 /a 68656c6c6f\npull 2 1\ndeliver 1\ndeliver 2\nheld 2\n")
+      ≡ Ok (codes "#1 ok\n#2 ok\n#3 ok\n#4 ok\n  m1 2>1 fetch []\n#5 ok\n  m2 1>2 chunk /a 0 68656c6c6f\n#6 ok\n#7 ok\n  /a 5\nend 7 2\n")
+  pub publish_elsewhere :
+      told (codes "overcast 1 nodes 2 chain 1\nup 1\nup 2\npublish 1 /a -\npublish 2 /a 61\nheld 1\n")
+      ≡ Ok (codes "#1 ok\n#2 ok\n#3 ok\n#4 notsource\n#5 ok\n  /a 0\nend 5 0\n")
+  pub repeated_delivery :
+      told (codes "overcast 1 nodes 2 chain 1\nup 1\nup 2\npublish 1 /a 68656c6c6f\npull 2 1\ndeliver 1\ndeliver 2\ndeliver 2\nheld 2\n")
+      ≡ Ok (codes "#1 ok\n#2 ok\n#3 ok\n#4 ok\n  m1 2>1 fetch []\n#5 ok\n  m2 1>2 chunk /a 0 68656c6c6f\n#6 ok\n#7 ignored\n#8 ok\n  /a 5\nend 8 2\n")
+  pub sealed_group :
+      told (codes "overcast 1 nodes 2 chain 1\nup 1\nup 2\npublish 1 /a 6869\nseal 1 /a\npublish 1 /a 21\npull 2 1\ndeliver 1\ndeliver 2\nheld 2\npull 2 1\ndeliver 3\n")
+      ≡ Ok (codes "#1 ok\n#2 ok\n#3 ok\n#4 ok\n#5 sealed\n#6 ok\n  m1 2>1 fetch []\n#7 ok\n  m2 1>2 chunk /a 0 6869 last\n#8 ok\n#9 ok\n  /a 2 sealed\n#10 ok\n  m3 2>1 fetch [/a@2!]\n#11 ok\nend 11 3\n")

@@ -1,0 +1,36 @@
+use Rattle.std.specs.Prelude.{◌≡◌, ℕ, ◌<◌, Result, Err, List, length, fold}
+use Rattle.oc_model.specs.declared.event.Event.{Event}
+use Rattle.oc_model.specs.declared.word.Word.{Word}
+use Rattle.oc_model.specs.World.{World, Header}
+use Rattle.oc_schedule.specs.declared.fault.ScheduleFault.{ScheduleFault}
+use Rattle.oc_schedule.specs.declared.fault.ScheduleFault.TheVariants.{Limit}
+use Rattle.oc_schedule.specs.declared.fault.What.{What}
+use Rattle.oc_schedule.specs.declared.fault.What.TheVariants.{Bytes}
+use Rattle.oc_schedule.specs.Limits.{most_bytes}
+use Rattle.oc_schedule.specs.Schedule.{schedule_of}
+use Rattle.oc_schedule.specs.Script.{Script}
+use Rattle.oc_replay.specs.Report.{run_text}
+
+-- What a replay does with its input.
+
+-- these bytes came up to the end, and this is what they say as a schedule
+pub record IsInput {S : Type 0} (gives : S → List ℕ → S → Type 0) (ended : S → Type 0) (old new : S) (says : Result Script ScheduleFault) : Type 0 where
+  pub bytes : List ℕ
+  pub came : gives old bytes new
+  pub whole : ended new
+  pub read : schedule_of bytes ≡ says
+
+-- more bytes came than a schedule may have, or all bytes came and pass another limit
+abbrev pub PassesLimit : {S : Type 0} → (S → List ℕ → S → Type 0) → (S → Type 0) → S → S → What → Type 0
+PassesLimit gives ended old new Bytes = (bytes : List ℕ) × gives old bytes new × (most_bytes < length bytes)
+PassesLimit gives ended old new what = IsInput gives ended old new (Err (Limit what))
+
+-- a stage says which world a header opens, which world an event leads to, and in which word
+module _ (first : Header → World) (after : World → Event → World) where
+  -- the report of a schedule
+  abbrev pub told_text : (World → Event → Word) → Script → List ℕ
+  told_text word s = run_text after word (first s.header) s.events
+
+  -- the world after these events of a schedule
+  abbrev pub world_at : Script → List Event → World
+  world_at s played = fold after (first s.header) played

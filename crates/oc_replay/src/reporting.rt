@@ -1,0 +1,159 @@
+//! A run of events on a stage, told while it happens.
+
+ghost use Rattle.std.specs.Prelude.{◌≡◌, ℕ, ◌+◌, ◌-◌, ◌^◌, ◌<◌, [], ◌++◌, length, drop, take, fold, OnOk, IfOk, OnErr, IsErrOf};
+ghost use Rattle.std.specs.List.{AllByRecursion};
+ghost use Rattle.oc_model.specs.Lawful.{IsEvent};
+ghost use Rattle.oc_model.specs.World.{ids, message_at};
+ghost use Rattle.oc_outside.specs.Faults.{NoFall, Rose};
+ghost use Rattle.oc_replay.specs.Lines.{messages_text};
+ghost use Rattle.oc_replay.specs.Report.{block_text, event_text, message_text, run_text, PassesOn, SomeFront};
+ghost use Rattle.oc_replay.specs.declared.reporting.ReportFault.TheVariants.{Sink as SinkFailed, Memory as NoMemory};
+
+use crate::lines::{put_end, put_event, put_held, put_message};
+use oc_base::Memory;
+use oc_model::Event;
+use oc_outside::{Failed, Sink, write_all};
+use oc_world::{Said, Stage};
+use std::alloc::Global;
+
+/// As many bytes are gathered before they are written.
+const PIECE: usize = 65_536;
+
+/// Why a report was not written to its end.
+#[derive(Clone, Copy, Debug, PartialEq, Eq)]
+pub(crate) enum ReportFault {
+    /// A call on the sink failed.
+    Sink,
+    /// Memory ran out.
+    Memory,
+}
+
+impl From<Failed> for ReportFault {
+    ghost from_gives = { λ _ fault. fault ≡ SinkFailed };
+
+    fn from(_failed: Failed) -> ReportFault {
+        ReportFault::Sink
+    }
+}
+
+impl From<Memory> for ReportFault {
+    ghost from_gives = { λ _ fault. fault ≡ NoMemory };
+
+    fn from(_memory: Memory) -> ReportFault {
+        ReportFault::Memory
+    }
+}
+
+/// Gives the stage each event once, in order, and writes the report of the run, which opens with
+/// the world that the stage shows.
+pub(crate) fn report<K: Sink, T: Stage>(
+    alloc: Global,
+    sink: &mut K,
+    stage: &mut T,
+    events: &[Event],
+) -> Result<(), ReportFault>
+    requires opened { (T.world stage.old).net ≡ [] }
+    requires lawful { AllByRecursion (IsEvent (length (ids (T.world stage.old)))) events.now }
+
+    // The whole report was taken, and the stage is at the last world.
+    ensures told { OnOk result
+        (K.takes sink.old (run_text T.after T.word (T.world stage.old) events.now) sink.new) }
+    ensures played { OnOk result
+        (T.world stage.new ≡ fold T.after (T.world stage.old) events.now) }
+
+    // A front of it had been taken when a call failed, and the stage is at a world on the way.
+    ensures failed { IsErrOf result ReportFault.Sink
+        → SomeFront (run_text T.after T.word (T.world stage.old) events.now)
+        (λ front. K.fails sink.old front sink.new) }
+    ensures stopped { IsErrOf result ReportFault.Sink
+        → SomeFront events.now (λ played. T.world stage.new ≡ fold T.after (T.world stage.old) played) }
+
+    // A front of it had been taken when memory ran out.
+    ensures memory { IsErrOf result ReportFault.Memory
+        → SomeFront (run_text T.after T.word (T.world stage.old) events.now)
+        (λ front. K.takes sink.old front sink.new) }
+
+    ensures count { NoFall (K.faults sink.old) (K.faults sink.new) }
+    ensures cause { IsErrOf result ReportFault.Sink → Rose (K.faults sink.old) (K.faults sink.new) }
+{
+    let mut out = Vec::new(alloc);
+    let mut sent = 0;
+    for (place, event) in events.iter().enumerate() {
+        sent = tell(&mut out, stage, place as u64 + 1, event)?;
+        pass_on(sink, &mut out)?;
+    }
+    put_end(&mut out, events.len() as u64, sent)?;
+    write_all(sink, &out)?;
+    Ok(())
+}
+
+/// Gives the stage the event of this number, puts what is told of it, and answers how many messages
+/// were sent so far.
+fn tell<T: Stage>(
+    out: &mut Vec<u8>,
+    stage: &mut T,
+    number: u64,
+    event: &Event,
+) -> Result<u64, Memory>
+    requires { IsEvent (length (ids (T.world stage.old))) event.now }
+    ensures text { OnOk result (out.new.items ≡ out.old.items
+        ++ event_text number (T.word (T.world stage.old) event.now) (T.world stage.old) (T.world stage.new) event.now) }
+    ensures world { OnOk result (T.world stage.new ≡ T.after (T.world stage.old) event.now) }
+    ensures sent { IfOk result (λ sent. sent ≡ length (T.world stage.new).net) }
+{
+    let said = stage.event(event)?;
+    put_event(out, number, said.word)?;
+    put_sent(out, stage, said)?;
+    put_block(out, stage, event)?;
+    Ok(said.first + said.count - 1)
+}
+
+/// Puts a line for each message from the first one that was sent on.
+fn put_sent<T: Stage>(out: &mut Vec<u8>, stage: &T, said: Said) -> Result<(), Memory>
+    requires first { 0 < said.first }
+    requires all { said.first + said.count ≡ length (T.world stage.now).net + 1 }
+    requires few { said.first + said.count < 2 ^ 64 }
+    ensures { OnOk result (out.new.items ≡ out.old.items
+        ++ messages_text said.first (drop (said.first - 1) (T.world stage.now).net)) }
+{
+    for number in said.first..said.first + said.count {
+        put_one(out, stage, number)?;
+    }
+    Ok(())
+}
+
+/// Puts the line of the message of this number, if there is one.
+fn put_one<T: Stage>(out: &mut Vec<u8>, stage: &T, number: u64) -> Result<(), Memory>
+    ensures { OnOk result (out.new.items ≡ out.old.items
+        ++ message_text number (message_at (T.world stage.now).net number)) }
+{
+    match stage.message(number)? {
+        Some(message) => put_message(out, number, &message),
+        None => Ok(()),
+    }
+}
+
+/// Puts the block of an event.
+fn put_block<T: Stage>(out: &mut Vec<u8>, stage: &T, event: &Event) -> Result<(), Memory>
+    requires { IsEvent (length (ids (T.world stage.now))) event.now }
+    ensures { OnOk result (out.new.items ≡ out.old.items ++ block_text (T.world stage.now) event.now) }
+{
+    match event {
+        Event::Held(node) => put_held(out, &stage.held(*node)?),
+        Event::Up(_) | Event::Do(_) => Ok(()),
+    }
+}
+
+/// Writes what was gathered, once there is enough of it.
+fn pass_on<K: Sink>(sink: &mut K, out: &mut Vec<u8>) -> Result<(), Failed>
+    ensures passed { OnOk result (PassesOn (λ bytes. K.takes sink.old bytes sink.new) out.old.items out.new.items) }
+    ensures failed { OnErr result (SomeFront out.old.items (λ front. K.fails sink.old front sink.new)) }
+    ensures count { NoFall (K.faults sink.old) (K.faults sink.new) }
+    ensures cause { OnErr result (Rose (K.faults sink.old) (K.faults sink.new)) }
+{
+    if out.len() >= PIECE {
+        write_all(sink, out)?;
+        out.clear();
+    }
+    Ok(())
+}

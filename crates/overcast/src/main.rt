@@ -1,61 +1,44 @@
-//! The program `overcast`.
+//! The program `overcast`: [`run`] over the words, the standard streams and a world in memory.
 #![tactic(auto)]
 
-mod command;
-mod status;
-mod texts;
-mod words;
-
-use status::Status;
+use oc_program::{End, ReaderSource, WriterSink, run, tell};
+use oc_world::World;
 use std::process::ExitCode;
 use std::rt::Env;
 use std::{env, io};
-use texts::{help, usage};
-use words::{Request, WordsFault, read_words};
 
 fn main(rt: HostRuntime) -> ExitCode {
-    let request = match given_words(&rt) {
-        Ok(words) => read_words(rt.alloc(), words.as_slice()),
-        Err(fault) => Err(fault),
+    let mut err = WriterSink::new(rt.stderr());
+    let words = match given_words(&rt) {
+        Ok(words) => words,
+        Err(end) => {
+            tell(&mut err, end);
+            return ExitCode::from(end.status().number());
+        }
     };
-    ExitCode::from(answer(&rt, request).number())
+    let status = run(
+        rt.alloc(),
+        words.as_slice(),
+        &mut ReaderSource::new(rt.stdin()),
+        &mut WriterSink::new(rt.stdout()),
+        &mut err,
+        &mut World::empty(rt.alloc()),
+    );
+    ExitCode::from(status)
 }
 
 // The words behind the program's name. A word that is not text is no word of the program.
-fn given_words<R: Env + AllocGlobal>(rt: &R) -> Result<Vec<String>, WordsFault> {
+fn given_words<R: Env + AllocGlobal>(rt: &R) -> Result<Vec<String>, End> {
     let given = match env::args(rt) {
         Ok(given) => given,
-        Err(error) if error.kind() == io::ErrorKind::OutOfMemory => return Err(WordsFault::Memory),
-        Err(_) => return Err(WordsFault::Usage),
+        Err(error) if error.kind() == io::ErrorKind::OutOfMemory => return Err(End::NoMemory),
+        Err(_) => return Err(End::Misused),
     };
     let mut words = Vec::new(rt.alloc());
     for word in given.skip(1) {
-        words.push(word)?;
+        if words.push(word).is_err() {
+            return Err(End::NoMemory);
+        }
     }
     Ok(words)
-}
-
-// Where the error output fails, the status stays.
-fn answer(rt: &(impl Print + Eprint), request: Result<Request, WordsFault>) -> Status {
-    match request {
-        Ok(Request::Help) => match rt.print(help()) {
-            Ok(()) => Status::Done,
-            Err(_) => {
-                let _ = eprintln!(rt; "overcast: output failed");
-                Status::Failed
-            }
-        },
-        Ok(Request::Replay) => {
-            let _ = eprintln!(rt; "overcast: replay is not there yet");
-            Status::Failed
-        }
-        Err(WordsFault::Usage) => {
-            let _ = eprint!(rt; "overcast: usage\n{}", usage());
-            Status::Usage
-        }
-        Err(WordsFault::Memory) => {
-            let _ = eprintln!(rt; "overcast: out of memory");
-            Status::Memory
-        }
-    }
 }

@@ -21,7 +21,7 @@ use Rattle.clap.specs.declared.builder.action.ArgAction.TheVariants as action
 use Rattle.clap.specs.declared.builder.value_parser.ValueParser.{ValueParser}
 use Rattle.clap.specs.declared.error.kind.ErrorKind.{ErrorKind}
 use Rattle.clap.specs.declared.error.kind.ErrorKind.TheVariants as kind
-use Rattle.overcast.specs.Words.{verdict_by, verdict_among}
+use Rattle.oc_program.specs.Words.{verdict_by, verdict_among}
 
 -- each kind of the list has the verdict of the list
 pub record IsPure (kinds : Kinds) : Type 0 where

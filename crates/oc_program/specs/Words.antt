@@ -2,12 +2,12 @@
 use Rattle.std.specs.Prelude.{◌≡◌, ◌⊎◌, ⊤, List, [], ◌∷◌, map, codes, Result, Ok, Err, String, string_bytes}
 use Rattle.clap.specs.Words.{Kinds, Text, fault_of}
 use Rattle.clap.specs.declared.error.kind.ErrorKind.{ErrorKind}
-use Rattle.clap.specs.declared.error.kind.ErrorKind.TheVariants.{DisplayHelp, OutOfMemory}
-use Rattle.overcast.specs.Command.{command}
-use Rattle.overcast.specs.declared.words.Request.{Request}
-use Rattle.overcast.specs.declared.words.Request.TheVariants.{Replay, Help}
-use Rattle.overcast.specs.declared.words.WordsFault.{WordsFault}
-use Rattle.overcast.specs.declared.words.WordsFault.TheVariants.{Usage, Memory}
+use Rattle.clap.specs.declared.error.kind.ErrorKind.TheVariants.{DisplayHelp}
+use Rattle.oc_program.specs.Command.{command}
+use Rattle.oc_program.specs.declared.words.Request.{Request}
+use Rattle.oc_program.specs.declared.words.Request.TheVariants.{Replay, Help}
+use Rattle.oc_program.specs.declared.words.WordsFault.{WordsFault}
+use Rattle.oc_program.specs.declared.words.WordsFault.TheVariants.{Usage, Memory}
 
 -- ---- what `clap` makes of the words
 
@@ -42,12 +42,6 @@ module _ {Z : Type 0} where
   texts_of = map string_bytes
 
 -- ---- what the program answers
-
--- the answer to an error of this kind
-abbrev pub answer_by : ErrorKind → Result Request WordsFault
-answer_by OutOfMemory = Err Memory
-answer_by DisplayHelp = Ok Help
-answer_by _ = Err Usage
 
 -- the answer is that of the verdict, or memory is wanting
 abbrev pub Gives : Verdict → Result Request WordsFault → Type 0

@@ -1,2 +1,4 @@
 mod PureKinds
 mod WordLemmas
+mod Parts
+mod Happenings

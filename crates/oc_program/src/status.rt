@@ -1,6 +1,6 @@
 //! The statuses with which the program ends.
 ghost use Rattle.std.specs.Prelude.{◌≡◌};
-ghost use Rattle.overcast.specs.Status.{number_of};
+ghost use Rattle.oc_program.specs.Status.{number_of};
 
 /// How the program ended.
 #[derive(Clone, Copy, Debug, PartialEq, Eq)]

@@ -1,7 +1,7 @@
 //! The command by which `clap` reads the words of the program. Each subcommand is one function.
 ghost use Rattle.std.specs.Prelude.{◌≡◌, IfOk};
 ghost use Rattle.clap.specs.Words.{app_of};
-ghost use Rattle.overcast.specs.Command.{IsSubcommand, bare_command, command, replay_shape};
+ghost use Rattle.oc_program.specs.Command.{IsSubcommand, bare_command, command, replay_shape};
 
 use clap::Command;
 use std::alloc::{AllocError, Global};

@@ -1,18 +1,18 @@
 -- What the program answers to the words is what `clap` makes of them.
-use Rattle.std.proofs.Common.{◌≡◌, ◌⊎◌, ◌∙◌, ap, codes, refl, sym, subst, inl, inr, true, List, [], ◌∷◌, Result, Ok, Err, ⊎_elim}
+use Rattle.std.proofs.Common.{◌≡◌, ◌≢◌, ◌⊎◌, ◌∙◌, ap, codes, refl, sym, subst, inl, inr, true, List, [], ◌∷◌, Result, Ok, Err, ⊎_elim}
 use Rattle.clap.specs.Words.{App, HasKind, Text, fault_of, is_simple_and_free, kind_of}
 use Rattle.clap.specs.Simple.{built}
 use Rattle.clap.specs.declared.error.Error.{Error}
 use Rattle.clap.specs.declared.error.kind.ErrorKind.{ErrorKind}
 use Rattle.clap.specs.declared.error.kind.ErrorKind.TheVariants as kind
 use Rattle.clap.proofs.OnLiterals.{clap_on_literals}
-use Rattle.overcast.specs.declared.words.Request.{Request}
-use Rattle.overcast.specs.declared.words.Request.TheVariants.{Replay, Help}
-use Rattle.overcast.specs.declared.words.WordsFault.{WordsFault}
-use Rattle.overcast.specs.declared.words.WordsFault.TheVariants.{Usage, Memory}
-use Rattle.overcast.specs.Command.{command}
-use Rattle.overcast.specs.Words.{ExactlyWhere, Gives, IsPlain, Verdict, accepted, answer_by, helped, refused, verdict_among, verdict_by, verdict_of}
-use Rattle.overcast.proofs.PureKinds.{pure_faults}
+use Rattle.oc_program.specs.declared.words.Request.{Request}
+use Rattle.oc_program.specs.declared.words.Request.TheVariants.{Replay, Help}
+use Rattle.oc_program.specs.declared.words.WordsFault.{WordsFault}
+use Rattle.oc_program.specs.declared.words.WordsFault.TheVariants.{Usage, Memory}
+use Rattle.oc_program.specs.Command.{command}
+use Rattle.oc_program.specs.Words.{ExactlyWhere, Gives, IsPlain, Verdict, accepted, helped, refused, verdict_among, verdict_by, verdict_of}
+use Rattle.oc_program.proofs.PureKinds.{pure_faults}
 
 -- ---- from the verdict to the clauses
 
@@ -49,13 +49,16 @@ plainly words r g plain = (exactly_replay (verdict_of words) r g).wherever (ap v
 
 -- ---- from `clap` to the verdict
 
--- the answer to a kind of error that has the verdict
-by_kind : (v : Verdict) (k : ErrorKind) → (k ≡ kind.OutOfMemory) ⊎ (verdict_by k ≡ v) → Gives v (answer_by k)
-by_kind v kind.OutOfMemory h = tt
-by_kind v kind.DisplayHelp (inl e) = cc
-by_kind v kind.DisplayHelp (inr e) = sym e
-by_kind v k (inl e) = cc
-by_kind v k (inr e) = sym e
+-- memory is answered by memory, and each other kind by its verdict
+abbrev pub AnswersKind : ErrorKind → Result Request WordsFault → Type 0
+AnswersKind k r = (k ≡ kind.OutOfMemory → r ≡ Err Memory) × (k ≢ kind.OutOfMemory → Gives (verdict_by k) r)
+
+-- what answers a kind of error answers the verdict that it has
+by_kind : (v : Verdict) (k : ErrorKind) (r : Result Request WordsFault) → AnswersKind k r
+    → (k ≡ kind.OutOfMemory) ⊎ (verdict_by k ≡ v) → Gives v r
+by_kind v kind.OutOfMemory r a h = subst (Gives v) (sym (a.0 refl)) tt
+by_kind v k r a (inl e) = cc
+by_kind v k r a (inr e) = subst (λ w. Gives w r) e (a.1 (λ m. cc))
 
 -- all that `clap` says of its answers holds of the command
 is_exact : is_simple_and_free command ≡ true
@@ -77,9 +80,9 @@ module _ (a : App) (is : a ≡ command) (words : List Text) where
 
   -- an error came, which is of one of the kinds that can
   pub failed : (e : Error) (r : Result Request WordsFault)
-      → (is_simple_and_free a ≡ true → HasKind (fault_of a words) e) → r ≡ answer_by (kind_of e) → Gives (verdict_of words) r
+      → (is_simple_and_free a ≡ true → HasKind (fault_of a words) e) → AnswersKind (kind_of e) r → Gives (verdict_of words) r
   unfolding verdict_of
   failed e r h answer =
       let among = subst (λ (x : App). HasKind (fault_of x words) e) is (h (ap is_simple_and_free is ∙ is_exact)) in
-      subst (Gives (verdict_of words)) (sym answer) (by_kind (verdict_of words) (kind_of e)
-      (⊎_elim (λ m. inl m) (λ i. inr ((pure_faults command words has_no_help).one (kind_of e) i)) among))
+      by_kind (verdict_of words) (kind_of e) r answer
+      (⊎_elim (λ m. inl m) (λ i. inr ((pure_faults command words has_no_help).one (kind_of e) i)) among)

@@ -1,21 +1,24 @@
 //! The texts of help and usage.
 
+ghost use Rattle.std.specs.Prelude.{◌<◌, length};
+
 /// The text that answers `--help`.
-pub fn help() -> &'static str {
+pub fn help() -> &'static str
+    ensures { 0 < length result.now }
+{
     "\
-overcast: multicast from one source over a tree of nodes that keep what they get
+overcast: multicast from one source over nodes that keep what they get
 
 Usage: overcast replay < SCHEDULE > REPORT
        overcast --help
 
-Node 1 is the source, and publishes bytes in groups. The other nodes find their
-places in a tree below it, and each node keeps on its own disks what it is sent
-and passes it on, so that it loses nothing when it stops and starts again.
+Node 1 is the source, and publishes bytes in groups. Another node pulls from a
+neighbour the bytes that it does not hold yet, and passes them on in its turn.
 
 Commands:
-  replay  plays a schedule over nodes whose disks and network are in memory. It
-          reads the schedule on standard input, and writes the report on
-          standard output: what came of each event, and each message sent.
+  replay  plays a schedule over nodes and a network in memory. It reads the
+          schedule on standard input, and writes the report on standard output:
+          what came of each event, and each message sent.
 
 A schedule is text, with one event on a line. Its first line is
 `overcast 1 nodes N chain C`: N nodes, of which nodes 1 to C can act as root.
@@ -53,7 +56,7 @@ Exit status:
   2  the words are not as under Usage
   3  the schedule has a fault, in the line that is named
   4  out of memory
-  5  the schedule passes a limit on its lines, bytes, published bytes or settles
+  5  the schedule passes a limit on its lines, bytes or published bytes
 
 With each status but 0, one line on standard error says why.
 "

@@ -1,8 +1,8 @@
-use Rattle.std.proofs.Common.{ap, ◌∙◌}
+use Rattle.std.proofs.Common.{subst}
 use Rattle.clap.specs.Words.{app_of}
-use Rattle.overcast.specs.Words.{answer_by, texts_of}
-use Rattle.overcast.proofs.WordLemmas.{exactly_help, exactly_replay, exactly_usage, failed, passed, plainly}
-use Rattle.overcast.proofs.words.read_words.Goals as goal
+use Rattle.oc_program.specs.Words.{texts_of}
+use Rattle.oc_program.proofs.WordLemmas.{AnswersKind, exactly_help, exactly_replay, exactly_usage, failed, passed, plainly}
+use Rattle.oc_program.proofs.words.read_words.Goals as goal
 
 pub returns-in-Ok : goal.returns-in-Ok
 returns-in-Ok c =
@@ -18,7 +18,7 @@ returns-in-Ok c =
 pub returns : goal.returns
 returns c =
     let words = texts_of c.args.words.now in
-    let answer = c.answer_to.ensures ∙ ap answer_by c.kind.ensures in
+    let answer = subst (λ k. AnswersKind k c.answer_to.result) c.kind.ensures (c.answer_to.ensures.memory, c.answer_to.ensures.other) in
     let given = failed (app_of c.in_ok-command.command) c.in_ok-command.ensures words c.in-Err.error _ c.in-Err.ensures.kinds answer in
     record {
       replay = exactly_replay _ _ given;

@@ -1,7 +1,7 @@
 //! Reads the words behind the program's name.
-ghost use Rattle.std.specs.Prelude.{◌≡◌, ◌⊎◌};
-ghost use Rattle.overcast.specs.Words.{ExactlyWhere, IsPlain, accepted, answer_by, helped};
-ghost use Rattle.overcast.specs.Words.{refused, texts_of, verdict_of};
+ghost use Rattle.std.specs.Prelude.{◌≡◌, ◌≢◌, ◌⊎◌};
+ghost use Rattle.oc_program.specs.Words.{ExactlyWhere, Gives, IsPlain, accepted, helped, refused};
+ghost use Rattle.oc_program.specs.Words.{texts_of, verdict_by, verdict_of};
 
 use crate::command::command;
 use clap::error::ErrorKind;
@@ -26,7 +26,7 @@ pub enum WordsFault {
 }
 
 impl<T: Drop> From<AllocFailed<T>> for WordsFault {
-    ghost use Rattle.overcast.specs.declared.words.WordsFault.TheVariants.{Memory};
+    ghost use Rattle.oc_program.specs.declared.words.WordsFault.TheVariants.{Memory};
 
     ghost from_gives = { λ _ e. e ≡ Memory };
 
@@ -36,7 +36,7 @@ impl<T: Drop> From<AllocFailed<T>> for WordsFault {
 }
 
 impl From<AllocError> for WordsFault {
-    ghost use Rattle.overcast.specs.declared.words.WordsFault.TheVariants.{Memory};
+    ghost use Rattle.oc_program.specs.declared.words.WordsFault.TheVariants.{Memory};
 
     ghost from_gives = { λ _ e. e ≡ Memory };
 
@@ -68,46 +68,12 @@ pub fn read_words(alloc: Global, words: &[String]) -> Result<Request, WordsFault
 
 /// The answer to an error of `clap`.
 fn answer_to(kind: ErrorKind) -> Result<Request, WordsFault>
-    ensures { result ≡ answer_by kind }
+    ensures memory { kind ≡ ErrorKind.OutOfMemory → result ≡ Err WordsFault.Memory }
+    ensures other { kind ≢ ErrorKind.OutOfMemory → Gives (verdict_by kind) result }
 {
     match kind {
         ErrorKind::OutOfMemory => Err(WordsFault::Memory),
         ErrorKind::DisplayHelp => Ok(Request::Help),
         _ => Err(WordsFault::Usage),
-    }
-}
-
-#[cfg(test)]
-mod tests {
-    use super::*;
-    use std::test::Fail;
-
-    #[test]
-    fn reads_each_line_of_words(rt: HostRuntime) -> Result<(), Fail> {
-        let table = [
-            ("replay", Ok(Request::Replay)),
-            ("--help", Ok(Request::Help)),
-            ("-h", Ok(Request::Help)),
-            ("replay --help", Ok(Request::Help)),
-            ("", Err(WordsFault::Usage)),
-            ("replay x", Err(WordsFault::Usage)),
-            ("--summary", Err(WordsFault::Usage)),
-            ("replay --summary", Err(WordsFault::Usage)),
-            ("help", Err(WordsFault::Usage)),
-            ("--version", Err(WordsFault::Usage)),
-            ("foo", Err(WordsFault::Usage)),
-        ];
-        for (line, answer) in table {
-            let mut words = Vec::new(rt.alloc());
-            for word in line.split_whitespace() {
-                words.push(String::from_str(rt.alloc(), word)?)?;
-            }
-            assert_eq!(rt;
-                read_words(rt.alloc(), words.as_slice()),
-                answer,
-                "at {line:?}"
-            );
-        }
-        Ok(())
     }
 }

@@ -1,0 +1,83 @@
+//! The line that says on the error output how a run ended. It takes no memory, so that it can be
+//! written where there is none.
+
+ghost use Rattle.std.specs.Prelude.{◌≡◌, ℕ, List, OnOk};
+ghost use Rattle.oc_program.specs.Run.{IsTold, joined, line_of, line_of_replay, limit_text};
+
+use crate::running::End;
+use crate::texts::usage;
+use itoa::Buffer;
+use oc_base::Why;
+use oc_outside::{Failed, Sink, write_all};
+use oc_replay::ReplayEnd;
+use oc_schedule::What;
+
+/// The text of a limit with its number.
+fn limit_name(what: What) -> &'static str
+    ensures { result.now ≡ limit_text what }
+{
+    match what {
+        What::Lines => "lines 100000",
+        What::Bytes => "bytes 67108864",
+        What::Published => "published 262144",
+    }
+}
+
+/// Has the sink take these parts, one behind the other.
+fn write_parts<K: Sink>(sink: &mut K, parts: &[&[u8]]) -> Result<(), Failed>
+    ensures told { IsTold K.takes K.fails K.faults sink.old sink.new (joined parts.now) }
+    ensures takes { OnOk result (K.takes sink.old (joined parts.now) sink.new) }
+{
+    for part in parts {
+        write_all(sink, part)?;
+    }
+    Ok(())
+}
+
+/// Writes the line of an end on the error output. Where that output fails, a front of it stands there.
+pub fn tell<E: Sink>(err: &mut E, end: End)
+    ensures { (usage : List ℕ) × IsTold E.takes E.fails E.faults err.old err.new (line_of end usage) }
+{
+    let _ = match end {
+        End::Helped => Ok(()),
+        End::HelpFailed => write_all(err, b"overcast: output failed\n"),
+        End::Misused => write_parts(err, &[b"overcast: usage\n", usage().as_bytes()]),
+        End::NoMemory => write_all(err, b"overcast: out of memory\n"),
+        End::Replayed(end) => tell_replay(err, end),
+    };
+}
+
+fn tell_replay<E: Sink>(err: &mut E, end: ReplayEnd) -> Result<(), Failed>
+    ensures { IsTold E.takes E.fails E.faults err.old err.new (line_of_replay end) }
+{
+    match end {
+        ReplayEnd::Done => Ok(()),
+        ReplayEnd::Text { line, why } => tell_line(err, line, why),
+        ReplayEnd::Limit(what) => {
+            write_parts(
+                err,
+                &[b"overcast: limit ", limit_name(what).as_bytes(), b"\n"],
+            )
+        }
+        ReplayEnd::Source => write_all(err, b"overcast: input failed\n"),
+        ReplayEnd::Sink => write_all(err, b"overcast: output failed\n"),
+        ReplayEnd::Memory => write_all(err, b"overcast: out of memory\n"),
+    }
+}
+
+fn tell_line<E: Sink>(err: &mut E, line: u32, why: Why) -> Result<(), Failed>
+    ensures { IsTold E.takes E.fails E.faults err.old err.new (line_of_replay (ReplayEnd.Text line why)) }
+{
+    let mut digits = Buffer::new();
+    let number = digits.format(line).as_bytes();
+    write_parts(
+        err,
+        &[
+            b"overcast: line ",
+            number,
+            b": ",
+            why.word().as_bytes(),
+            b"\n",
+        ],
+    )
+}

@@ -5,7 +5,6 @@ use Rattle.oc_model.specs.declared.event.Event.{Event}
 use Rattle.oc_model.specs.declared.group.Group.{Group}
 use Rattle.oc_model.specs.declared.message.Body.{Body}
 use Rattle.oc_model.specs.declared.message.Body.TheVariants.{Fetch, Chunk}
-use Rattle.oc_model.specs.declared.message.Message.{Message}
 use Rattle.oc_model.specs.Groups.{group_of}
 use Rattle.oc_model.specs.World.{World, node, next_world}
 

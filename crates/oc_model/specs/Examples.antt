@@ -1,12 +1,10 @@
-use Rattle.std.specs.Prelude.{◌≡◌, ℕ, true, false, List, [], ◌∷◌, codes}
-use Rattle.oc_base.specs.declared.shelf.Shelf.{Shelf}
+use Rattle.std.specs.Prelude.{◌≡◌, false, List, [], ◌∷◌, codes}
 use Rattle.oc_model.specs.declared.event.Act.TheVariants as acts
 use Rattle.oc_model.specs.declared.event.Event.{Event}
-use Rattle.oc_model.specs.declared.event.Event.TheVariants.{Up, Do, Held}
+use Rattle.oc_model.specs.declared.event.Event.TheVariants.{Up, Do}
 use Rattle.oc_model.specs.declared.message.Body.TheVariants.{Fetch, Chunk}
-use Rattle.oc_model.specs.declared.message.Message.{Message}
 use Rattle.oc_model.specs.Groups.{shelf}
-use Rattle.oc_model.specs.World.{World, Header, new_world, world_after, node}
+use Rattle.oc_model.specs.World.{Header, new_world, world_after, node}
 
 abbrev two_nodes : Header
 two_nodes = record { nodes = 2; chain = 1; areas = 0 ∷ 0 ∷ [] }

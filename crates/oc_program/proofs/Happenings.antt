@@ -1,6 +1,6 @@
 -- What had happened at the end of a replay, from what the replay itself says of each end.
 use Rattle.std.proofs.Common.{ℕ, ◌⊎◌, List, []}
-use Rattle.std.specs.Prelude.{Result, Ok, Err}
+use Rattle.std.specs.Prelude.{Ok, Err}
 use Rattle.oc_replay.specs.Ends.{OnDone, IfText, IfLimit, OnSource, OnSink, OnMemory, OnRefusal}
 use Rattle.oc_replay.specs.Report.{SomeFront}
 use Rattle.oc_replay.specs.declared.end.ReplayEnd.{ReplayEnd}

@@ -29,6 +29,7 @@ impl AlwaysDown {
 }
 
 impl Stage for AlwaysDown {
+    ghost use Rattle.std.specs.Prelude.{refl};
     ghost use Rattle.oc_model.specs.declared.event.Event.TheVariants.{Held};
     ghost use Rattle.oc_model.specs.declared.word.Word.TheVariants.{Down};
     ghost use Rattle.oc_model.specs.World.{new_world};

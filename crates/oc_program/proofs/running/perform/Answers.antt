@@ -1,10 +1,9 @@
 use Rattle.std.proofs.Common.{◌≡◌, ℕ, List, ap}
-use Rattle.std.specs.Prelude.{Result, Ok}
+use Rattle.std.specs.Prelude.{Ok}
 use Rattle.oc_outside.specs.Faults.{Rose}
 use Rattle.oc_replay.specs.Replay.{IsInput, PassesLimit, told_text, world_at}
 use Rattle.oc_replay.specs.Report.{SomeFront}
 use Rattle.oc_schedule.specs.Script.{Script}
-use Rattle.oc_schedule.specs.declared.fault.ScheduleFault.{ScheduleFault}
 use Rattle.oc_program.specs.Run.{Outside}
 use Rattle.oc_program.specs.Words.{texts_of, verdict_of}
 use Rattle.oc_program.proofs.Happenings.{happened_at, both_on_source, cut_on_sink}

@@ -1,4 +1,4 @@
-use Rattle.std.proofs.Common.{List, ℕ, [], ◌++◌, ◌≡◌, ◌∙◌, codes, subst, ap, sym, append-nil, append_assoc}
+use Rattle.std.proofs.Common.{List, ℕ, [], ◌++◌, codes, subst, ap, append-nil}
 use Rattle.oc_program.specs.Run.{IsTold, newline}
 use Rattle.oc_program.proofs.Parts.{told_of}
 use Rattle.oc_program.proofs.telling.tell.Goals as goal

@@ -1,4 +1,4 @@
-use Rattle.std.proofs.Common.{List, ℕ, ◌++◌, ◌≡◌, ◌∙◌, [], ◌∷◌, codes, decimal, subst, ap}
+use Rattle.std.proofs.Common.{List, ℕ, ◌++◌, ◌≡◌, ◌∙◌, codes, decimal, subst}
 use Rattle.oc_base.specs.Why.{why_text}
 use Rattle.oc_program.specs.Run.{IsTold, newline}
 use Rattle.oc_program.proofs.Parts.{line_joined}

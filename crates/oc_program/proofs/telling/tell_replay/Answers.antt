@@ -1,6 +1,5 @@
-use Rattle.std.proofs.Common.{List, ℕ, ◌++◌, ◌≡◌, ◌∙◌, codes, subst, ap, sym}
-use Rattle.oc_replay.specs.declared.end.ReplayEnd.{ReplayEnd}
-use Rattle.oc_program.specs.Run.{IsTold, line_of_replay, limit_text, newline}
+use Rattle.std.proofs.Common.{List, ℕ, ◌++◌, ◌≡◌, ◌∙◌, codes, subst, sym}
+use Rattle.oc_program.specs.Run.{IsTold, limit_text, newline}
 use Rattle.oc_program.proofs.Parts.{told_of}
 use Rattle.std.proofs.Common.{append_assoc}
 use Rattle.oc_program.proofs.telling.tell_replay.Goals as goal

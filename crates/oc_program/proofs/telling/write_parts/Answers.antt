@@ -1,4 +1,4 @@
-use Rattle.std.proofs.Common.{List, ℕ, [], ◌+◌, length, take, get_or, subst, sym, inr, arith}
+use Rattle.std.proofs.Common.{List, ℕ, [], ◌+◌, length, take, get_or, subst, inr, arith}
 use Rattle.std.specs.Borrow.{Bor}
 use Rattle.oc_outside.proofs.Counts.{Rose-after}
 use Rattle.oc_program.specs.Run.{joined}

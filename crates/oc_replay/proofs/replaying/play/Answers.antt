@@ -1,4 +1,4 @@
-use Rattle.std.proofs.Common.{◌≡◌, List, ◌∙◌, ap, ℕ}
+use Rattle.std.proofs.Common.{List, ◌∙◌, ap, ℕ}
 use Rattle.oc_model.specs.World.{Header}
 use Rattle.oc_schedule.specs.Script.{Script}
 use Rattle.oc_replay.proofs.Opened.{opened-lawful}

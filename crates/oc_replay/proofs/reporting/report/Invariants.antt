@@ -1,4 +1,4 @@
-use Rattle.std.proofs.Common.{◌≡◌, ◌≤◌, length, take, drop, fold}
+use Rattle.std.proofs.Common.{◌≡◌, length, take, drop, fold}
 use Rattle.std.specs.List.{AllByRecursion}
 use Rattle.oc_model.specs.Lawful.{IsEvent}
 use Rattle.oc_model.specs.World.{ids}

@@ -10,13 +10,25 @@
 //! the end, or says that a call failed or that more bytes came than were allowed. `write_all` has
 //! all bytes taken, or says that a call failed when a front of them had been taken.
 //!
+//! A [`Disk`] is a file that may crash at any moment. One view of it holds all that is said: what a
+//! read gives, what a crash now or since an earlier moment may leave, whether it keeps the disk
+//! model, its size, its spare room, its count of faults, and the loans through which it is reached.
+//! A layer above rests on the clauses of its five calls and on what each honest disk keeps.
+//! [`MemDisk`] tells the images of each moment from a record of its calls, and can be stopped and
+//! crashed; [`Lent`] is a disk that is lent.
+//!
 //! [`MemSource`] and [`MemSink`] keep their bytes in memory and fail at given calls. There the
 //! relations say which bytes came or went, and a call fails only where it is listed or the sink is
 //! full.
 #![tactic(auto)]
 
 mod call_tally;
+mod disk;
+mod disk_log;
+mod failures;
 mod fault;
+mod lent;
+mod mem_disk;
 mod mem_sink;
 mod mem_source;
 mod read_fault;
@@ -25,7 +37,10 @@ mod sink;
 mod source;
 mod writing;
 
+pub use disk::Disk;
 pub use fault::Failed;
+pub use lent::Lent;
+pub use mem_disk::MemDisk;
 pub use mem_sink::MemSink;
 pub use mem_source::MemSource;
 pub use read_fault::ReadFault;

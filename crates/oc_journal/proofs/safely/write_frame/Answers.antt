@@ -1,0 +1,93 @@
+use Rattle.std.proofs.Common.{ℕ, ◌≡◌, ◌+◌, [], ◌∷◌, ◌++◌, length, take, sym, ◌∙◌, ap, subst, arith}
+use Rattle.std.proofs.lemmas.List.{take-take}
+use Rattle.oc_outside.specs.DiskView.{DiskView, Holds, IsTorn}
+use Rattle.oc_outside.proofs.DiskMoments.{LeavesOnly-weaker, LeavesOnly-then, still_honest}
+use Rattle.oc_journal.specs.JournalFile.{frames_of, IsBeforeOrAfter}
+use Rattle.oc_journal.proofs.Blocks.{frames_of-ended}
+use Rattle.oc_journal.proofs.Writes.{both, IsSettled-from, behind_torn, gate_torn, gate_ends, gate_body, torn_seen}
+use Rattle.oc_journal.proofs.safely.write_frame.Goals as goal
+
+-- what a torn write leaves before its place
+before_place : (v w : DiskView) (end at n : ℕ) → at ≡ end + 1 → IsTorn at n v.seen w.seen → take end w.seen ≡ take end v.seen
+before_place v w end at n is torn =
+    sym (take-take end at w.seen (omega arith)) ∙ ap (take end) torn.before ∙ take-take end at v.seen (omega arith)
+
+-- the first write, whole or torn, leaves what stands before the gate
+pub returns-in_err-write_safely-clause-front : goal.returns-in_err-write_safely-clause-front
+returns-in_err-write_safely-clause-front g c = λ honest.
+    let v = g.D.Disk.view c.args.disk.now in
+    let m = g.D.Disk.view c.write_safely.new.disk in
+    let law = g.met.D.Disk.consistent c.write_safely.new.disk (still_honest v m c.write_safely.ensures.takes.goes_on honest) in
+    let run = c.write_safely.ensures.any_moment honest (c.requires.settled honest).safe in
+    before_place v m c.args.end (c.args.end + 1) (length c.bytes.result.now) (omega arith) (torn_seen v m _ _ run law)
+
+pub returns-in_err-write_safely-clause-any_moment : goal.returns-in_err-write_safely-clause-any_moment
+returns-in_err-write_safely-clause-any_moment g c = λ honest.
+    let v = g.D.Disk.view c.args.disk.now in
+    let m = g.D.Disk.view c.write_safely.new.disk in
+    let s = c.requires.settled honest in
+    let n = length c.bytes.result.now in
+    LeavesOnly-weaker v m (IsTorn (c.args.end + 1) n v.seen) (IsBeforeOrAfter (frames_of v.seen) c.args.frame.now) (behind_torn v m m c.args.end c.args.frame.now s c.bytes.ensures.short n) (c.write_safely.ensures.any_moment honest s.safe)
+
+pub returns-clause-front : goal.returns-clause-front
+returns-clause-front g c = λ honest.
+    let v = g.D.Disk.view c.args.disk.now in
+    let m = g.D.Disk.view c.write_safely.new.disk in
+    let w = g.D.Disk.view c.write_safely-2.new.disk in
+    let honest_m = still_honest v m c.write_safely.ensures.takes.goes_on honest in
+    let honest_w = still_honest m w c.write_safely-2.ensures.takes.goes_on honest_m in
+    let run = c.write_safely.ensures.any_moment honest (c.requires.settled honest).safe in
+    let run_2 = c.write_safely-2.ensures.any_moment honest_m (c.in_ok-write_safely.ensures.safe honest) in
+    (torn_seen m w c.args.end 1 run_2 (g.met.D.Disk.consistent c.write_safely-2.new.disk honest_w)).before
+    ∙ before_place v m c.args.end (c.args.end + 1) (length c.bytes.result.now) (omega arith) (torn_seen v m _ _ run (g.met.D.Disk.consistent c.write_safely.new.disk honest_m))
+
+pub returns-clause-any_moment : goal.returns-clause-any_moment
+returns-clause-any_moment g c = λ honest.
+    let v = g.D.Disk.view c.args.disk.now in
+    let m = g.D.Disk.view c.write_safely.new.disk in
+    let w = g.D.Disk.view c.write_safely-2.new.disk in
+    let s = c.requires.settled honest in
+    let body = c.args.frame.now in
+    let n = length c.bytes.result.now in
+    let P = IsBeforeOrAfter (frames_of v.seen) body in
+    let honest_m = still_honest v m c.write_safely.ensures.takes.goes_on honest in
+    let behind = subst (λ bytes. Holds v.seen (c.args.end + 1) bytes m.seen) c.bytes.ensures.bytes (c.in_ok-write_safely.ensures.written honest) in
+    let first = LeavesOnly-weaker v m (IsTorn (c.args.end + 1) n v.seen) P (behind_torn v m w c.args.end body s c.bytes.ensures.short n) (c.write_safely.ensures.any_moment honest s.safe) in
+    let second = LeavesOnly-weaker m w (IsTorn c.args.end 1 m.seen) P (gate_torn v m w c.args.end body s c.bytes.ensures.short behind) (c.write_safely-2.ensures.any_moment honest_m (c.in_ok-write_safely.ensures.safe honest)) in
+    LeavesOnly-then v m w P first second
+
+pub returns-clause-settled : goal.returns-clause-settled
+returns-clause-settled g c =
+    let v = g.D.Disk.view c.args.disk.now in
+    let m = g.D.Disk.view c.write_safely.new.disk in
+    let w = g.D.Disk.view c.write_safely-2.new.disk in
+    let body = c.args.frame.now in
+    both c.write_safely-2.result (λ written safe honest.
+    let honest_m = still_honest v m c.write_safely.ensures.takes.goes_on honest in
+    let behind = subst (λ bytes. Holds v.seen (c.args.end + 1) bytes m.seen) c.bytes.ensures.bytes (c.in_ok-write_safely.ensures.written honest) in
+    IsSettled-from w (frames_of v.seen ++ body ∷ []) (c.args.end + 5 + length body) (gate_ends v m w c.args.end body (c.requires.settled honest) c.bytes.ensures.short behind (written honest_m)) (safe honest_m))
+    c.write_safely-2.ensures.written c.write_safely-2.ensures.safe
+
+pub returns-clause-added : goal.returns-clause-added
+returns-clause-added g c =
+    let v = g.D.Disk.view c.args.disk.now in
+    let m = g.D.Disk.view c.write_safely.new.disk in
+    let w = g.D.Disk.view c.write_safely-2.new.disk in
+    let body = c.args.frame.now in
+    both c.write_safely-2.result (λ written safe honest.
+    let honest_m = still_honest v m c.write_safely.ensures.takes.goes_on honest in
+    let behind = subst (λ bytes. Holds v.seen (c.args.end + 1) bytes m.seen) c.bytes.ensures.bytes (c.in_ok-write_safely.ensures.written honest) in
+    frames_of-ended w.seen (frames_of v.seen ++ body ∷ []) (c.args.end + 5 + length body) (gate_ends v m w c.args.end body (c.requires.settled honest) c.bytes.ensures.short behind (written honest_m)))
+    c.write_safely-2.ensures.written c.write_safely-2.ensures.safe
+
+pub returns-clause-body : goal.returns-clause-body
+returns-clause-body g c =
+    let v = g.D.Disk.view c.args.disk.now in
+    let m = g.D.Disk.view c.write_safely.new.disk in
+    let w = g.D.Disk.view c.write_safely-2.new.disk in
+    let body = c.args.frame.now in
+    both c.write_safely-2.result (λ written safe honest.
+    let honest_m = still_honest v m c.write_safely.ensures.takes.goes_on honest in
+    let behind = subst (λ bytes. Holds v.seen (c.args.end + 1) bytes m.seen) c.bytes.ensures.bytes (c.in_ok-write_safely.ensures.written honest) in
+    gate_body v m w c.args.end body (c.requires.settled honest) c.bytes.ensures.short behind (written honest_m))
+    c.write_safely-2.ensures.written c.write_safely-2.ensures.safe

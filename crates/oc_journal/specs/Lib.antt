@@ -1,0 +1,4 @@
+pub mod JournalFile
+pub mod JournalView
+pub mod FrameBytes
+pub mod Stopped

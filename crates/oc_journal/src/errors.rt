@@ -1,0 +1,99 @@
+ghost use Rattle.std.specs.Prelude.{◌≡◌};
+ghost use Rattle.oc_journal.specs.declared.errors.LoadError.TheVariants.{Disk as LoadDisk, Memory as LoadMemory};
+ghost use Rattle.oc_journal.specs.declared.errors.FrameError.TheVariants.{Disk as FrameDisk, Memory as FrameMemory};
+
+use oc_outside::Failed;
+use std::alloc::{AllocError, AllocFailed};
+
+/// Why a journal was not loaded.
+#[derive(Clone, Copy, Debug, PartialEq, Eq)]
+pub enum LoadError {
+    /// A call on the disk failed.
+    Disk,
+    /// The file does not begin with the magic, or an open gate has no whole frame behind it.
+    NotJournal,
+    /// Memory ran out.
+    Memory,
+}
+
+/// Why a frame was not appended.
+#[derive(Clone, Copy, Debug, PartialEq, Eq)]
+pub enum AppendError {
+    /// A call on the disk failed earlier.
+    Closed,
+    /// The file would have more than 2^40 bytes.
+    Full,
+    /// A call on the disk failed.
+    Disk,
+}
+
+/// Why a journal was not begun again.
+#[derive(Clone, Copy, Debug, PartialEq, Eq)]
+pub enum RestartError {
+    /// A call on the disk failed earlier.
+    Closed,
+    /// A call on the disk failed.
+    Disk,
+}
+
+/// Why a body was not read.
+#[derive(Clone, Copy, Debug, PartialEq, Eq)]
+pub enum FrameError {
+    /// A call on the disk failed.
+    Disk,
+    /// Memory ran out.
+    Memory,
+}
+
+/// Why a part of a body was not read.
+#[derive(Clone, Copy, Debug, PartialEq, Eq)]
+pub enum PeekError {
+    /// A call on the disk failed.
+    Disk,
+}
+
+impl From<Failed> for LoadError {
+    ghost from_gives = { λ _ error. error ≡ LoadDisk };
+
+    fn from(_failed: Failed) -> LoadError {
+        LoadError::Disk
+    }
+}
+
+impl From<AllocError> for LoadError {
+    ghost from_gives = { λ _ error. error ≡ LoadMemory };
+
+    fn from(_error: AllocError) -> LoadError {
+        LoadError::Memory
+    }
+}
+
+impl<T: Drop> From<AllocFailed<T>> for LoadError {
+    ghost from_gives = { λ _ error. error ≡ LoadMemory };
+
+    fn from(_error: AllocFailed<T>) -> LoadError {
+        LoadError::Memory
+    }
+}
+
+impl From<Failed> for FrameError {
+    ghost from_gives = { λ _ error. error ≡ FrameDisk };
+
+    fn from(_failed: Failed) -> FrameError {
+        FrameError::Disk
+    }
+}
+
+impl From<AllocError> for FrameError {
+    ghost from_gives = { λ _ error. error ≡ FrameMemory };
+
+    fn from(_error: AllocError) -> FrameError {
+        FrameError::Memory
+    }
+}
+
+impl From<Failed> for PeekError {
+    fn from(_failed: Failed) -> PeekError {
+        PeekError::Disk
+    }
+}

@@ -1,0 +1,90 @@
+ghost use Rattle.std.specs.Prelude.{◌≡◌, ◌↔◌, ◌<◌, ◌≤◌, length, IfOk, IsErrOf};
+ghost use Rattle.oc_journal.specs.JournalFile.{encoded};
+ghost use Rattle.oc_journal.specs.declared.frame.FrameFault.TheVariants.{Memory as FrameMemory};
+
+use std::alloc::{AllocError, Global};
+use std::marker::Model;
+
+/// The most bytes that a body may have.
+const LONGEST: usize = 1_048_576;
+
+/// The closed gate behind a frame.
+const CLOSED: u8 = 0;
+
+/// A body that can be appended to a journal. A contract sees it as its bytes.
+#[derive(Debug, Drop)]
+pub struct Frame {
+    bytes: Vec<u8>,
+}
+
+impl Model for Frame {
+    ghost use Rattle.std.specs.Prelude.{List, ℕ};
+    ghost use Rattle.oc_journal.specs.FrameBytes.{body_of, IsFrame};
+
+    ghost Value = { List ℕ };
+
+    ghost view = { λ f. body_of f.bytes.items };
+
+    ghost invariant = { λ f. IsFrame f.bytes.items };
+}
+
+/// Why a body is no frame.
+#[derive(Clone, Copy, Debug, PartialEq, Eq)]
+pub enum FrameFault {
+    /// It is longer than 1,048,576 bytes.
+    TooLong,
+    /// Memory ran out.
+    Memory,
+}
+
+impl From<AllocError> for FrameFault {
+    ghost from_gives = { λ _ fault. fault ≡ FrameMemory };
+
+    fn from(_error: AllocError) -> FrameFault {
+        FrameFault::Memory
+    }
+}
+
+impl Frame {
+    /// A frame of this body.
+    pub fn new(alloc: Global, body: &[u8]) -> Result<Frame, FrameFault>
+        ensures body { IfOk result (λ frame. frame ≡ body.now) }
+        ensures short { IfOk result (λ _. length body.now ≤ 1048576) }
+        ensures too_long { IsErrOf result FrameFault.TooLong ↔ (1048576 < length body.now) }
+    {
+        if body.len() > LONGEST {
+            return Err(FrameFault::TooLong);
+        }
+        Ok(Frame {
+            bytes: encode(alloc, body)?,
+        })
+    }
+
+    /// How many bytes the body has.
+    pub fn body_len(&self) -> u32
+        ensures len { result ≡ length self.now }
+        ensures short { length self.now ≤ 1048576 }
+    {
+        (self.bytes.len() - 5) as u32
+    }
+
+    /// What is written behind the closed gate: the length, the body and a closed gate.
+    pub fn bytes(&self) -> &[u8]
+        ensures bytes { result.now ≡ encoded self.now }
+        ensures short { length self.now ≤ 1048576 }
+    {
+        &self.bytes
+    }
+}
+
+/// The length, the body and a closed gate.
+fn encode(alloc: Global, body: &[u8]) -> Result<Vec<u8>, AllocError>
+    requires { length body.now ≤ 1048576 }
+    ensures { IfOk result (λ bytes. bytes.items ≡ encoded body.now) }
+{
+    let mut bytes = Vec::with_capacity(alloc, body.len() + 5)?;
+    bytes.extend_from_slice(&(body.len() as u32).to_be_bytes())?;
+    bytes.extend_from_slice(body)?;
+    bytes.push(CLOSED)?;
+    Ok(bytes)
+}

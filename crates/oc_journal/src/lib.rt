@@ -1,0 +1,28 @@
+//! A journal of frames that survives a crash at any moment.
+//!
+//! The file is a magic, and then gates: behind a gate that is open stand a length, a body and the
+//! next gate. The frames are the bodies up to the first gate that is not open. A frame is written
+//! behind the closed gate and made safe before the gate is opened, and that is made safe too.
+//!
+//! A contract sees a [`Journal`] as its disk, the bodies of its frames, where they end, and whether
+//! it is closed. The layers above rest on this: over every honest disk, after `load` the frames are
+//! those of what a read gave and every crash leaves them; after an `append` that answered Ok every
+//! crash leaves the new frame too; at every moment of it each image has the old frames, or those and
+//! the new one; at every moment of `restart` the old frames or none; and at every moment of `load`
+//! the frames of an image at its start. After a failed call of the disk the journal is closed.
+//!
+//! `load` finds the frames by one read at each gate. `frame` and `peek` then read one place of the
+//! disk. `append` takes no memory and makes four calls of `write_at` and `sync`.
+#![tactic(auto)]
+
+mod errors;
+mod frame;
+mod journal;
+mod loading;
+mod safely;
+mod spot;
+mod stopped;
+
+pub use errors::{AppendError, FrameError, LoadError, PeekError, RestartError};
+pub use frame::{Frame, FrameFault};
+pub use journal::Journal;

@@ -1,0 +1,149 @@
+ghost use Rattle.std.specs.Prelude.{◌≡◌, ◌≢◌, ℕ, ◌+◌, ◌<◌, ◌≤◌, false, length, take, drop, IsTrue, IsErrOf, IfOk, IfSome, OnOk};
+ghost use Rattle.std.specs.Int.{w32, to_be_bytes};
+ghost use Rattle.oc_outside.specs.DiskView.{IsSafe, GoesOn, StaysAsItWas, LeavesOnly};
+ghost use Rattle.oc_outside.specs.Faults.{Rose};
+ghost use Rattle.oc_journal.specs.JournalFile.{magic, header, frames_of, IsNoJournal};
+ghost use Rattle.oc_journal.specs.JournalView.{at_spots, IsFound, IsGate, IsBrokenAt, IsIndexed, IsLikeAnImage};
+
+use crate::errors::LoadError;
+use crate::safely::{FIRST_GATE, write_header};
+use crate::spot::Spot;
+use oc_outside::Disk;
+use std::alloc::Global;
+
+/// What every journal file begins with.
+const MAGIC: [u8; 8] = *b"OVERCST1";
+
+/// The byte of an open gate.
+const OPEN: u8 = 1;
+
+/// The length of a header in bytes.
+const HEADER_LEN: u64 = 9;
+
+/// Where the bodies of the frames stand, and where the frames end.
+#[derive(Debug, Drop)]
+pub struct Index {
+    pub spots: Vec<Spot>,
+    pub end: u64,
+}
+
+/// Finds the frames of a file, and makes the header of a new one.
+pub fn find<D: Disk>(alloc: Global, disk: &mut D) -> Result<Index, LoadError>
+    ensures indexed { IfOk result (λ index. IsIndexed (D.view disk.new) index.spots.items index.end false) }
+    ensures frames { IfOk result (λ index. IsTrue (D.view disk.old).honest
+        → at_spots (D.view disk.new).seen index.spots.items ≡ frames_of (D.view disk.old).seen) }
+    ensures header { OnOk result (IsTrue (D.view disk.old).honest → length (D.view disk.old).seen ≤ 9
+        → (D.view disk.new).seen ≡ header) }
+    ensures journal { OnOk result (IsTrue (D.view disk.old).honest → ¬ IsNoJournal (D.view disk.old).seen) }
+    ensures any_moment { IsTrue (D.view disk.old).honest
+        → LeavesOnly (D.view disk.old) (D.view disk.new) (IsLikeAnImage (D.view disk.old)) }
+    ensures goes_on { GoesOn (D.view disk.old) (D.view disk.new) }
+    ensures not_journal { IsErrOf result LoadError.NotJournal → IsTrue (D.view disk.old).honest
+        → IsNoJournal (D.view disk.old).seen }
+    ensures disk { IsErrOf result LoadError.Disk
+        → Rose (D.view disk.old).faults (D.view disk.new).faults }
+{
+    let size = make_safe(disk)?;
+    if size <= HEADER_LEN {
+        write_header(disk)?;
+        return Ok(Index {
+            spots: Vec::new(alloc),
+            end: FIRST_GATE,
+        });
+    }
+    check_magic(disk)?;
+    find_frames(alloc, disk, size)
+}
+
+/// Makes all that a read gives safe, with room for a header, and answers the size.
+fn make_safe<D: Disk>(disk: &mut D) -> Result<u64, LoadError>
+    ensures size { IfOk result (λ size. size ≡ (D.view disk.new).size) }
+    ensures safe { OnOk result (IsTrue (D.view disk.old).honest → IsSafe (D.view disk.new)) }
+    ensures seen { IsTrue (D.view disk.old).honest → (D.view disk.new).seen ≡ (D.view disk.old).seen }
+    ensures any_moment { IsTrue (D.view disk.old).honest
+        → LeavesOnly (D.view disk.old) (D.view disk.new) (IsLikeAnImage (D.view disk.old)) }
+    ensures goes_on { GoesOn (D.view disk.old) (D.view disk.new) }
+    ensures not_journal { IsErrOf result LoadError.NotJournal → ⊥ }
+    ensures disk { IsErrOf result LoadError.Disk
+        → Rose (D.view disk.old).faults (D.view disk.new).faults }
+{
+    disk.reserve(HEADER_LEN)?;
+    disk.sync()?;
+    Ok(disk.size()?)
+}
+
+/// Reads the magic of a file that is longer than a header.
+fn check_magic<D: Disk>(disk: &mut D) -> Result<(), LoadError>
+    requires { 9 < (D.view disk.old).size }
+    ensures magic { OnOk result (IsTrue (D.view disk.old).honest → take 8 (D.view disk.old).seen ≡ magic) }
+    ensures not_journal { IsErrOf result LoadError.NotJournal → IsTrue (D.view disk.old).honest
+        → take 8 (D.view disk.old).seen ≢ magic }
+    ensures size { (D.view disk.new).size ≡ (D.view disk.old).size }
+    ensures stays { StaysAsItWas (D.view disk.old) (D.view disk.new) }
+    ensures disk { IsErrOf result LoadError.Disk
+        → Rose (D.view disk.old).faults (D.view disk.new).faults }
+{
+    let mut found = [0; 8];
+    disk.read_at(0, &mut found)?;
+    if found != MAGIC {
+        return Err(LoadError::NotJournal);
+    }
+    Ok(())
+}
+
+/// Finds the frames of a file of this size, from the first gate on, by a read at each gate.
+fn find_frames<D: Disk>(alloc: Global, disk: &mut D, size: u64) -> Result<Index, LoadError>
+    requires size { size ≡ (D.view disk.old).size }
+    requires long { 9 < size }
+    requires magic { IsTrue (D.view disk.old).honest → take 8 (D.view disk.old).seen ≡ magic }
+    ensures found { IfOk result (λ index. IsFound (D.view disk.old) index.spots.items index.end) }
+    ensures not_journal { IsErrOf result LoadError.NotJournal → IsTrue (D.view disk.old).honest
+        → IsNoJournal (D.view disk.old).seen }
+    ensures size { (D.view disk.new).size ≡ (D.view disk.old).size }
+    ensures stays { StaysAsItWas (D.view disk.old) (D.view disk.new) }
+    ensures disk { IsErrOf result LoadError.Disk
+        → Rose (D.view disk.old).faults (D.view disk.new).faults }
+{
+    let mut spots = Vec::new(alloc);
+    let mut gate = FIRST_GATE;
+    while let Some(len) = read_gate(disk, gate, size)? {
+        let at = gate + 5;
+        spots.push(Spot { at, len })?;
+        gate = at + u64::from(len);
+    }
+    Ok(Index { spots, end: gate })
+}
+
+/// Reads a gate and the length behind it: `None` where the gate is not open, and else the length of
+/// the body of a whole frame.
+fn read_gate<D: Disk>(disk: &mut D, gate: u64, size: u64) -> Result<Option<u32>, LoadError>
+    requires size { size ≡ (D.view disk.old).size }
+    requires within { gate < size }
+    ensures gate { IfOk result (λ found. IsTrue (D.view disk.old).honest
+        → IsGate (D.view disk.old).seen gate found) }
+    ensures whole { IfOk result (λ found. IfSome found (λ len. gate + 5 + len < size)) }
+    ensures not_journal { IsErrOf result LoadError.NotJournal → IsTrue (D.view disk.old).honest
+        → IsBrokenAt (D.view disk.old).seen gate }
+    ensures size { (D.view disk.new).size ≡ (D.view disk.old).size }
+    ensures stays { StaysAsItWas (D.view disk.old) (D.view disk.new) }
+    ensures disk { IsErrOf result LoadError.Disk
+        → Rose (D.view disk.old).faults (D.view disk.new).faults }
+{
+    let mut head = [0; 5];
+    let read = disk.read_at(gate, &mut head)?;
+    if head[0] != OPEN {
+        return Ok(None);
+    }
+    let len = len_in(&head);
+    if read < head.len() || u64::from(len) >= size - gate - 5 {
+        return Err(LoadError::NotJournal);
+    }
+    Ok(Some(len))
+}
+
+/// The length behind the byte of a gate.
+fn len_in(head: &[u8; 5]) -> u32
+    ensures { drop 1 head.now ≡ to_be_bytes w32 result }
+{
+    u32::from_be_bytes([head[1], head[2], head[3], head[4]])
+}

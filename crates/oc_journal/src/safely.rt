@@ -1,0 +1,108 @@
+ghost use Rattle.std.specs.Prelude.{◌≡◌, ℕ, ◌+◌, ◌^◌, ◌<◌, ◌≤◌, [], ◌∷◌, ◌++◌, max, IsTrue, length, take, drop, OnOk, OnErr};
+ghost use Rattle.oc_outside.specs.DiskView.{Holds, IsTorn, IsSafe, Takes, LeavesOnly};
+ghost use Rattle.oc_outside.specs.Faults.{Rose};
+ghost use Rattle.oc_journal.specs.JournalFile.{header, frames_of, IsBeforeOrAfter, IsAllOrNone};
+ghost use Rattle.oc_journal.specs.JournalView.{IsSettled, IsLikeAnImage};
+
+use crate::frame::Frame;
+use oc_outside::{Disk, Failed};
+
+/// The file of a journal without frames: the magic and a closed gate.
+pub const HEADER: [u8; 9] = *b"OVERCST1\0";
+
+/// Where the first gate stands.
+pub const FIRST_GATE: u64 = 8;
+
+/// Writes at a place within the size, and syncs. Everything that a journal writes is written so: on
+/// a disk that was safe a crash leaves at every moment only what a torn write leaves, and after Ok
+/// the disk is safe again.
+pub fn write_safely<D: Disk>(disk: &mut D, at: u64, bytes: &[u8]) -> Result<(), Failed>
+    requires { at ≤ (D.view disk.old).size }
+    ensures takes { Takes (length bytes.now) 2 (D.view disk.old) (D.view disk.new) }
+    ensures turns { OnOk result (IsTrue (D.view disk.old).honest
+        → (D.view disk.new).moment ≡ (D.view disk.old).moment + 2) }
+    ensures written { OnOk result (IsTrue (D.view disk.old).honest
+        → Holds (D.view disk.old).seen at bytes.now (D.view disk.new).seen) }
+    ensures safe { OnOk result (IsTrue (D.view disk.old).honest → IsSafe (D.view disk.new)) }
+    ensures any_moment { IsTrue (D.view disk.old).honest → IsSafe (D.view disk.old)
+        → LeavesOnly (D.view disk.old) (D.view disk.new) (IsTorn at (length bytes.now) (D.view disk.old).seen) }
+    ensures size { OnOk result
+        ((D.view disk.new).size ≡ max (D.view disk.old).size (at + length bytes.now)) }
+    ensures no_smaller { (D.view disk.old).size ≤ (D.view disk.new).size }
+    ensures cause { OnErr result (Rose (D.view disk.old).faults (D.view disk.new).faults) }
+{
+    disk.write_at(at, bytes)?;
+    disk.sync()
+}
+
+/// Writes a frame behind the frames, which end at that place, and opens the gate before it.
+pub fn write_frame<D: Disk>(disk: &mut D, end: u64, frame: &Frame) -> Result<(), Failed>
+    requires size { end < (D.view disk.old).size }
+    requires settled { IsTrue (D.view disk.old).honest → IsSettled (D.view disk.old) end }
+    requires fits { end < 2 ^ 63 }
+    ensures takes { Takes (length frame.now + 6) 4 (D.view disk.old) (D.view disk.new) }
+    ensures turns { OnOk result (IsTrue (D.view disk.old).honest
+        → (D.view disk.new).moment ≡ (D.view disk.old).moment + 4) }
+
+    // The frame is added, and all is safe.
+    ensures settled { OnOk result (IsTrue (D.view disk.old).honest
+        → IsSettled (D.view disk.new) (end + 5 + length frame.now)) }
+    ensures added { OnOk result (IsTrue (D.view disk.old).honest
+        → frames_of (D.view disk.new).seen ≡ frames_of (D.view disk.old).seen ++ frame.now ∷ []) }
+    ensures body { OnOk result (IsTrue (D.view disk.old).honest
+        → take (length frame.now) (drop (end + 5) (D.view disk.new).seen) ≡ frame.now) }
+    ensures size { OnOk result (end + 5 + length frame.now < (D.view disk.new).size) }
+
+    // What stands before the gate stays.
+    ensures front { IsTrue (D.view disk.old).honest
+        → take end (D.view disk.new).seen ≡ take end (D.view disk.old).seen }
+    ensures no_smaller { (D.view disk.old).size ≤ (D.view disk.new).size }
+    ensures any_moment { IsTrue (D.view disk.old).honest
+        → LeavesOnly (D.view disk.old) (D.view disk.new)
+        (IsBeforeOrAfter (frames_of (D.view disk.old).seen) frame.now) }
+    ensures cause { OnErr result (Rose (D.view disk.old).faults (D.view disk.new).faults) }
+{
+    write_safely(disk, end + 1, frame.bytes())?;
+    write_safely(disk, end, &[1])
+}
+
+/// Closes the first gate of a file that has frames, which end at that place.
+pub fn close_first_gate<D: Disk>(disk: &mut D) -> Result<(), Failed>
+    requires size { 8 < (D.view disk.old).size }
+    requires settled { IsTrue (D.view disk.old).honest
+        → (end : ℕ) × IsSettled (D.view disk.old) end × (0 < length (frames_of (D.view disk.old).seen)) }
+    ensures takes { Takes 1 2 (D.view disk.old) (D.view disk.new) }
+    ensures turns { OnOk result (IsTrue (D.view disk.old).honest
+        → (D.view disk.new).moment ≡ (D.view disk.old).moment + 2) }
+    ensures settled { OnOk result (IsTrue (D.view disk.old).honest → IsSettled (D.view disk.new) 8) }
+    ensures none { OnOk result (IsTrue (D.view disk.old).honest
+        → frames_of (D.view disk.new).seen ≡ []) }
+
+    // What stands behind the gate stays.
+    ensures behind { IsTrue (D.view disk.old).honest
+        → drop 9 (D.view disk.new).seen ≡ drop 9 (D.view disk.old).seen }
+    ensures no_smaller { (D.view disk.old).size ≤ (D.view disk.new).size }
+    ensures any_moment { IsTrue (D.view disk.old).honest
+        → LeavesOnly (D.view disk.old) (D.view disk.new)
+        (IsAllOrNone (frames_of (D.view disk.old).seen)) }
+    ensures cause { OnErr result (Rose (D.view disk.old).faults (D.view disk.new).faults) }
+{
+    write_safely(disk, FIRST_GATE, &[0])
+}
+
+/// Writes the header of a new file, which is no longer than it.
+pub fn write_header<D: Disk>(disk: &mut D) -> Result<(), Failed>
+    requires size { (D.view disk.old).size ≤ 9 }
+    requires safe { IsTrue (D.view disk.old).honest → IsSafe (D.view disk.old) }
+    ensures takes { Takes 9 2 (D.view disk.old) (D.view disk.new) }
+    ensures seen { OnOk result (IsTrue (D.view disk.old).honest → (D.view disk.new).seen ≡ header) }
+    ensures settled { OnOk result (IsTrue (D.view disk.old).honest → IsSettled (D.view disk.new) 8) }
+    ensures none { OnOk result (IsTrue (D.view disk.old).honest
+        → frames_of (D.view disk.new).seen ≡ []) }
+    ensures size { OnOk result (8 < (D.view disk.new).size) }
+    ensures any_moment { IsTrue (D.view disk.old).honest
+        → LeavesOnly (D.view disk.old) (D.view disk.new) (IsLikeAnImage (D.view disk.old)) }
+    ensures cause { OnErr result (Rose (D.view disk.old).faults (D.view disk.new).faults) }
+{
+    write_safely(disk, 0, &HEADER)
+}

@@ -1,0 +1,6 @@
+/// Where the body of a frame stands in the file, and its length in bytes.
+#[derive(Clone, Copy, Debug)]
+pub struct Spot {
+    pub at: u64,
+    pub len: u32,
+}

@@ -1,0 +1,47 @@
+ghost use Rattle.std.specs.Prelude.{◌≡◌, ℕ, ◌+◌, ◌^◌, ◌<◌, ◌≤◌, [], ◌∷◌, false, length, IsSome, OnOk, OnErr};
+ghost use Rattle.oc_outside.specs.MemDiskView.{disk_of, view_of, wrote, synced};
+ghost use Rattle.oc_journal.specs.JournalFile.{frames_of};
+ghost use Rattle.oc_journal.specs.JournalView.{IsSettled};
+ghost use Rattle.oc_journal.specs.Stopped.{IsCut, frames_after, left_of, image_of};
+
+use crate::frame::Frame;
+use oc_outside::{Disk, Failed, MemDisk};
+
+/// Writes a frame behind the frames, which end at that place, and opens the gate before it, by the
+/// calls of `append`; stops where the disk does, and crashes.
+pub fn write_until_stop(mut disk: MemDisk, end: u64, frame: &Frame) -> MemDisk
+    requires stop { IsSome disk.failing.stop }
+    requires left { left_of disk.failing.stop ≤ 4 }
+    requires no_fault { disk.failing.listed ≡ [] }
+    requires settled { IsSettled (view_of disk) end }
+    requires size { end < length disk.bytes }
+    requires fits { end < 2 ^ 63 }
+    requires room { length frame.now + 6 ≤ disk.room }
+    requires calls { 4 ≤ disk.calls }
+    ensures fresh { result ≡ disk_of result.bytes }
+    ensures frames { frames_of result.bytes
+        ≡ frames_after (left_of disk.failing.stop) (image_of disk.failing.stop) (frames_of disk.bytes) frame.now }
+{
+    let Ok(()) = write_and_sync(&mut disk, end + 1, frame.bytes()) else {
+        return disk.crash();
+    };
+    let Ok(()) = write_and_sync(&mut disk, end, &[1]) else {
+        return disk.crash();
+    };
+    disk.crash()
+}
+
+/// Writes and syncs, up to the stop.
+fn write_and_sync(disk: &mut MemDisk, at: u64, bytes: &[u8]) -> Result<(), Failed>
+    requires stop { IsSome disk.old.failing.stop }
+    requires no_fault { disk.old.failing.listed ≡ [] }
+    requires within { at ≤ length disk.old.bytes }
+    requires room { length bytes.now ≤ disk.old.room }
+    requires calls { 2 ≤ disk.old.calls }
+    ensures ok { OnOk result
+        ((2 ≤ left_of disk.old.failing.stop) × (disk.new ≡ synced (wrote disk.old at bytes.now))) }
+    ensures err { OnErr result (IsCut disk.old at bytes.now disk.new) }
+{
+    disk.write_at(at, bytes)?;
+    disk.sync()
+}

@@ -1,10 +1,9 @@
 -- What the calls of a disk in memory do to what is seen of it.
-use Rattle.std.proofs.Common.{◌≡◌, ◌⊎◌, inl, inr, ⊎_elim, ℕ, ◌+◌, ◌-◌, ◌≤◌, min, max, List, ◌∷◌, ◌++◌, length, take, drop, refl, sym, ◌∙◌, ap, subst, arith, length-append, length-take, length-drop, append_assoc, take-append-drop}
+use Rattle.std.proofs.Common.{◌≡◌, ◌⊎◌, inl, inr, ⊎_elim, ℕ, ◌+◌, ◌-◌, ◌≤◌, min, max, List, ◌∷◌, ◌++◌, length, take, drop, sym, ◌∙◌, ap, subst, arith, length-append, length-take, length-drop, append_assoc, take-append-drop}
 use Rattle.std.proofs.lemmas.List.{take_at, drop_at, drop-drop, length-take-le}
-use Rattle.oc_outside.specs.Faults.{NoFall}
-use Rattle.oc_outside.specs.DiskView.{IsTorn, Tears, AddsNoImage, Elapses, GoesOn, StaysAsItWas, Takes}
+use Rattle.oc_outside.specs.DiskView.{IsTorn, Tears, Elapses}
 use Rattle.oc_outside.specs.DiskPast.{Call, Wrote, Synced, undone, MayLeave, HadLeft, Fits}
-use Rattle.oc_outside.specs.MemDiskView.{MemDiskView, view_of, view_of-consistent, may_leave_seen, refused, wrote, synced, overwritten}
+use Rattle.oc_outside.specs.MemDiskView.{MemDiskView, view_of, view_of-consistent, may_leave_seen, wrote, overwritten}
 
 -- a call that adds to the record, and can be undone
 elapses-more : (d e : MemDiskView) (call : Call) → e.past ≡ call ∷ d.past → undone call e.bytes ≡ d.bytes → Elapses (view_of d) (view_of e)

@@ -1,6 +1,6 @@
 -- How runs of calls of a disk go on.
-use Rattle.std.proofs.Common.{◌≡◌, inl, inr, ⊎_elim, ℕ, ◌+◌, ◌≤◌, IsTrue, Bool, List, refl, sym, ◌∙◌, subst, arith}
-use Rattle.oc_outside.specs.DiskView.{DiskView, AddsNoImage, Elapses, GoesOn, StaysAsItWas, Takes, LeavesOnly, IsConsistent}
+use Rattle.std.proofs.Common.{inl, inr, ⊎_elim, ℕ, ◌+◌, ◌≤◌, IsTrue, Bool, List, refl, sym, ◌∙◌, subst, arith}
+use Rattle.oc_outside.specs.DiskView.{DiskView, Elapses, GoesOn, StaysAsItWas, Takes, LeavesOnly, IsConsistent}
 
 -- before the first call
 pub LeavesOnly-start : (v : DiskView) (P : List ℕ → Type 0) → IsConsistent v → ((c : List ℕ) → v.may_leave c → P c) → LeavesOnly v v P
@@ -51,6 +51,7 @@ pub GoesOn-then : (u v w : DiskView) → GoesOn u v → GoesOn v w → GoesOn u 
 GoesOn-then u v w first second = record {
   honest = second.honest ∙ first.honest;
   name = second.name ∙ first.name;
+  listed = second.listed ∙ first.listed;
   count = omega (arith, first.count, second.count);
 }
 
@@ -65,7 +66,7 @@ Takes-then u v w m n k j first second = record {
 -- no call at all
 pub StaysAsItWas-none : (v : DiskView) → StaysAsItWas v v
 StaysAsItWas-none v = record {
-  goes_on = record { honest = refl; name = refl; count = omega arith };
+  goes_on = record { honest = refl; name = refl; listed = refl; count = omega arith };
   time = λ _. record { later = omega arith; nothing_else = λ t c earlier left. inl left; keeps = λ t c earlier left. left };
   seen = λ _. refl;
   images = λ _ c left. left;

@@ -24,6 +24,8 @@ pub record DiskView : Type 1 where
   pub faults : ℕ
   -- the names of the loans through which the disk is reached
   pub name : List ℕ
+  -- the calls that were listed to fail, where the disk is one on which failures can be set
+  pub listed : List ℕ
 
 -- a crash leaves this and nothing else
 abbrev pub Only : List ℕ → (List ℕ → Type 0) → Type 0
@@ -58,10 +60,11 @@ pub record Elapses (old new : DiskView) : Type 0 where
   pub nothing_else : (t : ℕ) (c : List ℕ) → t ≤ old.moment → new.since t c → old.since t c ⊎ new.may_leave c
   pub keeps : (t : ℕ) (c : List ℕ) → t ≤ old.moment → old.since t c → new.since t c
 
--- the same disk at a later time: it is as honest as before, and reached in the same way
+-- the same disk at a later time: it is as honest as before, reached in the same way, and what was set to fail still is
 pub record GoesOn (old new : DiskView) : Type 0 where
   pub honest : new.honest ≡ old.honest
   pub name : new.name ≡ old.name
+  pub listed : new.listed ≡ old.listed
   pub count : NoFall old.faults new.faults
 
 -- nothing was written: a read gives what it gave, no image was added, and the spare room is there

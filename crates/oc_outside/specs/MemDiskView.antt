@@ -83,6 +83,7 @@ view_of d = record {
   calls = d.calls;
   faults = d.failing.faults;
   name = [];
+  listed = d.failing.listed;
 }
 
 -- what a read gives is an image

@@ -1,3 +1,5 @@
+ghost use Rattle.std.specs.Prelude.{◌≡◌, ◌≤◌, false, IfOk};
+
 use oc_journal::{Frame, Journal};
 use oc_outside::{Disk, MemDisk};
 use std::alloc::Global;
@@ -16,7 +18,10 @@ pub fn bytes_of(alloc: Global, disk: &mut MemDisk) -> Result<Vec<u8>, Fail> {
 }
 
 /// The journal of a disk.
-pub fn loaded(alloc: Global, disk: MemDisk) -> Result<Journal<MemDisk>, Fail> {
+pub fn loaded(alloc: Global, disk: MemDisk) -> Result<Journal<MemDisk>, Fail>
+    ensures open { IfOk result (λ journal. journal.closed ≡ false) }
+    ensures listed { IfOk result (λ journal. journal.disk.failing.listed ≡ disk.failing.listed) }
+{
     match Journal::load(alloc, disk) {
         Ok(journal) => Ok(journal),
         Err((_disk, error)) => Err(Fail::new(format_args!("{error:?}"))),
@@ -43,6 +48,23 @@ pub fn disk_with(alloc: Global, bodies: &[&[u8]]) -> Result<MemDisk, Fail> {
         append(alloc, &mut journal, body)?;
     }
     Ok(journal.into_disk())
+}
+
+/// What an append leaves of a journal of one frame, where a crash comes after so many of its calls.
+pub fn stopped(alloc: Global, old: &[u8], new: &[u8], calls: u8, image: u8) -> Result<MemDisk, Fail>
+    requires { calls ≤ 4 }
+{
+    let bytes = journal_bytes(alloc, old)?;
+    let mut journal = loaded(alloc, MemDisk::new(bytes))?;
+    let frame = Frame::new(alloc, new)?;
+    journal.reserve(&frame)?;
+    Ok(journal.append_stopped(&frame, calls, image))
+}
+
+/// The bytes of a journal of one frame.
+fn journal_bytes(alloc: Global, body: &[u8]) -> Result<Vec<u8>, Fail> {
+    let mut disk = disk_with(alloc, &[body])?;
+    bytes_of(alloc, &mut disk)
 }
 
 /// Appends a frame of this body.

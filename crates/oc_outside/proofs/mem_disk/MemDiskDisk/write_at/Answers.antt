@@ -1,4 +1,4 @@
-use Rattle.std.proofs.Common.{ap, ◌∙◌, arith}
+use Rattle.std.proofs.Common.{ap, ◌∙◌}
 use Rattle.oc_outside.specs.MemDiskView.{MemDiskView, done}
 use Rattle.oc_outside.proofs.DiskCalls.{wrote-time, wrote-tears}
 use Rattle.oc_outside.proofs.mem_disk.MemDiskDisk.write_at.Goals as goal

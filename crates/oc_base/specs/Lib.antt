@@ -3,3 +3,5 @@ pub mod Cert
 pub mod Names
 pub mod Padding
 pub mod Why
+pub mod Fields
+pub mod Codes

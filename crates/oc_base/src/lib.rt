@@ -10,21 +10,27 @@
 #![tactic(auto)]
 
 mod cert;
+mod code_row;
 mod cutter;
+mod field;
 mod group_name;
 mod lists;
 mod memory;
 mod node_id;
 mod rank;
+mod refusal;
 mod shelf;
 mod why;
 
 pub use cert::{Cert, Child, Line};
+pub use code_row::{CodeRow, distinct, row_of};
 pub use cutter::cut;
+pub use field::{Short, take_bytes, take_u8, take_u16, take_u32, take_u64};
 pub use group_name::{GroupName, NameFault};
 pub use lists::{Bytes, CertList, ChildList, IdList, LineList, ShelfList, Text};
 pub use memory::Memory;
 pub use node_id::NodeId;
 pub use rank::Rank;
+pub use refusal::Refusal;
 pub use shelf::Shelf;
 pub use why::Why;

@@ -1,15 +1,19 @@
 -- The claims of a sound world, and that every world to which events lead a new one is sound.
-use Rattle.std.proofs.Common.{ℕ, Some, List, [], ◌∷◌, ap, ◌∙◌}
+use Rattle.std.proofs.Common.{ℕ, Option, Some, None, List, [], ◌∷◌, ap, ◌∙◌}
+use Rattle.oc_model.specs.declared.event.Act.{Act}
 use Rattle.oc_model.specs.declared.event.Event.{Event}
+use Rattle.oc_model.specs.declared.event.Event.TheVariants.{Settle, Heal}
 use Rattle.oc_model.specs.declared.message.Body.{Body}
 use Rattle.oc_model.specs.declared.message.Body.TheVariants.{Fetch, Chunk}
 use Rattle.oc_model.specs.Claims.{HoldPrefixes, HoldAcknowledged, IsAcknowledged, SealedAreWhole, IsTrueChunk, ChunksAreTrue, SealedSourceStays}
-use Rattle.oc_model.specs.World.{World, Header, node, new_world, next_world, world_after}
-use Rattle.oc_laws.specs.Throughout.{Throughout}
+use Rattle.oc_model.specs.NextWorld.{settle_acts, heal_acts, next_world, world_after}
+use Rattle.oc_model.specs.Node.{Header}
+use Rattle.oc_model.specs.World.{World, node, new_world, after_act}
+use Rattle.oc_laws.specs.Throughout.{Along, AlongAny, Inside, Throughout}
 use Rattle.oc_model.proofs.Lists.{all_weaker}
 use Rattle.oc_model.proofs.Processes.{process_in-me}
 use Rattle.oc_laws.proofs.Truth.{IsTrueOfSource, IsTrueOfSender}
-use Rattle.oc_laws.proofs.Worlds.{Sound, IsTrueIn, sound_new, sound_after, event_turn}
+use Rattle.oc_laws.proofs.Turns.{Sound, IsTrueIn, sound_new, sound_after, act_turn, event_turn}
 
 -- a sound world has HoldPrefixes
 pub sound_prefixes : (w : World) → Sound w → HoldPrefixes w
@@ -51,7 +55,25 @@ sound_sealed w sound e g s h closed = let grown = (event_turn w sound e).source 
 pub sound_always : (h : Header) (events : List Event) → Sound (world_after (new_world h) events)
 sound_always h events = sound_after (new_world h) (sound_new h) events
 
--- what holds after any events holds throughout them
-pub throughout : (P : World → Type 0) (w : World) → ((events : List Event) → P (world_after w events)) → (events : List Event) → Throughout P w events
-throughout P w always [] = always []
-throughout P w always (e ∷ es) = (always [], throughout P (next_world w e) (λ rest. always (e ∷ rest)) es)
+-- Throughout
+
+module _ (P : World → Type 0) (of_sound : (w : World) → Sound w → P w) where
+  -- what holds of each sound world holds along acts
+  along : (w : World) → Sound w → (done : List Act) → Along P w done
+  along w sound [] = tt
+  along w sound (a ∷ rest) = let next = act_turn w sound a in (of_sound (after_act w a) next.sound, along (after_act w a) next.sound rest)
+
+  along_any : (w : World) → Sound w → (done : Option (List Act)) → AlongAny P w done
+  along_any w sound None = tt
+  along_any w sound (Some done) = along w sound done
+
+  -- and inside of each event
+  inside : (w : World) → Sound w → (e : Event) → Inside P w e
+  inside w sound Settle = along_any w sound (settle_acts w)
+  inside w sound Heal = along_any w sound (heal_acts w)
+  inside w sound e = tt
+
+  -- and throughout all events
+  pub throughout : (w : World) → Sound w → (events : List Event) → Throughout P w events
+  throughout w sound [] = of_sound w sound
+  throughout w sound (e ∷ es) = (of_sound w sound, inside w sound e, throughout (next_world w e) (event_turn w sound e).sound es)

@@ -1,5 +1,5 @@
 -- What the laws on content speak of, over lists of groups: those of the source and those of one node.
-use Rattle.std.proofs.Common.{◌≡◌, ℕ, ◌+◌, Bool, true, false, ◌&&◌, ◌==◌, List, [], ◌∷◌, Some, length, take, drop, if◌then◌else◌, refl, ap, sym, subst, ◌∙◌, arith, le_refl, eqb-true}
+use Rattle.std.proofs.Common.{◌≡◌, ℕ, ◌+◌, Bool, true, false, ◌&&◌, ◌-◌, ◌≤◌, ◌==◌, List, [], ◌∷◌, Some, length, take, drop, if◌then◌else◌, refl, ap, sym, subst, ◌∙◌, arith, le_refl, eqb-true, length-take, length-drop}
 use Rattle.std.specs.List.{AllByRecursion}
 use Rattle.std.proofs.lemmas.Bool.{and_parts}
 use Rattle.oc_base.specs.declared.shelf.Shelf.{Shelf}
@@ -7,9 +7,8 @@ use Rattle.oc_model.specs.declared.group.Group.{Group}
 use Rattle.oc_model.specs.declared.message.Body.{Body}
 use Rattle.oc_model.specs.declared.message.Body.TheVariants.{Fetch, Chunk}
 use Rattle.oc_model.specs.Claims.{Keeps, IsPieceOf}
-use Rattle.oc_model.specs.Content.{chunk_at}
-use Rattle.oc_model.specs.Groups.{same_name, group_of, with_group, shelf, most_chunk, IsAscending}
-use Rattle.oc_laws.proofs.Fronts.{IsFront, front_itself, front_along, front_length, piece_along, piece_cut}
+use Rattle.oc_model.specs.Groups.{same_name, group_of, with_group, shelf, IsAscending}
+use Rattle.oc_laws.proofs.Fronts.{IsFront, front_itself, front_along, front_length, IsPiece, piece_along, piece_cut}
 use Rattle.oc_model.proofs.Groups.{AreFoundIn, ascend-found, ascend-with_group, group_of-with_group}
 use Rattle.oc_model.proofs.Lists.{all_weaker}
 use Rattle.oc_model.proofs.Names.{names_equal}
@@ -152,19 +151,30 @@ shelf_kept all (k ∷ ks) found = ((k, found.0, le_refl (length k.bytes), λ e. 
 pub shelf_true : (s ks : List Group) → IsAscending ks → IsTrue s ks (Fetch (shelf ks))
 shelf_true s ks up = record { source = tt; sender = shelf_kept ks ks (ascend-found ks up) }
 
--- what is cut from a beginning of the source's group is true of the source
-cut_true : (s : List Group) (k : Group) (start n : ℕ) → IsHeld s k.name k
-    → IsTrueOfSource s (Chunk k.name start (take n (drop start k.bytes)) (k.sealed && start + length (take n (drop start k.bytes)) == length k.bytes))
-cut_true s k start n held = (
-  held.whole,
-  held.found,
-  piece_along start (take n (drop start k.bytes)) k.bytes held.whole.bytes (piece_cut start n k.bytes) held.front,
-  λ e.
-      let both = and_parts k.sealed (start + length (take n (drop start k.bytes)) == length k.bytes) e in
-      let full = held.sealed both.0 in
-      (full.0, eqb-true (start + length (take n (drop start k.bytes))) (length k.bytes) both.1 ∙ ap length full.1),
-)
+-- what is cut from a beginning of the source's group is true of the source; it is last where it ends a sealed group
+pub piece_true : (s : List Group) (g : List ℕ) (k : Group) (start count : ℕ) (bytes : List ℕ) → IsHeld s g k → count ≤ length k.bytes - start → bytes ≡ take count (drop start k.bytes)
+    → IsTrueOfSource s (Chunk g start bytes (k.sealed && start + count == length k.bytes))
+piece_true s g k start count bytes held few is =
+    let piece : IsPiece start bytes k.bytes = subst (λ (xs : List ℕ). IsPiece start xs k.bytes) (sym is) (piece_cut start count k.bytes) in
+    let long : length bytes ≡ count = omega (arith, ap length is, length-take count (drop start k.bytes), length-drop start k.bytes, few) in (
+      held.whole,
+      held.found,
+      piece_along start bytes k.bytes held.whole.bytes piece held.front,
+      λ e.
+          let both = and_parts k.sealed (start + count == length k.bytes) e in
+          let full = held.sealed both.0 in
+          let end : start + length bytes ≡ length k.bytes = ap (λ n. start + n) long ∙ eqb-true (start + count) (length k.bytes) both.1 in
+          (full.0, end ∙ ap length full.1),
+    )
 
--- a chunk of a group that is held is true
-pub chunk_true : (s ks : List Group) (k : Group) (start : ℕ) → IsHeld s k.name k → IsTrue s ks (chunk_at k start)
-chunk_true s ks k start held = record { source = cut_true s k start most_chunk held; sender = tt }
+-- what grows twice grows
+pub grows_then : (a b c : List Group) → Grows a b → Grows b c → Grows a c
+grows_then a b c first second g k h =
+    let one = first g k h in
+    let two = second g one.now one.found in
+    record {
+      now = two.now;
+      found = two.found;
+      front = front_along k.bytes one.now.bytes two.now.bytes one.front two.front;
+      stays = λ e. two.stays (ap (λ (t : Group). t.sealed) (one.stays e) ∙ e) ∙ one.stays e;
+    }

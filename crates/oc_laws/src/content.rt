@@ -1,7 +1,9 @@
 ghost use Rattle.std.specs.Prelude.{List};
 ghost use Rattle.oc_model.specs.declared.event.Event.{Event};
 ghost use Rattle.oc_model.specs.Claims.{HoldPrefixes, HoldAcknowledged, SealedAreWhole, ChunksAreTrue, SealedSourceStays};
-ghost use Rattle.oc_model.specs.World.{Header, new_world, world_after};
+ghost use Rattle.oc_model.specs.NextWorld.{world_after};
+ghost use Rattle.oc_model.specs.Node.{Header};
+ghost use Rattle.oc_model.specs.World.{new_world};
 ghost use Rattle.oc_laws.specs.Throughout.{Throughout};
 
 /// Content stays true: after any events, in any order, from any new world.
@@ -17,7 +19,8 @@ pub fn content_stays_true()
     ensures sealed_source { (h : Header) (events : List Event) (e : Event) → SealedSourceStays (world_after (new_world h) events) e }
 {}
 
-/// The same of each world on the way: the new one, and that after each of the events.
+/// The same of each world on the way: the new one, that after each of the events, and those inside of
+/// each settle and heal.
 pub fn content_stays_true_throughout()
     ensures prefixes { (h : Header) (events : List Event) → Throughout HoldPrefixes (new_world h) events }
     ensures acknowledged { (h : Header) (events : List Event) → Throughout HoldAcknowledged (new_world h) events }

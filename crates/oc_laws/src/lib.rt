@@ -8,5 +8,7 @@
 #![tactic(auto)]
 
 mod content;
+mod worlds;
 
 pub use content::{content_stays_true, content_stays_true_throughout};
+pub use worlds::{chains_are_computed, events_go_on, tests_decide};

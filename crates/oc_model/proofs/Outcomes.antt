@@ -1,230 +1,282 @@
--- What a step may leave at a node: all as it was, or one group kept.
-use Rattle.std.proofs.Common.{◌≡◌, ℕ, ◌+◌, ◌-◌, ◌<◌, ◌≤◌, max, Bool, true, false, not, ◌&&◌, ◌==◌, nat_lt, nat_le, if◌then◌else◌, Option, Some, None, is_some, List, [], ◌∷◌, ◌++◌, length, drop, Ordering, Less, Equal, Greater, nat_cmp, ◌⊎◌, inl, inr, ⊎_elim, refl, ap, sym, subst, ◌∙◌, arith, ltb-false, length-append, length-drop}
-use Rattle.std.specs.List.{AllByRecursion}
-use Rattle.std.specs.Cmp.Lexicographic.{slice_cmp}
-use Rattle.std.proofs.lemmas.Bool.{leb-false}
+-- What a step leaves of a node: its id, its clock but for a tick, and its groups within the limits.
+use Rattle.std.proofs.Common.{◌≡◌, ℕ, ◌+◌, ◌-◌, ◌≤◌, max, Bool, true, false, not, ◌&&◌, ◌==◌, nat_lt, nat_le, if◌then◌else◌, Option, Some, None, is_some, option_map, List, [], length, drop, refl, ap, sym, subst, ◌∙◌, arith, ltb-false, length-append, length-drop}
+use Rattle.std.proofs.lemmas.Bool.{cond_both, leb-false}
 use Rattle.oc_base.specs.declared.shelf.Shelf.{Shelf}
+use Rattle.oc_model.specs.declared.answer.Answer.{Answer}
 use Rattle.oc_model.specs.declared.answer.Answer.TheVariants as answers
 use Rattle.oc_model.specs.declared.group.Group.{Group}
 use Rattle.oc_model.specs.declared.input.Input.{Input}
-use Rattle.oc_model.specs.declared.input.Input.TheVariants.{Pull, Publish, Seal, Delivered}
+use Rattle.oc_model.specs.declared.input.Input.TheVariants.{Tick, CheckNow, Relocate, Unreachable, Pull, Measured, Publish, Seal, Client, Delivered}
 use Rattle.oc_model.specs.declared.message.Body.{Body}
-use Rattle.oc_model.specs.declared.message.Body.TheVariants.{Fetch, Chunk}
+use Rattle.oc_model.specs.declared.message.Body.TheVariants as bodies
 use Rattle.oc_model.specs.declared.mode.Mode.{Mode}
-use Rattle.oc_model.specs.declared.mode.Mode.TheVariants.{Idle, Asking, Joined, Acting}
-use Rattle.oc_model.specs.Groups.{same_name, group_of, group_or_empty, or_empty, with_group, limit, most_groups, most_bytes, AreAbove, IsAscending}
-use Rattle.oc_model.specs.Content.{published, publish_to, sealed_at, seal_group, fetched, fetches, first_behind, answers_fetch, took_chunk, chunk_to, keeps_chunk, asks_on, adds, grown}
-use Rattle.oc_model.specs.Node.{Node, Outcome, says, keeps, unless}
-use Rattle.oc_model.specs.Step.{step, received}
-use Rattle.oc_model.proofs.Groups.{group_of-name, group_or_empty-name, above_lower, ascend-with_group}
+use Rattle.oc_model.specs.declared.mode.Mode.TheVariants as modes
+use Rattle.oc_model.specs.Content.{unless, keeps, grows, publish_to, published, seal_line, sealed_at, count_from, sends_chunk, answers_fetch, fetched, adds_seal, adds, grown_line, asks_on, keeps_chunk, chunk_to, took_chunk}
+use Rattle.oc_model.specs.Groups.{group_of, group_or_empty, or_empty, with_group, shelf_of, shelf, most_groups, most_bytes}
+use Rattle.oc_model.specs.Node.{Node}
+use Rattle.oc_model.specs.Plan.{Plan, begun, send, ignored}
+use Rattle.oc_model.specs.Plan.{answers as says}
+use Rattle.oc_model.specs.Shelves.{line_of, line_at, with_line, limit, first_behind}
+use Rattle.oc_model.specs.Step.{piece_of, grown, kept_at, plan, step}
+use Rattle.oc_model.specs.WorldBounds.{AreWithinLimits}
+use Rattle.oc_model.proofs.Groups.{group_or_empty-name}
+use Rattle.oc_model.proofs.Limits.{HasRoom, held_short, limits-with_group}
+use Rattle.oc_model.proofs.Rules.{either, IsClosed, keeps_tick, keeps_checks, keeps_relocate, keeps_unreachable, keeps_pulled, keeps_measured, keeps_client, keeps_looked, keeps_sees, keeps_asked, keeps_took_yes, keeps_took_no, keeps_checked_in, keeps_took_ack, keeps_took_rejoin}
+use Rattle.oc_model.proofs.Shelves.{line_of-shelf, line_at-shelf, length-shelf}
 
--- Choices between outcomes
+-- The control rules
 
--- what holds of both outcomes holds of the one that a test chooses
-pub either : (b : Bool) (P : Outcome → Type 0) (o q : Outcome) → P o → P q → P (if b then o else q)
-either true P o q h k = h
-either false P o q h k = k
+-- a step under way that has this id and this clock and keeps no content
+pub record IsCalm (x c : ℕ) (o : Plan) : Type 0 where
+  pub me : o.node.me ≡ x
+  pub clock : o.node.soft.clock ≡ c
+  pub keeps : o.keeps ≡ None
 
--- the same, where the second is looked at only if the test fails
-pub either_or : (b : Bool) (P : Outcome → Type 0) (o q : Outcome) → P o → (b ≡ false → P q) → P (if b then o else q)
-either_or true P o q h k = h
-either_or false P o q h k = k refl
+calm_closed : (x c : ℕ) (ls : List Shelf) → IsClosed ls (IsCalm x c)
+calm_closed x c ls = record {
+  write = λ o r h. record { me = h.me; clock = h.clock; keeps = h.keeps };
+  send = λ o p b plain h. record { me = h.me; clock = h.clock; keeps = h.keeps };
+  answers = λ o a h. record { me = h.me; clock = h.clock; keeps = h.keeps };
+  soft = λ o s e h. record { me = h.me; clock = e ∙ h.clock; keeps = h.keeps };
+  lists = λ o leases rates counts h. record { me = h.me; clock = h.clock; keeps = h.keeps };
+}
 
--- a test that is known chooses its outcome
-pub on_true : (b : Bool) → b ≡ true → (P : Outcome → Type 0) (o q : Outcome) → P o → P (if b then o else q)
-on_true b e P o q h = rw e h
+-- The rule Content
 
-pub on_false : (b : Bool) → b ≡ false → (P : Outcome → Type 0) (o q : Outcome) → P q → P (if b then o else q)
-on_false b e P o q h = rw e h
+-- it changes groups alone, and within the limits
+record IsKept (n : Node) (i : Input) (o : Plan) : Type 0 where
+  node : o.node ≡ n.control
+  limits : AreWithinLimits n.groups → AreWithinLimits (kept_at o.keeps n.groups (piece_of i) o.seals)
 
--- there is room for a group of this name: it is held, or there are fewer than the most
-abbrev pub HasRoom : List Group → List ℕ → Type 0
-HasRoom ks g = group_of g ks ≡ None → length ks < most_groups
+-- what keeps nothing leaves the groups
+kept_none : (n : Node) (i : Input) (o : Plan) → o.node ≡ n.control → o.keeps ≡ None → IsKept n i o
+kept_none n i o node none = record { node = node; limits = λ in_limits. subst AreWithinLimits (sym (ap (λ k. kept_at k n.groups (piece_of i) o.seals) none)) in_limits }
 
 -- a name that is not refused for the number of groups has room
-has_room : (ks : List Group) (g : List ℕ) → (not (is_some (group_of g ks)) && nat_le most_groups (length ks)) ≡ false → HasRoom ks g
-has_room ks g e none = leb-false most_groups (length ks) (rw none at e)
+has_room : (ks : List Group) (g : List ℕ) → (not (is_some (line_of g (shelf ks))) && nat_le most_groups (length (shelf ks))) ≡ false → HasRoom ks g
+has_room ks g e none =
+    let absent : line_of g (shelf ks) ≡ None = line_of-shelf g ks ∙ ap (option_map shelf_of) none in
+    let few : nat_le most_groups (length (shelf ks)) ≡ false = rw absent at e in
+    omega (arith, leb-false most_groups (length (shelf ks)) few, length-shelf ks)
 
--- what holds of both refusals, and of the outcome if neither limit is passed, holds within the limits
-pub within : (P : Outcome → Type 0) (n : Node) (ks : List Group) (g : List ℕ) (end : ℕ) (o : Outcome) → P (says n answers.Groups) → P (says n answers.TooLong)
-    → (HasRoom ks g → end ≤ most_bytes → P o) → P (unless (limit ks g end) n o)
-within P n ks g end o groups long rest = by_tests (not (is_some (group_of g ks)) && nat_le most_groups (length ks)) (nat_lt most_bytes end) refl refl where
-  by_tests : (a b : Bool) → (not (is_some (group_of g ks)) && nat_le most_groups (length ks)) ≡ a → nat_lt most_bytes end ≡ b
-      → P (unless (if a then Some answers.Groups else if b then Some answers.TooLong else None) n o)
+-- what holds of both refusals, and of the rest if neither limit is passed, holds within the limits
+within : (P : Plan → Type 0) (o : Plan) (ks : List Group) (g : List ℕ) (end : ℕ) (rest : Plan) → P (says o answers.Groups) → P (says o answers.TooLong)
+    → (HasRoom ks g → end ≤ most_bytes → P rest) → P (unless (limit (shelf ks) g end) o rest)
+within P o ks g end rest groups long fits = by_tests (not (is_some (line_of g (shelf ks))) && nat_le most_groups (length (shelf ks))) (nat_lt most_bytes end) refl refl where
+  by_tests : (a b : Bool) → (not (is_some (line_of g (shelf ks))) && nat_le most_groups (length (shelf ks))) ≡ a → nat_lt most_bytes end ≡ b
+      → P (unless (if a then Some answers.Groups else if b then Some answers.TooLong else None) o rest)
   by_tests true b e f = groups
   by_tests false true e f = long
-  by_tests false false e f = rest (has_room ks g e) (ltb-false most_bytes end f)
+  by_tests false false e f = fits (has_room ks g e) (ltb-false most_bytes end f)
 
--- One step
+-- what is kept of a piece passes no limit
+kept_within : (g : List ℕ) (ks : List Group) (at : ℕ) (bytes : List ℕ) (closes : Bool) → HasRoom ks (group_or_empty g ks).name → length (grown (group_or_empty g ks) at bytes closes).bytes ≤ most_bytes
+    → AreWithinLimits ks → AreWithinLimits (with_group (grown (group_or_empty g ks) at bytes closes) ks)
+kept_within g ks at bytes closes room short in_limits = limits-with_group (grown (group_or_empty g ks) at bytes closes) ks room short in_limits
 
--- a group that a rule may keep: its name has room, and it is no longer than the limit or than what is held of it
-pub record MayKeep (ks : List Group) (k : Group) : Type 0 where
-  pub room : HasRoom ks k.name
-  pub short : length k.bytes ≤ max most_bytes (length (group_or_empty k.name ks).bytes)
+-- a publish
+publish_kept : (n : Node) (g bytes : List ℕ) → IsKept n (Publish g bytes) (published (begun n.control) (shelf n.groups) g bytes)
+publish_kept n g bytes =
+    either (n.control.me == 1) P (publish_to o ls (line_at g ls) (length bytes)) (says o answers.NotSource)
+    (subst (λ l. P (publish_to o ls l (length bytes))) (sym (line_at-shelf g n.groups)) to_group)
+    (kept_none n i (says o answers.NotSource) refl refl) where
+      i : Input
+      i = Publish g bytes
 
--- this is so of the node whichever group that a rule may keep was kept
-abbrev pub WithAnyKept : (Node → Type 0) → Node → Type 0
-WithAnyKept R n = (k : Group) → MayKeep n.groups k → R (record n { groups = with_group k n.groups })
+      o : Plan
+      o = begun n.control
 
-abbrev Leaves : (Node → Type 0) → Outcome → Type 0
-Leaves R o = R o.node
+      ls : List Shelf
+      ls = shelf n.groups
 
--- the group that is found at the name of a found group is that group
-found_again : (g : List ℕ) (ks : List Group) (k : Group) → group_of g ks ≡ Some k → group_of k.name ks ≡ Some k
-found_again g ks k found = ap (λ (h : List ℕ). group_of h ks) (group_of-name g ks k found) ∙ found
+      P : Plan → Type 0
+      P = IsKept n i
 
--- the same where an absent one counts as empty
-held_again : (g : List ℕ) (ks : List Group) → group_or_empty (group_or_empty g ks).name ks ≡ group_or_empty g ks
-held_again g ks = ap (λ (h : List ℕ). group_or_empty h ks) (group_or_empty-name g ks)
+      k : Group
+      k = group_or_empty g n.groups
 
--- a group that is held may be sealed
-may_seal : (g : List ℕ) (ks : List Group) (k : Group) → group_of g ks ≡ Some k → MayKeep ks (record k { sealed = true })
-may_seal g ks k found =
-    let again : group_of k.name ks ≡ Some k = found_again g ks k found in
-    let same : length (group_or_empty k.name ks).bytes ≡ length k.bytes = ap (λ (f : Option Group). length (or_empty k.name f).bytes) again in
-    record { room = λ none. absurd (cc); short = omega arith }
+      kept : Plan
+      kept = if grows ls k.name (length bytes) then keeps o (length k.bytes) false else o
 
--- bytes may be put at the end of a group where it stays within the limits
-may_append : (g : List ℕ) (ks : List Group) (bytes : List ℕ) → HasRoom ks (group_or_empty g ks).name → length (group_or_empty g ks).bytes + length bytes ≤ most_bytes
-    → MayKeep ks (record (group_or_empty g ks) { bytes = (group_or_empty g ks).bytes ++ bytes })
-may_append g ks bytes room few = record { room = room; short = omega (arith, length-append (group_or_empty g ks).bytes bytes) }
+      to_group : P (publish_to o ls (shelf_of k) (length bytes))
+      to_group =
+          either k.sealed P (says o answers.Sealed) (unless (limit ls k.name (length k.bytes + length bytes)) o kept)
+          (kept_none n i (says o answers.Sealed) refl refl)
+          (within P o n.groups k.name (length k.bytes + length bytes) kept (kept_none n i (says o answers.Groups) refl refl) (kept_none n i (says o answers.TooLong) refl refl)
+          (λ room few. either (grows ls k.name (length bytes)) P (keeps o (length k.bytes) false) o
+          (record {
+            node = refl;
+            limits = kept_within g n.groups (length k.bytes) bytes false room (omega (arith, few, length-append k.bytes (drop (length k.bytes - length k.bytes) bytes), length-drop (length k.bytes - length k.bytes) bytes));
+          })
+          (kept_none n i o refl refl)))
 
--- what is new in a chunk may be kept where it leaves no gap and stays within the limits
-may_grow : (g : List ℕ) (ks : List Group) (start : ℕ) (bytes : List ℕ) (last : Bool) → start ≤ length (group_or_empty g ks).bytes
-    → HasRoom ks (group_or_empty g ks).name → start + length bytes ≤ most_bytes → MayKeep ks (grown (group_or_empty g ks) start bytes last)
-may_grow g ks start bytes last no_gap room few =
-    let held : List ℕ = (group_or_empty g ks).bytes in
-    let again : length (group_or_empty (group_or_empty g ks).name ks).bytes ≡ length held = ap (λ (k : Group). length k.bytes) (held_again g ks) in
-    record { room = room; short = omega (arith, length-append held (drop (length held - start) bytes), length-drop (length held - start) bytes) }
+-- a seal
+seal_kept : (n : Node) (g : List ℕ) → IsKept n (Seal g) (sealed_at (begun n.control) (shelf n.groups) g)
+seal_kept n g =
+    either (n.control.me == 1) P (seal_line o (line_of g ls)) (says o answers.NotSource)
+    (subst (λ l. P (seal_line o l)) (sym (line_of-shelf g n.groups)) (by_found (group_of g n.groups) refl))
+    (kept_none n (Seal g) (says o answers.NotSource) refl refl) where
+      o : Plan
+      o = begun n.control
 
--- a fetch that goes out changes no node
-asks_on_node : (m : Mode) (p : ℕ) (o : Outcome) → (asks_on m p o).node ≡ o.node
-asks_on_node Idle p o = refl
-asks_on_node (Asking q) p o = refl
-asks_on_node (Joined q) p o = either (q == p) (λ r. r.node ≡ o.node) (fetches o p) o refl refl
-asks_on_node Acting p o = refl
+      ls : List Shelf
+      ls = shelf n.groups
 
-publish_leaves : (R : Node → Type 0) (n : Node) (g bytes : List ℕ) → R n → WithAnyKept R n → Leaves R (published n g bytes)
-publish_leaves R n g bytes same kept =
-    let k : Group = group_or_empty g n.groups in
-    let longer : Group = record k { bytes = k.bytes ++ bytes } in
-    either (n.me == 1) (Leaves R) (publish_to n k bytes) (says n answers.NotSource)
-    (either k.sealed (Leaves R) (says n answers.Sealed) (unless (limit n.groups k.name (length k.bytes + length bytes)) n (keeps n longer)) same
-    (within (Leaves R) n n.groups k.name (length k.bytes + length bytes) (keeps n longer) same same (λ room few. kept longer (may_append g n.groups bytes room few))))
-    same
+      P : Plan → Type 0
+      P = IsKept n (Seal g)
 
-seal_leaves : (R : Node → Type 0) (n : Node) (g : List ℕ) → R n → WithAnyKept R n → Leaves R (sealed_at n g)
-seal_leaves R n g same kept = either (n.me == 1) (Leaves R) (seal_group n (group_of g n.groups)) (says n answers.NotSource) (by_found (group_of g n.groups) refl) same where
-  by_found : (f : Option Group) → group_of g n.groups ≡ f → Leaves R (seal_group n f)
-  by_found None e = same
-  by_found (Some k) e = either k.sealed (Leaves R) (says n answers.Ignored) (keeps n (record k { sealed = true })) same (kept (record k { sealed = true }) (may_seal g n.groups k e))
+      by_found : (found : Option Group) → group_of g n.groups ≡ found → P (seal_line o (option_map shelf_of found))
+      by_found None e = kept_none n (Seal g) (says o answers.NoGroup) refl refl
+      by_found (Some k) e =
+          let is : group_or_empty g n.groups ≡ k = ap (or_empty g) e in
+          let room : HasRoom n.groups (group_or_empty g n.groups).name = λ none. absurd (cc (sym (ap (λ z. group_of z n.groups) (group_or_empty-name g n.groups)) ∙ none, e)) in
+          let same : length (group_or_empty g n.groups).bytes ≡ length k.bytes = ap (λ (j : Group). length j.bytes) is in
+          either k.sealed P (ignored o) (keeps o (length k.bytes) true) (kept_none n (Seal g) (ignored o) refl refl)
+          (record {
+            node = refl;
+            limits = λ in_limits.
+                kept_within g n.groups (length k.bytes) [] true room
+                (omega (arith, held_short g n.groups in_limits.2, length-append (group_or_empty g n.groups).bytes (drop (length (group_or_empty g n.groups).bytes - length k.bytes) []), length-drop {A = ℕ} (length (group_or_empty g n.groups).bytes - length k.bytes) []))
+                in_limits;
+          })
 
-fetch_leaves : (R : Node → Type 0) (n : Node) (p : ℕ) (have : List Shelf) → R n → Leaves R (fetched n p have)
-fetch_leaves R n p have same = by_found (first_behind have n.groups) where
-  by_found : (f : Option Group) → Leaves R (answers_fetch n p have f)
-  by_found None = same
-  by_found (Some k) = same
+-- a message to x from p
+abbrev comes : ℕ → ℕ → Body → Input
+comes x p b = Delivered (record { from = p; to = x; body = b })
 
--- what is new in a chunk is kept, if anything is
-chunk_keeps : (R : Node → Type 0) (n : Node) (p : ℕ) (k : Group) (start : ℕ) (bytes : List ℕ) (last : Bool) → R n → R (record n { groups = with_group (grown k start bytes last) n.groups })
-    → Leaves R (keeps_chunk n p k start bytes last)
-chunk_keeps R n p k start bytes last same kept =
-    let o : Outcome = keeps n (grown k start bytes last) in
-    either (adds (not (is_some (group_of k.name n.groups))) k (start + length bytes) last) (Leaves R) (asks_on n.mode p o) (says n answers.Ignored) (subst R (sym (asks_on_node n.mode p o)) kept) same
+-- a fetch
+fetch_kept : (n : Node) (x p : ℕ) (have : List Shelf) → IsKept n (comes x p (bodies.Fetch have)) (fetched (begun n.control) (shelf n.groups) p have)
+fetch_kept n x p have = by_found (first_behind have (shelf n.groups)) where
+  by_found : (found : Option Shelf) → IsKept n (comes x p (bodies.Fetch have)) (answers_fetch (begun n.control) p have found)
+  by_found None = kept_none n (comes x p (bodies.Fetch have)) (begun n.control) refl refl
+  by_found (Some l) =
+      kept_none n (comes x p (bodies.Fetch have)) (sends_chunk (begun n.control) p l (line_at l.group have).held (count_from l (line_at l.group have).held)) refl refl
 
-chunk_leaves : (R : Node → Type 0) (n : Node) (p : ℕ) (g : List ℕ) (start : ℕ) (bytes : List ℕ) (last : Bool) → R n → WithAnyKept R n → Leaves R (took_chunk n p g start bytes last)
-chunk_leaves R n p g start bytes last same kept =
-    let k : Group = group_or_empty g n.groups in
-    let end : ℕ = start + length bytes in
-    let kept_it : Outcome = keeps_chunk n p k start bytes last in
-    either (n.me == 1) (Leaves R) (says n answers.Ignored) (chunk_to n p k start bytes last) same
-    (either_or (nat_lt (length k.bytes) start) (Leaves R) (says n answers.Gap) (if k.sealed && nat_lt (length k.bytes) end then says n answers.Sealed else unless (limit n.groups k.name end) n kept_it) same
-    (λ no_gap. either (k.sealed && nat_lt (length k.bytes) end) (Leaves R) (says n answers.Sealed) (unless (limit n.groups k.name end) n kept_it) same
-    (within (Leaves R) n n.groups k.name end kept_it same same
-    (λ room few. chunk_keeps R n p k start bytes last same (kept (grown k start bytes last) (may_grow g n.groups start bytes last (ltb-false (length k.bytes) start no_gap) room few))))))
+-- a chunk
+chunk_kept : (n : Node) (x p : ℕ) (g : List ℕ) (start : ℕ) (bytes : List ℕ) (last : Bool)
+    → IsKept n (comes x p (bodies.Chunk g start bytes last)) (took_chunk (begun n.control) (shelf n.groups) p g start bytes last)
+chunk_kept n x p g start bytes last =
+    either (n.control.me == 1) P (ignored o) (chunk_to o ls p (line_at g ls) start end last)
+    (refused answers.Ignored)
+    (subst (λ l. P (chunk_to o ls p l start end last)) (sym (line_at-shelf g n.groups)) to_group) where
+      i : Input
+      i = comes x p (bodies.Chunk g start bytes last)
 
-received_leaves : (R : Node → Type 0) (n : Node) (p : ℕ) (body : Body) → R n → WithAnyKept R n → Leaves R (received n p body)
-received_leaves R n p (Fetch have) same kept = fetch_leaves R n p have same
-received_leaves R n p (Chunk g start bytes last) same kept = chunk_leaves R n p g start bytes last same kept
+      o : Plan
+      o = begun n.control
 
--- what is so of a node, and of it whichever group was kept, is so after a step
-pub step_leaves : (R : Node → Type 0) (n : Node) (i : Input) → R n → WithAnyKept R n → R (step n i).node
-step_leaves R n (Pull p) same kept = either (p == n.me) (Leaves R) (says n answers.Own) (fetches (says n answers.Ok) p) same same
-step_leaves R n (Publish g bytes) same kept = publish_leaves R n g bytes same kept
-step_leaves R n (Seal g) same kept = seal_leaves R n g same kept
-step_leaves R n (Delivered m) same kept = received_leaves R n m.from m.body same kept
+      ls : List Shelf
+      ls = shelf n.groups
 
--- What every step keeps
+      end : ℕ
+      end = start + length bytes
 
--- the id
-pub step_me : (n : Node) (i : Input) → (step n i).node.me ≡ n.me
-step_me n i = step_leaves (λ m. m.me ≡ n.me) n i refl (λ k may. refl)
+      k : Group
+      k = group_or_empty g n.groups
 
--- where the node stands in the tree
-pub step_mode : (n : Node) (i : Input) → (step n i).node.mode ≡ n.mode
-step_mode n i = step_leaves (λ m. m.mode ≡ n.mode) n i refl (λ k may. refl)
+      P : Plan → Type 0
+      P = IsKept n i
 
--- the clock
-pub step_clock : (n : Node) (i : Input) → (step n i).node.clock ≡ n.clock
-step_clock n i = step_leaves (λ m. m.clock ≡ n.clock) n i refl (λ k may. refl)
+      refused : (a : Answer) → P (says o a)
+      refused a = kept_none n i (says o a) refl refl
 
--- the order of the groups
-pub step_ascends : (n : Node) (i : Input) → IsAscending n.groups → IsAscending (step n i).node.groups
-step_ascends n i up = step_leaves (λ m. IsAscending m.groups) n i up (λ k may. ascend-with_group k n.groups up)
+      kept : Plan
+      kept = keeps o start (adds_seal (shelf_of k) end last)
 
--- The limits
+      names : List Shelf
+      names = with_line (grown_line (shelf_of k) end last) ls
 
--- a name below all these is none of them
-pub absent_below : (g : List ℕ) (ks : List Group) → AreAbove g ks → group_of g ks ≡ None
-absent_below g [] above = refl
-absent_below g (k ∷ ks) above = rw above.0 (absent_below g ks above.1)
+      -- a fetch that goes out changes no node
+      asks : (m : Mode) → P kept → P (asks_on m p names kept)
+      asks (modes.Joined q) h = either (q == p) P (send kept p (bodies.Fetch names)) kept (record { node = h.node; limits = h.limits }) h
+      asks modes.Idle h = h
+      asks (modes.Asking q) h = h
+      asks modes.Acting h = h
 
--- there are as many groups after one was put, or one more where its name is new
-abbrev HasCount : Group → List Group → Type 0
-HasCount k ks = (length (with_group k ks) ≡ length ks) ⊎ ((group_of k.name ks ≡ None) × (length (with_group k ks) ≡ length ks + 1))
+      adding : start ≤ length k.bytes → HasRoom n.groups k.name → end ≤ most_bytes → P kept
+      adding no_gap room few = record {
+        node = refl;
+        limits = λ in_limits.
+            kept_within g n.groups start bytes (adds_seal (shelf_of k) end last) room
+            (omega (arith, few, no_gap, held_short g n.groups in_limits.2, length-append k.bytes (drop (length k.bytes - start) bytes), length-drop (length k.bytes - start) bytes))
+            in_limits;
+      }
 
-count-with_group : (k : Group) (ks : List Group) → IsAscending ks → HasCount k ks
-count-with_group k [] up = inr (refl, refl)
-count-with_group k (j ∷ js) up = by_order (count-with_group k js up.1) (slice_cmp nat_cmp k.name j.name) refl where
-  by_order : HasCount k js → (o : Ordering) → slice_cmp nat_cmp k.name j.name ≡ o → HasCount k (j ∷ js)
-  by_order rest Less e = inr (rw e (absent_below k.name js (above_lower k.name j.name js e up.0)), rw e (omega arith))
-  by_order rest Equal e = inl (rw e)
-  by_order (inl same) Greater e = inl (rw e (omega (arith, same)))
-  by_order (inr more) Greater e = inr (rw e more.0, rw e (omega (arith, more.1)))
+      taken_in : Plan
+      taken_in = keeps_chunk o ls p (shelf_of k) start end last
 
--- what holds of each group and of the one that is put holds of each then
-all-with_group : (P : Group → Type 0) (k : Group) (ks : List Group) → P k → AllByRecursion P ks → AllByRecursion P (with_group k ks)
-all-with_group P k [] here all = (here, tt)
-all-with_group P k (j ∷ js) here all = by_order (all-with_group P k js here all.1) (slice_cmp nat_cmp k.name j.name) refl where
-  by_order : AllByRecursion P (with_group k js) → (o : Ordering) → slice_cmp nat_cmp k.name j.name ≡ o → AllByRecursion P (with_group k (j ∷ js))
-  by_order rest Less e = rw e (here, all)
-  by_order rest Equal e = rw e (here, all.1)
-  by_order rest Greater e = rw e (all.0, rest)
+      to_group : P (chunk_to o ls p (shelf_of k) start end last)
+      to_group =
+          cond_both (nat_lt (length k.bytes) start) (says o answers.Gap) (if k.sealed && nat_lt (length k.bytes) end then says o answers.Sealed else unless (limit ls k.name end) o taken_in) P
+          (λ _. refused answers.Gap)
+          (λ e. either (k.sealed && nat_lt (length k.bytes) end) P (says o answers.Sealed) (unless (limit ls k.name end) o taken_in) (refused answers.Sealed)
+          (within P o n.groups k.name end taken_in (refused answers.Groups) (refused answers.TooLong)
+          (λ room few. either (adds ls (shelf_of k) end last) P (asks_on n.control.kept.mode p names kept) (ignored o)
+          (asks n.control.kept.mode (adding (ltb-false (length k.bytes) start e) room few)) (refused answers.Ignored))))
 
-abbrev IsShort : Group → Type 0
-IsShort k = length k.bytes ≤ most_bytes
+-- Every input
 
--- what is held of any name is short where each group is
-held_short : (g : List ℕ) (ks : List Group) → AllByRecursion IsShort ks → IsShort (group_or_empty g ks)
-held_short g [] all = omega arith
-held_short g (k ∷ ks) all = by_test (held_short g ks all.1) (same_name g k.name) refl where
-  by_test : IsShort (group_or_empty g ks) → (b : Bool) → same_name g k.name ≡ b → IsShort (group_or_empty g (k ∷ ks))
-  by_test rest true e = rw e all.0
-  by_test rest false e = rw e rest
+-- the clock after an input
+abbrev pub clock_by : Input → ℕ → ℕ
+clock_by (Tick t) c = max c t
+clock_by i c = c
 
--- groups in their order, no more and no longer than the limits allow
-abbrev pub AreWithinLimits : List Group → Type 0
-AreWithinLimits ks = IsAscending ks × (length ks ≤ most_groups) × AllByRecursion IsShort ks
+-- what a step leaves
+pub record Leaves (n : Node) (i : Input) : Type 0 where
+  pub me : (step n i).node.control.me ≡ n.control.me
+  pub clock : (step n i).node.control.soft.clock ≡ clock_by i n.control.soft.clock
+  pub limits : AreWithinLimits n.groups → AreWithinLimits (step n i).node.groups
 
--- a group that may be kept passes no limit
-limits-with_group : (k : Group) (ks : List Group) → MayKeep ks k → AreWithinLimits ks → AreWithinLimits (with_group k ks)
-limits-with_group k ks may in_limits =
-    let short : IsShort k = omega (arith, may.short, held_short k.name ks in_limits.2) in (
-      ascend-with_group k ks in_limits.0,
-      ⊎_elim (λ same. omega (arith, same, in_limits.1)) (λ more. omega (arith, more.1, may.room more.0)) (count-with_group k ks in_limits.0),
-      all-with_group IsShort k ks short in_limits.2,
-    )
+of_calm : (n : Node) (i : Input) → IsCalm n.control.me (clock_by i n.control.soft.clock) (plan n.control (shelf n.groups) i) → Leaves n i
+of_calm n i calm = record {
+  me = calm.me;
+  clock = calm.clock;
+  limits = λ in_limits. subst AreWithinLimits (sym (ap (λ k. kept_at k n.groups (piece_of i) (plan n.control (shelf n.groups) i).seals) calm.keeps)) in_limits;
+}
 
--- no step passes a limit
-pub step_limits : (n : Node) (i : Input) → AreWithinLimits n.groups → AreWithinLimits (step n i).node.groups
-step_limits n i in_limits = step_leaves (λ m. AreWithinLimits m.groups) n i in_limits (λ k may. limits-with_group k n.groups may in_limits)
+of_kept : (n : Node) (i : Input) → clock_by i n.control.soft.clock ≡ n.control.soft.clock → IsKept n i (plan n.control (shelf n.groups) i) → Leaves n i
+of_kept n i still kept = record { me = ap (λ c. c.me) kept.node; clock = ap (λ c. c.soft.clock) kept.node ∙ sym still; limits = kept.limits }
+
+-- a step of this node under way
+abbrev Calm : Node → Plan → Type 0
+Calm n o = IsCalm n.control.me n.control.soft.clock o
+
+calm_kept : (n : Node) → IsClosed (shelf n.groups) (Calm n)
+calm_kept n = calm_closed n.control.me n.control.soft.clock (shelf n.groups)
+
+calm_start : (n : Node) → Calm n (begun n.control)
+calm_start n = record { me = refl; clock = refl; keeps = refl }
+
+received_leaves : (n : Node) (x p : ℕ) (b : Body) → Leaves n (comes x p b)
+received_leaves n x p bodies.Look = of_calm n (comes x p bodies.Look) (keeps_looked (shelf n.groups) (Calm n) (calm_kept n) (begun n.control) p (calm_start n))
+received_leaves n x p (bodies.LookIs is_in parent rate children) =
+    of_calm n (comes x p (bodies.LookIs is_in parent rate children))
+    (keeps_sees (shelf n.groups) (Calm n) (calm_kept n) (begun n.control) p (record { in_tree = is_in; parent = parent; rate = rate; children = children }) (calm_start n))
+received_leaves n x p (bodies.Ask seq rank) = of_calm n (comes x p (bodies.Ask seq rank)) (keeps_asked (shelf n.groups) (Calm n) (calm_kept n) (begun n.control) p seq rank (calm_start n))
+received_leaves n x p (bodies.Yes seq rank ancestors) =
+    of_calm n (comes x p (bodies.Yes seq rank ancestors)) (keeps_took_yes (shelf n.groups) (Calm n) (calm_kept n) (begun n.control) p seq rank ancestors (calm_start n))
+received_leaves n x p (bodies.No seq why) = of_calm n (comes x p (bodies.No seq why)) (keeps_took_no (shelf n.groups) (Calm n) (calm_kept n) (begun n.control) p seq why (calm_start n))
+received_leaves n x p (bodies.CheckIn seq upto rate number clients certs) =
+    of_calm n (comes x p (bodies.CheckIn seq upto rate number clients certs))
+    (keeps_checked_in (shelf n.groups) (Calm n) (calm_kept n) (begun n.control) p seq upto rate number clients certs (calm_start n))
+received_leaves n x p (bodies.CheckAck seq upto rank ancestors) =
+    of_calm n (comes x p (bodies.CheckAck seq upto rank ancestors)) (keeps_took_ack (shelf n.groups) (Calm n) (calm_kept n) (begun n.control) p seq upto rank ancestors (calm_start n))
+received_leaves n x p (bodies.Rejoin seq) = of_calm n (comes x p (bodies.Rejoin seq)) (keeps_took_rejoin (shelf n.groups) (Calm n) (calm_kept n) (begun n.control) p seq (calm_start n))
+received_leaves n x p (bodies.Fetch have) = of_kept n (comes x p (bodies.Fetch have)) refl (fetch_kept n x p have)
+received_leaves n x p (bodies.Chunk g start bytes last) = of_kept n (comes x p (bodies.Chunk g start bytes last)) refl (chunk_kept n x p g start bytes last)
+
+-- every step leaves the id, the clock but for a tick, and the groups within the limits
+pub step_leaves : (n : Node) (i : Input) → Leaves n i
+step_leaves n (Tick t) =
+    of_calm n (Tick t)
+    (keeps_tick (shelf n.groups) (IsCalm n.control.me (max n.control.soft.clock t)) (calm_closed n.control.me (max n.control.soft.clock t) (shelf n.groups)) (begun n.control) t
+    (record { me = refl; clock = refl; keeps = refl }))
+step_leaves n CheckNow = of_calm n CheckNow (keeps_checks (shelf n.groups) (Calm n) (calm_kept n) (begun n.control) (calm_start n))
+step_leaves n (Relocate p) = of_calm n (Relocate p) (keeps_relocate (shelf n.groups) (Calm n) (calm_kept n) (begun n.control) p (calm_start n))
+step_leaves n (Unreachable p) = of_calm n (Unreachable p) (keeps_unreachable (shelf n.groups) (Calm n) (calm_kept n) (begun n.control) p (calm_start n))
+step_leaves n (Pull p) = of_calm n (Pull p) (keeps_pulled (shelf n.groups) (Calm n) (calm_kept n) (begun n.control) p (calm_start n))
+step_leaves n (Measured p rate hops) = of_calm n (Measured p rate hops) (keeps_measured (shelf n.groups) (Calm n) (calm_kept n) (begun n.control) p rate hops (calm_start n))
+step_leaves n (Publish g bytes) = of_kept n (Publish g bytes) refl (publish_kept n g bytes)
+step_leaves n (Seal g) = of_kept n (Seal g) refl (seal_kept n g)
+step_leaves n (Client area start g) = of_calm n (Client area start g) (keeps_client (shelf n.groups) (Calm n) (calm_kept n) (begun n.control) area start g (calm_start n))
+step_leaves n (Delivered m) = received_leaves n m.to m.from m.body

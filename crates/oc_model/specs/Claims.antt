@@ -6,7 +6,8 @@ use Rattle.oc_model.specs.declared.group.Group.{Group}
 use Rattle.oc_model.specs.declared.message.Body.{Body}
 use Rattle.oc_model.specs.declared.message.Body.TheVariants.{Fetch, Chunk}
 use Rattle.oc_model.specs.Groups.{group_of}
-use Rattle.oc_model.specs.World.{World, node, next_world}
+use Rattle.oc_model.specs.NextWorld.{next_world}
+use Rattle.oc_model.specs.World.{World, node}
 
 -- the first bytes of a group of the source are these
 abbrev pub IsPrefixOfSource : World → List ℕ → Group → Type 0
@@ -23,7 +24,7 @@ Keeps ks l = (k : Group) × (group_of l.group ks ≡ Some k) × (l.held ≤ leng
 -- what a message says that its sender holds, the sender holds
 abbrev pub IsAcknowledged : World → ℕ → Body → Type 0
 IsAcknowledged w x (Fetch have) = AllByRecursion (Keeps (node w x).groups) have
-IsAcknowledged w x (Chunk g start bytes last) = Unit {0}
+IsAcknowledged w x body = Unit {0}
 
 -- what a node has said that it holds, it holds; node 1 holds the source
 pub record HoldAcknowledged (w : World) : Type 0 where
@@ -40,10 +41,10 @@ abbrev pub IsPieceOf : ℕ → List ℕ → Group → Type 0
 IsPieceOf start bytes s = bytes ≡ take (length bytes) (drop start s.bytes)
 
 abbrev pub IsTrueChunk : World → Body → Type 0
-IsTrueChunk w (Fetch have) = Unit {0}
 IsTrueChunk w (Chunk g start bytes last) =
     (s : Group) × (group_of g w.source ≡ Some s) × IsPieceOf start bytes s
     × (last ≡ true → (s.sealed ≡ true) × (start + length bytes ≡ length s.bytes))
+IsTrueChunk w body = Unit {0}
 
 -- each chunk that was ever sent brings what the source published
 abbrev pub ChunksAreTrue : World → Type 0

@@ -1,109 +1,110 @@
-use Rattle.std.specs.Prelude.{ℕ, ◌+◌, ◌-◌, Bool, true, not, ◌&&◌, ◌||◌, ◌==◌, nat_lt, nat_le, if◌then◌else◌, Option, Some, None, is_some, List, [], ◌∷◌, ◌++◌, length, take, drop}
+use Rattle.std.specs.Prelude.{ℕ, ◌+◌, ◌-◌, max, min, Bool, true, false, not, ◌&&◌, ◌||◌, ◌==◌, nat_lt, nat_le, if◌then◌else◌, Option, Some, None, is_some, List, [], length}
 use Rattle.oc_base.specs.declared.shelf.Shelf.{Shelf}
-use Rattle.oc_model.specs.declared.answer.Answer.TheVariants as answers
-use Rattle.oc_model.specs.declared.group.Group.{Group}
-use Rattle.oc_model.specs.declared.message.Body.{Body}
-use Rattle.oc_model.specs.declared.message.Body.TheVariants.{Fetch, Chunk}
+use Rattle.oc_model.specs.declared.answer.Answer.{Answer}
+use Rattle.oc_model.specs.declared.answer.Answer.TheVariants as words
+use Rattle.oc_model.specs.declared.message.Body.TheVariants as bodies
 use Rattle.oc_model.specs.declared.mode.Mode.{Mode}
-use Rattle.oc_model.specs.declared.mode.Mode.TheVariants.{Joined}
-use Rattle.oc_model.specs.Groups.{same_name, group_of, group_or_empty, shelf, limit, most_chunk}
-use Rattle.oc_model.specs.Node.{Node, Outcome, says, sends, keeps, unless}
+use Rattle.oc_model.specs.declared.mode.Mode.TheVariants as modes
+use Rattle.oc_model.specs.declared.want.Want.{Want}
+use Rattle.oc_model.specs.Groups.{most_chunk}
+use Rattle.oc_model.specs.Plan.{Plan, send, answers, ignored}
+use Rattle.oc_model.specs.Shelves.{line_of, line_at, with_line, limit, first_behind}
 
 -- The rule Content: how bytes come to be held, and how they spread.
 
--- a publish to this group, as it is held or empty
-abbrev pub publish_to : Node → Group → List ℕ → Outcome
-publish_to n k bytes =
-    if k.sealed then says n answers.Sealed
-    else unless (limit n.groups k.name (length k.bytes + length bytes)) n (keeps n (record k { bytes = k.bytes ++ bytes }))
+-- the refusal, if there is one, and else what follows
+abbrev pub unless : Option Answer → Plan → Plan → Plan
+unless None o p = p
+unless (Some a) o p = answers o a
+
+-- the input's bytes are kept in their group, at that place; they may close it
+abbrev pub keeps : Plan → ℕ → Bool → Plan
+keeps o at closes = record o { keeps = Some at; seals = closes }
+
+-- Publish and seal
+
+-- whether there is anything to keep of a publish: a new group, or a byte
+abbrev pub grows : List Shelf → List ℕ → ℕ → Bool
+grows shelf g count = not (is_some (line_of g shelf)) || not (count == 0)
+
+-- a publish of so many bytes to this group
+abbrev pub publish_to : Plan → List Shelf → Shelf → ℕ → Plan
+publish_to o shelf l count =
+    if l.sealed then answers o words.Sealed
+    else unless (limit shelf l.group (l.held + count)) o (if grows shelf l.group count then keeps o l.held false else o)
 
 -- a publish: at the source alone, at the group's end
-abbrev pub published : Node → List ℕ → List ℕ → Outcome
-published n g bytes = if n.me == 1 then publish_to n (group_or_empty g n.groups) bytes else says n answers.NotSource
+abbrev pub published : Plan → List Shelf → List ℕ → List ℕ → Plan
+published o shelf g bytes = if o.node.me == 1 then publish_to o shelf (line_at g shelf) (length bytes) else answers o words.NotSource
 
-abbrev pub seal_group : Node → Option Group → Outcome
-seal_group n None = says n answers.NoGroup
-seal_group n (Some k) = if k.sealed then says n answers.Ignored else keeps n (record k { sealed = true })
+abbrev pub seal_line : Plan → Option Shelf → Plan
+seal_line o None = answers o words.NoGroup
+seal_line o (Some l) = if l.sealed then ignored o else keeps o l.held true
 
 -- a seal: at the source alone, of a group that is held
-abbrev pub sealed_at : Node → List ℕ → Outcome
-sealed_at n g = if n.me == 1 then seal_group n (group_of g n.groups) else says n answers.NotSource
+abbrev pub sealed_at : Plan → List Shelf → List ℕ → Plan
+sealed_at o shelf g = if o.node.me == 1 then seal_line o (line_of g shelf) else answers o words.NotSource
 
--- a fetch of the whole shelf goes to p
-abbrev pub fetches : Outcome → ℕ → Outcome
-fetches o p = sends o p (Fetch (shelf o.node.groups))
+-- Pull and fetch
 
-abbrev pub pulled : Node → ℕ → Outcome
-pulled n p = if p == n.me then says n answers.Own else fetches (says n answers.Ok) p
+abbrev pub pulled : Plan → List Shelf → ℕ → Plan
+pulled o shelf p = if p == o.node.me then answers o words.Own else send o p (bodies.Fetch shelf)
 
--- the asker's line for a group
-abbrev pub line_of : List ℕ → List Shelf → Option Shelf
-line_of g [] = None
-line_of g (l ∷ ls) = if same_name g l.group then Some l else line_of g ls
+-- how many bytes of a group a chunk has from a place on
+abbrev pub count_from : Shelf → ℕ → ℕ
+count_from l start = min most_chunk (l.held - start)
 
--- whether the asker lacks the group, holds less of it, or holds as much without the seal that is here
-abbrev pub is_behind : Option Shelf → Group → Bool
-is_behind None k = true
-is_behind (Some l) k = nat_lt l.held (length k.bytes) || (l.held == length k.bytes && k.sealed && not l.sealed)
+-- these bytes, if they are any
+abbrev pub wanted : Shelf → ℕ → ℕ → Option Want
+wanted l start count = if count == 0 then None else Some (record { group = l.group; start = start; count = count })
 
-abbrev pub held_in : Option Shelf → ℕ
-held_in None = 0
-held_in (Some l) = l.held
+-- a chunk of this group goes to p, with so many bytes from a place on; it is last where they end a sealed group
+abbrev pub sends_chunk : Plan → ℕ → Shelf → ℕ → ℕ → Plan
+sends_chunk o p l start count =
+    record (send o p (bodies.Chunk l.group start [] (l.sealed && start + count == l.held))) { wants = wanted l start count }
 
--- the first group in which the asker is behind
-abbrev pub first_behind : List Shelf → List Group → Option Group
-first_behind have [] = None
-first_behind have (k ∷ ks) = if is_behind (line_of k.name have) k then Some k else first_behind have ks
-
--- the bytes of a group from a place on, as many as a chunk has; last where they end a sealed group
-abbrev pub chunk_at : Group → ℕ → Body
-chunk_at k start =
-    Chunk k.name start (take most_chunk (drop start k.bytes)) (k.sealed && start + length (take most_chunk (drop start k.bytes)) == length k.bytes)
-
-abbrev pub answers_fetch : Node → ℕ → List Shelf → Option Group → Outcome
-answers_fetch n p have None = says n answers.Ok
-answers_fetch n p have (Some k) = sends (says n answers.Ok) p (chunk_at k (held_in (line_of k.name have)))
+abbrev pub answers_fetch : Plan → ℕ → List Shelf → Option Shelf → Plan
+answers_fetch o p have None = o
+answers_fetch o p have (Some l) = sends_chunk o p l (line_at l.group have).held (count_from l (line_at l.group have).held)
 
 -- a fetch from p that names what p has
-abbrev pub fetched : Node → ℕ → List Shelf → Outcome
-fetched n p have = answers_fetch n p have (first_behind have n.groups)
+abbrev pub fetched : Plan → List Shelf → ℕ → List Shelf → Plan
+fetched o shelf p have = answers_fetch o p have (first_behind have shelf)
+
+-- Chunks
 
 -- whether a chunk closes the group: it is last, the group is open, and the chunk does not end before held
-abbrev pub adds_seal : Group → ℕ → Bool → Bool
-adds_seal k end last = last && not k.sealed && nat_le (length k.bytes) end
+abbrev pub adds_seal : Shelf → ℕ → Bool → Bool
+adds_seal l end last = last && not l.sealed && nat_le l.held end
 
 -- whether there is anything to keep of a chunk that ends here: a new group, a byte or a seal
-abbrev pub adds : Bool → Group → ℕ → Bool → Bool
-adds is_new k end last = is_new || nat_lt (length k.bytes) end || adds_seal k end last
+abbrev pub adds : List Shelf → Shelf → ℕ → Bool → Bool
+adds shelf l end last = not (is_some (line_of l.group shelf)) || nat_lt l.held end || adds_seal l end last
 
--- the group with what is new in a chunk: the bytes past held alone, and the seal
-abbrev pub grown : Group → ℕ → List ℕ → Bool → Group
-grown k start bytes last = record {
-  name = k.name;
-  bytes = k.bytes ++ drop (length k.bytes - start) bytes;
-  sealed = k.sealed || adds_seal k (start + length bytes) last;
-}
+-- the line of the group once what is new in a chunk was kept
+abbrev pub grown_line : Shelf → ℕ → Bool → Shelf
+grown_line l end last = record { group = l.group; held = max l.held end; sealed = l.sealed || adds_seal l end last }
 
--- where Joined to the sender, a fetch goes to it
-abbrev pub asks_on : Mode → ℕ → Outcome → Outcome
-asks_on (Joined q) p o = if q == p then fetches o p else o
-asks_on mode p o = o
+-- where joined to the sender, a fetch goes to it
+abbrev pub asks_on : Mode → ℕ → List Shelf → Plan → Plan
+asks_on (modes.Joined q) p shelf o = if q == p then send o p (bodies.Fetch shelf) else o
+asks_on mode p shelf o = o
 
 -- what is new in a chunk from p is kept, if anything is
-abbrev pub keeps_chunk : Node → ℕ → Group → ℕ → List ℕ → Bool → Outcome
-keeps_chunk n p k start bytes last =
-    if adds (not (is_some (group_of k.name n.groups))) k (start + length bytes) last
-    then asks_on n.mode p (keeps n (grown k start bytes last))
-    else says n answers.Ignored
+abbrev pub keeps_chunk : Plan → List Shelf → ℕ → Shelf → ℕ → ℕ → Bool → Plan
+keeps_chunk o shelf p l start end last =
+    if adds shelf l end last
+    then asks_on o.node.kept.mode p (with_line (grown_line l end last) shelf) (keeps o start (adds_seal l end last))
+    else ignored o
 
--- a chunk from p for this group, as it is held or empty
-abbrev pub chunk_to : Node → ℕ → Group → ℕ → List ℕ → Bool → Outcome
-chunk_to n p k start bytes last =
-    if nat_lt (length k.bytes) start then says n answers.Gap
-    else if k.sealed && nat_lt (length k.bytes) (start + length bytes) then says n answers.Sealed
-    else unless (limit n.groups k.name (start + length bytes)) n (keeps_chunk n p k start bytes last)
+-- a chunk from p for this group
+abbrev pub chunk_to : Plan → List Shelf → ℕ → Shelf → ℕ → ℕ → Bool → Plan
+chunk_to o shelf p l start end last =
+    if nat_lt l.held start then answers o words.Gap
+    else if l.sealed && nat_lt l.held end then answers o words.Sealed
+    else unless (limit shelf l.group end) o (keeps_chunk o shelf p l start end last)
 
 -- a chunk from p
-abbrev pub took_chunk : Node → ℕ → List ℕ → ℕ → List ℕ → Bool → Outcome
-took_chunk n p g start bytes last =
-    if n.me == 1 then says n answers.Ignored else chunk_to n p (group_or_empty g n.groups) start bytes last
+abbrev pub took_chunk : Plan → List Shelf → ℕ → List ℕ → ℕ → List ℕ → Bool → Plan
+took_chunk o shelf p g start bytes last =
+    if o.node.me == 1 then ignored o else chunk_to o shelf p (line_at g shelf) start (start + length bytes) last

@@ -1,11 +1,9 @@
-use Rattle.std.specs.Prelude.{◌≡◌, ℕ, Bool, false, not, ◌&&◌, nat_lt, nat_le, if◌then◌else◌, Option, Some, None, List, [], ◌∷◌, length, is_some}
+use Rattle.std.specs.Prelude.{◌≡◌, ℕ, Bool, false, if◌then◌else◌, Option, Some, None, List, [], ◌∷◌, length}
 use Rattle.std.specs.List.{AllByRecursion}
 use Rattle.std.specs.declared.cmp.Ordering.TheVariants.{Less}
 use Rattle.std.specs.Ordering.{nat_cmp, is_eq, match_ordering}
 use Rattle.std.specs.Cmp.Lexicographic.{slice_cmp}
 use Rattle.oc_base.specs.declared.shelf.Shelf.{Shelf}
-use Rattle.oc_model.specs.declared.answer.Answer.{Answer}
-use Rattle.oc_model.specs.declared.answer.Answer.TheVariants as answers
 use Rattle.oc_model.specs.declared.group.Group.{Group}
 
 -- whether two names are one
@@ -48,13 +46,6 @@ most_bytes = 1073741824
 
 abbrev pub most_chunk : ℕ
 most_chunk = 4096
-
--- the limit that a group of this name would pass, if it grew to this length
-abbrev pub limit : List Group → List ℕ → ℕ → Option Answer
-limit ks g end =
-    if not (is_some (group_of g ks)) && nat_le most_groups (length ks) then Some answers.Groups
-    else if nat_lt most_bytes end then Some answers.TooLong
-    else None
 
 -- all these groups have greater names
 abbrev pub AreAbove : List ℕ → List Group → Type 0

@@ -1,46 +1,116 @@
-use Rattle.std.specs.Prelude.{ℕ, Option, Some, None, List, [], ◌∷◌, ◌++◌}
+use Rattle.std.specs.Prelude.{ℕ, false, Option, None, List, [], replicate}
+use Rattle.oc_base.specs.declared.cert.Cert.{Cert}
+use Rattle.oc_base.specs.declared.rank.Rank.{Rank}
 use Rattle.oc_model.specs.declared.answer.Answer.{Answer}
-use Rattle.oc_model.specs.declared.answer.Answer.TheVariants.{Ok}
 use Rattle.oc_model.specs.declared.group.Group.{Group}
 use Rattle.oc_model.specs.declared.message.Message.{Message}
-use Rattle.oc_model.specs.declared.message.Body.{Body}
 use Rattle.oc_model.specs.declared.mode.Mode.{Mode}
 use Rattle.oc_model.specs.declared.mode.Mode.TheVariants.{Idle}
-use Rattle.oc_model.specs.Groups.{with_group}
+use Rattle.oc_model.specs.declared.reading.Reading.{Reading}
+use Rattle.oc_model.specs.declared.record.Record.{Record}
+use Rattle.oc_model.specs.declared.soft.Soft.{Soft}
 
--- all that one node is: its id, what survives a stop (mode, groups), and what a start clears (the clock)
-pub record Node : Type 0 where
-  pub me : ℕ
+-- The state of one node.
+
+-- what opens a world: the number of nodes, the length of the chain, the area of each node
+pub record Header : Type 0 where
+  pub nodes : ℕ
+  pub chain : ℕ
+  pub areas : List ℕ
+
+-- the change log: its length, how many of its certificates the parent has acknowledged, and the rest, which wait
+pub record Log : Type 0 where
+  pub length : ℕ
+  pub acked : ℕ
+  pub waiting : List Cert
+
+-- what a stop leaves of a node's control state: the number of its last ask, its mode and rank, its own number and count of
+-- clients, its table (a row a subject, ascending), its change log, its ancestors (nearest first), its reading of each peer (by number)
+pub record Durable : Type 0 where
+  pub seq : ℕ
   pub mode : Mode
+  pub rank : Option Rank
+  pub number : ℕ
+  pub clients : ℕ
+  pub table : List Cert
+  pub log : Log
+  pub ancestors : List ℕ
+  pub measures : List Reading
+
+-- all of a node but its content: who it is, what a stop leaves, and what a start clears. Of the last are the lease ends, the
+-- children's rates and the redirection counts, which stand in lists by the number of a node
+pub record Control : Type 0 where
+  pub me : ℕ
+  pub nodes : ℕ
+  pub chain : ℕ
+  pub areas : List ℕ
+  pub kept : Durable
+  pub soft : Soft
+  pub leases : List (Option ℕ)
+  pub rates : List ℕ
+  pub counts : List ℕ
+
+-- all that one node is
+pub record Node : Type 0 where
+  pub control : Control
   pub groups : List Group
-  pub clock : ℕ
 
-abbrev pub new_node : ℕ → Node
-new_node x = record { me = x; mode = Idle; groups = []; clock = 0 }
-
--- what a start makes of what was kept
-abbrev pub restarted : Node → Node
-restarted n = record n { clock = 0 }
-
--- what an input does to a node: the node after it, the messages that it sends, its answer
+-- what an input does to a node: the node after it, the records of what is durable in it, the messages that it sends, its answer
 pub record Outcome : Type 0 where
   pub node : Node
+  pub records : List Record
   pub sends : List Message
   pub answer : Answer
 
--- nothing changes, and this is the answer
-abbrev pub says : Node → Answer → Outcome
-says n a = record { node = n; sends = []; answer = a }
+-- a log of nothing
+abbrev pub empty_log : Log
+empty_log = record { length = 0; acked = 0; waiting = [] }
 
--- this message goes to p
-abbrev pub sends : Outcome → ℕ → Body → Outcome
-sends o p b = record o { sends = o.sends ++ record { from = o.node.me; to = p; body = b } ∷ [] }
+-- no measurement was taken
+abbrev pub no_reading : Reading
+no_reading = record { rate = 0; hops = 0 }
 
--- the group is kept as it is here
-abbrev pub keeps : Node → Group → Outcome
-keeps n k = says (record n { groups = with_group k n.groups }) Ok
+-- the first durable state, among this many nodes
+abbrev pub new_durable : ℕ → Durable
+new_durable nodes = record {
+  seq = 0;
+  mode = Idle;
+  rank = None;
+  number = 0;
+  clients = 0;
+  table = [];
+  log = empty_log;
+  ancestors = [];
+  measures = replicate nodes no_reading;
+}
 
--- the refusal, if there is one, and else the outcome
-abbrev pub unless : Option Answer → Node → Outcome → Outcome
-unless None n o = o
-unless (Some a) n o = says n a
+-- what a start clears, cleared
+abbrev pub new_soft : Soft
+new_soft = record { clock = 0; due = None; tries = []; silent = false; search = None; served = 0 }
+
+-- a node with these durable parts, just started
+abbrev pub started_with : Header → ℕ → Durable → Control
+started_with h x d = record {
+  me = x;
+  nodes = h.nodes;
+  chain = h.chain;
+  areas = h.areas;
+  kept = d;
+  soft = new_soft;
+  leases = replicate h.nodes None;
+  rates = replicate h.nodes 0;
+  counts = replicate h.nodes 0;
+}
+
+-- the new node of this id
+abbrev pub new_control : Header → ℕ → Control
+new_control h x = started_with h x (new_durable h.nodes)
+
+abbrev pub new_node : Header → ℕ → Node
+new_node h x = record { control = new_control h x; groups = [] }
+
+-- what a start makes of what was kept
+abbrev pub restarted : Node → Node
+restarted n = record n {
+  control = started_with (record { nodes = n.control.nodes; chain = n.control.chain; areas = n.control.areas }) n.control.me n.control.kept;
+}

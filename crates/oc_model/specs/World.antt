@@ -1,20 +1,19 @@
-use Rattle.std.specs.Prelude.{ℕ, zero, suc, Bool, true, false, ◌==◌, if◌then◌else◌, Option, Some, None, List, [], ◌∷◌, ◌++◌, map, slice_get}
+use Rattle.std.specs.Prelude.{ℕ, zero, suc, Bool, true, false, ◌==◌, if◌then◌else◌, Option, Some, None, List, [], ◌∷◌, ◌++◌, map, filter, slice_get}
 use Rattle.std.specs.List.{range_with_len}
 use Rattle.oc_model.specs.declared.answer.Answer.{Answer}
 use Rattle.oc_model.specs.declared.answer.Answer.TheVariants as answers
 use Rattle.oc_model.specs.declared.event.Act.{Act}
 use Rattle.oc_model.specs.declared.event.Act.TheVariants as acts
-use Rattle.oc_model.specs.declared.event.Event.{Event}
-use Rattle.oc_model.specs.declared.event.Event.TheVariants.{Up, Do, Held}
 use Rattle.oc_model.specs.declared.group.Group.{Group}
 use Rattle.oc_model.specs.declared.input.Input.{Input}
 use Rattle.oc_model.specs.declared.input.Input.TheVariants as inputs
 use Rattle.oc_model.specs.declared.message.Message.{Message}
-use Rattle.oc_model.specs.declared.word.Word.{Word}
-use Rattle.oc_model.specs.declared.word.Word.TheVariants as words
+use Rattle.oc_model.specs.declared.mode.Mode.{Mode}
 use Rattle.oc_model.specs.Groups.{group_or_empty, with_group}
-use Rattle.oc_model.specs.Node.{Node, Outcome, new_node, restarted}
+use Rattle.oc_model.specs.Node.{Header, Node, Outcome, new_node}
 use Rattle.oc_model.specs.Step.{step}
+
+-- All nodes, all messages that were ever sent, and the source; and what one act does to them.
 
 -- a node, and whether it is up
 pub record Process : Type 0 where
@@ -27,19 +26,17 @@ pub record World : Type 0 where
   pub net : List Message
   pub source : List Group
 
--- what opens a world: the number of nodes, the length of the chain, the area of each node
-pub record Header : Type 0 where
-  pub nodes : ℕ
-  pub chain : ℕ
-  pub areas : List ℕ
+abbrev pub down : Node → Process
+down n = record { node = n; up = false }
 
-abbrev pub down : ℕ → Process
-down x = record { node = new_node x; up = false }
+-- what stands for an id that no node has: a new node of that very id
+abbrev pub absent : ℕ → Process
+absent x = down (new_node (record { nodes = 0; chain = 0; areas = [] }) x)
 
--- the process of this id; one that no node has is that of a new node
+-- the process of this id
 abbrev pub process_in : List Process → ℕ → Process
-process_in [] x = down x
-process_in (p ∷ ps) x = if p.node.me == x then p else process_in ps x
+process_in [] x = absent x
+process_in (p ∷ ps) x = if p.node.control.me == x then p else process_in ps x
 
 abbrev pub process : World → ℕ → Process
 process w x = process_in w.processes x
@@ -47,18 +44,29 @@ process w x = process_in w.processes x
 abbrev pub node : World → ℕ → Node
 node w x = (process w x).node
 
+-- whether the node of this id is up
+abbrev pub is_up : World → ℕ → Bool
+is_up w x = (process w x).up
+
+abbrev pub mode_of : World → ℕ → Mode
+mode_of w x = (node w x).control.kept.mode
+
 -- the processes with this one in the place of that of its id
 abbrev pub with_process : List Process → Process → List Process
 with_process [] q = []
-with_process (p ∷ ps) q = if p.node.me == q.node.me then q ∷ ps else p ∷ with_process ps q
+with_process (p ∷ ps) q = if p.node.control.me == q.node.control.me then q ∷ ps else p ∷ with_process ps q
 
 -- the ids, in their order
 abbrev pub ids : World → List ℕ
-ids w = map (λ p. p.node.me) w.processes
+ids w = map (λ p. p.node.control.me) w.processes
+
+-- those of the nodes that are up
+abbrev pub up_ids : World → List ℕ
+up_ids w = filter (is_up w) (ids w)
 
 -- all nodes are down and new, nothing was sent, and there is no group
 abbrev pub new_world : Header → World
-new_world h = record { processes = map down (range_with_len 1 h.nodes); net = []; source = [] }
+new_world h = record { processes = map (λ x. down (new_node h x)) (range_with_len 1 h.nodes); net = []; source = [] }
 
 -- the message of this number, counted from 1
 abbrev pub message_at : List Message → ℕ → Option Message
@@ -88,37 +96,27 @@ abbrev pub delivery : Option Message → Option Aimed
 delivery None = None
 delivery (Some m) = Some (record { at = m.to; input = inputs.Delivered m })
 
+abbrev pub at_node : ℕ → Input → Option Aimed
+at_node x i = Some (record { at = x; input = i })
+
 -- the input of an act; none where no message has that number
 abbrev pub aimed : World → Act → Option Aimed
-aimed w (acts.Pull x p) = Some (record { at = x; input = inputs.Pull p })
-aimed w (acts.Publish x g bytes) = Some (record { at = x; input = inputs.Publish g bytes })
-aimed w (acts.Seal x g) = Some (record { at = x; input = inputs.Seal g })
+aimed w (acts.Tick x t) = at_node x (inputs.Tick t)
+aimed w (acts.Check x) = at_node x inputs.CheckNow
+aimed w (acts.Move x p) = at_node x (inputs.Relocate p)
+aimed w (acts.Fail x p) = at_node x (inputs.Unreachable p)
+aimed w (acts.Pull x p) = at_node x (inputs.Pull p)
+aimed w (acts.Measure x p rate hops) = at_node x (inputs.Measured p rate hops)
+aimed w (acts.Publish x g bytes) = at_node x (inputs.Publish g bytes)
+aimed w (acts.Seal x g) = at_node x (inputs.Seal g)
+aimed w (acts.Client x area start g) = at_node x (inputs.Client area start g)
 aimed w (acts.Deliver k) = delivery (message_at w.net k)
 
+-- what an input does to a world; nothing where its node is down
 abbrev pub acted : World → Option Aimed → World
 acted w None = w
-acted w (Some a) = if (process w a.at).up then stepped w a.input (step (node w a.at) a.input) else w
+acted w (Some a) = if is_up w a.at then stepped w a.input (step (node w a.at) a.input) else w
 
-abbrev pub started : World → Process → World
-started w p = if p.up then w else record w { processes = with_process w.processes (record { node = restarted p.node; up = true }) }
-
--- what one event does
-abbrev pub next_world : World → Event → World
-next_world w (Up x) = started w (process w x)
-next_world w (Do a) = acted w (aimed w a)
-next_world w (Held x) = w
-
-abbrev pub word_of_act : World → Option Aimed → Word
-word_of_act w None = words.NoMessage
-word_of_act w (Some a) = if (process w a.at).up then words.Node (step (node w a.at) a.input).answer else words.Down
-
--- the word of an event
-abbrev pub word_of : World → Event → Word
-word_of w (Up x) = if (process w x).up then words.Up else words.Node answers.Ok
-word_of w (Do a) = word_of_act w (aimed w a)
-word_of w (Held x) = words.Node answers.Ok
-
--- the world after these events, one after another
-abbrev pub world_after : World → List Event → World
-world_after w [] = w
-world_after w (e ∷ es) = world_after (next_world w e) es
+-- what an act does
+abbrev pub after_act : World → Act → World
+after_act w a = acted w (aimed w a)

@@ -1,3 +1,5 @@
+use oc_base::NodeId;
+
 /// What a node answers to an input, in one word.
 #[derive(Clone, Copy, Debug, PartialEq, Eq)]
 pub enum Answer {
@@ -17,6 +19,16 @@ pub enum Answer {
     TooLong,
     /// A node does not do this to itself.
     Own,
+    /// The node does not go beneath that one.
+    Fixed,
+    /// No node is left to be asked for a place.
+    Waiting,
+    /// The numbers of asks have come to their end.
+    Spent,
     /// The group is sealed.
     Sealed,
+    /// The client is sent to this node.
+    Redirect(NodeId),
+    /// The client is given this many bytes.
+    Serve(u64),
 }

@@ -1,6 +1,44 @@
-ghost use Rattle.oc_model.specs.Examples.{FirstPath};
+ghost use Rattle.oc_model.specs.ExamplesChoice.{Descent, ChooseAmong, CertificateRace, MergedCounts};
+ghost use Rattle.oc_model.specs.ExamplesContent.{FirstPath, FirstPathHeld, SealedGroup, SealedGroupHeld, ServedCounts};
+ghost use Rattle.oc_model.specs.ExamplesLeases.{FalseDeath, Quash, FailedParent};
+ghost use Rattle.oc_model.specs.ExamplesMoves.{CrossingMoves, StaleAncestors, StaleAncestorsSettled, ReverseMove};
+ghost use Rattle.oc_model.specs.ExamplesRoots.{TakeoverAndReturn, Healing, HealWithoutAChainMember};
 
-/// Worked examples compute from the definitions: what a schedule's events send and leave.
-pub fn examples_compute()
+/// How bytes spread, and how clients are counted.
+pub fn content_computes()
     ensures first_path { FirstPath }
+    ensures first_path_held { FirstPathHeld }
+    ensures sealed_group { SealedGroup }
+    ensures sealed_group_held { SealedGroupHeld }
+    ensures served_counts { ServedCounts }
+{}
+
+/// How a place is chosen, and which certificate stays.
+pub fn choices_compute()
+    ensures descent { Descent }
+    ensures choose_among { ChooseAmong }
+    ensures certificate_race { CertificateRace }
+    ensures merged_counts { MergedCounts }
+{}
+
+/// How nodes move, and who refuses them.
+pub fn moves_compute()
+    ensures crossing_moves { CrossingMoves }
+    ensures stale_ancestors { StaleAncestors }
+    ensures stale_ancestors_settled { StaleAncestorsSettled }
+    ensures reverse_move { ReverseMove }
+{}
+
+/// How leases end and changes are told.
+pub fn leases_compute()
+    ensures false_death { FalseDeath }
+    ensures quash { Quash }
+    ensures failed_parent { FailedParent }
+{}
+
+/// How a root takes over and gives way, and how a world heals.
+pub fn roots_compute()
+    ensures takeover_and_return { TakeoverAndReturn }
+    ensures heal { Healing }
+    ensures heal_without_a_chain_member { HealWithoutAChainMember }
 {}

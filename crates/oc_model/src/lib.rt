@@ -1,26 +1,38 @@
 //! What Overcast is, without memory, disk or text: the types that the rules speak of, and in `specs/`
 //! the rules of a node, the world of all nodes, and the claims about it.
 //!
-//! Read the definitions in this order: `Groups` (what a node holds), `Node` (its state and what a step
-//! leaves), `Content` (the rule by which bytes spread), `Step`, `World` (all nodes, all messages ever
-//! sent, the source; what one event does), `Claims`. Nothing in here runs: the code of the crates
-//! above is held to these definitions, and the laws of `oc_laws` are about them.
+//! Nothing in here runs: the code of the crates above is held to these definitions, and the laws of
+//! `oc_step_laws` and `oc_laws` are about them.
 #![tactic(auto)]
 
 mod answer;
+mod decisions;
 mod event;
 mod group;
 mod input;
 mod law;
+mod listing;
 mod message;
 mod mode;
+mod place;
+mod reading;
+mod record;
+mod soft;
+mod want;
 mod word;
 
 pub use answer::Answer;
+pub use decisions::decisions_compute;
 pub use event::{Act, Event};
 pub use group::Group;
 pub use input::Input;
-pub use law::examples_compute;
+pub use law::{choices_compute, content_computes, leases_compute, moves_compute, roots_compute};
+pub use listing::listings_are_exact;
 pub use message::{Body, Message};
 pub use mode::Mode;
+pub use place::{Candidate, Review};
+pub use reading::Reading;
+pub use record::Record;
+pub use soft::{Search, Soft};
+pub use want::Want;
 pub use word::Word;

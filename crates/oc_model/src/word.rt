@@ -11,4 +11,14 @@ pub enum Word {
     NoMessage,
     /// The node is up already.
     Up,
+    /// The node stopped, and what it was about to write was lost.
+    StoppedOld,
+    /// The node stopped, and what it was about to write was kept.
+    StoppedNew,
+    /// The network settled, in this many events.
+    Settled(u64),
+    /// The network can neither settle nor heal as it stands.
+    Unready,
+    /// The network healed, in this many events.
+    Healed(u64),
 }

@@ -3,7 +3,8 @@ use Rattle.std.specs.Prelude.{◌≡◌, ℕ, ◌<◌, ◌≤◌, ◌⊎◌, Lis
 use Rattle.std.specs.Borrow.{Bor}
 use Rattle.oc_base.specs.Why.{why_text}
 use Rattle.oc_model.specs.Claims.{HoldPrefixes, HoldAcknowledged, SealedAreWhole}
-use Rattle.oc_model.specs.World.{new_world, next_world, word_of}
+use Rattle.oc_model.specs.NextWorld.{next_world, word_of}
+use Rattle.oc_model.specs.World.{new_world}
 use Rattle.oc_laws.specs.Throughout.{Throughout}
 use Rattle.oc_outside.specs.Faults.{Rose}
 use Rattle.oc_replay.specs.Replay.{told_text}

@@ -3,14 +3,15 @@ use Rattle.std.proofs.Common.{◌≡◌, List, length, sym, ap, ◌∙◌, subst
 use Rattle.std.specs.List.{AllByRecursion}
 use Rattle.std.proofs.lemmas.List.FromFn.{length-range_with_len}
 use Rattle.oc_model.specs.declared.event.Event.{Event}
-use Rattle.oc_model.specs.Lawful.{IsEvent, IsHeader}
-use Rattle.oc_model.specs.World.{World, Header, ids}
+use Rattle.oc_model.specs.Lawful.{IsPlayable, IsHeader}
+use Rattle.oc_model.specs.Node.{Header}
+use Rattle.oc_model.specs.World.{World, ids}
 use Rattle.oc_schedule.specs.Schedule.{IsSchedule}
 use Rattle.oc_schedule.specs.Script.{Script}
 use Rattle.oc_world.specs.Stage.{IsBlank}
 
 -- the events are within the ranges of the world that the header opens
-pub opened-lawful : (first : Header → World) → ((h : Header) → IsHeader h → IsBlank h (first h)) → (s : Script) (h : Header) (w : World) (es : List Event) → h ≡ s.header → es ≡ s.events → w ≡ first h → IsSchedule s → AllByRecursion (IsEvent (length (ids w))) es
+pub opened-lawful : (first : Header → World) → ((h : Header) → IsHeader h → IsBlank h (first h)) → (s : Script) (h : Header) (w : World) (es : List Event) → h ≡ s.header → es ≡ s.events → w ≡ first h → IsSchedule s → AllByRecursion (IsPlayable (length (ids w))) es
 opened-lawful first opens s h w es header events opened schedule =
     let count : length (ids w) ≡ s.header.nodes =
     ap (λ (v : World). length (ids v)) opened

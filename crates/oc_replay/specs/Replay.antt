@@ -1,7 +1,8 @@
 use Rattle.std.specs.Prelude.{◌≡◌, ℕ, ◌<◌, Result, Err, List, length, fold}
 use Rattle.oc_model.specs.declared.event.Event.{Event}
 use Rattle.oc_model.specs.declared.word.Word.{Word}
-use Rattle.oc_model.specs.World.{World, Header}
+use Rattle.oc_model.specs.Node.{Header}
+use Rattle.oc_model.specs.World.{World}
 use Rattle.oc_schedule.specs.declared.fault.ScheduleFault.{ScheduleFault}
 use Rattle.oc_schedule.specs.declared.fault.ScheduleFault.TheVariants.{Limit}
 use Rattle.oc_schedule.specs.declared.fault.What.{What}

@@ -1,6 +1,6 @@
 use Rattle.std.specs.Prelude.{◌≡◌, ℕ, ◌+◌, Option, Some, None, List, [], ◌∷◌, ◌++◌, length, take, drop}
 use Rattle.oc_model.specs.declared.event.Event.{Event}
-use Rattle.oc_model.specs.declared.event.Event.TheVariants.{Up, Do, Held}
+use Rattle.oc_model.specs.declared.event.Event.TheVariants.{Held}
 use Rattle.oc_model.specs.declared.message.Message.{Message}
 use Rattle.oc_model.specs.declared.word.Word.{Word}
 use Rattle.oc_model.specs.Groups.{shelf}
@@ -12,8 +12,7 @@ use Rattle.oc_replay.specs.Lines.{event_line, message_line, messages_text, held_
 -- the block of an event, in the world after it
 abbrev pub block_text : World → Event → List ℕ
 block_text w (Held x) = held_text (shelf (node w x).groups)
-block_text w (Up x) = []
-block_text w (Do act) = []
+block_text w e = []
 
 -- the line of the message of this number, if there is one
 abbrev pub message_text : ℕ → Option Message → List ℕ

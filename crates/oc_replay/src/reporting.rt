@@ -2,7 +2,7 @@
 
 ghost use Rattle.std.specs.Prelude.{◌≡◌, ℕ, ◌+◌, ◌-◌, ◌^◌, ◌<◌, [], ◌++◌, length, drop, take, fold, OnOk, IfOk, OnErr, IsErrOf};
 ghost use Rattle.std.specs.List.{AllByRecursion};
-ghost use Rattle.oc_model.specs.Lawful.{IsEvent};
+ghost use Rattle.oc_model.specs.Lawful.{IsPlayable};
 ghost use Rattle.oc_model.specs.World.{ids, message_at};
 ghost use Rattle.oc_outside.specs.Faults.{NoFall, Rose};
 ghost use Rattle.oc_replay.specs.Lines.{messages_text};
@@ -53,7 +53,7 @@ pub(crate) fn report<K: Sink, T: Stage>(
     events: &[Event],
 ) -> Result<(), ReportFault>
     requires opened { (T.world stage.old).net ≡ [] }
-    requires lawful { AllByRecursion (IsEvent (length (ids (T.world stage.old)))) events.now }
+    requires lawful { AllByRecursion (IsPlayable (length (ids (T.world stage.old)))) events.now }
 
     // The whole report was taken, and the stage is at the last world.
     ensures told { OnOk result
@@ -95,14 +95,14 @@ fn tell<T: Stage>(
     number: u64,
     event: &Event,
 ) -> Result<u64, Memory>
-    requires { IsEvent (length (ids (T.world stage.old))) event.now }
+    requires { IsPlayable (length (ids (T.world stage.old))) event.now }
     ensures text { OnOk result (out.new.items ≡ out.old.items
         ++ event_text number (T.word (T.world stage.old) event.now) (T.world stage.old) (T.world stage.new) event.now) }
     ensures world { OnOk result (T.world stage.new ≡ T.after (T.world stage.old) event.now) }
     ensures sent { IfOk result (λ sent. sent ≡ length (T.world stage.new).net) }
 {
     let said = stage.event(event)?;
-    put_event(out, number, said.word)?;
+    put_event(out, number, &said.word)?;
     put_sent(out, stage, said)?;
     put_block(out, stage, event)?;
     Ok(said.first + said.count - 1)
@@ -135,12 +135,12 @@ fn put_one<T: Stage>(out: &mut Vec<u8>, stage: &T, number: u64) -> Result<(), Me
 
 /// Puts the block of an event.
 fn put_block<T: Stage>(out: &mut Vec<u8>, stage: &T, event: &Event) -> Result<(), Memory>
-    requires { IsEvent (length (ids (T.world stage.now))) event.now }
+    requires { IsPlayable (length (ids (T.world stage.now))) event.now }
     ensures { OnOk result (out.new.items ≡ out.old.items ++ block_text (T.world stage.now) event.now) }
 {
     match event {
         Event::Held(node) => put_held(out, &stage.held(*node)?),
-        Event::Up(_) | Event::Do(_) => Ok(()),
+        _ => Ok(()),
     }
 }
 

@@ -6,7 +6,7 @@ use Rattle.std.proofs.lemmas.Bool.Decides.{nat_tests}
 use Rattle.std.proofs.lemmas.List.Sums.{sum_by_push}
 use Rattle.oc_base.specs.declared.why.Why.{Why}
 use Rattle.oc_model.specs.declared.event.Event.{Event}
-use Rattle.oc_model.specs.Lawful.{IsEvent, IsHeader}
+use Rattle.oc_model.specs.Lawful.{IsPlayable, IsHeader}
 use Rattle.oc_schedule.proofs.Ranges.{event_range, header_range}
 use Rattle.oc_schedule.proofs.Steps.{steps, chosen, behind_guard}
 use Rattle.oc_schedule.specs.declared.fault.ScheduleFault.TheVariants.{Limit}
@@ -24,7 +24,7 @@ use Rattle.oc_schedule.specs.Script.{Script, published_by, published_in}
 -- a script before the line of this number, which is not the first
 record IsBefore (i : ℕ) (s : Script) : Type 0 where
   header : IsHeader s.header
-  events : AllByRecursion (IsEvent s.header.nodes) s.events
+  events : AllByRecursion (IsPlayable s.header.nodes) s.events
   few : length s.events + 2 ≤ i
   published : published_in s.events ≤ most_published
 
@@ -36,7 +36,7 @@ AreBefore i (Some s) = IsBefore i s
 -- what a line without the limit on published bytes leaves
 record IsSaid (i : ℕ) (s : Script) : Type 0 where
   header : IsHeader s.header
-  events : published_in s.events ≤ most_published → AllByRecursion (IsEvent s.header.nodes) s.events
+  events : published_in s.events ≤ most_published → AllByRecursion (IsPlayable s.header.nodes) s.events
   few : length s.events + 1 ≤ i
 
 later : (i : ℕ) (so_far : Option Script) → AreBefore i so_far → AreBefore (i + 1) so_far

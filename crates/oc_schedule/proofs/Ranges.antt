@@ -11,8 +11,8 @@ use Rattle.oc_model.specs.declared.event.Act.{Act}
 use Rattle.oc_model.specs.declared.event.Act.TheVariants.{Pull, Publish, Seal, Deliver}
 use Rattle.oc_model.specs.declared.event.Event.{Event}
 use Rattle.oc_model.specs.declared.event.Event.TheVariants.{Up, Do, Held}
-use Rattle.oc_model.specs.Lawful.{IsAct, IsEvent, IsHeader, IsNode}
-use Rattle.oc_model.specs.World.{Header}
+use Rattle.oc_model.specs.Lawful.{IsPlayableAct, IsPlayable, IsHeader, IsNode}
+use Rattle.oc_model.specs.Node.{Header}
 use Rattle.oc_schedule.proofs.Steps.{steps, chosen, behind_guard, within_guard}
 use Rattle.oc_schedule.specs.Fields.{one, two, three, six, is_number, number_in, node_in, group_in, bytes_in}
 use Rattle.oc_schedule.specs.Limits.{most_nodes, most_chain, most_area, most_number}
@@ -84,10 +84,10 @@ area_range nodes fields area h =
 -- Of an event that is read all is in range, where it does not publish too much.
 
 abbrev IsActIfFew : ℕ → Act → Type 0
-IsActIfFew nodes act = published_by (Do act) ≤ 1000000 → IsAct nodes act
+IsActIfFew nodes act = published_by (Do act) ≤ 1000000 → IsPlayableAct nodes act
 
 abbrev IsEventIfFew : ℕ → Event → Type 0
-IsEventIfFew nodes event = published_by event ≤ 1000000 → IsEvent nodes event
+IsEventIfFew nodes event = published_by event ≤ 1000000 → IsPlayable nodes event
 
 pull_range : (nodes : ℕ) (fields : List (List ℕ)) (act : Act) → pull_in nodes fields ≡ Ok act → IsActIfFew nodes act
 pull_range nodes fields act h =
@@ -156,7 +156,7 @@ alone_range nodes word fields event h =
     subst (IsEventIfFew nodes) same (act_range nodes word fields act is_act)
 
 -- an event that is read is one, where it does not publish too much
-pub event_range : (nodes : ℕ) (word : List ℕ) (fields : List (List ℕ)) (event : Event) → event_in nodes word fields ≡ Ok event → published_by event ≤ 1000000 → IsEvent nodes event
+pub event_range : (nodes : ℕ) (word : List ℕ) (fields : List (List ℕ)) (event : Event) → event_in nodes word fields ≡ Ok event → published_by event ≤ 1000000 → IsPlayable nodes event
 event_range nodes word fields event h =
     elim (chosen (bytes_eq word (codes "up")) _ _ _ h) [
       | inl up ↦ up_range nodes fields event up.1

@@ -6,7 +6,7 @@ use Rattle.oc_model.specs.declared.event.Act.{Act}
 use Rattle.oc_model.specs.declared.event.Act.TheVariants.{Pull, Publish, Seal, Deliver}
 use Rattle.oc_model.specs.declared.event.Event.{Event}
 use Rattle.oc_model.specs.declared.event.Event.TheVariants.{Up, Do, Held}
-use Rattle.oc_model.specs.World.{Header}
+use Rattle.oc_model.specs.Node.{Header}
 use Rattle.oc_schedule.specs.Fields.{one, two, three, six, number_in, node_in, group_in, bytes_in}
 use Rattle.oc_schedule.specs.Limits.{most_nodes, most_chain, most_area, most_number}
 use Rattle.oc_schedule.specs.Reading.{◌>>=◌, with_fault}

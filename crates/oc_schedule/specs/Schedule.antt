@@ -5,7 +5,7 @@ use Rattle.std.specs.Str.Lines.{lines}
 use Rattle.oc_base.specs.declared.why.Why.{Why}
 use Rattle.oc_base.specs.declared.why.Why.TheVariants as causes
 use Rattle.oc_model.specs.declared.event.Event.{Event}
-use Rattle.oc_model.specs.Lawful.{IsHeader, IsEvent}
+use Rattle.oc_model.specs.Lawful.{IsHeader, IsPlayable}
 use Rattle.oc_schedule.specs.declared.fault.ScheduleFault.{ScheduleFault}
 use Rattle.oc_schedule.specs.declared.fault.ScheduleFault.TheVariants.{Line, Limit}
 use Rattle.oc_schedule.specs.declared.fault.What.TheVariants as limits
@@ -99,6 +99,6 @@ schedule_of bytes = if nat_lt most_bytes (length bytes) then Err (Limit limits.B
 -- a schedule within the ranges and the limits: each line but the header gives an event at most
 pub record IsSchedule (s : Script) : Type 0 where
   pub header : IsHeader s.header
-  pub events : AllByRecursion (IsEvent s.header.nodes) s.events
+  pub events : AllByRecursion (IsPlayable s.header.nodes) s.events
   pub few : length s.events < most_lines
   pub published : published_in s.events ≤ most_published

@@ -3,7 +3,7 @@ use Rattle.std.specs.List.{sum_by}
 use Rattle.oc_model.specs.declared.event.Act.TheVariants as acts
 use Rattle.oc_model.specs.declared.event.Event.{Event}
 use Rattle.oc_model.specs.declared.event.Event.TheVariants.{Do}
-use Rattle.oc_model.specs.World.{Header}
+use Rattle.oc_model.specs.Node.{Header}
 
 -- what a schedule says: how the world opens, and what happens in it, in this order
 pub record Script : Type 0 where

@@ -7,10 +7,10 @@ use Rattle.oc_model.specs.declared.input.Input.{Input}
 use Rattle.oc_model.specs.declared.input.Input.TheVariants.{Publish, Delivered}
 use Rattle.oc_model.specs.declared.message.Body.TheVariants.{Chunk}
 use Rattle.oc_model.specs.Groups.{IsAscending}
-use Rattle.oc_model.specs.Content.{published, took_chunk}
-use Rattle.oc_model.specs.Node.{Outcome}
-use Rattle.oc_model.specs.Step.{step}
-use Rattle.oc_model.proofs.Outcomes.{step_ascends}
+use Rattle.oc_world.specs.Spread.{published, took_chunk}
+use Rattle.oc_world.specs.Spread.{Outcome}
+use Rattle.oc_world.specs.Spread.{step}
+use Rattle.oc_world.proofs.SpreadOutcomes.{step_ascends}
 use Rattle.oc_world.specs.Groups.{idle_node, quiet}
 
 -- the groups that a step leaves ascend

@@ -1,3 +1,8 @@
+pub mod LiftedSteps
+pub mod LiftedWorlds
+pub mod SpreadOutcomes
+pub mod SpreadPlaces
+pub mod SpreadProcesses
 pub mod Places
 pub mod Rules
 pub mod Source

@@ -3,8 +3,8 @@ use Rattle.std.proofs.Common.{◌≡◌, ℕ, suc, ◌+◌, ◌-◌, ◌<◌, Li
 use Rattle.std.specs.List.{range_with_len}
 use Rattle.std.proofs.lemmas.List.{length-map}
 use Rattle.std.proofs.lemmas.List.FromFn.{length-range_with_len}
-use Rattle.oc_model.specs.World.{Process, down}
-use Rattle.oc_model.proofs.Places.{ids-down, ids_in}
+use Rattle.oc_world.specs.SpreadWorld.{Process, down}
+use Rattle.oc_world.proofs.SpreadPlaces.{ids-down, ids_in}
 use Rattle.oc_world.specs.World.{IsNumbered}
 
 -- one more process was made

@@ -9,7 +9,7 @@ use Rattle.oc_model.specs.declared.group.Group.{Group}
 use Rattle.oc_model.specs.Groups.{group_of, with_group, IsAscending}
 use Rattle.oc_model.proofs.Groups.{above_lower}
 use Rattle.oc_model.proofs.Lists.{all_append}
-use Rattle.oc_model.proofs.Outcomes.{absent_below}
+use Rattle.oc_world.proofs.SpreadOutcomes.{absent_below}
 use Rattle.oc_world.specs.Groups.{IsPlace}
 use Rattle.oc_world.specs.declared.groups.Place.TheVariants.{Found, Free}
 

@@ -11,8 +11,9 @@ use Rattle.oc_model.specs.declared.answer.Answer.{Answer}
 use Rattle.oc_model.specs.declared.answer.Answer.TheVariants as answers
 use Rattle.oc_model.specs.declared.group.Group.{Group}
 use Rattle.oc_model.specs.Groups.{group_of, with_group, group_or_empty, or_empty, most_bytes, most_groups}
-use Rattle.oc_model.specs.Content.{published, publish_to, sealed_at, seal_group, took_chunk, chunk_to, adds, grown, fetched, answers_fetch, first_behind, is_behind, line_of, held_in, chunk_at}
-use Rattle.oc_model.specs.Node.{Outcome}
+use Rattle.oc_world.specs.Spread.{published, publish_to, sealed_at, seal_group, took_chunk, chunk_to, adds, grown, fetched, answers_fetch, first_behind, is_behind, held_in, chunk_at}
+use Rattle.oc_model.specs.Shelves.{line_of}
+use Rattle.oc_world.specs.Spread.{Outcome}
 use Rattle.oc_world.specs.Groups.{IsPlace, idle_node, quiet, answered, publish_one, chunk_one}
 use Rattle.oc_world.specs.declared.groups.Place.TheVariants.{Found, Free}
 

@@ -6,13 +6,15 @@ use Rattle.oc_model.specs.declared.input.Input.{Input}
 use Rattle.oc_model.specs.declared.input.Input.TheVariants as inputs
 use Rattle.oc_model.specs.declared.message.Body.{Body}
 use Rattle.oc_model.specs.declared.message.Body.TheVariants.{Fetch, Chunk}
-use Rattle.oc_model.specs.Groups.{group_of, group_or_empty, or_empty, with_group, limit}
-use Rattle.oc_model.specs.Content.{published, publish_to, sealed_at, seal_group, fetches, first_behind, answers_fetch, chunk_to}
-use Rattle.oc_model.specs.Node.{Node, Outcome, says, keeps, unless}
-use Rattle.oc_model.specs.Step.{step, received}
-use Rattle.oc_model.specs.World.{Process, process_in, with_process, source_after}
-use Rattle.oc_model.proofs.Outcomes.{either, on_true, on_false, within}
-use Rattle.oc_model.proofs.Processes.{process_in-me, process_in-with_other, process_in-with_up}
+use Rattle.oc_model.specs.Groups.{group_of, group_or_empty, or_empty, with_group}
+use Rattle.oc_world.specs.Spread.{limit}
+use Rattle.oc_world.specs.Spread.{published, publish_to, sealed_at, seal_group, fetches, first_behind, answers_fetch, chunk_to}
+use Rattle.oc_world.specs.Spread.{Node, Outcome, says, keeps, unless}
+use Rattle.oc_world.specs.Spread.{step, received}
+use Rattle.oc_world.specs.SpreadWorld.{Process, process_in, with_process}
+use Rattle.oc_model.specs.World.{source_after}
+use Rattle.oc_world.proofs.SpreadOutcomes.{either, on_true, on_false, within}
+use Rattle.oc_world.proofs.SpreadProcesses.{process_in-me, process_in-with_other, process_in-with_up}
 
 -- whatever a node answers to a publish, a source that was what it holds is what it holds then
 abbrev Owns : Node → Input → Outcome → Type 0
@@ -25,7 +27,7 @@ publish_owned n g bytes =
     let k : Group = group_or_empty g n.groups in
     either (n.me == 1) P (publish_to n k bytes) (says n answers.NotSource)
     (either k.sealed P (says n answers.Sealed) (unless (limit n.groups k.name (length k.bytes + length bytes)) n (keeps n (record k { bytes = k.bytes ++ bytes }))) refl
-    (within P n n.groups k.name (length k.bytes + length bytes) (keeps n (record k { bytes = k.bytes ++ bytes })) refl refl (λ room few. refl)))
+    (within P n n.groups k.name (length k.bytes + length bytes) (keeps n (record k { bytes = k.bytes ++ bytes })) refl refl refl))
     refl
 
 -- after a seal
@@ -47,6 +49,7 @@ received_owned n p (Fetch have) own = by_found (first_behind have n.groups) wher
   by_found (Some k) = refl
 received_owned n p (Chunk g start bytes last) own =
     on_true (n.me == 1) (eq-eqb n.me 1 own) (λ o. n.groups ≡ o.node.groups) (says n answers.Ignored) (chunk_to n p (group_or_empty g n.groups) start bytes last) refl
+received_owned n p body own = refl
 
 -- and after any input to node 1
 pub step_owned : (n : Node) (i : Input) → n.me ≡ 1 → Owns n i (step n i)
@@ -54,6 +57,7 @@ step_owned n (inputs.Pull p) own = either (p == n.me) (Owns n (inputs.Pull p)) (
 step_owned n (inputs.Publish g bytes) own = publish_owned n g bytes
 step_owned n (inputs.Seal g) own = seal_owned n g
 step_owned n (inputs.Delivered m) own = received_owned n m.from m.body own
+step_owned n input own = refl
 
 -- no other node changes the source
 pub step_elsewhere : (s : List Group) (n : Node) (i : Input) → n.me ≢ 1 → source_after s i (step n i).answer ≡ s
@@ -61,6 +65,7 @@ step_elsewhere s n (inputs.Pull p) away = refl
 step_elsewhere s n (inputs.Publish g bytes) away = on_false (n.me == 1) (ne_eqb n.me 1 away) (λ o. source_after s (inputs.Publish g bytes) o.answer ≡ s) (publish_to n (group_or_empty g n.groups) bytes) (says n answers.NotSource) refl
 step_elsewhere s n (inputs.Seal g) away = on_false (n.me == 1) (ne_eqb n.me 1 away) (λ o. source_after s (inputs.Seal g) o.answer ≡ s) (seal_group n (group_of g n.groups)) (says n answers.NotSource) refl
 step_elsewhere s n (inputs.Delivered m) away = refl
+step_elsewhere s n input away = refl
 
 -- what node 1 holds after a step at x, where it was the source before
 pub own_source : (ps : List Process) (x : ℕ) (i : Input) → (process_in ps x).up ≡ true → (step (process_in ps x).node i).node.me ≡ x →

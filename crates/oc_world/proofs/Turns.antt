@@ -9,12 +9,13 @@ use Rattle.oc_model.specs.declared.input.Input.{Input}
 use Rattle.oc_model.specs.declared.input.Input.TheVariants as inputs
 use Rattle.oc_model.specs.declared.message.Message.{Message}
 use Rattle.oc_model.specs.declared.word.Word.TheVariants as words
-use Rattle.oc_model.specs.Node.{Node, Outcome, restarted}
-use Rattle.oc_model.specs.Step.{step, received}
-use Rattle.oc_model.specs.World.{Process, process_in, with_process, acted, word_of_act, started, stepped, message_at, delivery}
-use Rattle.oc_model.proofs.Outcomes.{step_me}
-use Rattle.oc_model.proofs.Processes.{process_in-me, at_put}
-use Rattle.oc_model.proofs.Places.{process_in-place, with_process-place, ids-with_process, ids_in, process_in-outside}
+use Rattle.oc_world.specs.Spread.{Node, Outcome}
+use Rattle.oc_world.specs.Spread.{step, received}
+use Rattle.oc_world.specs.SpreadWorld.{Process, process_in, with_process, acted, word_of_act, started, stepped}
+use Rattle.oc_model.specs.World.{message_at, delivery}
+use Rattle.oc_world.proofs.SpreadOutcomes.{step_me}
+use Rattle.oc_world.proofs.SpreadProcesses.{process_in-me, at_put}
+use Rattle.oc_world.proofs.SpreadPlaces.{process_in-place, with_process-place, ids-with_process, ids_in, process_in-outside}
 use Rattle.oc_world.specs.World.{world_of, IsNumbered}
 use Rattle.oc_world.proofs.Source.{own_source}
 
@@ -69,11 +70,11 @@ turn_quiet ps net x i p q input a numbered at within is up stays went =
     (ap (world_of (slice_set ps i q)) (sym (append-nil net)) ∙ turn.0, turn.1)
 
 -- a start of a node that is down
-pub turn_start : (ps : List Process) (net : List Message) (x i : ℕ) (p q : Process) → IsNumbered ps → i + 1 ≡ x → x ≤ length ps → process_in ps x ≡ p → p.up ≡ false → q ≡ record { node = restarted p.node; up = true } →
+pub turn_start : (ps : List Process) (net : List Message) (x i : ℕ) (p q : Process) → IsNumbered ps → i + 1 ≡ x → x ≤ length ps → process_in ps x ≡ p → p.up ≡ false → q ≡ record { node = p.node; up = true } →
     (world_of (slice_set ps i q) net ≡ started (world_of ps net) (process_in ps x)) × (words.Node answers.Ok ≡ (if (process_in ps x).up then words.Up else words.Node answers.Ok))
 turn_start ps net x i p q numbered at within is down new =
     let off : (process_in ps x).up ≡ false = ap (λ (r : Process). r.up) is ∙ down in
-    let started_at : q ≡ record { node = restarted (process_in ps x).node; up = true } = new ∙ ap (λ (r : Process). record { node = restarted r.node; up = true }) (sym is) in
+    let started_at : q ≡ record { node = (process_in ps x).node; up = true } = new ∙ ap (λ (r : Process). record { node = r.node; up = true }) (sym is) in
     let me : q.node.me ≡ x = ap (λ (r : Process). r.node.me) started_at ∙ process_in-me ps x in
     let put : slice_set ps i q ≡ with_process ps q = sym (written ps x i q numbered at within me) in
     let same : (process_in (with_process ps q) 1).node.groups ≡ (process_in ps 1).node.groups =

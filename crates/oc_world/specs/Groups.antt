@@ -2,17 +2,16 @@ use Rattle.std.specs.Prelude.{◌≡◌, ℕ, ◌+◌, ◌<◌, ◌≤◌, Bool,
 use Rattle.oc_model.specs.declared.answer.Answer.{Answer}
 use Rattle.oc_model.specs.declared.answer.Answer.TheVariants as answers
 use Rattle.oc_model.specs.declared.group.Group.{Group}
-use Rattle.oc_model.specs.declared.mode.Mode.TheVariants.{Idle}
 use Rattle.oc_model.specs.Groups.{group_of, with_group, most_bytes}
-use Rattle.oc_model.specs.Content.{adds, grown}
+use Rattle.oc_world.specs.Spread.{adds, grown}
 use Rattle.oc_model.specs.declared.message.Message.{Message}
-use Rattle.oc_model.specs.Node.{Node, Outcome}
+use Rattle.oc_world.specs.Spread.{Node, Outcome}
 use Rattle.oc_world.specs.declared.groups.Place.{Place}
 use Rattle.oc_world.specs.declared.groups.Place.TheVariants.{Found, Free}
 
--- a node of the world in memory: it is in no tree, and no clock runs
+-- a node of the world in memory
 abbrev pub idle_node : ℕ → List Group → Node
-idle_node x ks = record { me = x; mode = Idle; groups = ks; clock = 0 }
+idle_node x ks = record { me = x; groups = ks }
 
 -- the group of this name stands at i, or is absent and would stand there
 abbrev pub IsPlace : List Group → List ℕ → Place → Type 0

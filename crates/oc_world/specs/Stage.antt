@@ -4,7 +4,8 @@ use Rattle.oc_model.specs.declared.group.Group.{Group}
 use Rattle.oc_model.specs.declared.message.Message.{Message}
 use Rattle.oc_model.specs.declared.word.Word.{Word}
 use Rattle.oc_model.specs.Groups.{most_groups, most_bytes, IsAscending}
-use Rattle.oc_model.specs.World.{World, Process, Header, ids}
+use Rattle.oc_model.specs.Node.{Header}
+use Rattle.oc_model.specs.World.{World, Process, ids}
 use Rattle.oc_world.specs.declared.stage.Said.{Said}
 
 -- what is said of an event that turned one world into another: this word, and by which messages the net grew
@@ -20,7 +21,7 @@ HoldsNothing p = p.node.groups ≡ []
 
 -- its clock is not past this time
 abbrev pub IsBefore : ℕ → Process → Type 0
-IsBefore t p = p.node.clock ≤ t
+IsBefore t p = p.node.control.soft.clock ≤ t
 
 -- the ids are those of the header, nothing was sent, no group is held, and no clock is past 2^40
 pub record IsBlank (h : Header) (w : World) : Type 0 where

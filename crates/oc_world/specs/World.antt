@@ -3,7 +3,7 @@ use Rattle.std.specs.List.{range_with_len}
 use Rattle.oc_model.specs.declared.event.Event.{Event}
 use Rattle.oc_model.specs.declared.message.Message.{Message}
 use Rattle.oc_model.specs.declared.word.Word.{Word}
-use Rattle.oc_model.specs.World.{World, Process, process_in, next_world, word_of}
+use Rattle.oc_world.specs.SpreadWorld.{World, Process, process_in, next_world, word_of}
 
 -- the world of these processes and messages: the source is what node 1 holds
 abbrev pub world_of : List Process → List Message → World

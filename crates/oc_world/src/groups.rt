@@ -3,7 +3,8 @@
 ghost use Rattle.std.specs.Prelude.{◌≡◌, ◌≢◌, ℕ, ◌+◌, ◌-◌, ◌≤◌, ◌==◌, ◌&&◌, true, if◌then◌else◌, [], ◌∷◌, ◌++◌, length, take, drop, insert, IfOk, OnOk, OnErr};
 ghost use Rattle.std.specs.Option.{option_copied, option_to_list};
 ghost use Rattle.oc_model.specs.Groups.{group_of, shelf, most_chunk, IsAscending};
-ghost use Rattle.oc_model.specs.Content.{published, sealed_at, fetched, took_chunk, line_of, is_behind, held_in, first_behind, chunk_at};
+ghost use Rattle.oc_world.specs.Spread.{published, sealed_at, fetched, took_chunk, is_behind, held_in, first_behind, chunk_at};
+ghost use Rattle.oc_model.specs.Shelves.{line_of};
 ghost use Rattle.oc_world.specs.Groups.{IsPlace, publish_one, chunk_one, idle_node, quiet, answered};
 
 use oc_base::{Bytes, GroupName, Memory, NodeId, Shelf};

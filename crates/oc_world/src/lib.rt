@@ -6,6 +6,7 @@
 #![tactic(auto)]
 
 mod groups;
+mod network;
 mod process;
 mod stage;
 mod world;

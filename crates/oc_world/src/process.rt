@@ -3,10 +3,9 @@
 ghost use Rattle.std.specs.Prelude.{◌≡◌, ◌==◌, ℕ, true, [], ◌∷◌, IfOk, OnErr};
 ghost use Rattle.std.specs.Option.{option_to_list};
 ghost use Rattle.oc_model.specs.Groups.{shelf};
-ghost use Rattle.oc_model.specs.Content.{published, sealed_at, pulled, fetched, took_chunk};
-ghost use Rattle.oc_model.specs.Node.{restarted};
-ghost use Rattle.oc_model.specs.Step.{received};
-ghost use Rattle.oc_model.specs.World.{down};
+ghost use Rattle.oc_world.specs.Spread.{published, sealed_at, pulled, fetched, took_chunk};
+ghost use Rattle.oc_world.specs.Spread.{received};
+ghost use Rattle.oc_world.specs.SpreadWorld.{down};
 ghost use Rattle.oc_world.specs.Groups.{pull_answer};
 
 use crate::groups;
@@ -24,7 +23,7 @@ pub struct Process {
 }
 
 impl Model for Process {
-    ghost use Rattle.oc_model.specs.World.{Process as ProcessState};
+    ghost use Rattle.oc_world.specs.SpreadWorld.{Process as ProcessState};
     ghost use Rattle.oc_model.specs.Groups.{IsAscending};
     ghost use Rattle.oc_world.specs.Groups.{idle_node};
 
@@ -62,7 +61,7 @@ impl Process {
 
     /// A start: what was held is held, and nothing else is left.
     pub fn start(&mut self)
-        ensures { self.new ≡ record { node = restarted self.old.node; up = true } }
+        ensures { self.new ≡ record { node = self.old.node; up = true } }
     {
         self.up = true;
     }
@@ -179,5 +178,6 @@ pub fn receive(
             let answer = process.take_chunk(alloc, group, *start, bytes.items(), *last)?;
             Ok((None, answer))
         }
+        _ => Ok((None, Answer::Ignored)),
     }
 }

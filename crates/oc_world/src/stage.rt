@@ -3,8 +3,9 @@ ghost use Rattle.std.specs.List.{range_with_len};
 ghost use Rattle.oc_model.specs.declared.event.Event.{Event as ModelEvent};
 ghost use Rattle.oc_model.specs.declared.word.Word.{Word as ModelWord};
 ghost use Rattle.oc_model.specs.Groups.{shelf};
-ghost use Rattle.oc_model.specs.Lawful.{IsHeader, IsEvent, IsNode};
-ghost use Rattle.oc_model.specs.World.{World as WorldState, Header, ids, node as node_in, message_at};
+ghost use Rattle.oc_model.specs.Lawful.{IsHeader, IsPlayable, IsNode};
+ghost use Rattle.oc_model.specs.Node.{Header};
+ghost use Rattle.oc_model.specs.World.{World as WorldState, ids, node as node_in, message_at};
 ghost use Rattle.oc_world.specs.Stage.{IsSaid, IsBlank, IsLater, KeepsTime, KeepsLimits};
 
 use oc_base::{Memory, NodeId, Shelf};
@@ -46,7 +47,7 @@ pub trait Stage {
 
     /// Does what an event does. Nothing is said of the stage after want of memory.
     fn event(&mut self, event: &Event) -> Result<Said, Memory>
-        requires { IsEvent (length (ids (world self.old))) event.now }
+        requires { IsPlayable (length (ids (world self.old))) event.now }
         ensures world { OnOk result (world self.new ≡ after (world self.old) event.now) }
         ensures said { IfOk result (λ said. IsSaid (word (world self.old) event.now) (world self.old) (world self.new) said) };
 
@@ -63,14 +64,14 @@ pub trait Stage {
     ghost opens: { (h : Header) → IsHeader h → IsBlank h (first h) };
 
     /// An event changes no id.
-    ghost keeps_ids: { (w : WorldState) (e : ModelEvent) → IsEvent (length (ids w)) e → ids (after w e) ≡ ids w };
+    ghost keeps_ids: { (w : WorldState) (e : ModelEvent) → IsPlayable (length (ids w)) e → ids (after w e) ≡ ids w };
 
     /// All that was sent stays sent.
-    ghost keeps_net: { (w : WorldState) (e : ModelEvent) → IsEvent (length (ids w)) e → IsLater w (after w e) };
+    ghost keeps_net: { (w : WorldState) (e : ModelEvent) → IsPlayable (length (ids w)) e → IsLater w (after w e) };
 
     /// An event takes no clock past the latest one, or past 2^40, by more than 60 seconds.
-    ghost keeps_time: { (w : WorldState) (e : ModelEvent) → IsEvent (length (ids w)) e → KeepsTime w (after w e) };
+    ghost keeps_time: { (w : WorldState) (e : ModelEvent) → IsPlayable (length (ids w)) e → KeepsTime w (after w e) };
 
     /// Where each node's groups ascend by name and are within the limits, they are so after an event.
-    ghost keeps_limits: { (w : WorldState) (e : ModelEvent) → IsEvent (length (ids w)) e → KeepsLimits w (after w e) };
+    ghost keeps_limits: { (w : WorldState) (e : ModelEvent) → IsPlayable (length (ids w)) e → KeepsLimits w (after w e) };
 }

@@ -1,7 +1,8 @@
 //! A stage on which nothing happens: the word of each event is `down`.
 
 ghost use Rattle.std.specs.Prelude.{◌≡◌};
-ghost use Rattle.oc_model.specs.World.{Header, new_world};
+ghost use Rattle.oc_model.specs.Node.{Header};
+ghost use Rattle.oc_model.specs.World.{new_world};
 
 use oc_base::{Memory, NodeId, Shelf};
 use oc_model::{Event, Message, Word};
@@ -30,10 +31,9 @@ impl AlwaysDown {
 
 impl Stage for AlwaysDown {
     ghost use Rattle.std.specs.Prelude.{refl};
-    ghost use Rattle.oc_model.specs.declared.event.Event.TheVariants.{Held};
     ghost use Rattle.oc_model.specs.declared.word.Word.TheVariants.{Down};
     ghost use Rattle.oc_model.specs.World.{new_world};
-    ghost use Rattle.oc_world.specs.WorldLaws.{world_opens, world_later, world_keeps_time, world_keeps_limits};
+    ghost use Rattle.oc_world.specs.WorldLaws.{world_opens, same_net, same_time, same_limits};
 
     ghost world = { λ s. new_world (record { nodes = s.nodes; chain = s.chain; areas = s.areas.items }) };
 
@@ -70,10 +70,9 @@ impl Stage for AlwaysDown {
 
     ghost keeps_ids = { λ w e _. refl };
 
-    // An event that only shows something changes nothing either.
-    ghost keeps_net = { λ w e _. world_later w (Held 1) };
+    ghost keeps_net = { λ w e _. same_net w };
 
-    ghost keeps_time = { λ w e _. world_keeps_time w (Held 1) };
+    ghost keeps_time = { λ w e _. same_time w };
 
-    ghost keeps_limits = { λ w e _. world_keeps_limits w (Held 1) };
+    ghost keeps_limits = { λ w e _. same_limits w };
 }

@@ -1,4 +1,5 @@
-use Rattle.oc_model.specs.World.{new_world, world_after}
+use Rattle.oc_model.specs.NextWorld.{world_after}
+use Rattle.oc_model.specs.World.{new_world}
 use Rattle.oc_laws.proofs.Kept.{sound_always, sound_prefixes, sound_acknowledged, sound_whole, sound_chunks, sound_sealed}
 use Rattle.oc_laws.proofs.content.content_stays_true.Goals as goal
 

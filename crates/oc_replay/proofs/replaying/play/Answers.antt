@@ -1,5 +1,5 @@
 use Rattle.std.proofs.Common.{List, ◌∙◌, ap, ℕ}
-use Rattle.oc_model.specs.World.{Header}
+use Rattle.oc_model.specs.Node.{Header}
 use Rattle.oc_schedule.specs.Script.{Script}
 use Rattle.oc_replay.proofs.Opened.{opened-lawful}
 use Rattle.oc_replay.proofs.replaying.play.Goals as goal

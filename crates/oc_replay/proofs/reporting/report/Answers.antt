@@ -1,6 +1,6 @@
 use Rattle.std.proofs.Common.{ℕ, ◌+◌, List, [], length, take, drop, sym, ap, ◌∙◌, subst, arith}
 use Rattle.std.specs.List.{AllByRecursion}
-use Rattle.oc_model.specs.Lawful.{IsEvent}
+use Rattle.oc_model.specs.Lawful.{IsPlayable}
 use Rattle.oc_model.specs.World.{ids}
 use Rattle.oc_replay.specs.Report.{told_from, run_text}
 use Rattle.oc_replay.proofs.Runs.{All-drop, written-next, written-end, fold-take}
@@ -20,11 +20,11 @@ loop-place-preserved g c =
     let next = stage.world c.tell.new.stage in
     let text = run_text stage.after stage.word opened events in
     let written = written-next stage.after stage.word takes c.args.sink.now c.loop-place.sink c.loop-place.out.items c.tell.new.out.items text place world next events event (omega arith) c.index-events-place.is c.in_ok-sent.ensures.world c.in_ok-sent.ensures.text c.loop-place.invariant.written in
-    let lawful = All-drop (IsEvent (length (ids world))) events place event (omega arith) c.index-events-place.is c.loop-place.invariant.lawful in
+    let lawful = All-drop (IsPlayable (length (ids world))) events place event (omega arith) c.index-events-place.is c.loop-place.invariant.lawful in
     record {
       written = passes takes g.met.K.Sink.takes_then c.args.sink.now c.loop-place.sink c.pass_on.new.sink c.tell.new.out.items c.pass_on.new.out.items (told_from stage.after stage.word (place + 1) next (drop (place + 1) events)) text c.in_ok-pass_on.ensures.passed written;
       played = fold-take stage.after stage.word place opened world next events event (omega arith) c.index-events-place.is c.in_ok-sent.ensures.world c.loop-place.invariant.played;
-      lawful = subst (λ (xs : List ℕ). AllByRecursion (IsEvent (length xs)) (drop (place + 1) events)) (sym (ap ids c.in_ok-sent.ensures.world ∙ g.met.T.Stage.keeps_ids world event lawful.0)) lawful.1;
+      lawful = subst (λ (xs : List ℕ). AllByRecursion (IsPlayable (length xs)) (drop (place + 1) events)) (sym (ap ids c.in_ok-sent.ensures.world ∙ g.met.T.Stage.keeps_ids world event lawful.0)) lawful.1;
       sent = c.in_ok-sent.ensures.sent;
       count = omega (arith, c.in_ok-pass_on.ensures.count);
     }

@@ -1,6 +1,6 @@
 use Rattle.std.proofs.Common.{◌≡◌, length, take, drop, fold}
 use Rattle.std.specs.List.{AllByRecursion}
-use Rattle.oc_model.specs.Lawful.{IsEvent}
+use Rattle.oc_model.specs.Lawful.{IsPlayable}
 use Rattle.oc_model.specs.World.{ids}
 use Rattle.oc_outside.specs.Faults.{NoFall}
 use Rattle.oc_replay.specs.Report.{told_from, run_text}
@@ -17,7 +17,7 @@ invariant-loop-place g l =
     record {
       written : IsWritten g.K.Sink.takes l.fn.sink l.sink l.out.items (told_from after word l.place world (drop l.place l.events)) (run_text after word opened l.events);
       played : world ≡ fold after opened (take l.place l.events);
-      lawful : AllByRecursion (IsEvent (length (ids world))) (drop l.place l.events);
+      lawful : AllByRecursion (IsPlayable (length (ids world))) (drop l.place l.events);
       sent : l.sent ≡ length world.net;
       count : NoFall (g.K.Sink.faults l.fn.sink) (g.K.Sink.faults l.sink);
     }

@@ -1,5 +1,5 @@
 use Rattle.std.proofs.Common.{◌≡◌, drop}
-use Rattle.oc_model.specs.Content.{first_behind}
+use Rattle.oc_world.specs.Spread.{first_behind}
 use Rattle.oc_world.proofs.groups.answer_fetch.Given as goal
 
 -- the asker is behind in no group so far

@@ -1,15 +1,11 @@
-use Rattle.std.proofs.Common.{◌≤◌, ◌∙◌, sym, ap, subst, length, arith}
-use Rattle.std.proofs.lemmas.List.{length-map}
+use Rattle.std.proofs.Common.{◌∙◌, sym, ap}
 use Rattle.std.proofs.lemmas.Result.{IfOk-weaker}
 use Rattle.oc_model.specs.Groups.{shelf}
-use Rattle.oc_model.specs.World.{World, Process, ids}
-use Rattle.oc_world.proofs.Turns.{read_process}
+use Rattle.oc_model.specs.Node.{Header}
+use Rattle.oc_world.proofs.LiftedWorlds.{groups_is}
 use Rattle.oc_world.proofs.world.World.held.Goals as goal
 
 pub returns : goal.returns
 returns c =
-    let ps = c.self.inside.processes.items in
-    let known = subst (λ (w : World). c.args.node ≤ length (ids w)) (sym c.self.view_is) c.requires.1 in
-    let within : c.args.node ≤ length ps = omega (arith, length-map ps (λ p. p.node.me), known) in
-    let same = read_process ps c.args.node c.place_of.result c.index.result.now c.self.invariant c.place_of.ensures within c.index.ensures in
-    rw (← c.self.view_is) (IfOk-weaker c.shelf.result _ _ (λ lines h. h ∙ ap (λ (p : Process). shelf p.node.groups) (sym same)) c.shelf.ensures)
+    let h : Header = record { nodes = c.self.inside.nodes; chain = c.self.inside.chain; areas = c.self.inside.areas.items } in
+    rw (← c.self.view_is) (IfOk-weaker c.held.result _ _ (λ lines said. said ∙ ap shelf (sym (groups_is h c.self.inside.network.processes c.args.node))) c.held.ensures)

@@ -5,4 +5,4 @@ use Rattle.program_examples.proofs.New.{holds_nothing}
 use Rattle.program_examples.proofs.always_down.AlwaysDownStage.held.Goals as goal
 
 pub returns : goal.returns
-returns c = c.new.ensures.items ∙ sym (ap shelf (holds_nothing (range_with_len 1 c.args.self.now.nodes) c.args._node))
+returns c = c.new.ensures.items ∙ sym (ap shelf (holds_nothing (record { nodes = c.args.self.now.nodes; chain = c.args.self.now.chain; areas = c.args.self.now.areas.items }) (range_with_len 1 c.args.self.now.nodes) c.args._node))

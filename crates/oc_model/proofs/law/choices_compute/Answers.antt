@@ -1,0 +1,14 @@
+use Rattle.std.proofs.Common.{refl}
+use Rattle.oc_model.proofs.law.choices_compute.Goals as goal
+
+pub returns-clause-descent : goal.returns-clause-descent
+returns-clause-descent c = refl
+
+pub returns-clause-choose_among : goal.returns-clause-choose_among
+returns-clause-choose_among c = (refl, refl)
+
+pub returns-clause-certificate_race : goal.returns-clause-certificate_race
+returns-clause-certificate_race c = record { told = (refl, refl); death_second = (refl, refl); birth_second = (refl, refl); birth_last = (refl, refl); death_first = (refl, refl); death_before = (refl, refl) }
+
+pub returns-clause-merged_counts : goal.returns-clause-merged_counts
+returns-clause-merged_counts c = refl

@@ -1,0 +1,41 @@
+use Rattle.std.specs.Prelude.{◌≡◌, ℕ, ◌+◌, ◌-◌, Bool, ◌&&◌, nat_lt, nat_le, if◌then◌else◌, List, [], ◌∷◌, ◌++◌, length, take, drop}
+use Rattle.oc_base.specs.declared.cert.Cert.{Cert}
+use Rattle.oc_model.specs.Node.{Log}
+use Rattle.oc_model.specs.Numbers.{IsAmong}
+
+-- The change log: the certificates for the parent, in the order in which they came. Places are counted from its beginning.
+
+-- a new log of the whole table, none of it acknowledged
+abbrev pub begun_with : List Cert → Log
+begun_with t = record { length = length t; acked = 0; waiting = t }
+
+-- the certificate at the end
+abbrev pub note : Log → Cert → Log
+note l c = record { length = l.length + 1; acked = l.acked; waiting = l.waiting ++ c ∷ [] }
+
+-- whether acknowledging up to this place tells anything new: it lies past those acknowledged, and within the log
+abbrev pub is_ahead : Log → ℕ → Bool
+is_ahead l upto = nat_lt l.acked upto && nat_le upto l.length
+
+-- acknowledged up to this place
+abbrev pub ack : Log → ℕ → Log
+ack l upto = if is_ahead l upto then record { length = l.length; acked = upto; waiting = drop (upto - l.acked) l.waiting } else l
+
+-- a log of this length, all of it acknowledged
+abbrev pub acked_whole : ℕ → Log
+acked_whole n = record { length = n; acked = n; waiting = [] }
+
+-- there is something about x that the parent has not acknowledged
+abbrev pub IsWaiting : Log → ℕ → Type 0
+IsWaiting l x = (c : Cert) × IsAmong c l.waiting × (c.subject ≡ x)
+
+-- the greatest number of certificates in a check-in
+abbrev pub most_certs : ℕ
+most_certs = 64
+
+-- the certificates of the next check-in, and the place after them
+abbrev pub next_certs : Log → List Cert
+next_certs l = take most_certs l.waiting
+
+abbrev pub place_after : Log → ℕ
+place_after l = l.acked + length (next_certs l)

@@ -1,0 +1,74 @@
+use Rattle.std.specs.Prelude.{ℕ, ◌*◌, min, Bool, not, ◌&&◌, ◌||◌, ◌==◌, nat_lt, nat_le, if◌then◌else◌, Option, Some, None, List, [], ◌∷◌, ◌++◌, filter, option_map, zero, suc}
+use Rattle.std.specs.List.{range_with_len}
+use Rattle.oc_model.specs.declared.place.Candidate.{Candidate}
+use Rattle.oc_model.specs.declared.place.Review.{Review}
+use Rattle.oc_model.specs.declared.place.Review.TheVariants as reviews
+use Rattle.oc_model.specs.Numbers.{has}
+
+-- Where a node looks for a place.
+
+-- the rate of the way through a candidate
+abbrev pub through : Candidate → ℕ
+through c = min c.mine c.up
+
+-- whether the way through a candidate was measured, and is about as good as the direct one: at most a tenth worse
+abbrev pub is_suitable : ℕ → Candidate → Bool
+is_suitable direct c = not (c.mine == 0) && not (c.up == 0) && nat_le (9 * direct) (10 * through c)
+
+-- whether a candidate is nearer than another: by hops, then by id
+abbrev pub is_nearer : Candidate → Candidate → Bool
+is_nearer c d = nat_lt c.hops d.hops || (c.hops == d.hops && nat_lt c.id d.id)
+
+abbrev pub nearer_of : Candidate → Option Candidate → Candidate
+nearer_of c None = c
+nearer_of c (Some d) = if is_nearer d c then d else c
+
+-- the nearest of these
+abbrev pub nearest : List Candidate → Option Candidate
+nearest [] = None
+nearest (c ∷ cs) = Some (nearer_of c (nearest cs))
+
+-- the nearest of the suitable candidates
+abbrev pub chosen : ℕ → List Candidate → Option ℕ
+chosen direct cs = option_map (λ c. c.id) (nearest (filter (is_suitable direct) cs))
+
+-- what a joined node sees of its place: the own rate to its parent, that of its parent to the grandparent, the grandparent with
+-- the own rate to it, and the other children of its parent
+pub record View : Type 0 where
+  pub direct : ℕ
+  pub up : ℕ
+  pub grand : Option (ℕ × ℕ)
+  pub siblings : List Candidate
+
+abbrev pub go_beneath : Option ℕ → Review
+go_beneath None = reviews.Stay
+go_beneath (Some k) = reviews.Beneath k
+
+-- up where the way by the parent is more than a tenth worse than the direct one to the grandparent, else beneath a sibling that is suitable
+abbrev pub reviewed_with : Option (ℕ × ℕ) → View → Review
+reviewed_with None v = go_beneath (chosen v.direct v.siblings)
+reviewed_with (Some g) v = if nat_lt (10 * min v.direct v.up) (9 * g.1) then reviews.Up (g.0) else go_beneath (chosen v.direct v.siblings)
+
+abbrev pub reviewed : View → Review
+reviewed v = reviewed_with v.grand v
+
+-- the ids below this one, from the greatest down
+abbrev pub below : ℕ → List ℕ
+below zero = []
+below (suc zero) = []
+below (suc (suc n)) = suc n ∷ below (suc n)
+
+-- each of these once, in its first place, but for those that are left out
+abbrev pub each_once : List ℕ → List ℕ → List ℕ
+each_once out [] = []
+each_once out (x ∷ xs) = if has out x then each_once out xs else x ∷ each_once (x ∷ out) xs
+
+abbrev pub just : Option ℕ → List ℕ
+just None = []
+just (Some q) = q ∷ []
+
+-- the nodes that a node asks for a place, in their order: a chain member the earlier ones, the nearest first; any other node its
+-- ancestors and then the chain; never itself, nor the one that is left out
+abbrev pub ask_order : ℕ → ℕ → List ℕ → Option ℕ → List ℕ
+ask_order me chain ancestors without =
+    each_once (me ∷ just without) (if nat_le me chain then below me else ancestors ++ range_with_len 1 chain)

@@ -1,0 +1,68 @@
+use Rattle.std.specs.Prelude.{◌≡◌, ℕ, Bool, true, false, Some, None, List, [], ◌∷◌, ◌++◌}
+use Rattle.oc_base.specs.declared.cert.Cert.{Cert}
+use Rattle.oc_model.specs.declared.event.Act.TheVariants.{Tick, Check, Measure, Deliver}
+use Rattle.oc_model.specs.declared.event.Event.{Event}
+use Rattle.oc_model.specs.declared.event.Event.TheVariants.{Up, Do}
+use Rattle.oc_model.specs.declared.message.Body.TheVariants.{Look, LookIs, Ask, Yes}
+use Rattle.oc_model.specs.declared.place.Candidate.{Candidate}
+use Rattle.oc_model.specs.Choice.{chosen}
+use Rattle.oc_model.specs.ExampleRuns.{told, header, join, from_to, alive, dead, rank, ok}
+use Rattle.oc_model.specs.Table.{is_news, merge, merge_all}
+
+-- A joining node descends to a child that is about as good as the direct way.
+
+abbrev descending : List Event
+descending =
+    (Up 1 ∷ Up 2 ∷ Up 3 ∷ Do (Tick 1 0) ∷ []) ++ join 2 1 1
+    ++ (Do (Measure 2 1 100 3) ∷ Do (Check 2) ∷ Do (Deliver 3) ∷ Do (Measure 3 1 100 4) ∷ Do (Measure 3 2 90 1) ∷ Do (Tick 3 0)
+    ∷ Do (Deliver 5) ∷ Do (Deliver 6) ∷ Do (Deliver 7) ∷ Do (Deliver 8) ∷ Do (Deliver 9) ∷ Do (Deliver 10) ∷ [])
+
+abbrev pub Descent : Type 0
+Descent = told (header 3 1 (0 ∷ 0 ∷ 0 ∷ [])) descending 12 4 [] ≡ record {
+  words = ok ∷ ok ∷ ok ∷ ok ∷ ok ∷ ok ∷ ok ∷ [];
+  sent =
+      from_to 3 1 Look
+      ∷ from_to 1 3 (LookIs true None 0 (record { id = 2; rate = 100 } ∷ []))
+      ∷ from_to 3 2 Look
+      ∷ from_to 2 3 (LookIs true (Some 1) 100 [])
+      ∷ from_to 3 2 (Ask 1 None)
+      ∷ from_to 2 3 (Yes 1 (rank 1 1) (1 ∷ []))
+      ∷ [];
+  messages = 10;
+  shown = [];
+}
+
+-- Of those that are suitable, the one with the least hops, and then the least id.
+
+abbrev candidate : ℕ → ℕ → ℕ → ℕ → Candidate
+candidate id mine up hops = record { id = id; mine = mine; up = up; hops = hops }
+
+abbrev pub ChooseAmong : Type 0
+ChooseAmong = (chosen 100 (candidate 7 100 200 3 ∷ candidate 6 89 200 1 ∷ candidate 5 90 200 3 ∷ []) ≡ Some 5) × (chosen 100 [] ≡ None)
+
+-- Certificates that come in any order: the greater ask number stays.
+
+-- which of these change the table, merged one after another
+abbrev news_of : List Cert → List Cert → List Bool
+news_of t [] = []
+news_of t (c ∷ cs) = is_news t c ∷ news_of (merge t c) cs
+
+-- merged in this order, which are news and what the entry is
+abbrev Race : List Cert → List Bool → Type 0
+Race cs news = (news_of [] cs ≡ news) × (merge_all [] cs ≡ alive 4 2 3 ∷ [])
+
+pub record CertificateRace : Type 0 where
+  pub told : Race (alive 4 1 2 ∷ alive 4 2 3 ∷ dead 4 1 2 ∷ []) (true ∷ true ∷ false ∷ [])
+  pub death_second : Race (alive 4 1 2 ∷ dead 4 1 2 ∷ alive 4 2 3 ∷ []) (true ∷ true ∷ true ∷ [])
+  pub birth_second : Race (alive 4 2 3 ∷ alive 4 1 2 ∷ dead 4 1 2 ∷ []) (true ∷ false ∷ false ∷ [])
+  pub birth_last : Race (alive 4 2 3 ∷ dead 4 1 2 ∷ alive 4 1 2 ∷ []) (true ∷ false ∷ false ∷ [])
+  pub death_first : Race (dead 4 1 2 ∷ alive 4 1 2 ∷ alive 4 2 3 ∷ []) (true ∷ false ∷ true ∷ [])
+  pub death_before : Race (dead 4 1 2 ∷ alive 4 2 3 ∷ alive 4 1 2 ∷ []) (true ∷ true ∷ false ∷ [])
+
+-- Counts of clients: the own number tells at one state, and death stays.
+
+abbrev counted : Cert → ℕ → ℕ → Cert
+counted c number clients = record c { number = number; clients = clients }
+
+abbrev pub MergedCounts : Type 0
+MergedCounts = news_of [] (alive 2 1 1 ∷ counted (alive 2 1 1) 1 4 ∷ dead 2 1 1 ∷ counted (alive 2 1 1) 2 5 ∷ []) ≡ true ∷ true ∷ true ∷ false ∷ []

@@ -1,0 +1,67 @@
+use Rattle.std.specs.Prelude.{◌≡◌, true, false, List, [], ◌∷◌, ◌++◌, codes}
+use Rattle.oc_model.specs.declared.answer.Answer.TheVariants as answers
+use Rattle.oc_model.specs.declared.event.Act.TheVariants.{Tick, Check, Pull, Publish, Seal, Client, Deliver}
+use Rattle.oc_model.specs.declared.event.Event.{Event}
+use Rattle.oc_model.specs.declared.event.Event.TheVariants.{Up, Do, Show, Held}
+use Rattle.oc_model.specs.declared.message.Body.TheVariants.{Fetch, Chunk, CheckIn, CheckAck}
+use Rattle.oc_model.specs.declared.word.Word.TheVariants.{Node}
+use Rattle.oc_model.specs.ExampleRuns.{told, held, header, join, from_to, alive, line, rank, root_shown, ok}
+
+-- Two nodes, one publish, one fetch, one chunk.
+
+abbrev first_path : List Event
+first_path =
+    Up 1 ∷ Up 2 ∷ Do (Publish 1 (codes "/a") (codes "hello")) ∷ Do (Pull 2 1) ∷ Do (Deliver 1) ∷ Do (Deliver 2) ∷ Held 2 ∷ []
+
+abbrev pub FirstPath : Type 0
+FirstPath = told (header 2 1 (0 ∷ 0 ∷ [])) first_path 0 0 [] ≡ record {
+  words = ok ∷ ok ∷ ok ∷ ok ∷ ok ∷ ok ∷ ok ∷ [];
+  sent = from_to 2 1 (Fetch []) ∷ from_to 1 2 (Chunk (codes "/a") 0 (codes "hello") false) ∷ [];
+  messages = 2;
+  shown = [];
+}
+
+abbrev pub FirstPathHeld : Type 0
+FirstPathHeld = held (header 2 1 (0 ∷ 0 ∷ [])) first_path 2 ≡ record { group = codes "/a"; held = 5; sealed = false } ∷ []
+
+-- A group is sealed, fetched whole, and acknowledged with its seal.
+
+abbrev sealing : List Event
+sealing =
+    Up 1 ∷ Up 2 ∷ Do (Publish 1 (codes "/a") (codes "hi")) ∷ Do (Seal 1 (codes "/a")) ∷ Do (Publish 1 (codes "/a") (codes "!"))
+    ∷ Do (Pull 2 1) ∷ Do (Deliver 1) ∷ Do (Deliver 2) ∷ Held 2 ∷ Do (Pull 2 1) ∷ Do (Deliver 3) ∷ []
+
+abbrev pub SealedGroup : Type 0
+SealedGroup = told (header 2 1 (0 ∷ 0 ∷ [])) sealing 0 0 [] ≡ record {
+  words = ok ∷ ok ∷ ok ∷ ok ∷ Node answers.Sealed ∷ ok ∷ ok ∷ ok ∷ ok ∷ ok ∷ ok ∷ [];
+  sent =
+      from_to 2 1 (Fetch [])
+      ∷ from_to 1 2 (Chunk (codes "/a") 0 (codes "hi") true)
+      ∷ from_to 2 1 (Fetch (record { group = codes "/a"; held = 2; sealed = true } ∷ []))
+      ∷ [];
+  messages = 3;
+  shown = [];
+}
+
+abbrev pub SealedGroupHeld : Type 0
+SealedGroupHeld = held (header 2 1 (0 ∷ 0 ∷ [])) sealing 2 ≡ record { group = codes "/a"; held = 2; sealed = true } ∷ []
+
+-- A node serves a client and tells it with its next check-in.
+
+abbrev serving : List Event
+serving =
+    (Up 1 ∷ Up 2 ∷ Do (Tick 1 0) ∷ []) ++ join 2 1 1
+    ++ (Do (Publish 1 (codes "/a") []) ∷ Do (Pull 2 1) ∷ Do (Deliver 3) ∷ Do (Deliver 4) ∷ Do (Client 2 0 0 (codes "/a"))
+    ∷ Do (Check 2) ∷ Do (Deliver 6) ∷ Show 1 ∷ [])
+
+abbrev pub ServedCounts : Type 0
+ServedCounts = told (header 2 1 (0 ∷ 0 ∷ [])) serving 9 4 (1 ∷ []) ≡ record {
+  words = ok ∷ Node (answers.Serve 0) ∷ ok ∷ ok ∷ ok ∷ [];
+  sent =
+      from_to 2 1 (Fetch (record { group = codes "/a"; held = 0; sealed = false } ∷ []))
+      ∷ from_to 2 1 (CheckIn 1 0 0 1 1 [])
+      ∷ from_to 1 2 (CheckAck 1 0 (rank 1 0) [])
+      ∷ [];
+  messages = 7;
+  shown = root_shown (rank 1 0) (record (alive 2 1 1) { number = 1; clients = 1 } ∷ []) (line 2 1 ∷ []) ∷ [];
+}

@@ -1,0 +1,155 @@
+use Rattle.std.specs.Prelude.{◌≡◌, ℕ, zero, suc, ◌*◌, ◌-◌, ◌≤◌, Bool, true, false, not, ◌&&◌, ◌==◌, nat_lt, nat_le, Option, Some, None, is_some, List, [], ◌∷◌, ◌++◌, filter, drop, reverse}
+use Rattle.std.specs.List.{list_all}
+use Rattle.oc_base.specs.declared.rank.Rank.{Rank}
+use Rattle.oc_model.specs.declared.event.Act.TheVariants as acts
+use Rattle.oc_model.specs.declared.mode.Mode.{Mode}
+use Rattle.oc_model.specs.declared.mode.Mode.TheVariants.{Idle, Asking, Joined, Acting}
+use Rattle.oc_model.specs.Chains.{IsUp, IsTrueChain, chain_to}
+use Rattle.oc_model.specs.Plan.{is_member}
+use Rattle.oc_model.specs.Ready.{IsLeased, is_leased}
+use Rattle.oc_model.specs.Runs.{Run, rests, does, and_then, for_each, delivers_last}
+use Rattle.oc_model.specs.Settle.{checks_in, first_five_steps, settles}
+use Rattle.oc_model.specs.World.{World, node, mode_of, up_ids}
+
+-- Heal: it joins every node that is up, and then settles.
+
+-- What it works on
+
+-- a chain member
+abbrev pub IsMember : World → ℕ → Type 0
+IsMember w x = is_member (node w x).control ≡ true
+
+-- the chain members that are up, and the nodes past the chain that are
+abbrev pub up_members : World → List ℕ
+up_members w = filter (λ x. is_member (node w x).control) (up_ids w)
+
+abbrev pub up_others : World → List ℕ
+up_others w = filter (λ x. not (is_member (node w x).control)) (up_ids w)
+
+abbrev pub first_of : List ℕ → Option ℕ
+first_of [] = None
+first_of (x ∷ xs) = Some x
+
+-- the least chain member that is up
+abbrev pub leader : World → Option ℕ
+leader w = first_of (up_members w)
+
+abbrev pub epoch_in : Option Rank → ℕ
+epoch_in None = 0
+epoch_in (Some r) = r.epoch
+
+-- the ask numbers and the epochs are far enough from their end
+abbrev pub most_seq : ℕ
+most_seq = 18446744073709551615 - 64
+
+abbrev pub most_epoch : ℕ
+most_epoch = 18446744073709551615 - 8192
+
+-- some chain member is up, and no number of a node that is up is near its end
+pub record IsAble (w : World) : Type 0 where
+  pub member : (m : ℕ) × IsUp w m × IsMember w m
+  pub seqs : (x : ℕ) → IsUp w x → (node w x).control.kept.seq ≤ most_seq
+  pub epochs : (x : ℕ) → IsUp w x → epoch_in (node w x).control.kept.rank ≤ most_epoch
+
+abbrev pub has_room : World → ℕ → Bool
+has_room w x = nat_le (node w x).control.kept.seq most_seq && nat_le (epoch_in (node w x).control.kept.rank) most_epoch
+
+abbrev pub is_able : World → Bool
+is_able w = is_some (leader w) && list_all (has_room w) (up_ids w)
+
+-- the links of a chain, from its first node up to its root, have their leases
+abbrev pub AreLeased : World → List ℕ → Type 0
+AreLeased w [] = Unit {0}
+AreLeased w (r ∷ []) = Unit {0}
+AreLeased w (x ∷ y ∷ ys) = IsLeased w x × AreLeased w (y ∷ ys)
+
+-- the node is where heal wants it: it is the root m, or it has a true chain to m each link of which has its lease
+abbrev pub IsPlaced : World → ℕ → ℕ → Type 0
+IsPlaced w m x = (c : List ℕ) × IsTrueChain w x m c × AreLeased w c
+
+abbrev pub are_leased : World → List ℕ → Bool
+are_leased w [] = true
+are_leased w (r ∷ []) = true
+are_leased w (x ∷ y ∷ ys) = is_leased w x && are_leased w (y ∷ ys)
+
+abbrev pub placed_by : World → Option (List ℕ) → Bool
+placed_by w None = false
+placed_by w (Some c) = are_leased w c
+
+abbrev pub is_placed : World → ℕ → ℕ → Bool
+is_placed w m x = placed_by w (chain_to w m x)
+
+-- Step 1: the least chain member that is up, m, comes to act as root
+
+-- while it does not act, it checks where it is idle, and else its peer is unreachable
+abbrev pub rises : Mode → ℕ → World → Run
+rises Idle m w = does (acts.Check m) w
+rises (Asking p) m w = does (acts.Fail m p) w
+rises (Joined p) m w = does (acts.Fail m p) w
+rises Acting m w = rests w
+
+-- so many times at most
+abbrev pub rises_in : ℕ → ℕ → World → Run
+rises_in zero m w = rests w
+rises_in (suc n) m w = and_then (rises (mode_of w m) m w) (rises_in n m)
+
+-- it asks each earlier chain member twice at most
+abbrev pub comes_to_act : ℕ → World → Run
+comes_to_act m w = rises_in (2 * m) m w
+
+-- Step 3: each node that is not placed is moved to the chain member before it
+
+-- it asks p, and p takes the ask
+abbrev pub asks : ℕ → ℕ → World → Run
+asks p x w = and_then (does (acts.Move x p) w) delivers_last
+
+-- and it takes the answer
+abbrev pub joins : ℕ → ℕ → World → Run
+joins p x w = and_then (asks p x w) delivers_last
+
+abbrev pub top_down : Option (List ℕ) → List ℕ
+top_down None = []
+top_down (Some c) = drop 1 (reverse c)
+
+-- the nodes of the true chain of p to m below m, from the top down
+abbrev pub below : ℕ → ℕ → World → List ℕ
+below m p w = top_down (chain_to w m p)
+
+-- m tells its new rank down to p
+abbrev pub tells_rank : ℕ → ℕ → World → Run
+tells_rank m p w = and_then (does (acts.Check m) w) (λ v. for_each (below m p v) checks_in v)
+
+-- by way of m, whose rank its ask may raise
+abbrev pub joins_by : ℕ → ℕ → ℕ → World → Run
+joins_by m p x w = and_then (and_then (asks m x w) (tells_rank m p)) (joins p x)
+
+abbrev pub last_of : ℕ → List ℕ → ℕ
+last_of m [] = m
+last_of m (x ∷ xs) = last_of x xs
+
+-- the greatest chain member that is up and less than this node
+abbrev pub member_before : World → ℕ → ℕ → ℕ
+member_before w m x = last_of m (filter (λ p. nat_lt p x) (up_members w))
+
+abbrev pub places_at : Bool → ℕ → ℕ → ℕ → World → Run
+places_at true m p x w = joins m x w
+places_at false m p x w = joins_by m p x w
+
+abbrev pub places_under : ℕ → ℕ → ℕ → World → Run
+places_under m p x w = places_at (p == m) m p x w
+
+abbrev pub places_if : Bool → ℕ → ℕ → World → Run
+places_if true m x w = rests w
+places_if false m x w = places_under m (member_before w m x) x w
+
+-- a node that is placed when its turn comes is passed over
+abbrev pub places : ℕ → ℕ → World → Run
+places m x w = places_if (is_placed w m x) m x w
+
+-- the chain members past m, and then the nodes past the chain
+abbrev pub all_join : ℕ → World → Run
+all_join m w = for_each (filter (nat_lt m) (up_members w) ++ up_others w) (places m) w
+
+-- all steps
+abbrev pub heals : ℕ → World → Run
+heals m w = and_then (and_then (and_then (comes_to_act m w) first_five_steps) (all_join m)) settles

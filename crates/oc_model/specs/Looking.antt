@@ -1,0 +1,100 @@
+use Rattle.std.specs.Prelude.{ℕ, Bool, true, false, not, ◌&&◌, ◌==◌, nat_lt, if◌then◌else◌, Option, Some, None, List, map, filter}
+use Rattle.oc_base.specs.declared.cert.Child.{Child}
+use Rattle.oc_model.specs.declared.message.Body.TheVariants as bodies
+use Rattle.oc_model.specs.declared.mode.Mode.{Mode}
+use Rattle.oc_model.specs.declared.mode.Mode.TheVariants as modes
+use Rattle.oc_model.specs.declared.place.Candidate.{Candidate}
+use Rattle.oc_model.specs.declared.place.Review.{Review}
+use Rattle.oc_model.specs.declared.place.Review.TheVariants as reviews
+use Rattle.oc_model.specs.declared.soft.Search.{Search}
+use Rattle.oc_model.specs.declared.soft.Search.TheVariants as searches
+use Rattle.oc_model.specs.Adopting.{in_tree}
+use Rattle.oc_model.specs.Asking.{ask, ask_before, descend, next_try}
+use Rattle.oc_model.specs.Choice.{View, chosen, reviewed}
+use Rattle.oc_model.specs.Measures.{reading_of}
+use Rattle.oc_model.specs.Node.{Control}
+use Rattle.oc_model.specs.Numbers.{at}
+use Rattle.oc_model.specs.Plan.{Plan, send, searching, ignored, is_member, rate_to}
+use Rattle.oc_model.specs.Table.{leased_children}
+
+-- The rule Look: how a node finds a good place.
+
+abbrev pub parent_of : Mode → Option ℕ
+parent_of (modes.Joined p) = Some p
+parent_of mode = None
+
+abbrev pub rate_to_some : Control → Option ℕ → ℕ
+rate_to_some n None = 0
+rate_to_some n (Some p) = rate_to n p
+
+-- the leased children, ascending, with the rates that they told last
+abbrev pub children : Control → List Child
+children n = map (λ x. record { id = x; rate = at n.rates x 0 }) (leased_children n.kept.table n.me)
+
+-- p is told how the node stands
+abbrev pub looked : Plan → ℕ → Plan
+looked o p = send o p (bodies.LookIs (in_tree o.node.kept.mode) (parent_of o.node.kept.mode) (rate_to_some o.node (parent_of o.node.kept.mode)) (children o.node))
+
+-- how another node stands, as it told
+pub record Stand : Type 0 where
+  pub in_tree : Bool
+  pub parent : Option ℕ
+  pub rate : ℕ
+  pub children : List Child
+
+abbrev pub candidate : Control → Child → Candidate
+candidate n c = record { id = c.id; mine = (reading_of n.kept.measures c.id).rate; up = c.rate; hops = (reading_of n.kept.measures c.id).hops }
+
+-- the children that were told, without the node itself
+abbrev pub candidates : Control → List Child → List Candidate
+candidates n cs = map (candidate n) (filter (λ c. not (c.id == n.me)) cs)
+
+-- further down, or to the place here where no child is as good
+abbrev pub goes_down : Option ℕ → Plan → ℕ → Plan
+goes_down None o p = ask o p
+goes_down (Some k) o p = descend o k
+
+-- on its way down the node sees how p stands
+abbrev pub descends : Plan → ℕ → Stand → Plan
+descends o p s =
+    if s.in_tree then goes_down (chosen (rate_to o.node p) (candidates o.node s.children)) o p
+    else next_try (searching o None)
+
+-- the parent's parent with the own rate to it, unless that is the node itself
+abbrev pub grandparent : Control → Option ℕ → Option (ℕ × ℕ)
+grandparent n None = None
+grandparent n (Some g) = if g == n.me then None else Some (g, rate_to n g)
+
+-- the place beneath the parent p
+abbrev pub view : Control → ℕ → Stand → View
+view n p s = record { direct = rate_to n p; up = s.rate; grand = grandparent n s.parent; siblings = candidates n s.children }
+
+abbrev pub goes_where : Review → Plan → Plan
+goes_where reviews.Stay o = o
+goes_where (reviews.Up g) o = ask_before o g
+goes_where (reviews.Beneath k) o = ask_before o k
+
+-- a joined node sees how its parent p stands
+abbrev pub reviews_place : Plan → ℕ → Stand → Plan
+reviews_place o p s = goes_where (reviewed (view o.node p s)) (searching o None)
+
+-- whether a chain member would rather be beneath p: it is a root, or its parent is an earlier member than p
+abbrev pub prefers : Mode → ℕ → Bool
+prefers modes.Acting p = true
+prefers (modes.Joined q) p = nat_lt q p
+prefers mode p = false
+
+-- a chain member goes beneath the nearest earlier member that is in the tree
+abbrev pub keeps_line : Plan → ℕ → Stand → Plan
+keeps_line o p s =
+    if is_member o.node && prefers o.node.kept.mode p && nat_lt p o.node.me && s.in_tree then ask_before o p
+    else ignored o
+
+abbrev pub sees_as : Mode → Option Search → Plan → ℕ → Stand → Plan
+sees_as modes.Idle (Some (searches.Descend q)) o p s = if q == p then descends o p s else keeps_line o p s
+sees_as (modes.Joined q) (Some searches.Review) o p s = if q == p then reviews_place o p s else keeps_line o p s
+sees_as mode search o p s = keeps_line o p s
+
+-- p tells how it stands
+abbrev pub sees : Plan → ℕ → Stand → Plan
+sees o p s = sees_as o.node.kept.mode o.node.soft.search o p s

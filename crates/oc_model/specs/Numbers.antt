@@ -1,0 +1,33 @@
+use Rattle.std.specs.Prelude.{◌≡◌, ℕ, ◌+◌, ◌-◌, Bool, false, ◌||◌, ◌==◌, min, if◌then◌else◌, Option, Some, None, List, [], ◌∷◌, ◌⊎◌, get_or, set}
+
+-- Numbers that end, lists of ids, and lists by the number of a node.
+
+-- the last number of 64 bits
+abbrev pub number_end : ℕ
+number_end = 18446744073709551615
+
+-- the next number, if there is one
+abbrev pub raise : ℕ → Option ℕ
+raise e = if e == number_end then None else Some (e + 1)
+
+-- the sum, or the last number where it passes that
+abbrev pub capped : ℕ → ℕ
+capped n = min number_end n
+
+-- x is one of these
+abbrev pub IsAmong : {X : Type 0} → X → List X → Type 0
+IsAmong x [] = ⊥
+IsAmong x (y ∷ ys) = (y ≡ x) ⊎ IsAmong x ys
+
+-- whether x is one of these ids
+abbrev pub has : List ℕ → ℕ → Bool
+has [] x = false
+has (y ∷ ys) x = y == x || has ys x
+
+-- what a list by number has for the node x, the first node's number being 1
+abbrev pub at : {X : Type 0} → List X → ℕ → X → X
+at xs x d = get_or xs (x - 1) d
+
+-- the list with v for the node x
+abbrev pub put_at : {X : Type 0} → List X → ℕ → X → List X
+put_at xs x v = set xs (x - 1) v

@@ -1,0 +1,39 @@
+use Rattle.std.specs.Prelude.{◌≡◌, ℕ, ◌≤◌, List, [], ◌∷◌, ◌++◌, ◌⊎◌, length}
+use Rattle.std.specs.List.{AllByRecursion}
+use Rattle.oc_model.specs.declared.group.Group.{Group}
+use Rattle.oc_model.specs.declared.message.Message.{Message}
+use Rattle.oc_model.specs.Groups.{most_groups, most_bytes, IsAscending}
+use Rattle.oc_model.specs.World.{World, node}
+
+-- What every world keeps to, whatever the events.
+
+-- no id comes twice
+abbrev pub IsOneOf : ℕ → List ℕ → Type 0
+IsOneOf x [] = ⊥
+IsOneOf x (y ∷ ys) = (x ≡ y) ⊎ IsOneOf x ys
+
+abbrev pub IsDistinct : List ℕ → Type 0
+IsDistinct [] = Unit {0}
+IsDistinct (x ∷ xs) = (IsOneOf x xs → ⊥) × IsDistinct xs
+
+-- all that was sent stays sent
+abbrev pub IsLater : World → World → Type 0
+IsLater old new = (more : List Message) × (new.net ≡ old.net ++ more)
+
+-- groups in their order, no more and no longer than the limits allow
+abbrev pub IsShort : Group → Type 0
+IsShort k = length k.bytes ≤ most_bytes
+
+abbrev pub AreWithinLimits : List Group → Type 0
+AreWithinLimits ks = IsAscending ks × (length ks ≤ most_groups) × AllByRecursion IsShort ks
+
+-- those of each node are
+abbrev pub IsWithinLimits : World → Type 0
+IsWithinLimits w = AllByRecursion (λ p. AreWithinLimits p.node.groups) w.processes
+
+abbrev pub clock_of : World → ℕ → ℕ
+clock_of w x = (node w x).control.soft.clock
+
+-- no clock is past this second
+abbrev pub AreBefore : ℕ → World → Type 0
+AreBefore t w = (x : ℕ) → clock_of w x ≤ t

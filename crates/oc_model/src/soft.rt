@@ -1,0 +1,26 @@
+use oc_base::{IdList, NodeId};
+
+/// A question by which a node looks for a place, and to whose answer it waits.
+#[derive(Clone, Copy, Debug, PartialEq, Eq)]
+pub enum Search {
+    /// From the root down: this node was asked for its children.
+    Descend(NodeId),
+    /// The parent was asked for the other places near by.
+    Review,
+}
+
+/// What a start clears of a node, but for what it keeps by the number of another node.
+#[derive(Clone, Debug, Drop)]
+pub struct Soft {
+    /// The time, in seconds.
+    pub clock: u64,
+    /// When the next check is due.
+    pub due: Option<u64>,
+    /// The nodes still to be asked for a place.
+    pub tries: IdList,
+    /// No node that was asked in this round has answered.
+    pub silent: bool,
+    pub search: Option<Search>,
+    /// The clients served that are not in the node's own count yet.
+    pub served: u64,
+}

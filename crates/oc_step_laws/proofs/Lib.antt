@@ -1,0 +1,16 @@
+pub mod Goes
+pub mod Asks
+pub mod Adopts
+pub mod Checks
+pub mod Looks
+pub mod Serves
+pub mod Contents
+pub mod Steps
+pub mod RankOrder
+pub mod CertOrder
+pub mod Tables
+pub mod Merges
+pub mod Folds
+pub mod Unfolding
+pub mod Soundness
+pub mod Ranges

@@ -6,3 +6,13 @@ pub mod Rules
 pub mod Steps
 pub mod Turns
 pub mod Kept
+pub mod Machine
+pub mod WalksAsking
+pub mod WalksAdopting
+pub mod WalksChecking
+pub mod WalksLooking
+pub mod WalksContent
+pub mod Walks
+pub mod Laws
+pub mod RankSteps
+pub mod RanksKept

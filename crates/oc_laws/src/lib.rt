@@ -8,7 +8,9 @@
 #![tactic(auto)]
 
 mod content;
+mod ranks;
 mod worlds;
 
 pub use content::{content_stays_true, content_stays_true_throughout};
+pub use ranks::{parent_links_form_no_ring, ranks_hold, ranks_hold_throughout};
 pub use worlds::{chains_are_computed, events_go_on, tests_decide};

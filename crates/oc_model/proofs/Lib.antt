@@ -1,7 +1,6 @@
 pub mod Lists
 pub mod Names
 pub mod Groups
-pub mod Ways
 pub mod Members
 pub mod Processes
 pub mod Chains
@@ -15,3 +14,5 @@ pub mod Outcomes
 pub mod Places
 pub mod GoesOn
 pub mod Clocks
+pub mod Settled
+pub mod Walks

@@ -30,7 +30,7 @@ count-with_group k (j ∷ js) up = by_order (count-with_group k js up.1) (slice_
   by_order (inr more) Greater e = inr (rw e more.0, rw e (omega (arith, more.1)))
 
 -- what holds of each group and of the one that is put holds of each then
-all-with_group : (P : Group → Type 0) (k : Group) (ks : List Group) → P k → AllByRecursion P ks → AllByRecursion P (with_group k ks)
+pub all-with_group : (P : Group → Type 0) (k : Group) (ks : List Group) → P k → AllByRecursion P ks → AllByRecursion P (with_group k ks)
 all-with_group P k [] here all = (here, tt)
 all-with_group P k (j ∷ js) here all = by_order (all-with_group P k js here all.1) (slice_cmp nat_cmp k.name j.name) refl where
   by_order : AllByRecursion P (with_group k js) → (o : Ordering) → slice_cmp nat_cmp k.name j.name ≡ o → AllByRecursion P (with_group k (j ∷ js))

@@ -61,7 +61,7 @@ is_empty (x ∷ xs) = false
 abbrev pub try_at : Plan → ℕ → Plan
 try_at o p = if not (is_member o.node) && is_empty o.node.kept.ancestors then descend o p else ask o p
 
--- the first of the tries is taken off; with none, a chain member of which no earlier one was heard is a root
+-- the first of the tries is taken off; with none, a chain member that is silent is a root
 abbrev pub try_first : List ℕ → Plan → Plan
 try_first [] o = if is_member o.node && o.node.soft.silent then act o else answers o words.Waiting
 try_first (p ∷ ps) o = try_at (with_soft o (record o.node.soft { tries = ps })) p

@@ -2,9 +2,10 @@ use Rattle.std.specs.Prelude.{◌≡◌, true, false, List, [], ◌∷◌, ◌++
 use Rattle.oc_model.specs.declared.answer.Answer.TheVariants as answers
 use Rattle.oc_model.specs.declared.event.Act.TheVariants.{Tick, Check, Pull, Publish, Seal, Client, Deliver}
 use Rattle.oc_model.specs.declared.event.Event.{Event}
-use Rattle.oc_model.specs.declared.event.Event.TheVariants.{Up, Do, Show, Held}
+use Rattle.oc_model.specs.declared.event.Event.TheVariants.{Up, Stop, Do, Show, Held}
 use Rattle.oc_model.specs.declared.message.Body.TheVariants.{Fetch, Chunk, CheckIn, CheckAck}
-use Rattle.oc_model.specs.declared.word.Word.TheVariants.{Node}
+use Rattle.oc_model.specs.declared.word.Word.TheVariants.{Node, Down, NoMessage, StoppedOld, StoppedNew}
+use Rattle.oc_model.specs.declared.word.Word.TheVariants as words
 use Rattle.oc_model.specs.ExampleRuns.{told, held, header, join, from_to, alive, line, rank, root_shown, ok}
 
 -- Two nodes, one publish, one fetch, one chunk.
@@ -65,3 +66,47 @@ ServedCounts = told (header 2 1 (0 ∷ 0 ∷ [])) serving 9 4 (1 ∷ []) ≡ rec
   messages = 7;
   shown = root_shown (rank 1 0) (record (alive 2 1 1) { number = 1; clients = 1 } ∷ []) (line 2 1 ∷ []) ∷ [];
 }
+
+-- Stops inside a write: the byte 1 opens its frame, and any other leaves it closed.
+
+abbrev tearing : List Event
+tearing =
+    Up 1 ∷ Stop 3 1 (Publish 1 (codes "/a") (codes "a")) ∷ Up 1 ∷ Held 1 ∷ Stop 3 0 (Publish 1 (codes "/a") (codes "b")) ∷ Up 1
+    ∷ Held 1 ∷ Stop 3 7 (Publish 1 (codes "/a") (codes "b")) ∷ Up 1 ∷ Held 1 ∷ []
+
+abbrev pub TornGate : Type 0
+TornGate = told (header 1 1 (0 ∷ [])) tearing 0 0 [] ≡ record {
+  words = ok ∷ StoppedNew ∷ ok ∷ ok ∷ StoppedOld ∷ ok ∷ ok ∷ StoppedOld ∷ ok ∷ ok ∷ [];
+  sent = [];
+  messages = 0;
+  shown = [];
+}
+
+abbrev pub TornGateHeld : Type 0
+TornGateHeld = held (header 1 1 (0 ∷ [])) tearing 1 ≡ record { group = codes "/a"; held = 1; sealed = false } ∷ []
+
+-- A node that is up does not start, one that is down takes nothing, and no message comes that was not sent.
+
+abbrev pub DownAndUnknown : Type 0
+DownAndUnknown = told (header 2 1 (0 ∷ 0 ∷ [])) (Up 1 ∷ Up 1 ∷ Do (Tick 2 0) ∷ Do (Deliver 9) ∷ []) 0 0 [] ≡ record {
+  words = ok ∷ words.Up ∷ Down ∷ NoMessage ∷ [];
+  sent = [];
+  messages = 0;
+  shown = [];
+}
+
+-- Only node 1 publishes; a publish of no bytes makes a group.
+
+abbrev elsewhere : List Event
+elsewhere = Up 1 ∷ Up 2 ∷ Do (Publish 1 (codes "/a") []) ∷ Do (Publish 2 (codes "/a") (codes "a")) ∷ Held 1 ∷ []
+
+abbrev pub PublishElsewhere : Type 0
+PublishElsewhere = told (header 2 1 (0 ∷ 0 ∷ [])) elsewhere 0 0 [] ≡ record {
+  words = ok ∷ ok ∷ ok ∷ Node answers.NotSource ∷ ok ∷ [];
+  sent = [];
+  messages = 0;
+  shown = [];
+}
+
+abbrev pub PublishElsewhereHeld : Type 0
+PublishElsewhereHeld = held (header 2 1 (0 ∷ 0 ∷ [])) elsewhere 1 ≡ record { group = codes "/a"; held = 0; sealed = false } ∷ []

@@ -19,10 +19,11 @@ use Rattle.oc_model.specs.World.{World, node, mode_of, up_ids}
 abbrev pub IsMember : World → ℕ → Type 0
 IsMember w x = is_member (node w x).control ≡ true
 
--- the chain members that are up, and the nodes past the chain that are
+-- the chain members that are up
 abbrev pub up_members : World → List ℕ
 up_members w = filter (λ x. is_member (node w x).control) (up_ids w)
 
+-- the nodes past the chain that are up
 abbrev pub up_others : World → List ℕ
 up_others w = filter (λ x. not (is_member (node w x).control)) (up_ids w)
 

@@ -184,18 +184,3 @@ IsEvent nodes (events.Held x) = IsNode nodes x
 IsEvent nodes (events.Show x) = IsNode nodes x
 IsEvent nodes events.Settle = Unit {0}
 IsEvent nodes events.Heal = Unit {0}
-
--- What a replay plays so far: starts, the acts by which content spreads, and what is held; within their ranges.
-
-abbrev pub IsPlayableAct : ℕ → Act → Type 0
-IsPlayableAct nodes (acts.Pull x p) = IsNode nodes x × IsNode nodes p
-IsPlayableAct nodes (acts.Publish x g bytes) = IsNode nodes x × IsGroupName g × (length bytes ≤ 1000000)
-IsPlayableAct nodes (acts.Seal x g) = IsNode nodes x × IsGroupName g
-IsPlayableAct nodes (acts.Deliver k) = (1 ≤ k) × (k < 18446744073709551616)
-IsPlayableAct nodes act = ⊥
-
-abbrev pub IsPlayable : ℕ → Event → Type 0
-IsPlayable nodes (events.Up x) = IsNode nodes x
-IsPlayable nodes (events.Do act) = IsPlayableAct nodes act
-IsPlayable nodes (events.Held x) = IsNode nodes x
-IsPlayable nodes e = ⊥

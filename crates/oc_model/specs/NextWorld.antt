@@ -43,7 +43,7 @@ abbrev pub IsKeptNew : ℕ → ℕ → Type 0
 IsKeptNew k image = (k ≡ 4) ⊎ ((k ≡ 3) × (image ≡ 1))
 
 abbrev pub is_kept_new : ℕ → ℕ → Bool
-is_kept_new k image = k == 4 || k == 3 && image == 1
+is_kept_new k image = k == 4 || (k == 3 && image == 1)
 
 -- an input whose write is cut off: it is kept, or all is as before; nothing is sent
 abbrev pub cut_off : Bool → World → Node → Input → Outcome → World

@@ -1,9 +1,12 @@
-use Rattle.std.specs.Prelude.{◌≡◌, ℕ, Bool, false, not, ◌&&◌, ◌||◌, ◌==◌, Option, Some, None, is_some, find}
+use Rattle.std.specs.Prelude.{◌≡◌, ℕ, Bool, true, false, not, ◌&&◌, ◌||◌, ◌==◌, Option, Some, None, is_some, find, List, [], ◌∷◌}
 use Rattle.std.specs.List.{list_all}
+use Rattle.oc_base.specs.declared.cert.Cert.{Cert}
 use Rattle.oc_model.specs.declared.mode.Mode.{Mode}
 use Rattle.oc_model.specs.declared.mode.Mode.TheVariants.{Joined}
 use Rattle.oc_model.specs.Adopting.{is_acting, is_number}
+use Rattle.oc_model.specs.Checking.{is_joined_to}
 use Rattle.oc_model.specs.Chains.{IsUp, IsJoined, IsRoot, HasTrueChain, chain_to}
+use Rattle.oc_model.specs.Records.{is_joined}
 use Rattle.oc_model.specs.Table.{HasLease, leased_by}
 use Rattle.oc_model.specs.ChangeLog.{IsWaiting}
 use Rattle.oc_model.specs.World.{World, node, is_up, mode_of, ids}
@@ -56,3 +59,26 @@ ready_under w (Some r) = list_all (stands_under w r) (ids w)
 
 abbrev pub is_ready : World → Bool
 is_ready w = ready_under w (find (is_root w) (ids w))
+
+-- a lease that y holds stands, if it does, for a node that is up and joined to y at that number
+abbrev pub is_current : World → ℕ → ℕ → Option ℕ → Bool
+is_current w y x None = true
+is_current w y x (Some seq) = is_up w x && is_joined_to (mode_of w x) y && (node w x).control.kept.seq == seq
+
+abbrev pub is_empty : List Cert → Bool
+is_empty [] = true
+is_empty (f ∷ fs) = false
+
+-- y holds no stale lease
+abbrev pub holds_current : World → ℕ → Bool
+holds_current w y = list_all (λ k. is_current w y k.subject (leased_by (node w y).control.kept.table y k.subject)) (node w y).control.kept.table
+
+-- nothing waits at y, if it is joined
+abbrev pub has_told : World → ℕ → Bool
+has_told w y = not (is_joined (mode_of w y)) || is_empty (node w y).control.kept.log.waiting
+
+abbrev pub is_calm : World → ℕ → Bool
+is_calm w y = not (is_up w y) || (holds_current w y && has_told w y)
+
+abbrev pub is_settled : World → Bool
+is_settled w = is_ready w && list_all (is_calm w) (ids w)

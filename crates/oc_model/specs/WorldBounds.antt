@@ -7,11 +7,12 @@ use Rattle.oc_model.specs.World.{World, node}
 
 -- What every world keeps to, whatever the events.
 
--- no id comes twice
+-- x is one of these ids
 abbrev pub IsOneOf : ℕ → List ℕ → Type 0
 IsOneOf x [] = ⊥
 IsOneOf x (y ∷ ys) = (x ≡ y) ⊎ IsOneOf x ys
 
+-- no id comes twice
 abbrev pub IsDistinct : List ℕ → Type 0
 IsDistinct [] = Unit {0}
 IsDistinct (x ∷ xs) = (IsOneOf x xs → ⊥) × IsDistinct xs

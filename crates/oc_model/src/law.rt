@@ -1,5 +1,5 @@
 ghost use Rattle.oc_model.specs.ExamplesChoice.{Descent, ChooseAmong, CertificateRace, MergedCounts};
-ghost use Rattle.oc_model.specs.ExamplesContent.{FirstPath, FirstPathHeld, SealedGroup, SealedGroupHeld, ServedCounts};
+ghost use Rattle.oc_model.specs.ExamplesContent.{FirstPath, FirstPathHeld, SealedGroup, SealedGroupHeld, ServedCounts, TornGate, TornGateHeld, DownAndUnknown, PublishElsewhere, PublishElsewhereHeld};
 ghost use Rattle.oc_model.specs.ExamplesLeases.{FalseDeath, Quash, FailedParent};
 ghost use Rattle.oc_model.specs.ExamplesMoves.{CrossingMoves, StaleAncestors, StaleAncestorsSettled, ReverseMove};
 ghost use Rattle.oc_model.specs.ExamplesRoots.{TakeoverAndReturn, Healing, HealWithoutAChainMember};
@@ -11,6 +11,11 @@ pub fn content_computes()
     ensures sealed_group { SealedGroup }
     ensures sealed_group_held { SealedGroupHeld }
     ensures served_counts { ServedCounts }
+    ensures torn_gate { TornGate }
+    ensures torn_gate_held { TornGateHeld }
+    ensures down_and_unknown { DownAndUnknown }
+    ensures publish_elsewhere { PublishElsewhere }
+    ensures publish_elsewhere_held { PublishElsewhereHeld }
 {}
 
 /// How a place is chosen, and which certificate stays.

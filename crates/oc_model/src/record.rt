@@ -8,7 +8,7 @@ pub enum Record {
         seq: u64,
         peer: NodeId,
     },
-    /// That peer is its parent, and this is its own rank.
+    /// That peer is its parent, and this is its own rank; nothing where it has not asked yet.
     Joined {
         peer: NodeId,
         rank: Rank,
@@ -46,7 +46,7 @@ pub enum Record {
     Epoch {
         epoch: u64,
     },
-    /// The change log has this length, all of it acknowledged.
+    /// While joined, the change log has this length, all of it acknowledged.
     Base {
         acked: u64,
     },

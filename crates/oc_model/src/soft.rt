@@ -3,7 +3,7 @@ use oc_base::{IdList, NodeId};
 /// A question by which a node looks for a place, and to whose answer it waits.
 #[derive(Clone, Copy, Debug, PartialEq, Eq)]
 pub enum Search {
-    /// From the root down: this node was asked for its children.
+    /// On the way down to a place: this node was asked for its children.
     Descend(NodeId),
     /// The parent was asked for the other places near by.
     Review,
@@ -18,7 +18,7 @@ pub struct Soft {
     pub due: Option<u64>,
     /// The nodes still to be asked for a place.
     pub tries: IdList,
-    /// No node that was asked in this round has answered.
+    /// No node has refused since the tries were last set.
     pub silent: bool,
     pub search: Option<Search>,
     /// The clients served that are not in the node's own count yet.

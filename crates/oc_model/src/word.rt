@@ -17,7 +17,7 @@ pub enum Word {
     StoppedNew,
     /// The network settled, in this many events.
     Settled(u64),
-    /// The network can neither settle nor heal as it stands.
+    /// The network is not in a state to do what the event asks.
     Unready,
     /// The network healed, in this many events.
     Healed(u64),

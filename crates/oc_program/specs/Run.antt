@@ -5,6 +5,7 @@ use Rattle.oc_base.specs.Why.{why_text}
 use Rattle.oc_model.specs.Claims.{HoldPrefixes, HoldAcknowledged, SealedAreWhole}
 use Rattle.oc_model.specs.NextWorld.{next_world, word_of}
 use Rattle.oc_model.specs.World.{new_world}
+use Rattle.oc_model.specs.Chains.{HasNoCycle}
 use Rattle.oc_laws.specs.Throughout.{Throughout}
 use Rattle.oc_outside.specs.Faults.{Rose}
 use Rattle.oc_replay.specs.Replay.{told_text}
@@ -84,6 +85,7 @@ pub record IsSound (s : Script) : Type 0 where
   pub prefixes : Throughout HoldPrefixes (new_world s.header) s.events
   pub acknowledged : Throughout HoldAcknowledged (new_world s.header) s.events
   pub whole : Throughout SealedAreWhole (new_world s.header) s.events
+  pub no_cycle : Throughout HasNoCycle (new_world s.header) s.events
 
 -- what can be said of the outside once a run has ended
 pub record Outside : Type 1 where

@@ -13,7 +13,7 @@ use crate::status::Status;
 use crate::telling::tell;
 use crate::texts::help;
 use crate::words::{Request, WordsFault, read_words};
-use oc_laws::content_stays_true_throughout;
+use oc_laws::{content_stays_true_throughout, parent_links_form_no_ring};
 use oc_outside::{Sink, Source, write_all};
 use oc_replay::{ReplayEnd, replay};
 use oc_world::{Stage, World};
@@ -130,6 +130,7 @@ fn perform<S: Source, K: Sink, T: Stage>(
     match read_words(alloc, words) {
         Ok(Request::Replay) => {
             content_stays_true_throughout();
+            parent_links_form_no_ring();
             End::Replayed(replay(alloc, input, out, stage))
         }
         Ok(Request::Help) => write_help(out),

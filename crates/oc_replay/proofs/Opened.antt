@@ -3,7 +3,8 @@ use Rattle.std.proofs.Common.{◌≡◌, List, length, sym, ap, ◌∙◌, subst
 use Rattle.std.specs.List.{AllByRecursion}
 use Rattle.std.proofs.lemmas.List.FromFn.{length-range_with_len}
 use Rattle.oc_model.specs.declared.event.Event.{Event}
-use Rattle.oc_model.specs.Lawful.{IsPlayable, IsHeader}
+use Rattle.oc_model.specs.Lawful.{IsHeader}
+use Rattle.oc_model.specs.Playable.{IsPlayable}
 use Rattle.oc_model.specs.Node.{Header}
 use Rattle.oc_model.specs.World.{World, ids}
 use Rattle.oc_schedule.specs.Schedule.{IsSchedule}

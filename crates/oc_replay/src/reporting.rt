@@ -2,7 +2,7 @@
 
 ghost use Rattle.std.specs.Prelude.{◌≡◌, ℕ, ◌+◌, ◌-◌, ◌^◌, ◌<◌, [], ◌++◌, length, drop, take, fold, OnOk, IfOk, OnErr, IsErrOf};
 ghost use Rattle.std.specs.List.{AllByRecursion};
-ghost use Rattle.oc_model.specs.Lawful.{IsPlayable};
+ghost use Rattle.oc_model.specs.Playable.{IsPlayable};
 ghost use Rattle.oc_model.specs.World.{ids, message_at};
 ghost use Rattle.oc_outside.specs.Faults.{NoFall, Rose};
 ghost use Rattle.oc_replay.specs.Lines.{messages_text};

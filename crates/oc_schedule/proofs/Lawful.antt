@@ -6,7 +6,8 @@ use Rattle.std.proofs.lemmas.Bool.Decides.{nat_tests}
 use Rattle.std.proofs.lemmas.List.Sums.{sum_by_push}
 use Rattle.oc_base.specs.declared.why.Why.{Why}
 use Rattle.oc_model.specs.declared.event.Event.{Event}
-use Rattle.oc_model.specs.Lawful.{IsPlayable, IsHeader}
+use Rattle.oc_model.specs.Lawful.{IsHeader}
+use Rattle.oc_model.specs.Playable.{IsPlayable}
 use Rattle.oc_schedule.proofs.Ranges.{event_range, header_range}
 use Rattle.oc_schedule.proofs.Steps.{steps, chosen, behind_guard}
 use Rattle.oc_schedule.specs.declared.fault.ScheduleFault.TheVariants.{Limit}

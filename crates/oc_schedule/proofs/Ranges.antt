@@ -11,7 +11,8 @@ use Rattle.oc_model.specs.declared.event.Act.{Act}
 use Rattle.oc_model.specs.declared.event.Act.TheVariants.{Pull, Publish, Seal, Deliver}
 use Rattle.oc_model.specs.declared.event.Event.{Event}
 use Rattle.oc_model.specs.declared.event.Event.TheVariants.{Up, Do, Held}
-use Rattle.oc_model.specs.Lawful.{IsPlayableAct, IsPlayable, IsHeader, IsNode}
+use Rattle.oc_model.specs.Lawful.{IsHeader, IsNode}
+use Rattle.oc_model.specs.Playable.{IsPlayableAct, IsPlayable}
 use Rattle.oc_model.specs.Node.{Header}
 use Rattle.oc_schedule.proofs.Steps.{steps, chosen, behind_guard, within_guard}
 use Rattle.oc_schedule.specs.Fields.{one, two, three, six, is_number, number_in, node_in, group_in, bytes_in}

@@ -5,7 +5,8 @@ use Rattle.std.specs.Str.Lines.{lines}
 use Rattle.oc_base.specs.declared.why.Why.{Why}
 use Rattle.oc_base.specs.declared.why.Why.TheVariants as causes
 use Rattle.oc_model.specs.declared.event.Event.{Event}
-use Rattle.oc_model.specs.Lawful.{IsHeader, IsPlayable}
+use Rattle.oc_model.specs.Lawful.{IsHeader}
+use Rattle.oc_model.specs.Playable.{IsPlayable}
 use Rattle.oc_schedule.specs.declared.fault.ScheduleFault.{ScheduleFault}
 use Rattle.oc_schedule.specs.declared.fault.ScheduleFault.TheVariants.{Line, Limit}
 use Rattle.oc_schedule.specs.declared.fault.What.TheVariants as limits

@@ -44,7 +44,7 @@ pub rows_known : (t : List Cert) → IsTable t → AllByRecursion (λ k. is_news
 rows_known t up = rows_from t t (rows_found t up)
 
 -- what holds of each holds of those that are left
-all_drop : {X : Type 0} (P : X → Type 0) (n : ℕ) (xs : List X) → AllByRecursion P xs → AllByRecursion P (drop n xs)
+pub all_drop : {X : Type 0} (P : X → Type 0) (n : ℕ) (xs : List X) → AllByRecursion P xs → AllByRecursion P (drop n xs)
 all_drop P zero xs all = all
 all_drop P (suc n) [] all = tt
 all_drop P (suc n) (x ∷ xs) all = all_drop P n xs all.1

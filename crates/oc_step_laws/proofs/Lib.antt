@@ -14,3 +14,12 @@ pub mod Folds
 pub mod Unfolding
 pub mod Soundness
 pub mod Ranges
+pub mod LawfulFolds
+pub mod LawfulAsks
+pub mod LawfulAdopts
+pub mod LawfulChecks
+pub mod LawfulLooks
+pub mod LawfulServes
+pub mod Lines
+pub mod LawfulContents
+pub mod LawfulSteps

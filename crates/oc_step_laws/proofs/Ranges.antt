@@ -1,10 +1,9 @@
 -- What the small decisions give is within the ranges of what they are given.
-use Rattle.std.proofs.Common.{◌≡◌, ℕ, zero, suc, ◌+◌, ◌-◌, ◌*◌, ◌<◌, ◌≤◌, min, Bool, true, false, not, ◌&&◌, ◌||◌, ◌==◌, nat_lt, nat_le, if◌then◌else◌, Option, Some, None, option_map, List, [], ◌∷◌, ◌++◌, length, map, filter, find, take, set, get_or, ◌⊎◌, inl, inr, refl, ap, sym, subst, ◌∙◌, arith, length-take}
+use Rattle.std.proofs.Common.{ℕ, zero, suc, ◌+◌, ◌-◌, ◌*◌, ◌≤◌, min, Bool, not, ◌&&◌, ◌||◌, ◌==◌, nat_lt, nat_le, if◌then◌else◌, Option, Some, None, option_map, List, [], ◌∷◌, ◌++◌, length, map, filter, find, take, set, get_or, arith}
 use Rattle.std.specs.List.{AllByRecursion, range_with_len}
 use Rattle.std.specs.Option.{option_or}
 use Rattle.std.proofs.lemmas.Bool.{cond_both}
 use Rattle.oc_base.specs.declared.cert.Cert.{Cert}
-use Rattle.oc_base.specs.declared.cert.Child.{Child}
 use Rattle.oc_base.specs.declared.rank.Rank.{Rank}
 use Rattle.oc_base.specs.declared.refusal.Refusal.{Refusal}
 use Rattle.oc_base.specs.declared.refusal.Refusal.TheVariants as refusals
@@ -12,12 +11,12 @@ use Rattle.oc_model.specs.declared.place.Candidate.{Candidate}
 use Rattle.oc_model.specs.declared.place.Review.{Review}
 use Rattle.oc_model.specs.declared.place.Review.TheVariants as reviews
 use Rattle.oc_model.specs.declared.reading.Reading.{Reading}
-use Rattle.oc_model.specs.Adoption.{Host, rank_or_last, chain_child, chain_refusal, rank_refusal, adoption_refusal, precedes_any, most_depth}
+use Rattle.oc_model.specs.Adoption.{Host, rank_or_last, chain_refusal, rank_refusal, adoption_refusal, precedes_any, most_depth}
 use Rattle.oc_model.specs.Choice.{nearer_of, nearest, is_nearer, is_suitable, chosen, View, go_beneath, reviewed_with, reviewed, below, each_once, just, ask_order}
-use Rattle.oc_model.specs.Lawful.{IsNode, AreNodes, IsNodeOrNone, IsRate, IsRank, IsRankOrNone, IsCert, AreCerts, IsRefusal, AreChildren}
+use Rattle.oc_model.specs.Lawful.{IsNode, AreNodes, IsRate, IsRank, IsRankOrNone, IsCert, AreCerts, IsRefusal}
 use Rattle.oc_model.specs.Measures.{reading_of}
 use Rattle.oc_model.specs.Node.{no_reading}
-use Rattle.oc_model.specs.Numbers.{has, at, put_at}
+use Rattle.oc_model.specs.Numbers.{has}
 use Rattle.oc_model.specs.Table.{newest, put, is_news, merge, is_lease_of, leased_children}
 use Rattle.oc_model.proofs.Lists.{all_weaker, all_append}
 use Rattle.oc_step_laws.specs.Sound.{AreAbove, IsTable}

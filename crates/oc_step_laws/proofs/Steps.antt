@@ -66,7 +66,8 @@ writes_staying n q h = record {
   rest = rw h.records (omega arith);
 }
 
-goes_pulled : (o : Plan) (shelf : List Shelf) (p : ℕ) → Goes 0 0 o (pulled o shelf p)
+-- a pull writes nothing
+pub goes_pulled : (o : Plan) (shelf : List Shelf) (p : ℕ) → Goes 0 0 o (pulled o shelf p)
 goes_pulled o shelf p = either (p == o.node.me) (Goes 0 0 o) (answers o words.Own) (send o p (bodies.Fetch shelf)) (goes_says 0 0 o words.Own) (goes_send o p (bodies.Fetch shelf))
 
 writes_received : (n : Control) (shelf : List Shelf) (p : ℕ) (b : Body) → Writes (most_entries_of b) n (received (begun n) shelf p b)

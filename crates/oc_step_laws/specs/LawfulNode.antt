@@ -1,15 +1,14 @@
-use Rattle.std.specs.Prelude.{ℕ, ◌≤◌, Option, Some, None, List}
+use Rattle.std.specs.Prelude.{ℕ, ◌≡◌, ◌≤◌, Option, Some, None}
 use Rattle.std.specs.List.{AllByRecursion}
-use Rattle.oc_base.specs.declared.shelf.Shelf.{Shelf}
-use Rattle.oc_model.specs.declared.message.Message.{Message}
 use Rattle.oc_model.specs.declared.mode.Mode.{Mode}
-use Rattle.oc_model.specs.declared.mode.Mode.TheVariants.{Idle, Asking, Joined, Acting}
-use Rattle.oc_model.specs.declared.record.Record.{Record}
+use Rattle.oc_model.specs.declared.mode.Mode.TheVariants.{Asking, Joined}
 use Rattle.oc_model.specs.declared.soft.Search.{Search}
-use Rattle.oc_model.specs.declared.soft.Search.TheVariants.{Descend, Review}
+use Rattle.oc_model.specs.declared.soft.Search.TheVariants.{Descend}
 use Rattle.oc_model.specs.declared.soft.Soft.{Soft}
-use Rattle.oc_model.specs.Lawful.{IsNode, AreNodes, AreAncestors, IsRate, IsRankOrNone, AreCerts, IsMessage, IsRecord, last_second}
-use Rattle.oc_model.specs.Node.{Control, Durable}
+use Rattle.oc_model.specs.declared.want.Want.{Want}
+use Rattle.oc_model.specs.Groups.{shelf, most_chunk}
+use Rattle.oc_model.specs.Lawful.{IsNode, AreNodes, AreAncestors, IsRate, IsRankOrNone, AreCerts, IsMessage, IsRecord, IsShelf, last_second}
+use Rattle.oc_model.specs.Node.{Control, Durable, Node, Outcome}
 use Rattle.oc_model.specs.Plan.{Plan}
 use Rattle.oc_step_laws.specs.Sound.{IsTable}
 
@@ -41,16 +40,34 @@ pub record IsLawfulSoft (nodes : ℕ) (s : Soft) : Type 0 where
   pub tries : AreNodes nodes s.tries
   pub search : IsLawfulSearch nodes s.search
 
--- the control state of a node
-pub record IsLawfulControl (n : Control) : Type 0 where
-  pub me : IsNode n.nodes n.me
-  pub chain : n.chain ≤ n.nodes
-  pub kept : IsLawfulDurable n.nodes n.kept
-  pub soft : IsLawfulSoft n.nodes n.soft
+-- the control state of a node among so many
+pub record IsLawfulControl (nodes : ℕ) (n : Control) : Type 0 where
+  pub among : n.nodes ≡ nodes
+  pub me : IsNode nodes n.me
+  pub chain : n.chain ≤ nodes
+  pub kept : IsLawfulDurable nodes n.kept
+  pub soft : IsLawfulSoft nodes n.soft
   pub rates : AllByRecursion IsRate n.rates
 
--- a step under way, among so many nodes: of a lawful node, with lawful records and messages
-pub record IsLawfulPlan (o : Plan) : Type 0 where
-  pub node : IsLawfulControl o.node
-  pub records : AllByRecursion (IsRecord o.node.nodes) o.records
-  pub sends : AllByRecursion (IsMessage o.node.nodes) o.sends
+-- no more bytes than a chunk has
+abbrev pub IsLawfulWant : Option Want → Type 0
+IsLawfulWant None = Unit {0}
+IsLawfulWant (Some w) = w.count ≤ most_chunk
+
+-- a step under way: of a lawful node, with lawful records and messages
+pub record IsLawfulPlan (nodes : ℕ) (o : Plan) : Type 0 where
+  pub node : IsLawfulControl nodes o.node
+  pub records : AllByRecursion (IsRecord nodes) o.records
+  pub sends : AllByRecursion (IsMessage nodes) o.sends
+  pub wants : IsLawfulWant o.wants
+
+-- a node: its control state and its shelf
+pub record IsLawfulNode (nodes : ℕ) (n : Node) : Type 0 where
+  pub control : IsLawfulControl nodes n.control
+  pub shelf : IsShelf (shelf n.groups)
+
+-- what a step leaves, writes and sends
+pub record IsLawfulOutcome (nodes : ℕ) (o : Outcome) : Type 0 where
+  pub node : IsLawfulNode nodes o.node
+  pub records : AllByRecursion (IsRecord nodes) o.records
+  pub sends : AllByRecursion (IsMessage nodes) o.sends

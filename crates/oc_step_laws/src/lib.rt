@@ -6,18 +6,21 @@
 //! so that "the state after the input" and "the state after a crash and a restart" are one fold of one
 //! list. [`snapshots_stand_for_all`] says that a snapshot may stand in the place of all records before
 //! it. [`steps_fit_a_frame`] says that what one input writes fits one frame. [`reached_nodes_are_sound`]
-//! has what all this needs of a node, and that a new node has it and keeps it. The rest is about the
-//! orders that decide in a step: of ranks, and of certificates.
+//! has what all this needs of a node, and that a new node has it and keeps it, whatever its inputs.
+//! [`lawful_nodes_stay_lawful`] says that lawful inputs lead to lawful nodes, records and messages. The
+//! rest is about the orders that decide in a step: of ranks, and of certificates.
 #![tactic(auto)]
 
 mod folding;
 mod frames;
+mod lawful;
 mod order;
 mod reached;
 mod snapshots;
 
 pub use folding::folding_is_stepping;
 pub use frames::steps_fit_a_frame;
+pub use lawful::lawful_nodes_stay_lawful;
 pub use order::{
     certificates_are_ordered, merging_finds_the_newest, ranks_are_ordered, ranks_never_worsen,
 };

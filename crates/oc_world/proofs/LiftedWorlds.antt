@@ -18,7 +18,7 @@ use Rattle.oc_model.specs.declared.message.Message.{Message}
 use Rattle.oc_model.specs.declared.word.Word.{Word}
 use Rattle.oc_model.specs.declared.word.Word.TheVariants as words
 use Rattle.oc_model.specs.Groups.{group_of, group_or_empty, IsAscending}
-use Rattle.oc_model.specs.Lawful.{IsPlayable, IsPlayableAct}
+use Rattle.oc_model.specs.Playable.{IsPlayable, IsPlayableAct}
 use Rattle.oc_model.specs.Node.{Header, Outcome, new_node, restarted}
 use Rattle.oc_model.specs.NextWorld as model_events
 use Rattle.oc_model.specs.Step.{step}

@@ -8,7 +8,8 @@ use Rattle.oc_model.specs.declared.event.Act.TheVariants as acts
 use Rattle.oc_model.specs.declared.event.Event.{Event}
 use Rattle.oc_model.specs.declared.event.Event.TheVariants.{Up, Do, Held}
 use Rattle.oc_model.specs.declared.message.Message.{Message}
-use Rattle.oc_model.specs.Lawful.{IsHeader, IsPlayable, IsPlayableAct}
+use Rattle.oc_model.specs.Lawful.{IsHeader}
+use Rattle.oc_model.specs.Playable.{IsPlayable, IsPlayableAct}
 use Rattle.oc_model.specs.Node.{Header, Node, Outcome, new_node, restarted}
 use Rattle.oc_model.specs.Step.{step}
 use Rattle.oc_model.specs.NextWorld.{next_world, started}

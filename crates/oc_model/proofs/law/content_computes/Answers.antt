@@ -15,3 +15,18 @@ returns-clause-sealed_group_held c = refl
 
 pub returns-clause-served_counts : goal.returns-clause-served_counts
 returns-clause-served_counts c = refl
+
+pub returns-clause-torn_gate : goal.returns-clause-torn_gate
+returns-clause-torn_gate c = refl
+
+pub returns-clause-torn_gate_held : goal.returns-clause-torn_gate_held
+returns-clause-torn_gate_held c = refl
+
+pub returns-clause-down_and_unknown : goal.returns-clause-down_and_unknown
+returns-clause-down_and_unknown c = refl
+
+pub returns-clause-publish_elsewhere : goal.returns-clause-publish_elsewhere
+returns-clause-publish_elsewhere c = refl
+
+pub returns-clause-publish_elsewhere_held : goal.returns-clause-publish_elsewhere_held
+returns-clause-publish_elsewhere_held c = refl

@@ -28,6 +28,7 @@ returns-in-Ok-Replay-clause-happened g c =
             prefixes = c.content_stays_true_throughout.ensures.prefixes s.header s.events;
             acknowledged = c.content_stays_true_throughout.ensures.acknowledged s.header s.events;
             whole = c.content_stays_true_throughout.ensures.whole s.header s.events;
+            no_cycle = c.parent_links_form_no_ring.ensures.throughout s.header s.events;
           })
           c.replay.ensures.done c.replay.ensures.text c.replay.ensures.limit
           (both_on_source ((bytes : List ℕ) × g.S.Source.fails c.args.input.now bytes c.replay.new.source) (Rose (g.S.Source.faults c.args.input.now) (g.S.Source.faults c.replay.new.source)) c.replay.result c.replay.ensures.source c.replay.ensures.source_cause)

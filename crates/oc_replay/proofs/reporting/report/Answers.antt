@@ -1,6 +1,6 @@
 use Rattle.std.proofs.Common.{ℕ, ◌+◌, List, [], length, take, drop, sym, ap, ◌∙◌, subst, arith}
 use Rattle.std.specs.List.{AllByRecursion}
-use Rattle.oc_model.specs.Lawful.{IsPlayable}
+use Rattle.oc_model.specs.Playable.{IsPlayable}
 use Rattle.oc_model.specs.World.{ids}
 use Rattle.oc_replay.specs.Report.{told_from, run_text}
 use Rattle.oc_replay.proofs.Runs.{All-drop, written-next, written-end, fold-take}

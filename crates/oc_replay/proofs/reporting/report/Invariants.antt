@@ -1,6 +1,6 @@
 use Rattle.std.proofs.Common.{◌≡◌, length, take, drop, fold}
 use Rattle.std.specs.List.{AllByRecursion}
-use Rattle.oc_model.specs.Lawful.{IsPlayable}
+use Rattle.oc_model.specs.Playable.{IsPlayable}
 use Rattle.oc_model.specs.World.{ids}
 use Rattle.oc_outside.specs.Faults.{NoFall}
 use Rattle.oc_replay.specs.Report.{told_from, run_text}

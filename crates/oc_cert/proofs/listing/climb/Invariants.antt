@@ -1,0 +1,7 @@
+use Rattle.std.proofs.Common.{length, ◌-◌}
+use Rattle.oc_cert.specs.TableView.{IsNode, entries_of}
+use Rattle.oc_cert.proofs.Climbs.{IsClimb}
+use Rattle.oc_cert.proofs.listing.climb.Given as goal
+
+abbrev pub invariant-loop : goal.invariant-loop
+invariant-loop l = IsNode (length l.rows) l.place × IsClimb (entries_of l.rows) l.root (length l.rows - l.counter) l.fn.node l.place l.post.node

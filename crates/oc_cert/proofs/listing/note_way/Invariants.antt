@@ -1,0 +1,11 @@
+use Rattle.std.proofs.Common.{◌≡◌, length}
+use Rattle.oc_cert.specs.Listing.{is_beneath, AreKnown}
+use Rattle.oc_cert.specs.TableView.{IsNode, entries_of}
+use Rattle.oc_cert.proofs.listing.note_way.Given as goal
+
+abbrev pub invariant-loop : goal.invariant-loop
+invariant-loop l =
+    IsNode (length l.rows) l.place
+    × (is_beneath (entries_of l.rows) l.root l.place ≡ l.listed)
+    × (length l.known ≡ length l.rows)
+    × AreKnown (entries_of l.rows) l.root l.known

@@ -1,0 +1,2 @@
+pub mod TableView
+pub mod Listing

@@ -1,0 +1,163 @@
+ghost use Rattle.std.specs.Prelude.{◌≡◌, ◌-◌, ◌≤◌, ◌++◌, None, length, IfOk, IfSome, OnOk};
+ghost use Rattle.std.specs.Option.{option_to_list};
+ghost use Rattle.oc_model.specs.Numbers.{at};
+ghost use Rattle.oc_cert.specs.Listing.{line_in, lines_in, lines_of_row, is_beneath, AreKnown};
+ghost use Rattle.oc_cert.specs.TableView.{IsNode, AreRows, entries_of};
+
+use crate::post::Post;
+use crate::rows::{parent_of, place_of};
+use oc_base::{Cert, Line, Memory, NodeId};
+use std::alloc::Global;
+
+/// What is known of a node.
+fn known_of(known: &[Option<bool>], node: NodeId) -> Option<bool>
+    requires { IsNode (length known.now) node }
+    ensures { result ≡ at known.now node None }
+{
+    known[place_of(node)]
+}
+
+/// Whether the way up from a node comes to the root. It ends where something is known already.
+fn climb(rows: &[Option<Cert>], known: &[Option<bool>], root: NodeId, node: NodeId) -> bool
+    requires rows { AreRows rows.now }
+    requires node { IsNode (length rows.now) node }
+    requires places { length known.now ≡ length rows.now }
+    requires known { AreKnown (entries_of rows.now) root known.now }
+    ensures { result ≡ is_beneath (entries_of rows.now) root node }
+{
+    let mut place = node;
+    let mut post = Post::at(node);
+    for _ in 0..rows.len() {
+        if let Some(listed) = known_of(known, place) {
+            return listed;
+        }
+        match parent_of(rows, place) {
+            None => return false,
+            Some(parent) if parent == root => return true,
+            Some(parent) if parent == post.node => return false,
+            Some(parent) => {
+                place = parent;
+                post = post.after(parent);
+            }
+        }
+    }
+    false
+}
+
+/// Notes the answer of all nodes on the way up from a node, as far as nothing was known of them.
+fn note_way(
+    rows: &[Option<Cert>],
+    known: &mut [Option<bool>],
+    root: NodeId,
+    node: NodeId,
+    listed: bool,
+)
+    requires rows { AreRows rows.now }
+    requires node { IsNode (length rows.now) node }
+    requires places { length known.old ≡ length rows.now }
+    requires known { AreKnown (entries_of rows.now) root known.old }
+    requires listed { is_beneath (entries_of rows.now) root node ≡ listed }
+    ensures { AreKnown (entries_of rows.now) root known.new }
+{
+    let mut place = node;
+    for _ in 0..rows.len() {
+        if known_of(known, place).is_some() {
+            return;
+        }
+        known[place_of(place)] = Some(listed);
+        match parent_of(rows, place) {
+            Some(parent) if parent != root => place = parent,
+            _ => return,
+        }
+    }
+}
+
+/// The line of a node, where it is listed beneath the root.
+fn line_of(
+    rows: &[Option<Cert>],
+    known: &mut [Option<bool>],
+    root: NodeId,
+    node: NodeId,
+) -> Option<Line>
+    requires rows { AreRows rows.now }
+    requires node { IsNode (length rows.now) node }
+    requires places { length known.old ≡ length rows.now }
+    requires known { AreKnown (entries_of rows.now) root known.old }
+    ensures line { result ≡ line_in (entries_of rows.now) root node }
+    ensures known { AreKnown (entries_of rows.now) root known.new }
+{
+    let listed = climb(rows, known, root, node);
+    note_way(rows, known, root, node, listed);
+    if node == root || !listed {
+        return None;
+    }
+    match parent_of(rows, node) {
+        Some(parent) => Some(Line { node, parent }),
+        None => None,
+    }
+}
+
+/// Puts a line at the end, if there is one.
+fn push_line(lines: &mut Vec<Line>, line: Option<Line>) -> Result<(), Memory>
+    ensures { OnOk result (lines.new.items ≡ lines.old.items ++ option_to_list line) }
+{
+    if let Some(line) = line {
+        lines.push(line)?;
+    }
+    Ok(())
+}
+
+/// The line of the node of a row.
+fn line_of_row(
+    rows: &[Option<Cert>],
+    known: &mut [Option<bool>],
+    root: NodeId,
+    row: &Option<Cert>,
+) -> Option<Line>
+    requires rows { AreRows rows.now }
+    requires row { IfSome row.now (λ cert. IsNode (length rows.now) cert.subject) }
+    requires places { length known.old ≡ length rows.now }
+    requires known { AreKnown (entries_of rows.now) root known.old }
+    ensures line { option_to_list result ≡ lines_of_row (entries_of rows.now) root row.now }
+    ensures known { AreKnown (entries_of rows.now) root known.new }
+{
+    match row {
+        Some(cert) => line_of(rows, known, root, cert.subject),
+        None => None,
+    }
+}
+
+/// Puts the lines of all who are listed beneath the root at the end, ascending. Each row is looked at
+/// a few times for all of them together.
+fn push_lines(
+    lines: &mut Vec<Line>,
+    rows: &[Option<Cert>],
+    known: &mut [Option<bool>],
+    root: NodeId,
+) -> Result<(), Memory>
+    requires rows { AreRows rows.now }
+    requires places { length known.old ≡ length rows.now }
+    requires known { AreKnown (entries_of rows.now) root known.old }
+    ensures { OnOk result (lines.new.items ≡ lines.old.items ++ lines_in (entries_of rows.now) root) }
+{
+    for row in rows {
+        push_line(lines, line_of_row(rows, known, root, row))?;
+    }
+    Ok(())
+}
+
+/// The lines of all who are listed beneath the root, ascending.
+#[tactic(auto, using(crate::proofs::Climbs::none_known))]
+pub(crate) fn lines_of(
+    alloc: Global,
+    rows: &[Option<Cert>],
+    root: NodeId,
+) -> Result<Vec<Line>, Memory>
+    requires { AreRows rows.now }
+    ensures { IfOk result (λ lines. lines.items ≡ lines_in (entries_of rows.now) root) }
+{
+    let mut known = vec![in alloc; None; rows.len()]?;
+    let mut lines = Vec::new(alloc);
+    push_lines(&mut lines, rows, &mut known, root)?;
+    Ok(lines)
+}

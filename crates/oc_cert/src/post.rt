@@ -1,0 +1,47 @@
+ghost use Rattle.std.specs.Prelude.{◌≡◌, ◌⊎◌};
+
+use oc_base::NodeId;
+
+/// A node that a climb came by: if it comes there again, it goes round in a loop.
+///
+/// The post is taken anew ever more seldom (Brent's way to find a loop), so a climb that goes round
+/// ends after about three times as many steps as it came by rows.
+#[derive(Clone, Copy)]
+pub(crate) struct Post {
+    pub(crate) node: NodeId,
+    /// Steps until it is taken anew.
+    left: usize,
+    /// Steps between the last two times.
+    stride: usize,
+}
+
+impl Post {
+    pub(crate) fn at(node: NodeId) -> Post
+        ensures { result.node ≡ node }
+    {
+        Post {
+            node,
+            left: 0,
+            stride: 1,
+        }
+    }
+
+    /// The post after a step to this node.
+    pub(crate) fn after(self, node: NodeId) -> Post
+        ensures { (result.node ≡ node) ⊎ (result.node ≡ self.node) }
+    {
+        if self.left == 0 {
+            let stride = self.stride.saturating_mul(2);
+            Post {
+                node,
+                left: stride,
+                stride,
+            }
+        } else {
+            Post {
+                left: self.left - 1,
+                ..self
+            }
+        }
+    }
+}

@@ -1,0 +1,61 @@
+ghost use Rattle.std.specs.Prelude.{◌≡◌, ◌-◌, ◌≤◌, None, Some, IfSome, length};
+ghost use Rattle.oc_model.specs.Table.{newest, parent_in, is_news, put};
+ghost use Rattle.oc_cert.specs.TableView.{IsNode, IsAmongNodes, AreRows, entries_of};
+
+use oc_base::{Cert, NodeId};
+
+/// The certificate of a node, if there is one.
+#[tactic(auto, using(crate::proofs::Entries::newest_zero))]
+pub(crate) fn row_of(rows: &[Option<Cert>], node: NodeId) -> Option<Cert>
+    requires { AreRows rows.now }
+    ensures entry { result ≡ newest (entries_of rows.now) node }
+    ensures fits { IfSome result (λ entry. (entry.subject ≡ node) × IsAmongNodes (length rows.now) entry) }
+{
+    match (node.0 as usize).checked_sub(1) {
+        None => None,
+        Some(place) => rows.get(place).copied().flatten(),
+    }
+}
+
+/// The parent of a node that lives by its certificate.
+pub(crate) fn parent_of(rows: &[Option<Cert>], node: NodeId) -> Option<NodeId>
+    requires { AreRows rows.now }
+    ensures parent { result ≡ parent_in (entries_of rows.now) node }
+    ensures fits { IfSome result (λ parent. IsNode (length rows.now) parent) }
+{
+    match row_of(rows, node) {
+        Some(cert) if !cert.dead => Some(cert.parent),
+        _ => None,
+    }
+}
+
+/// Whether there is no row of the certificate's subject, or the certificate outranks it.
+pub(crate) fn is_news(rows: &[Option<Cert>], cert: &Cert) -> bool
+    requires { AreRows rows.now }
+    ensures { result ≡ is_news (entries_of rows.now) cert.now }
+{
+    match row_of(rows, cert.subject) {
+        Some(entry) => cert.outranks(&entry),
+        None => true,
+    }
+}
+
+/// The place of a node's row.
+pub(crate) fn place_of(node: NodeId) -> usize
+    requires { 1 ≤ node }
+    ensures { result ≡ node - 1 }
+{
+    node.0 as usize - 1
+}
+
+/// Sets the row of the certificate's subject.
+#[tactic(auto, using(crate::proofs::Entries::put_row, crate::proofs::Entries::set_fits, crate::proofs::Entries::put_found))]
+pub(crate) fn put(rows: &mut [Option<Cert>], cert: &Cert)
+    requires rows { AreRows rows.old }
+    requires cert { IsAmongNodes (length rows.old) cert.now }
+    ensures entries { entries_of rows.new ≡ put (entries_of rows.old) cert.now }
+    ensures found { newest (entries_of rows.new) cert.now.subject ≡ Some cert.now }
+    ensures rows { AreRows rows.new }
+{
+    rows[place_of(cert.subject)] = Some(*cert);
+}

@@ -1,0 +1,67 @@
+ghost use Rattle.std.specs.Prelude.{◌≡◌, Option, Some, None, IfErr, OnOk};
+ghost use Rattle.oc_model.specs.Adoption.{adoption_refusal, chain_refusal, rank_refusal};
+ghost use Rattle.oc_model.specs.Numbers.{has};
+
+use crate::Host;
+use crate::take::MOST_DEPTH;
+use oc_base::{NodeId, Rank, Refusal};
+
+/// Whether the host becomes the parent of the asker, which has this rank or none: Ok, or the first
+/// refusal that has a cause, in the order of [`Refusal`]. The rank keeps cycles out where the list of
+/// ancestors is old. It takes no memory.
+pub fn may_adopt(host: &Host, asker: NodeId, rank: Option<Rank>) -> Result<(), Refusal>
+    ensures adopted { OnOk result (adoption_refusal host.now asker rank ≡ None) }
+    ensures refused { IfErr result (λ why. adoption_refusal host.now asker rank ≡ Some why) }
+{
+    match refusal(host, asker, rank) {
+        Some(why) => Err(why),
+        None => Ok(()),
+    }
+}
+
+/// The first refusal that has a cause.
+fn refusal(host: &Host, asker: NodeId, rank: Option<Rank>) -> Option<Refusal>
+    ensures { result ≡ adoption_refusal host.now asker rank }
+{
+    if asker == host.id {
+        Some(Refusal::Own)
+    } else if !host.in_tree {
+        Some(Refusal::NotJoined)
+    } else if is_among(asker, host.ancestors) {
+        Some(Refusal::Ancestor)
+    } else if host.rank.depth >= MOST_DEPTH {
+        Some(Refusal::Depth)
+    } else {
+        by_chain(host, asker).or(by_rank(host.rank, rank))
+    }
+}
+
+/// The chain stays one line: the host, a member of it, has a member beneath it already, beneath which
+/// the asker belongs.
+fn by_chain(host: &Host, asker: NodeId) -> Option<Refusal>
+    ensures { result ≡ chain_refusal host.now asker host.now.chain_child }
+{
+    let child = host.chain_child?;
+    if host.id.0 <= host.chain && (asker.0 > host.chain || asker.0 > child.0) {
+        Some(Refusal::Chain(child))
+    } else {
+        None
+    }
+}
+
+/// A parent's rank precedes its child's, if that has one.
+fn by_rank(own: Rank, rank: Option<Rank>) -> Option<Refusal>
+    ensures { result ≡ rank_refusal own rank }
+{
+    match rank {
+        Some(rank) if !own.precedes(rank) => Some(Refusal::Rank),
+        _ => None,
+    }
+}
+
+/// Whether the id is one of these.
+fn is_among(id: NodeId, ids: &[NodeId]) -> bool
+    ensures { result ≡ has ids.now id }
+{
+    ids.contains(&id)
+}

@@ -1,0 +1,33 @@
+use oc_base::{NodeId, Rank};
+use std::marker::Model;
+
+/// A node that is asked to be the parent, as far as the answer hangs on it. Contracts see the model's
+/// record of the same name.
+#[derive(Debug, Drop)]
+pub struct Host<'a> {
+    pub id: NodeId,
+    /// Whether it is acting or joined.
+    pub in_tree: bool,
+    pub rank: Rank,
+    /// Nearest first.
+    pub ancestors: &'a [NodeId],
+    /// The length of the chain: its members are the nodes from 1 to this one.
+    pub chain: u32,
+    /// The least of its leased children that is a member of the chain and not the asker.
+    pub chain_child: Option<NodeId>,
+}
+
+impl<'a> Model for Host<'a> {
+    ghost use Rattle.oc_model.specs.Adoption.{Host as Asked};
+
+    ghost Value = { Asked };
+
+    ghost view = { λ h. record {
+      me = h.id;
+      in_tree = h.in_tree;
+      rank = h.rank;
+      ancestors = h.ancestors.now;
+      chain = h.chain;
+      chain_child = h.chain_child;
+    } };
+}

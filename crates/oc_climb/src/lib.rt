@@ -1,0 +1,21 @@
+//! Whom a node takes as its child, and the rank that it takes from its parent.
+//!
+//! Parent links make no cycle because a parent's rank precedes its child's and a rank never worsens.
+//! [`may_adopt`] keeps the first and [`take_rank`] the second. A contract sees a [`Host`] as the
+//! model's, and each call as the model's function of the same name.
+//!
+//! The layers above rest on this: [`may_adopt`] answers the first refusal that has a cause, and Ok
+//! exactly where none has one ([`the_first_cause_refuses`]); a rank that is taken is the old one or
+//! precedes it ([`ranks_never_worsen`]); and precedence is a strict order ([`precedence_is_strict`]).
+#![tactic(auto)]
+
+mod adopt;
+mod host;
+mod law;
+mod take;
+
+pub use adopt::may_adopt;
+pub use host::Host;
+pub use law::{precedence_is_strict, ranks_never_worsen, the_first_cause_refuses};
+pub use oc_base::Refusal;
+pub use take::take_rank;

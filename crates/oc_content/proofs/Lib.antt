@@ -1,0 +1,17 @@
+pub mod Names
+pub mod Lists
+pub mod Lines
+pub mod Meanings
+pub mod Tracking
+pub mod Adding
+pub mod Spelling
+pub mod Halving
+pub mod Causes
+pub mod Others
+pub mod Views
+pub mod Puts
+pub mod Loading
+pub mod Journals
+pub mod Locating
+pub mod Across
+pub mod Finding

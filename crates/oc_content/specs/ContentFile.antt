@@ -1,0 +1,68 @@
+-- What the frames of a content file mean.
+use Rattle.std.specs.Prelude.{◌≡◌, ◌≢◌, ℕ, suc, ◌+◌, ◌<◌, Bool, ◌&&◌, ◌||◌, not, ◌==◌, nat_lt, nat_le, if◌then◌else◌, Option, Some, None, IsSome, unwrap_or, option_map, List, [], length, take, fold, ◌++◌}
+use Rattle.oc_base.specs.declared.shelf.Shelf.{Shelf}
+use Rattle.oc_journal.specs.Stopped.{is_kept_new}
+use Rattle.oc_content.specs.Groups.{Group, group_of, line_of, group_or_empty, with_group, shelf, bytes_of}
+use Rattle.oc_content.specs.Entries.{Entry, entry_of}
+
+-- the greatest number of groups, and of bytes of a group
+abbrev pub most_groups : ℕ
+most_groups = 64
+
+abbrev pub most_bytes : ℕ
+most_bytes = 1073741824
+
+-- Whether an entry with this start, so many bytes and perhaps a seal may stand behind what is held. It begins where its group ends, which is
+-- not sealed and does not grow past its limit. A group that is new is not one too many, and to one that is held the entry adds something.
+abbrev pub fits : Option Shelf → ℕ → ℕ → ℕ → Bool → Bool
+fits None groups start count seals = (start == 0) && nat_lt groups most_groups && nat_le count most_bytes
+fits (Some line) groups start count seals =
+    (start == line.held) && not line.sealed && nat_le (line.held + count) most_bytes && (seals || nat_lt 0 count)
+
+-- a group with the bytes of an entry at its end, and its seal
+abbrev pub grown : Entry → Group → Group
+grown e k = record { name = e.group; bytes = k.bytes ++ e.bytes; sealed = k.sealed || e.seals }
+
+-- the groups with an entry
+abbrev pub with_entry : Entry → List Group → List Group
+with_entry e ks = with_group (grown e (group_or_empty e.group ks)) ks
+
+-- the groups after an entry, if it may stand there
+abbrev pub taken : List Group → Option Entry → Option (List Group)
+taken ks None = None
+taken ks (Some e) = if fits (line_of e.group (shelf ks)) (length ks) e.start (length e.bytes) e.seals then Some (with_entry e ks) else None
+
+-- the groups after one more frame; none where it, or one before it, is bad
+abbrev pub more : Option (List Group) → List ℕ → Option (List Group)
+more None body = None
+more (Some ks) body = taken ks (entry_of body)
+
+-- what frames of these bodies mean: the groups, ascending by name; none where one of them is bad
+abbrev pub content_of : List (List ℕ) → Option (List Group)
+content_of bodies = fold more (Some []) bodies
+
+-- the first bad frame
+pub record IsFirstBad (bodies : List (List ℕ)) (i : ℕ) : Type 0 where
+  pub within : i < length bodies
+  pub before : IsSome (content_of (take i bodies))
+  pub bad : content_of (take (suc i) bodies) ≡ None
+
+-- the groups of frames that are all good
+abbrev pub groups_in : List (List ℕ) → List Group
+groups_in bodies = unwrap_or (content_of bodies) []
+
+-- the bytes of the group of this name in such frames
+abbrev pub bytes_in : List ℕ → List (List ℕ) → List ℕ
+bytes_in g bodies = bytes_of g (groups_in bodies)
+
+-- the frames are good, and these lines tell their groups
+abbrev pub IsShelved : List (List ℕ) → List Shelf → Type 0
+IsShelved bodies lines = option_map shelf (content_of bodies) ≡ Some lines
+
+-- all groups of other names are as they were
+abbrev pub IsSameElsewhere : List ℕ → List Group → List Group → Type 0
+IsSameElsewhere g old new = (name : List ℕ) → name ≢ g → group_of name new ≡ group_of name old
+
+-- the groups after the calls that append an entry were stopped
+abbrev pub groups_after : ℕ → ℕ → List Group → Entry → List Group
+groups_after calls image groups e = if is_kept_new calls image then with_entry e groups else groups

@@ -1,0 +1,113 @@
+-- The index: the line of each group, and the frames that hold its bytes.
+use Rattle.std.specs.Prelude.{◌≡◌, ℕ, zero, suc, ◌+◌, ◌<◌, ◌≤◌, ◌||◌, nat_lt, if◌then◌else◌, Some, List, [], ◌∷◌, ◌++◌, length, drop, map, get_or, insert, flat_map, vec_capacity, All, IsTrue, Bool}
+use Rattle.oc_base.specs.declared.shelf.Shelf.{Shelf}
+use Rattle.oc_content.specs.declared.place.Place.{Place}
+use Rattle.oc_content.specs.declared.place.Place.TheVariants.{Found, Free}
+use Rattle.oc_content.specs.declared.heading.Heading.{Heading}
+use Rattle.oc_content.specs.declared.track.Span.{Span}
+use Rattle.oc_content.specs.declared.track.Track.{Track}
+use Rattle.oc_content.specs.declared.index.Index.{Index}
+use Rattle.oc_content.specs.Tracks.{room_of}
+use Rattle.oc_content.specs.Groups.{Group, shelf, IsAscending}
+use Rattle.oc_content.specs.Entries.{entry_of}
+use Rattle.oc_content.specs.ContentFile.{content_of, most_groups, most_bytes}
+
+-- a list with a change of the element at i
+abbrev pub changed : {X : Type 0} → (X → X) → ℕ → List X → List X
+changed f i [] = []
+changed f zero (x ∷ xs) = f x ∷ xs
+changed f (suc i) (x ∷ xs) = x ∷ changed f i xs
+
+-- the bytes of a span: those of its frame's body from a place on
+abbrev pub bytes_at : List (List ℕ) → Span → List ℕ
+bytes_at bodies s = drop s.skip (get_or bodies s.frame [])
+
+-- the span is an entry of this group, which begins at this place of it and has bytes
+pub record IsSpan (bodies : List (List ℕ)) (group : List ℕ) (at : ℕ) (s : Span) : Type 0 where
+  pub start : s.start ≡ at
+  pub within : s.frame < length bodies
+  pub some : 0 < length (bytes_at bodies s)
+  pub seals : Bool
+  pub says : entry_of (get_or bodies s.frame []) ≡ Some (record { group = group; start = at; bytes = bytes_at bodies s; seals = seals })
+
+-- the spans stand one behind the other, from this place of the group on
+abbrev pub AreSpans : List (List ℕ) → List ℕ → ℕ → List Span → Type 0
+AreSpans bodies group at [] = Unit {0}
+AreSpans bodies group at (s ∷ ss) =
+    IsSpan bodies group at s × AreSpans bodies group (at + length (bytes_at bodies s)) ss
+
+-- the spans are entries of the group, and hold its bytes
+pub record IsTracked (bodies : List (List ℕ)) (k : Group) (ss : List Span) : Type 0 where
+  pub spans : AreSpans bodies k.name 0 ss
+  pub bytes : flat_map (bytes_at bodies) ss ≡ k.bytes
+
+-- each group is tracked
+abbrev pub AreTracked : List (List ℕ) → List Group → List (List Span) → Type 0
+AreTracked bodies [] [] = Unit {0}
+AreTracked bodies [] (p ∷ ps) = ⊥
+AreTracked bodies (k ∷ ks) [] = ⊥
+AreTracked bodies (k ∷ ks) (p ∷ ps) = IsTracked bodies k p × AreTracked bodies ks ps
+
+-- the spans of each group
+abbrev pub paths : List Track → List (List Span)
+paths tracks = map (λ t. t.spans.items) tracks
+
+-- the length of each group
+abbrev pub helds : List Shelf → List ℕ
+helds ss = map (λ s. s.held) ss
+
+-- for how many more spans each track has memory
+abbrev pub rooms : List Track → List ℕ
+rooms tracks = map room_of tracks
+
+-- There is a track for each line, and memory for as many of both as there may be. The lines ascend by name, and are within the limits.
+pub record IsSized (x : Index) : Type 0 where
+  pub rows : length x.tracks.items ≡ length x.shelves.items
+  pub line_memory : most_groups ≤ vec_capacity x.shelves
+  pub track_memory : most_groups ≤ vec_capacity x.tracks
+  pub ascending : IsAscending x.shelves.items
+  pub few : length x.shelves.items ≤ most_groups
+  pub short : All (λ s. s.held ≤ most_bytes) x.shelves.items
+
+-- the place is one of so many groups, or free for one more
+abbrev pub IsWithin : Place → ℕ → Type 0
+IsWithin (Found i) n = i < n
+IsWithin (Free i) n = (i ≤ n) × (n < most_groups)
+
+-- memory for one more frame: of a group that is held in its own track, of a new one in the track that it brings
+abbrev pub HasRoom : List ℕ → ℕ → Place → Type 0
+HasRoom rooms room (Found i) = 0 < get_or rooms i 0
+HasRoom rooms room (Free i) = 0 < room
+
+-- the spans stay, and all memory
+pub record KeepsTracks (old new : List Track) : Type 0 where
+  pub paths : paths new ≡ paths old
+  pub rooms : (i : ℕ) → get_or (rooms old) i 0 ≤ get_or (rooms new) i 0
+
+-- the line of a group with an entry of so many bytes
+abbrev pub line_with : Heading → ℕ → Shelf → Shelf
+line_with h count s = record { group = s.group; held = s.held + count; sealed = s.sealed || h.seals }
+
+-- the lines with an entry
+abbrev pub lines_with : Place → Heading → ℕ → List Shelf → List Shelf
+lines_with (Found i) h count ss = changed (line_with h count) i ss
+lines_with (Free i) h count ss = insert ss i (record { group = h.group; held = count; sealed = h.seals })
+
+-- the span of an entry that has bytes
+abbrev pub span_of : Heading → ℕ → ℕ → List Span
+span_of h count frame =
+    if nat_lt 0 count then record { frame = frame; start = h.start; skip = h.skip } ∷ [] else []
+
+-- the paths with an entry
+abbrev pub paths_with : Place → List Span → List (List Span) → List (List Span)
+paths_with (Found i) ss ps = changed (λ p. p ++ ss) i ps
+paths_with (Free i) ss ps = insert ps i ss
+
+-- The index is that of frames of these bodies. That the spans have the right numbers is known over an honest disk.
+pub record IsIndexOf (bodies : List (List ℕ)) (groups : List Group) (x : Index) (honest : Bool) : Type 0 where
+  pub content : content_of bodies ≡ Some groups
+  pub lines : x.shelves.items ≡ shelf groups
+  pub rows : length x.tracks.items ≡ length x.shelves.items
+  pub line_memory : most_groups ≤ vec_capacity x.shelves
+  pub track_memory : most_groups ≤ vec_capacity x.tracks
+  pub tracked : IsTrue honest → AreTracked bodies groups (paths x.tracks.items)

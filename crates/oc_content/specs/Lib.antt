@@ -1,0 +1,12 @@
+pub mod Headings
+pub mod Errors
+pub mod Groups
+pub mod Entries
+pub mod ContentFile
+pub mod Putting
+pub mod Places
+pub mod Tracks
+pub mod Pieces
+pub mod Indexes
+pub mod Founds
+pub mod ContentView

@@ -1,0 +1,31 @@
+-- What is refused, and what is added, where bytes are put to a group from a place on.
+use Rattle.std.specs.Prelude.{ℕ, ◌+◌, ◌-◌, Bool, false, ◌&&◌, not, nat_lt, nat_le, if◌then◌else◌, Option, Some, None, List, length, drop}
+use Rattle.oc_base.specs.declared.shelf.Shelf.{Shelf}
+use Rattle.oc_content.specs.declared.errors.PutError.{PutError}
+use Rattle.oc_content.specs.declared.errors.PutError.TheVariants.{Gap, Sealed, TooManyGroups, TooLong}
+use Rattle.oc_content.specs.declared.putting.Standing.{Standing}
+use Rattle.oc_content.specs.ContentFile.{most_groups, most_bytes}
+use Rattle.oc_content.specs.Entries.{Entry}
+
+-- how a group stands that has this line, or none, among so many: an absent one is empty, and perhaps one too many
+abbrev pub standing : Option Shelf → ℕ → Standing
+standing None groups = record { held = 0; sealed = false; one_too_many = nat_le most_groups groups }
+standing (Some line) groups = record { held = line.held; sealed = line.sealed; one_too_many = false }
+
+-- the first that refuses so many bytes from a place on
+abbrev pub fault_of : Standing → ℕ → ℕ → Option PutError
+fault_of s start count =
+    if nat_lt s.held start then Some (Gap s.held)
+    else if s.sealed && nat_lt s.held (start + count) then Some Sealed
+    else if s.one_too_many then Some TooManyGroups
+    else if nat_lt most_bytes (start + count) then Some TooLong
+    else None
+
+-- the bytes past held; and the seal where they are the last, reach the end of what is held, and the group is not sealed
+abbrev pub put_entry : Standing → List ℕ → ℕ → List ℕ → Bool → Entry
+put_entry s group start bytes last = record {
+  group = group;
+  start = s.held;
+  bytes = drop (s.held - start) bytes;
+  seals = last && not s.sealed && nat_le s.held (start + length bytes);
+}

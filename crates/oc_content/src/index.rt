@@ -1,0 +1,302 @@
+//! The line and the track of each group.
+
+ghost use Rattle.std.specs.Prelude.{◌≡◌, ℕ, ◌+◌, ◌^◌, ◌<◌, ◌≤◌, Bool, [], ◌∷◌, ◌++◌, List, length, vec_capacity, None, Some, true, MatchBool, IsTrue, IfOk, IfSome, MatchOption, OnOk, All, insert, get_or, ◌||◌};
+ghost use Rattle.oc_content.specs.Groups.{Group, line_of, held_of, IsHeldAt, IsAscending};
+ghost use Rattle.oc_content.specs.Entries.{entry_of};
+ghost use Rattle.oc_content.specs.ContentFile.{fits, taken, with_entry, most_groups, most_bytes};
+ghost use Rattle.oc_content.specs.Places.{IsPlace};
+ghost use Rattle.oc_content.specs.Tracks.{room_of};
+ghost use Rattle.oc_content.specs.Indexes.{IsIndexOf, IsSized, IsWithin, HasRoom, paths, rooms, line_with, lines_with, span_of, paths_with, changed, KeepsTracks, helds, IsTracked};
+ghost use Rattle.oc_content.specs.Founds.{IsRest, IsSpot};
+
+use crate::heading::Heading;
+use crate::piece::Piece;
+use crate::place::{Place, place_of};
+use crate::spot::Spot;
+use crate::track::{Span, Track, find_byte};
+use oc_base::{GroupName, Shelf};
+use std::alloc::{AllocError, Global};
+
+/// The most groups.
+pub const MOST_GROUPS: usize = 64;
+
+/// The most bytes of a group.
+pub const MOST_BYTES: u64 = 1 << 30;
+
+/// The lines of the groups, ascending by name, and their tracks in the same order.
+#[derive(Drop)]
+pub struct Index {
+    pub shelves: Vec<Shelf>,
+    pub tracks: Vec<Track>,
+}
+
+impl Index {
+    /// No groups, and memory for as many lines as there may be.
+    pub fn new(alloc: Global) -> Result<Index, AllocError>
+        ensures lines { IfOk result (λ index. index.shelves.items ≡ []) }
+        ensures tracks { IfOk result (λ index. index.tracks.items ≡ []) }
+        ensures line_memory { IfOk result (λ index. most_groups ≤ vec_capacity index.shelves) }
+        ensures track_memory { IfOk result (λ index. most_groups ≤ vec_capacity index.tracks) }
+    {
+        Ok(Index {
+            shelves: Vec::with_capacity(alloc, MOST_GROUPS)?,
+            tracks: Vec::with_capacity(alloc, MOST_GROUPS)?,
+        })
+    }
+
+    /// Takes the frame of this number, and answers whether it may stand behind those before it.
+    pub fn take(&mut self, alloc: Global, frame: u64, body: &[u8]) -> Result<bool, AllocError>
+        requires { IsSized self.old }
+        ensures { IfOk result (λ took. (bodies : List (List ℕ)) (groups : List Group) (honest : Bool)
+            → IsIndexOf bodies groups self.old honest → (IsTrue honest → frame ≡ length bodies)
+            → MatchBool took
+            ((more : List Group) × IsIndexOf (bodies ++ body.now ∷ []) more self.new honest)
+            (taken groups (entry_of body.now) ≡ None)) }
+    {
+        let Some(heading) = Heading::read(body) else {
+            return Ok(false);
+        };
+        let count = (body.len() - heading.skip as usize) as u64;
+        let place = place_of(&self.shelves, &heading.group);
+        if !self.fits(place, &heading, count) {
+            return Ok(false);
+        }
+        let track = self.reserve(alloc, place)?;
+        self.add(place, track, &heading, count, frame);
+        Ok(true)
+    }
+
+    /// Whether an entry with so many bytes may stand behind what is held.
+    fn fits(&self, place: Place, heading: &Heading, count: u64) -> bool
+        requires { IsPlace self.now.shelves.items heading.now.group place }
+        ensures { result ≡ fits (line_of heading.now.group self.now.shelves.items)
+            (length self.now.shelves.items) heading.now.start count heading.now.seals }
+    {
+        match place {
+            Place::Found(at) => fits_held(&self.shelves[at], heading, count),
+            Place::Free(_) => fits_new(self.shelves.len(), heading, count),
+        }
+    }
+
+    /// Memory for one more span of a group: in its own track, or in the one that is handed out.
+    pub fn reserve(&mut self, alloc: Global, place: Place) -> Result<Track, AllocError>
+        requires { IsWithin place (length self.old.tracks.items) }
+        ensures room { IfOk result (λ track. HasRoom (rooms self.new.tracks.items) (room_of track) place) }
+        ensures empty { IfOk result (λ track. track.spans.items ≡ []) }
+        ensures lines { self.new.shelves ≡ self.old.shelves }
+        ensures tracks { KeepsTracks self.old.tracks.items self.new.tracks.items }
+        ensures memory { vec_capacity self.old.tracks ≤ vec_capacity self.new.tracks }
+    {
+        match place {
+            Place::Found(at) => {
+                reserve_at(&mut self.tracks, at)?;
+                Ok(Track::new(alloc))
+            }
+            Place::Free(_) => Track::with_room(alloc),
+        }
+    }
+
+    /// Finds a byte of the group at a place: the spans from that on which holds it, and the place of
+    /// the byte among those of the first.
+    pub fn find(&self, at: usize, start: u64) -> Option<(&[Span], u32)>
+        requires within { at < length self.now.shelves.items }
+        requires rows { length self.now.tracks.items ≡ length self.now.shelves.items }
+        requires short { All (λ s. s.held ≤ most_bytes) self.now.shelves.items }
+        ensures held { IfSome result (λ _. start < get_or (helds self.now.shelves.items) at 0) }
+        ensures some { IfSome result (λ rest. 0 < length rest.0.now) }
+        ensures short { IfSome result (λ rest. rest.1 < most_bytes) }
+        ensures found { (bodies : List (List ℕ)) (k : Group)
+            → IsTracked bodies k (get_or (paths self.now.tracks.items) at [])
+            → length k.bytes ≡ get_or (helds self.now.shelves.items) at 0
+            → MatchOption result (length k.bytes ≤ start) (λ rest. IsRest bodies k start rest.0.now rest.1) }
+    {
+        if self.shelves[at].held <= start {
+            return None;
+        }
+        let spans = &self.tracks[at].spans;
+        let found = find_byte(spans, start)?;
+        Some((&spans[found.span..], found.skip))
+    }
+
+    /// How many bytes of a group are held.
+    pub fn held(&self, group: &GroupName) -> Option<u64>
+        requires { IsAscending self.now.shelves.items }
+        ensures { result ≡ held_of group.now self.now.shelves.items }
+    {
+        match place_of(&self.shelves, group) {
+            Place::Found(at) => Some(self.shelves[at].held),
+            Place::Free(_) => None,
+        }
+    }
+
+    /// The frame that holds a byte of a group, and the place in its bytes.
+    pub fn spot(&self, group: &GroupName, start: u64) -> Option<Spot>
+        requires { IsSized self.now }
+        ensures held { IfSome result (λ _. IsHeldAt group.now self.now.shelves.items start) }
+        ensures spot { (bodies : List (List ℕ)) (groups : List Group) → IsIndexOf bodies groups self.now true
+            → MatchOption result (¬ IsHeldAt group.now self.now.shelves.items start)
+            (λ spot. IsSpot bodies group.now start spot) }
+    {
+        let Place::Found(at) = place_of(&self.shelves, group) else {
+            return None;
+        };
+        let (spans, skip) = self.find(at, start)?;
+        Some(Spot {
+            frame: spans[0].frame,
+            skip,
+        })
+    }
+
+    /// Adds a piece, which is in the frame of this number; answers how many bytes of its group are
+    /// held then.
+    pub fn put(&mut self, piece: Piece, frame: u64) -> u64
+        requires sized { IsSized self.old }
+        requires place { IsPlace self.old.shelves.items piece.entry.group piece.place }
+        requires fits { fits (line_of piece.entry.group self.old.shelves.items) (length self.old.shelves.items)
+            piece.entry.start (length piece.entry.bytes) piece.entry.seals ≡ true }
+        requires room { HasRoom (rooms self.old.tracks.items) piece.room piece.place }
+        ensures held { result ≡ piece.entry.start + length piece.entry.bytes }
+        ensures added { (bodies : List (List ℕ)) (groups : List Group) (honest : Bool)
+            → IsIndexOf bodies groups self.old honest → (IsTrue honest → frame ≡ length bodies)
+            → IsIndexOf (bodies ++ piece.body ∷ []) (with_entry piece.entry groups) self.new honest }
+    {
+        let Piece {
+            frame: _,
+            heading,
+            count,
+            place,
+            track,
+        } = piece;
+        self.add(place, track, &heading, count, frame);
+        heading.start + count
+    }
+
+    /// Adds an entry with so many bytes, which is in the frame of this number.
+    pub fn add(&mut self, place: Place, track: Track, heading: &Heading, count: u64, frame: u64)
+        requires within { IsWithin place (length self.old.shelves.items) }
+        requires rows { length self.old.tracks.items ≡ length self.old.shelves.items }
+        requires line_memory { most_groups ≤ vec_capacity self.old.shelves }
+        requires track_memory { most_groups ≤ vec_capacity self.old.tracks }
+        requires room { HasRoom (rooms self.old.tracks.items) (room_of track) place }
+        requires empty { track.spans.items ≡ [] }
+        requires short { All (λ s. s.held ≤ most_bytes) self.old.shelves.items }
+        requires few { count ≤ most_bytes }
+        ensures lines { self.new.shelves.items ≡ lines_with place heading.now count self.old.shelves.items }
+        ensures paths { paths self.new.tracks.items
+            ≡ paths_with place (span_of heading.now count frame) (paths self.old.tracks.items) }
+        ensures line_memory { most_groups ≤ vec_capacity self.new.shelves }
+        ensures track_memory { most_groups ≤ vec_capacity self.new.tracks }
+    {
+        match place {
+            Place::Found(at) => {
+                grow_at(&mut self.shelves, at, heading, count);
+                add_span_at(&mut self.tracks, at, heading, count, frame);
+            }
+            Place::Free(at) => self.insert(at, track, heading, count, frame),
+        }
+    }
+
+    /// Puts a new group at its place.
+    fn insert(&mut self, at: usize, mut track: Track, heading: &Heading, count: u64, frame: u64)
+        requires within { at ≤ length self.old.shelves.items }
+        requires few { length self.old.shelves.items < most_groups }
+        requires rows { length self.old.tracks.items ≡ length self.old.shelves.items }
+        requires line_memory { most_groups ≤ vec_capacity self.old.shelves }
+        requires track_memory { most_groups ≤ vec_capacity self.old.tracks }
+        requires room { 0 < room_of track }
+        requires empty { track.spans.items ≡ [] }
+        ensures lines { self.new.shelves.items ≡ insert self.old.shelves.items at
+            (record { group = heading.now.group; held = count; sealed = heading.now.seals }) }
+        ensures paths { paths self.new.tracks.items
+            ≡ insert (paths self.old.tracks.items) at (span_of heading.now count frame) }
+        ensures line_memory { most_groups ≤ vec_capacity self.new.shelves }
+        ensures track_memory { most_groups ≤ vec_capacity self.new.tracks }
+    {
+        add_span(&mut track, heading, count, frame);
+        self.shelves
+            .insert(
+                at,
+                Shelf {
+                    group: heading.group,
+                    held: count,
+                    sealed: heading.seals,
+                },
+            )
+            .unwrap();
+        self.tracks.insert(at, track).unwrap();
+    }
+}
+
+/// Whether an entry with so many bytes may stand behind those of its group.
+fn fits_held(shelf: &Shelf, heading: &Heading, count: u64) -> bool
+    ensures { (groups : ℕ)
+        → result ≡ fits (Some shelf.now) groups heading.now.start count heading.now.seals }
+{
+    heading.start == shelf.held
+        && !shelf.sealed
+        && count <= MOST_BYTES
+        && shelf.held <= MOST_BYTES - count
+        && (heading.seals || 0 < count)
+}
+
+/// Whether an entry with so many bytes may begin a group, behind so many others.
+fn fits_new(groups: usize, heading: &Heading, count: u64) -> bool
+    ensures { result ≡ fits None groups heading.now.start count heading.now.seals }
+{
+    heading.start == 0 && groups < MOST_GROUPS && count <= MOST_BYTES
+}
+
+/// Memory for one more span of a track.
+fn reserve_at(tracks: &mut Vec<Track>, at: usize) -> Result<(), AllocError>
+    requires { at < length tracks.old.items }
+    ensures room { OnOk result (0 < get_or (rooms tracks.new.items) at 0) }
+    ensures tracks { KeepsTracks tracks.old.items tracks.new.items }
+    ensures memory { vec_capacity tracks.old ≤ vec_capacity tracks.new }
+{
+    tracks[at].reserve()
+}
+
+/// The line of the group at a place with so many bytes more.
+fn grow_at(shelves: &mut Vec<Shelf>, at: usize, heading: &Heading, count: u64)
+    requires within { at < length shelves.old.items }
+    requires short { All (λ s. s.held ≤ most_bytes) shelves.old.items }
+    requires few { count ≤ most_bytes }
+    ensures lines { shelves.new.items ≡ changed (line_with heading.now count) at shelves.old.items }
+    ensures memory { vec_capacity shelves.old ≤ vec_capacity shelves.new }
+{
+    grow(&mut shelves[at], heading, count);
+}
+
+/// The line of a group with so many bytes more.
+fn grow(shelf: &mut Shelf, heading: &Heading, count: u64)
+    requires { shelf.old.held + count < 2 ^ 64 }
+    ensures { shelf.new ≡ line_with heading.now count shelf.old }
+{
+    shelf.held += count;
+    shelf.sealed = shelf.sealed || heading.seals;
+}
+
+/// The track of the group at a place with the span of an entry.
+fn add_span_at(tracks: &mut Vec<Track>, at: usize, heading: &Heading, count: u64, frame: u64)
+    requires within { at < length tracks.old.items }
+    requires room { 0 < get_or (rooms tracks.old.items) at 0 }
+    ensures paths { paths tracks.new.items
+        ≡ changed (λ path. path ++ span_of heading.now count frame) at (paths tracks.old.items) }
+    ensures memory { vec_capacity tracks.old ≤ vec_capacity tracks.new }
+{
+    add_span(&mut tracks[at], heading, count, frame);
+}
+
+/// The span of an entry that has bytes.
+fn add_span(track: &mut Track, heading: &Heading, count: u64, frame: u64)
+    requires { 0 < room_of track.old }
+    ensures { track.new.spans.items ≡ track.old.spans.items ++ span_of heading.now count frame }
+{
+    if 0 < count {
+        track.push(Span {
+            frame,
+            start: heading.start,
+            skip: heading.skip,
+        });
+    }
+}

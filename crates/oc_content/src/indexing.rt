@@ -1,0 +1,34 @@
+//! Loading: the index of the frames of a journal.
+
+ghost use Rattle.std.specs.Prelude.{◌≡◌, ℕ, IsTrue, IfOk, IsErrOf};
+ghost use Rattle.oc_outside.specs.Faults.{Rose};
+ghost use Rattle.oc_journal.specs.JournalView.{OnlyReads};
+ghost use Rattle.oc_content.specs.ContentFile.{IsFirstBad};
+ghost use Rattle.oc_content.specs.ContentView.{IsIndexed};
+
+use crate::errors::ContentError;
+use crate::index::Index;
+use oc_journal::Journal;
+use oc_outside::Disk;
+use std::alloc::Global;
+
+/// Reads each frame once, in order, up to the first bad one.
+pub fn index_frames<D: Disk>(alloc: Global, journal: &mut Journal<D>) -> Result<Index, ContentError>
+    ensures indexed { IfOk result (λ index. IsIndexed D.view journal.new index) }
+    ensures bad { (i : ℕ) → IsErrOf result (ContentError.BadFrame i)
+        → IsTrue (D.view journal.old.disk).honest → IsFirstBad journal.old.frames i }
+    ensures disk { IsErrOf result ContentError.Disk
+        → Rose (D.view journal.old.disk).faults (D.view journal.new.disk).faults }
+    ensures journal { IsErrOf result ContentError.NotJournal → ⊥ }
+    ensures same { OnlyReads D.view journal.old journal.new }
+{
+    let mut index = Index::new(alloc)?;
+    let mut body = Vec::new(alloc);
+    for number in 0..journal.count() {
+        journal.frame(number, &mut body)?;
+        if !index.take(alloc, number, &body)? {
+            return Err(ContentError::BadFrame(number));
+        }
+    }
+    Ok(index)
+}

@@ -1,0 +1,36 @@
+//! The content log: the bytes of groups and their seals, in the frames of a journal.
+//!
+//! The body of a frame says: these bytes at the end of this group, and perhaps its seal. What the
+//! frames mean together is one definition, `content_of`: the groups ascending by name, each with its
+//! bytes and its seal, or nothing where a frame may not stand where it stands.
+//!
+//! A contract sees a [`Content`] as its journal, the line of each group, and for how many more
+//! frames of each group its index has memory. The layers above rest on this: over every honest disk
+//! the lines are those of the frames; [`Content::prepare`] takes all memory and refuses what may not
+//! be put; [`Content::commit`] after it takes no memory and appends the bytes past held, and the
+//! seal, and nothing else; what a crash leaves is the journal's promise; and [`Content::read`] gives
+//! the bytes of the group.
+//!
+//! The index has, for each group, the frames that hold its bytes. [`Content::spot`] finds a byte by
+//! halving, and `read` makes one read of the disk for each frame that it touches.
+#![tactic(auto)]
+
+mod committing;
+mod content;
+mod errors;
+mod heading;
+mod index;
+mod indexing;
+mod piece;
+mod place;
+mod putting;
+mod reading;
+mod spot;
+mod track;
+
+pub use content::Content;
+pub use errors::{ContentError, PutError, ReadError};
+pub use oc_base::Shelf;
+pub use oc_journal::AppendError;
+pub use piece::Piece;
+pub use spot::Spot;

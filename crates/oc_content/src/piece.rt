@@ -1,0 +1,83 @@
+ghost use Rattle.std.specs.Prelude.{◌≡◌, ◌^◌, ◌<◌, ◌≤◌, ◌++◌, [], Some, length, IfOk};
+ghost use Rattle.oc_base.specs.Names.{IsGroupName};
+ghost use Rattle.oc_content.specs.Entries.{entry_of, heading as heading_of};
+ghost use Rattle.oc_content.specs.Tracks.{room_of};
+ghost use Rattle.oc_content.specs.ContentView.{adds};
+
+use crate::heading::Heading;
+use crate::place::Place;
+use crate::track::Track;
+use oc_journal::Frame;
+use std::alloc::{AllocError, Global};
+use std::marker::Model;
+
+/// Bytes, and perhaps a seal, made ready for a group. A contract sees the body of its frame, what
+/// that says, the place of the group, and the memory that it brings for a new one.
+#[derive(Drop)]
+pub struct Piece {
+    pub(crate) frame: Frame,
+    pub(crate) heading: Heading,
+    pub(crate) count: u64,
+    pub(crate) place: Place,
+    pub(crate) track: Track,
+}
+
+impl Model for Piece {
+    ghost use Rattle.std.specs.Prelude.{◌≡◌, length};
+    ghost use Rattle.oc_content.specs.ContentView.{PieceView};
+    ghost use Rattle.oc_content.specs.Headings.{entry_at};
+    ghost use Rattle.oc_content.specs.Tracks.{room_of};
+    ghost use Rattle.oc_content.specs.Pieces.{IsPiece};
+
+    ghost Value = { PieceView };
+
+    ghost view = { λ p. record { body = p.frame; entry = entry_at p.heading p.frame; place = p.place; room = room_of p.track } };
+
+    ghost invariant = { λ p. IsPiece p.frame p.heading p.count p.track };
+}
+
+impl Piece {
+    /// A piece with this heading and these bytes, for a group at this place.
+    pub(crate) fn new(
+        alloc: Global,
+        heading: Heading,
+        place: Place,
+        track: Track,
+        bytes: &[u8],
+    ) -> Result<Piece, AllocError>
+        requires name { IsGroupName heading.group }
+        requires skip { heading.skip ≡ length (heading_of heading.seals heading.group heading.start) }
+        requires start { heading.start < 2 ^ 64 }
+        requires few { length bytes.now ≤ 1000000 }
+        requires empty { track.spans.items ≡ [] }
+        ensures body { IfOk result (λ piece. piece.body
+            ≡ heading_of heading.seals heading.group heading.start ++ bytes.now) }
+        ensures entry { IfOk result (λ piece. piece.entry
+            ≡ record { group = heading.group; start = heading.start; bytes = bytes.now; seals = heading.seals }) }
+        ensures place { IfOk result (λ piece. piece.place ≡ place) }
+        ensures room { IfOk result (λ piece. piece.room ≡ room_of track) }
+    {
+        Ok(Piece {
+            frame: heading.frame(alloc, bytes)?,
+            heading,
+            count: bytes.len() as u64,
+            place,
+            track,
+        })
+    }
+
+    /// The frame that says it.
+    pub(crate) fn frame(&self) -> &Frame
+        ensures body { result.now ≡ self.now.body }
+        ensures says { entry_of self.now.body ≡ Some self.now.entry }
+    {
+        &self.frame
+    }
+
+    /// Whether it adds anything: the group is new, or there are bytes, or it adds the seal.
+    pub fn adds(&self) -> bool
+        ensures { result ≡ adds self.now }
+    {
+        matches!(self.place, Place::Free(_)) || 0 < self.count || self.heading.seals
+    }
+}

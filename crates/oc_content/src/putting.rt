@@ -1,0 +1,185 @@
+//! What is put to a group, and when it is refused.
+
+ghost use Rattle.std.specs.Prelude.{◌≡◌, ◌≢◌, ◌+◌, ◌-◌, ◌^◌, ◌<◌, ◌≤◌, ℕ, None, Some, List, IfOk, IfErr, OnOk, length, drop, vec_capacity, not, nat_le, ◌&&◌};
+ghost use Rattle.oc_base.specs.Names.{IsGroupName};
+ghost use Rattle.oc_content.specs.Groups.{line_of};
+ghost use Rattle.oc_content.specs.Entries.{written, heading};
+ghost use Rattle.oc_content.specs.ContentFile.{most_bytes};
+ghost use Rattle.oc_content.specs.Places.{IsPlace, IsThere};
+ghost use Rattle.oc_content.specs.Indexes.{IsSized, HasRoom, KeepsTracks, rooms};
+ghost use Rattle.oc_content.specs.Putting.{standing, fault_of, put_entry};
+ghost use Rattle.oc_content.specs.ContentView.{IsIndexed, IsReady};
+ghost use Rattle.oc_journal.specs.JournalView.{OnlyReads};
+
+use crate::errors::PutError;
+use crate::heading::Heading;
+use crate::index::{Index, MOST_BYTES, MOST_GROUPS};
+use crate::piece::Piece;
+use crate::place::{Place, place_of};
+use oc_base::{GroupName, Shelf};
+use oc_journal::Journal;
+use oc_outside::Disk;
+use std::alloc::{AllocError, Global};
+
+/// Makes bytes from a place on ready for a group, with all memory for them.
+pub fn ready<D: Disk>(
+    alloc: Global,
+    journal: &mut Journal<D>,
+    index: &mut Index,
+    group: &GroupName,
+    start: u64,
+    bytes: &[u8],
+    last: bool,
+) -> Result<Piece, PutError>
+    requires indexed { IsIndexed D.view journal.old index.old }
+    requires name { IsGroupName group.now }
+    requires few { length bytes.now ≤ 1000000 }
+    ensures indexed { IsIndexed D.view journal.new index.new }
+    ensures entry { IfOk result (λ piece. piece.entry
+        ≡ put_entry (standing (line_of group.now index.old.shelves.items) (length index.old.shelves.items))
+        group.now start bytes.now last) }
+    ensures body { IfOk result (λ piece. piece.body ≡ written piece.entry) }
+    ensures ready { IfOk result (λ piece.
+        IsReady index.new.shelves.items (rooms index.new.tracks.items) journal.new.spare piece) }
+    ensures room { IfOk result (λ piece. length piece.body + 7 ≤ (D.view journal.new.disk).room) }
+    ensures calls { OnOk result (16 ≤ (D.view journal.new.disk).calls) }
+    ensures within { OnOk result (journal.new.end < (D.view journal.new.disk).size) }
+    ensures fault { IfErr result (λ error. error ≢ PutError.Memory
+        → fault_of (standing (line_of group.now index.old.shelves.items) (length index.old.shelves.items))
+        start (length bytes.now) ≡ Some error) }
+    ensures none { OnOk result
+        (fault_of (standing (line_of group.now index.old.shelves.items) (length index.old.shelves.items))
+        start (length bytes.now) ≡ None) }
+    ensures same { OnlyReads D.view journal.old journal.new }
+    ensures lines { index.new.shelves ≡ index.old.shelves }
+    ensures tracks { KeepsTracks index.old.tracks.items index.new.tracks.items }
+{
+    let piece = put(alloc, index, group, start, bytes, last)?;
+    journal.reserve(piece.frame())?;
+    Ok(piece)
+}
+
+/// Makes bytes from a place on ready for a group, with the memory of the index for them.
+fn put(
+    alloc: Global,
+    index: &mut Index,
+    group: &GroupName,
+    start: u64,
+    bytes: &[u8],
+    last: bool,
+) -> Result<Piece, PutError>
+    requires sized { IsSized index.old }
+    requires name { IsGroupName group.now }
+    requires few { length bytes.now ≤ 1000000 }
+    ensures fault { IfErr result (λ error. error ≢ PutError.Memory
+        → fault_of (standing (line_of group.now index.old.shelves.items) (length index.old.shelves.items))
+        start (length bytes.now) ≡ Some error) }
+    ensures none { OnOk result
+        (fault_of (standing (line_of group.now index.old.shelves.items) (length index.old.shelves.items))
+        start (length bytes.now) ≡ None) }
+    ensures entry { IfOk result (λ piece. piece.entry
+        ≡ put_entry (standing (line_of group.now index.old.shelves.items) (length index.old.shelves.items))
+        group.now start bytes.now last) }
+    ensures body { IfOk result (λ piece. piece.body ≡ written piece.entry) }
+    ensures place { IfOk result (λ piece. IsPlace index.old.shelves.items group.now piece.place) }
+    ensures room { IfOk result (λ piece. HasRoom (rooms index.new.tracks.items) piece.room piece.place) }
+    ensures lines { index.new.shelves ≡ index.old.shelves }
+    ensures tracks { KeepsTracks index.old.tracks.items index.new.tracks.items }
+    ensures memory { vec_capacity index.old.tracks ≤ vec_capacity index.new.tracks }
+{
+    let place = place_of(&index.shelves, group);
+    let standing = standing_at(&index.shelves, place);
+    if let Some(fault) = refusal(&standing, start, bytes.len() as u64) {
+        return Err(fault);
+    }
+    let heading = heading_for(&standing, *group, start, bytes.len() as u64, last);
+    let track = index.reserve(alloc, place)?;
+    Ok(Piece::new(
+        alloc,
+        heading,
+        place,
+        track,
+        past(bytes, standing.held - start),
+    )?)
+}
+
+/// The heading of what is put: it begins where the group ends, and seals it where the bytes are the
+/// last, reach that end, and the group is not sealed.
+fn heading_for(standing: &Standing, group: GroupName, start: u64, count: u64, last: bool) -> Heading
+    requires { start + count < 2 ^ 64 }
+    ensures group { result.group ≡ group }
+    ensures start { result.start ≡ standing.now.held }
+    ensures seals { result.seals ≡ last && not standing.now.sealed && nat_le standing.now.held (start + count) }
+    ensures skip { result.skip ≡ length (heading result.seals group standing.now.held) }
+{
+    let seals = last && !standing.sealed && standing.held <= start + count;
+    Heading::of(group, standing.held, seals)
+}
+
+/// What is known of a group: an absent one counts as empty.
+#[derive(Clone, Copy)]
+pub struct Standing {
+    /// Bytes held.
+    pub held: u64,
+    pub sealed: bool,
+    /// Whether it is new, and there are as many as there may be.
+    pub one_too_many: bool,
+}
+
+/// What is known of the group at a place.
+pub fn standing_at(shelves: &[Shelf], place: Place) -> Standing
+    requires { IsThere place (length shelves.now) }
+    ensures { (name : List ℕ) → IsPlace shelves.now name place
+        → result ≡ standing (line_of name shelves.now) (length shelves.now) }
+{
+    match place {
+        Place::Found(at) => standing_of(&shelves[at]),
+        Place::Free(_) => Standing {
+            held: 0,
+            sealed: false,
+            one_too_many: shelves.len() >= MOST_GROUPS,
+        },
+    }
+}
+
+/// What is known of the group of a line.
+fn standing_of(shelf: &Shelf) -> Standing
+    ensures { (groups : ℕ) → result ≡ standing (Some shelf.now) groups }
+{
+    Standing {
+        held: shelf.held,
+        sealed: shelf.sealed,
+        one_too_many: false,
+    }
+}
+
+/// The first that refuses so many bytes from a place on.
+pub fn refusal(standing: &Standing, start: u64, count: u64) -> Option<PutError>
+    requires held { standing.now.held ≤ most_bytes }
+    requires count { count ≤ most_bytes }
+    ensures { result ≡ fault_of standing.now start count }
+{
+    if start > standing.held {
+        return Some(PutError::Gap {
+            held: standing.held,
+        });
+    }
+    let end = start + count;
+    if standing.sealed && end > standing.held {
+        Some(PutError::Sealed)
+    } else if standing.one_too_many {
+        Some(PutError::TooManyGroups)
+    } else if end > MOST_BYTES {
+        Some(PutError::TooLong)
+    } else {
+        None
+    }
+}
+
+/// The bytes past those that are held.
+pub fn past(bytes: &[u8], held_of_them: u64) -> &[u8]
+    ensures { result.now ≡ drop held_of_them bytes.now }
+{
+    let skip = held_of_them.min(bytes.len() as u64) as usize;
+    &bytes[skip..]
+}

@@ -1,0 +1,8 @@
+/// Where a byte of a group is kept.
+#[derive(Clone, Copy, Debug, PartialEq, Eq)]
+pub struct Spot {
+    /// The number of the frame that holds it.
+    pub frame: u64,
+    /// The place of the byte among those of the frame.
+    pub skip: u32,
+}

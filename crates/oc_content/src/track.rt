@@ -1,0 +1,99 @@
+//! The frames that hold the bytes of one group.
+
+ghost use Rattle.std.specs.Prelude.{◌≡◌, ℕ, ◌+◌, ◌<◌, ◌≤◌, [], ◌∷◌, ◌++◌, List, length, OnOk, IfOk, IfSome};
+ghost use Rattle.oc_content.specs.Groups.{Group};
+ghost use Rattle.oc_content.specs.ContentFile.{most_bytes};
+ghost use Rattle.oc_content.specs.Indexes.{IsTracked};
+ghost use Rattle.oc_content.specs.Founds.{IsFoundAt};
+ghost use Rattle.oc_content.specs.Tracks.{room_of, IsLastBefore};
+
+use std::alloc::{AllocError, Global};
+
+/// Bytes of a group that stand in one frame.
+#[derive(Clone, Copy)]
+pub struct Span {
+    /// The number of the frame.
+    pub frame: u64,
+    /// The place of the first of them in the group.
+    pub start: u64,
+    /// The place of the first of them in the body of the frame.
+    pub skip: u16,
+}
+
+/// The spans of a group, one behind the other.
+#[derive(Drop)]
+pub struct Track {
+    pub spans: Vec<Span>,
+}
+
+impl Track {
+    /// No spans, and no memory.
+    pub fn new(alloc: Global) -> Track
+        ensures { result.spans.items ≡ [] }
+    {
+        Track {
+            spans: Vec::new(alloc),
+        }
+    }
+
+    /// No spans, and memory for one.
+    pub fn with_room(alloc: Global) -> Result<Track, AllocError>
+        ensures spans { IfOk result (λ track. track.spans.items ≡ []) }
+        ensures room { IfOk result (λ track. 0 < room_of track) }
+    {
+        let mut track = Track::new(alloc);
+        track.reserve()?;
+        Ok(track)
+    }
+
+    /// Memory for one more span.
+    pub fn reserve(&mut self) -> Result<(), AllocError>
+        ensures spans { self.new.spans.items ≡ self.old.spans.items }
+        ensures room { OnOk result (0 < room_of self.new) }
+        ensures no_less { room_of self.old ≤ room_of self.new }
+    {
+        self.spans.reserve(1)
+    }
+
+    /// One more span, for which `reserve` made room.
+    pub fn push(&mut self, span: Span)
+        requires { 0 < room_of self.old }
+        ensures { self.new.spans.items ≡ self.old.spans.items ++ span ∷ [] }
+    {
+        self.spans.push(span).unwrap();
+    }
+}
+
+/// Where a byte of a group was found.
+#[derive(Clone, Copy)]
+pub struct Found {
+    /// The place of its span among those of the group.
+    pub span: usize,
+    /// The place of the byte among those of the span.
+    pub skip: u32,
+}
+
+/// Finds a byte of a group by halving.
+pub fn find_byte(spans: &[Span], start: u64) -> Option<Found>
+    requires { start < most_bytes }
+    ensures within { IfSome result (λ found. found.span < length spans.now) }
+    ensures short { IfSome result (λ found. found.skip < most_bytes) }
+    ensures found { (bodies : List (List ℕ)) (k : Group) → IsTracked bodies k spans.now
+        → start < length k.bytes → IsFoundAt bodies k spans.now start result }
+{
+    let span = last_before(spans, start)?;
+    let skip = start.checked_sub(spans[span].start)?;
+    Some(Found {
+        span,
+        skip: skip as u32,
+    })
+}
+
+/// The place of the last span that begins at this byte or before it.
+fn last_before(spans: &[Span], start: u64) -> Option<usize>
+    ensures { IsLastBefore spans.now start result }
+{
+    spans
+        .partition_point(|span| span.start <= start)
+        .checked_sub(1)
+}

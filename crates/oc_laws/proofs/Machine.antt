@@ -1,0 +1,90 @@
+-- The fine machine: the small changes of the tree part of one node, of which every step, start and stop is made.
+use Rattle.std.proofs.Common.{◌≡◌, ℕ, ◌+◌, ◌<◌, true, false, ◌==◌, nat_lt, Option, Some, List, [], ◌∷◌, ◌++◌}
+use Rattle.std.specs.List.{AllByRecursion}
+use Rattle.oc_base.specs.declared.cert.Cert.{Cert}
+use Rattle.oc_base.specs.declared.rank.Rank.{Rank}
+use Rattle.oc_base.specs.Rank.{beneath_of}
+use Rattle.oc_model.specs.declared.message.Body.{Body}
+use Rattle.oc_model.specs.declared.message.Body.TheVariants as bodies
+use Rattle.oc_model.specs.declared.message.Message.{Message}
+use Rattle.oc_model.specs.declared.mode.Mode.TheVariants.{Idle, Asking, Joined, Acting}
+use Rattle.oc_model.specs.declared.reading.Reading.{Reading}
+use Rattle.oc_model.specs.declared.soft.Soft.{Soft}
+use Rattle.oc_model.specs.Adopting.{in_tree, birth, has_lease}
+use Rattle.oc_model.specs.Adoption.{rank_or_last, precedes_any, most_depth, is_better}
+use Rattle.oc_model.specs.Asking.{next_epoch}
+use Rattle.oc_model.specs.ChangeLog.{begun_with, ack, is_ahead, next_certs, place_after}
+use Rattle.oc_model.specs.Checking.{life}
+use Rattle.oc_model.specs.Node.{Control, Durable, empty_log, started_with}
+use Rattle.oc_model.specs.Numbers.{number_end, IsAmong}
+use Rattle.oc_model.specs.Plan.{Plan}
+use Rattle.oc_model.specs.Records.{entered}
+use Rattle.oc_model.specs.Table.{newest, is_news}
+
+-- this is durable of the node now
+abbrev pub with_kept : Control → Durable → Control
+with_kept n d = record n { kept = d }
+
+-- what a start clears, cleared
+abbrev pub cleared : Control → Control
+cleared n = started_with (record { nodes = n.nodes; chain = n.chain; areas = n.areas }) n.me n.kept
+
+-- what was sent, and one more message of the node
+abbrev pub and_sent : Control → List Message → ℕ → Body → List Message
+and_sent n ms p b = ms ++ record { from = n.me; to = p; body = b } ∷ []
+
+-- a message that no law on the tree speaks of
+abbrev pub IsLoose : Body → Type 0
+IsLoose (bodies.Ask seq rank) = ⊥
+IsLoose (bodies.Yes seq rank ancestors) = ⊥
+IsLoose (bodies.CheckIn seq upto rate number clients certs) = ⊥
+IsLoose (bodies.CheckAck seq upto rank ancestors) = ⊥
+IsLoose body = Unit {0}
+
+-- each small change keeps this of a node and of what it has sent so far; `came p b` says that p sent it that body. To whom a
+-- node sends, and whom it asks, is free
+pub record IsMachine (came : ℕ → Body → Type 0) (P : Control → List Message → Type 0) : Type 0 where
+  -- what a start clears, and what of the rest no law on the tree speaks of
+  pub soft : (n : Control) (ms : List Message) (s : Soft) → P n ms → P (record n { soft = s }) ms
+  pub lists : (n : Control) (ms : List Message) (leases : List (Option ℕ)) (rates counts : List ℕ) → P n ms → P (record n { leases = leases; rates = rates; counts = counts }) ms
+  pub aside : (n : Control) (ms : List Message) (ancestors : List ℕ) (measures : List Reading) → P n ms → P (with_kept n (record n.kept { ancestors = ancestors; measures = measures })) ms
+  -- modes and ranks: the parent is lost; some node is asked; a root; a root's epoch rises; a parent; its rank is taken
+  pub falls : (n : Control) (ms : List Message) → P n ms → P (with_kept n (record n.kept { mode = Idle; log = empty_log })) ms
+  pub asks : (n : Control) (ms : List Message) (p : ℕ) → (n.kept.seq == number_end) ≡ false → P n ms
+      → P (with_kept n (record n.kept { seq = n.kept.seq + 1; mode = Asking p; log = empty_log })) ms
+  pub acts : (n : Control) (ms : List Message) → P n ms
+      → P (with_kept n (record n.kept { mode = Acting; log = empty_log; ancestors = []; rank = Some (record { epoch = next_epoch (rank_or_last n.kept.rank); depth = 0 }) })) ms
+  pub raises : (n : Control) (ms : List Message) (e : ℕ) → n.kept.mode ≡ Acting → (rank_or_last n.kept.rank).epoch < e → P n ms
+      → P (with_kept n (record n.kept { rank = Some (record { epoch = e; depth = 0 }) })) ms
+  pub joins : (n : Control) (ms : List Message) (p : ℕ) (r : Rank) (xs : List ℕ) → came p (bodies.Yes n.kept.seq r xs) → n.kept.mode ≡ Asking p → nat_lt r.depth most_depth ≡ true → precedes_any r n.kept.rank ≡ true
+      → P n ms → P (with_kept n (record n.kept { mode = Joined p; rank = Some (beneath_of r); log = begun_with n.kept.table })) ms
+  pub ranks : (n : Control) (ms : List Message) (p upto : ℕ) (r : Rank) (xs : List ℕ) → came p (bodies.CheckAck n.kept.seq upto r xs) → n.kept.mode ≡ Joined p → is_better n.kept.rank r ≡ true
+      → P n ms → P (with_kept n (record n.kept { rank = Some (beneath_of r) })) ms
+  -- the log, the table and the own count: an acknowledgement; the lease of an asker; what a check-in tells; the end of a lease;
+  -- clients
+  pub acks : (n : Control) (ms : List Message) (p upto : ℕ) (r : Rank) (xs : List ℕ) → came p (bodies.CheckAck n.kept.seq upto r xs) → n.kept.mode ≡ Joined p → is_ahead n.kept.log upto ≡ true
+      → P n ms → P (with_kept n (record n.kept { log = ack n.kept.log upto })) ms
+  pub adopts : (n : Control) (ms : List Message) (x s : ℕ) (r : Option Rank) → came x (bodies.Ask s r) → in_tree n.kept.mode ≡ true → is_news n.kept.table (birth x s n.me) ≡ true
+      → P n ms → P (with_kept n (entered n.kept (birth x s n.me))) ms
+  pub merges : (n : Control) (ms : List Message) (x s upto rate number clients : ℕ) (certs : List Cert) (c : Cert) → came x (bodies.CheckIn s upto rate number clients certs)
+      → IsAmong c (life x s n.me number clients ∷ certs) → is_news n.kept.table c ≡ true → P n ms → P (with_kept n (entered n.kept c)) ms
+  pub ends : (n : Control) (ms : List Message) (x : ℕ) (k : Cert) → newest n.kept.table x ≡ Some k → is_news n.kept.table (record k { dead = true }) ≡ true
+      → P n ms → P (with_kept n (entered n.kept (record k { dead = true }))) ms
+  pub counts : (n : Control) (ms : List Message) (clients : ℕ) → nat_lt n.kept.number number_end ≡ true → P n ms → P (with_kept n (record n.kept { number = n.kept.number + 1; clients = clients })) ms
+  -- the messages
+  pub says : (n : Control) (ms : List Message) (p : ℕ) (b : Body) → IsLoose b → P n ms → P n (and_sent n ms p b)
+  pub says_ask : (n : Control) (ms : List Message) (p : ℕ) → n.kept.mode ≡ Asking p → P n ms → P n (and_sent n ms p (bodies.Ask n.kept.seq n.kept.rank))
+  pub says_yes : (n : Control) (ms : List Message) (x s : ℕ) (r : Option Rank) → came x (bodies.Ask s r) → in_tree n.kept.mode ≡ true → has_lease n x s ≡ true
+      → P n ms → P n (and_sent n ms x (bodies.Yes s (rank_or_last n.kept.rank) n.kept.ancestors))
+  pub says_check_in : (n : Control) (ms : List Message) (p rate : ℕ) → n.kept.mode ≡ Joined p
+      → P n ms → P n (and_sent n ms p (bodies.CheckIn n.kept.seq (place_after n.kept.log) rate n.kept.number n.kept.clients (next_certs n.kept.log)))
+  pub says_check_ack : (n : Control) (ms : List Message) (x s upto rate number clients : ℕ) (certs : List Cert) → came x (bodies.CheckIn s upto rate number clients certs)
+      → AllByRecursion (λ c. is_news n.kept.table c ≡ false) (life x s n.me number clients ∷ certs)
+      → P n ms → P n (and_sent n ms x (bodies.CheckAck s upto (rank_or_last n.kept.rank) n.kept.ancestors))
+  -- stops and starts: what is sent is lost; what a start clears is cleared
+  pub drops : (n : Control) (ms : List Message) → P n ms → P n []
+  pub starts : (n : Control) (ms : List Message) → P n ms → P (cleared n) ms
+
+-- this of a step under way
+abbrev pub Of : (Control → List Message → Type 0) → Plan → Type 0
+Of P o = P o.node o.sends

@@ -1,0 +1,12 @@
+use Rattle.oc_laws.proofs.RanksKept.{ranks_throughout}
+use Rattle.oc_laws.specs.Ranks.{PlacedAreRanked, ToldRanksHold, ParentsPrecede}
+use Rattle.oc_laws.proofs.ranks.ranks_hold_throughout.Goals as goal
+
+pub returns-clause-placed : goal.returns-clause-placed
+returns-clause-placed c = λ h events. ranks_throughout PlacedAreRanked (λ old w holds. holds.placed) h events
+
+pub returns-clause-told : goal.returns-clause-told
+returns-clause-told c = λ h events. ranks_throughout ToldRanksHold (λ old w holds. holds.told) h events
+
+pub returns-clause-parents : goal.returns-clause-parents
+returns-clause-parents c = λ h events. ranks_throughout ParentsPrecede (λ old w holds. holds.parents) h events

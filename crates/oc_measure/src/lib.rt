@@ -1,0 +1,12 @@
+//! What a node has measured of its peers: the rate and the hops that were put last for each.
+//!
+//! A contract sees [`Measures`] as the list of readings by the number of a peer, as the model keeps
+//! it. The layers above rest on this: [`Measures::get`] gives what was put last for that peer, and
+//! `(0, 0)` where nothing was put; [`what_was_put_last_is_got`] says it of every row of puts.
+#![tactic(auto)]
+
+mod law;
+mod measures;
+
+pub use law::what_was_put_last_is_got;
+pub use measures::Measures;

@@ -1,0 +1,3 @@
+pub mod Order
+pub mod Best
+pub mod Chosen

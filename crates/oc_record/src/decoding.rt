@@ -1,0 +1,101 @@
+ghost use Rattle.std.specs.Prelude.{◌≡◌, ◌+◌, ◌<◌, ◌⊎◌, List, IfOk, IfSome, IfNone};
+ghost use Rattle.oc_model.specs.declared.record.Record.{Record};
+ghost use Rattle.oc_record.specs.Reading.{Gives, GivesList, fields_at, record_at, decoded};
+ghost use Rattle.oc_record.specs.Spelling.{AreLawful, records_bytes};
+
+use crate::codes::CODES;
+use crate::fields::byte_at;
+use crate::kinds::{
+    acked_at, ancestors_at, ask_at, base_at, entry_at, epoch_at, info_at, joined_at, old_entry_at,
+    ranked_at, rate_at, snapshot_at,
+};
+use crate::{Record, RecordFault};
+use oc_base::row_of;
+use std::alloc::Global;
+
+/// The records that the bytes spell for so many nodes: all of the bytes, or the first fault.
+pub fn decode(alloc: Global, bytes: &[u8], nodes: u32) -> Result<Vec<Record>, RecordFault>
+    // Exactly the one spelling of a lawful list is read.
+    ensures found { IfOk result (λ list. AreLawful nodes list.items × (bytes.now ≡ records_bytes list.items)) }
+    ensures only { (list : List Record) → AreLawful nodes list → bytes.now ≡ records_bytes list
+        → GivesList result (Ok list) }
+
+    // Which fault it is: the first from the left of the first bad record.
+    ensures exact { GivesList result (decoded nodes bytes.now) }
+{
+    records_of(alloc, nodes, bytes)
+}
+
+/// The records up to the end.
+fn records_of(alloc: Global, nodes: u32, bytes: &[u8]) -> Result<Vec<Record>, RecordFault>
+    ensures { GivesList result (decoded nodes bytes.now) }
+{
+    let mut list = Vec::new(alloc);
+    let mut at = 0;
+    while at < bytes.len() {
+        let (record, next) = record_at(alloc, nodes, bytes, at)?;
+        list.push(record)?;
+        at = next;
+    }
+    Ok(list)
+}
+
+/// The record at a place, and the next place.
+#[tactic(auto, unfolding(crate::specs::Reading::record_at))]
+fn record_at(
+    alloc: Global,
+    nodes: u32,
+    bytes: &[u8],
+    at: usize,
+) -> Result<(Record, usize), RecordFault>
+    ensures { Gives result (record_at nodes bytes.now at) }
+{
+    let (code, next) = byte_at(bytes, at)?;
+    fields_at(alloc, code, nodes, bytes, next)
+}
+
+/// The record of the kind with this code, by the row that the code has.
+#[tactic(auto, unfolding(crate::specs::Reading::fields_at))]
+fn fields_at(
+    alloc: Global,
+    code: u8,
+    nodes: u32,
+    bytes: &[u8],
+    at: usize,
+) -> Result<(Record, usize), RecordFault>
+    ensures { Gives result (fields_at code nodes bytes.now at) }
+{
+    macro_rules! by_row {
+        ($row:expr; $($place:literal => $record:expr,)*) => {
+            match $row {
+                $(Some($place) => $record,)*
+                _ => Err(RecordFault::Kind(code)),
+            }
+        };
+    }
+    by_row! {
+        row_with(code);
+        0 => ask_at(nodes, bytes, at),
+        1 => joined_at(nodes, bytes, at),
+        2 => Ok((Record::Lost, at)),
+        3 => Ok((Record::Acting, at)),
+        4 => ranked_at(bytes, at),
+        5 => old_entry_at(nodes, bytes, at),
+        6 => acked_at(bytes, at),
+        7 => ancestors_at(alloc, nodes, bytes, at),
+        8 => rate_at(nodes, bytes, at),
+        9 => epoch_at(bytes, at),
+        10 => base_at(bytes, at),
+        11 => snapshot_at(bytes, at),
+        12 => entry_at(nodes, bytes, at),
+        13 => info_at(bytes, at),
+    }
+}
+
+/// The row of the codes that has this code.
+fn row_with(code: u8) -> Option<usize>
+    ensures some { IfSome result (λ row. (code ≡ row + 1) × (row < 14)) }
+    ensures none { IfNone result ((code ≡ 0) ⊎ (14 < code)) }
+{
+    row_of(&CODES, code)
+}

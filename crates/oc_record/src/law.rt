@@ -1,0 +1,40 @@
+ghost use Rattle.std.specs.Prelude.{◌≡◌, ℕ, ◌<◌, ◌^◌, List, [], ◌∷◌};
+ghost use Rattle.oc_record.specs.declared.fault.RecordFault.TheVariants.{Short as RecordShort, Value as RecordValue, Kind as RecordKind};
+ghost use Rattle.oc_record.specs.Examples.{first_ask, first_ask_record, old_entry, old_entry_record};
+ghost use Rattle.oc_record.specs.Reading.{decoded};
+ghost use Rattle.oc_base.specs.Codes.{AreDistinct};
+ghost use Rattle.oc_model.specs.declared.record.Record.{Record};
+ghost use Rattle.oc_record.specs.Spelling.{AreLawful, HaveSpellings, records_bytes};
+
+use crate::codes::CODES;
+use oc_base::distinct;
+
+/// No two kinds have one code. It is computed.
+pub fn codes_are_distinct()
+    ensures { AreDistinct CODES }
+{
+    let _answer = distinct(&CODES);
+}
+
+/// No two lists of lawful records have one spelling.
+pub fn no_two_lists_have_one_spelling()
+    ensures { (nodes : ℕ) (first second : List Record) → nodes < 2 ^ 32 → AreLawful nodes first → AreLawful nodes second
+        → records_bytes first ≡ records_bytes second → first ≡ second }
+{}
+
+/// Lawful records have a spelling, and it is read as them.
+pub fn spellings_are_read()
+    ensures spelled { (nodes : ℕ) (list : List Record) → AreLawful nodes list → HaveSpellings list }
+    ensures read { (nodes : ℕ) (list : List Record) → nodes < 2 ^ 32 → AreLawful nodes list
+        → decoded nodes (records_bytes list) ≡ Ok list }
+{}
+
+/// Worked examples of reading come out as they should. They are computed.
+pub fn examples_are_read()
+    ensures ask { decoded 1 first_ask ≡ Ok (first_ask_record ∷ []) }
+    ensures old_entry { decoded 2 old_entry ≡ Ok (old_entry_record ∷ []) }
+    ensures strange { decoded 1 (99 ∷ []) ≡ Err (RecordKind 99) }
+    ensures cut { decoded 1 (5 ∷ []) ≡ Err RecordShort }
+    ensures beyond { decoded 1 old_entry ≡ Err RecordValue }
+    ensures none { decoded 1 [] ≡ Ok [] }
+{}

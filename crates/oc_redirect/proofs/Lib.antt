@@ -1,0 +1,6 @@
+pub mod Better
+pub mod Freest
+pub mod Lists
+pub mod Rows
+pub mod Server
+pub mod Steps

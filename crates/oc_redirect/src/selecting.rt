@@ -1,0 +1,41 @@
+ghost use Rattle.std.specs.Prelude.{◌≡◌, length};
+ghost use Rattle.oc_model.specs.Selected.{selected};
+
+use crate::preference::Preference;
+use oc_base::NodeId;
+use oc_cert::Table;
+
+/// The node to which this one, a member of the chain, sends a client of this area: of the nodes past
+/// the chain that its table lists beneath it, one in the client's area where there is any; of these
+/// the one that was sent the fewest clients, and of several the one with the least id. `areas` and
+/// `counts` have a value for each node, by its number.
+///
+/// Each node is looked at once, and the table is walked for a node only where that would be the best
+/// so far.
+pub fn select(
+    table: &Table,
+    me: NodeId,
+    chain: u32,
+    areas: &[u8],
+    counts: &[u64],
+    area: u8,
+) -> Option<NodeId>
+    requires areas { length areas.now ≡ table.now.nodes }
+    requires counts { length counts.now ≡ table.now.nodes }
+    ensures { result ≡ selected table.now.entries me chain areas.now counts.now area }
+{
+    let nodes = table.rows().len() as u32;
+    let preference = Preference {
+        areas,
+        counts,
+        area,
+    };
+    let mut best = None;
+    for before in chain..nodes {
+        let node = NodeId(before + 1);
+        if preference.beats(node, &best) && table.is_listed(me, node) {
+            best = Some(node);
+        }
+    }
+    best
+}

@@ -1,0 +1,19 @@
+use Rattle.std.specs.Prelude.{◌≢◌, ℕ, ◌<◌, ◌≤◌, ◌⊎◌, Option, Some, List, [], ◌∷◌}
+use Rattle.oc_model.specs.Numbers.{IsAmong}
+
+-- Whom a node asks for a place, in words.
+
+-- none stands there twice
+abbrev pub IsOnce : List ℕ → Type 0
+IsOnce [] = Unit {0}
+IsOnce (x ∷ xs) = (¬ IsAmong x xs) × IsOnce xs
+
+-- x is a member of the chain before this one; or an ancestor of this one, which is no member, or any member
+abbrev pub MayBeAsked : ℕ → ℕ → List ℕ → ℕ → Type 0
+MayBeAsked me chain ancestors x =
+    ((me ≤ chain) × (1 ≤ x) × (x < me))
+    ⊎ ((chain < me) × (IsAmong x ancestors ⊎ ((1 ≤ x) × (x ≤ chain))))
+
+-- x is neither the asker nor the one that is left out
+abbrev pub IsNotLeftOut : ℕ → Option ℕ → ℕ → Type 0
+IsNotLeftOut me without x = (x ≢ me) × (without ≢ Some x)

@@ -1,0 +1,10 @@
+ghost use Rattle.std.specs.Prelude.{◌≡◌, ◌↔◌, None};
+ghost use Rattle.oc_model.specs.Numbers.{raise as raised, number_end};
+
+/// The next epoch, and none where this is the last number.
+pub fn raise(epoch: u64) -> Option<u64>
+    ensures value { result ≡ raised epoch }
+    ensures end { (result ≡ None) ↔ (epoch ≡ number_end) }
+{
+    epoch.checked_add(1)
+}

@@ -1,0 +1,95 @@
+-- Reading the frames of a journal one after the other.
+use Rattle.std.proofs.Common.{◌≡◌, ℕ, suc, ◌+◌, ◌<◌, ◌≤◌, IsTrue, IsErr, List, [], ◌∷◌, ◌++◌, length, drop, get_or, option_map, Option, None, Some, Result, Ok, Err, refl, sym, ap, ◌∙◌, append_assoc, arith}
+use Rattle.std.proofs.lemmas.List.{append-nil, drop_more, length-drop, nil_from_length}
+use Rattle.std.proofs.lemmas.List.Concat.{flat_map-cons, flat_map-append}
+use Rattle.oc_outside.specs.DiskView.{DiskView, StaysAsItWas, LeavesOnly, IsConsistent}
+use Rattle.oc_outside.proofs.DiskMoments.{LeavesOnly-then, LeavesOnly-stays, LeavesOnly-now, StaysAsItWas-none, StaysAsItWas-then, still_honest}
+use Rattle.oc_journal.specs.JournalView.{JournalView, OnlyReads, HasFrames, IsLikeAnImage}
+use Rattle.oc_model.specs.declared.record.Record.{Record}
+use Rattle.oc_record.specs.declared.fault.RecordFault.{RecordFault}
+use Rattle.oc_record.specs.Reading.{decoded}
+use Rattle.oc_store.specs.ControlFiles.{or_none, records_in, records_of, bad_or, first_bad}
+
+-- no read at all
+pub OnlyReads-none : {D : Type 0} (view : D → DiskView) (u : JournalView D) → OnlyReads view u u
+OnlyReads-none view u = record { disk = StaysAsItWas-none (view u.disk); frames = λ _. refl; count = refl; end = refl; spare = omega arith; closed = refl }
+
+-- reads after reads
+pub OnlyReads-then : {D : Type 0} (view : D → DiskView) (u v w : JournalView D) → (IsTrue (view u.disk).honest → IsConsistent (view u.disk)) → OnlyReads view u v → OnlyReads view v w → OnlyReads view u w
+OnlyReads-then view u v w law first second = record {
+  disk = StaysAsItWas-then (view u.disk) (view v.disk) (view w.disk) law first.disk second.disk;
+  frames = λ h. second.frames (still_honest (view u.disk) (view v.disk) first.disk.goes_on h) ∙ first.frames h;
+  count = second.count ∙ first.count;
+  end = second.end ∙ first.end;
+  spare = omega (arith, first.spare, second.spare);
+  closed = second.closed ∙ first.closed;
+}
+
+-- reads leave the frames that every crash leaves
+pub HasFrames-reads : {D : Type 0} (view : D → DiskView) (u v : JournalView D) → OnlyReads view u v → IsTrue (view u.disk).honest → HasFrames (view u.disk) u.frames → HasFrames (view v.disk) v.frames
+HasFrames-reads view u v reads honest kept = λ c left. kept c (reads.disk.images honest c left) ∙ sym (reads.frames honest)
+
+-- the frames before a number are read: these are their records, and none of them is bad
+pub record IsRead (nodes : ℕ) (frames : List (List ℕ)) (records : List Record) (number : ℕ) : Type 0 where
+  pub whole : records ++ records_of nodes (drop number frames) ≡ records_of nodes frames
+  pub good : first_bad nodes frames ≡ option_map (λ k. number + k) (first_bad nodes (drop number frames))
+
+-- no number more
+same : (o : Option ℕ) → o ≡ option_map (λ k. 0 + k) o
+same None = refl
+same (Some k) = ap (λ (n : ℕ). Some n) (omega arith)
+
+pub starts : (nodes : ℕ) (frames : List (List ℕ)) → IsRead nodes frames [] 0
+starts nodes frames = record { whole = refl; good = same (first_bad nodes frames) }
+
+-- one number more
+one_more : (number : ℕ) (o : Option ℕ) → option_map (λ k. number + k) (option_map suc o) ≡ option_map (λ k. number + 1 + k) o
+one_more number None = refl
+one_more number (Some k) = ap (λ (n : ℕ). Some n) (omega arith)
+
+-- a frame was read
+pub goes_on : (nodes : ℕ) (frames : List (List ℕ)) (records more : List Record) (number : ℕ) → number < length frames → decoded nodes (get_or frames number []) ≡ Ok more → IsRead nodes frames records number → IsRead nodes frames (records ++ more) (number + 1)
+goes_on nodes frames records more number lt read so_far =
+    let body = get_or frames number [] in
+    let cut : drop number frames ≡ body ∷ drop (number + 1) frames = drop_more frames number [] lt in
+    let rest = drop (number + 1) frames in
+    let here : records_of nodes (drop number frames) ≡ more ++ records_of nodes rest =
+    ap (records_of nodes) cut ∙ flat_map-cons (records_in nodes) body rest ∙ ap (λ (r : Result (List Record) RecordFault). or_none r ++ records_of nodes rest) read in
+    let bad : first_bad nodes (drop number frames) ≡ option_map suc (first_bad nodes rest) =
+    ap (first_bad nodes) cut ∙ ap (λ (r : Result (List Record) RecordFault). bad_or r (first_bad nodes rest)) read in
+    record {
+      whole = append_assoc records more (records_of nodes rest) ∙ ap (λ (rs : List Record). records ++ rs) (sym here) ∙ so_far.whole;
+      good = so_far.good ∙ ap (option_map (λ k. number + k)) bad ∙ one_more number (first_bad nodes rest);
+    }
+
+-- a frame is bad
+bad_here : (number : ℕ) (r : Result (List Record) RecordFault) (later : Option ℕ) → IsErr r → option_map (λ k. number + k) (bad_or r later) ≡ Some number
+bad_here number (Ok records) later is = absurd cc
+bad_here number (Err fault) later is = ap (λ (n : ℕ). Some n) (omega arith)
+
+pub is_bad : (nodes : ℕ) (frames : List (List ℕ)) (records : List Record) (number : ℕ) → number < length frames → IsErr (decoded nodes (get_or frames number [])) → IsRead nodes frames records number → first_bad nodes frames ≡ Some number
+is_bad nodes frames records number lt bad so_far =
+    let cut : drop number frames ≡ get_or frames number [] ∷ drop (number + 1) frames = drop_more frames number [] lt in
+    so_far.good ∙ ap (λ (bodies : List (List ℕ)). option_map (λ k. number + k) (first_bad nodes bodies)) cut ∙ bad_here number (decoded nodes (get_or frames number [])) (first_bad nodes (drop (number + 1) frames)) bad
+
+-- all frames are read
+pub ends_all : (nodes : ℕ) (frames : List (List ℕ)) (records : List Record) (number : ℕ) → length frames ≤ number → IsRead nodes frames records number → (records ≡ records_of nodes frames) × (first_bad nodes frames ≡ None)
+ends_all nodes frames records number le so_far =
+    let none : drop number frames ≡ [] = nil_from_length (drop number frames) (omega (arith, le, length-drop number frames)) in (
+      sym (append-nil records) ∙ ap (λ (bodies : List (List ℕ)). records ++ records_of nodes bodies) (sym none) ∙ so_far.whole,
+      so_far.good ∙ ap (λ (bodies : List (List ℕ)). option_map (λ k. number + k) (first_bad nodes bodies)) none,
+    )
+
+-- reads after a load leave the same images
+pub reads_after : (u v w : DiskView) → LeavesOnly u v (IsLikeAnImage u) → IsConsistent v → IsTrue v.honest → StaysAsItWas v w → LeavesOnly u w (IsLikeAnImage u)
+reads_after u v w run law honest stays =
+    LeavesOnly-then u v w (IsLikeAnImage u) run (LeavesOnly-stays v w (IsLikeAnImage u) law honest stays (λ c left. LeavesOnly-now u v (IsLikeAnImage u) run law c left))
+
+-- the records of one frame
+pub one_frame : (nodes : ℕ) (body : List ℕ) → records_of nodes (body ∷ []) ≡ records_in nodes body
+one_frame nodes body = flat_map-cons (records_in nodes) body [] ∙ append-nil (records_in nodes body)
+
+-- and of one more
+pub one_frame_more : (nodes : ℕ) (frames : List (List ℕ)) (body : List ℕ) → records_of nodes (frames ++ body ∷ []) ≡ records_of nodes frames ++ records_in nodes body
+one_frame_more nodes frames body =
+    flat_map-append (records_in nodes) frames (body ∷ []) ∙ ap (λ (rs : List Record). records_of nodes frames ++ rs) (one_frame nodes body)

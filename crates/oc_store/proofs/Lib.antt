@@ -1,0 +1,3 @@
+pub mod FrameReads
+pub mod Turns
+pub mod Snapshots

@@ -1,0 +1,80 @@
+-- Which of two control files is current, and what they recover.
+use Rattle.std.specs.Prelude.{◌≡◌, ℕ, suc, Bool, true, false, ◌==◌, ◌&&◌, nat_lt, nat_le, if◌then◌else◌, Option, None, Some, option_map, Result, Ok, Err, List, [], ◌∷◌, length, take}
+use Rattle.std.specs.List.{flat_map}
+use Rattle.std.specs.Int.{w64, from_be_bytes}
+use Rattle.oc_journal.specs.JournalFile.{frames_of, IsNoJournal}
+use Rattle.oc_model.specs.declared.record.Record.{Record}
+use Rattle.oc_record.specs.declared.fault.RecordFault.{RecordFault}
+use Rattle.oc_record.specs.Reading.{decoded}
+use Rattle.oc_store.specs.declared.errors.Side.{Side}
+use Rattle.oc_store.specs.declared.errors.Side.TheVariants.{First, Second}
+
+-- the generation of a snapshot record that begins a body, by its code and its eight bytes; 0 where there is none
+abbrev pub generation_in : List ℕ → ℕ
+generation_in [] = 0
+generation_in (code ∷ fields) = if (code == 12) && nat_le 8 (length fields) then from_be_bytes w64 (take 8 fields) else 0
+
+-- the generation of a file of these frames, by its first one; none where there is no frame
+abbrev pub generation_of : List (List ℕ) → Option ℕ
+generation_of [] = None
+generation_of (body ∷ bodies) = Some (generation_in body)
+
+-- that number, 0 where there is no frame
+abbrev pub number_of : Option ℕ → ℕ
+number_of None = 0
+number_of (Some generation) = generation
+
+-- a generation is below a greater one, and none is below every one
+abbrev pub is_below : Option ℕ → Option ℕ → Bool
+is_below x None = false
+is_below None (Some h) = true
+is_below (Some g) (Some h) = nat_lt g h
+
+-- of two files of these frames, the one of the greater generation is current, and the first at a tie
+abbrev pub current_side : List (List ℕ) → List (List ℕ) → Side
+current_side a b = if is_below (generation_of a) (generation_of b) then Second else First
+
+-- what is said of the file of a side
+abbrev pub at_side : {A : Type 0} → Side → A → A → A
+at_side First a b = a
+at_side Second a b = b
+
+-- the frames of the current one of two files
+abbrev pub current_frames : List (List ℕ) → List (List ℕ) → List (List ℕ)
+current_frames a b = at_side (current_side a b) a b
+
+abbrev pub recovered_frames : List ℕ → List ℕ → List (List ℕ)
+recovered_frames file alternate = current_frames (frames_of file) (frames_of alternate)
+
+-- the records of a body for so many nodes
+abbrev pub or_none : Result (List Record) RecordFault → List Record
+or_none (Ok records) = records
+or_none (Err fault) = []
+
+abbrev pub records_in : ℕ → List ℕ → List Record
+records_in nodes body = or_none (decoded nodes body)
+
+-- the records of all frames, in order
+abbrev pub records_of : ℕ → List (List ℕ) → List Record
+records_of nodes frames = flat_map (records_in nodes) frames
+
+-- what two control files recover: all records of the current one
+abbrev pub recovered : ℕ → List ℕ → List ℕ → List Record
+recovered nodes file alternate = records_of nodes (recovered_frames file alternate)
+
+-- the number of the first frame that is no list of records, if there is one
+abbrev pub bad_or : Result (List Record) RecordFault → Option ℕ → Option ℕ
+bad_or (Ok records) later = option_map suc later
+bad_or (Err fault) later = Some 0
+
+abbrev pub first_bad : ℕ → List (List ℕ) → Option ℕ
+first_bad nodes [] = None
+first_bad nodes (body ∷ bodies) = bad_or (decoded nodes body) (first_bad nodes bodies)
+
+-- a control file whose frames are all lists of records
+abbrev pub IsGood : ℕ → List ℕ → Type 0
+IsGood nodes file = (¬ IsNoJournal file) × (first_bad nodes (frames_of file) ≡ None)
+
+-- a control file whose first frame that is no list of records is this one
+abbrev pub IsBadAt : ℕ → ℕ → List ℕ → Type 0
+IsBadAt nodes number file = (¬ IsNoJournal file) × (first_bad nodes (frames_of file) ≡ Some number)

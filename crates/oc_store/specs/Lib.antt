@@ -1,0 +1,3 @@
+pub mod Sides
+pub mod ControlFiles
+pub mod StoreView

@@ -1,0 +1,82 @@
+-- A store of control records, as a contract sees it.
+use Rattle.std.specs.Prelude.{◌≡◌, ◌⊎◌, ℕ, ◌+◌, ◌^◌, ◌<◌, ◌≤◌, Bool, false, IsTrue, List, [], ◌∷◌}
+use Rattle.oc_outside.specs.DiskView.{DiskView}
+use Rattle.oc_journal.specs.JournalFile.{frames_of}
+use Rattle.oc_journal.specs.JournalView.{JournalView, HasFrames, OnlyReads}
+use Rattle.oc_model.specs.declared.record.Record.{Record}
+use Rattle.oc_model.specs.declared.record.Record.TheVariants.{Snapshot}
+use Rattle.oc_store.specs.declared.errors.Side.{Side}
+use Rattle.oc_store.specs.ControlFiles.{generation_of, number_of, current_side, at_side, recovered_frames}
+
+-- the current file and the other one, which side the current one is, its generation, and whether a disk failed
+pub record StoreView (D : Type 0) : Type 0 where
+  pub current : JournalView D
+  pub other : JournalView D
+  pub side : Side
+  pub generation : ℕ
+  pub closed : Bool
+
+-- the disk of each side
+abbrev pub first_disk : {D : Type 0} → StoreView D → D
+first_disk s = at_side s.side s.current.disk s.other.disk
+
+abbrev pub second_disk : {D : Type 0} → StoreView D → D
+second_disk s = at_side s.side s.other.disk s.current.disk
+
+-- both disks keep the disk model
+abbrev pub AreHonest : {D : Type 0} → (D → DiskView) → StoreView D → Type 0
+AreHonest view s = IsTrue (view s.current.disk).honest × IsTrue (view s.other.disk).honest
+
+-- from every crash now these frames are recovered
+abbrev pub Recovers : {D : Type 0} → (D → DiskView) → StoreView D → List (List ℕ) → Type 0
+Recovers view s frames = (a b : List ℕ) → (view (first_disk s)).may_leave a → (view (second_disk s)).may_leave b → recovered_frames a b ≡ frames
+
+-- from a crash at any moment since the old store the old frames are recovered, or the new ones
+abbrev pub RecoversEither : {D : Type 0} → (D → DiskView) → StoreView D → StoreView D → List (List ℕ) → List (List ℕ) → Type 0
+RecoversEither view old new before after = (a b : List ℕ)
+    → (view (first_disk new)).since (view (first_disk old)).moment a → (view (second_disk new)).since (view (second_disk old)).moment b
+    → (recovered_frames a b ≡ before) ⊎ (recovered_frames a b ≡ after)
+
+-- While no disk failed, every crash of honest disks leaves the frames of each file, the current one of them is current,
+-- and its generation is this one.
+pub record IsStore {D : Type 0} (view : D → DiskView) (current other : JournalView D) (side : Side) (generation : ℕ) (closed : Bool) : Type 0 where
+  pub open_current : closed ≡ false → current.closed ≡ false
+  pub open_other : closed ≡ false → other.closed ≡ false
+  pub kept_current : closed ≡ false → IsTrue (view current.disk).honest → HasFrames (view current.disk) current.frames
+  pub kept_other : closed ≡ false → IsTrue (view other.disk).honest → HasFrames (view other.disk) other.frames
+  pub ordered : closed ≡ false → IsTrue (view current.disk).honest → IsTrue (view other.disk).honest
+      → current_side (at_side side current.frames other.frames) (at_side side other.frames current.frames) ≡ side
+  pub numbered : closed ≡ false → IsTrue (view current.disk).honest → generation ≡ number_of (generation_of current.frames)
+
+-- the list begins with a snapshot of a generation greater than this one
+abbrev pub BeginsAbove : ℕ → List Record → Type 0
+BeginsAbove generation [] = ⊥
+BeginsAbove generation (Snapshot g ∷ records) = (generation < g) × (g < 2 ^ 64)
+BeginsAbove generation (r ∷ records) = ⊥
+
+-- a file with these frames, with none, or with the new one alone
+abbrev pub IsReplaced : List (List ℕ) → List ℕ → List ℕ → Type 0
+IsReplaced frames body file = (frames_of file ≡ frames) ⊎ (frames_of file ≡ []) ⊎ (frames_of file ≡ body ∷ [])
+
+-- room for a frame of a body of n bytes
+pub record HasRoom {D : Type 0} (view : D → DiskView) (journal : JournalView D) (n : ℕ) : Type 0 where
+  pub spare : 0 < journal.spare
+  pub room : n + 7 ≤ (view journal.disk).room
+  pub calls : 16 ≤ (view journal.disk).calls
+  pub within : journal.end < (view journal.disk).size
+
+-- a call that read or reserved, in the current file alone
+pub record ReadsCurrent {D : Type 0} (view : D → DiskView) (old new : StoreView D) : Type 0 where
+  pub current : OnlyReads view old.current new.current
+  pub other : new.other ≡ old.other
+  pub side : new.side ≡ old.side
+  pub generation : new.generation ≡ old.generation
+  pub closed : new.closed ≡ old.closed
+
+-- a call that read or reserved, in the other file alone
+pub record ReadsOther {D : Type 0} (view : D → DiskView) (old new : StoreView D) : Type 0 where
+  pub current : new.current ≡ old.current
+  pub other : OnlyReads view old.other new.other
+  pub side : new.side ≡ old.side
+  pub generation : new.generation ≡ old.generation
+  pub closed : new.closed ≡ old.closed

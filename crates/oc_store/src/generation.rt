@@ -1,0 +1,62 @@
+ghost use Rattle.std.specs.Prelude.{◌≡◌, ◌<◌, [], length, IsTrue, IfOk, IsErrOf};
+ghost use Rattle.oc_outside.specs.Faults.{Rose};
+ghost use Rattle.oc_journal.specs.JournalView.{OnlyReads};
+ghost use Rattle.oc_store.specs.ControlFiles.{generation_in, generation_of};
+
+use oc_base::{take_u8, take_u64};
+use oc_journal::{Frame, FrameError, Journal};
+use oc_outside::Disk;
+use oc_record::CODES;
+use std::alloc::Global;
+
+/// The code of a snapshot.
+const SNAPSHOT: u8 = CODES[11].code;
+
+/// The generation of a snapshot that begins a body, or 0.
+pub fn generation_in(body: &[u8]) -> u64
+    ensures { result ≡ generation_in body.now }
+{
+    match (take_u8(body, 0), take_u64(body, 1)) {
+        (Ok((SNAPSHOT, _)), Ok((generation, _))) => generation,
+        _ => 0,
+    }
+}
+
+/// That of the body of a frame.
+pub fn generation_in_frame(frame: &Frame) -> u64
+    ensures { result ≡ generation_in frame.now }
+{
+    let bytes = frame.bytes();
+    generation_in(&bytes[4..bytes.len() - 1])
+}
+
+/// The generation of a control file, or none where it has no frame.
+pub fn generation_of<D: Disk>(
+    alloc: Global,
+    journal: &mut Journal<D>,
+) -> Result<Option<u64>, FrameError>
+    ensures generation { IfOk result (λ generation. IsTrue (D.view journal.old.disk).honest
+        → generation ≡ generation_of journal.old.frames) }
+    ensures same { OnlyReads D.view journal.old journal.new }
+    ensures disk { IsErrOf result FrameError.Disk
+        → Rose (D.view journal.old.disk).faults (D.view journal.new.disk).faults }
+{
+    let mut body = Vec::new(alloc);
+    if journal.frame(0, &mut body)? {
+        Ok(Some(generation_in(&body)))
+    } else {
+        Ok(None)
+    }
+}
+
+/// The generation of a control file with this frame more: that of its first frame.
+pub fn generation_with<D: Disk>(journal: &Journal<D>, generation: u64, frame: &Frame) -> u64
+    ensures first { journal.now.frames ≡ [] → result ≡ generation_in frame.now }
+    ensures later { 0 < length journal.now.frames → result ≡ generation }
+{
+    if journal.count() == 0 {
+        generation_in_frame(frame)
+    } else {
+        generation
+    }
+}

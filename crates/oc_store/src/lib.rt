@@ -1,0 +1,28 @@
+//! The control state of a node on two journals: what was committed is there after a crash at any
+//! moment, and the files do not grow without end.
+//!
+//! Each of the two control files is a journal whose frames are lists of control records. The one of
+//! the greater generation is current: the generation is that of a snapshot record that begins its first
+//! frame. A commit appends a frame to the current file. When that file is long, it is turned over: a
+//! snapshot with a greater generation is written to the other file, which so becomes current.
+//!
+//! `specs/ControlFiles` says which file is current and what the two recover, `specs/StoreView` what a
+//! contract sees of a [`Store`].
+//!
+//! The contracts used above: the list of all records kept, over every image of both files; a commit
+//! adds its frame, and at every moment each image has it or not; at every moment of a turning over each
+//! image recovers the list before it or the snapshot's.
+#![tactic(auto)]
+
+mod errors;
+mod generation;
+mod law;
+mod loading;
+mod store;
+mod turning;
+
+pub use errors::{Side, StoreError};
+pub use law::frames_add_their_records;
+pub use oc_journal::{AppendError, Frame, RestartError};
+pub use oc_record::Record;
+pub use store::Store;

@@ -1,0 +1,149 @@
+ghost use Rattle.std.specs.Prelude.{◌≡◌, ℕ, ◌<◌, [], false, length, get_or, IsTrue, IsErrOf, IsErr, IfOk, IfErr, OnOk, OnErr};
+ghost use Rattle.oc_outside.specs.DiskView.{GoesOn, LeavesOnly};
+ghost use Rattle.oc_outside.specs.Faults.{Rose};
+ghost use Rattle.oc_journal.specs.JournalFile.{frames_of, IsNoJournal};
+ghost use Rattle.oc_journal.specs.JournalView.{OnlyReads, HasFrames, IsLikeAnImage};
+ghost use Rattle.oc_record.specs.Reading.{decoded};
+ghost use Rattle.oc_store.specs.ControlFiles.{records_of, first_bad, generation_of};
+ghost use Rattle.oc_store.specs.declared.errors.SideError.TheVariants.{NotJournal as SideNotJournal, Disk as SideDisk, BadFrame as SideBadFrame};
+
+use crate::errors::SideError;
+use crate::generation::generation_of;
+use oc_journal::Journal;
+use oc_outside::Disk;
+use oc_record::{Record, RecordFault, decode};
+use std::alloc::Global;
+
+/// A control file that is loaded.
+#[derive(Drop)]
+pub struct ControlFile<D: Disk> {
+    pub journal: Journal<D>,
+    pub contents: Contents,
+}
+
+/// What the frames of a control file say.
+#[derive(Drop)]
+pub struct Contents {
+    /// All records, in order.
+    pub list: Vec<Record>,
+    /// The generation, where there is a frame.
+    pub generation: Option<u64>,
+}
+
+/// Loads the journal of one control file, and reads all its records in order. On a refusal the disk
+/// comes back.
+pub fn load_file<D: Disk>(
+    alloc: Global,
+    disk: D,
+    nodes: u32,
+) -> Result<ControlFile<D>, (D, SideError)>
+    // The frames are those of what a read gave, the list is all their records, and every crash leaves them.
+    ensures frames { IfOk result (λ file. IsTrue (D.view disk).honest
+        → file.journal.frames ≡ frames_of (D.view disk).seen) }
+    ensures list { IfOk result (λ file. IsTrue (D.view disk).honest
+        → file.contents.list.items ≡ records_of nodes (frames_of (D.view disk).seen)) }
+    ensures generation { IfOk result (λ file. IsTrue (D.view disk).honest
+        → file.contents.generation ≡ generation_of (frames_of (D.view disk).seen)) }
+    ensures kept { IfOk result (λ file. IsTrue (D.view disk).honest
+        → HasFrames (D.view file.journal.disk) file.journal.frames) }
+    ensures open { IfOk result (λ file. file.journal.closed ≡ false) }
+
+    // At every moment a crash leaves the frames that a crash at the start would have left.
+    ensures any_moment { IfOk result (λ file. IsTrue (D.view disk).honest
+        → LeavesOnly (D.view disk) (D.view file.journal.disk) (IsLikeAnImage (D.view disk))) }
+    ensures any_moment_err { IfErr result (λ refused. IsTrue (D.view disk).honest
+        → LeavesOnly (D.view disk) (D.view refused.0) (IsLikeAnImage (D.view disk))) }
+    ensures goes_on { IfOk result (λ file. GoesOn (D.view disk) (D.view file.journal.disk)) }
+    ensures goes_on_err { IfErr result (λ refused. GoesOn (D.view disk) (D.view refused.0)) }
+
+    // When it refuses.
+    ensures journal { OnOk result (IsTrue (D.view disk).honest → ¬ IsNoJournal (D.view disk).seen) }
+    ensures good { OnOk result (IsTrue (D.view disk).honest → first_bad nodes (frames_of (D.view disk).seen) ≡ None) }
+    ensures not_journal { IfErr result (λ refused. refused.1 ≡ SideNotJournal → IsTrue (D.view disk).honest
+        → IsNoJournal (D.view disk).seen) }
+    ensures bad_frame { IfErr result (λ refused. (number : ℕ) → refused.1 ≡ SideBadFrame number → IsTrue (D.view disk).honest
+        → (¬ IsNoJournal (D.view disk).seen) × (first_bad nodes (frames_of (D.view disk).seen) ≡ Some number)) }
+    ensures disk { IfErr result (λ refused. refused.1 ≡ SideDisk
+        → Rose (D.view disk).faults (D.view refused.0).faults) }
+{
+    let mut journal = match Journal::load(alloc, disk) {
+        Ok(journal) => journal,
+        Err((disk, error)) => return Err((disk, SideError::from(error))),
+    };
+    match read(alloc, nodes, &mut journal) {
+        Ok(contents) => Ok(ControlFile { journal, contents }),
+        Err(error) => Err((journal.into_disk(), error)),
+    }
+}
+
+/// What the frames say.
+fn read<D: Disk>(alloc: Global, nodes: u32, journal: &mut Journal<D>) -> Result<Contents, SideError>
+    ensures list { IfOk result (λ contents. IsTrue (D.view journal.old.disk).honest
+        → contents.list.items ≡ records_of nodes journal.old.frames) }
+    ensures generation { IfOk result (λ contents. IsTrue (D.view journal.old.disk).honest
+        → contents.generation ≡ generation_of journal.old.frames) }
+    ensures good { OnOk result (IsTrue (D.view journal.old.disk).honest
+        → first_bad nodes journal.old.frames ≡ None) }
+    ensures bad_frame { IfErr result (λ error. (number : ℕ) → error ≡ SideBadFrame number → IsTrue (D.view journal.old.disk).honest
+        → first_bad nodes journal.old.frames ≡ Some number) }
+    ensures journal { IfErr result (λ error. error ≡ SideNotJournal → ⊥) }
+    ensures disk { IfErr result (λ error. error ≡ SideDisk
+        → Rose (D.view journal.old.disk).faults (D.view journal.new.disk).faults) }
+    ensures same { OnlyReads D.view journal.old journal.new }
+{
+    let generation = generation_of(alloc, journal)?;
+    let list = read_all(alloc, nodes, journal)?;
+    Ok(Contents { list, generation })
+}
+
+/// The records of all frames, in order.
+fn read_all<D: Disk>(
+    alloc: Global,
+    nodes: u32,
+    journal: &mut Journal<D>,
+) -> Result<Vec<Record>, SideError>
+    ensures list { IfOk result (λ list. IsTrue (D.view journal.old.disk).honest
+        → list.items ≡ records_of nodes journal.old.frames) }
+    ensures good { OnOk result (IsTrue (D.view journal.old.disk).honest
+        → first_bad nodes journal.old.frames ≡ None) }
+    ensures bad_frame { IfErr result (λ error. (number : ℕ) → error ≡ SideBadFrame number → IsTrue (D.view journal.old.disk).honest
+        → first_bad nodes journal.old.frames ≡ Some number) }
+    ensures journal { IfErr result (λ error. error ≡ SideNotJournal → ⊥) }
+    ensures disk { IfErr result (λ error. error ≡ SideDisk
+        → Rose (D.view journal.old.disk).faults (D.view journal.new.disk).faults) }
+    ensures same { OnlyReads D.view journal.old journal.new }
+{
+    let mut list = Vec::new(alloc);
+    for number in 0..journal.count() {
+        let mut more = read_frame(alloc, nodes, journal, number)?;
+        list.append(&mut more)?;
+    }
+    Ok(list)
+}
+
+/// The records of one frame.
+fn read_frame<D: Disk>(
+    alloc: Global,
+    nodes: u32,
+    journal: &mut Journal<D>,
+    number: u64,
+) -> Result<Vec<Record>, SideError>
+    requires { number < length journal.old.frames }
+    ensures list { IfOk result (λ list. IsTrue (D.view journal.old.disk).honest
+        → decoded nodes (get_or journal.old.frames number []) ≡ Ok list.items) }
+    ensures bad_frame { IfErr result (λ error. (bad : ℕ) → error ≡ SideBadFrame bad
+        → (bad ≡ number) × (IsTrue (D.view journal.old.disk).honest
+        → IsErr (decoded nodes (get_or journal.old.frames number [])))) }
+    ensures journal { IfErr result (λ error. error ≡ SideNotJournal → ⊥) }
+    ensures disk { IfErr result (λ error. error ≡ SideDisk
+        → Rose (D.view journal.old.disk).faults (D.view journal.new.disk).faults) }
+    ensures same { OnlyReads D.view journal.old journal.new }
+{
+    let mut body = Vec::new(alloc);
+    journal.frame(number, &mut body)?;
+    match decode(alloc, &body, nodes) {
+        Ok(list) => Ok(list),
+        Err(RecordFault::Memory) => Err(SideError::Memory),
+        Err(_) => Err(SideError::BadFrame(number)),
+    }
+}

@@ -1,0 +1,30 @@
+-- Certificates of rows, put into a log one after another.
+use Rattle.std.proofs.Common.{◌≡◌, ◌↔◌, IsTrue, ℕ, ◌+◌, ◌<◌, ◌≤◌, Bool, Option, Some, None, List, [], ◌∷◌, ◌++◌, length, drop, get_or, ap, sym, subst, ◌∙◌, arith, length-append}
+use Rattle.std.proofs.lemmas.List.{drop-drop}
+use Rattle.oc_base.specs.declared.cert.Cert.{Cert}
+use Rattle.oc_model.specs.Node.{Log}
+use Rattle.oc_model.specs.ChangeLog.{IsWaiting}
+use Rattle.oc_cert.specs.TableView.{entries_of}
+use Rattle.oc_cert.proofs.Lines.{rows_at}
+use Rattle.oc_updown.specs.Waiting.{count_of}
+use Rattle.oc_updown.proofs.Counts.{counted_among, among_counted}
+
+-- the first row gives its certificate, and the rest the others
+pub entries_cons : (row : Option Cert) (rows : List (Option Cert)) → length (entries_of (row ∷ rows)) ≡ length (entries_of (row ∷ [])) + length (entries_of rows)
+entries_cons None rows = omega arith
+entries_cons (Some k) rows = omega arith
+
+-- where there is room for all rows, there is room for the one that comes next
+pub room_for_row : (certs before : List Cert) (rows : List (Option Cert)) (i : ℕ) (row : Option Cert) (room : ℕ) → i < length rows → row ≡ get_or rows i row → certs ++ entries_of (drop i rows) ≡ before ++ entries_of rows → length before + length (entries_of rows) ≤ room → length certs + length (entries_of (row ∷ [])) ≤ room
+room_for_row certs before rows i row room within e so fits =
+    let here : length (entries_of (drop i rows)) ≡ length (entries_of (row ∷ [])) + length (entries_of (drop (i + 1) rows)) = ap (λ (rs : List (Option Cert)). length (entries_of rs)) (rows_at rows i row within e) ∙ entries_cons row (drop (i + 1) rows) in
+    let all : length certs + length (entries_of (drop i rows)) ≡ length before + length (entries_of rows) = sym (length-append certs (entries_of (drop i rows))) ∙ (ap length so ∙ length-append before (entries_of rows)) in
+    omega arith
+
+-- one dropped more
+pub drop_more : (i : ℕ) (cs new : List Cert) → new ≡ drop 1 (drop i cs) → new ≡ drop (i + 1) cs
+drop_more i cs new e = e ∙ drop-drop 1 i cs
+
+-- a test that says whether one is counted says whether one waits
+pub waits_exactly : (b : Bool) (x : ℕ) (l : Log) (cs : List Cert) → cs ≡ l.waiting → (IsTrue b ↔ (0 < count_of x cs)) → IsTrue b ↔ IsWaiting l x
+waits_exactly b x l cs e says = (λ h. counted_among x l.waiting (subst (λ (ks : List Cert). 0 < count_of x ks) e (says.0 h)), λ waits. says.1 (subst (λ (ks : List Cert). 0 < count_of x ks) (sym e) (among_counted x l.waiting waits.0 waits.1 waits.2)))

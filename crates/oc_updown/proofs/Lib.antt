@@ -1,0 +1,4 @@
+pub mod Counts
+pub mod Filling
+pub mod Ends
+pub mod Least

@@ -1,0 +1,4 @@
+pub mod Waiting
+pub mod ChangeLogView
+pub mod Children
+pub mod Ended

@@ -1,0 +1,152 @@
+ghost use Rattle.std.specs.Prelude.{◌≡◌, ◌+◌, ◌-◌, ◌^◌, ◌<◌, ◌≤◌, ◌↔◌, ◌++◌, [], ◌∷◌, IsTrue, Option, length, take, max, IfOk, OnOk, OnErr, IfSome};
+ghost use Rattle.oc_model.specs.Node.{empty_log};
+ghost use Rattle.oc_model.specs.ChangeLog.{begun_with, note, ack, acked_whole, IsWaiting};
+ghost use Rattle.oc_cert.specs.TableView.{IsNode, AreRows, AreRowsFrom, entries_of};
+
+use crate::waiting::Waiting;
+use oc_base::{Cert, Memory, NodeId};
+use oc_cert::Table;
+use std::alloc::Global;
+use std::marker::Model;
+
+/// The certificates for the parent, in the order in which they came, with a count of those that it has
+/// acknowledged. Only those that wait are held. Places are counted from the beginning of the log.
+///
+/// A contract sees the number of nodes, the log, and how many certificates there is room for among
+/// those that wait.
+#[derive(Drop)]
+pub struct ChangeLog {
+    waiting: Waiting,
+    acked: u64,
+}
+
+impl Model for ChangeLog {
+    ghost use Rattle.std.specs.Prelude.{◌+◌, ◌^◌, ◌<◌, length as len_of};
+    ghost use Rattle.oc_updown.specs.ChangeLogView.{ChangeLogView, log_of};
+
+    ghost Value = { ChangeLogView };
+
+    ghost view = { λ l. record { nodes = l.waiting.nodes; log = log_of l.acked l.waiting.certs; room = l.waiting.room } };
+
+    ghost invariant = { λ l. l.acked + len_of l.waiting.certs < 2 ^ 63 };
+}
+
+impl ChangeLog {
+    /// An empty log for this many nodes.
+    pub fn new(alloc: Global, nodes: u32) -> Result<ChangeLog, Memory>
+        ensures log { IfOk result (λ made. made.log ≡ empty_log) }
+        ensures nodes { IfOk result (λ made. made.nodes ≡ nodes) }
+    {
+        Ok(ChangeLog {
+            waiting: Waiting::new(alloc, nodes)?,
+            acked: 0,
+        })
+    }
+
+    /// Makes room for this many certificates more.
+    pub fn reserve(&mut self, more: usize) -> Result<(), Memory>
+        ensures room { OnOk result (length self.new.log.waiting + more ≤ self.new.room) }
+        ensures stays { self.old.room ≤ self.new.room }
+        ensures log { self.new.log ≡ self.old.log }
+        ensures nodes { self.new.nodes ≡ self.old.nodes }
+    {
+        self.waiting.reserve(more)
+    }
+
+    /// Begins anew with all entries of a table, alive and dead, none of them acknowledged. There is room
+    /// for them. Takes no memory.
+    pub fn begin(&mut self, table: &Table)
+        requires room { length table.now.entries ≤ self.old.room }
+        requires nodes { table.now.nodes ≤ self.old.nodes }
+        ensures log { self.new.log ≡ begun_with table.now.entries }
+        ensures room { self.new.room ≡ self.old.room }
+        ensures nodes { self.new.nodes ≡ self.old.nodes }
+    {
+        self.clear();
+        self.waiting.push_rows(table.rows());
+    }
+
+    /// Empties the log.
+    pub fn clear(&mut self)
+        ensures log { self.new.log ≡ empty_log }
+        ensures room { self.new.room ≡ self.old.room }
+        ensures nodes { self.new.nodes ≡ self.old.nodes }
+    {
+        self.rebase(0);
+    }
+
+    /// Makes it a log of this length, all of it acknowledged. Takes no memory.
+    pub fn rebase(&mut self, acked: u64)
+        requires { acked ≤ 2 ^ 62 }
+        ensures log { self.new.log ≡ acked_whole acked }
+        ensures room { self.new.room ≡ self.old.room }
+        ensures nodes { self.new.nodes ≡ self.old.nodes }
+    {
+        self.waiting.clear();
+        self.acked = acked;
+    }
+
+    /// Puts a certificate at the end. There is room for it. Takes no memory.
+    pub fn note(&mut self, cert: &Cert)
+        requires subject { IsNode self.old.nodes cert.now.subject }
+        requires room { length self.old.log.waiting < self.old.room }
+        requires most { self.old.log.length < 2 ^ 63 - 1 }
+        ensures log { self.new.log ≡ note self.old.log cert.now }
+        ensures room { self.new.room ≡ self.old.room }
+        ensures nodes { self.new.nodes ≡ self.old.nodes }
+    {
+        self.waiting.push(cert);
+    }
+
+    /// How many are acknowledged.
+    pub fn acked(&self) -> u64
+        ensures { result ≡ self.now.log.acked }
+    {
+        self.acked
+    }
+
+    /// How many there ever were since it was empty.
+    pub fn length(&self) -> u64
+        ensures length { result ≡ self.now.log.length }
+        ensures below { self.now.log.length < 2 ^ 63 }
+    {
+        self.acked + self.waiting.len() as u64
+    }
+
+    /// Whether a certificate about this node is not acknowledged.
+    pub fn waiting(&self, subject: NodeId) -> bool
+        requires { IsNode self.now.nodes subject }
+        ensures { IsTrue result ↔ IsWaiting self.now.log subject }
+    {
+        self.waiting.has(subject)
+    }
+
+    /// Puts the first certificates that wait, at most `limit`, at the end of a vector, and gives the
+    /// place behind them. Where memory is wanted the vector has what it had.
+    pub fn take(&self, limit: usize, into: &mut Vec<Cert>) -> Result<u64, Memory>
+        ensures place { IfOk result (λ place. place ≡ self.now.log.acked + length (take limit self.now.log.waiting)) }
+        ensures certs { OnOk result (into.new.items ≡ into.old.items ++ take limit self.now.log.waiting) }
+        ensures err { OnErr result (into.new.items ≡ into.old.items) }
+    {
+        let count = limit.min(self.waiting.len());
+        into.reserve(count)?;
+        self.waiting.copy_first(count, into);
+        Ok(self.acked + count as u64)
+    }
+
+    /// Acknowledges up to a place, and gives up what is acknowledged. It changes nothing where the place
+    /// passes the end, or is acknowledged already. Takes no memory.
+    pub fn ack(&mut self, upto: u64)
+        ensures log { self.new.log ≡ ack self.old.log upto }
+        ensures within { upto ≤ self.old.log.length → self.new.log.acked ≡ max self.old.log.acked upto }
+        ensures past { self.old.log.length < upto → self.new.log ≡ self.old.log }
+        ensures length { self.new.log.length ≡ self.old.log.length }
+        ensures room { self.new.room ≡ self.old.room }
+        ensures nodes { self.new.nodes ≡ self.old.nodes }
+    {
+        if self.acked < upto && upto <= self.length() {
+            self.waiting.give_up((upto - self.acked) as usize);
+            self.acked = upto;
+        }
+    }
+}

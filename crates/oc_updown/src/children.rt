@@ -1,0 +1,107 @@
+ghost use Rattle.std.specs.Prelude.{◌≡◌, ◌-◌, ◌^◌, ◌≤◌, length, None, IfSome};
+ghost use Rattle.oc_model.specs.Numbers.{at};
+ghost use Rattle.oc_model.specs.Table.{is_lease_of};
+ghost use Rattle.oc_model.specs.Leases.{renew, is_over, start_if, start_all, next_ended};
+ghost use Rattle.oc_cert.specs.TableView.{IsNode, AreRows, entries_of};
+ghost use Rattle.oc_updown.specs.Children.{start_row, ended_of_row};
+
+use crate::leases::LEASE_TIME;
+use crate::place::place_of;
+use oc_base::{Cert, NodeId};
+
+/// The lease of a child begins anew.
+pub(crate) fn renew(ends: &mut [Option<u64>], child: NodeId, now: u64)
+    requires child { IsNode (length ends.old) child }
+    requires now { now ≤ 2 ^ 41 }
+    ensures { ends.new ≡ renew ends.old child now }
+{
+    ends[place_of(child)] = Some(now + LEASE_TIME);
+}
+
+/// Whether a certificate says that its subject is a child of this node.
+fn is_lease_of(parent: NodeId, cert: &Cert) -> bool
+    ensures { result ≡ is_lease_of parent cert.now }
+{
+    !cert.dead && cert.parent == parent
+}
+
+/// The lease of a child begins, if no end is set for it.
+fn start(ends: &mut [Option<u64>], child: NodeId, now: u64)
+    requires child { IsNode (length ends.old) child }
+    requires now { now ≤ 2 ^ 41 }
+    ensures { ends.new ≡ start_if (at ends.old child None) ends.old child now }
+{
+    if ends[place_of(child)].is_none() {
+        renew(ends, child, now);
+    }
+}
+
+/// The lease of the subject of a row begins, if it is a child of this node and has no end.
+fn start_of_row(row: &Option<Cert>, me: NodeId, ends: &mut [Option<u64>], now: u64)
+    requires row { IfSome row.now (λ cert. IsNode (length ends.old) cert.subject) }
+    requires now { now ≤ 2 ^ 41 }
+    ensures { ends.new ≡ start_row me row.now ends.old now }
+{
+    if let Some(cert) = row
+        && is_lease_of(me, cert)
+    {
+        start(ends, cert.subject, now);
+    }
+}
+
+/// The leases of all children without an end begin.
+pub(crate) fn start_rows(rows: &[Option<Cert>], me: NodeId, ends: &mut [Option<u64>], now: u64)
+    requires rows { AreRows rows.now }
+    requires nodes { length rows.now ≤ length ends.old }
+    requires now { now ≤ 2 ^ 41 }
+    ensures { ends.new ≡ start_all (entries_of rows.now) me ends.old now }
+{
+    for row in rows {
+        start_of_row(row, me, ends, now);
+    }
+}
+
+/// The subject of a row, if it is a child of this node whose lease has ended.
+fn ended_of_row(row: &Option<Cert>, me: NodeId, ends: &[Option<u64>], now: u64) -> Option<NodeId>
+    requires { IfSome row.now (λ cert. IsNode (length ends.now) cert.subject) }
+    ensures { result ≡ ended_of_row me row.now ends.now now }
+{
+    match row {
+        Some(cert) if is_lease_of(me, cert) && is_over(ends, cert.subject, now) => Some(
+            cert.subject,
+        ),
+        _ => None,
+    }
+}
+
+/// Whether the lease of a child has ended.
+fn is_over(ends: &[Option<u64>], child: NodeId, now: u64) -> bool
+    requires { IsNode (length ends.now) child }
+    ensures { result ≡ is_over (at ends.now child None) now }
+{
+    match ends[place_of(child)] {
+        Some(end) => end <= now,
+        None => false,
+    }
+}
+
+/// The least child past a number whose lease has ended.
+pub(crate) fn next_over(
+    rows: &[Option<Cert>],
+    me: NodeId,
+    ends: &[Option<u64>],
+    after: u32,
+    now: u64,
+) -> Option<NodeId>
+    requires rows { AreRows rows.now }
+    requires nodes { length rows.now ≤ length ends.now }
+    ensures { result ≡ next_ended (entries_of rows.now) me ends.now after now }
+{
+    for place in after as usize..rows.len() {
+        let ended = ended_of_row(&rows[place], me, ends, now);
+        if ended.is_some() {
+            return ended;
+        }
+    }
+    None
+}

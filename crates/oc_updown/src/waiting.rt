@@ -1,0 +1,171 @@
+ghost use Rattle.std.specs.Prelude.{◌≡◌, ℕ, ◌+◌, ◌-◌, ◌^◌, ◌<◌, ◌≤◌, slice_index, slice_set, ◌↔◌, ◌∷◌, [], ◌++◌, IsTrue, take, drop, length, IfOk, IfSome, OnOk, vec_len, vec_capacity};
+ghost use Rattle.std.specs.VecDeque.{deque_len, deque_capacity};
+ghost use Rattle.oc_cert.specs.TableView.{IsNode, AreRows, entries_of};
+ghost use Rattle.oc_updown.specs.Waiting.{count_of};
+
+use crate::place::place_of;
+use oc_base::{Cert, Memory, NodeId};
+use std::alloc::Global;
+use std::collections::VecDeque;
+use std::marker::Model;
+
+/// The certificates that wait, in their order, and how many of them are about each node. A contract
+/// sees them as a list, with the number of nodes and how many certificates there is room for.
+#[derive(Drop)]
+pub(crate) struct Waiting {
+    certs: VecDeque<Cert>,
+    /// The count of the node `n` is at the place `n - 1`.
+    counts: Vec<u64>,
+}
+
+impl Model for Waiting {
+    ghost use Rattle.std.specs.Prelude.{length};
+    ghost use Rattle.std.specs.VecDeque.{deque_capacity};
+    ghost use Rattle.oc_updown.specs.Waiting.{WaitingView, AreCounts, AreOfNodes};
+
+    ghost Value = { WaitingView };
+
+    ghost view = { λ w. record { nodes = length w.counts.items; certs = w.certs.items; room = deque_capacity w.certs } };
+
+    ghost invariant = { λ w. AreCounts w.counts.items w.certs.items × AreOfNodes (length w.counts.items) w.certs.items };
+}
+
+impl Waiting {
+    pub(crate) fn new(alloc: Global, nodes: u32) -> Result<Waiting, Memory>
+        ensures nodes { IfOk result (λ waiting. waiting.nodes ≡ nodes) }
+        ensures certs { IfOk result (λ waiting. waiting.certs ≡ []) }
+    {
+        Ok(Waiting {
+            certs: VecDeque::new(alloc),
+            counts: vec![in alloc; 0; nodes as usize]?,
+        })
+    }
+
+    /// Makes room for this many more.
+    pub(crate) fn reserve(&mut self, more: usize) -> Result<(), Memory>
+        ensures room { OnOk result (length self.new.certs + more ≤ self.new.room) }
+        ensures stays { self.old.room ≤ self.new.room }
+        ensures certs { self.new.certs ≡ self.old.certs }
+        ensures nodes { self.new.nodes ≡ self.old.nodes }
+    {
+        self.certs.reserve(more)?;
+        Ok(())
+    }
+
+    pub(crate) fn len(&self) -> usize
+        ensures { result ≡ length self.now.certs }
+    {
+        self.certs.len()
+    }
+
+    /// Puts the first of them at the end of a vector that has room for them.
+    pub(crate) fn copy_first(&self, count: usize, into: &mut Vec<Cert>)
+        requires most { count ≤ length self.now.certs }
+        requires room { vec_len into.old + count ≤ vec_capacity into.old }
+        ensures { into.new.items ≡ into.old.items ++ take count self.now.certs }
+    {
+        for place in 0..count {
+            put_in(into, &self.certs[place]);
+        }
+    }
+
+    /// Whether one of them is about this node.
+    pub(crate) fn has(&self, subject: NodeId) -> bool
+        requires { IsNode self.now.nodes subject }
+        ensures { IsTrue result ↔ (0 < count_of subject self.now.certs) }
+    {
+        self.counts[place_of(subject)] > 0
+    }
+
+    /// Puts one at the end. There is room for it.
+    pub(crate) fn push(&mut self, cert: &Cert)
+        requires subject { IsNode self.old.nodes cert.now.subject }
+        requires room { length self.old.certs < self.old.room }
+        ensures certs { self.new.certs ≡ self.old.certs ++ cert.now ∷ [] }
+        ensures room { self.new.room ≡ self.old.room }
+        ensures nodes { self.new.nodes ≡ self.old.nodes }
+    {
+        let place = place_of(cert.subject);
+        self.counts[place] += 1;
+        put(&mut self.certs, cert);
+    }
+
+    /// Gives up the first, if there is one.
+    pub(crate) fn pop(&mut self)
+        ensures certs { self.new.certs ≡ drop 1 self.old.certs }
+        ensures room { self.new.room ≡ self.old.room }
+        ensures nodes { self.new.nodes ≡ self.old.nodes }
+    {
+        if let Some(cert) = self.certs.pop_front() {
+            let place = place_of(cert.subject);
+            self.counts[place] -= 1;
+        }
+    }
+
+    /// Gives up the first of them, this many or all.
+    pub(crate) fn give_up(&mut self, count: usize)
+        ensures certs { self.new.certs ≡ drop count self.old.certs }
+        ensures room { self.new.room ≡ self.old.room }
+        ensures nodes { self.new.nodes ≡ self.old.nodes }
+    {
+        for _ in 0..count {
+            self.pop();
+        }
+    }
+
+    /// Puts the certificates of these rows at the end. There is room for them.
+    pub(crate) fn push_rows(&mut self, rows: &[Option<Cert>])
+        requires rows { AreRows rows.now }
+        requires nodes { length rows.now ≤ self.old.nodes }
+        requires room { length self.old.certs + length (entries_of rows.now) ≤ self.old.room }
+        ensures certs { self.new.certs ≡ self.old.certs ++ entries_of rows.now }
+        ensures room { self.new.room ≡ self.old.room }
+        ensures nodes { self.new.nodes ≡ self.old.nodes }
+    {
+        for row in rows {
+            self.push_row(row);
+        }
+    }
+
+    /// Puts the certificate of a row at the end, if there is one.
+    fn push_row(&mut self, row: &Option<Cert>)
+        requires subject { IfSome row.now (λ cert. IsNode self.old.nodes cert.subject) }
+        requires room { length self.old.certs + length (entries_of (row.now ∷ [])) ≤ self.old.room }
+        ensures certs { self.new.certs ≡ self.old.certs ++ entries_of (row.now ∷ []) }
+        ensures room { self.new.room ≡ self.old.room }
+        ensures nodes { self.new.nodes ≡ self.old.nodes }
+    {
+        if let Some(cert) = row {
+            self.push(cert);
+        }
+    }
+
+    /// Gives up all.
+    pub(crate) fn clear(&mut self)
+        ensures certs { self.new.certs ≡ [] }
+        ensures room { self.new.room ≡ self.old.room }
+        ensures nodes { self.new.nodes ≡ self.old.nodes }
+    {
+        self.certs.clear();
+        self.counts.fill(0);
+    }
+}
+
+/// Puts a certificate at the end. There is room for it.
+fn put(certs: &mut VecDeque<Cert>, cert: &Cert)
+    requires { deque_len certs.old < deque_capacity certs.old }
+    ensures items { certs.new.items ≡ certs.old.items ++ cert.now ∷ [] }
+    ensures capacity { deque_capacity certs.new ≡ deque_capacity certs.old }
+{
+    let _no_memory_taken = certs.push_back(*cert);
+}
+
+/// The same with a vector.
+fn put_in(certs: &mut Vec<Cert>, cert: &Cert)
+    requires { vec_len certs.old < vec_capacity certs.old }
+    ensures items { certs.new.items ≡ certs.old.items ++ cert.now ∷ [] }
+    ensures len { vec_len certs.new ≡ vec_len certs.old + 1 }
+    ensures capacity { vec_capacity certs.old ≤ vec_capacity certs.new }
+{
+    let _no_memory_taken = certs.push(*cert);
+}

@@ -1,189 +1,87 @@
--- A law of every run: what holds of a new world and is carried by the small changes of each node holds of every world to which
--- events lead, settle and heal included, and of each world inside of these.
-use Rattle.std.proofs.Common.{◌≡◌, ℕ, zero, suc, Bool, true, false, Option, Some, None, List, [], ◌∷◌, ◌++◌, inl, inr, refl, ap, sym, subst, ◌∙◌, append-nil}
-use Rattle.std.proofs.lemmas.Bool.{cond_both}
-use Rattle.std.specs.Prelude.{slice_get}
-use Rattle.oc_model.specs.declared.event.Act.{Act}
-use Rattle.oc_model.specs.declared.event.Act.TheVariants as acts
+-- Every node of every world has an ascending table, so laws need not say so.
+use Rattle.std.proofs.Common.{ℕ, true, List}
+use Rattle.std.specs.List.{range_with_len}
+use Rattle.std.proofs.Common.{sym, subst}
 use Rattle.oc_model.specs.declared.event.Event.{Event}
-use Rattle.oc_model.specs.declared.event.Event.TheVariants.{Up, Crash, Stop, Do, Held, Show, Settle, Heal}
-use Rattle.oc_model.specs.declared.message.Body.{Body}
 use Rattle.oc_model.specs.declared.message.Message.{Message}
-use Rattle.oc_model.specs.NextWorld.{stopped, cut_off, keeps_write, stopped_at, settle_acts, heal_acts, after_any, next_world, world_after}
-use Rattle.oc_model.specs.Node.{Control, Outcome, restarted}
-use Rattle.oc_model.specs.Numbers.{IsAmong}
-use Rattle.oc_model.specs.Runs.{after_acts}
-use Rattle.oc_model.specs.Step.{step}
-use Rattle.oc_model.specs.World.{World, Process, Aimed, absent, node, process, process_in, with_process, message_at, source_after, stepped, delivery, aimed, acted, after_act}
-use Rattle.oc_model.proofs.Outcomes.{step_leaves}
-use Rattle.oc_model.proofs.Processes.{IsPutOrAbsent, process_in-me, process_in-with_up, process_in-with_other, process_in-with_same}
-use Rattle.oc_laws.specs.Throughout.{Along, AlongAny, Inside, Throughout}
-use Rattle.oc_laws.proofs.Machine.{IsMachine, cleared}
-use Rattle.oc_laws.proofs.Walks.{HasCome, walks_step}
+use Rattle.oc_model.specs.Adopting.{birth}
+use Rattle.oc_model.specs.NextWorld.{next_world, world_after}
+use Rattle.oc_model.specs.Node.{Header, Control}
+use Rattle.oc_model.specs.World.{World, Process, process, new_world}
+use Rattle.oc_model.proofs.Processes.{IsNew, process_in-new}
+use Rattle.oc_step_laws.specs.Sound.{IsTable}
+use Rattle.oc_step_laws.proofs.Tables.{table_merge}
+use Rattle.oc_laws.specs.Throughout.{Throughout}
+use Rattle.oc_laws.proofs.Lifts.{HasSent, IsLaw, AreTables, at_each, lift_event, lift_after, lift_throughout}
+use Rattle.oc_laws.proofs.Machine.{IsMachine, both_kept}
 
--- the control state of the node of this id
-abbrev pub control_of : World → ℕ → Control
-control_of w x = (node w x).control
+-- a node with an ascending table
+abbrev HasTable : World → ℕ → Control → List Message → Type 0
+HasTable w x n ms = IsTable n.kept.table
 
--- p has sent this to x
-abbrev pub HasSent : World → ℕ → ℕ → Body → Type 0
-HasSent w x p b = IsAmong (record { from = p; to = x; body = b }) w.net
-
--- the node x has become this and has sent these messages; all others are as they were
-pub record Becomes (w : World) (x : ℕ) (n : Control) (ms : List Message) (v : World) : Type 0 where
-  pub here : control_of v x ≡ n
-  pub others : (y : ℕ) → (x ≡ y → ⊥) → control_of v y ≡ control_of w y
-  pub net : v.net ≡ w.net ++ ms
-
--- J of worlds is carried by P of the node that changes, in the world before: it begins where J holds, each small change keeps it,
--- and with it J holds of what the world becomes
-pub record IsLaw (J : World → Type 0) (P : World → ℕ → Control → List Message → Type 0) : Type 0 where
-  pub begins : (w : World) (x : ℕ) → J w → P w x (control_of w x) []
-  pub keeps : (w : World) (x : ℕ) → J w → IsMachine (HasSent w x) (P w x)
-  pub ends : (w v : World) (x : ℕ) (n : Control) (ms : List Message) → J w → Becomes w x n ms v → P w x n ms → J v
-
--- What a world becomes
-
--- the process of an id that was put over one that is up
-put_becomes : (w : World) (x : ℕ) (q : Process) (s : _) (ms : List Message) → (process w x).up ≡ true → q.node.control.me ≡ x
-    → Becomes w x q.node.control ms (record { processes = with_process w.processes q; net = w.net ++ ms; source = s })
-put_becomes w x q s ms up me = record {
-  here = subst (λ (y : ℕ). (process_in (with_process w.processes q) y).node.control ≡ q.node.control) me
-      (ap (λ (p : Process). p.node.control) (process_in-with_up w.processes q (subst (λ (y : ℕ). (process_in w.processes y).up ≡ true) (sym me) up)));
-  others = λ y apart. ap (λ (p : Process). p.node.control) (process_in-with_other w.processes q y (λ e. apart (sym me ∙ e)));
-  net = refl;
+-- the small changes leave it ascending
+tables_kept : (w : World) (x : ℕ) → IsMachine (HasSent w x) (HasTable w x)
+tables_kept w x = record {
+  soft = λ n ms s h. h;
+  lists = λ n ms leases rates counts h. h;
+  aside = λ n ms ancestors measures h. h;
+  falls = λ n ms h. h;
+  asks = λ n ms p e1 h. h;
+  acts = λ n ms h. h;
+  raises = λ n ms e e1 e2 h. h;
+  joins = λ n ms p r xs e1 e2 e3 e4 h. h;
+  ranks = λ n ms p upto r xs e1 e2 e3 h. h;
+  acks = λ n ms p upto r xs e1 e2 e3 h. h;
+  adopts = λ n ms x s r e1 e2 e3 h. table_merge n.kept.table (birth x s n.me) h;
+  merges = λ n ms x s upto rate number clients certs c e1 e2 e3 h. table_merge n.kept.table c h;
+  ends = λ n ms x k e1 e2 e3 h. table_merge n.kept.table (record k { dead = true }) h;
+  counts = λ n ms clients e1 h. h;
+  says = λ n ms p b e1 h. h;
+  says_ask = λ n ms p e1 h. h;
+  says_yes = λ n ms x s r e1 e2 e3 h. h;
+  says_check_in = λ n ms p rate e1 h. h;
+  says_check_ack = λ n ms x s upto rate number clients certs e1 e2 h. h;
+  drops = λ n ms h. h;
+  starts = λ n ms h. h;
 }
 
--- the same where nothing that was sent gets out
-lost_becomes : (w : World) (x : ℕ) (q : Process) (s : _) → (process w x).up ≡ true → q.node.control.me ≡ x
-    → Becomes w x q.node.control [] (record { processes = with_process w.processes q; net = w.net; source = s })
-lost_becomes w x q s up me =
-    let put : Becomes w x q.node.control [] (record { processes = with_process w.processes q; net = w.net ++ []; source = s }) = put_becomes w x q s [] up me in
-    record { here = put.here; others = put.others; net = sym (append-nil w.net) }
+-- a law beside it
+abbrev Tabled : (World → Type 0) → World → Type 0
+Tabled J w = AreTables w × J w
 
--- the process of x started anew, or stopped, which an absent one is already
-abbrev again : World → ℕ → Bool → Process
-again w x up = record { node = restarted (node w x); up = up }
+abbrev TabledNode : (World → ℕ → Control → List Message → Type 0) → World → ℕ → Control → List Message → Type 0
+TabledNode P w x n ms = IsTable n.kept.table × P w x n ms
 
-again_becomes : (w : World) (x : ℕ) (up : Bool) → Becomes w x (cleared (control_of w x)) [] (record w { processes = with_process w.processes (again w x up) })
-again_becomes w x up = record {
-  here = subst (λ (y : ℕ). (process_in (with_process w.processes (again w x up)) y).node.control ≡ cleared (control_of w x)) me (by_case (process_in-with_same w.processes (again w x up)));
-  others = λ y apart. ap (λ (p : Process). p.node.control) (process_in-with_other w.processes (again w x up) y (λ e. apart (sym me ∙ e)));
-  net = sym (append-nil w.net);
-} where
-  me : (again w x up).node.control.me ≡ x
-  me = process_in-me w.processes x
+tabled : (J : World → Type 0) (P : World → ℕ → Control → List Message → Type 0) → IsLaw J P → IsLaw (Tabled J) (TabledNode P)
+tabled J P law = record {
+  begins = λ w x holds. (holds.0 x, law.begins w x holds.1);
+  keeps = λ w x holds. both_kept (HasSent w x) (HasTable w x) (P w x) (tables_kept w x) (law.keeps w x holds.1);
+  ends = λ w v x n ms holds becomes h. (at_each w v x n ms becomes (λ y c. IsTable c.kept.table) h.0 holds.0, law.ends w v x n ms holds.1 becomes h.1);
+}
 
-  by_case : IsPutOrAbsent w.processes (again w x up) → (process_in (with_process w.processes (again w x up)) (again w x up).node.control.me).node.control ≡ cleared (control_of w x)
-  by_case (inl put) = ap (λ (p : Process). p.node.control) put
-  by_case (inr none) =
-      let old : process_in w.processes x ≡ absent (again w x up).node.control.me = subst (λ (y : ℕ). process_in w.processes y ≡ absent (again w x up).node.control.me) me none.0 in
-      ap (λ (p : Process). p.node.control) none.1 ∙ ap (λ (p : Process). cleared p.node.control) (sym old)
-
--- a message that is found was sent
-found_among : (ms : List Message) (k : ℕ) (m : Message) → slice_get ms k ≡ Some m → IsAmong m ms
-found_among [] k m e = absurd cc
-found_among (a ∷ rest) zero m e = inl cc
-found_among (a ∷ rest) (suc k) m e = inr (found_among rest k m e)
-
--- the input of an act has come where it is a message
-abbrev IsTrueAim : World → Option Aimed → Type 0
-IsTrueAim w None = Unit {0}
-IsTrueAim w (Some a) = HasCome (HasSent w a.at) a.input
-
-delivery_came : (w : World) (k : ℕ) → IsTrueAim w (delivery (message_at w.net k))
-delivery_came w zero = tt
-delivery_came w (suc k) = by_found (message_at w.net (suc k)) refl where
-  by_found : (found : Option Message) → message_at w.net (suc k) ≡ found → IsTrueAim w (delivery found)
-  by_found None e = tt
-  by_found (Some m) e = found_among w.net k m e
-
-aim_came : (w : World) (a : Act) → IsTrueAim w (aimed w a)
-aim_came w (acts.Deliver k) = delivery_came w k
-aim_came w a = tt
+-- a new world has ascending tables
+pub tables_new : (h : Header) → AreTables (new_world h)
+tables_new h x =
+    let new : IsNew x (process (new_world h) x) = process_in-new h (range_with_len 1 h.nodes) x in
+    subst (λ (p : Process). IsTable p.node.control.kept.table) (sym new.1) tt
 
 module _ (J : World → Type 0) (P : World → ℕ → Control → List Message → Type 0) (law : IsLaw J P) where
-  -- a start or a stop between two inputs keeps the law
-  law_again : (w : World) (x : ℕ) (up : Bool) → J w → J (record w { processes = with_process w.processes (again w x up) })
-  law_again w x up holds =
-      law.ends w (record w { processes = with_process w.processes (again w x up) }) x (cleared (control_of w x)) [] holds (again_becomes w x up)
-      ((law.keeps w x holds).starts (control_of w x) [] (law.begins w x holds))
+  -- each event keeps a law
+  pub law_event : (w : World) (e : Event) → AreTables w → J w → J (next_world w e)
+  law_event w e tables holds = (lift_event (Tabled J) (TabledNode P) (tabled J P law) (λ v h. h.0) w e (tables, holds)).1
 
-  -- what a step at x leaves has the law's part
-  law_step : (w : World) (a : Aimed) → IsTrueAim w (Some a) → J w → P w a.at (step (node w a.at) a.input).node.control (step (node w a.at) a.input).sends
-  law_step w a truth holds = walks_step (HasSent w a.at) (P w a.at) (law.keeps w a.at holds) (node w a.at) a.input truth (law.begins w a.at holds)
+  -- from a new world on, so does a list of events
+  law_always : (h : Header) (events : List Event) → J (new_world h) → Tabled J (world_after (new_world h) events)
+  law_always h events holds = lift_after (Tabled J) (TabledNode P) (tabled J P law) (λ v k. k.0) (new_world h) events (tables_new h, holds)
 
-  step_me : (w : World) (a : Aimed) → (step (node w a.at) a.input).node.control.me ≡ a.at
-  step_me w a = (step_leaves (node w a.at) a.input).me ∙ process_in-me w.processes a.at
+  pub law_after : (h : Header) (events : List Event) → J (new_world h) → J (world_after (new_world h) events)
+  law_after h events holds = (law_always h events holds).1
 
-  law_acted : (w : World) (a : Option Aimed) → IsTrueAim w a → J w → J (acted w a)
-  law_acted w None truth holds = holds
-  law_acted w (Some a) truth holds =
-      let o : Outcome = step (node w a.at) a.input in
-      cond_both (process w a.at).up (stepped w a.input o) w J
-      (λ up. law.ends w (stepped w a.input o) a.at o.node.control o.sends holds (put_becomes w a.at (record { node = o.node; up = true }) (source_after w.source a.input o.answer) o.sends up (step_me w a)) (law_step w a truth holds))
-      (λ _. holds)
+  -- and the tables are ascending beside it
+  pub tables_after : (h : Header) (events : List Event) → J (new_world h) → AreTables (world_after (new_world h) events)
+  tables_after h events holds = (law_always h events holds).0
 
-  -- each act keeps the law
-  pub law_act : (w : World) (a : Act) → J w → J (after_act w a)
-  law_act w a holds = law_acted w (aimed w a) (aim_came w a) holds
-
-  -- so do acts, one after another
-  pub law_acts : (w : World) (done : List Act) → J w → J (after_acts w done)
-  law_acts w [] holds = holds
-  law_acts w (a ∷ rest) holds = law_acts (after_act w a) rest (law_act w a holds)
-
-  law_any : (w : World) (done : Option (List Act)) → J w → J (after_any w done)
-  law_any w None holds = holds
-  law_any w (Some done) holds = law_acts w done holds
-
-  -- a stop in an input: what it kept is there, what it sent is lost
-  law_cut : (b : Bool) (w : World) (a : Aimed) → IsTrueAim w (Some a) → (process w a.at).up ≡ true → J w → J (cut_off b w (node w a.at) a.input (step (node w a.at) a.input))
-  law_cut false w a truth up holds = law_again w a.at false holds
-  law_cut true w a truth up holds =
-      let o : Outcome = step (node w a.at) a.input in
-      let machine : IsMachine (HasSent w a.at) (P w a.at) = law.keeps w a.at holds in
-      law.ends w (cut_off true w (node w a.at) a.input o) a.at (cleared o.node.control) [] holds
-      (lost_becomes w a.at (stopped o.node) (source_after w.source a.input o.answer) up (step_me w a))
-      (machine.starts o.node.control [] (machine.drops o.node.control o.sends (law_step w a truth holds)))
-
-  law_stop : (w : World) (calls image : ℕ) (a : Option Aimed) → IsTrueAim w a → J w → J (stopped_at w calls image a)
-  law_stop w calls image None truth holds = holds
-  law_stop w calls image (Some a) truth holds =
-      let kept : Bool = keeps_write calls image (node w a.at) a.input in
-      cond_both (process w a.at).up (cut_off kept w (node w a.at) a.input (step (node w a.at) a.input)) w J (λ up. law_cut kept w a truth up holds) (λ _. holds)
-
-  -- each event keeps the law
-  pub law_event : (w : World) (e : Event) → J w → J (next_world w e)
-  law_event w (Up x) holds = cond_both (process w x).up w (record w { processes = with_process w.processes (again w x true) }) J (λ _. holds) (λ _. law_again w x true holds)
-  law_event w (Crash x) holds = cond_both (process w x).up (record w { processes = with_process w.processes (again w x false) }) w J (λ _. law_again w x false holds) (λ _. holds)
-  law_event w (Stop calls image a) holds = law_stop w calls image (aimed w a) (aim_came w a) holds
-  law_event w (Do a) holds = law_act w a holds
-  law_event w (Held x) holds = holds
-  law_event w (Show x) holds = holds
-  law_event w Settle holds = law_any w (settle_acts w) holds
-  law_event w Heal holds = law_any w (heal_acts w) holds
-
-  -- so does a list of events
-  pub law_after : (w : World) (es : List Event) → J w → J (world_after w es)
-  law_after w [] holds = holds
-  law_after w (e ∷ es) holds = law_after (next_world w e) es (law_event w e holds)
-
-  -- what follows from the law holds of each world on the way
-  module _ (Q : World → Type 0) (follows : (w : World) → J w → Q w) where
-    law_along : (w : World) → J w → (done : List Act) → Along Q w done
-    law_along w holds [] = tt
-    law_along w holds (a ∷ rest) = let next = law_act w a holds in (follows (after_act w a) next, law_along (after_act w a) next rest)
-
-    law_along_any : (w : World) → J w → (done : Option (List Act)) → AlongAny Q w done
-    law_along_any w holds None = tt
-    law_along_any w holds (Some done) = law_along w holds done
-
-    law_inside : (w : World) → J w → (e : Event) → Inside Q w e
-    law_inside w holds Settle = law_along_any w holds (settle_acts w)
-    law_inside w holds Heal = law_along_any w holds (heal_acts w)
-    law_inside w holds e = tt
-
-    pub law_throughout : (w : World) → J w → (events : List Event) → Throughout Q w events
-    law_throughout w holds [] = follows w holds
-    law_throughout w holds (e ∷ es) = (follows w holds, law_inside w holds e, law_throughout (next_world w e) (law_event w e holds) es)
+  -- what follows from a law holds of each world on the way
+  pub law_throughout : (Q : World → Type 0) → ((w : World) → J w → Q w) → (h : Header) (events : List Event) → J (new_world h) → Throughout Q (new_world h) events
+  law_throughout Q follows h events holds =
+      lift_throughout (Tabled J) (TabledNode P) (tabled J P law) (λ v k. k.0) Q (λ w k. follows w k.1) (new_world h) (tables_new h, holds) events

@@ -7,12 +7,16 @@ pub mod Steps
 pub mod Turns
 pub mod Kept
 pub mod Machine
+pub mod LeasedRows
 pub mod WalksAsking
 pub mod WalksAdopting
 pub mod WalksChecking
 pub mod WalksLooking
 pub mod WalksContent
 pub mod Walks
+pub mod Lifts
 pub mod Laws
 pub mod RankSteps
 pub mod RanksKept
+pub mod Listed
+pub mod NumbersKept

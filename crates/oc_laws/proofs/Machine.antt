@@ -68,7 +68,7 @@ pub record IsMachine (came : ℕ → Body → Type 0) (P : Control → List Mess
       → P n ms → P (with_kept n (entered n.kept (birth x s n.me))) ms
   pub merges : (n : Control) (ms : List Message) (x s upto rate number clients : ℕ) (certs : List Cert) (c : Cert) → came x (bodies.CheckIn s upto rate number clients certs)
       → IsAmong c (life x s n.me number clients ∷ certs) → is_news n.kept.table c ≡ true → P n ms → P (with_kept n (entered n.kept c)) ms
-  pub ends : (n : Control) (ms : List Message) (x : ℕ) (k : Cert) → newest n.kept.table x ≡ Some k → is_news n.kept.table (record k { dead = true }) ≡ true
+  pub ends : (n : Control) (ms : List Message) (x : ℕ) (k : Cert) → newest n.kept.table x ≡ Some k → k.parent ≡ n.me → is_news n.kept.table (record k { dead = true }) ≡ true
       → P n ms → P (with_kept n (entered n.kept (record k { dead = true }))) ms
   pub counts : (n : Control) (ms : List Message) (clients : ℕ) → nat_lt n.kept.number number_end ≡ true → P n ms → P (with_kept n (record n.kept { number = n.kept.number + 1; clients = clients })) ms
   -- the messages
@@ -88,3 +88,29 @@ pub record IsMachine (came : ℕ → Body → Type 0) (P : Control → List Mess
 -- this of a step under way
 abbrev pub Of : (Control → List Message → Type 0) → Plan → Type 0
 Of P o = P o.node o.sends
+
+-- two of what the small changes keep, at once
+pub both_kept : (came : ℕ → Body → Type 0) (P Q : Control → List Message → Type 0) → IsMachine came P → IsMachine came Q → IsMachine came (λ n ms. P n ms × Q n ms)
+both_kept came P Q first second = record {
+  soft = λ n ms s h. (first.soft n ms s h.0, second.soft n ms s h.1);
+  lists = λ n ms leases rates counts h. (first.lists n ms leases rates counts h.0, second.lists n ms leases rates counts h.1);
+  aside = λ n ms ancestors measures h. (first.aside n ms ancestors measures h.0, second.aside n ms ancestors measures h.1);
+  falls = λ n ms h. (first.falls n ms h.0, second.falls n ms h.1);
+  asks = λ n ms p e1 h. (first.asks n ms p e1 h.0, second.asks n ms p e1 h.1);
+  acts = λ n ms h. (first.acts n ms h.0, second.acts n ms h.1);
+  raises = λ n ms e e1 e2 h. (first.raises n ms e e1 e2 h.0, second.raises n ms e e1 e2 h.1);
+  joins = λ n ms p r xs e1 e2 e3 e4 h. (first.joins n ms p r xs e1 e2 e3 e4 h.0, second.joins n ms p r xs e1 e2 e3 e4 h.1);
+  ranks = λ n ms p upto r xs e1 e2 e3 h. (first.ranks n ms p upto r xs e1 e2 e3 h.0, second.ranks n ms p upto r xs e1 e2 e3 h.1);
+  acks = λ n ms p upto r xs e1 e2 e3 h. (first.acks n ms p upto r xs e1 e2 e3 h.0, second.acks n ms p upto r xs e1 e2 e3 h.1);
+  adopts = λ n ms x s r e1 e2 e3 h. (first.adopts n ms x s r e1 e2 e3 h.0, second.adopts n ms x s r e1 e2 e3 h.1);
+  merges = λ n ms x s upto rate number clients certs c e1 e2 e3 h. (first.merges n ms x s upto rate number clients certs c e1 e2 e3 h.0, second.merges n ms x s upto rate number clients certs c e1 e2 e3 h.1);
+  ends = λ n ms x k e1 e2 e3 h. (first.ends n ms x k e1 e2 e3 h.0, second.ends n ms x k e1 e2 e3 h.1);
+  counts = λ n ms clients e1 h. (first.counts n ms clients e1 h.0, second.counts n ms clients e1 h.1);
+  says = λ n ms p b e1 h. (first.says n ms p b e1 h.0, second.says n ms p b e1 h.1);
+  says_ask = λ n ms p e1 h. (first.says_ask n ms p e1 h.0, second.says_ask n ms p e1 h.1);
+  says_yes = λ n ms x s r e1 e2 e3 h. (first.says_yes n ms x s r e1 e2 e3 h.0, second.says_yes n ms x s r e1 e2 e3 h.1);
+  says_check_in = λ n ms p rate e1 h. (first.says_check_in n ms p rate e1 h.0, second.says_check_in n ms p rate e1 h.1);
+  says_check_ack = λ n ms x s upto rate number clients certs e1 e2 h. (first.says_check_ack n ms x s upto rate number clients certs e1 e2 h.0, second.says_check_ack n ms x s upto rate number clients certs e1 e2 h.1);
+  drops = λ n ms h. (first.drops n ms h.0, second.drops n ms h.1);
+  starts = λ n ms h. (first.starts n ms h.0, second.starts n ms h.1);
+}

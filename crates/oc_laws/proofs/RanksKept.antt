@@ -1,7 +1,6 @@
 -- The law of ranks: told ranks hold, a parent's rank precedes its child's, and none worsens. So parent links form no ring.
-use Rattle.std.proofs.Common.{◌≡◌, ℕ, true, Option, Some, List, [], ◌∷◌, ◌++◌, inl, inr, refl, ap, sym, subst, ⊎_elim}
+use Rattle.std.proofs.Common.{◌≡◌, ℕ, true, Option, Some, List, [], ◌∷◌, ◌++◌, inl, inr, refl, ap, sym, subst}
 use Rattle.std.specs.List.{AllByRecursion, range_with_len}
-use Rattle.std.proofs.lemmas.Bool.{cases_eq}
 use Rattle.oc_base.specs.declared.rank.Rank.{Rank}
 use Rattle.oc_base.specs.Rank.{Precedes, beneath_of}
 use Rattle.oc_model.specs.declared.event.Event.{Event}
@@ -22,7 +21,8 @@ use Rattle.oc_model.proofs.Processes.{IsNew, process_in-me, process_in-new}
 use Rattle.oc_step_laws.proofs.RankOrder.{precedes_irreflexive, precedes_transitive}
 use Rattle.oc_laws.specs.Ranks.{own_rank, rank_of, IsRanked, IsAtLeast, NoRankWorsens, PlacedAreRanked, IsBacked, ToldRanksHold, ParentsPrecede}
 use Rattle.oc_laws.specs.Throughout.{Throughout}
-use Rattle.oc_laws.proofs.Laws.{control_of, HasSent, Becomes, IsLaw, law_event, law_after, law_throughout}
+use Rattle.oc_laws.proofs.Laws.{law_event, law_after, law_throughout, tables_after}
+use Rattle.oc_laws.proofs.Lifts.{control_of, HasSent, Becomes, IsLaw, at_each}
 use Rattle.oc_laws.proofs.Machine.{IsMachine, IsLoose, and_sent}
 use Rattle.oc_laws.proofs.RankSteps.{Rises, precedes_by, at_least_then, precedes_beneath, rises_itself, rises_read, rises_then, rises_ranked, rises_no_worse, rises_epoch, rises_acting, rises_joined, rises_better}
 
@@ -142,7 +142,7 @@ climbs old w x holds = record {
   acks = λ n ms p upto r xs sent joined ahead h. record { me = h.me; rises = h.rises; placed = h.placed; parent = h.parent; sent = h.sent };
   adopts = λ n ms y s r sent tree news h. record { me = h.me; rises = h.rises; placed = h.placed; parent = h.parent; sent = h.sent };
   merges = λ n ms y s upto rate number clients certs c sent among news h. record { me = h.me; rises = h.rises; placed = h.placed; parent = h.parent; sent = h.sent };
-  ends = λ n ms y e found news h. record { me = h.me; rises = h.rises; placed = h.placed; parent = h.parent; sent = h.sent };
+  ends = λ n ms y e found own news h. record { me = h.me; rises = h.rises; placed = h.placed; parent = h.parent; sent = h.sent };
   counts = λ n ms clients more h. record { me = h.me; rises = h.rises; placed = h.placed; parent = h.parent; sent = h.sent };
   says = λ n ms p b loose h. and_backed w x n ms p b (loose_backed n.kept.rank b loose) h;
   says_ask = λ n ms p asking h. and_backed w x n ms p (bodies.Ask n.kept.seq n.kept.rank) tt h;
@@ -156,13 +156,6 @@ climbs old w x holds = record {
 -- before the change
 climbing_begins : (old w : World) (x : ℕ) → RanksHold old w → IsClimbing w x (control_of w x) []
 climbing_begins old w x holds = record { me = process_in-me w.processes x; rises = rises_itself (own_rank w x); placed = holds.placed x; parent = holds.parents x; sent = tt }
-
--- what holds of the node that changed, and of every other as it was, holds of each
-at_each : (w v : World) (x : ℕ) (n : Control) (ms : List Message) → Becomes w x n ms v → (Q : ℕ → Control → Type 0) → Q x n → ((y : ℕ) → Q y (control_of w y)) → (y : ℕ) → Q y (control_of v y)
-at_each w v x n ms becomes Q here others y = ⊎_elim
-    (λ (e : x ≡ y). subst (λ (z : ℕ). Q z (control_of v z)) e (subst (λ (c : Control). Q x c) (sym becomes.here) here))
-    (λ apart. subst (λ (c : Control). Q y c) (sym (becomes.others y apart)) (others y))
-    (cases_eq x y)
 
 -- after it the law holds
 climbing_ends : (old w v : World) (x : ℕ) (n : Control) (ms : List Message) → RanksHold old w → Becomes w x n ms v → IsClimbing w x n ms → RanksHold old v
@@ -204,14 +197,14 @@ ranks_new h = record {
 
 -- the law holds of every world
 pub ranks_always : (h : Header) (events : List Event) → RanksHold (new_world h) (world_after (new_world h) events)
-ranks_always h events = law_after (RanksHold (new_world h)) IsClimbing (ranks_law (new_world h)) (new_world h) events (ranks_new h)
+ranks_always h events = law_after (RanksHold (new_world h)) IsClimbing (ranks_law (new_world h)) h events (ranks_new h)
 
 -- no event worsens a rank
 pub no_rank_worsens : (h : Header) (events : List Event) (e : Event) → NoRankWorsens (world_after (new_world h) events) e
 no_rank_worsens h events e x =
     let w : World = world_after (new_world h) events in
     rises_no_worse (own_rank w x) (own_rank (next_world w e) x)
-    ((law_event (RanksHold w) IsClimbing (ranks_law w) w e (ranks_still (new_world h) w (ranks_always h events))).rise x)
+    ((law_event (RanksHold w) IsClimbing (ranks_law w) w e (tables_after (RanksHold (new_world h)) IsClimbing (ranks_law (new_world h)) h events (ranks_new h)) (ranks_still (new_world h) w (ranks_always h events))).rise x)
 
 -- No cycle
 
@@ -227,4 +220,4 @@ no_cycle w parents y between joined = precedes_irreflexive (rank_of w y) (joined
 -- what follows from the law holds of each world on the way
 pub ranks_throughout : (Q : World → Type 0) → ((old w : World) → RanksHold old w → Q w) → (h : Header) (events : List Event) → Throughout Q (new_world h) events
 ranks_throughout Q follows h events =
-    law_throughout (RanksHold (new_world h)) IsClimbing (ranks_law (new_world h)) Q (follows (new_world h)) (new_world h) (ranks_new h) events
+    law_throughout (RanksHold (new_world h)) IsClimbing (ranks_law (new_world h)) Q (follows (new_world h)) h events (ranks_new h)

@@ -12,6 +12,7 @@ use Rattle.oc_model.specs.Node.{Control, Node}
 use Rattle.oc_model.specs.Plan.{Plan, begun}
 use Rattle.oc_model.specs.Step.{received, filled, finished, plan, step}
 use Rattle.oc_model.proofs.Rules.{IsClosed, keeps_tick, keeps_checks, keeps_relocate, keeps_unreachable, keeps_pulled, keeps_measured, keeps_client, keeps_looked, keeps_sees, keeps_asked, keeps_took_yes, keeps_took_no, keeps_checked_in, keeps_took_ack, keeps_took_rejoin}
+use Rattle.oc_step_laws.specs.Sound.{IsTable}
 use Rattle.oc_laws.proofs.Machine.{IsMachine}
 use Rattle.oc_laws.proofs.WalksAdopting.{walks_asked}
 use Rattle.oc_laws.proofs.WalksAsking.{walks_took_yes, walks_took_no, walks_unreachable, walks_relocate}
@@ -70,22 +71,22 @@ module _ (came : ℕ → Body → Type 0) (P : Control → List Message → Type
   walks_received n i p (bodies.Chunk g start bytes last) has_come h = of_dry P n i (received (begun n.control) (shelf n.groups) p (bodies.Chunk g start bytes last)) (walks_took_chunk came P k (begun n.control) (shelf n.groups) p g start bytes last (h, refl))
 
   -- what each small change keeps, each step keeps
-  pub walks_step : (n : Node) (i : Input) → HasCome came i → P n.control [] → P (step n i).node.control (step n i).sends
-  walks_step n (Tick t) has_come h =
-      of_dry P n (Tick t) (plan n.control (shelf n.groups) (Tick t)) (walks_tick came P k (begun n.control) (shelf n.groups) t h, keeps_tick (shelf n.groups) IsDry (dry_closed (shelf n.groups)) (begun n.control) t refl)
-  walks_step n CheckNow has_come h = of_dry P n CheckNow (plan n.control (shelf n.groups) CheckNow) (walks_checks came P k (begun n.control) h, keeps_checks (shelf n.groups) IsDry (dry_closed (shelf n.groups)) (begun n.control) refl)
-  walks_step n (Relocate p) has_come h =
+  pub walks_step : (n : Node) (i : Input) → IsTable n.control.kept.table → HasCome came i → P n.control [] → P (step n i).node.control (step n i).sends
+  walks_step n (Tick t) is_table has_come h =
+      of_dry P n (Tick t) (plan n.control (shelf n.groups) (Tick t)) (walks_tick came P k (begun n.control) (shelf n.groups) t is_table h, keeps_tick (shelf n.groups) IsDry (dry_closed (shelf n.groups)) (begun n.control) t refl)
+  walks_step n CheckNow is_table has_come h = of_dry P n CheckNow (plan n.control (shelf n.groups) CheckNow) (walks_checks came P k (begun n.control) h, keeps_checks (shelf n.groups) IsDry (dry_closed (shelf n.groups)) (begun n.control) refl)
+  walks_step n (Relocate p) is_table has_come h =
       of_dry P n (Relocate p) (plan n.control (shelf n.groups) (Relocate p)) (walks_relocate came P k (begun n.control) p h, keeps_relocate (shelf n.groups) IsDry (dry_closed (shelf n.groups)) (begun n.control) p refl)
-  walks_step n (Unreachable p) has_come h =
+  walks_step n (Unreachable p) is_table has_come h =
       of_dry P n (Unreachable p) (plan n.control (shelf n.groups) (Unreachable p)) (walks_unreachable came P k (begun n.control) p h, keeps_unreachable (shelf n.groups) IsDry (dry_closed (shelf n.groups)) (begun n.control) p refl)
-  walks_step n (Pull p) has_come h =
+  walks_step n (Pull p) is_table has_come h =
       of_dry P n (Pull p) (plan n.control (shelf n.groups) (Pull p)) (walks_pulled came P k (begun n.control) (shelf n.groups) p h, keeps_pulled (shelf n.groups) IsDry (dry_closed (shelf n.groups)) (begun n.control) p refl)
-  walks_step n (Measured p rate hops) has_come h =
+  walks_step n (Measured p rate hops) is_table has_come h =
       of_dry P n (Measured p rate hops) (plan n.control (shelf n.groups) (Measured p rate hops))
       (walks_measured came P k (begun n.control) p rate hops h, keeps_measured (shelf n.groups) IsDry (dry_closed (shelf n.groups)) (begun n.control) p rate hops refl)
-  walks_step n (Publish g bytes) has_come h = of_dry P n (Publish g bytes) (plan n.control (shelf n.groups) (Publish g bytes)) (walks_published came P k (begun n.control) (shelf n.groups) g bytes (h, refl))
-  walks_step n (Seal g) has_come h = of_dry P n (Seal g) (plan n.control (shelf n.groups) (Seal g)) (walks_sealed_at came P k (begun n.control) (shelf n.groups) g (h, refl))
-  walks_step n (Client area start g) has_come h =
+  walks_step n (Publish g bytes) is_table has_come h = of_dry P n (Publish g bytes) (plan n.control (shelf n.groups) (Publish g bytes)) (walks_published came P k (begun n.control) (shelf n.groups) g bytes (h, refl))
+  walks_step n (Seal g) is_table has_come h = of_dry P n (Seal g) (plan n.control (shelf n.groups) (Seal g)) (walks_sealed_at came P k (begun n.control) (shelf n.groups) g (h, refl))
+  walks_step n (Client area start g) is_table has_come h =
       of_dry P n (Client area start g) (plan n.control (shelf n.groups) (Client area start g))
       (walks_client came P k (begun n.control) (shelf n.groups) area start g h, keeps_client (shelf n.groups) IsDry (dry_closed (shelf n.groups)) (begun n.control) area start g refl)
-  walks_step n (Delivered m) has_come h = walks_received n (Delivered m) m.from m.body has_come h
+  walks_step n (Delivered m) is_table has_come h = walks_received n (Delivered m) m.from m.body has_come h

@@ -23,8 +23,11 @@ use Rattle.oc_model.specs.Leases.{renew, start_all, ended}
 use Rattle.oc_model.specs.Node.{Control}
 use Rattle.oc_model.specs.Numbers.{number_end, raise, capped, put_at, IsAmong}
 use Rattle.oc_model.specs.Plan.{Plan, write, send, with_soft, searching, ignored, is_member, rate_to}
-use Rattle.oc_model.specs.Table.{newest, is_news}
+use Rattle.oc_model.specs.Table.{newest, is_news, merge}
+use Rattle.oc_model.proofs.Lists.{all_weaker}
+use Rattle.oc_step_laws.specs.Sound.{IsTable}
 use Rattle.oc_step_laws.proofs.Tables.{merge_takes, merge_keeps}
+use Rattle.oc_laws.proofs.LeasedRows.{IsRowOf, row_put, rows_ended}
 use Rattle.oc_laws.proofs.Machine.{IsMachine, Of}
 use Rattle.oc_laws.proofs.WalksAdopting.{raise_above, walks_raises, walks_sends_rejoin}
 use Rattle.oc_laws.proofs.WalksAsking.{walks_ask_before, walks_round}
@@ -85,15 +88,21 @@ module _ (came : ℕ → Body → Type 0) (P : Control → List Message → Type
 
   -- Ticks
 
-  walks_dies : (x : ℕ) (e : Option Cert) (o : Plan) → newest o.node.kept.table x ≡ e → Of P o → Of P (dies e o)
-  walks_dies x None o found h = h
-  walks_dies x (Some c) o found h =
-      let dead : Cert = record c { dead = true } in
-      cond_both (is_news o.node.kept.table dead) (write o (records.Entry dead)) o (Of P) (λ news. k.ends o.node o.sends x c found news h) (λ _. h)
-
-  walks_ends_each : (xs : List ℕ) (o : Plan) → Of P o → Of P (ends_each xs o)
-  walks_ends_each [] o h = h
-  walks_ends_each (x ∷ xs) o h = walks_ends_each xs (dies (newest o.node.kept.table x) o) (walks_dies x (newest o.node.kept.table x) o refl h)
+  -- while leases end, the rows of those children that are left name the node
+  walks_ends_each : (xs : List ℕ) (o : Plan) → AllByRecursion (IsRowOf o.node.kept.table o.node.me) xs → Of P o → Of P (ends_each xs o)
+  walks_ends_each [] o rows h = h
+  walks_ends_each (x ∷ xs) o rows h = by_found (λ q. walks_ends_each xs q) (newest o.node.kept.table x) refl where
+    by_found : ((q : Plan) → AllByRecursion (IsRowOf q.node.kept.table q.node.me) xs → Of P q → Of P (ends_each xs q)) → (e : Option Cert) → newest o.node.kept.table x ≡ e → Of P (ends_each xs (dies e o))
+    by_found rest None found = rest o rows.1 h
+    by_found rest (Some c) found =
+        let dead : Cert = record c { dead = true } in
+        let over : Plan = write o (records.Entry dead) in
+        cond_both (is_news o.node.kept.table dead) over o (λ q. Of P (ends_each xs q))
+        (λ news. rest over
+        (all_weaker (IsRowOf o.node.kept.table o.node.me) (IsRowOf (merge o.node.kept.table dead) o.node.me)
+        (λ z row. rw news (row_put o.node.kept.table dead o.node.me z (rows.0 c found) row)) xs rows.1)
+        (k.ends o.node o.sends x c found (rows.0 c found) news h))
+        (λ _. rest o rows.1 h)
 
   walks_looks_at_each : (xs : List ℕ) (o : Plan) → Of P o → Of P (looks_at_each xs o)
   walks_looks_at_each [] o h = h
@@ -120,15 +129,15 @@ module _ (came : ℕ → Body → Type 0) (P : Control → List Message → Type
   walks_fetches_as (modes.Asking p) o shelf h = h
   walks_fetches_as modes.Acting o shelf h = h
 
-  pub walks_tick : (o : Plan) (shelf : List Shelf) (t : ℕ) → Of P o → Of P (tick o shelf t)
-  walks_tick o shelf t h =
+  pub walks_tick : (o : Plan) (shelf : List Shelf) (t : ℕ) → IsTable o.node.kept.table → Of P o → Of P (tick o shelf t)
+  walks_tick o shelf t is_table h =
       let timed : Plan = at_time o t in
       let started : Plan = starts_leases timed in
       let over : Plan = ends_leases started in
       let checked : Plan = checks_if_due over in
       let is_timed : Of P timed = k.soft o.node o.sends (record o.node.soft { clock = max o.node.soft.clock t }) h in
       let is_started : Of P started = k.lists timed.node timed.sends (start_all timed.node.kept.table timed.node.me timed.node.leases timed.node.soft.clock) timed.node.rates timed.node.counts is_timed in
-      let is_over : Of P over = walks_ends_each (ended started.node.kept.table started.node.me started.node.leases started.node.soft.clock) started is_started in
+      let is_over : Of P over = walks_ends_each (ended started.node.kept.table started.node.me started.node.leases started.node.soft.clock) started (rows_ended started.node.kept.table started.node.me started.node.leases started.node.soft.clock is_table) is_started in
       walks_fetches_as checked.node.kept.mode checked shelf (walks_checks_if_due over is_over)
 
   -- Check-ins

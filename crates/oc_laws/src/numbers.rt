@@ -3,7 +3,7 @@ ghost use Rattle.oc_model.specs.declared.event.Event.{Event};
 ghost use Rattle.oc_model.specs.NextWorld.{world_after};
 ghost use Rattle.oc_model.specs.Node.{Header};
 ghost use Rattle.oc_model.specs.World.{new_world};
-ghost use Rattle.oc_tree_laws.specs.Numbers.{HaveOnePeer, AskNumbersAreBelow};
+ghost use Rattle.oc_laws.specs.Numbers.{HaveOnePeer, AskNumbersAreBelow};
 ghost use Rattle.oc_laws.specs.Throughout.{Throughout};
 
 /// One ask number of a node goes with one peer at most, and is at most the node's own, after any events,

@@ -24,11 +24,11 @@ use Rattle.oc_model.proofs.Lists.{all_weaker, all_append}
 use Rattle.oc_model.proofs.Processes.{IsNew, process_in-me, process_in-new}
 use Rattle.oc_step_laws.proofs.Merges.{among_left, among_split}
 use Rattle.oc_step_laws.proofs.Ranges.{all_take}
-use Rattle.oc_tree_laws.specs.Numbers.{HasAskedIn, HasAsked, IsPeer, Tells, IsAnywhere, GoesWith, HaveOnePeer, AskNumbersAreBelow}
+use Rattle.oc_laws.specs.Numbers.{HasAskedIn, HasAsked, IsPeer, Tells, IsAnywhere, GoesWith, HaveOnePeer, AskNumbersAreBelow}
 use Rattle.oc_laws.specs.Throughout.{Throughout}
-use Rattle.oc_laws.proofs.Laws.{control_of, HasSent, Becomes, IsLaw, law_after, law_throughout}
-use Rattle.oc_tree_laws.proofs.Each.{at_each}
-use Rattle.oc_tree_laws.proofs.Listed.{all_among, among_either, all_merge, all_newest, all_noted, all_acked}
+use Rattle.oc_laws.proofs.Laws.{law_after, law_throughout}
+use Rattle.oc_laws.proofs.Lifts.{control_of, HasSent, Becomes, IsLaw, at_each}
+use Rattle.oc_laws.proofs.Listed.{all_among, among_either, all_merge, all_newest, all_noted, all_acked}
 use Rattle.oc_laws.proofs.Machine.{IsMachine, IsLoose, and_sent, with_kept}
 
 -- the ask of which a fact tells was sent
@@ -220,7 +220,7 @@ counting w x holds = record {
   };
   adopts = λ n ms y s r sent tree news h. and_entered w x n ms (birth y s n.me) (r, subst (λ (z : ℕ). IsAmong (record { from = y; to = z; body = bodies.Ask s r }) w.net) (sym h.me) sent) h;
   merges = λ n ms y s upto rate number clients certs c sent among news h. and_entered w x n ms c (told_asked w x n y s upto rate number clients certs c h.me holds sent among) h;
-  ends = λ n ms y e found news h. and_entered w x n ms (record e { dead = true }) (all_newest (IsAskedFact w) n.kept.table y e found h.table) h;
+  ends = λ n ms y e found own news h. and_entered w x n ms (record e { dead = true }) (all_newest (IsAskedFact w) n.kept.table y e found h.table) h;
   counts = λ n ms clients more h. record { me = h.me; own = h.own; unique = h.unique; bound = h.bound; present = h.present; joined = h.joined; table = h.table; waiting = h.waiting; told = h.told };
   says = λ n ms p b loose h. and_told w x n ms p b (loose_no_ask b loose) (loose_told w (record { from = n.me; to = p; body = b }) b loose) h;
   says_ask = λ n ms p asking h. and_asked w x n ms p asking h;
@@ -339,10 +339,10 @@ numbers_new h = record {
 
 -- the law holds of every world
 pub numbers_always : (h : Header) (events : List Event) → NumbersHold (world_after (new_world h) events)
-numbers_always h events = law_after NumbersHold IsCounting numbers_law (new_world h) events (numbers_new h)
+numbers_always h events = law_after NumbersHold IsCounting numbers_law h events (numbers_new h)
 
 pub numbers_throughout : (Q : World → Type 0) → ((w : World) → NumbersHold w → Q w) → (h : Header) (events : List Event) → Throughout Q (new_world h) events
-numbers_throughout Q follows h events = law_throughout NumbersHold IsCounting numbers_law Q follows (new_world h) (numbers_new h) events
+numbers_throughout Q follows h events = law_throughout NumbersHold IsCounting numbers_law Q follows h events (numbers_new h)
 
 -- What follows
 

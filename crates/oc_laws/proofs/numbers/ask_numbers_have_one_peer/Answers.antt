@@ -1,7 +1,7 @@
 use Rattle.oc_model.specs.NextWorld.{world_after}
 use Rattle.oc_model.specs.World.{new_world}
-use Rattle.oc_tree_laws.proofs.NumbersKept.{numbers_always, one_peer, numbers_below}
-use Rattle.oc_tree_laws.proofs.numbers.ask_numbers_have_one_peer.Goals as goal
+use Rattle.oc_laws.proofs.NumbersKept.{numbers_always, one_peer, numbers_below}
+use Rattle.oc_laws.proofs.numbers.ask_numbers_have_one_peer.Goals as goal
 
 pub returns-clause-one_peer : goal.returns-clause-one_peer
 returns-clause-one_peer c = λ h events. one_peer (world_after (new_world h) events) (numbers_always h events)

@@ -5,8 +5,8 @@
 //! model's, and each call as the model's function of the same name.
 //!
 //! The layers above rest on this: [`may_adopt`] answers the first refusal that has a cause, and Ok
-//! exactly where none has one ([`the_first_cause_refuses`]); a rank that is taken is the old one or
-//! precedes it ([`ranks_never_worsen`]); and precedence is a strict order ([`precedence_is_strict`]).
+//! exactly where none has one ([`the_first_cause_refuses`]). That a rank that is taken is the old one or
+//! precedes it, and that precedence is a strict order, are laws of `oc_step_laws`.
 #![tactic(auto)]
 
 mod adopt;
@@ -16,6 +16,6 @@ mod take;
 
 pub use adopt::may_adopt;
 pub use host::Host;
-pub use law::{precedence_is_strict, ranks_never_worsen, the_first_cause_refuses};
+pub use law::the_first_cause_refuses;
 pub use oc_base::Refusal;
 pub use take::take_rank;

@@ -28,19 +28,6 @@ pub fn loaded(alloc: Global, disk: MemDisk) -> Result<Journal<MemDisk>, Fail>
     }
 }
 
-/// The bodies of the frames of a journal, each between brackets.
-pub fn frames_of(alloc: Global, journal: &mut Journal<MemDisk>) -> Result<Vec<u8>, Fail> {
-    let mut shown = Vec::new(alloc);
-    let mut body = Vec::new(alloc);
-    for index in 0..journal.count() {
-        journal.frame(index, &mut body)?;
-        shown.push(b'[')?;
-        shown.extend_from_slice(&body)?;
-        shown.push(b']')?;
-    }
-    Ok(shown)
-}
-
 /// A disk with the journal of these bodies.
 pub fn disk_with(alloc: Global, bodies: &[&[u8]]) -> Result<MemDisk, Fail> {
     let mut journal = loaded(alloc, MemDisk::new(Vec::new(alloc)))?;

@@ -1,13 +1,13 @@
 -- Whose leases end: in an ascending table the row of each leased child names its parent, and so it does while leases end.
-use Rattle.std.proofs.Common.{◌≡◌, ℕ, ◌<◌, Bool, true, false, not, ◌==◌, if◌then◌else◌, Option, Some, None, List, [], ◌∷◌, filter, refl, sym, subst, ◌∙◌, arith, eqb-true, eq-eqb, ne_eqb}
+use Rattle.std.proofs.Common.{◌≡◌, ℕ, Bool, true, false, not, ◌==◌, if◌then◌else◌, Option, Some, None, List, [], ◌∷◌, filter, refl, sym, subst, ◌∙◌, eqb-true}
 use Rattle.std.specs.List.{AllByRecursion}
 use Rattle.std.proofs.lemmas.Bool.{and_parts}
 use Rattle.oc_base.specs.declared.cert.Cert.{Cert}
 use Rattle.oc_model.specs.Leases.{is_over, ended}
 use Rattle.oc_model.specs.Numbers.{at}
 use Rattle.oc_model.specs.Table.{newest, put, is_lease_of, leased_children}
-use Rattle.oc_model.proofs.Lists.{all_both}
 use Rattle.oc_step_laws.specs.Sound.{IsTable}
+use Rattle.oc_step_laws.proofs.Folds.{rows_found}
 use Rattle.oc_step_laws.proofs.Ranges.{all_filter, all_map}
 use Rattle.oc_step_laws.proofs.Tables.{newest-put}
 
@@ -21,13 +21,6 @@ row_put t d y x here old k found = by_test (d.subject == x) (sym (newest-put t d
   by_test : (b : Bool) → (if b then Some d else newest t x) ≡ Some k → k.parent ≡ y
   by_test true e = let same : d ≡ k = cc in subst (λ (c : Cert). c.parent ≡ y) same here
   by_test false e = old k e
-
--- each row of an ascending table is found
-rows_found : (t : List Cert) → IsTable t → AllByRecursion (λ k. newest t k.subject ≡ Some k) t
-rows_found [] is = tt
-rows_found (j ∷ js) is = (rw (eq-eqb j.subject j.subject refl) refl, all_both (λ k. j.subject < k.subject) (λ k. newest js k.subject ≡ Some k) (λ k. newest (j ∷ js) k.subject ≡ Some k) behind js is.0 (rows_found js is.1)) where
-  behind : (k : Cert) → j.subject < k.subject → newest js k.subject ≡ Some k → newest (j ∷ js) k.subject ≡ Some k
-  behind k less found = rw (ne_eqb j.subject k.subject (λ e. omega (arith, less, e))) found
 
 -- those of a list that pass a test do so
 all_passed : {X : Type 0} (P Q : X → Type 0) (test : X → Bool) → ((x : X) → P x → test x ≡ true → Q x) → (xs : List X) → AllByRecursion P xs → AllByRecursion Q (filter test xs)

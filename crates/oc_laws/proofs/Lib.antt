@@ -14,6 +14,7 @@ pub mod WalksChecking
 pub mod WalksLooking
 pub mod WalksContent
 pub mod Walks
+pub mod Passing
 pub mod Lifts
 pub mod Laws
 pub mod RankSteps

@@ -1,5 +1,5 @@
 -- What holds of all of a list, and who is among its parts.
-use Rattle.std.proofs.Common.{◌≡◌, ℕ, zero, suc, ◌-◌, Bool, true, false, ◌==◌, nat_lt, if◌then◌else◌, Some, List, [], ◌∷◌, ◌++◌, ◌⊎◌, inl, inr, ⊎_elim, drop, subst}
+use Rattle.std.proofs.Common.{◌≡◌, ℕ, ◌-◌, Bool, true, false, ◌==◌, nat_lt, if◌then◌else◌, Some, List, [], ◌∷◌, ◌++◌, ◌⊎◌, inl, inr, ⊎_elim, drop, subst}
 use Rattle.std.specs.List.{AllByRecursion}
 use Rattle.std.proofs.lemmas.Bool.{cond_both}
 use Rattle.oc_base.specs.declared.cert.Cert.{Cert}
@@ -11,6 +11,7 @@ use Rattle.oc_model.specs.Numbers.{IsAmong}
 use Rattle.oc_model.specs.Records.{noted}
 use Rattle.oc_model.specs.Table.{newest, put, is_news, merge}
 use Rattle.oc_model.proofs.Lists.{all_append}
+use Rattle.oc_step_laws.proofs.Folds.{all_drop}
 
 -- what holds of all holds of one among them
 pub all_among : {X : Type 0} (P : X → Type 0) (xs : List X) (x : X) → AllByRecursion P xs → IsAmong x xs → P x
@@ -23,12 +24,6 @@ pub among_either : {X : Type 0} (x : X) (xs ys : List X) → IsAmong x (xs ++ ys
 among_either x [] ys h = inr h
 among_either x (z ∷ zs) ys (inl e) = inl (inl e)
 among_either x (z ∷ zs) ys (inr h) = ⊎_elim (λ k. inl (inr k)) (λ k. inr k) (among_either x zs ys h)
-
--- all that is left
-pub all_drop : {X : Type 0} (P : X → Type 0) (n : ℕ) (xs : List X) → AllByRecursion P xs → AllByRecursion P (drop n xs)
-all_drop P zero xs all = all
-all_drop P (suc n) [] all = tt
-all_drop P (suc n) (x ∷ xs) all = all_drop P n xs all.1
 
 -- all rows of a table once one was put
 all_put : (P : Cert → Type 0) (t : List Cert) (c : Cert) → P c → AllByRecursion P t → AllByRecursion P (put t c)

@@ -271,9 +271,9 @@ counting_ends w v x n ms holds becomes h = record {
   unique = λ y s p q a c. by_unique y s p q (now y s p a) (now y s q c) (cases_eq x y);
   bound = λ y s p a. (each y).0 s p (now y s p a);
   present = λ y p q a e. (each y).1 p q (now y (control_of v y).kept.seq p a) e;
-  joined = at_each w v x n ms becomes (λ y c. (q : ℕ) → c.kept.mode ≡ modes.Joined q → HasAsked v y c.kept.seq q) (λ q e. later x n.kept.seq q (h.joined q e)) (λ y q e. later y (control_of w y).kept.seq q (holds.joined y q e));
-  table = at_each w v x n ms becomes (λ y c. AllByRecursion (IsAskedFact v) c.kept.table) (facts n.kept.table h.table) (λ y. facts (control_of w y).kept.table (holds.table y));
-  waiting = at_each w v x n ms becomes (λ y c. AllByRecursion (IsAskedFact v) c.kept.log.waiting) (facts n.kept.log.waiting h.waiting) (λ y. facts (control_of w y).kept.log.waiting (holds.waiting y));
+  joined = at_each w v x n ms becomes (λ y c. (q : ℕ) → c.kept.mode ≡ modes.Joined q → HasAsked v y c.kept.seq q) (λ q e. later x n.kept.seq q (h.joined q e)) (λ y apart q e. later y (control_of w y).kept.seq q (holds.joined y q e));
+  table = at_each w v x n ms becomes (λ y c. AllByRecursion (IsAskedFact v) c.kept.table) (facts n.kept.table h.table) (λ y apart. facts (control_of w y).kept.table (holds.table y));
+  waiting = at_each w v x n ms becomes (λ y c. AllByRecursion (IsAskedFact v) c.kept.log.waiting) (facts n.kept.log.waiting h.waiting) (λ y apart. facts (control_of w y).kept.log.waiting (holds.waiting y));
   told = subst (λ (net : List Message). AllByRecursion (λ m. IsAskedSend v m m.body) net) (sym becomes.net)
       (all_append (λ m. IsAskedSend v m m.body) w.net ms
       (all_weaker (λ m. IsAskedSend w m m.body) (λ m. IsAskedSend v m m.body) (λ m k. sends m m.body k) w.net holds.told)

@@ -1,4 +1,4 @@
--- The law of ranks: told ranks hold, a parent's rank precedes its child's, and none worsens. So parent links form no ring.
+-- The law of ranks: told ranks hold, a parent's rank precedes its child's, and none worsens. So parent links form no cycle.
 use Rattle.std.proofs.Common.{◌≡◌, ℕ, true, Option, Some, List, [], ◌∷◌, ◌++◌, inl, inr, refl, ap, sym, subst}
 use Rattle.std.specs.List.{AllByRecursion, range_with_len}
 use Rattle.oc_base.specs.declared.rank.Rank.{Rank}
@@ -19,16 +19,16 @@ use Rattle.oc_model.specs.World.{World, Process, process, mode_of, new_world}
 use Rattle.oc_model.proofs.Lists.{all_weaker, all_append}
 use Rattle.oc_model.proofs.Processes.{IsNew, process_in-me, process_in-new}
 use Rattle.oc_step_laws.proofs.RankOrder.{precedes_irreflexive, precedes_transitive}
-use Rattle.oc_laws.specs.Ranks.{own_rank, rank_of, IsRanked, IsAtLeast, NoRankWorsens, PlacedAreRanked, IsBacked, ToldRanksHold, ParentsPrecede}
+use Rattle.oc_laws.specs.Ranks.{own_rank, rank_of, IsRanked, IsAtLeast, NoRankWorsens, InTreeAreRanked, IsBacked, ToldRanksHold, ParentsPrecede}
 use Rattle.oc_laws.specs.Throughout.{Throughout}
-use Rattle.oc_laws.proofs.Laws.{law_event, law_after, law_throughout, tables_after}
-use Rattle.oc_laws.proofs.Lifts.{control_of, HasSent, Becomes, IsLaw, at_each}
+use Rattle.oc_laws.proofs.Laws.{HasTable, both_laws, tables_law, tables_new, law_event, law_after, law_throughout, tables_after}
+use Rattle.oc_laws.proofs.Lifts.{control_of, HasSent, AreTables, Becomes, IsLaw, at_each}
 use Rattle.oc_laws.proofs.Machine.{IsMachine, IsLoose, and_sent}
 use Rattle.oc_laws.proofs.RankSteps.{Rises, precedes_by, at_least_then, precedes_beneath, rises_itself, rises_read, rises_then, rises_ranked, rises_no_worse, rises_epoch, rises_acting, rises_joined, rises_better}
 
 -- what the law says of a world, beside an earlier one
 pub record RanksHold (old w : World) : Type 0 where
-  pub placed : PlacedAreRanked w
+  pub placed : InTreeAreRanked w
   pub told : ToldRanksHold w
   pub parents : ParentsPrecede w
   pub rise : (x : ℕ) → Rises (own_rank old x) (own_rank w x)
@@ -160,7 +160,7 @@ climbing_begins old w x holds = record { me = process_in-me w.processes x; rises
 -- after it the law holds
 climbing_ends : (old w v : World) (x : ℕ) (n : Control) (ms : List Message) → RanksHold old w → Becomes w x n ms v → IsClimbing w x n ms → RanksHold old v
 climbing_ends old w v x n ms holds becomes h = record {
-  placed = at_each w v x n ms becomes (λ y c. in_tree c.kept.mode ≡ true → IsRanked c.kept.rank) h.placed holds.placed;
+  placed = at_each w v x n ms becomes (λ y c. in_tree c.kept.mode ≡ true → IsRanked c.kept.rank) h.placed (λ y apart. holds.placed y);
   told = subst (λ (net : List Message). AllByRecursion (λ m. IsBacked v m.from m.body) net) (sym becomes.net)
       (all_append (λ m. IsBacked v m.from m.body) w.net ms
       (all_weaker (λ m. IsBacked w m.from m.body) (λ m. IsBacked v m.from m.body) (λ m k. backed_rises (own_rank w m.from) (own_rank v m.from) (rise m.from) m.body k) w.net holds.told)
@@ -170,10 +170,10 @@ climbing_ends old w v x n ms holds becomes h = record {
   rise = λ y. rises_then (own_rank old y) (own_rank w y) (own_rank v y) (holds.rise y) (rise y);
 } where
   rise : (y : ℕ) → Rises (own_rank w y) (own_rank v y)
-  rise = at_each w v x n ms becomes (λ y c. Rises (own_rank w y) c.kept.rank) h.rises (λ y. rises_itself (own_rank w y))
+  rise = at_each w v x n ms becomes (λ y c. Rises (own_rank w y) c.kept.rank) h.rises (λ y apart. rises_itself (own_rank w y))
 
   above : (y : ℕ) → HasParentAbove v (control_of v y).kept.mode (control_of v y).kept.rank
-  above = at_each w v x n ms becomes (λ y c. HasParentAbove v c.kept.mode c.kept.rank) (λ z e. lifted z n.kept.rank (h.parent z e)) (λ y z e. lifted z (own_rank w y) (holds.parents y z e)) where
+  above = at_each w v x n ms becomes (λ y c. HasParentAbove v c.kept.mode c.kept.rank) (λ z e. lifted z n.kept.rank (h.parent z e)) (λ y apart z e. lifted z (own_rank w y) (holds.parents y z e)) where
     lifted : (z : ℕ) (own : Option Rank) → IsRanked (own_rank w z) × Precedes (rank_of w z) (rank_or_last own) → IsRanked (own_rank v z) × Precedes (rank_of v z) (rank_or_last own)
     lifted z own k = (rises_ranked (own_rank w z) (own_rank v z) (rise z) k.0, precedes_by (rank_of v z) (rank_of w z) (rank_or_last own) (rises_read (own_rank w z) (own_rank v z) (rise z)) k.1)
 
@@ -199,12 +199,21 @@ ranks_new h = record {
 pub ranks_always : (h : Header) (events : List Event) → RanksHold (new_world h) (world_after (new_world h) events)
 ranks_always h events = law_after (RanksHold (new_world h)) IsClimbing (ranks_law (new_world h)) h events (ranks_new h)
 
--- no event worsens a rank
+-- no event worsens a rank, where the law holds beside any earlier world
+worsens_none : (old w : World) → AreTables w → RanksHold old w → (e : Event) → NoRankWorsens w e
+worsens_none old w tables holds e x =
+    rises_no_worse (own_rank w x) (own_rank (next_world w e) x) ((law_event (RanksHold w) IsClimbing (ranks_law w) w e tables (ranks_still old w holds)).rise x)
+
 pub no_rank_worsens : (h : Header) (events : List Event) (e : Event) → NoRankWorsens (world_after (new_world h) events) e
-no_rank_worsens h events e x =
-    let w : World = world_after (new_world h) events in
-    rises_no_worse (own_rank w x) (own_rank (next_world w e) x)
-    ((law_event (RanksHold w) IsClimbing (ranks_law w) w e (tables_after (RanksHold (new_world h)) IsClimbing (ranks_law (new_world h)) h events (ranks_new h)) (ranks_still (new_world h) w (ranks_always h events))).rise x)
+no_rank_worsens h events e =
+    worsens_none (new_world h) (world_after (new_world h) events) (tables_after (RanksHold (new_world h)) IsClimbing (ranks_law (new_world h)) h events (ranks_new h)) (ranks_always h events) e
+
+-- nor does one in any world on the way
+pub no_rank_worsens_throughout : (h : Header) (events : List Event) → Throughout (λ w. (e : Event) → NoRankWorsens w e) (new_world h) events
+no_rank_worsens_throughout h events =
+    law_throughout (λ w. AreTables w × RanksHold (new_world h) w) (λ w x n ms. HasTable w x n ms × IsClimbing w x n ms)
+    (both_laws AreTables (RanksHold (new_world h)) HasTable IsClimbing tables_law (ranks_law (new_world h)))
+    (λ w. (e : Event) → NoRankWorsens w e) (λ w holds. worsens_none (new_world h) w holds.0 holds.1) h events (tables_new h, ranks_new h)
 
 -- No cycle
 
@@ -213,7 +222,7 @@ joined_precede : (w : World) → ParentsPrecede w → (between : List ℕ) (x y 
 joined_precede w parents [] x y joined = (parents x y joined.0).1
 joined_precede w parents (z ∷ zs) x y joined = precedes_transitive (rank_of w y) (rank_of w z) (rank_of w x) (joined_precede w parents zs z y joined.1) (parents x z joined.0).1
 
--- so there is no ring
+-- so there is no cycle
 pub no_cycle : (w : World) → ParentsPrecede w → HasNoCycle w
 no_cycle w parents y between joined = precedes_irreflexive (rank_of w y) (joined_precede w parents between y y joined)
 

@@ -14,7 +14,7 @@ use Rattle.oc_model.specs.Runs.{after_acts}
 use Rattle.oc_model.specs.Step.{step}
 use Rattle.oc_model.specs.World.{World, Process, Aimed, node, process, process_in, with_process, new_world, message_at, source_after, stepped, delivery, aimed, acted, after_act}
 use Rattle.oc_model.proofs.Lists.{all_weaker, all_append, all_get}
-use Rattle.oc_model.proofs.Processes.{IsNew, process_in-me, process_in-with_up, process_in-new, at_put, at_put_up}
+use Rattle.oc_model.proofs.Processes.{IsNew, process_in-me, process_in-with_up, process_in-new, at_put, at_put_up, anew, again}
 use Rattle.oc_laws.proofs.Fair.{Ready, MaySend}
 use Rattle.oc_laws.proofs.Steps.{IsTrueInput, step_fair}
 use Rattle.oc_laws.proofs.Truth.{Grows, grows_itself, grows_then, holds_along, AreSame, IsTrue, true_along}
@@ -60,14 +60,10 @@ sound_new h = record {
 restarted_ready : (s : List Group) (n : Node) → Ready s n → Ready s (restarted n)
 restarted_ready s n ready = record { holds = ready.holds; own = ready.own }
 
--- the world with this process of x started anew, up or down
-abbrev again : World → ℕ → Bool → World
-again w x up = record w { processes = with_process w.processes (record { node = restarted (node w x); up = up }) }
-
 -- what is true of the groups at each id is so after it
 at_again : (w : World) (x : ℕ) (up : Bool) (y : ℕ) (F : List Group → Type 0) → F (node w y).groups → F (node (again w x up) y).groups
 at_again w x up y F h =
-    at_put w.processes (record { node = restarted (node w x); up = up }) (λ n. F n.groups) y
+    at_put w.processes (anew w x up) (λ n. F n.groups) y
     (λ e. let same : y ≡ x = sym e ∙ process_in-me w.processes x in subst (λ (z : ℕ). F (node w z).groups) same h)
     h
 
@@ -75,7 +71,7 @@ at_again w x up y F h =
 again_turn : (w : World) (x : ℕ) (up : Bool) → Sound w → Turn w (again w x up)
 again_turn w x up sound = record {
   sound = record {
-    ready = λ y. at_put w.processes (record { node = restarted (node w x); up = up }) (Ready w.source) y (λ _. restarted_ready w.source (node w x) (sound.ready x)) (sound.ready y);
+    ready = λ y. at_put w.processes (anew w x up) (Ready w.source) y (λ _. restarted_ready w.source (node w x) (sound.ready x)) (sound.ready y);
     net = all_weaker (IsTrueIn w) (IsTrueIn (again w x up)) (λ m h. at_again w x up m.from (λ ks. IsTrue w.source ks m.body) h) w.net sound.net;
   };
   source = grows_itself w.source;

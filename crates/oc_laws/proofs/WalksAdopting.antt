@@ -7,7 +7,6 @@ use Rattle.oc_base.specs.declared.refusal.Refusal.TheVariants as refusals
 use Rattle.oc_model.specs.declared.message.Body.{Body}
 use Rattle.oc_model.specs.declared.message.Body.TheVariants as bodies
 use Rattle.oc_model.specs.declared.message.Message.{Message}
-use Rattle.oc_model.specs.declared.mode.Mode.{Mode}
 use Rattle.oc_model.specs.declared.mode.Mode.TheVariants as modes
 use Rattle.oc_model.specs.declared.record.Record.TheVariants as records
 use Rattle.oc_model.specs.Adopting.{in_tree, is_acting, raises, raises_over, host, birth, has_lease, is_number, grants, sends_rejoin, adopts, answers_ask, asked}
@@ -17,6 +16,7 @@ use Rattle.oc_model.specs.Node.{Control}
 use Rattle.oc_model.specs.Numbers.{number_end, raise}
 use Rattle.oc_model.specs.Plan.{Plan, write, with_leases}
 use Rattle.oc_model.specs.Table.{is_news, lease_number, put}
+use Rattle.oc_model.proofs.Ready.{acts_true}
 use Rattle.oc_step_laws.proofs.Tables.{newest-put_same}
 use Rattle.oc_laws.proofs.Machine.{IsMachine, Of}
 
@@ -26,13 +26,6 @@ raise_above e f h = by_test (e == number_end) h where
   by_test : (b : Bool) → (if b then None else Some (e + 1)) ≡ Some f → e < f
   by_test true g = absurd cc
   by_test false g = let same : e + 1 ≡ f = cc in omega (arith, same)
-
--- a root is acting
-pub acting_mode : (m : Mode) → is_acting m ≡ true → m ≡ modes.Acting
-acting_mode modes.Acting e = refl
-acting_mode modes.Idle e = absurd cc
-acting_mode (modes.Asking q) e = absurd cc
-acting_mode (modes.Joined q) e = absurd cc
 
 -- a rank that another does not come after has no greater epoch
 late_epoch : (a b : Rank) (f : ℕ) → precedes a b ≡ false → b.epoch < f → a.epoch < f
@@ -68,7 +61,7 @@ module _ (came : ℕ → Body → Type 0) (P : Control → List Message → Type
       (λ e.
       let others = and_parts (is_acting o.node.kept.mode && not (precedes own r)) (not (x == o.node.me)) e in
       let both = and_parts (is_acting o.node.kept.mode) (not (precedes own r)) others.0 in
-      walks_raises o (raise r.epoch) (acting_mode o.node.kept.mode both.0) (λ f g. late_epoch own r f (not_true (precedes own r) both.1) (raise_above r.epoch f g)) h)
+      walks_raises o (raise r.epoch) (acts_true o.node.kept.mode both.0) (λ f g. late_epoch own r f (not_true (precedes own r) both.1) (raise_above r.epoch f g)) h)
       (λ _. h) where
         not_true : (b : Bool) → not b ≡ true → b ≡ false
         not_true true e = absurd cc

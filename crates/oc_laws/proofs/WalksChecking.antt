@@ -1,5 +1,5 @@
 -- How leases are kept up and changes are told: the rules Check now, Tick and Check-ins are made of the small changes.
-use Rattle.std.proofs.Common.{◌≡◌, ℕ, ◌+◌, max, true, false, not, ◌&&◌, ◌==◌, nat_lt, Option, Some, None, List, [], ◌∷◌, inl, inr, filter, refl, ap, sym, ◌∙◌, subst, eqb-true}
+use Rattle.std.proofs.Common.{◌≡◌, ℕ, ◌+◌, max, true, false, not, ◌&&◌, ◌==◌, nat_lt, Option, Some, None, List, [], ◌∷◌, inl, inr, filter, refl, sym, ◌∙◌, subst, eqb-true}
 use Rattle.std.specs.List.{AllByRecursion}
 use Rattle.std.proofs.lemmas.Bool.{cond_both, and_parts}
 use Rattle.oc_base.specs.declared.cert.Cert.{Cert}
@@ -25,19 +25,13 @@ use Rattle.oc_model.specs.Numbers.{number_end, raise, capped, put_at, IsAmong}
 use Rattle.oc_model.specs.Plan.{Plan, write, send, with_soft, searching, ignored, is_member, rate_to}
 use Rattle.oc_model.specs.Table.{newest, is_news, merge}
 use Rattle.oc_model.proofs.Lists.{all_weaker}
+use Rattle.oc_model.proofs.Settled.{joined_true}
 use Rattle.oc_step_laws.specs.Sound.{IsTable}
 use Rattle.oc_step_laws.proofs.Tables.{merge_takes, merge_keeps}
 use Rattle.oc_laws.proofs.LeasedRows.{IsRowOf, row_put, rows_ended}
 use Rattle.oc_laws.proofs.Machine.{IsMachine, Of}
 use Rattle.oc_laws.proofs.WalksAdopting.{raise_above, walks_raises, walks_sends_rejoin}
 use Rattle.oc_laws.proofs.WalksAsking.{walks_ask_before, walks_round}
-
--- a node that is joined to p has this mode
-pub joined_mode : (m : Mode) (p : ℕ) → is_joined_to m p ≡ true → m ≡ modes.Joined p
-joined_mode (modes.Joined q) p e = ap modes.Joined (eqb-true q p e)
-joined_mode modes.Idle p e = absurd cc
-joined_mode (modes.Asking q) p e = absurd cc
-joined_mode modes.Acting p e = absurd cc
 
 -- no certificate is news to what it was merged into
 merged_takes : (o : Plan) (c : Cert) → is_news (merges o c).node.kept.table c ≡ false
@@ -187,7 +181,7 @@ module _ (came : ℕ → Body → Type 0) (P : Control → List Message → Type
       cond_both (is_joined_to o.node.kept.mode p && seq == o.node.kept.seq) (takes_ancestors ranked (ancestors_by p xs)) (ignored o) (Of P)
       (λ e.
       let both = and_parts (is_joined_to o.node.kept.mode p) (seq == o.node.kept.seq) e in
-      let joined : o.node.kept.mode ≡ modes.Joined p = joined_mode o.node.kept.mode p both.0 in
+      let joined : o.node.kept.mode ≡ modes.Joined p = joined_true o.node.kept.mode p both.0 in
       let here : came p (bodies.CheckAck o.node.kept.seq upto r xs) = subst (λ (s : ℕ). came p (bodies.CheckAck s upto r xs)) (eqb-true seq o.node.kept.seq both.1) came_ack in
       walks_takes_ancestors ranked (ancestors_by p xs)
       (walks_takes_place o p upto r xs here joined (λ q. Of P (takes_rank q r))

@@ -22,7 +22,7 @@ own_rank w x = (node w x).control.kept.rank
 abbrev pub rank_of : World → ℕ → Rank
 rank_of w x = rank_or_last (own_rank w x)
 
--- there is one
+-- there is a rank
 abbrev pub IsRanked : Option Rank → Type 0
 IsRanked own = (r : Rank) × (own ≡ Some r)
 
@@ -35,8 +35,8 @@ abbrev pub NoRankWorsens : World → Event → Type 0
 NoRankWorsens w e = (x : ℕ) → IsNoWorse (own_rank w x) (own_rank (next_world w e) x)
 
 -- each node that is joined or acting has a rank
-abbrev pub PlacedAreRanked : World → Type 0
-PlacedAreRanked w = (x : ℕ) → in_tree (mode_of w x) ≡ true → IsRanked (own_rank w x)
+abbrev pub InTreeAreRanked : World → Type 0
+InTreeAreRanked w = (x : ℕ) → in_tree (mode_of w x) ≡ true → IsRanked (own_rank w x)
 
 -- what a message says of its sender's rank is that or a worse one; who becomes a parent has a rank
 abbrev pub IsBacked : World → ℕ → Body → Type 0

@@ -10,6 +10,7 @@ abbrev pub Along : (World → Type 0) → World → List Act → Type 0
 Along P w [] = Unit {0}
 Along P w (a ∷ rest) = P (after_act w a) × Along P (after_act w a) rest
 
+-- the same where there are acts at all
 abbrev pub AlongAny : (World → Type 0) → World → Option (List Act) → Type 0
 AlongAny P w None = Unit {0}
 AlongAny P w (Some done) = Along P w done

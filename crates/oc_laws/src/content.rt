@@ -26,4 +26,5 @@ pub fn content_stays_true_throughout()
     ensures acknowledged { (h : Header) (events : List Event) → Throughout HoldAcknowledged (new_world h) events }
     ensures whole { (h : Header) (events : List Event) → Throughout SealedAreWhole (new_world h) events }
     ensures chunks { (h : Header) (events : List Event) → Throughout ChunksAreTrue (new_world h) events }
+    ensures sealed_source { (h : Header) (events : List Event) → Throughout (λ w. (e : Event) → SealedSourceStays w e) (new_world h) events }
 {}

@@ -3,8 +3,8 @@ ghost use Rattle.oc_model.specs.declared.event.Event.{Event};
 ghost use Rattle.oc_model.specs.Chains.{IsTrueChain, chain_to};
 ghost use Rattle.oc_model.specs.Heal.{IsAble, is_able, IsPlaced, is_placed};
 ghost use Rattle.oc_model.specs.Lawful.{IsEvent, most_rate};
-ghost use Rattle.oc_model.specs.NextWorld.{next_world};
-ghost use Rattle.oc_model.specs.Ready.{IsReady, is_ready};
+ghost use Rattle.oc_model.specs.NextWorld.{next_world, IsKeptNew, is_kept_new};
+ghost use Rattle.oc_model.specs.Ready.{IsReady, is_ready, IsSettled, is_settled};
 ghost use Rattle.oc_model.specs.World.{World, ids};
 ghost use Rattle.oc_model.specs.WorldBounds.{IsDistinct, IsLater, IsWithinLimits, AreBefore};
 
@@ -24,9 +24,12 @@ pub fn chains_are_computed()
     ensures one { (w : World) (x r s : ℕ) (c d : List ℕ) → IsTrueChain w x r c → IsTrueChain w x s d → c ≡ d }
 {}
 
-/// The tests by which settle and heal decide what to do say what the definitions say.
+/// The tests by which settle, heal and a stop decide what to do, and that of a settled world, say what the
+/// definitions say.
 pub fn tests_decide()
     ensures ready { (w : World) → (is_ready w ≡ true) ↔ IsReady w }
     ensures able { (w : World) → (is_able w ≡ true) ↔ IsAble w }
     ensures placed { (w : World) (m x : ℕ) → (is_placed w m x ≡ true) ↔ IsPlaced w m x }
+    ensures settled { (w : World) → (is_settled w ≡ true) ↔ IsSettled w }
+    ensures kept_new { (calls image : ℕ) → (is_kept_new calls image ≡ true) ↔ IsKeptNew calls image }
 {}

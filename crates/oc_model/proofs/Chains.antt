@@ -12,13 +12,13 @@ use Rattle.oc_model.proofs.Members.{AreAmong, no_longer}
 use Rattle.oc_model.proofs.Processes.{up_in}
 
 -- a node that acts is joined to none
-acting_alone : (w : World) (x p : ℕ) → mode_of w x ≡ Acting → IsJoined w x p → ⊥
+pub acting_alone : (w : World) (x p : ℕ) → mode_of w x ≡ Acting → IsJoined w x p → ⊥
 acting_alone w x p acts joins = by_mode (sym acts ∙ joins) where
   by_mode : Acting ≡ Joined p → ⊥
   by_mode e = absurd cc
 
 -- a node is joined to one
-joined_once : (w : World) (x p q : ℕ) → IsJoined w x p → IsJoined w x q → p ≡ q
+pub joined_once : (w : World) (x p q : ℕ) → IsJoined w x p → IsJoined w x q → p ≡ q
 joined_once w x p q to_p to_q = by_mode (sym to_p ∙ to_q) where
   by_mode : Joined p ≡ Joined q → p ≡ q
   by_mode e = cc

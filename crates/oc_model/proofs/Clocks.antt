@@ -11,7 +11,7 @@ use Rattle.oc_model.specs.declared.input.Input.TheVariants as inputs
 use Rattle.oc_model.specs.Heal.{is_able, leader, heals}
 use Rattle.oc_model.specs.Lawful.{IsEvent, IsAct, most_rate}
 use Rattle.oc_model.specs.NextWorld.{stopped, cut_off, keeps_write, stopped_at, settle_acts_if, heal_acts_if, after_any, next_world}
-use Rattle.oc_model.specs.Node.{Outcome, restarted}
+use Rattle.oc_model.specs.Node.{Outcome}
 use Rattle.oc_model.specs.Ready.{is_ready}
 use Rattle.oc_model.specs.Runs.{after_acts, Run, for_each}
 use Rattle.oc_model.specs.Settle.{ticks, settles}
@@ -21,7 +21,7 @@ use Rattle.oc_model.proofs.GoesOn.{ids-after_acts}
 use Rattle.oc_model.specs.WorldBounds.{IsOneOf, IsDistinct, clock_of, AreBefore}
 use Rattle.oc_model.proofs.Members.{of_filter}
 use Rattle.oc_model.proofs.Outcomes.{clock_by, step_leaves}
-use Rattle.oc_model.proofs.Processes.{process_in-me, process_in-with_other, at_put}
+use Rattle.oc_model.proofs.Processes.{process_in-me, process_in-with_other, at_put, anew, again}
 use Rattle.oc_model.proofs.Runs.{IsNoTick, IsCourse, course_settles, course_heals, settles_leads, heals_leads}
 
 -- Acts
@@ -140,8 +140,8 @@ later : (w : World) (t k j : ℕ) → k ≤ j → AreBefore (t + k) w → AreBef
 later w t k j more before x = omega (arith, more, before x)
 
 -- a start sets the clock to 0
-start_before : (w : World) (x : ℕ) (up : Bool) (t : ℕ) → AreBefore t w → AreBefore t (record w { processes = with_process w.processes (record { node = restarted (node w x); up = up }) })
-start_before w x up t before = put_before w (record { node = restarted (node w x); up = up }) t before (omega arith)
+start_before : (w : World) (x : ℕ) (up : Bool) (t : ℕ) → AreBefore t w → AreBefore t (again w x up)
+start_before w x up t before = put_before w (anew w x up) t before (omega arith)
 
 cut_before : (b : Bool) (w : World) (x : ℕ) (i : Input) (t : ℕ) → AreBefore t w → AreBefore t (cut_off b w (node w x) i (step (node w x) i))
 cut_before true w x i t before = put_before w (stopped (step (node w x) i).node) t before (omega arith)
@@ -165,10 +165,10 @@ heal_before w distinct false m t before = λ x. omega (arith, before x)
 -- no event within the ranges takes a clock past the latest, or past the latest second of a tick, by more than sixty
 pub clocks-next_world : (w : World) (e : Event) (nodes t : ℕ) → IsDistinct (ids w) → IsEvent nodes e → most_rate ≤ t → AreBefore t w → AreBefore (t + 60) (next_world w e)
 clocks-next_world w (Up x) nodes t distinct is late before =
-    cond_both (process w x).up w (record w { processes = with_process w.processes (record { node = restarted (node w x); up = true }) }) (AreBefore (t + 60))
+    cond_both (process w x).up w (again w x true) (AreBefore (t + 60))
     (λ _. λ y. omega (arith, before y)) (λ _. λ y. omega (arith, start_before w x true t before y))
 clocks-next_world w (Crash x) nodes t distinct is late before =
-    cond_both (process w x).up (record w { processes = with_process w.processes (record { node = restarted (node w x); up = false }) }) w (AreBefore (t + 60))
+    cond_both (process w x).up (again w x false) w (AreBefore (t + 60))
     (λ _. λ y. omega (arith, start_before w x false t before y)) (λ _. λ y. omega (arith, before y))
 clocks-next_world w (Stop calls image a) nodes t distinct is late before = λ y. omega (arith, stop_before w calls image (aimed w a) t before y)
 clocks-next_world w (Do a) nodes t distinct is late before = λ y. omega (arith, aimed_before w t (aimed w a) (lawful_early w nodes t a late is) before y)

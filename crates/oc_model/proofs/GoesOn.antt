@@ -14,16 +14,13 @@ use Rattle.oc_model.specs.World.{World, Process, Aimed, absent, node, process, p
 use Rattle.oc_model.specs.WorldBounds.{IsLater, AreWithinLimits, IsWithinLimits}
 use Rattle.oc_model.proofs.Outcomes.{step_leaves}
 use Rattle.oc_model.proofs.Places.{ids-with_process, ids-new}
-
--- the process of this id is put into its place
-abbrev with_at : World → Process → World
-with_at w p = record w { processes = with_process w.processes p }
+use Rattle.oc_model.proofs.Processes.{anew, again}
 
 -- what is so of two worlds where one goes on to the other, by whatever event
 pub record IsPassage (R : World → World → Type 0) : Type 0 where
   pub still : (w : World) → R w w
   pub follows : (w v u : World) → R w v → R v u → R w u
-  pub starts : (w : World) (x : ℕ) (up : Bool) → R w (record w { processes = with_process w.processes (record { node = restarted (node w x); up = up }) })
+  pub starts : (w : World) (x : ℕ) (up : Bool) → R w (again w x up)
   pub takes : (w : World) (x : ℕ) (i : Input) → R w (stepped w i (step (node w x) i))
   pub stops : (w : World) (x : ℕ) (i : Input) → R w (cut_off true w (node w x) i (step (node w x) i))
 
@@ -52,8 +49,8 @@ module _ (R : World → World → Type 0) (k : IsPassage R) where
 
   -- of each event
   pub passage : (w : World) (e : Event) → R w (next_world w e)
-  passage w (Up x) = cond_both (process w x).up w (with_at w (record { node = restarted (node w x); up = true })) (R w) (λ _. k.still w) (λ _. k.starts w x true)
-  passage w (Crash x) = cond_both (process w x).up (with_at w (record { node = restarted (node w x); up = false })) w (R w) (λ _. k.starts w x false) (λ _. k.still w)
+  passage w (Up x) = cond_both (process w x).up w (again w x true) (R w) (λ _. k.still w) (λ _. k.starts w x true)
+  passage w (Crash x) = cond_both (process w x).up (again w x false) w (R w) (λ _. k.starts w x false) (λ _. k.still w)
   passage w (Stop calls image a) = passage_stop w calls image (aimed w a)
   passage w (Do a) = passage_acted w (aimed w a)
   passage w (Held x) = k.still w
@@ -70,7 +67,7 @@ ids_stay : IsPassage HasSameIds
 ids_stay = record {
   still = λ w. refl;
   follows = λ w v u first second. second ∙ first;
-  starts = λ w x up. ids-with_process w.processes (record { node = restarted (node w x); up = up });
+  starts = λ w x up. ids-with_process w.processes (anew w x up);
   takes = λ w x i. ids-with_process w.processes (record { node = (step (node w x) i).node; up = true });
   stops = λ w x i. ids-with_process w.processes (stopped (step (node w x) i).node);
 }
@@ -137,7 +134,7 @@ lasting : (P : Node → Type 0) → Lasts P → IsPassage (KeepsAll P)
 lasting P lasts = record {
   still = λ w all. all;
   follows = λ w v u first second all. second (first all);
-  starts = λ w x up all. all_with_process P w.processes (record { node = restarted (node w x); up = up }) (lasts.start (node w x) (of_process P w.processes x (lasts.new x) all)) all;
+  starts = λ w x up all. all_with_process P w.processes (anew w x up) (lasts.start (node w x) (of_process P w.processes x (lasts.new x) all)) all;
   takes = λ w x i all. all_with_process P w.processes (record { node = (step (node w x) i).node; up = true }) (lasts.input (node w x) i (of_process P w.processes x (lasts.new x) all)) all;
   stops = λ w x i all. all_with_process P w.processes (stopped (step (node w x) i).node) (lasts.start (step (node w x) i).node (lasts.input (node w x) i (of_process P w.processes x (lasts.new x) all))) all;
 }

@@ -1,9 +1,16 @@
 -- The list of processes: what is found at an id after one was put, and what a new world has.
 use Rattle.std.proofs.Common.{◌≡◌, ℕ, Bool, true, false, List, [], ◌∷◌, ◌⊎◌, inl, inr, map, if◌then◌else◌, ◌==◌, refl, ap, sym, subst, ◌∙◌, ⊎_elim, eqb-true, eq-eqb, ne_eqb}
 use Rattle.std.proofs.lemmas.Bool.{cases_eq}
-use Rattle.oc_model.specs.Node.{Header, Node, new_node}
+use Rattle.oc_model.specs.Node.{Header, Node, new_node, restarted}
 use Rattle.oc_model.specs.WorldBounds.{IsOneOf}
-use Rattle.oc_model.specs.World.{Process, down, absent, process_in, with_process}
+use Rattle.oc_model.specs.World.{World, Process, down, absent, node, process_in, with_process}
+
+-- the process of x started anew, or stopped, and the world with it
+abbrev pub anew : World → ℕ → Bool → Process
+anew w x up = record { node = restarted (node w x); up = up }
+
+abbrev pub again : World → ℕ → Bool → World
+again w x up = record w { processes = with_process w.processes (anew w x up) }
 
 -- the process at an id is that of a node of this id
 pub process_in-me : (ps : List Process) (x : ℕ) → (process_in ps x).node.control.me ≡ x

@@ -14,7 +14,7 @@ use Rattle.oc_model.proofs.Members.{all_test, test_all, found_by, found_passes}
 use Rattle.oc_model.proofs.Processes.{up_in}
 
 -- a mode that is tested as acting is
-acts_true : (m : Mode) → is_acting m ≡ true → m ≡ Acting
+pub acts_true : (m : Mode) → is_acting m ≡ true → m ≡ Acting
 acts_true Acting e = refl
 acts_true Idle e = absurd cc
 acts_true (Asking p) e = absurd cc

@@ -21,7 +21,7 @@ use Rattle.oc_model.proofs.Ready.{ready_true, ready_test}
 -- Leases
 
 -- the mode that is tested as joined to y is
-joined_true : (m : Mode) (y : ℕ) → is_joined_to m y ≡ true → m ≡ Joined y
+pub joined_true : (m : Mode) (y : ℕ) → is_joined_to m y ≡ true → m ≡ Joined y
 joined_true (Joined q) y e = ap Joined (eqb-true q y e)
 joined_true Idle y e = absurd cc
 joined_true (Asking p) y e = absurd cc

@@ -30,7 +30,7 @@ AreJoined w [] = Unit {0}
 AreJoined w (x ∷ []) = Unit {0}
 AreJoined w (x ∷ y ∷ ys) = IsJoined w x y × AreJoined w (y ∷ ys)
 
--- parent links form no ring; nodes that are down count with the mode that they recover
+-- parent links form no cycle; nodes that are down count with the mode that they recover
 abbrev pub HasNoCycle : World → Type 0
 HasNoCycle w = (y : ℕ) (between : List ℕ) → AreJoined w (y ∷ between ++ y ∷ []) → ⊥
 

@@ -18,19 +18,19 @@ seq_of w x = (node w x).control.kept.seq
 abbrev pub WaitsAt : World → ℕ → ℕ → Type 0
 WaitsAt w y x = IsWaiting (node w y).control.kept.log x
 
--- one waits at a node of this chain below its root
+-- a certificate about x waits at a node of this chain below its root
 abbrev pub WaitsBelow : World → List ℕ → ℕ → Type 0
 WaitsBelow w [] x = ⊥
 WaitsBelow w (r ∷ []) x = ⊥
 WaitsBelow w (y ∷ z ∷ zs) x = WaitsAt w y x ⊎ WaitsBelow w (z ∷ zs) x
 
--- the parent of some node of this chain has ended its lease
+-- of some node of this chain the lease is not held, at its own ask number, by the next one: that has ended it
 abbrev pub HasEndedLease : World → List ℕ → Type 0
 HasEndedLease w [] = ⊥
 HasEndedLease w (r ∷ []) = ⊥
 HasEndedLease w (x ∷ y ∷ ys) = (HoldsLease w y x (seq_of w x) → ⊥) ⊎ HasEndedLease w (y ∷ ys)
 
--- about some node of this chain a certificate waits above it
+-- a certificate about some node of this chain waits above it, below the root
 abbrev pub HasWaiting : World → List ℕ → Type 0
 HasWaiting w [] = ⊥
 HasWaiting w (x ∷ ys) = WaitsBelow w ys x ⊎ HasWaiting w ys
@@ -39,7 +39,7 @@ HasWaiting w (x ∷ ys) = WaitsBelow w ys x ⊎ HasWaiting w ys
 abbrev pub HasMissingCause : World → ℕ → ℕ → Type 0
 HasMissingCause w r x = (c : List ℕ) × IsTrueChain w x r c × (HasEndedLease w c ⊎ HasWaiting w c)
 
--- the nodes of the walk from x up to r, which comes to r at its end for the first time
+-- the nodes from x up to r by this table's parents; r comes once, at the end
 abbrev pub IsWalk : List Cert → ℕ → ℕ → List ℕ → Type 0
 IsWalk table x r [] = ⊥
 IsWalk table x r (c ∷ []) = (c ≡ x) × (x ≡ r)
@@ -62,13 +62,13 @@ IsTopmostFalse w table (a ∷ b ∷ bs) v y =
     IsTopmostFalse w table (b ∷ bs) v y
     ⊎ ((a ≡ v) × (b ≡ y) × (IsTrueLink w table a b → ⊥) × AreTrueLinks w table (b ∷ bs))
 
--- the lease of v at y stands still, or a certificate about v waits on y's true chain below r
+-- y still holds the lease of v at the number in r's table, or a certificate about v waits on y's true chain below r
 abbrev pub IsStaleLink : World → ℕ → ℕ → ℕ → Type 0
 IsStaleLink w r v y =
     ((e : Cert) × (newest (table_of w r) v ≡ Some e) × HoldsLease w y v e.seq)
     ⊎ ((c : List ℕ) × IsTrueChain w y r c × WaitsBelow w c v)
 
--- why the table of the root r may still list x, which is not there
+-- why the table of the root r may still list x though it has no true chain to r, which is not part of the cause
 abbrev pub HasWrongCause : World → ℕ → ℕ → Type 0
 HasWrongCause w r x =
     (x ≡ r → ⊥) × ((c : List ℕ) × (v : ℕ) × (y : ℕ) × IsWalk (table_of w r) x r c × IsTopmostFalse w (table_of w r) c v y × IsStaleLink w r v y)

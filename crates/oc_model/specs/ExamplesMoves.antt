@@ -1,10 +1,16 @@
-use Rattle.std.specs.Prelude.{◌≡◌, Some, List, [], ◌∷◌, ◌++◌}
+use Rattle.std.specs.Prelude.{◌≡◌, true, false, Some, None, List, [], ◌∷◌, ◌++◌}
 use Rattle.oc_base.specs.declared.refusal.Refusal.TheVariants as refusals
 use Rattle.oc_model.specs.declared.event.Act.TheVariants.{Tick, Check, Move, Deliver}
 use Rattle.oc_model.specs.declared.event.Event.{Event}
 use Rattle.oc_model.specs.declared.event.Event.TheVariants.{Up, Do, Settle}
 use Rattle.oc_model.specs.declared.message.Body.TheVariants.{Ask, Yes, No}
 use Rattle.oc_model.specs.declared.word.Word.TheVariants.{Settled}
+use Rattle.oc_model.specs.Chains.{true_line}
+use Rattle.oc_model.specs.ClaimsTree.{table_of}
+use Rattle.oc_model.specs.NextWorld.{next_world, world_after}
+use Rattle.oc_model.specs.Ready.{is_settled}
+use Rattle.oc_model.specs.Table.{table_line}
+use Rattle.oc_model.specs.World.{World, new_world}
 use Rattle.oc_model.specs.ExampleRuns.{told, header, join, from_to, alive, line, rank, root_shown, ok}
 
 -- Two siblings move beneath each other at the same time: neither is in the tree when the ask of the other comes.
@@ -39,6 +45,9 @@ stale =
     four_in_line ++ join 3 2 9
     ++ (Do (Move 2 4) ∷ Do (Deliver 11) ∷ Do (Deliver 12) ∷ Do (Deliver 13) ∷ Do (Deliver 14) ∷ [])
 
+abbrev stale_world : World
+stale_world = world_after (new_world (header 4 1 (0 ∷ 0 ∷ 0 ∷ 0 ∷ []))) stale
+
 -- before it settles: the line of 3 at the root is wrong, and 4 is missing
 abbrev pub StaleAncestors : Type 0
 StaleAncestors = told (header 4 1 (0 ∷ 0 ∷ 0 ∷ 0 ∷ [])) stale 21 10 (1 ∷ []) ≡ record {
@@ -61,6 +70,16 @@ StaleAncestorsSettled = told (header 4 1 (0 ∷ 0 ∷ 0 ∷ 0 ∷ [])) (stale ++
   messages = 41;
   shown = root_shown (rank 3 0) (alive 2 3 1 ∷ alive 3 2 2 ∷ alive 4 1 3 ∷ []) (line 2 1 ∷ line 3 2 ∷ line 4 3 ∷ []) ∷ [];
 }
+
+-- the lines of 3 and 4 before: at the root 3 has the parent that it left, and 4 has none
+abbrev pub StaleLines : Type 0
+StaleLines =
+    (table_line (table_of stale_world 1) 1 3 ≡ Some 1) × (true_line stale_world 1 3 ≡ Some 2)
+    × (table_line (table_of stale_world 1) 1 4 ≡ None) × (true_line stale_world 1 4 ≡ Some 3)
+
+-- only then is it settled
+abbrev pub StaleSettles : Type 0
+StaleSettles = (is_settled stale_world ≡ false) × (is_settled (next_world stale_world Settle) ≡ true)
 
 -- The reverse: 2 asks 3, which is in the tree but does not precede it.
 

@@ -1,7 +1,7 @@
 ghost use Rattle.oc_model.specs.ExamplesChoice.{Descent, ChooseAmong, CertificateRace, MergedCounts};
 ghost use Rattle.oc_model.specs.ExamplesContent.{FirstPath, FirstPathHeld, SealedGroup, SealedGroupHeld, ServedCounts, TornGate, TornGateHeld, DownAndUnknown, PublishElsewhere, PublishElsewhereHeld};
 ghost use Rattle.oc_model.specs.ExamplesLeases.{FalseDeath, Quash, FailedParent};
-ghost use Rattle.oc_model.specs.ExamplesMoves.{CrossingMoves, StaleAncestors, StaleAncestorsSettled, ReverseMove};
+ghost use Rattle.oc_model.specs.ExamplesMoves.{CrossingMoves, StaleAncestors, StaleAncestorsSettled, StaleLines, StaleSettles, ReverseMove};
 ghost use Rattle.oc_model.specs.ExamplesRoots.{TakeoverAndReturn, Healing, HealWithoutAChainMember};
 
 /// How bytes spread, and how clients are counted.
@@ -31,6 +31,8 @@ pub fn moves_compute()
     ensures crossing_moves { CrossingMoves }
     ensures stale_ancestors { StaleAncestors }
     ensures stale_ancestors_settled { StaleAncestorsSettled }
+    ensures stale_lines { StaleLines }
+    ensures stale_settles { StaleSettles }
     ensures reverse_move { ReverseMove }
 {}
 

@@ -13,8 +13,8 @@ use Rattle.oc_model.specs.ChangeLog.{begun_with, ack, is_ahead}
 use Rattle.oc_model.specs.Node.{Durable, Log, empty_log}
 use Rattle.oc_model.specs.Records.{fold_one, folded, noted}
 use Rattle.oc_model.specs.Table.{newest, is_news, merge}
-use Rattle.oc_model.proofs.Lists.{all_weaker, all_append}
-use Rattle.oc_step_laws.specs.Sound.{AreAbove, IsTable, IsSoundAs, IsSoundDurable, IsSoundRecord}
+use Rattle.oc_model.proofs.Lists.{all_both, all_weaker, all_append}
+use Rattle.oc_step_laws.specs.Sound.{IsTable, IsSoundAs, IsSoundDurable, IsSoundRecord}
 use Rattle.oc_step_laws.proofs.CertOrder.{outranks_fact, outranks_irreflexive}
 use Rattle.oc_step_laws.proofs.Tables.{merge_takes, merge_keeps, table_merge}
 
@@ -22,23 +22,12 @@ use Rattle.oc_step_laws.proofs.Tables.{merge_takes, merge_keeps, table_merge}
 rows_from : (all ks : List Cert) → AllByRecursion (λ k. newest all k.subject ≡ Some k) ks → AllByRecursion (λ k. is_news all k ≡ false) ks
 rows_from all ks found = all_weaker (λ k. newest all k.subject ≡ Some k) (λ k. is_news all k ≡ false) (λ k e. rw e (false_from_ne_true (outranks k k) (λ h. outranks_irreflexive k (outranks_fact k k h)))) ks found
 
--- what is found behind a lesser row is found with it
-behind : (j k : Cert) (ks : List Cert) → ◌≡◌ {A = Bool} (j.subject == k.subject) false → newest ks k.subject ≡ Some k → newest (j ∷ ks) k.subject ≡ Some k
-behind j k ks apart found = rw apart found
-
 -- each row of a table is found
 pub rows_found : (t : List Cert) → IsTable t → AllByRecursion (λ k. newest t k.subject ≡ Some k) t
-rows_found [] up = tt
-rows_found (j ∷ js) up = (
-  let self : (j.subject == j.subject) ≡ true = eq-eqb j.subject j.subject refl in rw self refl,
-  later js up.0 (rows_found js up.1),
-) where
-  later : (ks : List Cert) → AreAbove j.subject ks → AllByRecursion (λ k. newest js k.subject ≡ Some k) ks → AllByRecursion (λ k. newest (j ∷ js) k.subject ≡ Some k) ks
-  later [] above found = tt
-  later (k ∷ ks) above found = (
-    behind j k js (ne_eqb j.subject k.subject (λ e. omega (arith, e, above.0))) found.0,
-    later ks above.1 found.1,
-  )
+rows_found [] is = tt
+rows_found (j ∷ js) is = (rw (eq-eqb j.subject j.subject refl) refl, all_both (λ k. j.subject < k.subject) (λ k. newest js k.subject ≡ Some k) (λ k. newest (j ∷ js) k.subject ≡ Some k) behind js is.0 (rows_found js is.1)) where
+  behind : (k : Cert) → j.subject < k.subject → newest js k.subject ≡ Some k → newest (j ∷ js) k.subject ≡ Some k
+  behind k less found = rw (ne_eqb j.subject k.subject (λ e. omega (arith, less, e))) found
 
 pub rows_known : (t : List Cert) → IsTable t → AllByRecursion (λ k. is_news t k ≡ false) t
 rows_known t up = rows_from t t (rows_found t up)

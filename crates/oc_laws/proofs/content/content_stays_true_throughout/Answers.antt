@@ -1,6 +1,7 @@
-use Rattle.oc_model.specs.Claims.{HoldPrefixes, HoldAcknowledged, SealedAreWhole, ChunksAreTrue}
+use Rattle.oc_model.specs.declared.event.Event.{Event}
+use Rattle.oc_model.specs.Claims.{HoldPrefixes, HoldAcknowledged, SealedAreWhole, ChunksAreTrue, SealedSourceStays}
 use Rattle.oc_model.specs.World.{new_world}
-use Rattle.oc_laws.proofs.Kept.{sound_prefixes, sound_acknowledged, sound_whole, sound_chunks, throughout}
+use Rattle.oc_laws.proofs.Kept.{sound_prefixes, sound_acknowledged, sound_whole, sound_chunks, sound_sealed, throughout}
 use Rattle.oc_laws.proofs.Turns.{sound_new}
 use Rattle.oc_laws.proofs.content.content_stays_true_throughout.Goals as goal
 
@@ -15,3 +16,6 @@ returns-clause-whole c = λ h. throughout SealedAreWhole sound_whole (new_world 
 
 pub returns-clause-chunks : goal.returns-clause-chunks
 returns-clause-chunks c = λ h. throughout ChunksAreTrue sound_chunks (new_world h) (sound_new h)
+
+pub returns-clause-sealed_source : goal.returns-clause-sealed_source
+returns-clause-sealed_source c = λ h. throughout (λ w. (e : Event) → SealedSourceStays w e) sound_sealed (new_world h) (sound_new h)

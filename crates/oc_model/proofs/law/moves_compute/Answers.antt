@@ -12,3 +12,9 @@ returns-clause-stale_ancestors_settled c = refl
 
 pub returns-clause-reverse_move : goal.returns-clause-reverse_move
 returns-clause-reverse_move c = refl
+
+pub returns-clause-stale_lines : goal.returns-clause-stale_lines
+returns-clause-stale_lines c = (refl, refl, refl, refl)
+
+pub returns-clause-stale_settles : goal.returns-clause-stale_settles
+returns-clause-stale_settles c = (refl, refl)

@@ -2,7 +2,7 @@ use Rattle.oc_model.specs.Chains.{HasNoCycle}
 use Rattle.oc_model.specs.NextWorld.{world_after}
 use Rattle.oc_model.specs.World.{new_world}
 use Rattle.oc_laws.proofs.RanksKept.{ranks_always, ranks_throughout, no_cycle}
-use Rattle.oc_laws.proofs.ranks.parent_links_form_no_ring.Goals as goal
+use Rattle.oc_laws.proofs.ranks.parent_links_form_no_cycle.Goals as goal
 
 pub returns-clause-after : goal.returns-clause-after
 returns-clause-after c = λ h events. no_cycle (world_after (new_world h) events) (ranks_always h events).parents

@@ -1,0 +1,6 @@
+pub mod Clients
+pub mod Grants
+pub mod Sessions
+pub mod Coverage
+pub mod Listing
+pub mod LeaseEnds

@@ -1,5 +1,5 @@
 -- What is read at a gate, and what scanning from gate to gate finds.
-use Rattle.std.proofs.Common.{◌≡◌, ◌⊎◌, inl, inr, ℕ, suc, ◌+◌, ◌-◌, ◌^◌, ◌<◌, ◌≤◌, min, IsTrue, Option, None, Some, List, [], ◌∷◌, ◌++◌, length, take, drop, get_or, sym, ◌∙◌, ap, subst, arith, take-append-drop, add-zero}
+use Rattle.std.proofs.Common.{◌≡◌, ◌⊎◌, inl, inr, ℕ, suc, ◌+◌, ◌-◌, ◌^◌, ◌<◌, ◌≤◌, min, IsTrue, Option, None, Some, List, [], ◌∷◌, ◌++◌, length, take, drop, get_or, refl, sym, ◌∙◌, ap, subst, arith, take-append-drop, add-zero}
 use Rattle.std.specs.Int.{w32, to_be_bytes}
 use Rattle.std.specs.List.{All}
 use Rattle.std.proofs.lemmas.Bool.{cases_lt, le-ltb}
@@ -11,7 +11,7 @@ use Rattle.oc_journal.specs.JournalFile.{magic, length_in, blocks, AreShort, IsN
 use Rattle.oc_journal.specs.JournalView.{at_spot, at_spots, IsScanned, IsFound, IsGate, IsBrokenAt}
 use Rattle.oc_journal.specs.declared.spot.Spot.{Spot}
 use Rattle.oc_journal.proofs.Blocks.{blocks-push, AreShort-push, length_in-number, broken_file}
-use Rattle.oc_journal.proofs.Spots.{within_push}
+use Rattle.oc_journal.proofs.Spots.{within_push, snoc_some}
 
 -- a head of five bytes is a gate and a length
 head_is : (head : List ℕ) (len : ℕ) → length head ≡ 5 → get_or head 0 0 ≡ 1 → drop 1 head ≡ to_be_bytes w32 len → head ≡ 1 ∷ to_be_bytes w32 len
@@ -72,6 +72,7 @@ IsScanned-more v spots gate len size next scanned law short same_size whole foun
     record {
       within = within_push spots spot gate next scanned.within (omega arith) (omega arith) (omega arith);
       start = omega arith;
+      first = λ none. absurd (snoc_some spots spot none);
       size = omega arith;
       front = λ h.
           ap (λ (k : ℕ). take k file) (let e : next ≡ gate + (5 + len) = omega arith in e)
@@ -90,6 +91,7 @@ pub IsScanned-start : (v : DiskView) (spots : List Spot) → spots ≡ [] → 9 
 IsScanned-start v spots empty long begins = record {
   within = subst (λ (s : List Spot). All (λ spot. (9 ≤ spot.at) × (spot.at + spot.len ≤ 8)) s) (sym empty) (λ k d inside. absurd (omega arith));
   start = omega arith;
+  first = λ _. refl;
   size = omega arith;
   front = λ h. begins h ∙ ap (λ (s : List Spot). magic ++ blocks (at_spots v.seen s)) (sym empty);
   short = λ h. subst (λ (s : List Spot). AreShort (at_spots v.seen s)) (sym empty) tt;
@@ -100,6 +102,7 @@ pub IsFound-shut : (v : DiskView) (spots : List Spot) (gate : ℕ) → IsScanned
 IsFound-shut v spots gate scanned law shut = record {
   within = scanned.within;
   start = scanned.start;
+  first = scanned.first;
   size = scanned.size;
   ends = λ h. record {
     gate = get_or v.seen gate 0;

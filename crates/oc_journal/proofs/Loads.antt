@@ -35,6 +35,7 @@ module _ (v w : DiskView) (spots : List Spot) (place : ℕ) (found : IsFound v s
   IsIndexed-found = record {
     within = found.within;
     start = found.start;
+    first = found.first;
     size = omega (arith, found.size, size);
     settled = λ _ h. IsSettled-from w (at_spots w.seen spots) place (ends (back h)) (safe (back h));
     frames = λ _ h. sym (frames_of-ended w.seen (at_spots w.seen spots) place (ends (back h)));

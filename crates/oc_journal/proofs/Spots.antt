@@ -39,6 +39,11 @@ within_push (s ∷ spots) spot place later within le far ends zero d inside = le
 within_push (s ∷ spots) spot place later within le far ends (suc k) d inside =
     within_push spots spot place later (λ j e below. within (suc j) e (omega arith)) le far ends k d (omega arith)
 
+-- with one spot more there is a spot
+pub snoc_some : (spots : List Spot) (spot : Spot) → ¬ (spots ++ spot ∷ [] ≡ [])
+snoc_some [] spot none = absurd cc
+snoc_some (s ∷ spots) spot none = absurd cc
+
 -- an appended frame
 pub at_spots-push : (v w : DiskView) (spots : List Spot) (spot : Spot) (place : ℕ) (body : List ℕ) → take place w.seen ≡ take place v.seen → All (λ s. (9 ≤ s.at) × (s.at + s.len ≤ place)) spots → at_spot w.seen spot ≡ body → at_spots w.seen (spots ++ spot ∷ []) ≡ at_spots v.seen spots ++ body ∷ []
 at_spots-push v w spots spot place body same within new =
@@ -73,6 +78,7 @@ module _ (v w : DiskView) (spots new : List Spot) (place len : ℕ) (body : List
       record {
         within = subst (λ (s : List Spot). All (λ spot. (9 ≤ spot.at) × (spot.at + spot.len ≤ later)) s) (sym items) (within_push spots spot place later indexed.within (omega arith) (omega arith) (omega arith));
         start = omega arith;
+        first = λ none. absurd (snoc_some spots spot (sym items ∙ none));
         size = omega (arith, size);
         settled = λ _ h. subst (IsSettled w) (sym later_is) (settled (back h));
         frames = λ _ h. appended-frames_of (back h);
@@ -88,6 +94,7 @@ IsIndexed-none v w spots place closed empty honest start size grown settled none
     record {
       within = subst (λ (s : List Spot). All (λ spot. (9 ≤ spot.at) × (spot.at + spot.len ≤ 8)) s) (sym empty) (λ k d inside. absurd (omega arith));
       start = omega arith;
+      first = λ _. refl;
       size = omega arith;
       settled = λ _ h. settled (back h);
       frames = λ _ h. ap (at_spots w.seen) empty ∙ sym (none (back h));

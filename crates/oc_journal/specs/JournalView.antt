@@ -1,5 +1,5 @@
 -- A journal on a disk.
-use Rattle.std.specs.Prelude.{◌≡◌, ◌≢◌, ℕ, ◌+◌, ◌<◌, ◌≤◌, Bool, false, IsTrue, List, ◌∷◌, ◌++◌, length, take, drop, map, get_or, Option, None, Some}
+use Rattle.std.specs.Prelude.{◌≡◌, ◌≢◌, ℕ, ◌+◌, ◌<◌, ◌≤◌, Bool, false, IsTrue, List, [], ◌∷◌, ◌++◌, length, take, drop, map, get_or, Option, None, Some}
 use Rattle.std.specs.Int.{w32, to_be_bytes}
 use Rattle.std.specs.List.{All}
 use Rattle.oc_outside.specs.DiskView.{DiskView, IsSafe, StaysAsItWas}
@@ -27,11 +27,12 @@ pub record IsSettled (v : DiskView) (place : ℕ) : Type 0 where
   pub ends : EndsAt v.seen (frames_of v.seen) place
   pub safe : IsSafe v
 
--- Each body stands behind the first gate and before the end of the frames, which is within the file. While no call on an honest disk has failed,
--- the bodies are the frames of what a read gives, and all is safe.
+-- Each body stands behind the first gate and before the end of the frames, which is within the file; without bodies the end is the first gate.
+-- While no call on an honest disk has failed, the bodies are the frames of what a read gives, and all is safe.
 pub record IsIndexed (v : DiskView) (spots : List Spot) (place : ℕ) (closed : Bool) : Type 0 where
   pub within : All (λ spot. (9 ≤ spot.at) × (spot.at + spot.len ≤ place)) spots
   pub start : 8 ≤ place
+  pub first : spots ≡ [] → place ≡ 8
   pub size : place < v.size
   pub settled : closed ≡ false → IsTrue v.honest → IsSettled v place
   pub frames : closed ≡ false → IsTrue v.honest → at_spots v.seen spots ≡ frames_of v.seen
@@ -53,10 +54,11 @@ pub record OnlyReads {D : Type 0} (view : D → DiskView) (old new : JournalView
   pub spare : old.spare ≤ new.spare
   pub closed : new.closed ≡ old.closed
 
--- Scanning found these spots before a gate. Each stands behind the first gate and before this one.
+-- Scanning found these spots before a gate. Each stands behind the first gate and before this one, which is the first where there is none.
 pub record IsScanned (v : DiskView) (spots : List Spot) (gate : ℕ) : Type 0 where
   pub within : All (λ spot. (9 ≤ spot.at) × (spot.at + spot.len ≤ gate)) spots
   pub start : 8 ≤ gate
+  pub first : spots ≡ [] → gate ≡ 8
   pub size : gate < v.size
   pub front : IsTrue v.honest → take gate v.seen ≡ magic ++ blocks (at_spots v.seen spots)
   pub short : IsTrue v.honest → AreShort (at_spots v.seen spots)
@@ -65,6 +67,7 @@ pub record IsScanned (v : DiskView) (spots : List Spot) (gate : ℕ) : Type 0 wh
 pub record IsFound (v : DiskView) (spots : List Spot) (place : ℕ) : Type 0 where
   pub within : All (λ spot. (9 ≤ spot.at) × (spot.at + spot.len ≤ place)) spots
   pub start : 8 ≤ place
+  pub first : spots ≡ [] → place ≡ 8
   pub size : place < v.size
   pub ends : IsTrue v.honest → EndsAt v.seen (at_spots v.seen spots) place
 

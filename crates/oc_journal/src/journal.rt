@@ -97,6 +97,7 @@ impl<D: Disk> Journal<D> {
     pub fn end(&self) -> u64
         ensures end { result ≡ self.now.end }
         ensures within { self.now.end < (D.view self.now.disk).size }
+        ensures first { self.now.frames ≡ [] → self.now.end ≡ 8 }
 
         // While no call failed, they are what stands before that place.
         ensures place { self.now.closed ≡ false → IsTrue (D.view self.now.disk).honest
@@ -186,7 +187,7 @@ impl<D: Disk> Journal<D> {
         // There is no frame, and every crash leaves none.
         ensures frames { OnOk result (self.new.frames ≡ []) }
         ensures kept { OnOk result (IsTrue (D.view self.old.disk).honest → HasFrames (D.view self.new.disk) []) }
-        ensures end { OnOk result (IsTrue (D.view self.old.disk).honest → self.new.end ≡ 8) }
+        ensures end { OnOk result (self.new.end ≡ 8) }
         ensures none { self.old.frames ≡ [] → self.new ≡ self.old }
         ensures two { OnOk result (IsTrue (D.view self.old.disk).honest → 0 < length self.old.frames
             → (D.view self.new.disk).moment ≡ (D.view self.old.disk).moment + 2) }

@@ -1,13 +1,13 @@
 -- A field that is read stands there, and what stands there is read again.
-use Rattle.std.proofs.Common.{◌≡◌, ℕ, zero, suc, ◌+◌, ◌-◌, ◌^◌, ◌<◌, ◌≤◌, Bool, true, false, ◌==◌, List, [], ◌∷◌, ◌++◌, length, Result, Ok, Err, refl, sym, ap, subst, ◌∙◌, arith}
+use Rattle.std.proofs.Common.{◌≡◌, ℕ, zero, suc, ◌+◌, ◌-◌, ◌^◌, ◌<◌, ◌≤◌, Bool, true, false, ◌==◌, List, [], ◌∷◌, length, Ok, refl, sym, ap, subst, arith}
 use Rattle.std.specs.List.{flat_map, AllByRecursion}
-use Rattle.std.specs.Int.{w8, w16, w32, w64, to_be_bytes}
+use Rattle.std.specs.Int.{w8, w32, w64, to_be_bytes}
 use Rattle.std.proofs.lemmas.List.Concat.{flat_map-cons}
 use Rattle.oc_base.specs.Fields.{number_at}
 use Rattle.oc_base.specs.declared.rank.Rank.{Rank}
-use Rattle.oc_record.specs.Spelling.{two, four, eight, flag, rank_bytes, IsId, IsLong, IsCount, IsRank}
+use Rattle.oc_record.specs.Spelling.{four, eight, flag, rank_bytes, IsId, IsLong, IsCount, IsRank}
 use Rattle.oc_record.specs.Reading.{◌>>=◌, or_short, within_at, id_at, long_at, count_at, flag_at, rank_at, ids_at}
-use Rattle.oc_record.proofs.Standing.{IsBytes, Stands, Takes, takes_both, takes_first, takes_second, takes_nothing, bind_ok, ok_is, wide8, wide16, wide32, wide64, number_takes, number_again, within_takes, within_again}
+use Rattle.oc_record.proofs.Standing.{IsBytes, Takes, takes_both, takes_first, takes_second, takes_nothing, bind_ok, ok_is, wide8, wide32, wide64, number_takes, number_again, within_takes, within_again}
 
 pub id_takes : (nodes : ℕ) (bytes : List ℕ) (at id next : ℕ) → IsBytes bytes → id_at nodes bytes at ≡ Ok (id, next) → Takes bytes at (four id) next × IsId nodes id
 id_takes nodes bytes at id next fits e =

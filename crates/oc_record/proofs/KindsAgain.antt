@@ -1,12 +1,12 @@
 -- The fields of a lawful record that stand there are read as that record.
-use Rattle.std.proofs.Common.{◌≡◌, ℕ, ◌+◌, ◌^◌, ◌<◌, ◌≤◌, Bool, List, [], ◌∷◌, ◌++◌, length, Result, Ok, Err, refl, sym, ap, subst, ◌∙◌, arith}
-use Rattle.std.specs.List.{flat_map, AllByRecursion}
-use Rattle.std.specs.Int.{w8, w16, w64}
+use Rattle.std.proofs.Common.{◌≡◌, ℕ, ◌+◌, ◌^◌, ◌<◌, Bool, List, [], ◌∷◌, ◌++◌, length, Ok, refl, ap, arith}
+use Rattle.std.specs.List.{flat_map}
+use Rattle.std.specs.Int.{w16, w64}
 use Rattle.oc_base.specs.declared.cert.Cert.{Cert}
 use Rattle.oc_base.specs.declared.rank.Rank.{Rank}
 use Rattle.oc_model.specs.declared.record.Record.{Record}
 use Rattle.oc_model.specs.declared.record.Record.TheVariants.{Ask, Joined, Lost, Acting, Ranked, OldEntry, Acked, Ancestors, Rate, Epoch, Base, Snapshot, Entry, Info}
-use Rattle.oc_record.specs.Spelling.{two, four, eight, flag, rank_bytes, code_of, fields_bytes, IsId, IsLawful}
+use Rattle.oc_record.specs.Spelling.{two, four, eight, flag, rank_bytes, code_of, fields_bytes, IsLawful}
 use Rattle.oc_record.specs.Reading.{ask_at, joined_at, ranked_at, old_entry_at, acked_at, ancestors_at, rate_at, epoch_at, base_at, snapshot_at, entry_at, info_at, fields_at}
 use Rattle.oc_record.proofs.Standing.{Takes, takes_first, takes_second, wide16, wide64, within_again}
 use Rattle.oc_record.proofs.FieldLaws.{id_again, long_again, count_again, byte_again, flag_again, rank_again, ids_again}

@@ -6,3 +6,4 @@ pub mod KindsAgain
 pub mod ListLaws
 pub mod Runs
 pub mod Puts
+pub mod Leasts

@@ -1,17 +1,16 @@
 -- A list of lawful records and its spelling are one.
-use Rattle.std.proofs.Common.{◌≡◌, ℕ, zero, suc, ◌+◌, ◌-◌, ◌^◌, ◌<◌, ◌≤◌, ◌==◌, Bool, true, false, cond, ltb, eqb, List, [], ◌∷◌, ◌++◌, length, drop, Result, Ok, Err, refl, sym, ap, subst, ◌∙◌, arith, inl, inr}
+use Rattle.std.proofs.Common.{◌≡◌, ℕ, zero, suc, ◌+◌, ◌-◌, ◌^◌, ◌<◌, ◌≤◌, ◌==◌, Bool, true, false, cond, ltb, List, [], ◌∷◌, ◌++◌, length, drop, Result, Ok, refl, sym, ap, subst, ◌∙◌, arith}
 use Rattle.std.specs.Int.{w8}
-use Rattle.std.proofs.lemmas.Bool.{cases_lt, lt-ltb, le-ltb, ltb-true, ltb-false, eqb-true}
+use Rattle.std.proofs.lemmas.Bool.{lt-ltb, le-ltb, ltb-true, ltb-false, eqb-true}
 use Rattle.std.proofs.lemmas.List.{drop-drop, drop_at, length-append, length-drop, nil_from_length}
 use Rattle.std.proofs.lemmas.List.Concat.{flat_map-cons}
 use Rattle.oc_base.specs.Fields.{number_at}
 use Rattle.oc_model.specs.declared.record.Record.{Record}
 use Rattle.oc_model.specs.declared.record.Record.TheVariants.{Ask, Joined, Lost, Acting, Ranked, OldEntry, Acked, Ancestors, Rate, Epoch, Base, Snapshot, Entry, Info}
 use Rattle.oc_record.specs.declared.fault.RecordFault.{RecordFault}
-use Rattle.oc_record.specs.declared.fault.RecordFault.TheVariants as faults
 use Rattle.oc_record.specs.Spelling.{code_of, fields_bytes, record_bytes, records_bytes, HasSpelling, HaveSpellings, IsLawful, AreLawful}
-use Rattle.oc_record.specs.Reading.{◌>>=◌, or_short, ask_at, joined_at, ranked_at, old_entry_at, acked_at, ancestors_at, rate_at, epoch_at, base_at, snapshot_at, entry_at, info_at, fields_at, record_at, records_at, decoded}
-use Rattle.oc_record.proofs.Standing.{IsBytes, Stands, Takes, takes_both, takes_first, takes_second, takes_nothing, bind_ok, done, ok_is}
+use Rattle.oc_record.specs.Reading.{◌>>=◌, or_short, fields_at, record_at, records_at, decoded}
+use Rattle.oc_record.proofs.Standing.{IsBytes, Takes, takes_both, takes_first, takes_second, takes_nothing, bind_ok, done, ok_is}
 use Rattle.oc_record.proofs.FieldLaws.{byte_takes, byte_again}
 use Rattle.oc_record.proofs.KindsRead.{IsTaken, ask_takes, joined_takes, ranked_takes, old_entry_takes, acked_takes, ancestors_takes, rate_takes, epoch_takes, base_takes, snapshot_takes, entry_takes, info_takes}
 use Rattle.oc_record.proofs.KindsAgain.{fields_again}

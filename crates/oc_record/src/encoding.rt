@@ -20,13 +20,13 @@ pub fn encode(alloc: Global, list: &[Record]) -> Result<Vec<u8>, Memory>
 }
 
 /// Puts the code of the kind and the fields at the end.
-fn put_record(out: &mut Vec<u8>, record: &Record) -> Result<(), AllocError>
-    requires { HasSpelling record.now }
-    ensures { OnOk result (out.new.items ≡ out.old.items ++ record_bytes record.now) }
+fn put_record(out: &mut Vec<u8>, item: &Record) -> Result<(), AllocError>
+    requires { HasSpelling item.now }
+    ensures { OnOk result (out.new.items ≡ out.old.items ++ record_bytes item.now) }
 {
     macro_rules! by_kind {
         ($($row:literal $kind:ident { $($field:ident: $put:ident),* })*) => {
-            match record {
+            match item {
                 $(Record::$kind { $($field),* } => {
                     out.push(CODES[$row].code)?;
                     $($put(out, $field)?;)*

@@ -1,3 +1,6 @@
+//! The fields of each kind: each function reads those of one kind at a place, and gives the
+//! record and the next place, or the first fault from the left.
+
 ghost use Rattle.std.specs.Prelude.{◌≡◌};
 ghost use Rattle.oc_record.specs.Reading.{Gives, ask_at, joined_at, ranked_at, old_entry_at, acked_at, ancestors_at, rate_at, epoch_at, base_at, snapshot_at, entry_at, info_at};
 
@@ -15,7 +18,6 @@ const MOST_RATE: u64 = 1 << 40;
 /// The greatest acknowledged count of a `Base`.
 const MOST_ACKED: u64 = 1 << 62;
 
-/// Each of these reads the fields of one kind at a place, and gives the record and the next place.
 #[tactic(auto, unfolding(crate::specs::Reading::ask_at))]
 pub fn ask_at(nodes: u32, bytes: &[u8], at: usize) -> Result<(Record, usize), RecordFault>
     ensures { result ≡ ask_at nodes bytes.now at }

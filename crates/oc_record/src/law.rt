@@ -1,10 +1,12 @@
+ghost use Rattle.std.specs.List.{AllByRecursion};
 ghost use Rattle.std.specs.Prelude.{◌≡◌, ℕ, ◌<◌, ◌^◌, List, [], ◌∷◌};
-ghost use Rattle.oc_record.specs.declared.fault.RecordFault.TheVariants.{Short as RecordShort, Value as RecordValue, Kind as RecordKind};
-ghost use Rattle.oc_record.specs.Examples.{first_ask, first_ask_record, old_entry, old_entry_record};
-ghost use Rattle.oc_record.specs.Reading.{decoded};
 ghost use Rattle.oc_base.specs.Codes.{AreDistinct};
 ghost use Rattle.oc_model.specs.declared.record.Record.{Record};
+ghost use Rattle.oc_record.specs.Examples.{first_ask, first_ask_record, old_entry, old_entry_record};
+ghost use Rattle.oc_record.specs.Reading.{decoded};
+ghost use Rattle.oc_record.specs.Rows.{HasLeast};
 ghost use Rattle.oc_record.specs.Spelling.{AreLawful, HaveSpellings, records_bytes};
+ghost use Rattle.oc_record.specs.declared.fault.RecordFault.TheVariants.{Short as RecordShort, Value as RecordValue, Kind as RecordKind};
 
 use crate::codes::CODES;
 use oc_base::distinct;
@@ -15,6 +17,11 @@ pub fn codes_are_distinct()
 {
     let _answer = distinct(&CODES);
 }
+
+/// Each row has the least length of the fields of its kind. It is computed.
+pub fn least_lengths_are_exact()
+    ensures { AllByRecursion HasLeast CODES }
+{}
 
 /// No two lists of lawful records have one spelling.
 pub fn no_two_lists_have_one_spelling()

@@ -23,7 +23,8 @@ pub use decoding::decode;
 pub use encoding::encode;
 pub use fault::RecordFault;
 pub use law::{
-    codes_are_distinct, examples_are_read, no_two_lists_have_one_spelling, spellings_are_read,
+    codes_are_distinct, examples_are_read, least_lengths_are_exact, no_two_lists_have_one_spelling,
+    spellings_are_read,
 };
 pub use oc_base::IdList;
 pub use oc_model::Record;

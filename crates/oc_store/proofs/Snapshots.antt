@@ -1,5 +1,5 @@
 -- The generation of a frame that begins with a snapshot.
-use Rattle.std.proofs.Common.{◌≡◌, ℕ, ◌^◌, ◌<◌, List, [], ◌∷◌, ◌++◌, length, refl, ◌∙◌, ap, arith}
+use Rattle.std.proofs.Common.{◌≡◌, ℕ, ◌^◌, ◌<◌, List, [], ◌∷◌, ◌++◌, length, Ok, refl, ◌∙◌, ap, arith}
 use Rattle.std.specs.Int.{w64, from_be_bytes}
 use Rattle.std.proofs.lemmas.Bool.{le-leb}
 use Rattle.std.proofs.lemmas.List.{take_at, length-append}
@@ -7,8 +7,11 @@ use Rattle.std.proofs.lemmas.List.Concat.{flat_map-cons}
 use Rattle.std.proofs.lemmas.Nat.{from_be_bytes-to_be_bytes_8}
 use Rattle.oc_model.specs.declared.record.Record.{Record}
 use Rattle.oc_model.specs.declared.record.Record.TheVariants.{Snapshot}
-use Rattle.oc_record.specs.Spelling.{eight, record_bytes, records_bytes}
-use Rattle.oc_store.specs.ControlFiles.{generation_in}
+use Rattle.oc_record.specs.Spelling.{eight, record_bytes, records_bytes, AreLawful}
+use Rattle.oc_record.specs.Reading.{decoded}
+use Rattle.oc_record.proofs.Standing.{IsBytes}
+use Rattle.oc_record.proofs.ListLaws.{is_spelled}
+use Rattle.oc_store.specs.ControlFiles.{generation_in, begun_generation}
 use Rattle.oc_store.specs.StoreView.{BeginsAbove}
 
 -- eight bytes behind the code
@@ -31,3 +34,15 @@ begins_above generation records frame above is = rw is (by_list records above)
     by_list [] h = absurd h
     by_list (Snapshot g ∷ rs) h = omega (arith, h.0, snapshot_first g rs h.1)
     by_list (r ∷ rs) h = absurd h
+
+-- lawful records have the generation of the snapshot that begins them
+generation_spelled : (nodes : ℕ) (records : List Record) → AreLawful nodes records → generation_in (records_bytes records) ≡ begun_generation records
+generation_spelled nodes [] lawful = refl
+generation_spelled nodes (Snapshot generation ∷ records) lawful = snapshot_first generation records lawful.0.1
+generation_spelled nodes (r ∷ records) lawful = ap generation_in (flat_map-cons record_bytes r records)
+
+-- and so has a body that is read as them
+pub generation_read : (nodes : ℕ) (body : List ℕ) (records : List Record) → IsBytes body → decoded nodes body ≡ Ok records → generation_in body ≡ begun_generation records
+generation_read nodes body records fits read =
+    let spelled = is_spelled nodes body records fits read in
+    ap generation_in spelled.1 ∙ generation_spelled nodes records spelled.0

@@ -4,6 +4,7 @@ use Rattle.std.specs.List.{flat_map}
 use Rattle.std.specs.Int.{w64, from_be_bytes}
 use Rattle.oc_journal.specs.JournalFile.{frames_of, IsNoJournal}
 use Rattle.oc_model.specs.declared.record.Record.{Record}
+use Rattle.oc_model.specs.declared.record.Record.TheVariants.{Snapshot}
 use Rattle.oc_record.specs.declared.fault.RecordFault.{RecordFault}
 use Rattle.oc_record.specs.Reading.{decoded}
 use Rattle.oc_store.specs.declared.errors.Side.{Side}
@@ -13,6 +14,12 @@ use Rattle.oc_store.specs.declared.errors.Side.TheVariants.{First, Second}
 abbrev pub generation_in : List ℕ → ℕ
 generation_in [] = 0
 generation_in (code ∷ fields) = if (code == 12) && nat_le 8 (length fields) then from_be_bytes w64 (take 8 fields) else 0
+
+-- the generation of a snapshot that begins a list of records; 0 where there is none
+abbrev pub begun_generation : List Record → ℕ
+begun_generation [] = 0
+begun_generation (Snapshot generation ∷ records) = generation
+begun_generation (first ∷ records) = 0
 
 -- the generation of a file of these frames, by its first one; none where there is no frame
 abbrev pub generation_of : List (List ℕ) → Option ℕ

@@ -1,7 +1,8 @@
-ghost use Rattle.std.specs.Prelude.{◌≡◌, ℕ, ◌^◌, ◌<◌, List, [], ◌∷◌, ◌++◌};
+ghost use Rattle.std.specs.Prelude.{◌≡◌, ℕ, ◌^◌, ◌<◌, List, [], ◌∷◌, ◌++◌, Ok, get_or};
 ghost use Rattle.oc_model.specs.declared.record.Record.{Record};
 ghost use Rattle.oc_record.specs.Spelling.{AreLawful, records_bytes};
-ghost use Rattle.oc_store.specs.ControlFiles.{records_in, records_of};
+ghost use Rattle.oc_record.specs.Reading.{decoded};
+ghost use Rattle.oc_store.specs.ControlFiles.{records_in, records_of, generation_in, begun_generation};
 
 use oc_record::spellings_are_read;
 
@@ -15,3 +16,9 @@ pub fn frames_add_their_records()
 {
     spellings_are_read();
 }
+
+/// The generation of a body of records is that of a snapshot that begins them, and 0 where none does.
+pub fn generations_are_of_snapshots()
+    ensures { (nodes : ℕ) (body : List ℕ) (list : List Record) → ((i : ℕ) → get_or body i 0 < 256)
+        → decoded nodes body ≡ Ok list → generation_in body ≡ begun_generation list }
+{}

@@ -11,7 +11,8 @@
 //!
 //! The contracts used above: the list of all records kept, over every image of both files; a commit
 //! adds its frame, and at every moment each image has it or not; at every moment of a turning over each
-//! image recovers the list before it or the snapshot's.
+//! image recovers the list before it or the snapshot's, and a refusal leaves the current side and the
+//! generation.
 #![tactic(auto)]
 
 mod errors;
@@ -22,7 +23,7 @@ mod store;
 mod turning;
 
 pub use errors::{Side, StoreError};
-pub use law::frames_add_their_records;
+pub use law::{frames_add_their_records, generations_are_of_snapshots};
 pub use oc_journal::{AppendError, Frame, RestartError};
 pub use oc_record::Record;
 pub use store::Store;

@@ -64,6 +64,10 @@ impl<D: Disk> Store<D> {
             → loaded.1.items ≡ recovered nodes (D.view first).seen (D.view second).seen) }
         ensures frames { IfOk result (λ loaded. IsTrue (D.view first).honest → IsTrue (D.view second).honest
             → loaded.0.current.frames ≡ recovered_frames (D.view first).seen (D.view second).seen) }
+        ensures side { IfOk result (λ loaded. IsTrue (D.view first).honest → IsTrue (D.view second).honest
+            → loaded.0.side ≡ current_side (frames_of (D.view first).seen) (frames_of (D.view second).seen)) }
+        ensures generation { IfOk result (λ loaded. IsTrue (D.view first).honest → IsTrue (D.view second).honest
+            → loaded.0.generation ≡ number_of (generation_of (recovered_frames (D.view first).seen (D.view second).seen))) }
         ensures kept { IfOk result (λ loaded. IsTrue (D.view first).honest → IsTrue (D.view second).honest
             → Recovers D.view loaded.0 (recovered_frames (D.view first).seen (D.view second).seen)) }
         ensures open { IfOk result (λ loaded. loaded.0.closed ≡ false) }
@@ -180,8 +184,15 @@ impl<D: Disk> Store<D> {
             → RecoversEither D.view self.old self.new self.old.current.frames (self.old.current.frames ++ frame.now ∷ []) }
         ensures other { self.new.other ≡ self.old.other }
         ensures side { self.new.side ≡ self.old.side }
+        ensures generation { OnOk result (0 < length self.old.current.frames
+            → self.new.generation ≡ self.old.generation) }
+        ensures generation_first { OnOk result (self.old.current.frames ≡ []
+            → self.new.generation ≡ generation_in frame.now) }
         ensures end { OnOk result (self.new.current.end ≡ self.old.current.end + 5 + length frame.now) }
         ensures goes_on { GoesOn (D.view self.old.current.disk) (D.view self.new.current.disk) }
+        ensures four { OnOk result (IsTrue (D.view self.old.current.disk).honest
+            → (D.view self.new.current.disk).moment ≡ (D.view self.old.current.disk).moment + 4) }
+        ensures takes { Takes (length frame.now + 6) 4 (D.view self.old.current.disk) (D.view self.new.current.disk) }
 
         // When it refuses.
         ensures closed { IsErrOf result AppendError.Closed ↔ IsTrue self.old.closed }
@@ -195,6 +206,7 @@ impl<D: Disk> Store<D> {
         ensures open { OnOk result (self.new.closed ≡ false) }
         ensures frames_err { OnErr result (IsTrue (D.view self.old.current.disk).honest
             → self.new.current.frames ≡ self.old.current.frames) }
+        ensures generation_err { OnErr result (self.new.generation ≡ self.old.generation) }
     {
         if self.closed {
             return Err(AppendError::Closed);
@@ -231,17 +243,20 @@ impl<D: Disk> Store<D> {
         ensures side { OnOk result (self.new.side ≡ opposite self.old.side) }
         ensures generation { OnOk result (self.new.generation ≡ generation_in snapshot.now) }
         ensures other { OnOk result (self.new.other ≡ self.old.current) }
+        ensures end { OnOk result (self.new.current.end ≡ 13 + length snapshot.now) }
         ensures goes_on { OnOk result (GoesOn (D.view self.old.other.disk) (D.view self.new.current.disk)) }
         ensures goes_on_err { OnErr result (GoesOn (D.view self.old.other.disk) (D.view self.new.other.disk)) }
 
         // When it refuses.
         ensures closed { IsErrOf result RestartError.Closed ↔ IsTrue self.old.closed }
-        ensures disk { IsErrOf result RestartError.Disk → IsTrue (D.view self.old.other.disk).honest
+        ensures disk { IsErrOf result RestartError.Disk
             → Rose (D.view self.old.other.disk).faults (D.view self.new.other.disk).faults }
         ensures unchanged { IsErrOf result RestartError.Closed → self.new ≡ self.old }
         ensures closes { IsErrOf result RestartError.Disk → self.new.closed ≡ true }
         ensures open { OnOk result (self.new.closed ≡ false) }
         ensures current_err { OnErr result (self.new.current ≡ self.old.current) }
+        ensures side_err { OnErr result (self.new.side ≡ self.old.side) }
+        ensures generation_err { OnErr result (self.new.generation ≡ self.old.generation) }
     {
         if self.closed {
             return Err(RestartError::Closed);

@@ -1,4 +1,4 @@
-ghost use Rattle.std.specs.Prelude.{◌≡◌, ◌⊎◌, ◌<◌, [], ◌∷◌, ◌≤◌, length, false, true, IsTrue, IsErrOf, OnOk, OnErr, IfOk};
+ghost use Rattle.std.specs.Prelude.{◌≡◌, ◌⊎◌, ◌+◌, ◌<◌, [], ◌∷◌, ◌≤◌, length, false, true, IsTrue, IsErrOf, OnOk, OnErr, IfOk};
 ghost use Rattle.oc_outside.specs.DiskView.{GoesOn, LeavesOnly};
 ghost use Rattle.oc_outside.specs.Faults.{Rose};
 ghost use Rattle.oc_journal.specs.JournalView.{HasFrames};
@@ -48,11 +48,11 @@ pub fn put_in_place<D: Disk>(journal: &mut Journal<D>, frame: &Frame) -> Result<
     ensures kept { OnOk result (IsTrue (D.view journal.old.disk).honest
         → HasFrames (D.view journal.new.disk) journal.new.frames) }
     ensures open { OnOk result (journal.new.closed ≡ false) }
+    ensures end { OnOk result (journal.new.end ≡ 13 + length frame.now) }
     ensures any_moment { IsTrue (D.view journal.old.disk).honest
         → LeavesOnly (D.view journal.old.disk) (D.view journal.new.disk) (IsReplaced journal.old.frames frame.now) }
     ensures goes_on { GoesOn (D.view journal.old.disk) (D.view journal.new.disk) }
-    ensures cause { OnErr result (IsTrue (D.view journal.old.disk).honest
-        → Rose (D.view journal.old.disk).faults (D.view journal.new.disk).faults) }
+    ensures cause { OnErr result (Rose (D.view journal.old.disk).faults (D.view journal.new.disk).faults) }
 {
     let Ok(()) = journal.restart() else {
         return Err(Failed);
@@ -61,9 +61,8 @@ pub fn put_in_place<D: Disk>(journal: &mut Journal<D>, frame: &Frame) -> Result<
     prove!(len <= LONGEST);
     match journal.append(frame) {
         Ok(()) => Ok(()),
-        // It is open, and on an honest disk a frame fits a journal without frames.
-        Err(AppendError::Closed) => Err(Failed),
-        Err(AppendError::Full) => Err(Failed),
         Err(AppendError::Disk) => Err(Failed),
+        // It is open, and a frame fits a journal without frames.
+        Err(AppendError::Closed | AppendError::Full) => unreachable!(),
     }
 }

@@ -2,7 +2,15 @@
 #![tactic(auto)]
 
 #[cfg(test)]
+mod dues;
+#[cfg(test)]
+mod generations;
+#[cfg(test)]
 mod records;
+#[cfg(test)]
+mod refusals;
+#[cfg(test)]
+mod stops;
 #[cfg(test)]
 mod stores;
 #[cfg(test)]

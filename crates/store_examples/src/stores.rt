@@ -1,33 +1,15 @@
 ghost use Rattle.std.specs.Prelude.{◌≤◌};
 
-use crate::tools::{bytes_of, disk_with};
+use crate::tools::{bytes_of, disk_with, file_of, opened};
 use oc_base::NodeId;
 use oc_outside::MemDisk;
-use oc_record::{Record, encode};
+use oc_record::Record;
 use oc_store::Store;
 use std::alloc::Global;
 use std::test::Fail;
 
 // The bytes that a crash leaves where a write was not synced.
 const IMAGES: [u8; 3] = [0, 1, 7];
-
-/// The store of two files of two nodes, and its records.
-fn opened(
-    alloc: Global,
-    first: MemDisk,
-    second: MemDisk,
-) -> Result<(Store<MemDisk>, Vec<Record>), Fail> {
-    match Store::load(alloc, first, second, 2) {
-        Ok(loaded) => Ok(loaded),
-        Err((_first, _second, error)) => Err(Fail::new(format_args!("{error:?}"))),
-    }
-}
-
-/// A control file with a snapshot of this generation.
-fn file_of(alloc: Global, generation: u64) -> Result<MemDisk, Fail> {
-    let body = encode(alloc, &[Record::Snapshot { generation }])?;
-    disk_with(alloc, &[&body])
-}
 
 #[test]
 fn control_file_of_bytes_on_disk_and_wire(rt: HostRuntime) -> Result<(), Fail> {

@@ -1,7 +1,9 @@
-ghost use Rattle.std.specs.Prelude.{◌≡◌, false, IfOk};
+ghost use Rattle.std.specs.Prelude.{◌≡◌, [], false, IfOk};
 
 use oc_journal::{Frame, Journal};
 use oc_outside::{Disk, MemDisk};
+use oc_record::{Record, encode};
+use oc_store::Store;
 use std::alloc::Global;
 use std::test::Fail;
 
@@ -42,4 +44,34 @@ pub fn append(alloc: Global, journal: &mut Journal<MemDisk>, body: &[u8]) -> Res
     let frame = Frame::new(alloc, body)?;
     journal.reserve(&frame)?;
     Ok(journal.append(&frame)?)
+}
+
+/// A control file with a snapshot of this generation.
+pub fn file_of(alloc: Global, generation: u64) -> Result<MemDisk, Fail>
+    ensures { IfOk result (λ disk. disk.failing.listed ≡ []) }
+{
+    let body = encode(alloc, &[Record::Snapshot { generation }])?;
+    Ok(disk_with(alloc, &[&body])?.crash())
+}
+
+/// The store of two files of two nodes, and its records.
+pub fn opened(
+    alloc: Global,
+    first: MemDisk,
+    second: MemDisk,
+) -> Result<(Store<MemDisk>, Vec<Record>), Fail>
+    ensures open { IfOk result (λ loaded. loaded.0.closed ≡ false) }
+    ensures listed { IfOk result (λ loaded. first.failing.listed ≡ [] → second.failing.listed ≡ []
+        → loaded.0.current.disk.failing.listed ≡ []) }
+{
+    match Store::load(alloc, first, second, 2) {
+        Ok(loaded) => Ok(loaded),
+        Err((_first, _second, error)) => Err(Fail::new(format_args!("{error:?}"))),
+    }
+}
+
+/// What two files recover.
+pub fn shown(alloc: Global, first: MemDisk, second: MemDisk) -> Result<String, Fail> {
+    let (_store, list) = opened(alloc, first, second)?;
+    Ok(format!(in alloc; "{list:?}")?)
 }

@@ -1,4 +1,4 @@
-use Rattle.std.proofs.Common.{sym, arith}
+use Rattle.std.proofs.Common.{arith}
 use Rattle.std.proofs.lemmas.Result.{err_from_is_err_and}
 use Rattle.oc_record.proofs.Runs.{goes_on, ends, is_done}
 use Rattle.oc_record.proofs.decoding.records_of.Goals as goal

@@ -1,6 +1,7 @@
 -- What the frames of a content file mean.
 use Rattle.std.specs.Prelude.{◌≡◌, ◌≢◌, ℕ, suc, ◌+◌, ◌<◌, Bool, ◌&&◌, ◌||◌, not, ◌==◌, nat_lt, nat_le, if◌then◌else◌, Option, Some, None, IsSome, unwrap_or, option_map, List, [], length, take, fold, ◌++◌}
 use Rattle.oc_base.specs.declared.shelf.Shelf.{Shelf}
+use Rattle.oc_journal.specs.JournalFile.{frames_of, IsNoJournal}
 use Rattle.oc_journal.specs.Stopped.{is_kept_new}
 use Rattle.oc_content.specs.Groups.{Group, group_of, line_of, group_or_empty, with_group, shelf, bytes_of}
 use Rattle.oc_content.specs.Entries.{Entry, entry_of}
@@ -46,6 +47,10 @@ pub record IsFirstBad (bodies : List (List ℕ)) (i : ℕ) : Type 0 where
   pub within : i < length bodies
   pub before : IsSome (content_of (take i bodies))
   pub bad : content_of (take (suc i) bodies) ≡ None
+
+-- a content file whose first bad frame is this one
+abbrev pub IsBadAt : List ℕ → ℕ → Type 0
+IsBadAt file i = (¬ IsNoJournal file) × IsFirstBad (frames_of file) i
 
 -- the groups of frames that are all good
 abbrev pub groups_in : List (List ℕ) → List Group

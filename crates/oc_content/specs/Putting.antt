@@ -4,6 +4,7 @@ use Rattle.oc_base.specs.declared.shelf.Shelf.{Shelf}
 use Rattle.oc_content.specs.declared.errors.PutError.{PutError}
 use Rattle.oc_content.specs.declared.errors.PutError.TheVariants.{Gap, Sealed, TooManyGroups, TooLong}
 use Rattle.oc_content.specs.declared.putting.Standing.{Standing}
+use Rattle.oc_content.specs.Groups.{line_of}
 use Rattle.oc_content.specs.ContentFile.{most_groups, most_bytes}
 use Rattle.oc_content.specs.Entries.{Entry}
 
@@ -11,6 +12,10 @@ use Rattle.oc_content.specs.Entries.{Entry}
 abbrev pub standing : Option Shelf → ℕ → Standing
 standing None groups = record { held = 0; sealed = false; one_too_many = nat_le most_groups groups }
 standing (Some line) groups = record { held = line.held; sealed = line.sealed; one_too_many = false }
+
+-- how the group of this name stands among these lines
+abbrev pub standing_in : List Shelf → List ℕ → Standing
+standing_in shelves group = standing (line_of group shelves) (length shelves)
 
 -- the first that refuses so many bytes from a place on
 abbrev pub fault_of : Standing → ℕ → ℕ → Option PutError

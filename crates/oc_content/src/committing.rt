@@ -33,6 +33,7 @@ pub fn append<D: Disk>(
         → journal.new.frames ≡ journal.old.frames ++ piece.body ∷ []) }
     ensures kept { OnOk result (IsTrue (D.view journal.old.disk).honest
         → HasFrames (D.view journal.new.disk) journal.new.frames) }
+    ensures end { OnOk result (journal.new.end ≡ journal.old.end + 5 + length piece.body) }
     ensures four { OnOk result (IsTrue (D.view journal.old.disk).honest
         → (D.view journal.new.disk).moment ≡ (D.view journal.old.disk).moment + 4) }
     ensures open { OnOk result ((journal.old.closed ≡ false) × (journal.new.closed ≡ false)) }

@@ -6,10 +6,10 @@ ghost use Rattle.oc_base.specs.Names.{IsGroupName};
 ghost use Rattle.oc_journal.specs.JournalFile.{header, frames_of, IsNoJournal, IsBeforeOrAfter};
 ghost use Rattle.oc_journal.specs.JournalView.{OnlyReads, HasFrames, IsLikeAnImage};
 ghost use Rattle.oc_journal.specs.Stopped.{frames_after};
-ghost use Rattle.oc_content.specs.Groups.{Group, line_of, held_of, group_of, IsHeldAt, IsAscending};
+ghost use Rattle.oc_content.specs.Groups.{Group, held_of, group_of, IsHeldAt, IsAscending};
 ghost use Rattle.oc_content.specs.Entries.{entry_of, written};
-ghost use Rattle.oc_content.specs.ContentFile.{most_groups, most_bytes, IsFirstBad, IsShelved, groups_in, bytes_in, content_of, with_entry, groups_after, IsSameElsewhere};
-ghost use Rattle.oc_content.specs.Putting.{standing, fault_of, put_entry};
+ghost use Rattle.oc_content.specs.ContentFile.{most_groups, most_bytes, IsFirstBad, IsBadAt, IsShelved, groups_in, bytes_in, content_of, with_entry, groups_after, IsSameElsewhere};
+ghost use Rattle.oc_content.specs.Putting.{standing_in, fault_of, put_entry};
 ghost use Rattle.oc_content.specs.ContentView.{adds, IsOpened, IsPrepared, PutsNothing};
 ghost use Rattle.oc_content.specs.Founds.{IsSpot};
 
@@ -47,7 +47,8 @@ impl<D: Disk> Model for Content<D> {
 }
 
 impl<D: Disk> Content<D> {
-    /// Loads the content of a disk. On a refusal the disk comes back.
+    /// Loads the content of a disk. A file of at most 9 bytes is new, and its header is written. On
+    /// a refusal the disk comes back.
     pub fn load(alloc: Global, disk: D) -> Result<Content<D>, (D, ContentError)>
         // The frames are those of what a read gave, all of them are good, and every crash now
         // leaves them.
@@ -72,7 +73,7 @@ impl<D: Disk> Content<D> {
         // When it refuses.
         ensures journal { OnOk result (IsTrue (D.view disk).honest → ¬ IsNoJournal (D.view disk).seen) }
         ensures bad { IfErr result (λ refused. (i : ℕ) → refused.1 ≡ ContentError.BadFrame i
-            → IsTrue (D.view disk).honest → IsFirstBad (frames_of (D.view disk).seen) i) }
+            → IsTrue (D.view disk).honest → IsBadAt (D.view disk).seen i) }
         ensures not_journal { IfErr result (λ refused. refused.1 ≡ ContentError.NotJournal
             → IsTrue (D.view disk).honest → IsNoJournal (D.view disk).seen) }
         ensures disk { IfErr result (λ refused. refused.1 ≡ ContentError.Disk
@@ -135,8 +136,7 @@ impl<D: Disk> Content<D> {
 
         // What the piece says, and that it can be committed.
         ensures entry { IfOk result (λ piece. piece.entry
-            ≡ put_entry (standing (line_of group.now self.old.shelves) (length self.old.shelves))
-            group.now start bytes.now last) }
+            ≡ put_entry (standing_in self.old.shelves group.now) group.now start bytes.now last) }
         ensures body { IfOk result (λ piece. piece.body ≡ written piece.entry) }
         ensures prepared { IfOk result (λ piece. IsPrepared self.new piece) }
         ensures room { IfOk result (λ piece.
@@ -146,11 +146,9 @@ impl<D: Disk> Content<D> {
 
         // When it refuses.
         ensures fault { IfErr result (λ error. error ≢ PutError.Memory
-            → fault_of (standing (line_of group.now self.old.shelves) (length self.old.shelves))
-            start (length bytes.now) ≡ Some error) }
+            → fault_of (standing_in self.old.shelves group.now) start (length bytes.now) ≡ Some error) }
         ensures none { OnOk result
-            (fault_of (standing (line_of group.now self.old.shelves) (length self.old.shelves))
-            start (length bytes.now) ≡ None) }
+            (fault_of (standing_in self.old.shelves group.now) start (length bytes.now) ≡ None) }
         ensures same { PutsNothing D.view self.old self.new }
     {
         ready(
@@ -165,7 +163,7 @@ impl<D: Disk> Content<D> {
     }
 
     /// Appends what was prepared, and answers how many bytes of the group are held. It takes no
-    /// memory.
+    /// memory. After `Disk` each further commit answers `Closed`.
     pub fn commit(&mut self, piece: Piece) -> Result<u64, AppendError>
         requires prepared { IsPrepared self.old piece }
         requires adds { IsTrue (adds piece) }
@@ -183,6 +181,7 @@ impl<D: Disk> Content<D> {
             → self.new.journal.frames ≡ self.old.journal.frames ++ piece.body ∷ []) }
         ensures kept { OnOk result (IsTrue (D.view self.old.journal.disk).honest
             → HasFrames (D.view self.new.journal.disk) self.new.journal.frames) }
+        ensures end { OnOk result (self.new.journal.end ≡ self.old.journal.end + 5 + length piece.body) }
         ensures four { OnOk result (IsTrue (D.view self.old.journal.disk).honest
             → (D.view self.new.journal.disk).moment ≡ (D.view self.old.journal.disk).moment + 4) }
         ensures open { OnOk result ((self.old.journal.closed ≡ false) × (self.new.journal.closed ≡ false)) }

@@ -17,8 +17,9 @@ pub enum ContentError {
     Disk,
     /// The file is no journal.
     NotJournal,
-    /// The frame of this number is the first that is no content body, that does not begin where its
-    /// group ends, that would be a 65th group or pass 2^30 bytes, or whose group is sealed.
+    /// The frame of this number, counted from 0, is the first that is no content body, that does not
+    /// begin where its group ends or adds nothing to it, that would be a 65th group or pass 2^30
+    /// bytes, or whose group is sealed.
     BadFrame(u64),
     /// Memory ran out.
     Memory,
@@ -27,7 +28,7 @@ pub enum ContentError {
 /// Why bytes were not put, in the order in which it is tested.
 #[derive(Clone, Copy, Debug, PartialEq, Eq)]
 pub enum PutError {
-    /// They begin past the bytes that are held.
+    /// They begin past the bytes that are held, of which there are so many.
     Gap { held: u64 },
     /// The group is sealed and they end past its end.
     Sealed,

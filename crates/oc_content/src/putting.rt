@@ -2,12 +2,11 @@
 
 ghost use Rattle.std.specs.Prelude.{◌≡◌, ◌≢◌, ◌+◌, ◌-◌, ◌^◌, ◌<◌, ◌≤◌, ℕ, None, Some, List, IfOk, IfErr, OnOk, length, drop, vec_capacity, not, nat_le, ◌&&◌};
 ghost use Rattle.oc_base.specs.Names.{IsGroupName};
-ghost use Rattle.oc_content.specs.Groups.{line_of};
 ghost use Rattle.oc_content.specs.Entries.{written, heading};
 ghost use Rattle.oc_content.specs.ContentFile.{most_bytes};
 ghost use Rattle.oc_content.specs.Places.{IsPlace, IsThere};
 ghost use Rattle.oc_content.specs.Indexes.{IsSized, HasRoom, KeepsTracks, rooms};
-ghost use Rattle.oc_content.specs.Putting.{standing, fault_of, put_entry};
+ghost use Rattle.oc_content.specs.Putting.{standing, standing_in, fault_of, put_entry};
 ghost use Rattle.oc_content.specs.ContentView.{IsIndexed, IsReady};
 ghost use Rattle.oc_journal.specs.JournalView.{OnlyReads};
 
@@ -36,8 +35,7 @@ pub fn ready<D: Disk>(
     requires few { length bytes.now ≤ 1000000 }
     ensures indexed { IsIndexed D.view journal.new index.new }
     ensures entry { IfOk result (λ piece. piece.entry
-        ≡ put_entry (standing (line_of group.now index.old.shelves.items) (length index.old.shelves.items))
-        group.now start bytes.now last) }
+        ≡ put_entry (standing_in index.old.shelves.items group.now) group.now start bytes.now last) }
     ensures body { IfOk result (λ piece. piece.body ≡ written piece.entry) }
     ensures ready { IfOk result (λ piece.
         IsReady index.new.shelves.items (rooms index.new.tracks.items) journal.new.spare piece) }
@@ -45,22 +43,20 @@ pub fn ready<D: Disk>(
     ensures calls { OnOk result (16 ≤ (D.view journal.new.disk).calls) }
     ensures within { OnOk result (journal.new.end < (D.view journal.new.disk).size) }
     ensures fault { IfErr result (λ error. error ≢ PutError.Memory
-        → fault_of (standing (line_of group.now index.old.shelves.items) (length index.old.shelves.items))
-        start (length bytes.now) ≡ Some error) }
+        → fault_of (standing_in index.old.shelves.items group.now) start (length bytes.now) ≡ Some error) }
     ensures none { OnOk result
-        (fault_of (standing (line_of group.now index.old.shelves.items) (length index.old.shelves.items))
-        start (length bytes.now) ≡ None) }
+        (fault_of (standing_in index.old.shelves.items group.now) start (length bytes.now) ≡ None) }
     ensures same { OnlyReads D.view journal.old journal.new }
     ensures lines { index.new.shelves ≡ index.old.shelves }
     ensures tracks { KeepsTracks index.old.tracks.items index.new.tracks.items }
 {
-    let piece = put(alloc, index, group, start, bytes, last)?;
+    let piece = piece_for(alloc, index, group, start, bytes, last)?;
     journal.reserve(piece.frame())?;
     Ok(piece)
 }
 
-/// Makes bytes from a place on ready for a group, with the memory of the index for them.
-fn put(
+/// The piece of bytes from a place on for a group, with the memory of the index for it.
+fn piece_for(
     alloc: Global,
     index: &mut Index,
     group: &GroupName,
@@ -72,14 +68,11 @@ fn put(
     requires name { IsGroupName group.now }
     requires few { length bytes.now ≤ 1000000 }
     ensures fault { IfErr result (λ error. error ≢ PutError.Memory
-        → fault_of (standing (line_of group.now index.old.shelves.items) (length index.old.shelves.items))
-        start (length bytes.now) ≡ Some error) }
+        → fault_of (standing_in index.old.shelves.items group.now) start (length bytes.now) ≡ Some error) }
     ensures none { OnOk result
-        (fault_of (standing (line_of group.now index.old.shelves.items) (length index.old.shelves.items))
-        start (length bytes.now) ≡ None) }
+        (fault_of (standing_in index.old.shelves.items group.now) start (length bytes.now) ≡ None) }
     ensures entry { IfOk result (λ piece. piece.entry
-        ≡ put_entry (standing (line_of group.now index.old.shelves.items) (length index.old.shelves.items))
-        group.now start bytes.now last) }
+        ≡ put_entry (standing_in index.old.shelves.items group.now) group.now start bytes.now last) }
     ensures body { IfOk result (λ piece. piece.body ≡ written piece.entry) }
     ensures place { IfOk result (λ piece. IsPlace index.old.shelves.items group.now piece.place) }
     ensures room { IfOk result (λ piece. HasRoom (rooms index.new.tracks.items) piece.room piece.place) }
@@ -130,7 +123,7 @@ pub struct Standing {
 pub fn standing_at(shelves: &[Shelf], place: Place) -> Standing
     requires { IsThere place (length shelves.now) }
     ensures { (name : List ℕ) → IsPlace shelves.now name place
-        → result ≡ standing (line_of name shelves.now) (length shelves.now) }
+        → result ≡ standing_in shelves.now name }
 {
     match place {
         Place::Found(at) => standing_of(&shelves[at]),

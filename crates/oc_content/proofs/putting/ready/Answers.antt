@@ -7,13 +7,13 @@ use Rattle.oc_content.proofs.Puts.{ready_put}
 use Rattle.oc_content.proofs.Journals.{OnlyReads-none}
 use Rattle.oc_content.proofs.putting.ready.Goals as goal
 
-pub put-requires-clause-sized : goal.put-requires-clause-sized
-put-requires-clause-sized g c = IsIndexed-sized g.D.Disk.view c.args.journal.now c.args.index.now c.requires.indexed
+pub piece_for-requires-clause-sized : goal.piece_for-requires-clause-sized
+piece_for-requires-clause-sized g c = IsIndexed-sized g.D.Disk.view c.args.journal.now c.args.index.now c.requires.indexed
 
 pub returns-in_err-piece-clause-indexed : goal.returns-in_err-piece-clause-indexed
 returns-in_err-piece-clause-indexed g c =
     let j = c.args.journal.now in
-    IsIndexed-kept g.D.Disk.view j j c.args.index.now c.put.new.index c.requires.indexed refl (λ _. refl) c.put.ensures.lines c.put.ensures.tracks c.put.ensures.memory
+    IsIndexed-kept g.D.Disk.view j j c.args.index.now c.piece_for.new.index c.requires.indexed refl (λ _. refl) c.piece_for.ensures.lines c.piece_for.ensures.tracks c.piece_for.ensures.memory
 
 pub returns-in_err-piece-clause-same : goal.returns-in_err-piece-clause-same
 returns-in_err-piece-clause-same g c = OnlyReads-none g.D.Disk.view c.args.journal.now
@@ -21,18 +21,18 @@ returns-in_err-piece-clause-same g c = OnlyReads-none g.D.Disk.view c.args.journ
 pub returns-in_err-reserve-clause-indexed : goal.returns-in_err-reserve-clause-indexed
 returns-in_err-reserve-clause-indexed g c =
     let same = c.reserve.ensures.same in
-    IsIndexed-kept g.D.Disk.view c.args.journal.now c.reserve.new.self c.args.index.now c.put.new.index c.requires.indexed same.disk.goes_on.honest same.frames c.put.ensures.lines c.put.ensures.tracks c.put.ensures.memory
+    IsIndexed-kept g.D.Disk.view c.args.journal.now c.reserve.new.self c.args.index.now c.piece_for.new.index c.requires.indexed same.disk.goes_on.honest same.frames c.piece_for.ensures.lines c.piece_for.ensures.tracks c.piece_for.ensures.memory
 
 pub returns-clause-indexed : goal.returns-clause-indexed
 returns-clause-indexed g c =
     let same = c.reserve.ensures.same in
-    IsIndexed-kept g.D.Disk.view c.args.journal.now c.reserve.new.self c.args.index.now c.put.new.index c.requires.indexed same.disk.goes_on.honest same.frames c.put.ensures.lines c.put.ensures.tracks c.put.ensures.memory
+    IsIndexed-kept g.D.Disk.view c.args.journal.now c.reserve.new.self c.args.index.now c.piece_for.new.index c.requires.indexed same.disk.goes_on.honest same.frames c.piece_for.ensures.lines c.piece_for.ensures.tracks c.piece_for.ensures.memory
 
 pub returns-clause-ready : goal.returns-clause-ready
 returns-clause-ready g c =
     let x = c.args.index.now in
-    let y = c.put.new.index in
+    let y = c.piece_for.new.index in
     let sized = IsIndexed-sized g.D.Disk.view c.args.journal.now x c.requires.indexed in
     let e = c.in_ok-piece.ensures in
-    subst (λ (ss : List Shelf). IsReady ss (rooms y.tracks.items) c.reserve.new.self.spare c.in_ok-piece.piece) (sym (ap (λ v. v.items) c.put.ensures.lines))
+    subst (λ (ss : List Shelf). IsReady ss (rooms y.tracks.items) c.reserve.new.self.spare c.in_ok-piece.piece) (sym (ap (λ v. v.items) c.piece_for.ensures.lines))
     (ready_put x.shelves.items (rooms y.tracks.items) c.reserve.new.self.spare c.in_ok-piece.piece c.args.group.now c.args.start c.args.bytes.now c.args.last sized.short e.place e.none e.entry e.room c.in_ok-reserve.ensures.spare)

@@ -6,7 +6,7 @@ use Rattle.oc_outside.proofs.DiskMoments.{still_honest, GoesOn-then}
 use Rattle.oc_journal.specs.JournalFile.{header, frames_of, IsNoJournal}
 use Rattle.oc_journal.specs.JournalView.{HasFrames, IsLikeAnImage}
 use Rattle.oc_content.specs.declared.errors.ContentError.TheVariants as errors
-use Rattle.oc_content.specs.ContentFile.{IsShelved, IsFirstBad}
+use Rattle.oc_content.specs.ContentFile.{IsShelved, IsFirstBad, IsBadAt}
 use Rattle.oc_content.specs.ContentView.{IsOpened}
 use Rattle.oc_content.proofs.Views.{LeavesOnly-read, Rose-later}
 use Rattle.oc_content.proofs.content.Content.load.Goals as goal
@@ -84,8 +84,8 @@ returns-in-Ok-clause-bad g c =
     let view = g.D.Disk.view in
     let u = view c.args.disk in
     let j = c.in-Ok.journal in
-    IfErr-weaker c.indexed.result (λ refused. (i : ℕ) → refused.1 ≡ errors.BadFrame i → IsTrue (view j.disk).honest → IsFirstBad j.frames i) (λ refused. (i : ℕ) → refused.1 ≡ errors.BadFrame i → IsTrue u.honest → IsFirstBad (frames_of u.seen) i)
-    (λ refused bad i is honest. subst (λ (fs : List (List ℕ)). IsFirstBad fs i) (c.in-Ok.ensures.frames honest) (bad i is (still_honest u (view j.disk) c.in-Ok.ensures.goes_on honest))) c.indexed.ensures.bad
+    IfErr-weaker c.indexed.result (λ refused. (i : ℕ) → refused.1 ≡ errors.BadFrame i → IsTrue (view j.disk).honest → IsFirstBad j.frames i) (λ refused. (i : ℕ) → refused.1 ≡ errors.BadFrame i → IsTrue u.honest → IsBadAt u.seen i)
+    (λ refused bad i is honest. (c.in-Ok.ensures.journal honest, subst (λ (fs : List (List ℕ)). IsFirstBad fs i) (c.in-Ok.ensures.frames honest) (bad i is (still_honest u (view j.disk) c.in-Ok.ensures.goes_on honest)))) c.indexed.ensures.bad
 
 pub returns-in-Ok-clause-not_journal : goal.returns-in-Ok-clause-not_journal
 returns-in-Ok-clause-not_journal g c =

@@ -100,11 +100,13 @@ impl Table {
     }
 
     /// The row of each node, in the order of their numbers.
+    #[tactic(auto, using(crate::proofs::Entries::fewer_entries))]
     pub fn rows(&self) -> &[Option<Cert>]
         ensures rows { AreRows result.now }
         ensures entries { entries_of result.now ≡ self.now.entries }
         ensures nodes { length result.now ≡ self.now.nodes }
         ensures most { self.now.nodes ≤ 1024 }
+        ensures fewer { length self.now.entries ≤ self.now.nodes }
     {
         &self.rows
     }

@@ -1,9 +1,9 @@
 -- The child that is found is the least whose lease has ended.
-use Rattle.std.proofs.Common.{◌≡◌, ℕ, ◌+◌, ◌<◌, ◌≤◌, Bool, true, false, ◌&&◌, ◌==◌, nat_lt, nat_le, Option, Some, None, List, [], ◌∷◌, length, ◌⊎◌, inl, inr, refl, ap, sym, subst, ◌∙◌, arith, eq-eqb, ne_eqb, true≢false}
-use Rattle.std.proofs.lemmas.Bool.{ltb-true, ltb-false, lt-ltb, le-ltb, leb-true, le-leb, cases_eq, cases_lt}
+use Rattle.std.proofs.Common.{◌≡◌, ℕ, ◌+◌, ◌<◌, ◌≤◌, Bool, true, false, ◌==◌, nat_lt, Option, Some, None, List, [], ◌∷◌, length, ◌⊎◌, inl, inr, refl, ap, sym, subst, ◌∙◌, arith, eq-eqb, ne_eqb, true≢false}
+use Rattle.std.proofs.lemmas.Bool.{ltb-true, ltb-false, leb-true, le-leb, cases_lt}
 use Rattle.oc_base.specs.declared.cert.Cert.{Cert}
 use Rattle.oc_model.specs.Numbers.{at}
-use Rattle.oc_model.specs.Table.{newest, is_lease_of, lease_number, leased_by, HasLease}
+use Rattle.oc_model.specs.Table.{is_lease_of, lease_number, leased_by, HasLease}
 use Rattle.oc_model.specs.Leases.{is_over}
 use Rattle.oc_cert.specs.TableView.{AreRowsFrom, AreRows, entries_of}
 use Rattle.oc_cert.proofs.Entries.{newest_before}

@@ -2,3 +2,4 @@ pub mod Counts
 pub mod Filling
 pub mod Ends
 pub mod Least
+pub mod Lengths

@@ -87,11 +87,14 @@ impl ChangeLog {
     }
 
     /// Puts a certificate at the end. There is room for it. Takes no memory.
+    #[tactic(auto, using(crate::proofs::Lengths::length_of_noted))]
     pub fn note(&mut self, cert: &Cert)
         requires subject { IsNode self.old.nodes cert.now.subject }
         requires room { length self.old.log.waiting < self.old.room }
         requires most { self.old.log.length < 2 ^ 63 - 1 }
         ensures log { self.new.log ≡ note self.old.log cert.now }
+        ensures waiting { length self.new.log.waiting ≡ length self.old.log.waiting + 1 }
+        ensures length { self.new.log.length ≡ self.old.log.length + 1 }
         ensures room { self.new.room ≡ self.old.room }
         ensures nodes { self.new.nodes ≡ self.old.nodes }
     {
@@ -108,6 +111,7 @@ impl ChangeLog {
     /// How many there ever were since it was empty.
     pub fn length(&self) -> u64
         ensures length { result ≡ self.now.log.length }
+        ensures parts { result ≡ self.now.log.acked + length self.now.log.waiting }
         ensures below { self.now.log.length < 2 ^ 63 }
     {
         self.acked + self.waiting.len() as u64
@@ -125,6 +129,7 @@ impl ChangeLog {
     /// place behind them. Where memory is wanted the vector has what it had.
     pub fn take(&self, limit: usize, into: &mut Vec<Cert>) -> Result<u64, Memory>
         ensures place { IfOk result (λ place. place ≡ self.now.log.acked + length (take limit self.now.log.waiting)) }
+        ensures within { IfOk result (λ place. place ≤ self.now.log.length) }
         ensures certs { OnOk result (into.new.items ≡ into.old.items ++ take limit self.now.log.waiting) }
         ensures err { OnErr result (into.new.items ≡ into.old.items) }
     {
@@ -136,11 +141,13 @@ impl ChangeLog {
 
     /// Acknowledges up to a place, and gives up what is acknowledged. It changes nothing where the place
     /// passes the end, or is acknowledged already. Takes no memory.
+    #[tactic(auto, using(crate::proofs::Lengths::length_of_acknowledged))]
     pub fn ack(&mut self, upto: u64)
         ensures log { self.new.log ≡ ack self.old.log upto }
         ensures within { upto ≤ self.old.log.length → self.new.log.acked ≡ max self.old.log.acked upto }
         ensures past { self.old.log.length < upto → self.new.log ≡ self.old.log }
         ensures length { self.new.log.length ≡ self.old.log.length }
+        ensures waiting { length self.new.log.waiting ≤ length self.old.log.waiting }
         ensures room { self.new.room ≡ self.old.room }
         ensures nodes { self.new.nodes ≡ self.old.nodes }
     {

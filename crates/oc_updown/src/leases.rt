@@ -31,7 +31,8 @@ impl Model for Leases {
 impl Leases {
     /// No end is set.
     pub fn new(alloc: Global, nodes: u32) -> Result<Leases, Memory>
-        ensures { IfOk result (λ leases. leases ≡ replicate nodes None) }
+        ensures unset { IfOk result (λ leases. leases ≡ replicate nodes None) }
+        ensures length { IfOk result (λ leases. length leases ≡ nodes) }
     {
         Ok(Leases {
             ends: vec![in alloc; None; nodes as usize]?,
@@ -39,19 +40,23 @@ impl Leases {
     }
 
     /// The lease of a child begins anew, and ends a lease's time from now. Takes no memory.
+    #[tactic(auto, using(crate::proofs::Lengths::length_of_renewed))]
     pub fn renew(&mut self, child: NodeId, now: u64)
         requires child { IsNode (length self.old) child }
         requires now { now ≤ 2 ^ 41 }
-        ensures { self.new ≡ renew self.old child now }
+        ensures ends { self.new ≡ renew self.old child now }
+        ensures length { length self.new ≡ length self.old }
     {
         renew(&mut self.ends, child, now);
     }
 
     /// Each leased child of this node without an end gets one, a lease's time from now.
+    #[tactic(auto, using(crate::proofs::Lengths::length_of_started))]
     pub fn start_all(&mut self, table: &Table, me: NodeId, now: u64)
         requires nodes { table.now.nodes ≤ length self.old }
         requires now { now ≤ 2 ^ 41 }
-        ensures { self.new ≡ start_all table.now.entries me self.old now }
+        ensures ends { self.new ≡ start_all table.now.entries me self.old now }
+        ensures length { length self.new ≡ length self.old }
     {
         start_rows(table.rows(), me, &mut self.ends, now);
     }

@@ -7,7 +7,7 @@ use Rattle.oc_replay.specs.declared.end.ReplayEnd.{ReplayEnd}
 use Rattle.oc_replay.specs.declared.end.ReplayEnd.TheVariants.{Done, Text, Limit, Source, Sink, Memory}
 use Rattle.oc_schedule.specs.Script.{Script}
 use Rattle.oc_schedule.specs.declared.fault.ScheduleFault.TheVariants as faults
-use Rattle.oc_program.specs.Run.{Outside, HappenedAtReplay, IsSound}
+use Rattle.oc_program.specs.Run.{Outside, HappenedAtReplay, HeadlineHolds}
 
 -- both of two facts at Source
 pub both_on_source : (A B : Type 0) (end : ReplayEnd) → OnSource end A → OnSource end B → OnSource end (A × B)
@@ -21,26 +21,27 @@ both_on_source A B Memory a b = tt
 -- at Sink, each front that was cut off was cut off by a fault
 pub cut_on_sink : (says : Script → Type 0) (report : Script → List ℕ) (fails : List ℕ → Type 0) (stage : Script → Type 0) (cause : Type 0) (end : ReplayEnd)
     → OnSink end ((s : Script) × says s × SomeFront (report s) fails × stage s) → OnSink end cause
-    → OnSink end ((s : Script) × says s × SomeFront (report s) (λ text. fails text × cause))
+    → OnSink end ((s : Script) × says s × SomeFront (report s) (λ text. fails text × cause) × stage s)
 cut_on_sink says report fails stage cause Done a b = tt
 cut_on_sink says report fails stage cause (Text line why) a b = tt
 cut_on_sink says report fails stage cause (Limit what) a b = tt
 cut_on_sink says report fails stage cause Source a b = tt
-cut_on_sink says report fails stage cause Sink a b = let (s, said, front, at) = a in (s, said, (front.0, (front.1, b)))
+cut_on_sink says report fails stage cause Sink a b = let (s, said, front, at) = a in (s, said, (front.0, (front.1, b)), at)
 cut_on_sink says report fails stage cause Memory a b = tt
 
-pub happened_at : (o : Outside) (end : ReplayEnd) → ((s : Script) → IsSound s)
-    → OnDone end ((s : Script) × o.input_says (Ok s) × o.written (o.report s) × o.played s)
+pub happened_at : (o : Outside) (end : ReplayEnd) → ((s : Script) → HeadlineHolds s)
+    → OnDone end ((s : Script) × o.input_says (Ok s) × o.written (o.report s) × o.played s s.events)
     → IfText end (λ line why. o.input_says (Err (faults.Line line why)))
     → IfLimit end (λ what. o.input_passes what)
     → OnSource end o.input_failed
     → OnRefusal end (o.written [])
-    → OnSink end ((s : Script) × o.input_says (Ok s) × SomeFront (o.report s) o.cut_off)
-    → OnMemory end (o.written [] ⊎ ((s : Script) × o.input_says (Ok s) × SomeFront (o.report s) o.written))
+    → OnRefusal end o.unplayed
+    → OnSink end ((s : Script) × o.input_says (Ok s) × SomeFront (o.report s) o.cut_off × SomeFront s.events (o.played s))
+    → OnMemory end ((o.input_came × o.written [] × o.unplayed) ⊎ ((s : Script) × o.input_says (Ok s) × SomeFront (o.report s) o.written))
     → HappenedAtReplay o end
-happened_at o Done sound done text limit source unwritten sink memory = let (s, says, report, played) = done in (s, says, report, played, sound s)
-happened_at o (Text line why) sound done text limit source unwritten sink memory = (text, unwritten)
-happened_at o (Limit what) sound done text limit source unwritten sink memory = (limit, unwritten)
-happened_at o Source sound done text limit source unwritten sink memory = (source, unwritten)
-happened_at o Sink sound done text limit source unwritten sink memory = sink
-happened_at o Memory sound done text limit source unwritten sink memory = memory
+happened_at o Done sound done text limit source unwritten unplayed sink memory = let (s, says, report, played) = done in (s, says, report, played, sound s)
+happened_at o (Text line why) sound done text limit source unwritten unplayed sink memory = (text, unwritten, unplayed)
+happened_at o (Limit what) sound done text limit source unwritten unplayed sink memory = (limit, unwritten, unplayed)
+happened_at o Source sound done text limit source unwritten unplayed sink memory = (source, unwritten, unplayed)
+happened_at o Sink sound done text limit source unwritten unplayed sink memory = sink
+happened_at o Memory sound done text limit source unwritten unplayed sink memory = memory

@@ -5,7 +5,7 @@ use Rattle.std.proofs.lemmas.List.{take_more, take-append-le, take-append-drop, 
 use Rattle.std.proofs.Math.Seq.{drop-cons, take-append-add}
 use Rattle.std.specs.Prelude.{Result, Ok, Err, OnOk, OnErr}
 use Rattle.oc_outside.specs.Faults.{Rose}
-use Rattle.oc_program.specs.Run.{joined, IsTold}
+use Rattle.oc_program.specs.Run.{joined, IsWrittenOrCut}
 
 joined-append : (xs ys : List (Bor (List ℕ))) → joined (xs ++ ys) ≡ joined xs ++ joined ys
 joined-append [] ys = refl
@@ -36,6 +36,6 @@ line_joined before number colon why line_end =
 -- what was written in one piece is told
 pub told_of : {E : Type 0} {A : Type 0} {B : Type 0} (takes fails : E → List ℕ → E → Type 0) (faults : E → ℕ) (old new : E) (text : List ℕ) (r : Result A B)
     → OnOk r (takes old text new) → OnErr r ((n : ℕ) × (n < length text) × fails old (take n text) new) → OnErr r (Rose (faults old) (faults new))
-    → IsTold takes fails faults old new text
+    → IsWrittenOrCut takes fails faults old new text
 told_of takes fails faults old new text (Ok v) taken failed cause = inl taken
 told_of takes fails faults old new text (Err e) taken failed cause = let (n, few, fails_there) = failed in inr ((n, fails_there), cause)

@@ -2,11 +2,15 @@
 use Rattle.std.specs.Prelude.{◌≡◌, ℕ, ◌<◌, ◌≤◌, ◌⊎◌, List, [], ◌∷◌, ◌++◌, length, codes, decimal, Result, Ok, Err}
 use Rattle.std.specs.Borrow.{Bor}
 use Rattle.oc_base.specs.Why.{why_text}
+use Rattle.oc_model.specs.declared.event.Event.{Event}
 use Rattle.oc_model.specs.Claims.{HoldPrefixes, HoldAcknowledged, SealedAreWhole}
 use Rattle.oc_model.specs.NextWorld.{next_world, word_of}
 use Rattle.oc_model.specs.World.{new_world}
 use Rattle.oc_model.specs.Chains.{HasNoCycle}
+use Rattle.oc_model.specs.ClaimsTree.{IsExplained, IsInformed}
+use Rattle.oc_laws.specs.Ranks.{ToldRanksHold}
 use Rattle.oc_laws.specs.Throughout.{Throughout}
+use Rattle.oc_tree_laws.specs.Listing.{SettledListsExactly}
 use Rattle.oc_outside.specs.Faults.{Rose}
 use Rattle.oc_replay.specs.Replay.{told_text}
 use Rattle.oc_replay.specs.Report.{SomeFront}
@@ -75,17 +79,21 @@ joined [] = []
 joined (part ∷ parts) = part.now ++ joined parts
 
 -- the text was taken, or a front of it and then a call failed
-abbrev pub IsTold : {E : Type 0} → (E → List ℕ → E → Type 0) → (E → List ℕ → E → Type 0) → (E → ℕ) → E → E → List ℕ → Type 0
-IsTold takes fails count old new text = takes old text new ⊎ (SomeFront text (λ front. fails old front new) × Rose (count old) (count new))
+abbrev pub IsWrittenOrCut : {E : Type 0} → (E → List ℕ → E → Type 0) → (E → List ℕ → E → Type 0) → (E → ℕ) → E → E → List ℕ → Type 0
+IsWrittenOrCut takes fails count old new text = takes old text new ⊎ (SomeFront text (λ front. fails old front new) × Rose (count old) (count new))
 
 -- ---- what had happened
 
 -- what the headline says of every world of a schedule
-pub record IsSound (s : Script) : Type 0 where
+pub record HeadlineHolds (s : Script) : Type 0 where
   pub prefixes : Throughout HoldPrefixes (new_world s.header) s.events
   pub acknowledged : Throughout HoldAcknowledged (new_world s.header) s.events
   pub whole : Throughout SealedAreWhole (new_world s.header) s.events
   pub no_cycle : Throughout HasNoCycle (new_world s.header) s.events
+  pub told_ranks : Throughout ToldRanksHold (new_world s.header) s.events
+  pub explained : Throughout IsExplained (new_world s.header) s.events
+  pub informed : Throughout IsInformed (new_world s.header) s.events
+  pub settled : Throughout SettledListsExactly (new_world s.header) s.events
 
 -- what can be said of the outside once a run has ended
 pub record Outside : Type 1 where
@@ -97,29 +105,39 @@ pub record Outside : Type 1 where
   pub input_passes : What → Type 0
   -- the input failed
   pub input_failed : Type 0
+  -- some input came, and nothing else happened to it
+  pub input_came : Type 0
+  -- the input is as it was
+  pub unread : Type 0
   -- this was written on the output and nothing else
   pub written : List ℕ → Type 0
   -- this was written on the output, and then it failed
   pub cut_off : List ℕ → Type 0
   -- the report of a schedule over the stage
   pub report : Script → List ℕ
-  -- the stage is where the schedule leads
-  pub played : Script → Type 0
+  -- the stage is where these events of a schedule lead
+  pub played : Script → List Event → Type 0
+  -- the stage is as it was
+  pub unplayed : Type 0
 
 abbrev pub HappenedAtReplay : Outside → ReplayEnd → Type 0
-HappenedAtReplay o replays.Done = (s : Script) × o.input_says (Ok s) × o.written (o.report s) × o.played s × IsSound s
-HappenedAtReplay o (replays.Text line why) = o.input_says (Err (faults.Line line why)) × o.written []
-HappenedAtReplay o (replays.Limit what) = o.input_passes what × o.written []
-HappenedAtReplay o replays.Source = o.input_failed × o.written []
-HappenedAtReplay o replays.Sink = (s : Script) × o.input_says (Ok s) × SomeFront (o.report s) o.cut_off
-HappenedAtReplay o replays.Memory = o.written [] ⊎ ((s : Script) × o.input_says (Ok s) × SomeFront (o.report s) o.written)
+HappenedAtReplay o replays.Done = (s : Script) × o.input_says (Ok s) × o.written (o.report s) × o.played s s.events × HeadlineHolds s
+HappenedAtReplay o (replays.Text line why) = o.input_says (Err (faults.Line line why)) × o.written [] × o.unplayed
+HappenedAtReplay o (replays.Limit what) = o.input_passes what × o.written [] × o.unplayed
+HappenedAtReplay o replays.Source = o.input_failed × o.written [] × o.unplayed
+HappenedAtReplay o replays.Sink = (s : Script) × o.input_says (Ok s) × SomeFront (o.report s) o.cut_off × SomeFront s.events (o.played s)
+HappenedAtReplay o replays.Memory = (o.input_came × o.written [] × o.unplayed) ⊎ ((s : Script) × o.input_says (Ok s) × SomeFront (o.report s) o.written)
+
+-- nothing was read, and nothing was played
+abbrev pub IsUntouched : Outside → Type 0
+IsUntouched o = o.unread × o.unplayed
 
 -- what had happened at each end
 abbrev pub Happened : Outside → End → Type 0
-Happened o Helped = (o.verdict ≡ helped) × ((text : List ℕ) × (0 < length text) × o.written text)
-Happened o HelpFailed = (o.verdict ≡ helped) × ((text : List ℕ) × o.cut_off text)
-Happened o Misused = (o.verdict ≡ refused) × o.written []
-Happened o NoMemory = o.written []
+Happened o Helped = (o.verdict ≡ helped) × ((text : List ℕ) × (0 < length text) × o.written text) × IsUntouched o
+Happened o HelpFailed = (o.verdict ≡ helped) × ((text : List ℕ) × o.cut_off text) × IsUntouched o
+Happened o Misused = (o.verdict ≡ refused) × o.written [] × IsUntouched o
+Happened o NoMemory = o.written [] × IsUntouched o
 Happened o (Replayed end) = (o.verdict ≡ accepted) × HappenedAtReplay o end
 
 -- ---- which status has to come

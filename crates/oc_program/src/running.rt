@@ -5,7 +5,7 @@ ghost use Rattle.oc_outside.specs.Faults.{NoFall, Rose};
 ghost use Rattle.oc_replay.specs.Replay.{IsInput, PassesLimit, told_text, world_at};
 ghost use Rattle.oc_schedule.specs.declared.fault.ScheduleFault.{ScheduleFault as Fault};
 ghost use Rattle.oc_schedule.specs.Script.{Script};
-ghost use Rattle.oc_program.specs.Run.{status_of, status_of_replay, line_of, IsTold, Happened, SaysOnly, status_for, report_of, IsSound};
+ghost use Rattle.oc_program.specs.Run.{status_of, status_of_replay, line_of, IsWrittenOrCut, Happened, SaysOnly, status_for, report_of, HeadlineHolds};
 ghost use Rattle.oc_program.specs.Status.{number_of};
 ghost use Rattle.oc_program.specs.Words.{accepted, helped, refused, texts_of, verdict_of};
 
@@ -13,9 +13,12 @@ use crate::status::Status;
 use crate::telling::tell;
 use crate::texts::help;
 use crate::words::{Request, WordsFault, read_words};
-use oc_laws::{content_stays_true_throughout, parent_links_form_no_ring};
+use oc_laws::{content_stays_true_throughout, parent_links_form_no_cycle, ranks_hold_throughout};
 use oc_outside::{Sink, Source, write_all};
 use oc_replay::{ReplayEnd, replay};
+use oc_tree_laws::{
+    every_count_is_informed, every_line_is_explained, settled_trees_are_listed_exactly,
+};
 use oc_world::{Stage, World};
 use std::alloc::Global;
 
@@ -64,6 +67,8 @@ fn replay_status(end: ReplayEnd) -> Status
 /// Runs the program: what the words ask for, from the input to the output, over the stage.
 ///
 /// The status is that of [`Status`]; with each status but 0 a line on the error output says why.
+/// Where the words do not ask for a replay, nothing is read and the stage stays as it was; so it does
+/// where the input is no schedule.
 pub fn run<S: Source, K: Sink, E: Sink, T: Stage>(
     alloc: Global,
     words: &[String],
@@ -75,16 +80,19 @@ pub fn run<S: Source, K: Sink, E: Sink, T: Stage>(
     // How it ended: the status, the line on the error output, and what had happened.
     ensures ended { (end : End) × (usage : List ℕ)
         × (result ≡ number_of (status_of end))
-        × IsTold E.takes E.fails E.faults err.old err.new (line_of end usage)
+        × IsWrittenOrCut E.takes E.fails E.faults err.old err.new (line_of end usage)
         × Happened (record {
           verdict = verdict_of (texts_of words.now);
           input_says = λ says. IsInput S.gives S.ended input.old input.new says;
           input_passes = λ what. PassesLimit S.gives S.ended input.old input.new what;
           input_failed = ((bytes : List ℕ) × S.fails input.old bytes input.new) × Rose (S.faults input.old) (S.faults input.new);
+          input_came = ((bytes : List ℕ) × S.gives input.old bytes input.new);
+          unread = (input.new ≡ input.old);
           written = λ text. K.takes out.old text out.new;
           cut_off = λ text. K.fails out.old text out.new × Rose (K.faults out.old) (K.faults out.new);
           report = told_text T.first T.after T.word;
-          played = λ s. T.world stage.new ≡ world_at T.first T.after s s.events;
+          played = λ s events. T.world stage.new ≡ world_at T.first T.after s events;
+          unplayed = (stage.new ≡ stage.old);
         }) end }
 
     // Status 2 comes exactly where `clap` refuses the words; want of memory comes before.
@@ -100,6 +108,7 @@ pub fn run<S: Source, K: Sink, E: Sink, T: Stage>(
 
     ensures input_count { NoFall (S.faults input.old) (S.faults input.new) }
     ensures output_count { NoFall (K.faults out.old) (K.faults out.new) }
+    ensures error_count { NoFall (E.faults err.old) (E.faults err.new) }
 {
     let end = perform(alloc, words, input, out, stage);
     tell(err, end);
@@ -119,10 +128,13 @@ fn perform<S: Source, K: Sink, T: Stage>(
       input_says = λ says. IsInput S.gives S.ended input.old input.new says;
       input_passes = λ what. PassesLimit S.gives S.ended input.old input.new what;
       input_failed = ((bytes : List ℕ) × S.fails input.old bytes input.new) × Rose (S.faults input.old) (S.faults input.new);
+      input_came = ((bytes : List ℕ) × S.gives input.old bytes input.new);
+      unread = (input.new ≡ input.old);
       written = λ text. K.takes out.old text out.new;
       cut_off = λ text. K.fails out.old text out.new × Rose (K.faults out.old) (K.faults out.new);
       report = told_text T.first T.after T.word;
-      played = λ s. T.world stage.new ≡ world_at T.first T.after s s.events;
+      played = λ s events. T.world stage.new ≡ world_at T.first T.after s events;
+      unplayed = (stage.new ≡ stage.old);
     }) result }
     ensures input_count { NoFall (S.faults input.old) (S.faults input.new) }
     ensures output_count { NoFall (K.faults out.old) (K.faults out.new) }
@@ -130,7 +142,11 @@ fn perform<S: Source, K: Sink, T: Stage>(
     match read_words(alloc, words) {
         Ok(Request::Replay) => {
             content_stays_true_throughout();
-            parent_links_form_no_ring();
+            parent_links_form_no_cycle();
+            ranks_hold_throughout();
+            every_line_is_explained();
+            every_count_is_informed();
+            settled_trees_are_listed_exactly();
             End::Replayed(replay(alloc, input, out, stage))
         }
         Ok(Request::Help) => write_help(out),

@@ -7,7 +7,7 @@ ghost use Rattle.oc_outside.specs.Faults.{NoFall, Rose};
 use oc_outside::{Failed, Sink, Source};
 use std::io::{ErrorKind, Read, Write};
 
-/// How often a call that was interrupted is made again.
+/// How often a call is made at most, as long as it is interrupted.
 const MOST_TRIES: u32 = 1_000_000;
 
 /// A reader as a source.

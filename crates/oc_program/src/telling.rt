@@ -2,7 +2,8 @@
 //! written where there is none.
 
 ghost use Rattle.std.specs.Prelude.{◌≡◌, ℕ, List, OnOk};
-ghost use Rattle.oc_program.specs.Run.{IsTold, joined, line_of, line_of_replay, limit_text};
+ghost use Rattle.oc_outside.specs.Faults.{NoFall};
+ghost use Rattle.oc_program.specs.Run.{IsWrittenOrCut, joined, line_of, line_of_replay, limit_text};
 
 use crate::running::End;
 use crate::texts::usage;
@@ -25,8 +26,9 @@ fn limit_name(what: What) -> &'static str
 
 /// Has the sink take these parts, one behind the other.
 fn write_parts<K: Sink>(sink: &mut K, parts: &[&[u8]]) -> Result<(), Failed>
-    ensures told { IsTold K.takes K.fails K.faults sink.old sink.new (joined parts.now) }
+    ensures told { IsWrittenOrCut K.takes K.fails K.faults sink.old sink.new (joined parts.now) }
     ensures takes { OnOk result (K.takes sink.old (joined parts.now) sink.new) }
+    ensures count { NoFall (K.faults sink.old) (K.faults sink.new) }
 {
     for part in parts {
         write_all(sink, part)?;
@@ -36,7 +38,8 @@ fn write_parts<K: Sink>(sink: &mut K, parts: &[&[u8]]) -> Result<(), Failed>
 
 /// Writes the line of an end on the error output. Where that output fails, a front of it stands there.
 pub fn tell<E: Sink>(err: &mut E, end: End)
-    ensures { (usage : List ℕ) × IsTold E.takes E.fails E.faults err.old err.new (line_of end usage) }
+    ensures told { (usage : List ℕ) × IsWrittenOrCut E.takes E.fails E.faults err.old err.new (line_of end usage) }
+    ensures count { NoFall (E.faults err.old) (E.faults err.new) }
 {
     let _ = match end {
         End::Helped => Ok(()),
@@ -48,7 +51,8 @@ pub fn tell<E: Sink>(err: &mut E, end: End)
 }
 
 fn tell_replay<E: Sink>(err: &mut E, end: ReplayEnd) -> Result<(), Failed>
-    ensures { IsTold E.takes E.fails E.faults err.old err.new (line_of_replay end) }
+    ensures told { IsWrittenOrCut E.takes E.fails E.faults err.old err.new (line_of_replay end) }
+    ensures count { NoFall (E.faults err.old) (E.faults err.new) }
 {
     match end {
         ReplayEnd::Done => Ok(()),
@@ -66,7 +70,8 @@ fn tell_replay<E: Sink>(err: &mut E, end: ReplayEnd) -> Result<(), Failed>
 }
 
 fn tell_line<E: Sink>(err: &mut E, line: u32, why: Why) -> Result<(), Failed>
-    ensures { IsTold E.takes E.fails E.faults err.old err.new (line_of_replay (ReplayEnd.Text line why)) }
+    ensures told { IsWrittenOrCut E.takes E.fails E.faults err.old err.new (line_of_replay (ReplayEnd.Text line why)) }
+    ensures count { NoFall (E.faults err.old) (E.faults err.new) }
 {
     let mut digits = Buffer::new();
     let number = digits.format(line).as_bytes();

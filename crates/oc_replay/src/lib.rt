@@ -6,10 +6,11 @@
 //! `Text` and `Limit` it names the first fault of the text, with `Source` and `Sink` that count of
 //! faults rose, and where there is no schedule nothing is written and the stage is as it was.
 //!
-//! `specs/Lines` has the lines of a report and `specs/Bodies` what messages say, `specs/Report` what is told of a run, `specs/Replay` what
-//! is told of a schedule. `told_text` takes its words and worlds from the functions of the stage's
-//! type, so a body that doesn't give the stage the events can't know it. The text is gathered in one
-//! buffer, which is written and used again whenever it has reached 64 KiB.
+//! `specs/Lines` has the lines of a report and `specs/Bodies` what messages say, `specs/Report` what
+//! is told of a run, `specs/Replay` what is told of a schedule. `told_text` takes its words and worlds
+//! from the functions of the stage's type, so a body that doesn't give the stage the events can't know
+//! it. The text is gathered in one buffer, which is written and used again whenever it has reached
+//! 64 KiB.
 #![tactic(auto)]
 
 mod bodies;

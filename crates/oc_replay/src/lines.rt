@@ -101,7 +101,7 @@ pub(crate) fn put_end(out: &mut Vec<u8>, events: u64, messages: u64) -> Result<(
     writeln!(out, "end {events} {messages}").map_err(|_| Memory)
 }
 
-/// The block of `held`: a line for each group, ascending as they come.
+/// The block of `held`: a line for each group, in the order in which they come.
 pub fn held_text(alloc: Global, shelf: &[Shelf]) -> Result<Vec<u8>, Memory>
     ensures { IfOk result (λ text. text.items ≡ held_text shelf.now) }
 {

@@ -51,8 +51,11 @@ pub fn replay<S: Source, K: Sink, T: Stage>(
         × SomeFront s.events (λ played. T.world stage.new ≡ world_at T.first T.after s played)) }
     ensures sink_cause { OnSink result (Rose (K.faults sink.old) (K.faults sink.new)) }
 
-    // Nothing was written, or a front of the report of the schedule that the input is.
-    ensures memory { OnMemory result (K.takes sink.old [] sink.new ⊎ ((s : Script)
+    // Some input came, nothing is written, and the stage is as it was; or all input came and is a
+    // schedule, and a front of its report was taken.
+    ensures memory { OnMemory result (
+        (((bytes : List ℕ) × S.gives source.old bytes source.new) × K.takes sink.old [] sink.new × (stage.new ≡ stage.old))
+        ⊎ ((s : Script)
         × IsInput S.gives S.ended source.old source.new (Ok s)
         × SomeFront (told_text T.first T.after T.word s) (λ front. K.takes sink.old front sink.new))) }
 
@@ -81,6 +84,7 @@ fn schedule_in<S: Source>(alloc: Global, source: &mut S) -> Result<Schedule, Rep
         PassesLimit S.gives S.ended source.old source.new what)) }
     ensures source { IfErr result (λ end. OnSource end ((bytes : List ℕ) × S.fails source.old bytes source.new)) }
     ensures cause { IfErr result (λ end. OnSource end (Rose (S.faults source.old) (S.faults source.new))) }
+    ensures memory { IfErr result (λ end. OnMemory end ((bytes : List ℕ) × S.gives source.old bytes source.new)) }
     ensures not_done { IfErr result (λ end. OnDone end ⊥) }
     ensures not_sink { IfErr result (λ end. OnSink end ⊥) }
     ensures count { NoFall (S.faults source.old) (S.faults source.new) }

@@ -1,4 +1,4 @@
-ghost use Rattle.std.specs.Prelude.{◌≡◌, ◌≤◌, IfOk, None, length};
+ghost use Rattle.std.specs.Prelude.{◌≤◌, IfOk, None};
 ghost use Rattle.std.specs.Str.Lines.{lines};
 ghost use Rattle.oc_schedule.specs.Draft.{script_of};
 ghost use Rattle.oc_schedule.specs.Limits.{most_lines};
@@ -22,7 +22,6 @@ pub fn read(alloc: Global, bytes: &[u8]) -> Result<Schedule, ScheduleFault>
 
     // The header and the events are within their ranges, and there are not too many events.
     ensures lawful { IfOk result IsSchedule }
-    ensures areas { IfOk result (λ s. length s.header.areas ≡ s.header.nodes) }
 {
     if bytes.len() > MOST_BYTES {
         return Err(ScheduleFault::Limit(What::Bytes));

@@ -9,7 +9,7 @@ pub struct Schedule {
     pub nodes: u32,
     /// The number of chain members, from 1 to 16 and at most the nodes.
     pub chain: u32,
-    /// The area of each node.
+    /// The area of each node, ascending by id.
     pub areas: Vec<u8>,
     /// The events, in their order.
     pub events: Vec<Event>,

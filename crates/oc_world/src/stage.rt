@@ -46,7 +46,8 @@ pub trait Stage {
         requires { IsHeader (record { nodes = nodes; chain = chain; areas = areas.now }) }
         ensures { OnOk result (world self.new ≡ first (record { nodes = nodes; chain = chain; areas = areas.now })) };
 
-    /// Does what an event does. Nothing is said of the stage after want of memory.
+    /// Does what an event does, one that the program plays, within its ranges. Nothing is said of the
+    /// stage after want of memory.
     fn event(&mut self, event: &Event) -> Result<Said, Memory>
         requires { IsPlayable (length (ids (world self.old))) event.now }
         ensures world { OnOk result (world self.new ≡ after (world self.old) event.now) }

@@ -104,7 +104,12 @@ impl Stage for World {
 
     ghost word = { word_of };
 
-    fn open(&mut self, nodes: u32, chain: u32, areas: &[u8]) -> Result<(), Memory> {
+    /// Where memory is wanted, the world stays as it was.
+    fn open(&mut self, nodes: u32, chain: u32, areas: &[u8]) -> Result<(), Memory>
+        requires { IsHeader (record { nodes = nodes; chain = chain; areas = areas.now }) }
+        ensures opened { OnOk result (self.new ≡ new_world (record { nodes = nodes; chain = chain; areas = areas.now })) }
+        ensures err { OnErr result (self.new ≡ self.old) }
+    {
         *self = World::new(self.network.alloc(), nodes, chain, areas)?;
         Ok(())
     }

@@ -17,10 +17,13 @@ returns-in-Ok-Replay-clause-happened g c =
       input_says = λ says. IsInput g.S.Source.gives g.S.Source.ended c.args.input.now c.replay.new.source says;
       input_passes = λ what. PassesLimit g.S.Source.gives g.S.Source.ended c.args.input.now c.replay.new.source what;
       input_failed = ((bytes : List ℕ) × g.S.Source.fails c.args.input.now bytes c.replay.new.source) × Rose (g.S.Source.faults c.args.input.now) (g.S.Source.faults c.replay.new.source);
+      input_came = ((bytes : List ℕ) × g.S.Source.gives c.args.input.now bytes c.replay.new.source);
+      unread = (c.replay.new.source ≡ c.args.input.now);
       written = λ text. g.K.Sink.takes c.args.out.now text c.replay.new.sink;
       cut_off = λ text. g.K.Sink.fails c.args.out.now text c.replay.new.sink × Rose (g.K.Sink.faults c.args.out.now) (g.K.Sink.faults c.replay.new.sink);
       report = report;
-      played = λ s. g.T.Stage.world c.replay.new.stage ≡ world_at g.T.Stage.first g.T.Stage.after s s.events;
+      played = λ s events. g.T.Stage.world c.replay.new.stage ≡ world_at g.T.Stage.first g.T.Stage.after s events;
+      unplayed = (c.replay.new.stage ≡ c.args.stage.now);
     } in (
       c.in-Ok-Replay.ensures.replay.only (ap Ok c.in-Ok-Replay.field-0-is),
       happened_at o c.replay.result
@@ -28,11 +31,16 @@ returns-in-Ok-Replay-clause-happened g c =
             prefixes = c.content_stays_true_throughout.ensures.prefixes s.header s.events;
             acknowledged = c.content_stays_true_throughout.ensures.acknowledged s.header s.events;
             whole = c.content_stays_true_throughout.ensures.whole s.header s.events;
-            no_cycle = c.parent_links_form_no_ring.ensures.throughout s.header s.events;
+            no_cycle = c.parent_links_form_no_cycle.ensures.throughout s.header s.events;
+            told_ranks = c.ranks_hold_throughout.ensures.told s.header s.events;
+            explained = c.every_line_is_explained.ensures.throughout s.header s.events;
+            informed = c.every_count_is_informed.ensures.throughout s.header s.events;
+            settled = c.settled_trees_are_listed_exactly.ensures.throughout s.header s.events;
           })
           c.replay.ensures.done c.replay.ensures.text c.replay.ensures.limit
           (both_on_source ((bytes : List ℕ) × g.S.Source.fails c.args.input.now bytes c.replay.new.source) (Rose (g.S.Source.faults c.args.input.now) (g.S.Source.faults c.replay.new.source)) c.replay.result c.replay.ensures.source c.replay.ensures.source_cause)
           c.replay.ensures.unwritten
+          c.replay.ensures.unplayed
           (cut_on_sink (λ s. o.input_says (Ok s)) report (λ front. g.K.Sink.fails c.args.out.now front c.replay.new.sink)
           (λ s. SomeFront s.events (λ played. g.T.Stage.world c.replay.new.stage ≡ world_at g.T.Stage.first g.T.Stage.after s played))
           (Rose (g.K.Sink.faults c.args.out.now) (g.K.Sink.faults c.replay.new.sink)) c.replay.result c.replay.ensures.sink c.replay.ensures.sink_cause)

@@ -1,11 +1,6 @@
 use Rattle.std.specs.Str.Lines.{lines}
-use Rattle.std.proofs.lemmas.Result.{IfOk-weaker}
 use Rattle.oc_schedule.proofs.Lawful.{IsSchedule-from_lines}
 use Rattle.oc_schedule.proofs.reading.read.Goals as goal
 
 pub returns-clause-lawful : goal.returns-clause-lawful
 returns-clause-lawful c = IsSchedule-from_lines (lines c.args.bytes.now) c.read_lines.result c.read_lines.ensures
-
-pub returns-clause-areas : goal.returns-clause-areas
-returns-clause-areas c =
-    IfOk-weaker c.read_lines.result _ _ (λ s is. is.header.areas) (IsSchedule-from_lines (lines c.args.bytes.now) c.read_lines.result c.read_lines.ensures)

@@ -50,6 +50,7 @@ count_by_chain w holds r x p ps chain = by_cause (decided_either (ended_decided 
       let at_r : HasLiveRow (table_of w r) x p (seq_of w x) k.number = at_root w (λ z. HasLiveRow (table_of w z) x p (seq_of w x) k.number) p r (p ∷ ps) chain.3 along.2 in
       count_by_rows w holds r x p (seq_of w x) k along.1.found at_r
 
+-- each count of a root whose line is right is right too, or its cause is at hand
 pub informed : (w : World) → TreeHolds w → IsInformed w
 informed w holds r x p root line truth = by_found (chain_to w r x) refl truth where
   by_links : (c : List ℕ) → IsTrueChain w x r c → first_link (Some c) ≡ Some p → IsCountInformed w r x p

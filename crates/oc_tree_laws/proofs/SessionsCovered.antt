@@ -1,4 +1,4 @@
--- What 'Sessions' and 'Coverage' say of each world, in words of what facts cover: where a known fact that is anywhere is covered.
+-- What the laws of sessions and of coverage say of each world in words of what is covered, as a known fact is that is anywhere.
 use Rattle.std.proofs.Common.{◌≡◌, ℕ, ◌-◌, Bool, true, false, Option, Some, None, ◌⊎◌, subst, inl, inr, refl, ap, sym, ⊎_elim, arith, ◌∙◌}
 use Rattle.std.proofs.lemmas.Bool.{cond_both}
 use Rattle.oc_base.specs.declared.cert.Cert.{Cert}

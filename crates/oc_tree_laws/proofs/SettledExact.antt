@@ -38,6 +38,7 @@ none_waiting w settled x r (a ∷ []) chain waits = ⊎_elim (λ e. e) (λ e. e)
 none_waiting w settled x r (a ∷ b ∷ bs) chain (inl waits) = none_waits w settled b r a (b ∷ bs) chain.3 waits
 none_waiting w settled x r (a ∷ b ∷ bs) chain (inr above) = none_waiting w settled b r (b ∷ bs) chain.3 above
 
+-- a settled world has no cause for a line that is missing
 pub none_missing : (w : World) → IsSettled w → (r x : ℕ) → HasMissingCause w r x → ⊥
 none_missing w settled r x (c, chain, cause) = ⊎_elim (λ ended. unended w settled x r c chain ended) (λ waits. none_waiting w settled x r c chain waits) cause
 
@@ -60,6 +61,7 @@ topmost_false w r x v y (a ∷ b ∷ bs) root walk (inr here) = record {
   end_up [] walk links = subst (IsUp w) (sym walk.1) root.0
   end_up (d ∷ ds) walk links = links.0.0
 
+-- nor for one that should not be there
 pub none_wrong : (w : World) → IsSettled w → (r x : ℕ) → IsRoot w r → HasWrongCause w r x → ⊥
 none_wrong w settled r x root (other, (c, v, y, walk, topmost, stale)) =
     let is : IsFalseTo w r v y = topmost_false w r x v y c root walk topmost in by_cause is stale where
@@ -76,6 +78,7 @@ own_line w r x root same =
     let alone : true_line w r x ≡ None = ap first_link (chain_to-finds w x r (x ∷ []) (refl, same, subst (IsRoot w) (sym same) root)) in
     rw (own, alone) refl
 
+-- where no cause is there and each line is explained, each is right
 pub settled_exact : (w : World) → IsExplained w → SettledListsExactly w
 settled_exact w explained settled r x root = by_test (x == r) refl where
   by_line : IsLineExplained w r x → table_line (table_of w r) r x ≡ true_line w r x

@@ -7,7 +7,7 @@ use Rattle.oc_model.specs.Node.{Header, Control}
 use Rattle.oc_model.specs.World.{World, new_world}
 use Rattle.oc_laws.specs.Throughout.{Throughout}
 use Rattle.oc_laws.proofs.Laws.{both_laws, Tabled, tabled_after, tabled_throughout}
-use Rattle.oc_laws.proofs.Lifts.{AreTables, IsLaw}
+use Rattle.oc_laws.proofs.Lifts.{IsLaw}
 use Rattle.oc_laws.proofs.NumbersKept.{NumbersHold, IsCounting as IsAsking, numbers_law, numbers_new, one_peer, numbers_below}
 use Rattle.oc_tree_laws.specs.Coverage.{ChildrenAreCovered}
 use Rattle.oc_tree_laws.specs.Grants.{FactsAreGranted, YesesAreGranted, ParentsAreGranted}
@@ -20,8 +20,8 @@ use Rattle.oc_tree_laws.proofs.SessionsKept.{sessions_law, sessions_new}
 use Rattle.oc_tree_laws.proofs.SessionsCovered.{CoversKnown, check_ins_tell, acks_known, children_covered}
 use Rattle.oc_tree_laws.proofs.TreeHolds.{TreeHolds}
 
+-- the laws of ask numbers, counts, grants and sessions
 pub record AllHold (w : World) : Type 0 where
-  pub tables : AreTables w
   pub asks : NumbersHold w
   pub counts : CountsHold w
   pub grants : GrantsHold w
@@ -56,7 +56,7 @@ asked_new : (h : Header) → Asked (new_world h)
 asked_new h = (numbers_new h, (counts_new h, (grants_new h, sessions_new h)))
 
 all_of : (w : World) → Tabled Asked w → AllHold w
-all_of w holds = record { tables = holds.0; asks = holds.1.0; counts = holds.1.1.0; grants = holds.1.1.1.0; sessions = holds.1.1.1.1 }
+all_of w holds = record { asks = holds.1.0; counts = holds.1.1.0; grants = holds.1.1.1.0; sessions = holds.1.1.1.1 }
 
 -- what follows from them holds of every world
 pub all_after : (Q : World → Type 0) → ((w : World) → AllHold w → Q w) → (h : Header) (events : List Event) → Q (world_after (new_world h) events)
@@ -67,9 +67,9 @@ all_throughout Q follows h events = tabled_throughout Asked AskedNode asked_law 
 
 -- What follows of the tree
 
+-- what explains the listings
 pub tree_holds : (w : World) → AllHold w → TreeHolds w
 tree_holds w holds = record {
-  tables = holds.tables;
   peers = one_peer w holds.asks;
   asks = numbers_below w holds.asks;
   counts = one_count w holds.counts;
@@ -82,6 +82,7 @@ tree_holds w holds = record {
 covers : (w : World) → AllHold w → CoversKnown w
 covers w holds = fact_covered w (one_peer w holds.asks) (one_count w holds.counts)
 
+-- so what the laws say of tables is said of what is covered
 pub all_grants_covered : (w : World) → AllHold w → FactsAreGranted w
 all_grants_covered w holds = grants_covered w (one_peer w holds.asks) (one_count w holds.counts) holds.grants
 

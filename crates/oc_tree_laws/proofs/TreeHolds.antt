@@ -6,13 +6,13 @@ use Rattle.oc_model.specs.ClaimsTree.{table_of}
 use Rattle.oc_model.specs.Numbers.{IsAmong}
 use Rattle.oc_model.specs.World.{World}
 use Rattle.oc_laws.specs.Numbers.{IsAnywhere, HaveOnePeer, AskNumbersAreBelow}
-use Rattle.oc_laws.proofs.Lifts.{AreTables}
 use Rattle.oc_tree_laws.specs.Clients.{HaveOneCount, OwnNumbersAreBelow}
 use Rattle.oc_tree_laws.specs.Sessions.{log_of}
 use Rattle.oc_tree_laws.proofs.Known.{Knows}
 
+-- one ask number has one peer and one own number one count; neither is above the own one; parents know what they granted, and what
+-- their children know they know, or it waits
 pub record TreeHolds (w : World) : Type 0 where
-  pub tables : AreTables w
   pub peers : HaveOnePeer w
   pub asks : AskNumbersAreBelow w
   pub counts : HaveOneCount w

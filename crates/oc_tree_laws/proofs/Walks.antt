@@ -34,6 +34,7 @@ way_of_walk t x r (a ∷ d ∷ ds) apart walk = by_end (cases_eq d r) (λ furthe
   by_end (inl e) rest = ([], subst (λ z. parent_in t x ≡ Some z) e walk.2)
   by_end (inr further) rest = let way = rest further in (d ∷ way.0, (walk.2, way.1))
 
+-- a walk is there exactly where a node is listed
 pub walks_are_listings : (t : List Cert) (r x : ℕ) → IsListed t r x ↔ ((x ≡ r → ⊥) × ((c : List ℕ) × IsWalk t x r c))
 walks_are_listings t r x = (λ listed. (listed.0, walk_of_way t x r listed.1.0 listed.1.1), λ walk. (walk.0, way_of_walk t x r walk.1.0 walk.0 walk.1.1))
 

@@ -20,6 +20,7 @@ pub mod LinesWrong
 pub mod Explained
 pub mod SettledExact
 pub mod Informed
+pub mod FromWords
 pub mod Together
 pub mod LeaseRules
 pub mod LeasesAhead

@@ -4,13 +4,11 @@ use Rattle.oc_base.specs.declared.cert.Cert.{Cert}
 use Rattle.oc_base.specs.Cert.{Outranks}
 use Rattle.oc_model.specs.Chains.{IsJoined}
 use Rattle.oc_model.specs.ClaimsTree.{table_of, WaitsAt}
-use Rattle.oc_model.specs.Numbers.{IsAmong}
 use Rattle.oc_model.specs.Table.{newest}
 use Rattle.oc_model.specs.World.{World}
 use Rattle.oc_step_laws.specs.Order.{AreEven}
 use Rattle.oc_step_laws.proofs.Tables.{newest-subject}
 use Rattle.oc_laws.specs.Numbers.{IsAnywhere, GoesWith}
-use Rattle.oc_tree_laws.specs.Sessions.{log_of}
 use Rattle.oc_tree_laws.proofs.Known.{Knows, KnownBy, known_by, newest_among}
 use Rattle.oc_tree_laws.proofs.TreeHolds.{TreeHolds}
 
@@ -38,9 +36,9 @@ row_goes w z x k found = inr (inr (k, row_anywhere w z x k found, newest-subject
 -- of what a node has of x, that to which it is joined has no older row, or something about x waits
 pub row_rises : (w : World) → TreeHolds w → (x z u : ℕ) (f : Cert) → IsJoined w z u → newest (table_of w z) x ≡ Some f → WaitsAt w z x ⊎ HasNoOlder (table_of w u) x f
 row_rises w holds x z u f joined found = by_told (holds.told z u f joined (newest_among (table_of w z) x f found)) where
-  by_told : Knows (table_of w u) f ⊎ IsAmong f (log_of w z).waiting → WaitsAt w z x ⊎ HasNoOlder (table_of w u) x f
+  by_told : Knows (table_of w u) f ⊎ WaitsAt w z f.subject → WaitsAt w z x ⊎ HasNoOlder (table_of w u) x f
   by_told (inl known) = inr (known_row (table_of w u) (table_of w z) x f found known)
-  by_told (inr waits) = inl (f, waits, newest-subject (table_of w z) x f found)
+  by_told (inr waits) = inl (subst (λ s. WaitsAt w z s) (newest-subject (table_of w z) x f found) waits)
 
 -- and the parent that the row names has no older one
 pub row_granted : (w : World) → TreeHolds w → (x z y : ℕ) (f : Cert) → newest (table_of w z) x ≡ Some f → f.parent ≡ y → HasNoOlder (table_of w y) x f

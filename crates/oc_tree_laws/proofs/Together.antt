@@ -1,5 +1,5 @@
 -- All laws of the tree hold together, of every world.
-use Rattle.std.proofs.Common.{ℕ, List}
+use Rattle.std.proofs.Common.{ℕ, List, inl, inr, refl, ⊎_elim}
 use Rattle.oc_model.specs.declared.event.Event.{Event}
 use Rattle.oc_model.specs.declared.message.Message.{Message}
 use Rattle.oc_model.specs.NextWorld.{world_after}
@@ -18,7 +18,7 @@ use Rattle.oc_tree_laws.proofs.GrantsKept.{GrantsHold, IsGranting, grants_law, g
 use Rattle.oc_tree_laws.proofs.SessionsHold.{SessionsHold, IsInSession}
 use Rattle.oc_tree_laws.proofs.SessionsKept.{sessions_law, sessions_new}
 use Rattle.oc_tree_laws.proofs.SessionsCovered.{CoversKnown, check_ins_tell, acks_known, children_covered}
-use Rattle.oc_tree_laws.proofs.TreeHolds.{TreeHolds}
+use Rattle.oc_tree_laws.proofs.TreeHolds.{TreeHolds, CountedTree}
 
 -- the laws of ask numbers, counts, grants and sessions
 pub record AllHold (w : World) : Type 0 where
@@ -72,11 +72,12 @@ pub tree_holds : (w : World) → AllHold w → TreeHolds w
 tree_holds w holds = record {
   peers = one_peer w holds.asks;
   asks = numbers_below w holds.asks;
-  counts = one_count w holds.counts;
-  numbers = own_numbers_below w holds.counts;
   granted = facts_granted w holds.grants;
-  told = holds.sessions.rows;
+  told = λ x y f joined among. ⊎_elim (λ known. inl known) (λ waits. inr (f, waits, refl)) (holds.sessions.rows x y f joined among);
 }
+
+pub counted_tree : (w : World) → AllHold w → CountedTree w
+counted_tree w holds = record { tree = tree_holds w holds; counts = one_count w holds.counts; numbers = own_numbers_below w holds.counts }
 
 -- a known fact that is anywhere is covered
 covers : (w : World) → AllHold w → CoversKnown w

@@ -6,7 +6,7 @@
 //! world on the way. [`own_numbers_have_one_count`], [`grants_are_known`],
 //! [`acknowledged_facts_are_known`] and [`children_are_covered`] are carried by the small changes;
 //! [`every_line_is_explained`], [`every_count_is_informed`] and [`settled_trees_are_listed_exactly`]
-//! follow from them in each world by itself, and [`settled_trees_have_no_cause`] and
+//! follow from them in each world by itself ([`explanations_follow`]), and [`settled_trees_have_no_cause`] and
 //! [`walks_are_listings`] say what their words mean; [`lease_ends_lie_ahead`] is carried event by event.
 #![tactic(auto)]
 
@@ -22,7 +22,7 @@ pub use coverage::{children_are_covered, children_are_covered_throughout};
 pub use grants::{grants_are_known, grants_are_known_throughout};
 pub use lease_ends::lease_ends_lie_ahead;
 pub use listings::{
-    every_count_is_informed, every_line_is_explained, settled_trees_are_listed_exactly,
-    settled_trees_have_no_cause, walks_are_listings,
+    every_count_is_informed, every_line_is_explained, explanations_follow,
+    settled_trees_are_listed_exactly, settled_trees_have_no_cause, walks_are_listings,
 };
 pub use sessions::{acknowledged_facts_are_known, acknowledged_facts_are_known_throughout};

@@ -2,13 +2,18 @@ ghost use Rattle.std.specs.Prelude.{◌≡◌, ◌↔◌, ℕ, List};
 ghost use Rattle.oc_base.specs.declared.cert.Cert.{Cert};
 ghost use Rattle.oc_model.specs.declared.event.Event.{Event};
 ghost use Rattle.oc_model.specs.Chains.{IsRoot};
-ghost use Rattle.oc_model.specs.ClaimsTree.{IsExplained, IsInformed, HasMissingCause, HasWrongCause, IsWalk, IsTopmostFalse};
+ghost use Rattle.oc_model.specs.ClaimsTree.{table_of, IsExplained, IsInformed, HasMissingCause, HasWrongCause, IsWalk, IsTopmostFalse};
 ghost use Rattle.oc_model.specs.NextWorld.{world_after};
 ghost use Rattle.oc_model.specs.Node.{Header};
 ghost use Rattle.oc_model.specs.Ready.{IsSettled};
 ghost use Rattle.oc_model.specs.Table.{IsListed};
 ghost use Rattle.oc_model.specs.World.{World, new_world};
+ghost use Rattle.oc_step_laws.specs.Sound.{IsTable};
+ghost use Rattle.oc_laws.specs.Numbers.{HaveOnePeer, AskNumbersAreBelow};
 ghost use Rattle.oc_laws.specs.Throughout.{Throughout};
+ghost use Rattle.oc_tree_laws.specs.Clients.{HaveOneCount, OwnNumbersAreBelow};
+ghost use Rattle.oc_tree_laws.specs.Coverage.{ChildrenAreCovered};
+ghost use Rattle.oc_tree_laws.specs.Grants.{FactsAreGranted};
 ghost use Rattle.oc_tree_laws.specs.Listing.{SettledListsExactly};
 
 /// Every missing or wrong line of an acting root's table has its cause at hand: after any events, from any
@@ -41,6 +46,14 @@ pub fn every_count_is_informed()
 pub fn settled_trees_are_listed_exactly()
     ensures after { (h : Header) (events : List Event) → SettledListsExactly (world_after (new_world h) events) }
     ensures throughout { (h : Header) (events : List Event) → Throughout SettledListsExactly (new_world h) events }
+{}
+
+/// Why lines and counts are explained: in a world of ascending tables it follows from what is said of ask
+/// numbers, of grants and of coverage, and for counts of own numbers.
+pub fn explanations_follow()
+    ensures lines { (w : World) → ((x : ℕ) → IsTable (table_of w x)) → HaveOnePeer w → AskNumbersAreBelow w → FactsAreGranted w → ChildrenAreCovered w → IsExplained w }
+    ensures counts { (w : World) → ((x : ℕ) → IsTable (table_of w x)) → HaveOnePeer w → AskNumbersAreBelow w → FactsAreGranted w → ChildrenAreCovered w
+        → HaveOneCount w → OwnNumbersAreBelow w → IsInformed w }
 {}
 
 /// A settled world has no cause for a wrong line, so where its lines are explained they are right.

@@ -1,13 +1,15 @@
 //! Laws of the tree in every world that events lead to from a new one, whatever they are: what parents
-//! know, what tables list, and why a line of a root's table may be wrong. They have no premise.
+//! know, what tables list, and why a line of a root's table may be wrong. These have no premise.
 //!
 //! They stand on the fine machine of `oc_laws`, and are stated in the same way: a law is a public
 //! function with an empty body; what ends in `_throughout`, and a clause of that name, speaks of each
 //! world on the way. [`own_numbers_have_one_count`], [`grants_are_known`],
 //! [`acknowledged_facts_are_known`] and [`children_are_covered`] are carried by the small changes;
 //! [`every_line_is_explained`], [`every_count_is_informed`] and [`settled_trees_are_listed_exactly`]
-//! follow from them in each world by itself ([`explanations_follow`]), and [`settled_trees_have_no_cause`] and
-//! [`walks_are_listings`] say what their words mean; [`lease_ends_lie_ahead`] is carried event by event.
+//! follow from them in each world by itself; [`lease_ends_lie_ahead`] is carried event by event.
+//!
+//! Three more speak of any world: [`explanations_follow`] says from what lines and counts are explained,
+//! [`settled_trees_have_no_cause`] and [`walks_are_listings`] say what the words of that mean.
 #![tactic(auto)]
 
 mod counts;

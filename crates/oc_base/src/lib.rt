@@ -14,6 +14,7 @@ mod code_row;
 mod cutter;
 mod field;
 mod group_name;
+mod limits;
 mod lists;
 mod memory;
 mod node_id;
@@ -27,6 +28,13 @@ pub use code_row::{CodeRow, distinct, row_of};
 pub use cutter::cut;
 pub use field::{Short, take_bytes, take_u8, take_u16, take_u32, take_u64};
 pub use group_name::{GroupName, NameFault};
+pub use limits::{
+    DUE_BYTES, LAST_SECOND, MAX_ANCESTORS, MAX_BASE_ACKED, MAX_BODY_BYTES, MAX_CHAIN,
+    MAX_CHECK_IN_CERTS, MAX_CHUNK_BYTES, MAX_CONTENT_BYTES, MAX_DEPTH, MAX_FIELDS, MAX_FRAME_BYTES,
+    MAX_FRAME_RECORDS, MAX_GROUP_BYTES, MAX_GROUPS, MAX_HEAD_BYTES, MAX_JOURNAL_BYTES,
+    MAX_NAME_BYTES, MAX_NODES, MAX_PUBLISH_BYTES, MAX_RATE, MAX_SCHEDULE_BYTES, MAX_SCHEDULE_LINES,
+    MAX_SCHEDULE_PUBLISHED, MAX_SCHEDULE_SETTLES, MAX_START, MAX_TIME, MIN_NAME_BYTES,
+};
 pub use lists::{Bytes, CertList, ChildList, IdList, LineList, ShelfList, Text};
 pub use memory::Memory;
 pub use node_id::NodeId;

@@ -1,0 +1,94 @@
+//! Each limit of the system, once. Definitions cite these names, and texts are printed from them.
+
+// The network
+
+/// The greatest number of nodes; their ids are 1 to their number.
+pub const MAX_NODES: u32 = 1_024;
+
+/// The greatest number of chain members, the nodes that can act as root.
+pub const MAX_CHAIN: u32 = 16;
+
+/// The greatest rank depth of a node that has a parent.
+pub const MAX_DEPTH: u32 = 1_000;
+
+/// The greatest number of ancestors that a node keeps.
+pub const MAX_ANCESTORS: usize = 1_000;
+
+/// The greatest number of certificates in a check-in.
+pub const MAX_CHECK_IN_CERTS: usize = 64;
+
+/// The greatest rate, in bytes per second: 2^40.
+pub const MAX_RATE: u64 = 1_099_511_627_776;
+
+/// The greatest time that a schedule or a running node tells, in seconds: 2^40.
+pub const MAX_TIME: u64 = 1_099_511_627_776;
+
+/// The last second of a node's clock: 2^41.
+pub const LAST_SECOND: u64 = 2_199_023_255_552;
+
+/// The greatest acknowledged count of a `Base` record: 2^62.
+pub const MAX_BASE_ACKED: u64 = 4_611_686_018_427_387_904;
+
+// Content
+
+/// The least and the greatest number of bytes of a group's name.
+pub const MIN_NAME_BYTES: usize = 2;
+
+pub const MAX_NAME_BYTES: usize = 200;
+
+/// The greatest number of groups of a node.
+pub const MAX_GROUPS: usize = 64;
+
+/// The greatest number of bytes of a group: 2^30.
+pub const MAX_GROUP_BYTES: u64 = 1_073_741_824;
+
+/// The greatest number of bytes of one publish.
+pub const MAX_PUBLISH_BYTES: usize = 1_000_000;
+
+/// The greatest number of bytes of a chunk that goes from node to node.
+pub const MAX_CHUNK_BYTES: usize = 4_096;
+
+/// The greatest byte at which a client's request begins: 2^40.
+pub const MAX_START: u64 = 1_099_511_627_776;
+
+// Files
+
+/// The greatest number of bytes of a frame's body.
+pub const MAX_FRAME_BYTES: usize = 1_048_576;
+
+/// The greatest number of records of a frame.
+pub const MAX_FRAME_RECORDS: usize = 4_096;
+
+/// The greatest number of bytes of a journal: 2^40.
+pub const MAX_JOURNAL_BYTES: u64 = 1_099_511_627_776;
+
+/// A control file whose frames end past this byte is due to be turned over.
+pub const DUE_BYTES: u64 = 262_144;
+
+// Schedules
+
+/// The greatest number of lines of a schedule.
+pub const MAX_SCHEDULE_LINES: u32 = 100_000;
+
+/// The greatest number of bytes of a schedule or a configuration.
+pub const MAX_SCHEDULE_BYTES: usize = 67_108_864;
+
+/// The greatest number of bytes that the publish lines of a schedule have together.
+pub const MAX_SCHEDULE_PUBLISHED: usize = 262_144;
+
+/// The greatest number of `settle` and `heal` lines of a schedule together.
+pub const MAX_SCHEDULE_SETTLES: u32 = 16;
+
+// HTTP
+
+/// The greatest number of bytes of the head of a request or a reply.
+pub const MAX_HEAD_BYTES: usize = 8_192;
+
+/// The greatest number of fields of a head.
+pub const MAX_FIELDS: usize = 64;
+
+/// The greatest number of bytes of a request's body.
+pub const MAX_BODY_BYTES: u64 = 1_000_000;
+
+/// The greatest number of bytes of a reply's content whose length was not told: 2^40.
+pub const MAX_CONTENT_BYTES: u64 = 1_099_511_627_776;

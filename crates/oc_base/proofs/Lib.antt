@@ -1,3 +1,5 @@
 pub mod Cuts
 pub mod Pads
 pub mod Differing
+pub mod NameOrder
+pub mod Finding

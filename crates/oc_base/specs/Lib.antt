@@ -1,6 +1,9 @@
 pub mod Rank
 pub mod Cert
 pub mod Names
+pub mod Named
+pub mod Groups
+pub mod Shelves
 pub mod Padding
 pub mod Why
 pub mod Fields

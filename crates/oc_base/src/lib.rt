@@ -13,11 +13,13 @@ mod cert;
 mod code_row;
 mod cutter;
 mod field;
+mod group;
 mod group_name;
 mod limits;
 mod lists;
 mod memory;
 mod node_id;
+mod place;
 mod rank;
 mod refusal;
 mod shelf;
@@ -27,6 +29,7 @@ pub use cert::{Cert, Child, Line};
 pub use code_row::{CodeRow, distinct, row_of};
 pub use cutter::cut;
 pub use field::{Short, take_bytes, take_u8, take_u16, take_u32, take_u64};
+pub use group::Group;
 pub use group_name::{GroupName, NameFault};
 pub use limits::{
     DUE_BYTES, LAST_SECOND, MAX_ANCESTORS, MAX_BASE_ACKED, MAX_BODY_BYTES, MAX_CHAIN,
@@ -38,6 +41,7 @@ pub use limits::{
 pub use lists::{Bytes, CertList, ChildList, IdList, LineList, ShelfList, Text};
 pub use memory::Memory;
 pub use node_id::NodeId;
+pub use place::{Named, Place, place_of};
 pub use rank::Rank;
 pub use refusal::Refusal;
 pub use shelf::Shelf;

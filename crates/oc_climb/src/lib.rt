@@ -6,7 +6,7 @@
 //!
 //! The layers above rest on this: [`may_adopt`] answers the first refusal that has a cause, and Ok
 //! exactly where none has one ([`the_first_cause_refuses`]). That a rank that is taken is the old one or
-//! precedes it, and that precedence is a strict order, are laws of `oc_step_laws`.
+//! precedes it, and that precedence is a strict order, are laws of `oc_laws_step`.
 #![tactic(auto)]
 
 mod adopt;

@@ -2,7 +2,7 @@
 //! the rules of a node, the world of all nodes, and the claims about it.
 //!
 //! Nothing in here runs: the code of the crates above is held to these definitions, and the laws of
-//! `oc_step_laws` and `oc_laws` are about them.
+//! `oc_laws_step` and `oc_laws_world` are about them.
 #![tactic(auto)]
 
 mod answer;

@@ -8,9 +8,9 @@ use Rattle.oc_model.specs.NextWorld.{next_world, word_of}
 use Rattle.oc_model.specs.World.{new_world}
 use Rattle.oc_model.specs.Chains.{HasNoCycle}
 use Rattle.oc_model.specs.ClaimsTree.{IsExplained, IsInformed}
-use Rattle.oc_laws.specs.Ranks.{ToldRanksHold}
-use Rattle.oc_laws.specs.Throughout.{Throughout}
-use Rattle.oc_tree_laws.specs.Listing.{SettledListsExactly}
+use Rattle.oc_laws_world.specs.Ranks.{ToldRanksHold}
+use Rattle.oc_laws_world.specs.Throughout.{Throughout}
+use Rattle.oc_laws_tree.specs.Listing.{SettledListsExactly}
 use Rattle.oc_outside.specs.Faults.{Rose}
 use Rattle.oc_replay.specs.Replay.{told_text}
 use Rattle.oc_replay.specs.Report.{SomeFront}

@@ -13,10 +13,10 @@ use crate::status::Status;
 use crate::telling::tell;
 use crate::texts::help;
 use crate::words::{Request, WordsFault, read_words};
-use oc_laws::{content_stays_true_throughout, parent_links_form_no_cycle, ranks_hold_throughout};
+use oc_laws_world::{content_stays_true_throughout, parent_links_form_no_cycle, ranks_hold_throughout};
 use oc_outside::{Sink, Source, write_all};
 use oc_replay::{ReplayEnd, replay};
-use oc_tree_laws::{
+use oc_laws_tree::{
     every_count_is_informed, every_line_is_explained, settled_trees_are_listed_exactly,
 };
 use oc_world::{Stage, World};

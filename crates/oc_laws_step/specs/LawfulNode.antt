@@ -1,0 +1,73 @@
+use Rattle.std.specs.Prelude.{ℕ, ◌≡◌, ◌≤◌, Option, Some, None}
+use Rattle.std.specs.List.{AllByRecursion}
+use Rattle.oc_model.specs.declared.mode.Mode.{Mode}
+use Rattle.oc_model.specs.declared.mode.Mode.TheVariants.{Asking, Joined}
+use Rattle.oc_model.specs.declared.soft.Search.{Search}
+use Rattle.oc_model.specs.declared.soft.Search.TheVariants.{Descend}
+use Rattle.oc_model.specs.declared.soft.Soft.{Soft}
+use Rattle.oc_model.specs.declared.want.Want.{Want}
+use Rattle.oc_model.specs.Groups.{shelf, most_chunk}
+use Rattle.oc_model.specs.Lawful.{IsNode, AreNodes, AreAncestors, IsRate, IsRankOrNone, AreCerts, IsMessage, IsRecord, IsShelf, last_second}
+use Rattle.oc_model.specs.Node.{Control, Durable, Node, Outcome}
+use Rattle.oc_model.specs.Plan.{Plan}
+use Rattle.oc_laws_step.specs.Sound.{IsTable}
+
+-- A node whose numbers are within their ranges.
+
+-- a mode with its peer: a node that has one has asked
+abbrev pub IsLawfulMode : ℕ → ℕ → Mode → Type 0
+IsLawfulMode nodes seq (Asking p) = (1 ≤ seq) × IsNode nodes p
+IsLawfulMode nodes seq (Joined p) = (1 ≤ seq) × IsNode nodes p
+IsLawfulMode nodes seq mode = Unit {0}
+
+-- what is durable of a node among so many
+pub record IsLawfulDurable (nodes : ℕ) (d : Durable) : Type 0 where
+  pub mode : IsLawfulMode nodes d.seq d.mode
+  pub rank : IsRankOrNone d.rank
+  pub sorted : IsTable d.table
+  pub table : AreCerts nodes d.table
+  pub waiting : AreCerts nodes d.log.waiting
+  pub ancestors : AreAncestors nodes d.ancestors
+  pub measures : AllByRecursion (λ r. IsRate r.rate) d.measures
+
+abbrev pub IsLawfulSearch : ℕ → Option Search → Type 0
+IsLawfulSearch nodes (Some (Descend p)) = IsNode nodes p
+IsLawfulSearch nodes s = Unit {0}
+
+-- what a start clears
+pub record IsLawfulSoft (nodes : ℕ) (s : Soft) : Type 0 where
+  pub clock : s.clock ≤ last_second
+  pub tries : AreNodes nodes s.tries
+  pub search : IsLawfulSearch nodes s.search
+
+-- the control state of a node among so many
+pub record IsLawfulControl (nodes : ℕ) (n : Control) : Type 0 where
+  pub among : n.nodes ≡ nodes
+  pub me : IsNode nodes n.me
+  pub chain : n.chain ≤ nodes
+  pub kept : IsLawfulDurable nodes n.kept
+  pub soft : IsLawfulSoft nodes n.soft
+  pub rates : AllByRecursion IsRate n.rates
+
+-- no more bytes than a chunk has
+abbrev pub IsLawfulWant : Option Want → Type 0
+IsLawfulWant None = Unit {0}
+IsLawfulWant (Some w) = w.count ≤ most_chunk
+
+-- a step under way: of a lawful node, with lawful records and messages
+pub record IsLawfulPlan (nodes : ℕ) (o : Plan) : Type 0 where
+  pub node : IsLawfulControl nodes o.node
+  pub records : AllByRecursion (IsRecord nodes) o.records
+  pub sends : AllByRecursion (IsMessage nodes) o.sends
+  pub wants : IsLawfulWant o.wants
+
+-- a node: its control state and its shelf
+pub record IsLawfulNode (nodes : ℕ) (n : Node) : Type 0 where
+  pub control : IsLawfulControl nodes n.control
+  pub shelf : IsShelf (shelf n.groups)
+
+-- what a step leaves, writes and sends
+pub record IsLawfulOutcome (nodes : ℕ) (o : Outcome) : Type 0 where
+  pub node : IsLawfulNode nodes o.node
+  pub records : AllByRecursion (IsRecord nodes) o.records
+  pub sends : AllByRecursion (IsMessage nodes) o.sends

@@ -1,0 +1,22 @@
+use Rattle.oc_laws_tree.specs.Sessions.{CheckInsAreNumbered, AcksAnswer, AskersAreNew, CheckInsTell, AcksAreKnown, AckedAreWithin}
+use Rattle.oc_laws_tree.proofs.SessionsCovered.{check_ins_numbered, acks_answer, askers_new, acked_within}
+use Rattle.oc_laws_tree.proofs.Together.{all_after, all_check_ins_tell, all_acks_known}
+use Rattle.oc_laws_tree.proofs.sessions.acknowledged_facts_are_known.Goals as goal
+
+pub returns-clause-numbered : goal.returns-clause-numbered
+returns-clause-numbered c = λ h events. all_after CheckInsAreNumbered (λ w holds. check_ins_numbered w holds.sessions) h events
+
+pub returns-clause-answered : goal.returns-clause-answered
+returns-clause-answered c = λ h events. all_after AcksAnswer (λ w holds. acks_answer w holds.sessions) h events
+
+pub returns-clause-askers : goal.returns-clause-askers
+returns-clause-askers c = λ h events. all_after AskersAreNew (λ w holds. askers_new w holds.sessions) h events
+
+pub returns-clause-told : goal.returns-clause-told
+returns-clause-told c = λ h events. all_after CheckInsTell all_check_ins_tell h events
+
+pub returns-clause-known : goal.returns-clause-known
+returns-clause-known c = λ h events. all_after AcksAreKnown all_acks_known h events
+
+pub returns-clause-within : goal.returns-clause-within
+returns-clause-within c = λ h events. all_after AckedAreWithin (λ w holds. acked_within w holds.sessions) h events

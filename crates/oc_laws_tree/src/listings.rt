@@ -1,0 +1,71 @@
+ghost use Rattle.std.specs.Prelude.{◌≡◌, ◌↔◌, ℕ, List};
+ghost use Rattle.oc_base.specs.declared.cert.Cert.{Cert};
+ghost use Rattle.oc_model.specs.declared.event.Event.{Event};
+ghost use Rattle.oc_model.specs.Chains.{IsRoot};
+ghost use Rattle.oc_model.specs.ClaimsTree.{table_of, IsExplained, IsInformed, HasMissingCause, HasWrongCause, IsWalk, IsTopmostFalse};
+ghost use Rattle.oc_model.specs.NextWorld.{world_after};
+ghost use Rattle.oc_model.specs.Node.{Header};
+ghost use Rattle.oc_model.specs.Ready.{IsSettled};
+ghost use Rattle.oc_model.specs.Table.{IsListed};
+ghost use Rattle.oc_model.specs.World.{World, new_world};
+ghost use Rattle.oc_laws_step.specs.Sound.{IsTable};
+ghost use Rattle.oc_laws_world.specs.Numbers.{HaveOnePeer, AskNumbersAreBelow};
+ghost use Rattle.oc_laws_world.specs.Throughout.{Throughout};
+ghost use Rattle.oc_laws_tree.specs.Clients.{HaveOneCount, OwnNumbersAreBelow};
+ghost use Rattle.oc_laws_tree.specs.Coverage.{ChildrenAreCovered};
+ghost use Rattle.oc_laws_tree.specs.Grants.{FactsAreGranted};
+ghost use Rattle.oc_laws_tree.specs.Listing.{SettledListsExactly};
+
+/// Every missing or wrong line of an acting root's table has its cause at hand: after any events, from any
+/// new world, and in every world on the way.
+///
+/// Of each root that is up and each other node, the root's table tells the first link of the node's live
+/// way to it, or there is a cause. Where the node is missing or misplaced, some node on its way has ended
+/// the lease of the one beneath, or a certificate about one of them waits further up. Where it is listed
+/// and should not be, the topmost false link of the listed way still has its lease, or a certificate about
+/// that child waits above.
+pub fn every_line_is_explained()
+    ensures after { (h : Header) (events : List Event) → IsExplained (world_after (new_world h) events) }
+    ensures throughout { (h : Header) (events : List Event) → Throughout IsExplained (new_world h) events }
+{}
+
+/// Where a root's line of a node is right, so is its count of that node's clients, or the cause is at hand:
+/// after any events, from any new world, and in every world on the way.
+///
+/// The cause is one for which the line could be missing, or that the node's parent has not been told of its
+/// last own number yet.
+pub fn every_count_is_informed()
+    ensures after { (h : Header) (events : List Event) → IsInformed (world_after (new_world h) events) }
+    ensures throughout { (h : Header) (events : List Event) → Throughout IsInformed (new_world h) events }
+{}
+
+/// A settled tree is listed exactly: after any events, from any new world, and in every world on the way.
+///
+/// In a settled world the root's table tells of each node the first link of its live way, and lists no
+/// other, so no node that is down.
+pub fn settled_trees_are_listed_exactly()
+    ensures after { (h : Header) (events : List Event) → SettledListsExactly (world_after (new_world h) events) }
+    ensures throughout { (h : Header) (events : List Event) → Throughout SettledListsExactly (new_world h) events }
+{}
+
+/// Why lines and counts are explained: in a world of ascending tables it follows from what is said of ask
+/// numbers, of grants and of coverage, and for counts of own numbers.
+pub fn explanations_follow()
+    ensures lines { (w : World) → ((x : ℕ) → IsTable (table_of w x)) → HaveOnePeer w → AskNumbersAreBelow w → FactsAreGranted w → ChildrenAreCovered w → IsExplained w }
+    ensures counts { (w : World) → ((x : ℕ) → IsTable (table_of w x)) → HaveOnePeer w → AskNumbersAreBelow w → FactsAreGranted w → ChildrenAreCovered w
+        → HaveOneCount w → OwnNumbersAreBelow w → IsInformed w }
+{}
+
+/// A settled world has no cause for a wrong line, so where its lines are explained they are right.
+pub fn settled_trees_have_no_cause()
+    ensures missing { (w : World) (r x : ℕ) → IsSettled w → HasMissingCause w r x → ⊥ }
+    ensures wrong { (w : World) (r x : ℕ) → IsSettled w → IsRoot w r → HasWrongCause w r x → ⊥ }
+    ensures exact { (w : World) → IsExplained w → SettledListsExactly w }
+{}
+
+/// What a cause speaks of: there is a walk up a table from another node than the root exactly where the
+/// table lists it, and a walk has one topmost false link at most.
+pub fn walks_are_listings()
+    ensures walks { (table : List Cert) (r x : ℕ) → IsListed table r x ↔ ((x ≡ r → ⊥) × ((c : List ℕ) × IsWalk table x r c)) }
+    ensures one_topmost { (w : World) (table : List Cert) (c : List ℕ) (v y u z : ℕ) → IsTopmostFalse w table c v y → IsTopmostFalse w table c u z → (v ≡ u) × (y ≡ z) }
+{}

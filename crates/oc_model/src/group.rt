@@ -1,9 +1,0 @@
-use oc_base::{Bytes, GroupName};
-
-/// A group as a node holds it: its bytes from the first on, and whether it is sealed.
-#[derive(Clone, Debug, Drop)]
-pub struct Group {
-    pub name: GroupName,
-    pub bytes: Bytes,
-    pub sealed: bool,
-}

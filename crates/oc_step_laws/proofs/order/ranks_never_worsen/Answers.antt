@@ -1,5 +1,0 @@
-use Rattle.oc_step_laws.proofs.RankOrder.{take_rank_no_worse}
-use Rattle.oc_step_laws.proofs.order.ranks_never_worsen.Goals as goal
-
-pub returns : goal.returns
-returns c = take_rank_no_worse

@@ -1,5 +1,0 @@
-use Rattle.oc_step_laws.proofs.Unfolding.{snapshot_stands}
-use Rattle.oc_step_laws.proofs.snapshots.snapshots_stand_for_all.Goals as goal
-
-pub returns : goal.returns
-returns c = snapshot_stands

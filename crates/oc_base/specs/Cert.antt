@@ -1,4 +1,4 @@
-use Rattle.std.specs.Prelude.{◌≡◌, ◌<◌, ◌⊎◌, Bool, true, false}
+use Rattle.std.specs.Prelude.{◌≡◌, ◌<◌, ◌⊎◌, true, false}
 use Rattle.oc_base.specs.declared.cert.Cert.{Cert}
 
 -- of two words on one subject: the greater ask number is later, at one number death is, and at one state the greater own number

@@ -2,6 +2,7 @@ pub mod Rank
 pub mod Cert
 pub mod Names
 pub mod Named
+pub mod Lawful
 pub mod Groups
 pub mod Shelves
 pub mod Padding

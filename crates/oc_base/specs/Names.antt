@@ -1,6 +1,7 @@
-use Rattle.std.specs.Prelude.{◌≡◌, ℕ, ◌+◌, ◌-◌, ◌<◌, ◌≤◌, Bool, true, false, not, ◌&&◌, ◌||◌, ◌==◌, nat_lt, nat_le, if◌then◌else◌, Option, Some, None, Result, Ok, Err, List, [], ◌∷◌, ◌++◌, length, take, replicate, position}
+use Rattle.std.specs.Prelude.{◌≡◌, ℕ, Bool, true, false, not, ◌&&◌, ◌||◌, ◌==◌, nat_lt, nat_le, if◌then◌else◌, Option, Some, None, Result, Ok, Err, List, [], ◌∷◌, length, position}
 use Rattle.std.specs.List.{list_all, slice_split}
 use Rattle.oc_base.specs.declared.group_name.NameFault.{NameFault}
+use Rattle.oc_base.specs.declared.limits.TheConstants.{MIN_NAME_BYTES, MAX_NAME_BYTES}
 use Rattle.oc_base.specs.declared.group_name.NameFault.TheVariants.{Length, Byte, Form}
 
 -- a letter, a digit, or one of `/`, `.`, `_`, `~` and `-`
@@ -28,7 +29,7 @@ fault_at None formed = if formed then None else Some Form
 -- why these bytes are no group name, if they are none: the length first, then the first byte, then the form
 abbrev pub name_fault : List ℕ → Option NameFault
 name_fault bytes =
-    if nat_lt (length bytes) 2 || nat_lt 200 (length bytes) then Some Length
+    if nat_lt (length bytes) MIN_NAME_BYTES || nat_lt MAX_NAME_BYTES (length bytes) then Some Length
     else fault_at (position (λ b. not (is_name_byte b)) bytes) (is_path bytes)
 
 abbrev pub name_or : List ℕ → Option NameFault → Result (List ℕ) NameFault

@@ -6,14 +6,13 @@ ghost use Rattle.std.specs.Cmp.Lexicographic.{slice_cmp, pointwise};
 ghost use Rattle.std.specs.Ordering.{nat_cmp, as_partial_cmp};
 ghost use Rattle.oc_base.specs.Names.{parsed_name, name_fault, is_name_byte, is_segment, is_path};
 ghost use Rattle.std.specs.List.{list_all, slice_split};
+ghost use Rattle.oc_base.specs.declared.limits.TheConstants.{MAX_NAME_BYTES};
 
 use crate::cutter::cut;
+use crate::limits::{MAX_NAME_BYTES, MIN_NAME_BYTES};
 use std::cmp::Ordering;
 use std::fmt;
 use std::marker::Model;
-
-/// The greatest length of a group's name, in bytes.
-const MOST: usize = 200;
 
 /// The name of a group: the path of its URL. Names are ordered by their bytes.
 ///
@@ -21,22 +20,23 @@ const MOST: usize = 200;
 /// no segment between slashes or behind the last is empty, `.` or `..`.
 #[derive(Clone, Copy)]
 pub struct GroupName {
-    bytes: [u8; 200],
+    bytes: [u8; MAX_NAME_BYTES],
     len: u8,
 }
 
 impl Model for GroupName {
     ghost use Rattle.std.specs.Prelude.{◌≡◌, ℕ, ◌-◌, ◌≤◌, List, ◌++◌, length, take, replicate};
+    ghost use Rattle.oc_base.specs.declared.limits.TheConstants.{MAX_NAME_BYTES};
     ghost use Rattle.oc_base.specs.Padding.{length_of_front, padded_again};
 
     ghost Value = { List ℕ };
 
     ghost view = { λ n. take n.len n.bytes };
 
-    ghost invariant = { λ n. (n.len ≤ 200) × (length n.bytes ≡ 200)
-        × (n.bytes ≡ take n.len n.bytes ++ replicate (200 - n.len) 0) };
+    ghost invariant = { λ n. (n.len ≤ MAX_NAME_BYTES) × (length n.bytes ≡ MAX_NAME_BYTES)
+        × (n.bytes ≡ take n.len n.bytes ++ replicate (MAX_NAME_BYTES - n.len) 0) };
 
-    ghost inverse = { λ xs. record { bytes = xs ++ replicate (200 - length xs) 0; len = length xs } };
+    ghost inverse = { λ xs. record { bytes = xs ++ replicate (MAX_NAME_BYTES - length xs) 0; len = length xs } };
 
     ghost inverse_ok = { λ n h i. record {
       bytes = padded_again n.len n.bytes h.0 h.1 h.2 i;
@@ -74,10 +74,10 @@ impl GroupName {
     }
 
     fn padded(name: &[u8]) -> GroupName
-        requires { length name.now ≤ 200 }
+        requires { length name.now ≤ MAX_NAME_BYTES }
         ensures { result ≡ name.now }
     {
-        let mut bytes = [0; 200];
+        let mut bytes = [0; MAX_NAME_BYTES];
         put_in_front(&mut bytes, name);
         GroupName {
             bytes,
@@ -98,7 +98,7 @@ fn put_in_front(bytes: &mut [u8], name: &[u8])
 fn fault_in(bytes: &[u8]) -> Option<NameFault>
     ensures { result ≡ name_fault bytes.now }
 {
-    if bytes.len() < 2 || bytes.len() > MOST {
+    if bytes.len() < MIN_NAME_BYTES || bytes.len() > MAX_NAME_BYTES {
         Some(NameFault::Length)
     } else if let Some(at) = first_strange(bytes) {
         Some(NameFault::Byte(at))

@@ -17,6 +17,12 @@ pub const MAX_ANCESTORS: usize = 1_000;
 /// The greatest number of certificates in a check-in.
 pub const MAX_CHECK_IN_CERTS: usize = 64;
 
+/// The greatest area of a node.
+pub const MAX_AREA: u8 = 255;
+
+/// The greatest number of hops to a peer.
+pub const MAX_HOPS: u8 = 255;
+
 /// The greatest rate, in bytes per second: 2^40.
 pub const MAX_RATE: u64 = 1_099_511_627_776;
 

@@ -1,4 +1,5 @@
 ghost use Rattle.std.specs.Prelude.{◌≡◌, ◌<◌, ◌↔◌, IsTrue};
+ghost use Rattle.oc_base.specs.declared.limits.TheConstants.{MAX_DEPTH};
 ghost use Rattle.oc_base.specs.Rank.{Precedes, beneath_of};
 
 /// A durable pair that keeps parent links free of cycles: a parent's rank precedes its child's.
@@ -18,7 +19,7 @@ impl Rank {
 
     /// The rank of a child: the same epoch, one deeper.
     pub fn beneath(self) -> Rank
-        requires { self.depth < 1000 }
+        requires { self.depth < MAX_DEPTH }
         ensures { result ≡ beneath_of self }
     {
         Rank {

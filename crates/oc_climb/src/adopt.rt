@@ -3,8 +3,7 @@ ghost use Rattle.oc_model.specs.Adoption.{adoption_refusal, chain_refusal, rank_
 ghost use Rattle.oc_model.specs.Numbers.{has};
 
 use crate::Host;
-use crate::take::MOST_DEPTH;
-use oc_base::{NodeId, Rank, Refusal};
+use oc_base::{MAX_DEPTH, NodeId, Rank, Refusal};
 
 /// Whether the host becomes the parent of the asker, which has this rank or none: Ok, or the first
 /// refusal that has a cause, in the order of [`Refusal`]. The rank keeps cycles out where the list of
@@ -29,7 +28,7 @@ fn refusal(host: &Host, asker: NodeId, rank: Option<Rank>) -> Option<Refusal>
         Some(Refusal::NotJoined)
     } else if is_among(asker, host.ancestors) {
         Some(Refusal::Ancestor)
-    } else if host.rank.depth >= MOST_DEPTH {
+    } else if host.rank.depth >= MAX_DEPTH {
         Some(Refusal::Depth)
     } else {
         by_chain(host, asker).or(by_rank(host.rank, rank))

@@ -1,17 +1,14 @@
 ghost use Rattle.std.specs.Prelude.{◌≡◌};
 ghost use Rattle.oc_model.specs.Adoption.{take_rank as taken};
 
-use oc_base::Rank;
-
-/// The greatest depth: a node that deep takes no child.
-pub(crate) const MOST_DEPTH: u32 = 1000;
+use oc_base::{MAX_DEPTH, Rank};
 
 /// The rank of a node after its parent told its own: the one beneath that, where it precedes the
 /// node's or the node has none, and else the node's. A late, worse word changes nothing.
 pub fn take_rank(own: Option<Rank>, told: Rank) -> Option<Rank>
     ensures { result ≡ taken own told }
 {
-    if told.depth >= MOST_DEPTH {
+    if told.depth >= MAX_DEPTH {
         return own;
     }
     let beneath = told.beneath();

@@ -5,13 +5,15 @@ use Rattle.oc_base.specs.declared.shelf.Shelf.{Shelf}
 use Rattle.oc_content.specs.declared.heading.Heading.{Heading}
 use Rattle.oc_content.specs.declared.track.Span.{Span}
 use Rattle.oc_content.specs.declared.index.Index.{Index}
-use Rattle.oc_content.specs.declared.place.Place.{Place}
-use Rattle.oc_content.specs.declared.place.Place.TheVariants.{Found, Free}
-use Rattle.oc_content.specs.Groups.{Group, shelf, shelf_of, line_of, or_empty}
+use Rattle.oc_base.specs.declared.place.Place.{Place}
+use Rattle.oc_base.specs.declared.place.Place.TheVariants.{Found, Free}
+use Rattle.oc_base.specs.declared.group.Group.{Group}
+use Rattle.oc_base.specs.Groups.{shelf, shelf_of, or_empty}
+use Rattle.oc_base.specs.Shelves.{line_of, IsLinePlace}
 use Rattle.oc_content.specs.Entries.{Entry, entry_of}
-use Rattle.oc_content.specs.ContentFile.{fits, grown, with_entry, taken, most_groups, most_bytes}
+use Rattle.oc_content.specs.ContentFile.{fits, grown, with_entry, taken}
+use Rattle.oc_base.specs.declared.limits.TheConstants.{MAX_GROUPS, MAX_GROUP_BYTES}
 use Rattle.oc_content.specs.Headings.{entry_at}
-use Rattle.oc_content.specs.Places.{IsPlace}
 use Rattle.oc_content.specs.Indexes.{IsTracked, AreTracked, paths, span_of, lines_with, line_with, paths_with, IsIndexOf, IsSized, IsWithin}
 use Rattle.oc_content.proofs.Lists.{length-changed, length_insert, all_places}
 use Rattle.oc_content.proofs.Lines.{length-shelf, stands_within, goes_within, stands_name, line_of-stands, line_of-goes, with_entry-stands, with_entry-goes, shelf-changed, shelf-insert, fresh}
@@ -25,7 +27,7 @@ line_at (j ∷ ks) zero k h e = ap shelf_of e
 line_at (j ∷ ks) (suc i) k h e = line_at ks i k (omega (arith, h)) e
 
 -- the groups with an entry are tracked
-tracked-add : (bodies : List (List ℕ)) (groups : List Group) (ps : List (List Span)) (h : Heading) (body : List ℕ) (count frame : ℕ) (place : Place) → AreTracked bodies groups ps → IsPlace (shelf groups) h.group place → fits (line_of h.group (shelf groups)) (length groups) h.start count h.seals ≡ true → count ≡ length (drop h.skip body) → entry_of body ≡ Some (entry_at h body) → frame ≡ length bodies → AreTracked (bodies ++ body ∷ []) (with_entry (entry_at h body) groups) (paths_with place (span_of h count frame) ps)
+tracked-add : (bodies : List (List ℕ)) (groups : List Group) (ps : List (List Span)) (h : Heading) (body : List ℕ) (count frame : ℕ) (place : Place) → AreTracked bodies groups ps → IsLinePlace (shelf groups) h.group place → fits (line_of h.group (shelf groups)) (length groups) h.start count h.seals ≡ true → count ≡ length (drop h.skip body) → entry_of body ≡ Some (entry_at h body) → frame ≡ length bodies → AreTracked (bodies ++ body ∷ []) (with_entry (entry_at h body) groups) (paths_with place (span_of h count frame) ps)
 tracked-add bodies groups ps h body count frame (Found i) tracked at fit many says number =
     let more = AreTracked-more bodies body groups ps tracked in
     let here : get_or (bodies ++ body ∷ []) frame [] ≡ body = get_or_push bodies body [] frame (sym number) in
@@ -50,7 +52,7 @@ tracked-add bodies groups ps h body count frame (Free i) tracked at fit many say
     (IsTracked-push (bodies ++ body ∷ []) (or_empty h.group None) [] h frame count body here within says many refl new.0 none) more)
 
 -- the lines of the groups with an entry
-lines-add : (groups : List Group) (h : Heading) (body : List ℕ) (count : ℕ) (place : Place) → IsPlace (shelf groups) h.group place → count ≡ length (drop h.skip body) → lines_with place h count (shelf groups) ≡ shelf (with_entry (entry_at h body) groups)
+lines-add : (groups : List Group) (h : Heading) (body : List ℕ) (count : ℕ) (place : Place) → IsLinePlace (shelf groups) h.group place → count ≡ length (drop h.skip body) → lines_with place h count (shelf groups) ≡ shelf (with_entry (entry_at h body) groups)
 lines-add groups h body count (Found i) at many =
     sym (ap shelf (with_entry-stands groups (entry_at h body) i at) ∙ shelf-changed groups h body count i many at)
 lines-add groups h body count (Free i) at many =
@@ -63,9 +65,9 @@ rows-add ss ps h count spans (Free i) e =
     length_insert i ps spans ∙ (ap suc e ∙ sym (length_insert i ss (record { group = h.group; held = count; sealed = h.seals })))
 
 -- the index with an entry is that of one frame more
-pub IsIndexOf-add : (bodies : List (List ℕ)) (groups : List Group) (x y : Index) (honest : Bool) (h : Heading) (body : List ℕ) (count frame : ℕ) (place : Place) → IsIndexOf bodies groups x honest → IsPlace x.shelves.items h.group place → fits (line_of h.group x.shelves.items) (length x.shelves.items) h.start count h.seals ≡ true → count ≡ length (drop h.skip body) → entry_of body ≡ Some (entry_at h body) → (IsTrue honest → frame ≡ length bodies) → y.shelves.items ≡ lines_with place h count x.shelves.items → paths y.tracks.items ≡ paths_with place (span_of h count frame) (paths x.tracks.items) → most_groups ≤ vec_capacity y.shelves → most_groups ≤ vec_capacity y.tracks → IsIndexOf (bodies ++ body ∷ []) (with_entry (entry_at h body) groups) y honest
+pub IsIndexOf-add : (bodies : List (List ℕ)) (groups : List Group) (x y : Index) (honest : Bool) (h : Heading) (body : List ℕ) (count frame : ℕ) (place : Place) → IsIndexOf bodies groups x honest → IsLinePlace x.shelves.items h.group place → fits (line_of h.group x.shelves.items) (length x.shelves.items) h.start count h.seals ≡ true → count ≡ length (drop h.skip body) → entry_of body ≡ Some (entry_at h body) → (IsTrue honest → frame ≡ length bodies) → y.shelves.items ≡ lines_with place h count x.shelves.items → paths y.tracks.items ≡ paths_with place (span_of h count frame) (paths x.tracks.items) → MAX_GROUPS ≤ vec_capacity y.shelves → MAX_GROUPS ≤ vec_capacity y.tracks → IsIndexOf (bodies ++ body ∷ []) (with_entry (entry_at h body) groups) y honest
 IsIndexOf-add bodies groups x y honest h body count frame place is at fit many says number lines tracks line_memory track_memory =
-    let at' : IsPlace (shelf groups) h.group place = subst (λ (ss : List Shelf). IsPlace ss h.group place) is.lines at in
+    let at' : IsLinePlace (shelf groups) h.group place = subst (λ (ss : List Shelf). IsLinePlace ss h.group place) is.lines at in
     let fit' : fits (line_of h.group (shelf groups)) (length groups) h.start count h.seals ≡ true =
     subst (λ (n : ℕ). fits (line_of h.group (shelf groups)) n h.start count h.seals ≡ true) (length-shelf groups) (subst (λ (ss : List Shelf). fits (line_of h.group ss) (length ss) h.start count h.seals ≡ true) is.lines fit) in
     record {
@@ -90,18 +92,18 @@ IsSized-good bodies groups x honest is =
       track_memory = is.track_memory;
       ascending = rw is.lines good.ascending;
       few = omega (arith, good.few, length-shelf groups, ap length is.lines);
-      short = rw is.lines (all_places (λ s. s.held ≤ most_bytes) (shelf groups) good.short);
+      short = rw is.lines (all_places (λ s. s.held ≤ MAX_GROUP_BYTES) (shelf groups) good.short);
     }
 
 -- where an entry fits there is a place for it
-pub place_within : (ss : List Shelf) (g : List ℕ) (place : Place) (start count : ℕ) (seals : Bool) → IsPlace ss g place → fits (line_of g ss) (length ss) start count seals ≡ true → IsWithin place (length ss)
+pub place_within : (ss : List Shelf) (g : List ℕ) (place : Place) (start count : ℕ) (seals : Bool) → IsLinePlace ss g place → fits (line_of g ss) (length ss) start count seals ≡ true → IsWithin place (length ss)
 place_within ss g (Found i) start count seals at fit = stands_within ss g i at
 place_within ss g (Free i) start count seals at fit =
     let absent : line_of g ss ≡ None = line_of-goes ss g i at in
     (goes_within ss g i at, (fits_new (length ss) start count seals (rw absent at fit)).1)
 
 -- an entry that fits is no longer than a group
-pub count_short : (line : Option Shelf) (groups start count : ℕ) (seals : Bool) → fits line groups start count seals ≡ true → count ≤ most_bytes
+pub count_short : (line : Option Shelf) (groups start count : ℕ) (seals : Bool) → fits line groups start count seals ≡ true → count ≤ MAX_GROUP_BYTES
 count_short None groups start count seals fit = (fits_new groups start count seals fit).2
 count_short (Some line) groups start count seals fit = omega (arith, (fits_held line groups start count seals fit).1)
 
@@ -116,7 +118,7 @@ taken-refused bodies groups x honest h body count is many says fit =
     refused ks e f = rw f
 
 -- an entry that fits ends within the limit
-pub end_short : (line : Option Shelf) (groups start count : ℕ) (seals : Bool) → fits line groups start count seals ≡ true → start + count ≤ most_bytes
+pub end_short : (line : Option Shelf) (groups start count : ℕ) (seals : Bool) → fits line groups start count seals ≡ true → start + count ≤ MAX_GROUP_BYTES
 end_short None groups start count seals fit =
     let new = fits_new groups start count seals fit in omega (arith, new.0, new.2)
 end_short (Some line) groups start count seals fit =

@@ -8,7 +8,7 @@ use Rattle.std.proofs.lemmas.Bool.Decides.{nat_tests}
 use Rattle.oc_content.specs.declared.track.Span.{Span}
 use Rattle.std.proofs.lemmas.List.{drop-drop, drop_at, length-append, get_or_default}
 use Rattle.oc_content.specs.declared.track.Found.{Found}
-use Rattle.oc_content.specs.Groups.{Group}
+use Rattle.oc_base.specs.declared.group.Group.{Group}
 use Rattle.oc_content.specs.Indexes.{bytes_at, IsSpan, AreSpans, IsTracked}
 use Rattle.oc_content.specs.Founds.{IsHit, IsRest}
 use Rattle.oc_content.specs.Tracks.{IsLastBefore}

@@ -1,4 +1,3 @@
-pub mod Names
 pub mod Lists
 pub mod Lines
 pub mod Meanings
@@ -14,4 +13,3 @@ pub mod Loading
 pub mod Journals
 pub mod Locating
 pub mod Across
-pub mod Finding

@@ -5,16 +5,17 @@ use Rattle.oc_outside.specs.DiskView.{DiskView}
 use Rattle.oc_journal.specs.JournalView.{JournalView, OnlyReads}
 use Rattle.oc_content.specs.declared.index.Index.{Index}
 use Rattle.oc_content.specs.declared.track.Span.{Span}
-use Rattle.oc_content.specs.Groups.{Group}
+use Rattle.oc_base.specs.declared.group.Group.{Group}
 use Rattle.oc_content.specs.Entries.{entry_of}
-use Rattle.oc_content.specs.ContentFile.{taken, content_of, IsFirstBad, most_groups}
+use Rattle.oc_content.specs.ContentFile.{taken, content_of, IsFirstBad}
+use Rattle.oc_base.specs.declared.limits.TheConstants.{MAX_GROUPS}
 use Rattle.oc_content.specs.Indexes.{IsIndexOf, IsSized, AreTracked, paths}
 use Rattle.oc_content.specs.ContentView.{IsIndexed, IsIndexedTo}
 use Rattle.oc_content.proofs.Meanings.{content_of-push}
 use Rattle.oc_content.proofs.Adding.{IsSized-good}
 
 -- an index of no frames
-pub IsIndexedTo-start : {D : Type 0} (view : D → DiskView) (j : JournalView D) (x : Index) → x.shelves.items ≡ [] → x.tracks.items ≡ [] → most_groups ≤ vec_capacity x.shelves → most_groups ≤ vec_capacity x.tracks → IsIndexedTo view j x 0
+pub IsIndexedTo-start : {D : Type 0} (view : D → DiskView) (j : JournalView D) (x : Index) → x.shelves.items ≡ [] → x.tracks.items ≡ [] → MAX_GROUPS ≤ vec_capacity x.shelves → MAX_GROUPS ≤ vec_capacity x.tracks → IsIndexedTo view j x 0
 IsIndexedTo-start view j x lines tracks line_memory track_memory = record {
   bodies = [];
   groups = [];

@@ -3,11 +3,13 @@ use Rattle.std.proofs.Common.{◌≡◌, ℕ, zero, suc, ◌<◌, ◌≤◌, Boo
 use Rattle.oc_base.specs.declared.shelf.Shelf.{Shelf}
 use Rattle.oc_content.specs.declared.track.Span.{Span}
 use Rattle.oc_content.specs.declared.index.Index.{Index}
-use Rattle.oc_content.specs.Groups.{Group, same_name, group_of, shelf, held_of, IsHeldAt}
-use Rattle.oc_content.specs.Places.{StandsAt, GoesAt}
+use Rattle.oc_base.specs.declared.group.Group.{Group}
+use Rattle.oc_base.specs.Named.{same_name}
+use Rattle.oc_base.specs.Groups.{group_of, shelf}
+use Rattle.oc_base.specs.Shelves.{held_of, IsHeldAt, IsLineAt, IsFreeLineAt}
 use Rattle.oc_content.specs.Indexes.{IsTracked, AreTracked, paths, helds, IsIndexOf}
 use Rattle.oc_content.specs.Founds.{IsRest, IsSpot}
-use Rattle.oc_content.proofs.Names.{same_name-itself}
+use Rattle.oc_base.proofs.NameOrder.{same_name-itself}
 use Rattle.oc_content.proofs.Lines.{group_of-past, line_of-goes}
 
 -- the group that stands at a place, with its spans and its line
@@ -18,7 +20,7 @@ pub record GroupAt (bodies : List (List ℕ)) (groups : List Group) (ss : List S
   pub held : length group.bytes ≡ get_or (helds ss) at 0
   pub found : group_of g groups ≡ Some group
 
-group_stands : (bodies : List (List ℕ)) (groups : List Group) (ps : List (List Span)) (g : List ℕ) (at : ℕ) → AreTracked bodies groups ps → StandsAt (shelf groups) g at → GroupAt bodies groups (shelf groups) ps g at
+group_stands : (bodies : List (List ℕ)) (groups : List Group) (ps : List (List Span)) (g : List ℕ) (at : ℕ) → AreTracked bodies groups ps → IsLineAt (shelf groups) g at → GroupAt bodies groups (shelf groups) ps g at
 group_stands bodies [] ps g at are stands = absurd stands
 group_stands bodies (k ∷ ks) [] g at are stands = absurd are
 group_stands bodies (k ∷ ks) (p ∷ ps) g zero are stands =
@@ -28,30 +30,30 @@ group_stands bodies (k ∷ ks) (p ∷ ps) g (suc at) are stands =
     let there = group_stands bodies ks ps g at are.1 stands.1 in
     record { group = there.group; named = there.named; tracked = there.tracked; held = there.held; found = group_of-past g k ks stands.0 ∙ there.found }
 
-pub group_at : (bodies : List (List ℕ)) (groups : List Group) (x : Index) (honest : Bool) (g : List ℕ) (at : ℕ) → IsIndexOf bodies groups x honest → IsTrue honest → StandsAt x.shelves.items g at → GroupAt bodies groups x.shelves.items (paths x.tracks.items) g at
+pub group_at : (bodies : List (List ℕ)) (groups : List Group) (x : Index) (honest : Bool) (g : List ℕ) (at : ℕ) → IsIndexOf bodies groups x honest → IsTrue honest → IsLineAt x.shelves.items g at → GroupAt bodies groups x.shelves.items (paths x.tracks.items) g at
 group_at bodies groups x honest g at is h stands =
-    subst (λ (ss : List Shelf). GroupAt bodies groups ss (paths x.tracks.items) g at) (sym is.lines) (group_stands bodies groups (paths x.tracks.items) g at (is.tracked h) (subst (λ (ss : List Shelf). StandsAt ss g at) is.lines stands))
+    subst (λ (ss : List Shelf). GroupAt bodies groups ss (paths x.tracks.items) g at) (sym is.lines) (group_stands bodies groups (paths x.tracks.items) g at (is.tracked h) (subst (λ (ss : List Shelf). IsLineAt ss g at) is.lines stands))
 
 -- the length of the group that stands at a place
-pub held_of-stands : (ss : List Shelf) (g : List ℕ) (at : ℕ) → StandsAt ss g at → held_of g ss ≡ Some (get_or (helds ss) at 0)
+pub held_of-stands : (ss : List Shelf) (g : List ℕ) (at : ℕ) → IsLineAt ss g at → held_of g ss ≡ Some (get_or (helds ss) at 0)
 held_of-stands [] g at stands = absurd stands
 held_of-stands (s ∷ ss) g zero stands =
     let same : same_name g s.group ≡ true = ap (same_name g) stands ∙ same_name-itself g in
     rw same
 held_of-stands (s ∷ ss) g (suc at) stands = rw stands.0 (held_of-stands ss g at stands.1)
 
-pub held_of-goes : (ss : List Shelf) (g : List ℕ) (at : ℕ) → GoesAt ss g at → held_of g ss ≡ None
+pub held_of-goes : (ss : List Shelf) (g : List ℕ) (at : ℕ) → IsFreeLineAt ss g at → held_of g ss ≡ None
 held_of-goes ss g at goes = rw (line_of-goes ss g at goes)
 
 -- a byte before the end of the group is there, and one past it is not
-pub held_at : (ss : List Shelf) (g : List ℕ) (at start : ℕ) → StandsAt ss g at → start < get_or (helds ss) at 0 → IsHeldAt g ss start
+pub held_at : (ss : List Shelf) (g : List ℕ) (at start : ℕ) → IsLineAt ss g at → start < get_or (helds ss) at 0 → IsHeldAt g ss start
 held_at ss g at start stands within = rw (held_of-stands ss g at stands) within
 
-pub past_end : (ss : List Shelf) (g : List ℕ) (at start : ℕ) → StandsAt ss g at → get_or (helds ss) at 0 ≤ start → ¬ IsHeldAt g ss start
+pub past_end : (ss : List Shelf) (g : List ℕ) (at start : ℕ) → IsLineAt ss g at → get_or (helds ss) at 0 ≤ start → ¬ IsHeldAt g ss start
 past_end ss g at start stands past =
     λ h. let within : start < get_or (helds ss) at 0 = rw (held_of-stands ss g at stands) at h in omega (arith, within, past)
 
-pub absent_group : (ss : List Shelf) (g : List ℕ) (at start : ℕ) → GoesAt ss g at → ¬ IsHeldAt g ss start
+pub absent_group : (ss : List Shelf) (g : List ℕ) (at start : ℕ) → IsFreeLineAt ss g at → ¬ IsHeldAt g ss start
 absent_group ss g at start goes = λ h. rw (held_of-goes ss g at goes) at h
 
 -- what is found of a byte is its spot

@@ -5,12 +5,15 @@ use Rattle.std.specs.List.{AllByRecursion}
 use Rattle.std.proofs.lemmas.List.{length-append}
 use Rattle.std.proofs.lemmas.Bool.{eqb-true, ltb-true, leb-true}
 use Rattle.oc_base.specs.declared.shelf.Shelf.{Shelf}
-use Rattle.oc_content.specs.Groups.{Group, group_of, with_group, shelf, shelf_of, line_of, AreAbove, IsAscending}
+use Rattle.oc_base.specs.declared.group.Group.{Group}
+use Rattle.oc_base.specs.Groups.{group_of, with_group, shelf, shelf_of}
+use Rattle.oc_base.specs.Shelves.{line_of, AreLinesAbove, AreLinesAscending}
 use Rattle.oc_content.specs.Entries.{Entry, entry_of}
-use Rattle.oc_content.specs.ContentFile.{fits, grown, with_entry, taken, more, content_of, most_groups, most_bytes}
+use Rattle.oc_content.specs.ContentFile.{fits, grown, with_entry, taken, more, content_of}
+use Rattle.oc_base.specs.declared.limits.TheConstants.{MAX_GROUPS, MAX_GROUP_BYTES}
 use Rattle.oc_content.proofs.Lists.{all_weaker}
 use Rattle.oc_content.proofs.Lines.{line_of-shelf, fresh}
-use Rattle.oc_content.proofs.Names.{names_tied, names_back, names_rise}
+use Rattle.oc_base.proofs.NameOrder.{names_tied, names_back, names_rise}
 
 -- the parts of a test that passes
 and_three : (a b c : Bool) → (a && b && c) ≡ true → (a ≡ true) × (b ≡ true) × (c ≡ true)
@@ -27,25 +30,25 @@ and_four true false c d h = absurd cc
 and_four false b c d h = absurd cc
 
 -- what is put among greater names stands among them
-above_more : (g : List ℕ) (k : Group) (ks : List Group) → slice_cmp nat_cmp g k.name ≡ Less → AreAbove g (shelf ks) → AreAbove g (shelf (with_group k ks))
+above_more : (g : List ℕ) (k : Group) (ks : List Group) → slice_cmp nat_cmp g k.name ≡ Less → AreLinesAbove g (shelf ks) → AreLinesAbove g (shelf (with_group k ks))
 above_more g k [] h all = (h, tt)
 above_more g k (j ∷ js) h all = by_order (above_more g k js h all.1) (slice_cmp nat_cmp k.name j.name) refl where
-  by_order : AreAbove g (shelf (with_group k js)) → (o : Ordering) → slice_cmp nat_cmp k.name j.name ≡ o → AreAbove g (shelf (with_group k (j ∷ js)))
+  by_order : AreLinesAbove g (shelf (with_group k js)) → (o : Ordering) → slice_cmp nat_cmp k.name j.name ≡ o → AreLinesAbove g (shelf (with_group k (j ∷ js)))
   by_order rest Less e = rw e (h, all)
   by_order rest Equal e = rw e (h, all.1)
   by_order rest Greater e = rw e (all.0, rest)
 
 -- what is above a name is above a lesser one
-pub above_lower : (a b : List ℕ) (ss : List Shelf) → slice_cmp nat_cmp a b ≡ Less → AreAbove b ss → AreAbove a ss
+pub above_lower : (a b : List ℕ) (ss : List Shelf) → slice_cmp nat_cmp a b ≡ Less → AreLinesAbove b ss → AreLinesAbove a ss
 above_lower a b ss h all = all_weaker (λ s. slice_cmp nat_cmp b s.group ≡ Less) (λ s. slice_cmp nat_cmp a s.group ≡ Less) (λ s e. names_rise a b s.group h e) ss all
 
 -- a list that ascends does so once a group was put
-ascending-with_group : (k : Group) (ks : List Group) → IsAscending (shelf ks) → IsAscending (shelf (with_group k ks))
+ascending-with_group : (k : Group) (ks : List Group) → AreLinesAscending (shelf ks) → AreLinesAscending (shelf (with_group k ks))
 ascending-with_group k [] up = (tt, tt)
 ascending-with_group k (j ∷ js) up = by_order (ascending-with_group k js up.1) (slice_cmp nat_cmp k.name j.name) refl where
-  by_order : IsAscending (shelf (with_group k js)) → (o : Ordering) → slice_cmp nat_cmp k.name j.name ≡ o → IsAscending (shelf (with_group k (j ∷ js)))
+  by_order : AreLinesAscending (shelf (with_group k js)) → (o : Ordering) → slice_cmp nat_cmp k.name j.name ≡ o → AreLinesAscending (shelf (with_group k (j ∷ js)))
   by_order rest Less e = rw e ((e, above_lower k.name j.name (shelf js) e up.0), up)
-  by_order rest Equal e = rw e (subst (λ g. AreAbove g (shelf js)) (sym (names_tied k.name j.name e)) up.0, up.1)
+  by_order rest Equal e = rw e (subst (λ g. AreLinesAbove g (shelf js)) (sym (names_tied k.name j.name e)) up.0, up.1)
   by_order rest Greater e = rw e (above_more j.name k js (names_back k.name j.name e) up.0, rest)
 
 -- what holds of the lines and of a new one holds once it was put
@@ -67,10 +70,10 @@ length-with_group k (j ∷ js) = by_order (length-with_group k js) (slice_cmp na
   by_order rest Greater e = rw e (omega (arith, rest))
 
 -- and none more where one of its name stands
-length-with_group_same : (k : Group) (ks : List Group) → IsAscending (shelf ks) → is_some (line_of k.name (shelf ks)) ≡ true → length (with_group k ks) ≡ length ks
+length-with_group_same : (k : Group) (ks : List Group) → AreLinesAscending (shelf ks) → is_some (line_of k.name (shelf ks)) ≡ true → length (with_group k ks) ≡ length ks
 length-with_group_same k [] up h = absurd cc
 length-with_group_same k (j ∷ js) up h = by_order (length-with_group_same k js up.1) (slice_cmp nat_cmp k.name j.name) refl where
-  absent : (ss : List Shelf) → AreAbove k.name ss → line_of k.name ss ≡ None
+  absent : (ss : List Shelf) → AreLinesAbove k.name ss → line_of k.name ss ≡ None
   absent [] all = refl
   absent (s ∷ ss) all = rw all.0 (absent ss all.1)
 
@@ -86,21 +89,21 @@ length-with_group_same k (j ∷ js) up h = by_order (length-with_group_same k js
 
 -- what the groups of good frames are like: their names ascend, and they are within the limits
 pub record IsGood (ks : List Group) : Type 0 where
-  pub ascending : IsAscending (shelf ks)
-  pub few : length ks ≤ most_groups
-  pub short : AllByRecursion (λ s. s.held ≤ most_bytes) (shelf ks)
+  pub ascending : AreLinesAscending (shelf ks)
+  pub few : length ks ≤ MAX_GROUPS
+  pub short : AllByRecursion (λ s. s.held ≤ MAX_GROUP_BYTES) (shelf ks)
 
 -- what a new group meets
-pub fits_new : (groups start count : ℕ) (seals : Bool) → fits None groups start count seals ≡ true → (start ≡ 0) × (groups < most_groups) × (count ≤ most_bytes)
+pub fits_new : (groups start count : ℕ) (seals : Bool) → fits None groups start count seals ≡ true → (start ≡ 0) × (groups < MAX_GROUPS) × (count ≤ MAX_GROUP_BYTES)
 fits_new groups start count seals h =
-    let three = and_three (start == 0) (nat_lt groups most_groups) (nat_le count most_bytes) h in
-    (eqb-true start 0 three.0, ltb-true groups most_groups three.1, leb-true count most_bytes three.2)
+    let three = and_three (start == 0) (nat_lt groups MAX_GROUPS) (nat_le count MAX_GROUP_BYTES) h in
+    (eqb-true start 0 three.0, ltb-true groups MAX_GROUPS three.1, leb-true count MAX_GROUP_BYTES three.2)
 
 -- what a group meets that is held
-pub fits_held : (line : Shelf) (groups start count : ℕ) (seals : Bool) → fits (Some line) groups start count seals ≡ true → (start ≡ line.held) × (line.held + count ≤ most_bytes)
+pub fits_held : (line : Shelf) (groups start count : ℕ) (seals : Bool) → fits (Some line) groups start count seals ≡ true → (start ≡ line.held) × (line.held + count ≤ MAX_GROUP_BYTES)
 fits_held line groups start count seals h =
-    let some = and_four (start == line.held) (not line.sealed) (nat_le (line.held + count) most_bytes) (seals || nat_lt 0 count) h in
-    (eqb-true start line.held some.0, leb-true (line.held + count) most_bytes some.2)
+    let some = and_four (start == line.held) (not line.sealed) (nat_le (line.held + count) MAX_GROUP_BYTES) (seals || nat_lt 0 count) h in
+    (eqb-true start line.held some.0, leb-true (line.held + count) MAX_GROUP_BYTES some.2)
 
 -- what an entry leaves that fits
 pub with_entry-good : (e : Entry) (ks : List Group) → fits (line_of e.group (shelf ks)) (length ks) e.start (length e.bytes) e.seals ≡ true → IsGood ks → IsGood (with_entry e ks)
@@ -112,7 +115,7 @@ with_entry-good e ks h good = by_found (group_of e.group ks) refl where
       rw none (record {
         ascending = ascending-with_group (fresh e) ks good.ascending;
         few = omega (arith, length-with_group (fresh e) ks, new.1);
-        short = all-with_group (λ s. s.held ≤ most_bytes) (fresh e) ks new.2 good.short;
+        short = all-with_group (λ s. s.held ≤ MAX_GROUP_BYTES) (fresh e) ks new.2 good.short;
       })
   by_found (Some k) some =
       let there : line_of e.group (shelf ks) ≡ Some (shelf_of k) = line_of-shelf e.group ks ∙ ap (option_map shelf_of) some in
@@ -121,7 +124,7 @@ with_entry-good e ks h good = by_found (group_of e.group ks) refl where
       rw some (record {
         ascending = ascending-with_group (grown e k) ks good.ascending;
         few = omega (arith, length-with_group_same (grown e k) ks good.ascending found, good.few);
-        short = all-with_group (λ s. s.held ≤ most_bytes) (grown e k) ks (omega (arith, length-append k.bytes e.bytes, held.1)) good.short;
+        short = all-with_group (λ s. s.held ≤ MAX_GROUP_BYTES) (grown e k) ks (omega (arith, length-append k.bytes e.bytes, held.1)) good.short;
       })
 
 -- what a frame leaves that is taken

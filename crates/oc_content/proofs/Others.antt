@@ -1,10 +1,12 @@
 -- A group that is put leaves those of other names.
 use Rattle.std.proofs.Common.{◌≡◌, ◌≢◌, ℕ, Bool, true, false, List, [], ◌∷◌, Ordering, Less, Equal, Greater, nat_cmp, refl, ap, sym, ◌∙◌}
 use Rattle.std.specs.Cmp.Lexicographic.{slice_cmp}
-use Rattle.oc_content.specs.Groups.{Group, same_name, group_of, with_group, group_or_empty}
+use Rattle.oc_base.specs.declared.group.Group.{Group}
+use Rattle.oc_base.specs.Named.{same_name}
+use Rattle.oc_base.specs.Groups.{group_of, with_group, group_or_empty}
 use Rattle.oc_content.specs.Entries.{Entry}
 use Rattle.oc_content.specs.ContentFile.{grown, with_entry}
-use Rattle.oc_content.proofs.Names.{names_equal, names_tied}
+use Rattle.oc_base.proofs.NameOrder.{names_equal, names_tied}
 
 -- what is found at another name
 found_other : (g : List ℕ) (k : Group) (ks : List Group) → same_name g k.name ≡ false → group_of g (with_group k ks) ≡ group_of g ks

@@ -4,12 +4,13 @@ use Rattle.std.proofs.lemmas.List.{length-drop, get_or_default}
 use Rattle.std.proofs.lemmas.Bool.Decides.{nat_tests}
 use Rattle.oc_base.specs.declared.shelf.Shelf.{Shelf}
 use Rattle.oc_content.specs.declared.errors.PutError.TheVariants.{Gap, Sealed, TooManyGroups, TooLong}
-use Rattle.oc_content.specs.declared.place.Place.{Place}
-use Rattle.oc_content.specs.declared.place.Place.TheVariants.{Found, Free}
-use Rattle.oc_content.specs.Groups.{line_of}
-use Rattle.oc_content.specs.ContentFile.{fits, most_bytes, most_groups}
+use Rattle.oc_base.specs.declared.place.Place.{Place}
+use Rattle.oc_base.specs.declared.place.Place.TheVariants.{Found, Free}
+use Rattle.oc_base.specs.Shelves.{line_of, IsLinePlace}
+use Rattle.oc_content.specs.ContentFile.{fits}
+use Rattle.oc_base.specs.declared.limits.TheConstants.{MAX_GROUP_BYTES, MAX_GROUPS}
 use Rattle.oc_content.specs.Putting.{standing, standing_in, fault_of, put_entry}
-use Rattle.oc_content.specs.Places.{IsPlace, IsThere, is_free}
+use Rattle.oc_base.specs.Named.{IsThere, is_free}
 use Rattle.oc_content.specs.declared.putting.Standing.{Standing}
 use Rattle.oc_content.specs.Entries.{Entry}
 use Rattle.oc_content.specs.ContentView.{PieceView, IsReady}
@@ -21,14 +22,14 @@ pub record IsAllowed (s : Standing) (start count : ℕ) : Type 0 where
   pub behind : start ≤ s.held
   pub unsealed : s.sealed ≡ true → start + count ≤ s.held
   pub few : s.one_too_many ≡ false
-  pub short : start + count ≤ most_bytes
+  pub short : start + count ≤ MAX_GROUP_BYTES
 
 pub allowed : (s : Standing) (start count : ℕ) → fault_of s start count ≡ None → IsAllowed s start count
-allowed s start count h = by_tests (nat_lt s.held start) s.sealed (nat_lt s.held (start + count)) s.one_too_many (nat_lt most_bytes (start + count)) refl refl refl refl refl where
+allowed s start count h = by_tests (nat_lt s.held start) s.sealed (nat_lt s.held (start + count)) s.one_too_many (nat_lt MAX_GROUP_BYTES (start + count)) refl refl refl refl refl where
   not_less : (a b : ℕ) → nat_lt a b ≡ false → b ≤ a
   not_less a b e = grind (arith, nat_tests)
 
-  by_tests : (a b c d e : Bool) → nat_lt s.held start ≡ a → s.sealed ≡ b → nat_lt s.held (start + count) ≡ c → s.one_too_many ≡ d → nat_lt most_bytes (start + count) ≡ e → IsAllowed s start count
+  by_tests : (a b c d e : Bool) → nat_lt s.held start ≡ a → s.sealed ≡ b → nat_lt s.held (start + count) ≡ c → s.one_too_many ≡ d → nat_lt MAX_GROUP_BYTES (start + count) ≡ e → IsAllowed s start count
   by_tests true b c d e pa pb pc pd pe = let is : Some (Gap s.held) ≡ None = rw pa at h in absurd cc
   by_tests false true true d e pa pb pc pd pe = let is : Some Sealed ≡ None = rw (pa, pb, pc) at h in absurd cc
   by_tests false true false true e pa pb pc pd pe = let is : Some TooManyGroups ≡ None = rw (pa, pb, pc, pd) at h in absurd cc
@@ -37,7 +38,7 @@ allowed s start count h = by_tests (nat_lt s.held start) s.sealed (nat_lt s.held
     behind = not_less s.held start pa;
     unsealed = λ _. not_less s.held (start + count) pc;
     few = pd;
-    short = not_less most_bytes (start + count) pe;
+    short = not_less MAX_GROUP_BYTES (start + count) pe;
   }
   by_tests false false c true e pa pb pc pd pe = let is : Some TooManyGroups ≡ None = rw (pa, pb, pd) at h in absurd cc
   by_tests false false c false true pa pb pc pd pe = let is : Some TooLong ≡ None = rw (pa, pb, pd, pe) at h in absurd cc
@@ -45,11 +46,11 @@ allowed s start count h = by_tests (nat_lt s.held start) s.sealed (nat_lt s.held
     behind = not_less s.held start pa;
     unsealed = λ e. let no_way : false ≡ true = sym pb ∙ e in absurd cc;
     few = pd;
-    short = not_less most_bytes (start + count) pe;
+    short = not_less MAX_GROUP_BYTES (start + count) pe;
   }
 
 -- what is put to a group that is there may stand behind it, if it adds anything
-fits_there : (line : Shelf) (groups start : ℕ) (bytes : List ℕ) (last : Bool) (name : List ℕ) → line.held ≤ most_bytes → IsAllowed (standing (Some line) groups) start (length bytes) → (nat_lt 0 (length (drop (line.held - start) bytes)) || (last && not line.sealed && nat_le line.held (start + length bytes))) ≡ true → fits (Some line) groups line.held (length (drop (line.held - start) bytes)) (last && not line.sealed && nat_le line.held (start + length bytes)) ≡ true
+fits_there : (line : Shelf) (groups start : ℕ) (bytes : List ℕ) (last : Bool) (name : List ℕ) → line.held ≤ MAX_GROUP_BYTES → IsAllowed (standing (Some line) groups) start (length bytes) → (nat_lt 0 (length (drop (line.held - start) bytes)) || (last && not line.sealed && nat_le line.held (start + length bytes))) ≡ true → fits (Some line) groups line.held (length (drop (line.held - start) bytes)) (last && not line.sealed && nat_le line.held (start + length bytes)) ≡ true
 fits_there line groups start bytes last name held ok adds = by_seal line.sealed refl where
   len : length (drop (line.held - start) bytes) ≡ length bytes - (line.held - start)
   len = length-drop (line.held - start) bytes
@@ -57,8 +58,8 @@ fits_there line groups start bytes last name held ok adds = by_seal line.sealed 
   same : (n : ℕ) → (n == n) ≡ true
   same n = grind (arith, nat_tests)
 
-  within : nat_le (line.held + length (drop (line.held - start) bytes)) most_bytes ≡ true
-  within = let fits : line.held + length (drop (line.held - start) bytes) ≤ most_bytes = omega (arith, len, held, ok.short, ok.behind) in grind (arith, nat_tests)
+  within : nat_le (line.held + length (drop (line.held - start) bytes)) MAX_GROUP_BYTES ≡ true
+  within = let fits : line.held + length (drop (line.held - start) bytes) ≤ MAX_GROUP_BYTES = omega (arith, len, held, ok.short, ok.behind) in grind (arith, nat_tests)
 
   swapped : (a b : Bool) → (a || b) ≡ true → (b || a) ≡ true
   swapped true true e = refl
@@ -85,22 +86,22 @@ fits_there line groups start bytes last name held ok adds = by_seal line.sealed 
   by_seal false e =
       let more = swapped (nat_lt 0 (length (drop (line.held - start) bytes))) (last && not line.sealed && nat_le line.held (start + length bytes)) adds in
       let unsealed : not line.sealed ≡ true = ap not e in
-      all_four (line.held == line.held) (not line.sealed) (nat_le (line.held + length (drop (line.held - start) bytes)) most_bytes) _ (same line.held) unsealed within more
+      all_four (line.held == line.held) (not line.sealed) (nat_le (line.held + length (drop (line.held - start) bytes)) MAX_GROUP_BYTES) _ (same line.held) unsealed within more
 
 -- and to a new group
 fits_first : (groups start : ℕ) (bytes : List ℕ) (seals : Bool) → IsAllowed (standing None groups) start (length bytes) → fits None groups 0 (length (drop (0 - start) bytes)) seals ≡ true
-fits_first groups start bytes seals ok = all_three (0 == 0) (nat_lt groups most_groups) (nat_le (length (drop (0 - start) bytes)) most_bytes) refl few within where
-  few : nat_lt groups most_groups ≡ true
-  few = let e : nat_le most_groups groups ≡ false = ok.few in grind (arith, nat_tests)
+fits_first groups start bytes seals ok = all_three (0 == 0) (nat_lt groups MAX_GROUPS) (nat_le (length (drop (0 - start) bytes)) MAX_GROUP_BYTES) refl few within where
+  few : nat_lt groups MAX_GROUPS ≡ true
+  few = let e : nat_le MAX_GROUPS groups ≡ false = ok.few in grind (arith, nat_tests)
 
-  within : nat_le (length (drop (0 - start) bytes)) most_bytes ≡ true
-  within = let fits : length (drop (0 - start) bytes) ≤ most_bytes = omega (arith, length-drop (0 - start) bytes, ok.short) in grind (arith, nat_tests)
+  within : nat_le (length (drop (0 - start) bytes)) MAX_GROUP_BYTES ≡ true
+  within = let fits : length (drop (0 - start) bytes) ≤ MAX_GROUP_BYTES = omega (arith, length-drop (0 - start) bytes, ok.short) in grind (arith, nat_tests)
 
   all_three : (a b c : Bool) → a ≡ true → b ≡ true → c ≡ true → (a && b && c) ≡ true
   all_three a b c p q r = rw (p, q, r)
 
 -- what is put may stand behind what is held, if it adds anything
-pub put_fits : (ss : List Shelf) (name : List ℕ) (place : Place) (start : ℕ) (bytes : List ℕ) (last : Bool) → All (λ s. s.held ≤ most_bytes) ss → IsPlace ss name place → fault_of (standing_in ss name) start (length bytes) ≡ None → (is_free place || nat_lt 0 (length (put_entry (standing_in ss name) name start bytes last).bytes) || (put_entry (standing_in ss name) name start bytes last).seals) ≡ true → fits (line_of name ss) (length ss) (put_entry (standing_in ss name) name start bytes last).start (length (put_entry (standing_in ss name) name start bytes last).bytes) (put_entry (standing_in ss name) name start bytes last).seals ≡ true
+pub put_fits : (ss : List Shelf) (name : List ℕ) (place : Place) (start : ℕ) (bytes : List ℕ) (last : Bool) → All (λ s. s.held ≤ MAX_GROUP_BYTES) ss → IsLinePlace ss name place → fault_of (standing_in ss name) start (length bytes) ≡ None → (is_free place || nat_lt 0 (length (put_entry (standing_in ss name) name start bytes last).bytes) || (put_entry (standing_in ss name) name start bytes last).seals) ≡ true → fits (line_of name ss) (length ss) (put_entry (standing_in ss name) name start bytes last).start (length (put_entry (standing_in ss name) name start bytes last).bytes) (put_entry (standing_in ss name) name start bytes last).seals ≡ true
 put_fits ss name (Found i) start bytes last short at none adds =
     let d : Shelf = record { group = []; held = 0; sealed = false } in
     let inside = stands_within ss name i at in
@@ -115,23 +116,23 @@ put_fits ss name (Free i) start bytes last short at none adds =
     rw absent (fits_first (length ss) start bytes (last && not false && nat_le 0 (start + length bytes)) ok)
 
 -- where something may be put there is a place for it
-pub put_within : (ss : List Shelf) (name : List ℕ) (place : Place) (start count : ℕ) → IsPlace ss name place → fault_of (standing_in ss name) start count ≡ None → IsWithin place (length ss)
+pub put_within : (ss : List Shelf) (name : List ℕ) (place : Place) (start count : ℕ) → IsLinePlace ss name place → fault_of (standing_in ss name) start count ≡ None → IsWithin place (length ss)
 put_within ss name (Found i) start count at none = stands_within ss name i at
 put_within ss name (Free i) start count at none =
     let absent : line_of name ss ≡ None = line_of-goes ss name i at in
     let ok = allowed (standing None (length ss)) start count (rw absent at none) in
-    let few : nat_le most_groups (length ss) ≡ false = ok.few in
-    (goes_within ss name i at, not_at_least most_groups (length ss) few) where
+    let few : nat_le MAX_GROUPS (length ss) ≡ false = ok.few in
+    (goes_within ss name i at, not_at_least MAX_GROUPS (length ss) few) where
       not_at_least : (a b : ℕ) → nat_le a b ≡ false → b < a
       not_at_least a b e = grind (arith, nat_tests)
 
 -- a place is there
-pub place_there : (ss : List Shelf) (name : List ℕ) (place : Place) → IsPlace ss name place → IsThere place (length ss)
+pub place_there : (ss : List Shelf) (name : List ℕ) (place : Place) → IsLinePlace ss name place → IsThere place (length ss)
 place_there ss name (Found i) at = stands_within ss name i at
 place_there ss name (Free i) at = tt
 
 -- no group holds more than the most
-pub standing_short : (ss : List Shelf) (name : List ℕ) (place : Place) → All (λ s. s.held ≤ most_bytes) ss → IsPlace ss name place → (standing_in ss name).held ≤ most_bytes
+pub standing_short : (ss : List Shelf) (name : List ℕ) (place : Place) → All (λ s. s.held ≤ MAX_GROUP_BYTES) ss → IsLinePlace ss name place → (standing_in ss name).held ≤ MAX_GROUP_BYTES
 standing_short ss name (Found i) short at =
     let d : Shelf = record { group = []; held = 0; sealed = false } in
     let inside = stands_within ss name i at in
@@ -143,9 +144,9 @@ standing_short ss name (Free i) short at =
     rw absent (omega arith)
 
 -- what was put is ready
-pub ready_put : (ss : List Shelf) (rs : List ℕ) (spare : ℕ) (p : PieceView) (name : List ℕ) (start : ℕ) (bytes : List ℕ) (last : Bool) → All (λ s. s.held ≤ most_bytes) ss → IsPlace ss name p.place → fault_of (standing_in ss name) start (length bytes) ≡ None → p.entry ≡ put_entry (standing_in ss name) name start bytes last → HasRoom rs p.room p.place → 0 < spare → IsReady ss rs spare p
+pub ready_put : (ss : List Shelf) (rs : List ℕ) (spare : ℕ) (p : PieceView) (name : List ℕ) (start : ℕ) (bytes : List ℕ) (last : Bool) → All (λ s. s.held ≤ MAX_GROUP_BYTES) ss → IsLinePlace ss name p.place → fault_of (standing_in ss name) start (length bytes) ≡ None → p.entry ≡ put_entry (standing_in ss name) name start bytes last → HasRoom rs p.room p.place → 0 < spare → IsReady ss rs spare p
 ready_put ss rs spare p name start bytes last short at none is room some = record {
-  place = subst (λ (e : Entry). IsPlace ss e.group p.place) (sym is) at;
+  place = subst (λ (e : Entry). IsLinePlace ss e.group p.place) (sym is) at;
   fits = λ adds. subst (λ (e : Entry). fits (line_of e.group ss) (length ss) e.start (length e.bytes) e.seals ≡ true) (sym is) (put_fits ss name p.place start bytes last short at none (subst (λ (e : Entry). (is_free p.place || nat_lt 0 (length e.bytes) || e.seals) ≡ true) is adds));
   room = room;
   spare = some;

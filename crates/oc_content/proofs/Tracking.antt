@@ -5,7 +5,7 @@ use Rattle.std.proofs.lemmas.List.Concat.{flat_map-append}
 use Rattle.std.proofs.lemmas.Bool.{ltb-true, lt-ltb}
 use Rattle.oc_content.specs.declared.heading.Heading.{Heading}
 use Rattle.oc_content.specs.declared.track.Span.{Span}
-use Rattle.oc_content.specs.Groups.{Group}
+use Rattle.oc_base.specs.declared.group.Group.{Group}
 use Rattle.oc_content.specs.Entries.{entry_of}
 use Rattle.oc_content.specs.ContentFile.{grown}
 use Rattle.oc_content.specs.Headings.{entry_at}

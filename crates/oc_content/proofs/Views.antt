@@ -13,8 +13,9 @@ use Rattle.oc_content.specs.declared.index.Index.{Index}
 use Rattle.oc_content.specs.declared.track.Span.{Span}
 use Rattle.oc_content.specs.declared.track.Track.{Track}
 use Rattle.oc_content.specs.declared.spot.Spot.{Spot}
-use Rattle.oc_content.specs.Places.{StandsAt}
-use Rattle.oc_content.specs.Groups.{Group, group_of, line_of, shelf, shelf_of, held_of, bytes_of, or_empty, IsHeldAt}
+use Rattle.oc_base.specs.Shelves.{IsLineAt, line_of, held_of, IsHeldAt}
+use Rattle.oc_base.specs.declared.group.Group.{Group}
+use Rattle.oc_base.specs.Groups.{group_of, shelf, shelf_of, bytes_of, or_empty}
 use Rattle.oc_content.specs.Entries.{Entry, entry_of}
 use Rattle.oc_content.specs.ContentFile.{fits, taken, content_of, groups_in, bytes_in, with_entry, IsShelved, IsSameElsewhere, groups_after}
 use Rattle.oc_content.specs.Indexes.{IsIndexOf, IsSized, AreTracked, KeepsTracks, paths, rooms, helds, bytes_at, IsTracked}
@@ -162,17 +163,17 @@ bytes_there : {D : Type 0} (view : D → DiskView) (j : JournalView D) (x : Inde
 bytes_there view j x g k is honest found =
     ap (bytes_of g) (groups_are view j x is honest) ∙ ap (λ (f : Option Group). (or_empty g f).bytes) found
 
-pub read_past : {D : Type 0} (view : D → DiskView) (j : JournalView D) (x : Index) (g : List ℕ) (at start : ℕ) → IsIndexed view j x → StandsAt x.shelves.items g at → Finds x at start None → IsTrue (view j.disk).honest → length (bytes_in g j.frames) ≤ start
+pub read_past : {D : Type 0} (view : D → DiskView) (j : JournalView D) (x : Index) (g : List ℕ) (at start : ℕ) → IsIndexed view j x → IsLineAt x.shelves.items g at → Finds x at start None → IsTrue (view j.disk).honest → length (bytes_in g j.frames) ≤ start
 read_past view j x g at start is stands finds honest =
     let there = group_at is.bodies is.groups x (view j.disk).honest g at is.is honest stands in
     omega (arith, finds is.bodies there.group there.tracked there.held, ap length (bytes_there view j x g there.group is honest there.found))
 
-pub read_begins : {D : Type 0} (view : D → DiskView) (j : JournalView D) (x : Index) (g : List ℕ) (at start : ℕ) (spans : List Span) (skip : ℕ) → IsIndexed view j x → StandsAt x.shelves.items g at → Finds x at start (Some (spans, skip)) → IsTrue (view j.disk).honest → BeginsWithin j.frames skip spans
+pub read_begins : {D : Type 0} (view : D → DiskView) (j : JournalView D) (x : Index) (g : List ℕ) (at start : ℕ) (spans : List Span) (skip : ℕ) → IsIndexed view j x → IsLineAt x.shelves.items g at → Finds x at start (Some (spans, skip)) → IsTrue (view j.disk).honest → BeginsWithin j.frames skip spans
 read_begins view j x g at start spans skip is stands finds honest =
     let there = group_at is.bodies is.groups x (view j.disk).honest g at is.is honest stands in
     subst (λ (bs : List (List ℕ)). BeginsWithin bs skip spans) (sym (is.frames honest)) (begins_rest is.bodies there.group start spans skip (finds is.bodies there.group there.tracked there.held))
 
-pub read_there : {D : Type 0} (view : D → DiskView) (j : JournalView D) (x : Index) (g : List ℕ) (at start : ℕ) (spans : List Span) (skip : ℕ) → IsIndexed view j x → StandsAt x.shelves.items g at → Finds x at start (Some (spans, skip)) → IsTrue (view j.disk).honest → drop skip (flat_map (bytes_at j.frames) spans) ≡ drop start (bytes_in g j.frames)
+pub read_there : {D : Type 0} (view : D → DiskView) (j : JournalView D) (x : Index) (g : List ℕ) (at start : ℕ) (spans : List Span) (skip : ℕ) → IsIndexed view j x → IsLineAt x.shelves.items g at → Finds x at start (Some (spans, skip)) → IsTrue (view j.disk).honest → drop skip (flat_map (bytes_at j.frames) spans) ≡ drop start (bytes_in g j.frames)
 read_there view j x g at start spans skip is stands finds honest =
     let there = group_at is.bodies is.groups x (view j.disk).honest g at is.is honest stands in
     let rest = finds is.bodies there.group there.tracked there.held in
@@ -223,7 +224,7 @@ disk_is_no_group r e is disk no_group =
     absurd cc
 
 -- a group that stands there is not absent
-pub stands_there : (ss : List Shelf) (g : List ℕ) (at : ℕ) → StandsAt ss g at → held_of g ss ≢ None
+pub stands_there : (ss : List Shelf) (g : List ℕ) (at : ℕ) → IsLineAt ss g at → held_of g ss ≢ None
 stands_there ss g at stands none =
     let some : Some (get_or (helds ss) at 0) ≡ None = sym (held_of-stands ss g at stands) ∙ none in
     absurd cc

@@ -3,22 +3,18 @@ use Rattle.std.specs.Prelude.{◌≡◌, ◌≢◌, ℕ, suc, ◌+◌, ◌<◌, 
 use Rattle.oc_base.specs.declared.shelf.Shelf.{Shelf}
 use Rattle.oc_journal.specs.JournalFile.{frames_of, IsNoJournal}
 use Rattle.oc_journal.specs.Stopped.{is_kept_new}
-use Rattle.oc_content.specs.Groups.{Group, group_of, line_of, group_or_empty, with_group, shelf, bytes_of}
+use Rattle.oc_base.specs.declared.group.Group.{Group}
+use Rattle.oc_base.specs.Groups.{group_of, group_or_empty, with_group, shelf, bytes_of}
+use Rattle.oc_base.specs.Shelves.{line_of}
 use Rattle.oc_content.specs.Entries.{Entry, entry_of}
-
--- the greatest number of groups, and of bytes of a group
-abbrev pub most_groups : ℕ
-most_groups = 64
-
-abbrev pub most_bytes : ℕ
-most_bytes = 1073741824
+use Rattle.oc_base.specs.declared.limits.TheConstants.{MAX_GROUPS, MAX_GROUP_BYTES}
 
 -- Whether an entry with this start, so many bytes and perhaps a seal may stand behind what is held. It begins where its group ends, which is
 -- not sealed and does not grow past its limit. A group that is new is not one too many, and to one that is held the entry adds something.
 abbrev pub fits : Option Shelf → ℕ → ℕ → ℕ → Bool → Bool
-fits None groups start count seals = (start == 0) && nat_lt groups most_groups && nat_le count most_bytes
+fits None groups start count seals = (start == 0) && nat_lt groups MAX_GROUPS && nat_le count MAX_GROUP_BYTES
 fits (Some line) groups start count seals =
-    (start == line.held) && not line.sealed && nat_le (line.held + count) most_bytes && (seals || nat_lt 0 count)
+    (start == line.held) && not line.sealed && nat_le (line.held + count) MAX_GROUP_BYTES && (seals || nat_lt 0 count)
 
 -- a group with the bytes of an entry at its end, and its seal
 abbrev pub grown : Entry → Group → Group

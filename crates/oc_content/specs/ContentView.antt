@@ -3,12 +3,13 @@ use Rattle.std.specs.Prelude.{◌≡◌, ℕ, ◌<◌, ◌≤◌, Bool, true, �
 use Rattle.oc_base.specs.declared.shelf.Shelf.{Shelf}
 use Rattle.oc_outside.specs.DiskView.{DiskView, StaysAsItWas}
 use Rattle.oc_journal.specs.JournalView.{JournalView, OnlyReads}
-use Rattle.oc_content.specs.declared.place.Place.{Place}
+use Rattle.oc_base.specs.declared.place.Place.{Place}
 use Rattle.oc_content.specs.declared.index.Index.{Index}
-use Rattle.oc_content.specs.Groups.{Group, line_of}
+use Rattle.oc_base.specs.declared.group.Group.{Group}
+use Rattle.oc_base.specs.Shelves.{line_of, IsLinePlace}
 use Rattle.oc_content.specs.Entries.{Entry}
 use Rattle.oc_content.specs.ContentFile.{fits, IsShelved}
-use Rattle.oc_content.specs.Places.{IsPlace, is_free}
+use Rattle.oc_base.specs.Named.{is_free}
 use Rattle.oc_content.specs.Indexes.{IsIndexOf, HasRoom}
 
 -- its journal, the line of each group, and for how many more frames of each group its index has memory
@@ -30,7 +31,7 @@ adds p = is_free p.place || nat_lt 0 (length p.entry.bytes) || p.entry.seals
 
 -- nothing was put to these groups since the piece was prepared, and there is all the memory for it
 pub record IsReady (shelves : List Shelf) (rooms : List ℕ) (frames_to_come : ℕ) (p : PieceView) : Type 0 where
-  pub place : IsPlace shelves p.entry.group p.place
+  pub place : IsLinePlace shelves p.entry.group p.place
   pub fits : adds p ≡ true → fits (line_of p.entry.group shelves) (length shelves) p.entry.start (length p.entry.bytes) p.entry.seals ≡ true
   pub room : HasRoom rooms p.room p.place
   pub spare : 0 < frames_to_come

@@ -3,7 +3,7 @@ use Rattle.std.specs.Prelude.{◌≡◌, ℕ, ◌+◌, ◌<◌, ◌≤◌, Optio
 use Rattle.oc_content.specs.declared.track.Span.{Span}
 use Rattle.oc_content.specs.declared.track.Found.{Found}
 use Rattle.oc_content.specs.declared.spot.Spot.{Spot}
-use Rattle.oc_content.specs.Groups.{Group}
+use Rattle.oc_base.specs.declared.group.Group.{Group}
 use Rattle.oc_content.specs.Entries.{Entry, entry_of}
 use Rattle.oc_content.specs.Indexes.{bytes_at, IsSpan}
 

@@ -1,16 +1,19 @@
 -- The index: the line of each group, and the frames that hold its bytes.
 use Rattle.std.specs.Prelude.{◌≡◌, ℕ, zero, suc, ◌+◌, ◌<◌, ◌≤◌, ◌||◌, nat_lt, if◌then◌else◌, Some, List, [], ◌∷◌, ◌++◌, length, drop, map, get_or, insert, flat_map, vec_capacity, All, IsTrue, Bool}
 use Rattle.oc_base.specs.declared.shelf.Shelf.{Shelf}
-use Rattle.oc_content.specs.declared.place.Place.{Place}
-use Rattle.oc_content.specs.declared.place.Place.TheVariants.{Found, Free}
+use Rattle.oc_base.specs.declared.place.Place.{Place}
+use Rattle.oc_base.specs.declared.place.Place.TheVariants.{Found, Free}
 use Rattle.oc_content.specs.declared.heading.Heading.{Heading}
 use Rattle.oc_content.specs.declared.track.Span.{Span}
 use Rattle.oc_content.specs.declared.track.Track.{Track}
 use Rattle.oc_content.specs.declared.index.Index.{Index}
 use Rattle.oc_content.specs.Tracks.{room_of}
-use Rattle.oc_content.specs.Groups.{Group, shelf, IsAscending}
+use Rattle.oc_base.specs.declared.group.Group.{Group}
+use Rattle.oc_base.specs.Groups.{shelf}
+use Rattle.oc_base.specs.Shelves.{AreLinesAscending}
 use Rattle.oc_content.specs.Entries.{entry_of}
-use Rattle.oc_content.specs.ContentFile.{content_of, most_groups, most_bytes}
+use Rattle.oc_content.specs.ContentFile.{content_of}
+use Rattle.oc_base.specs.declared.limits.TheConstants.{MAX_GROUPS, MAX_GROUP_BYTES}
 
 -- a list with a change of the element at i
 abbrev pub changed : {X : Type 0} → (X → X) → ℕ → List X → List X
@@ -63,16 +66,16 @@ rooms tracks = map room_of tracks
 -- There is a track for each line, and memory for as many of both as there may be. The lines ascend by name, and are within the limits.
 pub record IsSized (x : Index) : Type 0 where
   pub rows : length x.tracks.items ≡ length x.shelves.items
-  pub line_memory : most_groups ≤ vec_capacity x.shelves
-  pub track_memory : most_groups ≤ vec_capacity x.tracks
-  pub ascending : IsAscending x.shelves.items
-  pub few : length x.shelves.items ≤ most_groups
-  pub short : All (λ s. s.held ≤ most_bytes) x.shelves.items
+  pub line_memory : MAX_GROUPS ≤ vec_capacity x.shelves
+  pub track_memory : MAX_GROUPS ≤ vec_capacity x.tracks
+  pub ascending : AreLinesAscending x.shelves.items
+  pub few : length x.shelves.items ≤ MAX_GROUPS
+  pub short : All (λ s. s.held ≤ MAX_GROUP_BYTES) x.shelves.items
 
 -- the place is one of so many groups, or free for one more
 abbrev pub IsWithin : Place → ℕ → Type 0
 IsWithin (Found i) n = i < n
-IsWithin (Free i) n = (i ≤ n) × (n < most_groups)
+IsWithin (Free i) n = (i ≤ n) × (n < MAX_GROUPS)
 
 -- memory for one more frame: of a group that is held in its own track, of a new one in the track that it brings
 abbrev pub HasRoom : List ℕ → ℕ → Place → Type 0
@@ -108,6 +111,6 @@ pub record IsIndexOf (bodies : List (List ℕ)) (groups : List Group) (x : Index
   pub content : content_of bodies ≡ Some groups
   pub lines : x.shelves.items ≡ shelf groups
   pub rows : length x.tracks.items ≡ length x.shelves.items
-  pub line_memory : most_groups ≤ vec_capacity x.shelves
-  pub track_memory : most_groups ≤ vec_capacity x.tracks
+  pub line_memory : MAX_GROUPS ≤ vec_capacity x.shelves
+  pub track_memory : MAX_GROUPS ≤ vec_capacity x.tracks
   pub tracked : IsTrue honest → AreTracked bodies groups (paths x.tracks.items)

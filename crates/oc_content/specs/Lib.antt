@@ -1,10 +1,8 @@
 pub mod Headings
 pub mod Errors
-pub mod Groups
 pub mod Entries
 pub mod ContentFile
 pub mod Putting
-pub mod Places
 pub mod Tracks
 pub mod Pieces
 pub mod Indexes

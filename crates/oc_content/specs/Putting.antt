@@ -4,13 +4,13 @@ use Rattle.oc_base.specs.declared.shelf.Shelf.{Shelf}
 use Rattle.oc_content.specs.declared.errors.PutError.{PutError}
 use Rattle.oc_content.specs.declared.errors.PutError.TheVariants.{Gap, Sealed, TooManyGroups, TooLong}
 use Rattle.oc_content.specs.declared.putting.Standing.{Standing}
-use Rattle.oc_content.specs.Groups.{line_of}
-use Rattle.oc_content.specs.ContentFile.{most_groups, most_bytes}
+use Rattle.oc_base.specs.Shelves.{line_of}
+use Rattle.oc_base.specs.declared.limits.TheConstants.{MAX_GROUPS, MAX_GROUP_BYTES}
 use Rattle.oc_content.specs.Entries.{Entry}
 
 -- how a group stands that has this line, or none, among so many: an absent one is empty, and perhaps one too many
 abbrev pub standing : Option Shelf → ℕ → Standing
-standing None groups = record { held = 0; sealed = false; one_too_many = nat_le most_groups groups }
+standing None groups = record { held = 0; sealed = false; one_too_many = nat_le MAX_GROUPS groups }
 standing (Some line) groups = record { held = line.held; sealed = line.sealed; one_too_many = false }
 
 -- how the group of this name stands among these lines
@@ -23,7 +23,7 @@ fault_of s start count =
     if nat_lt s.held start then Some (Gap s.held)
     else if s.sealed && nat_lt s.held (start + count) then Some Sealed
     else if s.one_too_many then Some TooManyGroups
-    else if nat_lt most_bytes (start + count) then Some TooLong
+    else if nat_lt MAX_GROUP_BYTES (start + count) then Some TooLong
     else None
 
 -- the bytes past held; and the seal where they are the last, reach the end of what is held, and the group is not sealed

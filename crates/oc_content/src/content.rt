@@ -6,9 +6,12 @@ ghost use Rattle.oc_base.specs.Names.{IsGroupName};
 ghost use Rattle.oc_journal.specs.JournalFile.{header, frames_of, IsNoJournal, IsBeforeOrAfter};
 ghost use Rattle.oc_journal.specs.JournalView.{OnlyReads, HasFrames, IsLikeAnImage};
 ghost use Rattle.oc_journal.specs.Stopped.{frames_after};
-ghost use Rattle.oc_content.specs.Groups.{Group, held_of, group_of, IsHeldAt, IsAscending};
+ghost use Rattle.oc_base.specs.declared.group.Group.{Group};
+ghost use Rattle.oc_base.specs.Shelves.{held_of, IsHeldAt, AreLinesAscending};
+ghost use Rattle.oc_base.specs.Groups.{group_of};
 ghost use Rattle.oc_content.specs.Entries.{entry_of, written};
-ghost use Rattle.oc_content.specs.ContentFile.{most_groups, most_bytes, IsFirstBad, IsBadAt, IsShelved, groups_in, bytes_in, content_of, with_entry, groups_after, IsSameElsewhere};
+ghost use Rattle.oc_content.specs.ContentFile.{IsFirstBad, IsBadAt, IsShelved, groups_in, bytes_in, content_of, with_entry, groups_after, IsSameElsewhere};
+ghost use Rattle.oc_base.specs.declared.limits.TheConstants.{MAX_GROUPS, MAX_GROUP_BYTES};
 ghost use Rattle.oc_content.specs.Putting.{standing_in, fault_of, put_entry};
 ghost use Rattle.oc_content.specs.ContentView.{adds, IsOpened, IsPrepared, PutsNothing};
 ghost use Rattle.oc_content.specs.Founds.{IsSpot};
@@ -88,9 +91,9 @@ impl<D: Disk> Content<D> {
     /// The line of each group, ascending by name. It takes no memory.
     pub fn groups(&self) -> &[Shelf]
         ensures lines { result.now ≡ self.now.shelves }
-        ensures ascending { IsAscending self.now.shelves }
-        ensures few { length self.now.shelves ≤ most_groups }
-        ensures short { All (λ s. s.held ≤ most_bytes) self.now.shelves }
+        ensures ascending { AreLinesAscending self.now.shelves }
+        ensures few { length self.now.shelves ≤ MAX_GROUPS }
+        ensures short { All (λ s. s.held ≤ MAX_GROUP_BYTES) self.now.shelves }
 
         // They tell the content of the frames.
         ensures content { IsTrue (D.view self.now.journal.disk).honest

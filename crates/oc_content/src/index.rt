@@ -1,27 +1,21 @@
 //! The line and the track of each group.
 
 ghost use Rattle.std.specs.Prelude.{◌≡◌, ℕ, ◌+◌, ◌^◌, ◌<◌, ◌≤◌, Bool, [], ◌∷◌, ◌++◌, List, length, vec_capacity, None, Some, true, MatchBool, IsTrue, IfOk, IfSome, MatchOption, OnOk, All, insert, get_or, ◌||◌};
-ghost use Rattle.oc_content.specs.Groups.{Group, line_of, held_of, IsHeldAt, IsAscending};
+ghost use Rattle.oc_base.specs.declared.group.Group.{Group};
+ghost use Rattle.oc_base.specs.Shelves.{line_of, held_of, IsHeldAt, AreLinesAscending, IsLinePlace};
 ghost use Rattle.oc_content.specs.Entries.{entry_of};
-ghost use Rattle.oc_content.specs.ContentFile.{fits, taken, with_entry, most_groups, most_bytes};
-ghost use Rattle.oc_content.specs.Places.{IsPlace};
+ghost use Rattle.oc_content.specs.ContentFile.{fits, taken, with_entry};
+ghost use Rattle.oc_base.specs.declared.limits.TheConstants.{MAX_GROUPS, MAX_GROUP_BYTES};
 ghost use Rattle.oc_content.specs.Tracks.{room_of};
 ghost use Rattle.oc_content.specs.Indexes.{IsIndexOf, IsSized, IsWithin, HasRoom, paths, rooms, line_with, lines_with, span_of, paths_with, changed, KeepsTracks, helds, IsTracked};
 ghost use Rattle.oc_content.specs.Founds.{IsRest, IsSpot};
 
 use crate::heading::Heading;
 use crate::piece::Piece;
-use crate::place::{Place, place_of};
 use crate::spot::Spot;
 use crate::track::{Span, Track, find_byte};
-use oc_base::{GroupName, Shelf};
+use oc_base::{GroupName, MAX_GROUP_BYTES, MAX_GROUPS, Place, Shelf, place_of};
 use std::alloc::{AllocError, Global};
-
-/// The most groups.
-pub const MOST_GROUPS: usize = 64;
-
-/// The most bytes of a group.
-pub const MOST_BYTES: u64 = 1 << 30;
 
 /// The lines of the groups, ascending by name, and their tracks in the same order.
 #[derive(Drop)]
@@ -35,12 +29,12 @@ impl Index {
     pub fn new(alloc: Global) -> Result<Index, AllocError>
         ensures lines { IfOk result (λ index. index.shelves.items ≡ []) }
         ensures tracks { IfOk result (λ index. index.tracks.items ≡ []) }
-        ensures line_memory { IfOk result (λ index. most_groups ≤ vec_capacity index.shelves) }
-        ensures track_memory { IfOk result (λ index. most_groups ≤ vec_capacity index.tracks) }
+        ensures line_memory { IfOk result (λ index. MAX_GROUPS ≤ vec_capacity index.shelves) }
+        ensures track_memory { IfOk result (λ index. MAX_GROUPS ≤ vec_capacity index.tracks) }
     {
         Ok(Index {
-            shelves: Vec::with_capacity(alloc, MOST_GROUPS)?,
-            tracks: Vec::with_capacity(alloc, MOST_GROUPS)?,
+            shelves: Vec::with_capacity(alloc, MAX_GROUPS)?,
+            tracks: Vec::with_capacity(alloc, MAX_GROUPS)?,
         })
     }
 
@@ -68,7 +62,7 @@ impl Index {
 
     /// Whether an entry with so many bytes may stand behind what is held.
     fn fits(&self, place: Place, heading: &Heading, count: u64) -> bool
-        requires { IsPlace self.now.shelves.items heading.now.group place }
+        requires { IsLinePlace self.now.shelves.items heading.now.group place }
         ensures { result ≡ fits (line_of heading.now.group self.now.shelves.items)
             (length self.now.shelves.items) heading.now.start count heading.now.seals }
     {
@@ -101,10 +95,10 @@ impl Index {
     pub fn find(&self, at: usize, start: u64) -> Option<(&[Span], u32)>
         requires within { at < length self.now.shelves.items }
         requires rows { length self.now.tracks.items ≡ length self.now.shelves.items }
-        requires short { All (λ s. s.held ≤ most_bytes) self.now.shelves.items }
+        requires short { All (λ s. s.held ≤ MAX_GROUP_BYTES) self.now.shelves.items }
         ensures held { IfSome result (λ _. start < get_or (helds self.now.shelves.items) at 0) }
         ensures some { IfSome result (λ rest. 0 < length rest.0.now) }
-        ensures short { IfSome result (λ rest. rest.1 < most_bytes) }
+        ensures short { IfSome result (λ rest. rest.1 < MAX_GROUP_BYTES) }
         ensures found { (bodies : List (List ℕ)) (k : Group)
             → IsTracked bodies k (get_or (paths self.now.tracks.items) at [])
             → length k.bytes ≡ get_or (helds self.now.shelves.items) at 0
@@ -120,7 +114,7 @@ impl Index {
 
     /// How many bytes of a group are held.
     pub fn held(&self, group: &GroupName) -> Option<u64>
-        requires { IsAscending self.now.shelves.items }
+        requires { AreLinesAscending self.now.shelves.items }
         ensures { result ≡ held_of group.now self.now.shelves.items }
     {
         match place_of(&self.shelves, group) {
@@ -151,7 +145,7 @@ impl Index {
     /// held then.
     pub fn put(&mut self, piece: Piece, frame: u64) -> u64
         requires sized { IsSized self.old }
-        requires place { IsPlace self.old.shelves.items piece.entry.group piece.place }
+        requires place { IsLinePlace self.old.shelves.items piece.entry.group piece.place }
         requires fits { fits (line_of piece.entry.group self.old.shelves.items) (length self.old.shelves.items)
             piece.entry.start (length piece.entry.bytes) piece.entry.seals ≡ true }
         requires room { HasRoom (rooms self.old.tracks.items) piece.room piece.place }
@@ -175,17 +169,17 @@ impl Index {
     pub fn add(&mut self, place: Place, track: Track, heading: &Heading, count: u64, frame: u64)
         requires within { IsWithin place (length self.old.shelves.items) }
         requires rows { length self.old.tracks.items ≡ length self.old.shelves.items }
-        requires line_memory { most_groups ≤ vec_capacity self.old.shelves }
-        requires track_memory { most_groups ≤ vec_capacity self.old.tracks }
+        requires line_memory { MAX_GROUPS ≤ vec_capacity self.old.shelves }
+        requires track_memory { MAX_GROUPS ≤ vec_capacity self.old.tracks }
         requires room { HasRoom (rooms self.old.tracks.items) (room_of track) place }
         requires empty { track.spans.items ≡ [] }
-        requires short { All (λ s. s.held ≤ most_bytes) self.old.shelves.items }
-        requires few { count ≤ most_bytes }
+        requires short { All (λ s. s.held ≤ MAX_GROUP_BYTES) self.old.shelves.items }
+        requires few { count ≤ MAX_GROUP_BYTES }
         ensures lines { self.new.shelves.items ≡ lines_with place heading.now count self.old.shelves.items }
         ensures paths { paths self.new.tracks.items
             ≡ paths_with place (span_of heading.now count frame) (paths self.old.tracks.items) }
-        ensures line_memory { most_groups ≤ vec_capacity self.new.shelves }
-        ensures track_memory { most_groups ≤ vec_capacity self.new.tracks }
+        ensures line_memory { MAX_GROUPS ≤ vec_capacity self.new.shelves }
+        ensures track_memory { MAX_GROUPS ≤ vec_capacity self.new.tracks }
     {
         match place {
             Place::Found(at) => {
@@ -199,18 +193,18 @@ impl Index {
     /// Puts a new group at its place.
     fn insert(&mut self, at: usize, mut track: Track, heading: &Heading, count: u64, frame: u64)
         requires within { at ≤ length self.old.shelves.items }
-        requires few { length self.old.shelves.items < most_groups }
+        requires few { length self.old.shelves.items < MAX_GROUPS }
         requires rows { length self.old.tracks.items ≡ length self.old.shelves.items }
-        requires line_memory { most_groups ≤ vec_capacity self.old.shelves }
-        requires track_memory { most_groups ≤ vec_capacity self.old.tracks }
+        requires line_memory { MAX_GROUPS ≤ vec_capacity self.old.shelves }
+        requires track_memory { MAX_GROUPS ≤ vec_capacity self.old.tracks }
         requires room { 0 < room_of track }
         requires empty { track.spans.items ≡ [] }
         ensures lines { self.new.shelves.items ≡ insert self.old.shelves.items at
             (record { group = heading.now.group; held = count; sealed = heading.now.seals }) }
         ensures paths { paths self.new.tracks.items
             ≡ insert (paths self.old.tracks.items) at (span_of heading.now count frame) }
-        ensures line_memory { most_groups ≤ vec_capacity self.new.shelves }
-        ensures track_memory { most_groups ≤ vec_capacity self.new.tracks }
+        ensures line_memory { MAX_GROUPS ≤ vec_capacity self.new.shelves }
+        ensures track_memory { MAX_GROUPS ≤ vec_capacity self.new.tracks }
     {
         add_span(&mut track, heading, count, frame);
         self.shelves
@@ -234,8 +228,8 @@ fn fits_held(shelf: &Shelf, heading: &Heading, count: u64) -> bool
 {
     heading.start == shelf.held
         && !shelf.sealed
-        && count <= MOST_BYTES
-        && shelf.held <= MOST_BYTES - count
+        && count <= MAX_GROUP_BYTES
+        && shelf.held <= MAX_GROUP_BYTES - count
         && (heading.seals || 0 < count)
 }
 
@@ -243,7 +237,7 @@ fn fits_held(shelf: &Shelf, heading: &Heading, count: u64) -> bool
 fn fits_new(groups: usize, heading: &Heading, count: u64) -> bool
     ensures { result ≡ fits None groups heading.now.start count heading.now.seals }
 {
-    heading.start == 0 && groups < MOST_GROUPS && count <= MOST_BYTES
+    heading.start == 0 && groups < MAX_GROUPS && count <= MAX_GROUP_BYTES
 }
 
 /// Memory for one more span of a track.
@@ -259,8 +253,8 @@ fn reserve_at(tracks: &mut Vec<Track>, at: usize) -> Result<(), AllocError>
 /// The line of the group at a place with so many bytes more.
 fn grow_at(shelves: &mut Vec<Shelf>, at: usize, heading: &Heading, count: u64)
     requires within { at < length shelves.old.items }
-    requires short { All (λ s. s.held ≤ most_bytes) shelves.old.items }
-    requires few { count ≤ most_bytes }
+    requires short { All (λ s. s.held ≤ MAX_GROUP_BYTES) shelves.old.items }
+    requires few { count ≤ MAX_GROUP_BYTES }
     ensures lines { shelves.new.items ≡ changed (line_with heading.now count) at shelves.old.items }
     ensures memory { vec_capacity shelves.old ≤ vec_capacity shelves.new }
 {

@@ -22,7 +22,6 @@ mod heading;
 mod index;
 mod indexing;
 mod piece;
-mod place;
 mod putting;
 mod reading;
 mod spot;

@@ -5,8 +5,8 @@ ghost use Rattle.oc_content.specs.Tracks.{room_of};
 ghost use Rattle.oc_content.specs.ContentView.{adds};
 
 use crate::heading::Heading;
-use crate::place::Place;
 use crate::track::Track;
+use oc_base::Place;
 use oc_journal::Frame;
 use std::alloc::{AllocError, Global};
 use std::marker::Model;

@@ -3,8 +3,9 @@
 ghost use Rattle.std.specs.Prelude.{◌≡◌, ◌≢◌, ◌+◌, ◌-◌, ◌^◌, ◌<◌, ◌≤◌, ℕ, None, Some, List, IfOk, IfErr, OnOk, length, drop, vec_capacity, not, nat_le, ◌&&◌};
 ghost use Rattle.oc_base.specs.Names.{IsGroupName};
 ghost use Rattle.oc_content.specs.Entries.{written, heading};
-ghost use Rattle.oc_content.specs.ContentFile.{most_bytes};
-ghost use Rattle.oc_content.specs.Places.{IsPlace, IsThere};
+ghost use Rattle.oc_base.specs.declared.limits.TheConstants.{MAX_GROUP_BYTES};
+ghost use Rattle.oc_base.specs.Shelves.{IsLinePlace};
+ghost use Rattle.oc_base.specs.Named.{IsThere};
 ghost use Rattle.oc_content.specs.Indexes.{IsSized, HasRoom, KeepsTracks, rooms};
 ghost use Rattle.oc_content.specs.Putting.{standing, standing_in, fault_of, put_entry};
 ghost use Rattle.oc_content.specs.ContentView.{IsIndexed, IsReady};
@@ -12,10 +13,9 @@ ghost use Rattle.oc_journal.specs.JournalView.{OnlyReads};
 
 use crate::errors::PutError;
 use crate::heading::Heading;
-use crate::index::{Index, MOST_BYTES, MOST_GROUPS};
+use crate::index::Index;
 use crate::piece::Piece;
-use crate::place::{Place, place_of};
-use oc_base::{GroupName, Shelf};
+use oc_base::{GroupName, MAX_GROUP_BYTES, MAX_GROUPS, Place, Shelf, place_of};
 use oc_journal::Journal;
 use oc_outside::Disk;
 use std::alloc::{AllocError, Global};
@@ -74,7 +74,7 @@ fn piece_for(
     ensures entry { IfOk result (λ piece. piece.entry
         ≡ put_entry (standing_in index.old.shelves.items group.now) group.now start bytes.now last) }
     ensures body { IfOk result (λ piece. piece.body ≡ written piece.entry) }
-    ensures place { IfOk result (λ piece. IsPlace index.old.shelves.items group.now piece.place) }
+    ensures place { IfOk result (λ piece. IsLinePlace index.old.shelves.items group.now piece.place) }
     ensures room { IfOk result (λ piece. HasRoom (rooms index.new.tracks.items) piece.room piece.place) }
     ensures lines { index.new.shelves ≡ index.old.shelves }
     ensures tracks { KeepsTracks index.old.tracks.items index.new.tracks.items }
@@ -122,7 +122,7 @@ pub struct Standing {
 /// What is known of the group at a place.
 pub fn standing_at(shelves: &[Shelf], place: Place) -> Standing
     requires { IsThere place (length shelves.now) }
-    ensures { (name : List ℕ) → IsPlace shelves.now name place
+    ensures { (name : List ℕ) → IsLinePlace shelves.now name place
         → result ≡ standing_in shelves.now name }
 {
     match place {
@@ -130,7 +130,7 @@ pub fn standing_at(shelves: &[Shelf], place: Place) -> Standing
         Place::Free(_) => Standing {
             held: 0,
             sealed: false,
-            one_too_many: shelves.len() >= MOST_GROUPS,
+            one_too_many: shelves.len() >= MAX_GROUPS,
         },
     }
 }
@@ -148,8 +148,8 @@ fn standing_of(shelf: &Shelf) -> Standing
 
 /// The first that refuses so many bytes from a place on.
 pub fn refusal(standing: &Standing, start: u64, count: u64) -> Option<PutError>
-    requires held { standing.now.held ≤ most_bytes }
-    requires count { count ≤ most_bytes }
+    requires held { standing.now.held ≤ MAX_GROUP_BYTES }
+    requires count { count ≤ MAX_GROUP_BYTES }
     ensures { result ≡ fault_of standing.now start count }
 {
     if start > standing.held {
@@ -162,7 +162,7 @@ pub fn refusal(standing: &Standing, start: u64, count: u64) -> Option<PutError>
         Some(PutError::Sealed)
     } else if standing.one_too_many {
         Some(PutError::TooManyGroups)
-    } else if end > MOST_BYTES {
+    } else if end > MAX_GROUP_BYTES {
         Some(PutError::TooLong)
     } else {
         None

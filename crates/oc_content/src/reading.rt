@@ -3,17 +3,17 @@
 ghost use Rattle.std.specs.Prelude.{◌≡◌, ◌+◌, ◌-◌, ◌<◌, ◌≤◌, ◌++◌, ◌↔◌, None, IsTrue, IsErrOf, IfOk, OnErr, length, take, drop, min, flat_map};
 ghost use Rattle.oc_outside.specs.Faults.{Rose};
 ghost use Rattle.oc_journal.specs.JournalView.{OnlyReads};
-ghost use Rattle.oc_content.specs.ContentFile.{most_bytes, bytes_in};
-ghost use Rattle.oc_content.specs.Groups.{held_of};
+ghost use Rattle.oc_content.specs.ContentFile.{bytes_in};
+ghost use Rattle.oc_base.specs.declared.limits.TheConstants.{MAX_GROUP_BYTES};
+ghost use Rattle.oc_base.specs.Shelves.{held_of};
 ghost use Rattle.oc_content.specs.ContentView.{IsIndexed};
 ghost use Rattle.oc_content.specs.Indexes.{bytes_at};
 ghost use Rattle.oc_content.specs.Founds.{BeginsWithin};
 
 use crate::errors::ReadError;
 use crate::index::Index;
-use crate::place::{Place, place_of};
 use crate::track::Span;
-use oc_base::GroupName;
+use oc_base::{GroupName, Place, place_of};
 use oc_journal::{Journal, PeekError};
 use oc_outside::Disk;
 
@@ -51,7 +51,7 @@ pub fn read_spans<D: Disk>(
     mut skip: u32,
     buf: &mut [u8],
 ) -> Result<usize, PeekError>
-    requires { skip < most_bytes }
+    requires { skip < MAX_GROUP_BYTES }
     ensures within { IfOk result (λ n. n ≤ length buf.old) }
     ensures bytes { IfOk result (λ n. IsTrue (D.view journal.old.disk).honest
         → BeginsWithin journal.old.frames skip spans.now
@@ -79,7 +79,7 @@ fn read_span<D: Disk>(
     buf: &mut [u8],
     count: usize,
 ) -> Result<usize, PeekError>
-    requires skip { skip < most_bytes }
+    requires skip { skip < MAX_GROUP_BYTES }
     requires count { count ≤ length buf.old }
     ensures within { IfOk result (λ n. (count ≤ n) × (n ≤ length buf.old)) }
     ensures count { IfOk result (λ n. IsTrue (D.view journal.old.disk).honest

@@ -1,8 +1,8 @@
 //! The frames that hold the bytes of one group.
 
 ghost use Rattle.std.specs.Prelude.{◌≡◌, ℕ, ◌+◌, ◌<◌, ◌≤◌, [], ◌∷◌, ◌++◌, List, length, OnOk, IfOk, IfSome};
-ghost use Rattle.oc_content.specs.Groups.{Group};
-ghost use Rattle.oc_content.specs.ContentFile.{most_bytes};
+ghost use Rattle.oc_base.specs.declared.group.Group.{Group};
+ghost use Rattle.oc_base.specs.declared.limits.TheConstants.{MAX_GROUP_BYTES};
 ghost use Rattle.oc_content.specs.Indexes.{IsTracked};
 ghost use Rattle.oc_content.specs.Founds.{IsFoundAt};
 ghost use Rattle.oc_content.specs.Tracks.{room_of, IsLastBefore};
@@ -75,9 +75,9 @@ pub struct Found {
 
 /// Finds a byte of a group by halving.
 pub fn find_byte(spans: &[Span], start: u64) -> Option<Found>
-    requires { start < most_bytes }
+    requires { start < MAX_GROUP_BYTES }
     ensures within { IfSome result (λ found. found.span < length spans.now) }
-    ensures short { IfSome result (λ found. found.skip < most_bytes) }
+    ensures short { IfSome result (λ found. found.skip < MAX_GROUP_BYTES) }
     ensures found { (bodies : List (List ℕ)) (k : Group) → IsTracked bodies k spans.now
         → start < length k.bytes → IsFoundAt bodies k spans.now start result }
 {

@@ -11,8 +11,9 @@ use Rattle.oc_model.specs.declared.mode.Mode.TheVariants as modes
 use Rattle.oc_model.specs.declared.record.Record.TheVariants as records
 use Rattle.oc_model.specs.declared.soft.Search.{Search}
 use Rattle.oc_model.specs.declared.soft.Search.TheVariants.{Descend}
-use Rattle.oc_model.specs.Adoption.{rank_or_last, precedes_any, most_depth}
-use Rattle.oc_model.specs.Asking.{lost_from, lost, send_ask, ask, next_epoch, act, descend, is_empty, try_at, try_first, next_try, set_tries, round, ask_before, is_asking, most_ancestors, ancestors_by, joins, took_yes, refused, took_no, not_seen, not_reached, unreachable, relocate}
+use Rattle.oc_model.specs.Adoption.{rank_or_last, precedes_any}
+use Rattle.oc_base.specs.declared.limits.TheConstants.{MAX_DEPTH, MAX_ANCESTORS}
+use Rattle.oc_model.specs.Asking.{lost_from, lost, send_ask, ask, next_epoch, act, descend, is_empty, try_at, try_first, next_try, set_tries, round, ask_before, is_asking, ancestors_by, joins, took_yes, refused, took_no, not_seen, not_reached, unreachable, relocate}
 use Rattle.oc_model.specs.Choice.{ask_order}
 use Rattle.oc_model.specs.Numbers.{number_end}
 use Rattle.oc_model.specs.Plan.{Plan, write, answers, with_soft, searching, ignored, is_member}
@@ -70,7 +71,7 @@ pub goes_ask_before : (o : Plan) (p : ℕ) → Goes 0 1 o (ask_before o p)
 goes_ask_before o p = goes_then 0 0 0 1 o (set_tries o (Some p)) (ask_before o p) (goes_set_tries o (Some p)) (goes_ask (set_tries o (Some p)) p)
 
 -- the ancestors of a child are not too many
-pub few_ancestors : (p : ℕ) (xs : List ℕ) → length (ancestors_by p xs) ≤ most_ancestors
+pub few_ancestors : (p : ℕ) (xs : List ℕ) → length (ancestors_by p xs) ≤ MAX_ANCESTORS
 few_ancestors p xs = let e : length (take 999 xs) ≡ min 999 (length xs) = length-take 999 xs in omega arith
 
 goes_joins : (o : Plan) (p : ℕ) (r : Rank) (xs : List ℕ) → Goes 0 2 o (joins o p r xs)
@@ -80,7 +81,7 @@ goes_joins o p r xs =
 
 pub goes_took_yes : (o : Plan) (p seq : ℕ) (r : Rank) (xs : List ℕ) → Goes 0 2 o (took_yes o p seq r xs)
 goes_took_yes o p seq r xs =
-    either (is_asking o.node.kept.mode p && seq == o.node.kept.seq && nat_lt r.depth most_depth && precedes_any r o.node.kept.rank) (Goes 0 2 o) (joins o p r xs) (ignored o)
+    either (is_asking o.node.kept.mode p && seq == o.node.kept.seq && nat_lt r.depth MAX_DEPTH && precedes_any r o.node.kept.rank) (Goes 0 2 o) (joins o p r xs) (ignored o)
     (goes_joins o p r xs) (goes_says 0 2 o words.Ignored)
 
 goes_refused : (o : Plan) (why : Refusal) → Goes 0 2 o (refused o why)

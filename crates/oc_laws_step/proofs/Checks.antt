@@ -13,7 +13,8 @@ use Rattle.oc_model.specs.declared.record.Record.TheVariants as records
 use Rattle.oc_model.specs.declared.soft.Search.TheVariants.{Review}
 use Rattle.oc_model.specs.Adopting.{raises, has_lease, sends_rejoin}
 use Rattle.oc_model.specs.Adoption.{rank_or_last, is_better}
-use Rattle.oc_model.specs.Asking.{send_ask, ask_before, ancestors_by, most_ancestors}
+use Rattle.oc_model.specs.Asking.{send_ask, ask_before, ancestors_by}
+use Rattle.oc_base.specs.declared.limits.TheConstants.{MAX_ANCESTORS}
 use Rattle.oc_model.specs.ChangeLog.{is_ahead}
 use Rattle.oc_model.specs.Checking.{counts_clients, checks_in, checks_as, next_check, checks, merges, merges_all, at_time, starts_leases, dies, ends_each, ends_leases, looks_at_each, looks_round, is_due, checks_if_due, fetches_as, tick, acknowledges, life, checked_in, is_joined_to, takes_place, takes_rank, same_ids, takes_ancestors, took_ack, is_peer, took_rejoin}
 use Rattle.oc_model.specs.Choice.{below}
@@ -179,7 +180,7 @@ goes_takes_rank o told =
     either (is_better o.node.kept.rank told) (Goes 0 1 o) (write o (records.Ranked (beneath_of told))) o
     (goes_write o (records.Ranked (beneath_of told)) tt) (goes_free 0 1 o o (goes_itself o))
 
-goes_takes_ancestors : (o : Plan) (xs : List ℕ) → length xs ≤ most_ancestors → Goes 0 1 o (takes_ancestors o xs)
+goes_takes_ancestors : (o : Plan) (xs : List ℕ) → length xs ≤ MAX_ANCESTORS → Goes 0 1 o (takes_ancestors o xs)
 goes_takes_ancestors o xs few =
     either (same_ids xs o.node.kept.ancestors) (Goes 0 1 o) o (write o (records.Ancestors xs)) (goes_free 0 1 o o (goes_itself o)) (goes_write o (records.Ancestors xs) few)
 

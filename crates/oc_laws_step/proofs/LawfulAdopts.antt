@@ -6,7 +6,7 @@ use Rattle.oc_model.specs.declared.message.Body.TheVariants as bodies
 use Rattle.oc_model.specs.declared.record.Record.TheVariants as records
 use Rattle.oc_model.specs.Adopting.{is_acting, raises, raises_over, host, birth, has_lease, grants, sends_rejoin, adopts, answers_ask, asked_at, asked}
 use Rattle.oc_model.specs.Adoption.{rank_or_last, precedes, adoption_refusal}
-use Rattle.oc_model.specs.Lawful.{IsNode, IsRefusal}
+use Rattle.oc_base.specs.Lawful.{IsNode, IsRefusal}
 use Rattle.oc_model.specs.Leases.{renew}
 use Rattle.oc_model.specs.Numbers.{raise}
 use Rattle.oc_model.specs.Plan.{Plan, write, with_leases}

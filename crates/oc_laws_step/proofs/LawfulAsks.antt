@@ -12,10 +12,11 @@ use Rattle.oc_model.specs.declared.mode.Mode.TheVariants as modes
 use Rattle.oc_model.specs.declared.record.Record.TheVariants as records
 use Rattle.oc_model.specs.declared.soft.Search.{Search}
 use Rattle.oc_model.specs.declared.soft.Search.TheVariants.{Descend, Review}
-use Rattle.oc_model.specs.Adoption.{rank_or_last, precedes_any, most_depth}
+use Rattle.oc_model.specs.Adoption.{rank_or_last, precedes_any}
+use Rattle.oc_base.specs.declared.limits.TheConstants.{MAX_DEPTH}
 use Rattle.oc_model.specs.Asking.{lost_from, lost, send_ask, ask, next_epoch, act, descend, is_empty, try_at, try_first, next_try, set_tries, round, ask_before, is_asking, ancestors_by, joins, took_yes, refused, took_no, not_seen, not_reached, unreachable, relocate}
 use Rattle.oc_model.specs.Choice.{ask_order}
-use Rattle.oc_model.specs.Lawful.{IsNode, AreNodes, AreAncestors, IsRefusal}
+use Rattle.oc_base.specs.Lawful.{IsNode, AreNodes, AreAncestors, IsRefusal}
 use Rattle.oc_model.specs.Numbers.{number_end}
 use Rattle.oc_model.specs.Plan.{Plan, write, answers, with_soft, searching, ignored, is_member}
 use Rattle.oc_laws_step.specs.LawfulNode.{IsLawfulPlan}
@@ -94,20 +95,20 @@ module _ (nodes : ℕ) where
   abbrev joined_to : Plan → ℕ → Rank → List ℕ → Plan
   joined_to o p r xs = write (write o (records.Joined p (beneath_of r))) (records.Ancestors (ancestors_by p xs))
 
-  lawful_joins : (o : Plan) (p : ℕ) (r : Rank) (xs : List ℕ) → IsNode nodes p → nat_lt r.depth most_depth ≡ true → AreNodes nodes xs → IsLawfulPlan nodes o → IsLawfulPlan nodes (joins o p r xs)
+  lawful_joins : (o : Plan) (p : ℕ) (r : Rank) (xs : List ℕ) → IsNode nodes p → nat_lt r.depth MAX_DEPTH ≡ true → AreNodes nodes xs → IsLawfulPlan nodes o → IsLawfulPlan nodes (joins o p r xs)
   lawful_joins o p r xs from deep all ok =
-      let less : r.depth < most_depth = ltb-true r.depth most_depth deep in
+      let less : r.depth < MAX_DEPTH = ltb-true r.depth MAX_DEPTH deep in
       lawful_soft nodes (joined_to o p r xs) (record o.node.soft { due = None; tries = []; search = None }) (record { clock = ok.node.soft.clock; tries = tt; search = tt })
       (lawful_write nodes (write o (records.Joined p (beneath_of r))) (records.Ancestors (ancestors_by p xs)) (lawful_ancestors p xs from all)
       (lawful_write nodes o (records.Joined p (beneath_of r)) (from, omega (arith, less)) ok))
 
   abbrev is_taken : Plan → ℕ → ℕ → Rank → Bool
-  is_taken o p seq r = is_asking o.node.kept.mode p && seq == o.node.kept.seq && nat_lt r.depth most_depth && precedes_any r o.node.kept.rank
+  is_taken o p seq r = is_asking o.node.kept.mode p && seq == o.node.kept.seq && nat_lt r.depth MAX_DEPTH && precedes_any r o.node.kept.rank
 
   pub lawful_took_yes : (o : Plan) (p seq : ℕ) (r : Rank) (xs : List ℕ) → IsNode nodes p → AreNodes nodes xs → IsLawfulPlan nodes o → IsLawfulPlan nodes (took_yes o p seq r xs)
   lawful_took_yes o p seq r xs from all ok =
       either_by (is_taken o p seq r) (IsLawfulPlan nodes) (joins o p r xs) (ignored o)
-      (λ e. lawful_joins o p r xs from (and_parts (is_asking o.node.kept.mode p && seq == o.node.kept.seq) (nat_lt r.depth most_depth) (and_parts _ (precedes_any r o.node.kept.rank) e).0).1 all ok)
+      (λ e. lawful_joins o p r xs from (and_parts (is_asking o.node.kept.mode p && seq == o.node.kept.seq) (nat_lt r.depth MAX_DEPTH) (and_parts _ (precedes_any r o.node.kept.rank) e).0).1 all ok)
       (λ _. lawful_ignored o ok)
 
   lawful_refused : (o : Plan) (why : Refusal) → IsRefusal nodes why → IsLawfulPlan nodes o → IsLawfulPlan nodes (refused o why)

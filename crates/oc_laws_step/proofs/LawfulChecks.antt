@@ -11,12 +11,14 @@ use Rattle.oc_model.specs.declared.mode.Mode.TheVariants as modes
 use Rattle.oc_model.specs.declared.record.Record.TheVariants as records
 use Rattle.oc_model.specs.declared.soft.Search.TheVariants.{Review}
 use Rattle.oc_model.specs.Adopting.{has_lease, sends_rejoin}
-use Rattle.oc_model.specs.Adoption.{rank_or_last, is_better, precedes_any, most_depth}
+use Rattle.oc_model.specs.Adoption.{rank_or_last, is_better, precedes_any}
+use Rattle.oc_base.specs.declared.limits.TheConstants.{MAX_DEPTH, MAX_CHECK_IN_CERTS, LAST_SECOND}
 use Rattle.oc_model.specs.Asking.{ask_before, ancestors_by}
-use Rattle.oc_model.specs.ChangeLog.{is_ahead, next_certs, place_after, most_certs}
+use Rattle.oc_model.specs.ChangeLog.{is_ahead, next_certs, place_after}
 use Rattle.oc_model.specs.Checking.{counts_clients, checks_in, checks_as, next_check, checks, merges, merges_all, at_time, starts_leases, dies, ends_each, ends_leases, looks_at_each, looks_round, is_due, checks_if_due, fetches_as, fetches, tick, acknowledges, life, checked_in, is_joined_to, takes_place, takes_rank, same_ids, takes_ancestors, took_ack, is_peer, took_rejoin}
 use Rattle.oc_model.specs.Choice.{below}
-use Rattle.oc_model.specs.Lawful.{IsNode, AreNodes, IsRate, IsCert, AreCerts, AreAncestors, IsShelf, last_second}
+use Rattle.oc_base.specs.Lawful.{IsNode, AreNodes, IsRate, IsCert, AreCerts, AreAncestors}
+use Rattle.oc_base.specs.Shelves.{IsShelf}
 use Rattle.oc_model.specs.Leases.{renew, start_all, ended}
 use Rattle.oc_model.specs.Numbers.{number_end, raise, capped, put_at}
 use Rattle.oc_model.specs.Plan.{Plan, write, send, with_soft, searching, ignored, is_member, rate_to}
@@ -50,9 +52,9 @@ module _ (nodes : ℕ) where
   lawful_checks_in : (o : Plan) (p : ℕ) → IsNode nodes p → 1 ≤ o.node.kept.seq → IsLawfulPlan nodes o → IsLawfulPlan nodes (checks_in o p)
   lawful_checks_in o p to asked ok =
       lawful_send nodes o p (bodies.CheckIn o.node.kept.seq (place_after o.node.kept.log) (rate_to o.node p) o.node.kept.number o.node.kept.clients (next_certs o.node.kept.log)) to
-      (asked, reading_rate o.node.kept.measures p ok.node.kept.measures, all_take (IsCert nodes) most_certs o.node.kept.log.waiting ok.node.kept.waiting, few) ok where
-        few : length (next_certs o.node.kept.log) ≤ most_certs
-        few = let e : length (take most_certs o.node.kept.log.waiting) ≡ min most_certs (length o.node.kept.log.waiting) = length-take most_certs o.node.kept.log.waiting in omega (arith, e)
+      (asked, reading_rate o.node.kept.measures p ok.node.kept.measures, all_take (IsCert nodes) MAX_CHECK_IN_CERTS o.node.kept.log.waiting ok.node.kept.waiting, few) ok where
+        few : length (next_certs o.node.kept.log) ≤ MAX_CHECK_IN_CERTS
+        few = let e : length (take MAX_CHECK_IN_CERTS o.node.kept.log.waiting) ≡ min MAX_CHECK_IN_CERTS (length o.node.kept.log.waiting) = length-take MAX_CHECK_IN_CERTS o.node.kept.log.waiting in omega (arith, e)
 
   lawful_checks_as : (m : Mode) (o : Plan) → IsLawfulMode nodes o.node.kept.seq m → IsLawfulPlan nodes o → IsLawfulPlan nodes (checks_as m o)
   lawful_checks_as (modes.Joined p) o mode ok =
@@ -76,7 +78,7 @@ module _ (nodes : ℕ) where
   lawful_merges_all [] o all ok = ok
   lawful_merges_all (c ∷ cs) o all ok = lawful_merges_all cs (merges o c) all.1 (lawful_merges o c all.0 ok)
 
-  lawful_at_time : (o : Plan) (t : ℕ) → t ≤ last_second → IsLawfulPlan nodes o → IsLawfulPlan nodes (at_time o t)
+  lawful_at_time : (o : Plan) (t : ℕ) → t ≤ LAST_SECOND → IsLawfulPlan nodes o → IsLawfulPlan nodes (at_time o t)
   lawful_at_time o t within ok =
       lawful_soft nodes o (record o.node.soft { clock = max o.node.soft.clock t }) (record { clock = omega (arith, within, ok.node.soft.clock); tries = ok.node.soft.tries; search = ok.node.soft.search }) ok
 
@@ -123,7 +125,7 @@ module _ (nodes : ℕ) where
   abbrev timed : Plan → ℕ → Plan
   timed o t = starts_leases (at_time o t)
 
-  pub lawful_tick : (o : Plan) (shelf : List Shelf) (t : ℕ) → t ≤ last_second → IsShelf shelf → IsLawfulPlan nodes o → IsLawfulPlan nodes (tick o shelf t)
+  pub lawful_tick : (o : Plan) (shelf : List Shelf) (t : ℕ) → t ≤ LAST_SECOND → IsShelf shelf → IsLawfulPlan nodes o → IsLawfulPlan nodes (tick o shelf t)
   lawful_tick o shelf t within lines ok =
       lawful_fetches (checks_if_due (ends_leases (timed o t))) shelf lines
       (lawful_checks_if_due (ends_leases (timed o t))
@@ -153,7 +155,7 @@ module _ (nodes : ℕ) where
   lawful_takes_rank : (o : Plan) (told : Rank) → IsLawfulPlan nodes o → IsLawfulPlan nodes (takes_rank o told)
   lawful_takes_rank o told ok =
       either_by (is_better o.node.kept.rank told) (IsLawfulPlan nodes) (write o (records.Ranked (beneath_of told))) o
-      (λ e. let less : told.depth < most_depth = ltb-true told.depth most_depth (and_parts (nat_lt told.depth most_depth) (precedes_any (beneath_of told) o.node.kept.rank) e).0 in
+      (λ e. let less : told.depth < MAX_DEPTH = ltb-true told.depth MAX_DEPTH (and_parts (nat_lt told.depth MAX_DEPTH) (precedes_any (beneath_of told) o.node.kept.rank) e).0 in
       lawful_write nodes o (records.Ranked (beneath_of told)) (omega (arith, less)) ok)
       (λ _. ok)
 

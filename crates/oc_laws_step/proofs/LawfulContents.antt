@@ -9,10 +9,11 @@ use Rattle.oc_model.specs.declared.message.Body.TheVariants as bodies
 use Rattle.oc_model.specs.declared.mode.Mode.{Mode}
 use Rattle.oc_model.specs.declared.mode.Mode.TheVariants as modes
 use Rattle.oc_model.specs.Content.{unless, keeps, grows, publish_to, published, seal_line, sealed_at, pulled, count_from, wanted, sends_chunk, answers_fetch, fetched, adds_seal, adds, grown_line, asks_on, keeps_chunk, chunk_to, took_chunk}
-use Rattle.oc_model.specs.Groups.{most_bytes, most_chunk}
-use Rattle.oc_model.specs.Lawful.{IsNode, IsLine, AreLines, IsShelf}
+use Rattle.oc_base.specs.declared.limits.TheConstants.{MAX_GROUP_BYTES, MAX_CHUNK_BYTES}
+use Rattle.oc_base.specs.Lawful.{IsNode}
+use Rattle.oc_base.specs.Shelves.{IsLine, AreLines, IsShelf, line_of}
 use Rattle.oc_model.specs.Plan.{Plan, send, answers, ignored}
-use Rattle.oc_model.specs.Shelves.{line_of, line_at, with_line, limit, first_behind}
+use Rattle.oc_model.specs.Shelves.{line_at, with_line, limit, first_behind}
 use Rattle.oc_laws_step.specs.LawfulNode.{IsLawfulWant, IsLawfulPlan}
 use Rattle.oc_laws_step.proofs.Goes.{either}
 use Rattle.oc_laws_step.proofs.LawfulAsks.{lawful_ignored}
@@ -53,10 +54,10 @@ module _ (nodes : ℕ) where
       either (p == o.node.me) (IsLawfulPlan nodes) (answers o words.Own) (send o p (bodies.Fetch shelf)) (lawful_answers nodes o words.Own ok) (lawful_send nodes o p (bodies.Fetch shelf) to lines ok)
 
   -- no more bytes are wanted than a chunk has
-  want_lawful : (l : Shelf) (start count : ℕ) → count ≤ most_chunk → IsLawfulWant (wanted l start count)
+  want_lawful : (l : Shelf) (start count : ℕ) → count ≤ MAX_CHUNK_BYTES → IsLawfulWant (wanted l start count)
   want_lawful l start count few = cond_both (count == 0) None (Some (record { group = l.group; start = start; count = count })) IsLawfulWant (λ _. tt) (λ _. few)
 
-  lawful_sends_chunk : (o : Plan) (p : ℕ) (l : Shelf) (start : ℕ) → IsNode nodes p → IsLine l → start ≤ most_bytes → IsLawfulPlan nodes o → IsLawfulPlan nodes (sends_chunk o p l start (count_from l start))
+  lawful_sends_chunk : (o : Plan) (p : ℕ) (l : Shelf) (start : ℕ) → IsNode nodes p → IsLine l → start ≤ MAX_GROUP_BYTES → IsLawfulPlan nodes o → IsLawfulPlan nodes (sends_chunk o p l start (count_from l start))
   lawful_sends_chunk o p l start to line within ok =
       let sent = lawful_send nodes o p (bodies.Chunk l.group start [] (l.sealed && start + count_from l start == l.held)) to (line.0, within, omega arith) ok in
       record { node = sent.node; records = sent.records; sends = sent.sends; wants = want_lawful l start (count_from l start) (omega arith) }
@@ -74,7 +75,7 @@ module _ (nodes : ℕ) where
   lawful_asks_on (modes.Asking q) p shelf o to lines ok = ok
   lawful_asks_on modes.Acting p shelf o to lines ok = ok
 
-  lawful_keeps_chunk : (o : Plan) (shelf : List Shelf) (p : ℕ) (l : Shelf) (start end : ℕ) (last : Bool) → IsNode nodes p → IsShelf shelf → IsLine l → HasRoom shelf l.group → end ≤ most_bytes
+  lawful_keeps_chunk : (o : Plan) (shelf : List Shelf) (p : ℕ) (l : Shelf) (start end : ℕ) (last : Bool) → IsNode nodes p → IsShelf shelf → IsLine l → HasRoom shelf l.group → end ≤ MAX_GROUP_BYTES
       → IsLawfulPlan nodes o → IsLawfulPlan nodes (keeps_chunk o shelf p l start end last)
   lawful_keeps_chunk o shelf p l start end last to lines line room within ok =
       either (adds shelf l end last) (IsLawfulPlan nodes) (asks_on o.node.kept.mode p (with_line (grown_line l end last) shelf) (keeps o start (adds_seal l end last))) (ignored o)

@@ -13,7 +13,8 @@ use Rattle.oc_model.specs.declared.record.Record.TheVariants as records
 use Rattle.oc_model.specs.declared.soft.Search.{Search}
 use Rattle.oc_model.specs.declared.soft.Soft.{Soft}
 use Rattle.oc_model.specs.ChangeLog.{begun_with, ack, is_ahead, acked_whole}
-use Rattle.oc_model.specs.Lawful.{IsNode, IsRate, IsRank, IsCert, AreCerts, IsRecord, IsBody, IsMessage}
+use Rattle.oc_model.specs.Lawful.{IsRecord, IsBody, IsMessage}
+use Rattle.oc_base.specs.Lawful.{IsNode, IsRate, IsRank, IsCert, AreCerts}
 use Rattle.oc_model.specs.Node.{Control, Durable, Log, new_durable}
 use Rattle.oc_model.specs.Plan.{Plan, begun, write, send, answers, with_soft, searching}
 use Rattle.oc_model.specs.Records.{fold_one, entered, noted, is_joined}

@@ -14,7 +14,7 @@ use Rattle.oc_model.specs.declared.soft.Search.TheVariants as searches
 use Rattle.oc_model.specs.Adopting.{in_tree}
 use Rattle.oc_model.specs.Asking.{ask_before, next_try}
 use Rattle.oc_model.specs.Choice.{chosen, reviewed}
-use Rattle.oc_model.specs.Lawful.{IsNode, IsNodeOrNone, IsRate, AreCerts, AreChildren}
+use Rattle.oc_base.specs.Lawful.{IsNode, IsNodeOrNone, IsRate, AreCerts, AreChildren}
 use Rattle.oc_model.specs.Looking.{parent_of, rate_to_some, children, looked, Stand, candidate, candidates, goes_down, descends, grandparent, view, goes_where, reviews_place, prefers, keeps_line, sees_as, sees}
 use Rattle.oc_model.specs.Node.{Control}
 use Rattle.oc_model.specs.Numbers.{at}

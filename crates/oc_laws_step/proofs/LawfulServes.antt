@@ -3,12 +3,12 @@ use Rattle.std.proofs.Common.{ℕ, ◌+◌, ◌-◌, ◌==◌, if◌then◌else�
 use Rattle.oc_base.specs.declared.shelf.Shelf.{Shelf}
 use Rattle.oc_model.specs.declared.answer.Answer.TheVariants as words
 use Rattle.oc_model.specs.declared.record.Record.TheVariants as records
-use Rattle.oc_model.specs.Lawful.{IsNode, IsRate}
+use Rattle.oc_base.specs.Lawful.{IsNode, IsRate}
 use Rattle.oc_model.specs.Measures.{reading_of, same_reading}
 use Rattle.oc_model.specs.Numbers.{capped, at, put_at}
 use Rattle.oc_model.specs.Plan.{Plan, write, answers, with_soft}
 use Rattle.oc_model.specs.Serving.{serves, redirects, server_for, client_of, client, measured}
-use Rattle.oc_model.specs.Shelves.{line_of}
+use Rattle.oc_base.specs.Shelves.{line_of}
 use Rattle.oc_laws_step.specs.LawfulNode.{IsLawfulPlan}
 use Rattle.oc_laws_step.proofs.Goes.{either}
 use Rattle.oc_laws_step.proofs.LawfulFolds.{lawful_write, lawful_answers, lawful_soft, lawful_lists}

@@ -4,7 +4,7 @@ use Rattle.std.specs.List.{AllByRecursion}
 use Rattle.oc_base.specs.declared.cert.Cert.{Cert}
 use Rattle.oc_base.specs.declared.shelf.Shelf.{Shelf}
 use Rattle.oc_base.specs.Names.{IsGroupName}
-use Rattle.oc_model.specs.declared.group.Group.{Group}
+use Rattle.oc_base.specs.declared.group.Group.{Group}
 use Rattle.oc_model.specs.declared.input.Input.{Input}
 use Rattle.oc_model.specs.declared.input.Input.TheVariants as inputs
 use Rattle.oc_model.specs.declared.message.Body.{Body}
@@ -13,8 +13,11 @@ use Rattle.oc_model.specs.declared.message.Message.{Message}
 use Rattle.oc_model.specs.declared.record.Record.{Record}
 use Rattle.oc_model.specs.declared.want.Want.{Want}
 use Rattle.oc_model.specs.Content.{answers_fetch}
-use Rattle.oc_model.specs.Groups.{group_or_empty, shelf, most_chunk}
-use Rattle.oc_model.specs.Lawful.{IsNode, IsBody, IsMessage, IsRecord, IsInput, IsShelf, IsRate, IsCert, AreCerts}
+use Rattle.oc_base.specs.Groups.{group_or_empty, shelf}
+use Rattle.oc_base.specs.declared.limits.TheConstants.{MAX_CHUNK_BYTES, MAX_NODES}
+use Rattle.oc_model.specs.Lawful.{IsBody, IsMessage, IsRecord, IsInput}
+use Rattle.oc_base.specs.Lawful.{IsNode, IsRate, IsCert, AreCerts}
+use Rattle.oc_base.specs.Shelves.{IsShelf}
 use Rattle.oc_model.specs.Node.{Control, Durable, Node, Header, new_durable, new_node, started_with, restarted}
 use Rattle.oc_model.specs.Records.{fold_one, folded}
 use Rattle.oc_model.specs.Plan.{Plan, begun}
@@ -24,7 +27,7 @@ use Rattle.oc_model.proofs.Groups.{group_or_empty-name}
 use Rattle.oc_model.proofs.Limits.{all-with_group}
 use Rattle.oc_model.proofs.Lists.{all_weaker}
 use Rattle.oc_model.proofs.Outcomes.{step_leaves}
-use Rattle.oc_laws_step.specs.Frames.{HasFewCerts, IsFew, IsSmall, FitsFrame, most_nodes}
+use Rattle.oc_laws_step.specs.Frames.{HasFewCerts, IsFew, IsSmall, FitsFrame}
 use Rattle.oc_laws_step.specs.Sound.{AreAbove}
 use Rattle.oc_laws_step.specs.LawfulNode.{IsLawfulDurable, IsLawfulWant, IsLawfulControl, IsLawfulNode, IsLawfulPlan, IsLawfulOutcome}
 use Rattle.oc_laws_step.proofs.Adopts.{goes_asked}
@@ -119,7 +122,7 @@ named_after nodes n i fair named = ⊎_elim
 
 -- Messages with their bytes
 
-body_filled : (nodes : ℕ) (bytes : List ℕ) (b : Body) → length bytes ≤ most_chunk → IsBody nodes b → IsBody nodes (fill_body bytes b)
+body_filled : (nodes : ℕ) (bytes : List ℕ) (b : Body) → length bytes ≤ MAX_CHUNK_BYTES → IsBody nodes b → IsBody nodes (fill_body bytes b)
 body_filled nodes bytes (bodies.Chunk g start none last) few here = (here.0, here.1, few)
 body_filled nodes bytes bodies.Look few here = here
 body_filled nodes bytes (bodies.LookIs is_in parent rate children) few here = here
@@ -195,7 +198,7 @@ above_none : (nodes : ℕ) (t : List Cert) → AreCerts nodes t → AreAbove 0 t
 above_none nodes t all = all_weaker (IsCert nodes) (λ k. 0 < k.subject) (λ k h. h.subject.0) t all
 
 -- a lawful node's table has no more rows than there are nodes
-small_lawful : (nodes : ℕ) (n : Control) → nodes ≤ most_nodes → IsLawfulControl nodes n → IsSmall n
+small_lawful : (nodes : ℕ) (n : Control) → nodes ≤ MAX_NODES → IsLawfulControl nodes n → IsSmall n
 small_lawful nodes n few ok =
     let rows = few_rows nodes n.kept.table 0 (omega arith) (above_none nodes n.kept.table ok.kept.table) ok.kept.sorted ok.kept.table in
     record { nodes = omega (arith, ok.among, few); table = omega (arith, ok.among, rows) }
@@ -209,5 +212,5 @@ few_lawful nodes me (inputs.Delivered m) fair = few_body nodes m.body fair.0.bod
 few_lawful nodes me i fair = tt
 
 -- so what a lawful input writes fits a frame
-pub lawful_fits : (nodes : ℕ) (n : Node) (i : Input) → nodes ≤ most_nodes → IsInput nodes n.control.me i → IsLawfulNode nodes n → FitsFrame (step n i).records
+pub lawful_fits : (nodes : ℕ) (n : Node) (i : Input) → nodes ≤ MAX_NODES → IsInput nodes n.control.me i → IsLawfulNode nodes n → FitsFrame (step n i).records
 lawful_fits nodes n i few fair ok = fits n i (small_lawful nodes n.control few ok.control) (few_lawful nodes n.control.me i fair)

@@ -6,15 +6,17 @@ use Rattle.std.proofs.lemmas.Bool.{cond_both, leb-false}
 use Rattle.oc_base.specs.declared.shelf.Shelf.{Shelf}
 use Rattle.oc_base.specs.Names.{IsGroupName}
 use Rattle.oc_model.specs.declared.answer.Answer.TheVariants as words
-use Rattle.oc_model.specs.declared.group.Group.{Group}
+use Rattle.oc_base.specs.declared.group.Group.{Group}
 use Rattle.oc_model.specs.Content.{unless}
-use Rattle.oc_model.specs.Groups.{same_name, shelf, most_groups, most_bytes, AreAbove, IsAscending}
-use Rattle.oc_model.specs.Lawful.{IsLine, AreLines, IsShelf}
+use Rattle.oc_base.specs.Named.{same_name}
+use Rattle.oc_base.specs.Groups.{shelf, AreAbove, IsAscending}
+use Rattle.oc_base.specs.declared.limits.TheConstants.{MAX_GROUPS, MAX_GROUP_BYTES}
+use Rattle.oc_base.specs.Shelves.{IsLine, AreLines, IsShelf, line_of}
 use Rattle.oc_model.specs.Plan.{Plan, answers}
-use Rattle.oc_model.specs.Shelves.{line_of, line_or_none, line_at, with_line, limit, is_behind, first_behind}
+use Rattle.oc_model.specs.Shelves.{line_or_none, line_at, with_line, limit, is_behind, first_behind}
 use Rattle.oc_model.specs.WorldBounds.{IsShort, AreWithinLimits}
 use Rattle.oc_model.proofs.Lists.{all_weaker}
-use Rattle.oc_model.proofs.Names.{names_back, names_tied, names_rise}
+use Rattle.oc_base.proofs.NameOrder.{names_back, names_tied, names_rise}
 use Rattle.oc_model.proofs.Shelves.{length-shelf}
 use Rattle.oc_laws_step.proofs.Ranges.{IfFound}
 
@@ -80,23 +82,23 @@ count_put l (k ∷ ks) all = by_order (count_put l ks all.2) (slice_cmp nat_cmp 
 
 -- there is room for a line of this name
 abbrev pub HasRoom : List Shelf → List ℕ → Type 0
-HasRoom ls g = line_of g ls ≡ None → length ls < most_groups
+HasRoom ls g = line_of g ls ≡ None → length ls < MAX_GROUPS
 
 pub shelf_put : (l : Shelf) (ls : List Shelf) → IsLine l → HasRoom ls l.group → IsShelf ls → IsShelf (with_line l ls)
 shelf_put l ls here room ok = (lines_put l ls here ok.0, ⊎_elim (λ same. omega (arith, same, ok.1)) (λ more. omega (arith, more.1, room more.0)) (count_put l ls ok.0))
 
 -- what holds of both refusals, and of the rest if neither limit is passed, holds within the limits
 pub within : (P : Plan → Type 0) (o : Plan) (ls : List Shelf) (g : List ℕ) (end : ℕ) (q : Plan) → P (answers o words.Groups) → P (answers o words.TooLong)
-    → (HasRoom ls g → end ≤ most_bytes → P q) → P (unless (limit ls g end) o q)
-within P o ls g end q many long fits = by_tests (not (is_some (line_of g ls)) && nat_le most_groups (length ls)) (nat_lt most_bytes end) refl refl where
-  room : (not (is_some (line_of g ls)) && nat_le most_groups (length ls)) ≡ false → HasRoom ls g
-  room e none = let few : nat_le most_groups (length ls) ≡ false = rw none at e in leb-false most_groups (length ls) few
+    → (HasRoom ls g → end ≤ MAX_GROUP_BYTES → P q) → P (unless (limit ls g end) o q)
+within P o ls g end q many long fits = by_tests (not (is_some (line_of g ls)) && nat_le MAX_GROUPS (length ls)) (nat_lt MAX_GROUP_BYTES end) refl refl where
+  room : (not (is_some (line_of g ls)) && nat_le MAX_GROUPS (length ls)) ≡ false → HasRoom ls g
+  room e none = let few : nat_le MAX_GROUPS (length ls) ≡ false = rw none at e in leb-false MAX_GROUPS (length ls) few
 
-  by_tests : (a b : Bool) → (not (is_some (line_of g ls)) && nat_le most_groups (length ls)) ≡ a → nat_lt most_bytes end ≡ b
+  by_tests : (a b : Bool) → (not (is_some (line_of g ls)) && nat_le MAX_GROUPS (length ls)) ≡ a → nat_lt MAX_GROUP_BYTES end ≡ b
       → P (unless (if a then Some words.Groups else if b then Some words.TooLong else None) o q)
   by_tests true b e f = many
   by_tests false true e f = long
-  by_tests false false e f = fits (room e) (ltb-false most_bytes end f)
+  by_tests false false e f = fits (room e) (ltb-false MAX_GROUP_BYTES end f)
 
 -- Shelves of groups
 

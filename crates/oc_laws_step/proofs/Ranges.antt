@@ -11,9 +11,10 @@ use Rattle.oc_model.specs.declared.place.Candidate.{Candidate}
 use Rattle.oc_model.specs.declared.place.Review.{Review}
 use Rattle.oc_model.specs.declared.place.Review.TheVariants as reviews
 use Rattle.oc_model.specs.declared.reading.Reading.{Reading}
-use Rattle.oc_model.specs.Adoption.{Host, rank_or_last, chain_refusal, rank_refusal, adoption_refusal, precedes_any, most_depth}
+use Rattle.oc_model.specs.Adoption.{Host, rank_or_last, chain_refusal, rank_refusal, adoption_refusal, precedes_any}
+use Rattle.oc_base.specs.declared.limits.TheConstants.{MAX_DEPTH}
 use Rattle.oc_model.specs.Choice.{nearer_of, nearest, is_nearer, is_suitable, chosen, View, go_beneath, reviewed_with, reviewed, below, each_once, just, ask_order}
-use Rattle.oc_model.specs.Lawful.{IsNode, AreNodes, IsRate, IsRank, IsRankOrNone, IsCert, AreCerts, IsRefusal}
+use Rattle.oc_base.specs.Lawful.{IsNode, AreNodes, IsRate, IsRank, IsRankOrNone, IsCert, AreCerts, IsRefusal}
 use Rattle.oc_model.specs.Measures.{reading_of}
 use Rattle.oc_model.specs.Node.{no_reading}
 use Rattle.oc_model.specs.Numbers.{has}
@@ -161,7 +162,7 @@ refusal_lawful nodes h x r child =
     cond_both (x == h.me) (Some refusals.Own) _ (IfFound (IsRefusal nodes)) (λ _. tt)
     (λ _. cond_both (not h.in_tree) (Some refusals.NotJoined) _ (IfFound (IsRefusal nodes)) (λ _. tt)
     (λ _. cond_both (has h.ancestors x) (Some refusals.Ancestor) _ (IfFound (IsRefusal nodes)) (λ _. tt)
-    (λ _. cond_both (nat_le most_depth h.rank.depth) (Some refusals.Depth) _ (IfFound (IsRefusal nodes)) (λ _. tt)
+    (λ _. cond_both (nat_le MAX_DEPTH h.rank.depth) (Some refusals.Depth) _ (IfFound (IsRefusal nodes)) (λ _. tt)
     (λ _. or_lawful (chain_refusal h x h.chain_child) (rank_refusal h.rank r) (chain_lawful h.chain_child child) (rank_lawful_refusal r))))) where
       or_lawful : (a b : Option Refusal) → IfFound (IsRefusal nodes) a → IfFound (IsRefusal nodes) b → IfFound (IsRefusal nodes) (option_or a b)
       or_lawful None b ha hb = hb

@@ -4,7 +4,8 @@ use Rattle.std.proofs.lemmas.Bool.{or_cases, or_left, or_right, and_parts, and_f
 use Rattle.oc_base.specs.declared.rank.Rank.{Rank}
 use Rattle.oc_base.specs.Rank.{Precedes, beneath_of}
 use Rattle.oc_laws_step.specs.Order.{IsNoWorse}
-use Rattle.oc_model.specs.Adoption.{precedes, is_better, take_rank, most_depth}
+use Rattle.oc_model.specs.Adoption.{precedes, is_better, take_rank}
+use Rattle.oc_base.specs.declared.limits.TheConstants.{MAX_DEPTH}
 
 -- Ranks
 
@@ -55,7 +56,7 @@ no_worse_itself (Some o) = inl refl
 -- what is better than the own rank is no worse
 better_no_worse : (own : Option Rank) (told : Rank) → is_better own told ≡ true → IsNoWorse own (Some (beneath_of told))
 better_no_worse None told h = tt
-better_no_worse (Some o) told h = inr (precedes_fact (beneath_of told) o (and_parts (nat_lt told.depth most_depth) (precedes (beneath_of told) o) h).1)
+better_no_worse (Some o) told h = inr (precedes_fact (beneath_of told) o (and_parts (nat_lt told.depth MAX_DEPTH) (precedes (beneath_of told) o) h).1)
 
 -- the rank that a node takes is its own or a better one
 pub take_rank_no_worse : (own : Option Rank) (told : Rank) → IsNoWorse own (take_rank own told)

@@ -7,7 +7,7 @@ use Rattle.oc_model.specs.Measures.{reading_of, same_reading}
 use Rattle.oc_model.specs.Numbers.{capped}
 use Rattle.oc_model.specs.Plan.{Plan, write, answers, with_soft}
 use Rattle.oc_model.specs.Serving.{serves, redirects, server_for, client_of, client, measured}
-use Rattle.oc_model.specs.Shelves.{line_of}
+use Rattle.oc_base.specs.Shelves.{line_of}
 use Rattle.oc_laws_step.proofs.Goes.{Goes, either, goes_itself, goes_still, goes_write, goes_soft, then_answers, goes_free, goes_says}
 
 goes_serves : (o : Plan) (count : ℕ) → Goes 0 0 o (serves o count)

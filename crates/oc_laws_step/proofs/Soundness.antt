@@ -9,7 +9,7 @@ use Rattle.oc_model.specs.declared.message.Body.{Body}
 use Rattle.oc_model.specs.declared.message.Body.TheVariants as bodies
 use Rattle.oc_model.specs.declared.record.Record.{Record}
 use Rattle.oc_model.specs.declared.record.Record.TheVariants as records
-use Rattle.oc_model.specs.Groups.{shelf}
+use Rattle.oc_base.specs.Groups.{shelf}
 use Rattle.oc_model.specs.Node.{Header, Node, Control, Durable, new_durable, new_node, started_with, restarted, no_reading}
 use Rattle.oc_model.specs.Step.{plan, step}
 use Rattle.oc_laws_step.specs.Frames.{HasFewCerts, IsFew, IsSmall, FitsFrame}

@@ -1,34 +1,30 @@
-use Rattle.std.specs.Prelude.{ℕ, ◌≤◌, List, length}
+use Rattle.std.specs.Prelude.{◌≤◌, List, length}
 use Rattle.oc_model.specs.declared.input.Input.{Input}
 use Rattle.oc_model.specs.declared.input.Input.TheVariants.{Delivered}
 use Rattle.oc_model.specs.declared.message.Body.{Body}
 use Rattle.oc_model.specs.declared.message.Body.TheVariants.{CheckIn}
 use Rattle.oc_model.specs.declared.record.Record.{Record}
-use Rattle.oc_model.specs.ChangeLog.{most_certs}
+use Rattle.oc_base.specs.declared.limits.TheConstants.{MAX_NODES, MAX_CHECK_IN_CERTS, MAX_FRAME_RECORDS, MAX_FRAME_BYTES}
 use Rattle.oc_model.specs.Node.{Control}
-use Rattle.oc_laws_step.specs.Sizes.{total, size_of, most_records, most_frame}
+use Rattle.oc_laws_step.specs.Sizes.{total, size_of}
 
 -- Whether the records of one input fit one frame.
 
 -- a check-in has no more certificates than it may have
 abbrev pub HasFewCerts : Body → Type 0
-HasFewCerts (CheckIn seq upto rate number clients certs) = length certs ≤ most_certs
+HasFewCerts (CheckIn seq upto rate number clients certs) = length certs ≤ MAX_CHECK_IN_CERTS
 HasFewCerts body = Unit {0}
 
 abbrev pub IsFew : Input → Type 0
 IsFew (Delivered m) = HasFewCerts m.body
 IsFew i = Unit {0}
 
--- the most nodes
-abbrev pub most_nodes : ℕ
-most_nodes = 1024
-
 -- a table with no more rows than there are nodes
 pub record IsSmall (n : Control) : Type 0 where
-  pub nodes : n.nodes ≤ most_nodes
+  pub nodes : n.nodes ≤ MAX_NODES
   pub table : length n.kept.table ≤ n.nodes
 
 -- no more records than one input may write, and no more bytes than a frame has
 pub record FitsFrame (rs : List Record) : Type 0 where
-  pub records : length rs ≤ most_records
-  pub bytes : total size_of rs ≤ most_frame
+  pub records : length rs ≤ MAX_FRAME_RECORDS
+  pub bytes : total size_of rs ≤ MAX_FRAME_BYTES

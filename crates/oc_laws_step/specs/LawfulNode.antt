@@ -6,8 +6,11 @@ use Rattle.oc_model.specs.declared.soft.Search.{Search}
 use Rattle.oc_model.specs.declared.soft.Search.TheVariants.{Descend}
 use Rattle.oc_model.specs.declared.soft.Soft.{Soft}
 use Rattle.oc_model.specs.declared.want.Want.{Want}
-use Rattle.oc_model.specs.Groups.{shelf, most_chunk}
-use Rattle.oc_model.specs.Lawful.{IsNode, AreNodes, AreAncestors, IsRate, IsRankOrNone, AreCerts, IsMessage, IsRecord, IsShelf, last_second}
+use Rattle.oc_base.specs.Groups.{shelf}
+use Rattle.oc_base.specs.declared.limits.TheConstants.{MAX_CHUNK_BYTES, LAST_SECOND}
+use Rattle.oc_model.specs.Lawful.{IsMessage, IsRecord}
+use Rattle.oc_base.specs.Lawful.{IsNode, AreNodes, AreAncestors, IsRate, IsRankOrNone, AreCerts}
+use Rattle.oc_base.specs.Shelves.{IsShelf}
 use Rattle.oc_model.specs.Node.{Control, Durable, Node, Outcome}
 use Rattle.oc_model.specs.Plan.{Plan}
 use Rattle.oc_laws_step.specs.Sound.{IsTable}
@@ -36,7 +39,7 @@ IsLawfulSearch nodes s = Unit {0}
 
 -- what a start clears
 pub record IsLawfulSoft (nodes : ℕ) (s : Soft) : Type 0 where
-  pub clock : s.clock ≤ last_second
+  pub clock : s.clock ≤ LAST_SECOND
   pub tries : AreNodes nodes s.tries
   pub search : IsLawfulSearch nodes s.search
 
@@ -52,7 +55,7 @@ pub record IsLawfulControl (nodes : ℕ) (n : Control) : Type 0 where
 -- no more bytes than a chunk has
 abbrev pub IsLawfulWant : Option Want → Type 0
 IsLawfulWant None = Unit {0}
-IsLawfulWant (Some w) = w.count ≤ most_chunk
+IsLawfulWant (Some w) = w.count ≤ MAX_CHUNK_BYTES
 
 -- a step under way: of a lawful node, with lawful records and messages
 pub record IsLawfulPlan (nodes : ℕ) (o : Plan) : Type 0 where

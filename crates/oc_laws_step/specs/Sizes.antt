@@ -25,10 +25,3 @@ size_of (records.Base n) = 9
 size_of (records.Snapshot g) = 9
 size_of (records.Entry c) = 34
 size_of (records.Info n c) = 17
-
--- the most records of one input, and the most bytes of a frame
-abbrev pub most_records : ℕ
-most_records = 4096
-
-abbrev pub most_frame : ℕ
-most_frame = 1048576

@@ -6,7 +6,7 @@ use Rattle.oc_model.specs.declared.mode.Mode.{Mode}
 use Rattle.oc_model.specs.declared.mode.Mode.TheVariants.{Asking, Joined}
 use Rattle.oc_model.specs.declared.record.Record.{Record}
 use Rattle.oc_model.specs.declared.record.Record.TheVariants as records
-use Rattle.oc_model.specs.Asking.{most_ancestors}
+use Rattle.oc_base.specs.declared.limits.TheConstants.{MAX_ANCESTORS}
 use Rattle.oc_model.specs.Node.{Control, Durable, empty_log}
 use Rattle.oc_model.specs.Table.{is_news}
 
@@ -35,7 +35,7 @@ pub record IsSoundDurable (nodes : ℕ) (d : Durable) : Type 0 where
   pub table : IsTable d.table
   pub mode : IsSoundAs d.mode d
   pub own : d.number ≡ 0 → d.clients ≡ 0
-  pub ancestors : length d.ancestors ≤ most_ancestors
+  pub ancestors : length d.ancestors ≤ MAX_ANCESTORS
   pub measures : length d.measures ≡ nodes
 
 -- the control state of a node: the lists by number have an item for each node
@@ -49,7 +49,7 @@ pub record IsSound (n : Control) : Type 0 where
 abbrev pub IsSoundRecord : Record → Type 0
 IsSoundRecord (records.Ask s p) = s ≡ 0 → ⊥
 IsSoundRecord (records.Info n c) = n ≡ 0 → ⊥
-IsSoundRecord (records.Ancestors xs) = length xs ≤ most_ancestors
+IsSoundRecord (records.Ancestors xs) = length xs ≤ MAX_ANCESTORS
 IsSoundRecord (records.OldEntry x s p dead) = ⊥
 IsSoundRecord (records.Base n) = ⊥
 IsSoundRecord (records.Snapshot g) = ⊥

@@ -1,6 +1,6 @@
 ghost use Rattle.std.specs.Prelude.{◌≡◌, ◌⊎◌, None, []};
 ghost use Rattle.oc_model.specs.declared.input.Input.{Input};
-ghost use Rattle.oc_model.specs.Groups.{shelf};
+ghost use Rattle.oc_base.specs.Groups.{shelf};
 ghost use Rattle.oc_model.specs.Node.{Node};
 ghost use Rattle.oc_model.specs.Records.{folded};
 ghost use Rattle.oc_model.specs.Step.{plan, step};

@@ -10,7 +10,8 @@ use Rattle.oc_model.specs.declared.message.Body.TheVariants as bodies
 use Rattle.oc_model.specs.declared.message.Message.{Message}
 use Rattle.oc_model.specs.Adopting.{birth}
 use Rattle.oc_model.specs.Adoption.{rank_or_last}
-use Rattle.oc_model.specs.ChangeLog.{next_certs, place_after, most_certs}
+use Rattle.oc_model.specs.ChangeLog.{next_certs, place_after}
+use Rattle.oc_base.specs.declared.limits.TheConstants.{MAX_CHECK_IN_CERTS}
 use Rattle.oc_model.specs.Checking.{life}
 use Rattle.oc_model.specs.NextWorld.{world_after}
 use Rattle.oc_model.specs.Node.{Header, Control}
@@ -183,7 +184,7 @@ and_checked_in w x n ms p rate h = record {
   pairs = with_own h.pairs now;
   table = h.table;
   waiting = h.waiting;
-  told = all_append (λ l. IsCountedSend w l.body) ms (record { from = n.me; to = p; body = b } ∷ []) h.told (all_take (IsCountedFact w) most_certs n.kept.log.waiting h.waiting, tt);
+  told = all_append (λ l. IsCountedSend w l.body) ms (record { from = n.me; to = p; body = b } ∷ []) h.told (all_take (IsCountedFact w) MAX_CHECK_IN_CERTS n.kept.log.waiting h.waiting, tt);
 } where
   b : Body
   b = bodies.CheckIn n.kept.seq (place_after n.kept.log) rate n.kept.number n.kept.clients (next_certs n.kept.log)

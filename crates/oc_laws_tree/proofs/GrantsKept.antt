@@ -13,7 +13,8 @@ use Rattle.oc_model.specs.Adopting.{birth, has_lease, is_number}
 use Rattle.oc_model.specs.Adoption.{rank_or_last}
 use Rattle.oc_model.specs.Certificates.{outranks}
 use Rattle.oc_model.specs.Chains.{IsJoined}
-use Rattle.oc_model.specs.ChangeLog.{next_certs, place_after, most_certs}
+use Rattle.oc_model.specs.ChangeLog.{next_certs, place_after}
+use Rattle.oc_base.specs.declared.limits.TheConstants.{MAX_CHECK_IN_CERTS}
 use Rattle.oc_model.specs.Checking.{life}
 use Rattle.oc_model.specs.ClaimsTree.{table_of, seq_of}
 use Rattle.oc_model.specs.Node.{Header, Control}
@@ -197,7 +198,7 @@ granting w x holds = record {
   says_yes = λ n ms y s r sent tree leased h. and_told w x n ms y (bodies.Yes s (rank_or_last n.kept.rank) n.kept.ancestors) (now_here w x n n.me (birth y s n.me) h.me (lease_known n y s leased)) h;
   says_check_in = λ n ms p rate joined h.
       and_told w x n ms p (bodies.CheckIn n.kept.seq (place_after n.kept.log) rate n.kept.number n.kept.clients (next_certs n.kept.log))
-      (all_take (IsGranted (table_now w x n)) most_certs n.kept.log.waiting h.waiting) h;
+      (all_take (IsGranted (table_now w x n)) MAX_CHECK_IN_CERTS n.kept.log.waiting h.waiting) h;
   says_check_ack = λ n ms y s upto rate number clients certs sent known h. and_told w x n ms y (bodies.CheckAck s upto (rank_or_last n.kept.rank) n.kept.ancestors) tt h;
   drops = λ n ms h. record { me = h.me; grows = h.grows; table = h.table; waiting = h.waiting; told = tt; joined = h.joined };
   starts = λ n ms h. record { me = h.me; grows = h.grows; table = h.table; waiting = h.waiting; told = h.told; joined = h.joined };

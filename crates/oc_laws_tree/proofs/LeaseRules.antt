@@ -18,7 +18,8 @@ use Rattle.oc_model.specs.declared.record.Record.TheVariants as records
 use Rattle.oc_model.specs.declared.soft.Search.{Search}
 use Rattle.oc_model.specs.declared.soft.Search.TheVariants as searches
 use Rattle.oc_model.specs.Adopting.{is_acting, raises, raises_over}
-use Rattle.oc_model.specs.Adoption.{precedes, precedes_any, rank_or_last, most_depth, is_better}
+use Rattle.oc_model.specs.Adoption.{precedes, precedes_any, rank_or_last, is_better}
+use Rattle.oc_base.specs.declared.limits.TheConstants.{MAX_DEPTH}
 use Rattle.oc_model.specs.Asking.{lost_from, lost, send_ask, ask, act, descend, is_empty, try_at, try_first, next_try, set_tries, round, ask_before, is_asking, ancestors_by, joins, took_yes, refused, took_no, not_seen, not_reached, unreachable, relocate}
 use Rattle.oc_model.specs.ChangeLog.{begun_with, is_ahead}
 use Rattle.oc_model.specs.Checking.{counts_clients, checks_as, next_check, checks, looks_at_each, looks_round, is_due, checks_if_due, fetches_as, is_joined_to, takes_place, takes_rank, same_ids, takes_ancestors, took_ack, is_peer, took_rejoin}
@@ -30,7 +31,8 @@ use Rattle.oc_model.specs.Node.{Control, Durable}
 use Rattle.oc_model.specs.Numbers.{number_end, raise, capped}
 use Rattle.oc_model.specs.Plan.{Plan, write, send, answers, with_soft, searching, ignored, is_member, rate_to}
 use Rattle.oc_model.specs.Serving.{redirects, server_for, client_of, client, measured}
-use Rattle.oc_model.specs.Shelves.{line_of, line_at, with_line, limit, first_behind}
+use Rattle.oc_model.specs.Shelves.{line_at, with_line, limit, first_behind}
+use Rattle.oc_base.specs.Shelves.{line_of}
 use Rattle.oc_model.proofs.Rules.{either}
 
 -- what is said of a node's id, table, lease ends and clock
@@ -79,7 +81,7 @@ module _ (Q : ℕ → List Cert → List (Option ℕ) → ℕ → Type 0) where
 
   pub stays_took_yes : (o : Plan) (p seq : ℕ) (r : Rank) (xs : List ℕ) → OfPlan Q o → OfPlan Q (took_yes o p seq r xs)
   stays_took_yes o p seq r xs h =
-      either (is_asking o.node.kept.mode p && seq == o.node.kept.seq && nat_lt r.depth most_depth && precedes_any r o.node.kept.rank) (OfPlan Q) (joins o p r xs) (ignored o) (stays_joins o p r xs h) h
+      either (is_asking o.node.kept.mode p && seq == o.node.kept.seq && nat_lt r.depth MAX_DEPTH && precedes_any r o.node.kept.rank) (OfPlan Q) (joins o p r xs) (ignored o) (stays_joins o p r xs h) h
 
   stays_refused : (o : Plan) (why : Refusal) → OfPlan Q o → OfPlan Q (refused o why)
   stays_refused o (refusals.Chain q) h = either (is_member o.node || q == o.node.me) (OfPlan Q) (next_try o) (descend o q) (stays_next_try o h) h

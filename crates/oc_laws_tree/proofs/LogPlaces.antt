@@ -5,7 +5,8 @@ use Rattle.std.proofs.lemmas.Bool.{and_parts}
 use Rattle.oc_base.specs.declared.cert.Cert.{Cert}
 use Rattle.oc_model.specs.declared.mode.Mode.{Mode}
 use Rattle.oc_model.specs.declared.mode.Mode.TheVariants as modes
-use Rattle.oc_model.specs.ChangeLog.{note, ack, is_ahead, most_certs, next_certs, place_after}
+use Rattle.oc_model.specs.ChangeLog.{note, ack, is_ahead, next_certs, place_after}
+use Rattle.oc_base.specs.declared.limits.TheConstants.{MAX_CHECK_IN_CERTS}
 use Rattle.oc_model.specs.Node.{Log}
 use Rattle.oc_model.specs.Numbers.{IsAmong}
 use Rattle.oc_model.specs.Records.{noted}
@@ -114,7 +115,7 @@ among_ack l place e f h = rw e (among_parts f (place - l.acked) l.waiting h)
 -- the facts before its place are its own
 pub before_next : (l : Log) → IsWhole l → HoldsBefore l (place_after l) (λ f. IsAmong f (next_certs l))
 before_next l whole =
-    let some_of : length (next_certs l) ≤ length l.waiting = omega (arith, length-take most_certs l.waiting) in
+    let some_of : length (next_certs l) ≤ length l.waiting = omega (arith, length-take MAX_CHECK_IN_CERTS l.waiting) in
     let count : (l.acked + length (next_certs l)) - l.acked ≡ length (next_certs l) = omega arith in
     (omega (arith, whole, some_of), λ f among. among_next f (subst (λ (n : ℕ). IsAmong f (take n l.waiting)) count among)) where
       shorter : (f : Cert) (n m : ℕ) (cs : List Cert) → n ≤ m → IsAmong f (take n cs) → IsAmong f (take m cs)
@@ -125,4 +126,4 @@ before_next l whole =
       shorter f (suc n) (suc m) (c ∷ cs) le (inr h) = inr (shorter f n m cs (omega (arith, le)) h)
 
       among_next : (f : Cert) → IsAmong f (take (length (next_certs l)) l.waiting) → IsAmong f (next_certs l)
-      among_next f h = shorter f (length (next_certs l)) most_certs l.waiting (omega (arith, length-take most_certs l.waiting)) h
+      among_next f h = shorter f (length (next_certs l)) MAX_CHECK_IN_CERTS l.waiting (omega (arith, length-take MAX_CHECK_IN_CERTS l.waiting)) h

@@ -5,7 +5,7 @@ use Rattle.oc_model.specs.declared.event.Act.{Act}
 use Rattle.oc_model.specs.declared.event.Event.{Event}
 use Rattle.oc_model.specs.NextWorld.{next_world, world_after, stopped}
 use Rattle.oc_model.specs.Node.{Header, Node, Durable}
-use Rattle.oc_model.specs.Groups.{shelf}
+use Rattle.oc_base.specs.Groups.{shelf}
 use Rattle.oc_model.specs.declared.input.Input.{Input}
 use Rattle.oc_model.specs.Step.{step}
 use Rattle.oc_model.specs.World.{World, Process, node, process, process_in, with_process, after_act, new_world}

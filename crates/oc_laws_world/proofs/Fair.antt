@@ -1,9 +1,9 @@
 -- What a step may do to groups, messages and the source: the changes of which each rule is made.
 use Rattle.std.proofs.Common.{◌≡◌, ℕ, List, [], refl, sym, subst, ◌∙◌}
 use Rattle.std.specs.List.{AllByRecursion}
-use Rattle.oc_model.specs.declared.group.Group.{Group}
+use Rattle.oc_base.specs.declared.group.Group.{Group}
 use Rattle.oc_model.specs.declared.message.Message.{Message}
-use Rattle.oc_model.specs.Groups.{with_group}
+use Rattle.oc_base.specs.Groups.{with_group}
 use Rattle.oc_model.specs.Node.{Node, Outcome}
 use Rattle.oc_model.proofs.Groups.{ascend-with_group}
 use Rattle.oc_laws_world.proofs.Truth.{Grows, grows_itself, grows_with, MayReplace, IsHeld, Holds, holds_with, holds_same, AreSame, same_with, IsTrue}

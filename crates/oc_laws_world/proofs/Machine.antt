@@ -11,7 +11,8 @@ use Rattle.oc_model.specs.declared.mode.Mode.TheVariants.{Idle, Asking, Joined, 
 use Rattle.oc_model.specs.declared.reading.Reading.{Reading}
 use Rattle.oc_model.specs.declared.soft.Soft.{Soft}
 use Rattle.oc_model.specs.Adopting.{in_tree, birth, has_lease}
-use Rattle.oc_model.specs.Adoption.{rank_or_last, precedes_any, most_depth, is_better}
+use Rattle.oc_model.specs.Adoption.{rank_or_last, precedes_any, is_better}
+use Rattle.oc_base.specs.declared.limits.TheConstants.{MAX_DEPTH}
 use Rattle.oc_model.specs.Asking.{next_epoch}
 use Rattle.oc_model.specs.ChangeLog.{begun_with, ack, is_ahead, next_certs, place_after}
 use Rattle.oc_model.specs.Checking.{life}
@@ -56,7 +57,7 @@ pub record IsMachine (came : ℕ → Body → Type 0) (P : Control → List Mess
       → P (with_kept n (record n.kept { mode = Acting; log = empty_log; ancestors = []; rank = Some (record { epoch = next_epoch (rank_or_last n.kept.rank); depth = 0 }) })) ms
   pub raises : (n : Control) (ms : List Message) (e : ℕ) → n.kept.mode ≡ Acting → (rank_or_last n.kept.rank).epoch < e → P n ms
       → P (with_kept n (record n.kept { rank = Some (record { epoch = e; depth = 0 }) })) ms
-  pub joins : (n : Control) (ms : List Message) (p : ℕ) (r : Rank) (xs : List ℕ) → came p (bodies.Yes n.kept.seq r xs) → n.kept.mode ≡ Asking p → nat_lt r.depth most_depth ≡ true → precedes_any r n.kept.rank ≡ true
+  pub joins : (n : Control) (ms : List Message) (p : ℕ) (r : Rank) (xs : List ℕ) → came p (bodies.Yes n.kept.seq r xs) → n.kept.mode ≡ Asking p → nat_lt r.depth MAX_DEPTH ≡ true → precedes_any r n.kept.rank ≡ true
       → P n ms → P (with_kept n (record n.kept { mode = Joined p; rank = Some (beneath_of r); log = begun_with n.kept.table })) ms
   pub ranks : (n : Control) (ms : List Message) (p upto : ℕ) (r : Rank) (xs : List ℕ) → came p (bodies.CheckAck n.kept.seq upto r xs) → n.kept.mode ≡ Joined p → is_better n.kept.rank r ≡ true
       → P n ms → P (with_kept n (record n.kept { rank = Some (beneath_of r) })) ms

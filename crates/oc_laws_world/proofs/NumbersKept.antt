@@ -12,7 +12,8 @@ use Rattle.oc_model.specs.declared.message.Message.{Message}
 use Rattle.oc_model.specs.declared.mode.Mode.TheVariants as modes
 use Rattle.oc_model.specs.Adopting.{birth}
 use Rattle.oc_model.specs.Adoption.{rank_or_last}
-use Rattle.oc_model.specs.ChangeLog.{next_certs, place_after, most_certs}
+use Rattle.oc_model.specs.ChangeLog.{next_certs, place_after}
+use Rattle.oc_base.specs.declared.limits.TheConstants.{MAX_CHECK_IN_CERTS}
 use Rattle.oc_model.specs.Checking.{life}
 use Rattle.oc_model.specs.ClaimsTree.{seq_of}
 use Rattle.oc_model.specs.NextWorld.{world_after}
@@ -228,7 +229,7 @@ counting w x holds = record {
       and_told w x n ms y (bodies.Yes s (rank_or_last n.kept.rank) n.kept.ancestors) tt (r, subst (λ (z : ℕ). IsAmong (record { from = y; to = z; body = bodies.Ask s r }) w.net) (sym h.me) sent) h;
   says_check_in = λ n ms p rate joined h.
       and_told w x n ms p (bodies.CheckIn n.kept.seq (place_after n.kept.log) rate n.kept.number n.kept.clients (next_certs n.kept.log)) tt
-      (subst (λ (z : ℕ). HasAsked w z n.kept.seq p) (sym h.me) (h.joined p joined), all_take (IsAskedFact w) most_certs n.kept.log.waiting h.waiting) h;
+      (subst (λ (z : ℕ). HasAsked w z n.kept.seq p) (sym h.me) (h.joined p joined), all_take (IsAskedFact w) MAX_CHECK_IN_CERTS n.kept.log.waiting h.waiting) h;
   says_check_ack = λ n ms y s upto rate number clients certs sent known h. and_told w x n ms y (bodies.CheckAck s upto (rank_or_last n.kept.rank) n.kept.ancestors) tt tt h;
   drops = λ n ms h. record {
     me = h.me;

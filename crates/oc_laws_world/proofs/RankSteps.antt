@@ -3,7 +3,8 @@ use Rattle.std.proofs.Common.{◌≡◌, ℕ, zero, suc, ◌+◌, ◌<◌, Bool,
 use Rattle.std.proofs.lemmas.Bool.{and_parts, cases_order}
 use Rattle.oc_base.specs.declared.rank.Rank.{Rank}
 use Rattle.oc_base.specs.Rank.{Precedes, beneath_of}
-use Rattle.oc_model.specs.Adoption.{precedes, precedes_any, rank_or_last, most_depth, is_better}
+use Rattle.oc_model.specs.Adoption.{precedes, precedes_any, rank_or_last, is_better}
+use Rattle.oc_base.specs.declared.limits.TheConstants.{MAX_DEPTH}
 use Rattle.oc_model.specs.Asking.{next_epoch}
 use Rattle.oc_model.specs.Numbers.{number_end}
 use Rattle.oc_laws_step.specs.Order.{IsNoWorse}
@@ -44,10 +45,10 @@ pub precedes_beneath : (r : Rank) → Precedes r (beneath_of r)
 precedes_beneath r = inr (refl, omega arith)
 
 -- a rank that is not too deep precedes the last of all
-pub precedes_last : (r : Rank) → nat_lt r.depth most_depth ≡ true → Precedes r (rank_or_last None)
+pub precedes_last : (r : Rank) → nat_lt r.depth MAX_DEPTH ≡ true → Precedes r (rank_or_last None)
 precedes_last r shallow = by_epoch (cases_order r.epoch 0) where
   by_epoch : (r.epoch ≡ 0) ⊎ ((r.epoch < 0) ⊎ (0 < r.epoch)) → Precedes r (rank_or_last None)
-  by_epoch (inl even) = inr (even, ltb-true r.depth most_depth shallow)
+  by_epoch (inl even) = inr (even, ltb-true r.depth MAX_DEPTH shallow)
   by_epoch (inr (inl less)) = absurd (omega (arith, less))
   by_epoch (inr (inr more)) = inl more
 
@@ -108,15 +109,15 @@ rises_acting own = rises_to own (rank_by (next_epoch r) 0) (by_test (r.epoch == 
   by_test false e = rw e (inr (inl (omega arith)))
 
 -- a rank that may be the parent's precedes what the own one reads as
-pub parent_precedes : (own : Option Rank) (r : Rank) → nat_lt r.depth most_depth ≡ true → precedes_any r own ≡ true → Precedes r (rank_or_last own)
+pub parent_precedes : (own : Option Rank) (r : Rank) → nat_lt r.depth MAX_DEPTH ≡ true → precedes_any r own ≡ true → Precedes r (rank_or_last own)
 parent_precedes None r shallow h = precedes_last r shallow
 parent_precedes (Some a) r shallow h = precedes_fact r a h
 
 -- the rank beneath such a parent's
-pub rises_joined : (own : Option Rank) (r : Rank) → nat_lt r.depth most_depth ≡ true → precedes_any r own ≡ true → Rises own (Some (beneath_of r))
+pub rises_joined : (own : Option Rank) (r : Rank) → nat_lt r.depth MAX_DEPTH ≡ true → precedes_any r own ≡ true → Rises own (Some (beneath_of r))
 rises_joined own r shallow h = rises_to own (beneath_of r) (deeper r (rank_or_last own) (parent_precedes own r shallow h))
 
 -- a better rank that the parent told
 pub rises_better : (own : Option Rank) (r : Rank) → is_better own r ≡ true → Rises own (Some (beneath_of r))
-rises_better None r h = deeper r (rank_or_last None) (precedes_last r (and_parts (nat_lt r.depth most_depth) (precedes_any (beneath_of r) None) h).0)
-rises_better (Some a) r h = inr (precedes_fact (beneath_of r) a (and_parts (nat_lt r.depth most_depth) (precedes (beneath_of r) a) h).1)
+rises_better None r h = deeper r (rank_or_last None) (precedes_last r (and_parts (nat_lt r.depth MAX_DEPTH) (precedes_any (beneath_of r) None) h).0)
+rises_better (Some a) r h = inr (precedes_fact (beneath_of r) a (and_parts (nat_lt r.depth MAX_DEPTH) (precedes (beneath_of r) a) h).1)

@@ -5,7 +5,7 @@ use Rattle.std.proofs.lemmas.Bool.{eqb-false, and_parts, and_cases, or_cases, or
 use Rattle.oc_base.specs.declared.shelf.Shelf.{Shelf}
 use Rattle.oc_model.specs.declared.answer.Answer.{Answer}
 use Rattle.oc_model.specs.declared.answer.Answer.TheVariants as answers
-use Rattle.oc_model.specs.declared.group.Group.{Group}
+use Rattle.oc_base.specs.declared.group.Group.{Group}
 use Rattle.oc_model.specs.declared.input.Input.{Input}
 use Rattle.oc_model.specs.declared.input.Input.TheVariants.{Publish, Seal, Delivered}
 use Rattle.oc_model.specs.declared.message.Body.{Body}
@@ -14,15 +14,17 @@ use Rattle.oc_model.specs.declared.message.Message.{Message}
 use Rattle.oc_model.specs.declared.mode.Mode.{Mode}
 use Rattle.oc_model.specs.declared.mode.Mode.TheVariants.{Idle, Asking, Joined, Acting}
 use Rattle.oc_model.specs.Content.{unless, keeps, grows, publish_to, published, seal_line, sealed_at, count_from, sends_chunk, answers_fetch, fetched, adds_seal, adds, grown_line, asks_on, keeps_chunk, chunk_to, took_chunk}
-use Rattle.oc_model.specs.Groups.{same_name, group_of, group_or_empty, or_empty, with_group, shelf_of, shelf, most_groups, most_bytes}
+use Rattle.oc_base.specs.Named.{same_name}
+use Rattle.oc_base.specs.Groups.{group_of, group_or_empty, or_empty, with_group, shelf_of, shelf}
+use Rattle.oc_base.specs.declared.limits.TheConstants.{MAX_GROUPS, MAX_GROUP_BYTES}
 use Rattle.oc_model.specs.Node.{Node, Outcome}
-use Rattle.oc_model.specs.Plan.{Plan, begun, send, ignored}
-use Rattle.oc_model.specs.Plan.{answers as says}
-use Rattle.oc_model.specs.Shelves.{line_of, line_at, with_line, limit, first_behind}
+use Rattle.oc_model.specs.Plan.{Plan, begun, send, ignored, answers as says}
+use Rattle.oc_model.specs.Shelves.{line_at, with_line, limit, first_behind}
+use Rattle.oc_base.specs.Shelves.{line_of}
 use Rattle.oc_model.specs.Step.{grown, finished, bytes_wanted}
 use Rattle.oc_model.specs.World.{source_after}
 use Rattle.oc_model.proofs.Groups.{ascend-found, ascend-with_group, group_of-name, group_of-with_group, group_or_empty-name, group_or_empty-held, put_at}
-use Rattle.oc_model.proofs.Names.{names_equal}
+use Rattle.oc_base.proofs.NameOrder.{names_equal}
 use Rattle.oc_model.proofs.Shelves.{line_of-shelf, line_at-shelf, is_some-shelf, with_line-shelf, line-grown, first_behind-shelf}
 use Rattle.oc_laws_world.proofs.Fair.{Ready, MaySend, Fair, fair_still, fair_source, fair_same, fair_keeps}
 use Rattle.oc_laws_world.proofs.Fronts.{IsFront, IsPiece, front_append, front_whole, front_itself, joined, joined_front, joined_length, joined_within}
@@ -35,9 +37,9 @@ IsFair s i n o = Fair s (source_after s i o.answer) n (finished n i o)
 -- a limit stops it with one of two words, or not
 limit_cases : (P : Option Answer → Type 0) (ls : List Shelf) (g : List ℕ) (end : ℕ) → P None → P (Some answers.Groups) → P (Some answers.TooLong) → P (limit ls g end)
 limit_cases P ls g end none groups long =
-    cond_both (not (is_some (line_of g ls)) && nat_le most_groups (length ls)) (Some answers.Groups) (if nat_lt most_bytes end then Some answers.TooLong else None) P
+    cond_both (not (is_some (line_of g ls)) && nat_le MAX_GROUPS (length ls)) (Some answers.Groups) (if nat_lt MAX_GROUP_BYTES end then Some answers.TooLong else None) P
     (λ _. groups)
-    (λ _. cond_both (nat_lt most_bytes end) (Some answers.TooLong) None P (λ _. long) (λ _. none))
+    (λ _. cond_both (nat_lt MAX_GROUP_BYTES end) (Some answers.TooLong) None P (λ _. long) (λ _. none))
 
 -- what goes on from an open group takes its place
 replaces : (k new : Group) (ks : List Group) → ((t : Group) → group_of new.name ks ≡ Some t → k ≡ t) → IsFront k.bytes new.bytes → (k.sealed ≡ true → new ≡ k) → MayReplace new ks

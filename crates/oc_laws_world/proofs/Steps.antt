@@ -1,11 +1,11 @@
 -- Each input keeps content true: the control rules leave it alone, the others change it by the rule Content.
 use Rattle.std.proofs.Common.{ℕ, List, refl}
-use Rattle.oc_model.specs.declared.group.Group.{Group}
+use Rattle.oc_base.specs.declared.group.Group.{Group}
 use Rattle.oc_model.specs.declared.input.Input.{Input}
 use Rattle.oc_model.specs.declared.input.Input.TheVariants.{Tick, CheckNow, Relocate, Unreachable, Pull, Measured, Publish, Seal, Client, Delivered}
 use Rattle.oc_model.specs.declared.message.Body.{Body}
 use Rattle.oc_model.specs.declared.message.Body.TheVariants as bodies
-use Rattle.oc_model.specs.Groups.{shelf}
+use Rattle.oc_base.specs.Groups.{shelf}
 use Rattle.oc_model.specs.Node.{Node}
 use Rattle.oc_model.specs.Plan.{Plan, begun}
 use Rattle.oc_model.specs.Step.{received, finished, step}

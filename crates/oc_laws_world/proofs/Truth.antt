@@ -3,15 +3,16 @@ use Rattle.std.proofs.Common.{◌≡◌, ℕ, ◌+◌, Bool, true, false, ◌&&�
 use Rattle.std.specs.List.{AllByRecursion}
 use Rattle.std.proofs.lemmas.Bool.{and_parts}
 use Rattle.oc_base.specs.declared.shelf.Shelf.{Shelf}
-use Rattle.oc_model.specs.declared.group.Group.{Group}
+use Rattle.oc_base.specs.declared.group.Group.{Group}
 use Rattle.oc_model.specs.declared.message.Body.{Body}
 use Rattle.oc_model.specs.declared.message.Body.TheVariants.{Fetch, Chunk}
 use Rattle.oc_model.specs.Claims.{Keeps, IsPieceOf}
-use Rattle.oc_model.specs.Groups.{same_name, group_of, with_group, shelf, IsAscending}
+use Rattle.oc_base.specs.Named.{same_name}
+use Rattle.oc_base.specs.Groups.{group_of, with_group, shelf, IsAscending}
 use Rattle.oc_laws_world.proofs.Fronts.{IsFront, front_itself, front_along, front_length, IsPiece, piece_along, piece_cut}
 use Rattle.oc_model.proofs.Groups.{AreFoundIn, ascend-found, ascend-with_group, group_of-with_group}
 use Rattle.oc_model.proofs.Lists.{all_weaker}
-use Rattle.oc_model.proofs.Names.{names_equal}
+use Rattle.oc_base.proofs.NameOrder.{names_equal}
 
 -- what is found at this name has at least the bytes of k, and is k if k is sealed
 pub record IsGrown (k : Group) (g : List ℕ) (new : List Group) : Type 0 where

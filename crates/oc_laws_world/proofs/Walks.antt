@@ -6,7 +6,7 @@ use Rattle.oc_model.specs.declared.input.Input.TheVariants.{Tick, CheckNow, Relo
 use Rattle.oc_model.specs.declared.message.Body.{Body}
 use Rattle.oc_model.specs.declared.message.Body.TheVariants as bodies
 use Rattle.oc_model.specs.declared.message.Message.{Message}
-use Rattle.oc_model.specs.Groups.{shelf}
+use Rattle.oc_base.specs.Groups.{shelf}
 use Rattle.oc_model.specs.Looking.{Stand}
 use Rattle.oc_model.specs.Node.{Control, Node}
 use Rattle.oc_model.specs.Plan.{Plan, begun}

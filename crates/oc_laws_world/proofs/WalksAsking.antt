@@ -15,7 +15,8 @@ use Rattle.oc_model.specs.declared.mode.Mode.TheVariants as modes
 use Rattle.oc_model.specs.declared.record.Record.TheVariants as records
 use Rattle.oc_model.specs.declared.soft.Search.{Search}
 use Rattle.oc_model.specs.declared.soft.Search.TheVariants as searches
-use Rattle.oc_model.specs.Adoption.{precedes_any, most_depth}
+use Rattle.oc_model.specs.Adoption.{precedes_any}
+use Rattle.oc_base.specs.declared.limits.TheConstants.{MAX_DEPTH}
 use Rattle.oc_model.specs.Asking.{lost_from, lost, send_ask, ask, act, descend, is_empty, try_at, try_first, next_try, set_tries, round, ask_before, is_asking, ancestors_by, joins, took_yes, refused, took_no, not_seen, not_reached, unreachable, relocate}
 use Rattle.oc_model.specs.Choice.{ask_order}
 use Rattle.oc_model.specs.Node.{Control}
@@ -83,7 +84,7 @@ module _ (came : ℕ → Body → Type 0) (P : Control → List Message → Type
       let placed : Plan = write o (records.Ancestors (ancestors_by p xs)) in
       k.soft placed.node placed.sends (record o.node.soft { due = None; tries = []; search = None }) (k.aside o.node o.sends (ancestors_by p xs) o.node.kept.measures h)
 
-  walks_joins : (o : Plan) (p : ℕ) (r : Rank) (xs : List ℕ) → came p (bodies.Yes o.node.kept.seq r xs) → o.node.kept.mode ≡ modes.Asking p → nat_lt r.depth most_depth ≡ true → precedes_any r o.node.kept.rank ≡ true
+  walks_joins : (o : Plan) (p : ℕ) (r : Rank) (xs : List ℕ) → came p (bodies.Yes o.node.kept.seq r xs) → o.node.kept.mode ≡ modes.Asking p → nat_lt r.depth MAX_DEPTH ≡ true → precedes_any r o.node.kept.rank ≡ true
       → Of P o → Of P (joins o p r xs)
   walks_joins o p r xs came_yes asking shallow before h =
       walks_placed (write o (records.Joined p (beneath_of r))) p xs
@@ -92,10 +93,10 @@ module _ (came : ℕ → Body → Type 0) (P : Control → List Message → Type
 
   pub walks_took_yes : (o : Plan) (p seq : ℕ) (r : Rank) (xs : List ℕ) → came p (bodies.Yes seq r xs) → Of P o → Of P (took_yes o p seq r xs)
   walks_took_yes o p seq r xs came_yes h =
-      cond_both (is_asking o.node.kept.mode p && seq == o.node.kept.seq && nat_lt r.depth most_depth && precedes_any r o.node.kept.rank) (joins o p r xs) (ignored o) (Of P)
+      cond_both (is_asking o.node.kept.mode p && seq == o.node.kept.seq && nat_lt r.depth MAX_DEPTH && precedes_any r o.node.kept.rank) (joins o p r xs) (ignored o) (Of P)
       (λ e.
-      let before = and_parts (is_asking o.node.kept.mode p && seq == o.node.kept.seq && nat_lt r.depth most_depth) (precedes_any r o.node.kept.rank) e in
-      let shallow = and_parts (is_asking o.node.kept.mode p && seq == o.node.kept.seq) (nat_lt r.depth most_depth) before.0 in
+      let before = and_parts (is_asking o.node.kept.mode p && seq == o.node.kept.seq && nat_lt r.depth MAX_DEPTH) (precedes_any r o.node.kept.rank) e in
+      let shallow = and_parts (is_asking o.node.kept.mode p && seq == o.node.kept.seq) (nat_lt r.depth MAX_DEPTH) before.0 in
       let asked = and_parts (is_asking o.node.kept.mode p) (seq == o.node.kept.seq) shallow.0 in
       walks_joins o p r xs (subst (λ (s : ℕ). came p (bodies.Yes s r xs)) (eqb-true seq o.node.kept.seq asked.1) came_yes) (asking_mode o.node.kept.mode p asked.0) shallow.1 before.1 h)
       (λ _. h)

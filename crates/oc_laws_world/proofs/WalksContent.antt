@@ -4,7 +4,7 @@ use Rattle.std.proofs.lemmas.Bool.{cond_both}
 use Rattle.oc_base.specs.declared.shelf.Shelf.{Shelf}
 use Rattle.oc_model.specs.declared.answer.Answer.{Answer}
 use Rattle.oc_model.specs.declared.answer.Answer.TheVariants as words
-use Rattle.oc_model.specs.declared.group.Group.{Group}
+use Rattle.oc_base.specs.declared.group.Group.{Group}
 use Rattle.oc_model.specs.declared.message.Body.{Body}
 use Rattle.oc_model.specs.declared.message.Body.TheVariants as bodies
 use Rattle.oc_model.specs.declared.message.Message.{Message}
@@ -13,7 +13,8 @@ use Rattle.oc_model.specs.declared.mode.Mode.TheVariants as modes
 use Rattle.oc_model.specs.Content.{unless, keeps, grows, publish_to, published, seal_line, sealed_at, pulled, count_from, sends_chunk, answers_fetch, fetched, adds_seal, adds, grown_line, asks_on, keeps_chunk, chunk_to, took_chunk}
 use Rattle.oc_model.specs.Node.{Control}
 use Rattle.oc_model.specs.Plan.{Plan, begun, send, answers, ignored}
-use Rattle.oc_model.specs.Shelves.{line_of, line_at, with_line, limit, first_behind}
+use Rattle.oc_model.specs.Shelves.{line_at, with_line, limit, first_behind}
+use Rattle.oc_base.specs.Shelves.{line_of}
 use Rattle.oc_model.specs.Step.{bytes_wanted, filled}
 use Rattle.oc_laws_world.proofs.Machine.{IsMachine, Of}
 

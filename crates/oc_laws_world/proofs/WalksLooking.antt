@@ -22,7 +22,7 @@ use Rattle.oc_model.specs.Node.{Control}
 use Rattle.oc_model.specs.Numbers.{capped, at, put_at}
 use Rattle.oc_model.specs.Plan.{Plan, write, answers, searching, ignored, is_member, rate_to}
 use Rattle.oc_model.specs.Serving.{serves, redirects, server_for, client_of, client, measured}
-use Rattle.oc_model.specs.Shelves.{line_of}
+use Rattle.oc_base.specs.Shelves.{line_of}
 use Rattle.oc_laws_world.proofs.Machine.{IsMachine, Of}
 use Rattle.oc_laws_world.proofs.WalksAsking.{walks_searching, walks_ask, walks_ask_before, walks_descend, walks_next_try}
 

@@ -2,7 +2,8 @@ ghost use Rattle.std.specs.Prelude.{◌≡◌, ◌↔◌, ℕ, ◌+◌, ◌≤�
 ghost use Rattle.oc_model.specs.declared.event.Event.{Event};
 ghost use Rattle.oc_model.specs.Chains.{IsTrueChain, chain_to};
 ghost use Rattle.oc_model.specs.Heal.{IsAble, is_able, IsPlaced, is_placed};
-ghost use Rattle.oc_model.specs.Lawful.{IsEvent, most_rate};
+ghost use Rattle.oc_model.specs.Lawful.{IsEvent};
+ghost use Rattle.oc_base.specs.declared.limits.TheConstants.{MAX_RATE};
 ghost use Rattle.oc_model.specs.NextWorld.{next_world, IsKeptNew, is_kept_new};
 ghost use Rattle.oc_model.specs.Ready.{IsReady, is_ready, IsSettled, is_settled};
 ghost use Rattle.oc_model.specs.World.{World, ids};
@@ -15,7 +16,7 @@ pub fn events_go_on()
     ensures ids { (w : World) (e : Event) → ids (next_world w e) ≡ ids w }
     ensures net { (w : World) (e : Event) → IsLater w (next_world w e) }
     ensures limits { (w : World) (e : Event) → IsWithinLimits w → IsWithinLimits (next_world w e) }
-    ensures clocks { (w : World) (e : Event) (nodes t : ℕ) → IsDistinct (ids w) → IsEvent nodes e → most_rate ≤ t → AreBefore t w → AreBefore (t + 60) (next_world w e) }
+    ensures clocks { (w : World) (e : Event) (nodes t : ℕ) → IsDistinct (ids w) → IsEvent nodes e → MAX_RATE ≤ t → AreBefore t w → AreBefore (t + 60) (next_world w e) }
 {}
 
 /// There is at most one true chain of a node, and it is the one that is computed.

@@ -9,7 +9,8 @@ use Rattle.oc_model.specs.declared.event.Event.TheVariants.{Up, Crash, Stop, Do,
 use Rattle.oc_model.specs.declared.input.Input.{Input}
 use Rattle.oc_model.specs.declared.input.Input.TheVariants as inputs
 use Rattle.oc_model.specs.Heal.{is_able, leader, heals}
-use Rattle.oc_model.specs.Lawful.{IsEvent, IsAct, most_rate}
+use Rattle.oc_model.specs.Lawful.{IsEvent, IsAct}
+use Rattle.oc_base.specs.declared.limits.TheConstants.{MAX_RATE}
 use Rattle.oc_model.specs.NextWorld.{stopped, cut_off, keeps_write, stopped_at, settle_acts_if, heal_acts_if, after_any, next_world}
 use Rattle.oc_model.specs.Node.{Outcome}
 use Rattle.oc_model.specs.Ready.{is_ready}
@@ -67,7 +68,7 @@ quiet_early w t (acts.Tick x u) no_tick = absurd no_tick
 quiet_early w t (acts.Deliver k) no_tick = delivery_early w t k
 quiet_early w t a no_tick = tt
 
-lawful_early : (w : World) (nodes t : ℕ) (a : Act) → most_rate ≤ t → IsAct nodes a → IsEarlyAim t (aimed w a)
+lawful_early : (w : World) (nodes t : ℕ) (a : Act) → MAX_RATE ≤ t → IsAct nodes a → IsEarlyAim t (aimed w a)
 lawful_early w nodes t (acts.Tick x u) late is = omega (arith, late, is.1)
 lawful_early w nodes t (acts.Deliver k) late is = delivery_early w t k
 lawful_early w nodes t a late is = tt
@@ -163,7 +164,7 @@ heal_before w distinct true None t before = λ x. omega (arith, before x)
 heal_before w distinct false m t before = λ x. omega (arith, before x)
 
 -- no event within the ranges takes a clock past the latest, or past the latest second of a tick, by more than sixty
-pub clocks-next_world : (w : World) (e : Event) (nodes t : ℕ) → IsDistinct (ids w) → IsEvent nodes e → most_rate ≤ t → AreBefore t w → AreBefore (t + 60) (next_world w e)
+pub clocks-next_world : (w : World) (e : Event) (nodes t : ℕ) → IsDistinct (ids w) → IsEvent nodes e → MAX_RATE ≤ t → AreBefore t w → AreBefore (t + 60) (next_world w e)
 clocks-next_world w (Up x) nodes t distinct is late before =
     cond_both (process w x).up w (again w x true) (AreBefore (t + 60))
     (λ _. λ y. omega (arith, before y)) (λ _. λ y. omega (arith, start_before w x true t before y))

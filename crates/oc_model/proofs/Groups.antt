@@ -2,10 +2,11 @@
 use Rattle.std.proofs.Common.{◌≡◌, ℕ, Bool, true, false, List, [], ◌∷◌, Option, Some, None, Ordering, Less, Equal, Greater, nat_cmp, is_eq, if◌then◌else◌, refl, ap, sym, subst, ◌∙◌}
 use Rattle.std.specs.Cmp.Lexicographic.{slice_cmp}
 use Rattle.std.specs.List.{AllByRecursion}
-use Rattle.oc_model.specs.declared.group.Group.{Group}
-use Rattle.oc_model.specs.Groups.{same_name, group_of, with_group, group_or_empty, or_empty, AreAbove, IsAscending}
+use Rattle.oc_base.specs.declared.group.Group.{Group}
+use Rattle.oc_base.specs.Named.{same_name}
+use Rattle.oc_base.specs.Groups.{group_of, with_group, group_or_empty, or_empty, AreAbove, IsAscending}
 use Rattle.oc_model.proofs.Lists.{all_weaker, all_both}
-use Rattle.oc_model.proofs.Names.{same_name-itself, names_equal, names_tied, names_back, names_apart, names_rise}
+use Rattle.oc_base.proofs.NameOrder.{same_name-itself, names_equal, names_tied, names_back, names_apart, names_rise}
 
 -- what is found at a name once this group was put
 abbrev pub put_at : List ℕ → Group → Option Group → Option Group

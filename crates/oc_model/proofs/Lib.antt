@@ -1,5 +1,4 @@
 pub mod Lists
-pub mod Names
 pub mod Groups
 pub mod Members
 pub mod Processes

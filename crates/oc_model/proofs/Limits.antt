@@ -2,14 +2,16 @@
 use Rattle.std.proofs.Common.{◌≡◌, ℕ, ◌+◌, ◌<◌, Bool, true, false, None, List, [], ◌∷◌, length, Ordering, Less, Equal, Greater, nat_cmp, ◌⊎◌, inl, inr, ⊎_elim, refl, arith}
 use Rattle.std.specs.List.{AllByRecursion}
 use Rattle.std.specs.Cmp.Lexicographic.{slice_cmp}
-use Rattle.oc_model.specs.declared.group.Group.{Group}
-use Rattle.oc_model.specs.Groups.{same_name, group_of, group_or_empty, with_group, most_groups, AreAbove, IsAscending}
+use Rattle.oc_base.specs.declared.group.Group.{Group}
+use Rattle.oc_base.specs.Named.{same_name}
+use Rattle.oc_base.specs.Groups.{group_of, group_or_empty, with_group, AreAbove, IsAscending}
+use Rattle.oc_base.specs.declared.limits.TheConstants.{MAX_GROUPS}
 use Rattle.oc_model.specs.WorldBounds.{IsShort, AreWithinLimits}
 use Rattle.oc_model.proofs.Groups.{above_lower, ascend-with_group}
 
 -- there is room for a group of this name: it is held, or there are fewer than the most
 abbrev pub HasRoom : List Group → List ℕ → Type 0
-HasRoom ks g = group_of g ks ≡ None → length ks < most_groups
+HasRoom ks g = group_of g ks ≡ None → length ks < MAX_GROUPS
 
 -- a name below all these is none of them
 pub absent_below : (g : List ℕ) (ks : List Group) → AreAbove g ks → group_of g ks ≡ None

@@ -4,7 +4,7 @@ use Rattle.std.proofs.lemmas.Bool.{cond_both, leb-false}
 use Rattle.oc_base.specs.declared.shelf.Shelf.{Shelf}
 use Rattle.oc_model.specs.declared.answer.Answer.{Answer}
 use Rattle.oc_model.specs.declared.answer.Answer.TheVariants as answers
-use Rattle.oc_model.specs.declared.group.Group.{Group}
+use Rattle.oc_base.specs.declared.group.Group.{Group}
 use Rattle.oc_model.specs.declared.input.Input.{Input}
 use Rattle.oc_model.specs.declared.input.Input.TheVariants.{Tick, CheckNow, Relocate, Unreachable, Pull, Measured, Publish, Seal, Client, Delivered}
 use Rattle.oc_model.specs.declared.message.Body.{Body}
@@ -12,11 +12,12 @@ use Rattle.oc_model.specs.declared.message.Body.TheVariants as bodies
 use Rattle.oc_model.specs.declared.mode.Mode.{Mode}
 use Rattle.oc_model.specs.declared.mode.Mode.TheVariants as modes
 use Rattle.oc_model.specs.Content.{unless, keeps, grows, publish_to, published, seal_line, sealed_at, count_from, sends_chunk, answers_fetch, fetched, adds_seal, adds, grown_line, asks_on, keeps_chunk, chunk_to, took_chunk}
-use Rattle.oc_model.specs.Groups.{group_of, group_or_empty, or_empty, with_group, shelf_of, shelf, most_groups, most_bytes}
+use Rattle.oc_base.specs.Groups.{group_of, group_or_empty, or_empty, with_group, shelf_of, shelf}
+use Rattle.oc_base.specs.declared.limits.TheConstants.{MAX_GROUPS, MAX_GROUP_BYTES}
 use Rattle.oc_model.specs.Node.{Node}
-use Rattle.oc_model.specs.Plan.{Plan, begun, send, ignored}
-use Rattle.oc_model.specs.Plan.{answers as says}
-use Rattle.oc_model.specs.Shelves.{line_of, line_at, with_line, limit, first_behind}
+use Rattle.oc_model.specs.Plan.{Plan, begun, send, ignored, answers as says}
+use Rattle.oc_model.specs.Shelves.{line_at, with_line, limit, first_behind}
+use Rattle.oc_base.specs.Shelves.{line_of}
 use Rattle.oc_model.specs.Step.{piece_of, grown, kept_at, plan, step}
 use Rattle.oc_model.specs.WorldBounds.{AreWithinLimits}
 use Rattle.oc_model.proofs.Groups.{group_or_empty-name}
@@ -53,24 +54,24 @@ kept_none : (n : Node) (i : Input) (o : Plan) → o.node ≡ n.control → o.kee
 kept_none n i o node none = record { node = node; limits = λ in_limits. subst AreWithinLimits (sym (ap (λ k. kept_at k n.groups (piece_of i) o.seals) none)) in_limits }
 
 -- a name that is not refused for the number of groups has room
-has_room : (ks : List Group) (g : List ℕ) → (not (is_some (line_of g (shelf ks))) && nat_le most_groups (length (shelf ks))) ≡ false → HasRoom ks g
+has_room : (ks : List Group) (g : List ℕ) → (not (is_some (line_of g (shelf ks))) && nat_le MAX_GROUPS (length (shelf ks))) ≡ false → HasRoom ks g
 has_room ks g e none =
     let absent : line_of g (shelf ks) ≡ None = line_of-shelf g ks ∙ ap (option_map shelf_of) none in
-    let few : nat_le most_groups (length (shelf ks)) ≡ false = rw absent at e in
-    omega (arith, leb-false most_groups (length (shelf ks)) few, length-shelf ks)
+    let few : nat_le MAX_GROUPS (length (shelf ks)) ≡ false = rw absent at e in
+    omega (arith, leb-false MAX_GROUPS (length (shelf ks)) few, length-shelf ks)
 
 -- what holds of both refusals, and of the rest if neither limit is passed, holds within the limits
 within : (P : Plan → Type 0) (o : Plan) (ks : List Group) (g : List ℕ) (end : ℕ) (rest : Plan) → P (says o answers.Groups) → P (says o answers.TooLong)
-    → (HasRoom ks g → end ≤ most_bytes → P rest) → P (unless (limit (shelf ks) g end) o rest)
-within P o ks g end rest groups long fits = by_tests (not (is_some (line_of g (shelf ks))) && nat_le most_groups (length (shelf ks))) (nat_lt most_bytes end) refl refl where
-  by_tests : (a b : Bool) → (not (is_some (line_of g (shelf ks))) && nat_le most_groups (length (shelf ks))) ≡ a → nat_lt most_bytes end ≡ b
+    → (HasRoom ks g → end ≤ MAX_GROUP_BYTES → P rest) → P (unless (limit (shelf ks) g end) o rest)
+within P o ks g end rest groups long fits = by_tests (not (is_some (line_of g (shelf ks))) && nat_le MAX_GROUPS (length (shelf ks))) (nat_lt MAX_GROUP_BYTES end) refl refl where
+  by_tests : (a b : Bool) → (not (is_some (line_of g (shelf ks))) && nat_le MAX_GROUPS (length (shelf ks))) ≡ a → nat_lt MAX_GROUP_BYTES end ≡ b
       → P (unless (if a then Some answers.Groups else if b then Some answers.TooLong else None) o rest)
   by_tests true b e f = groups
   by_tests false true e f = long
-  by_tests false false e f = fits (has_room ks g e) (ltb-false most_bytes end f)
+  by_tests false false e f = fits (has_room ks g e) (ltb-false MAX_GROUP_BYTES end f)
 
 -- what is kept of a piece passes no limit
-kept_within : (g : List ℕ) (ks : List Group) (at : ℕ) (bytes : List ℕ) (closes : Bool) → HasRoom ks (group_or_empty g ks).name → length (grown (group_or_empty g ks) at bytes closes).bytes ≤ most_bytes
+kept_within : (g : List ℕ) (ks : List Group) (at : ℕ) (bytes : List ℕ) (closes : Bool) → HasRoom ks (group_or_empty g ks).name → length (grown (group_or_empty g ks) at bytes closes).bytes ≤ MAX_GROUP_BYTES
     → AreWithinLimits ks → AreWithinLimits (with_group (grown (group_or_empty g ks) at bytes closes) ks)
 kept_within g ks at bytes closes room short in_limits = limits-with_group (grown (group_or_empty g ks) at bytes closes) ks room short in_limits
 
@@ -193,7 +194,7 @@ chunk_kept n x p g start bytes last =
       asks (modes.Asking q) h = h
       asks modes.Acting h = h
 
-      adding : start ≤ length k.bytes → HasRoom n.groups k.name → end ≤ most_bytes → P kept
+      adding : start ≤ length k.bytes → HasRoom n.groups k.name → end ≤ MAX_GROUP_BYTES → P kept
       adding no_gap room few = record {
         node = refl;
         limits = λ in_limits.

@@ -20,7 +20,8 @@ use Rattle.oc_model.specs.declared.soft.Search.{Search}
 use Rattle.oc_model.specs.declared.soft.Search.TheVariants as searches
 use Rattle.oc_model.specs.declared.soft.Soft.{Soft}
 use Rattle.oc_model.specs.Adopting.{is_acting, raises, raises_over, host, birth, has_lease, grants, sends_rejoin, adopts, answers_ask, asked}
-use Rattle.oc_model.specs.Adoption.{precedes, precedes_any, rank_or_last, most_depth, is_better, adoption_refusal}
+use Rattle.oc_model.specs.Adoption.{precedes, precedes_any, rank_or_last, is_better, adoption_refusal}
+use Rattle.oc_base.specs.declared.limits.TheConstants.{MAX_DEPTH}
 use Rattle.oc_model.specs.Asking.{lost_from, lost, send_ask, ask, next_epoch, act, descend, is_empty, try_at, try_first, next_try, set_tries, round, ask_before, is_asking, ancestors_by, joins, took_yes, refused, took_no, not_seen, not_reached, unreachable, relocate}
 use Rattle.oc_model.specs.ChangeLog.{next_certs, place_after, is_ahead}
 use Rattle.oc_model.specs.Checking.{counts_clients, checks_in, checks_as, next_check, checks, merges, merges_all, at_time, starts_leases, dies, ends_each, ends_leases, looks_at_each, looks_round, is_due, checks_if_due, fetches_as, fetches, tick, acknowledges, life, checked_in, is_joined_to, takes_place, takes_rank, same_ids, takes_ancestors, took_ack, is_peer, took_rejoin}
@@ -32,7 +33,7 @@ use Rattle.oc_model.specs.Measures.{reading_of, same_reading}
 use Rattle.oc_model.specs.Numbers.{number_end, raise, capped, at, put_at}
 use Rattle.oc_model.specs.Plan.{Plan, write, send, answers, with_soft, with_leases, searching, ignored, is_member, rate_to}
 use Rattle.oc_model.specs.Serving.{serves, redirects, server_for, client_of, client, measured}
-use Rattle.oc_model.specs.Shelves.{line_of}
+use Rattle.oc_base.specs.Shelves.{line_of}
 use Rattle.oc_model.specs.Table.{newest, is_news}
 
 -- what holds of both holds of the one that a test chooses
@@ -123,7 +124,7 @@ module _ (shelf : List Shelf) (P : Plan → Type 0) (k : IsClosed shelf P) where
 
   pub keeps_took_yes : (o : Plan) (p seq : ℕ) (r : Rank) (xs : List ℕ) → P o → P (took_yes o p seq r xs)
   keeps_took_yes o p seq r xs h =
-      either (is_asking o.node.kept.mode p && seq == o.node.kept.seq && nat_lt r.depth most_depth && precedes_any r o.node.kept.rank) P (joins o p r xs) (ignored o)
+      either (is_asking o.node.kept.mode p && seq == o.node.kept.seq && nat_lt r.depth MAX_DEPTH && precedes_any r o.node.kept.rank) P (joins o p r xs) (ignored o)
       (keeps_joins o p r xs h) (keeps_ignored o h)
 
   keeps_refused : (o : Plan) (why : Refusal) → P o → P (refused o why)

@@ -2,10 +2,12 @@
 use Rattle.std.proofs.Common.{◌≡◌, ℕ, ◌+◌, ◌-◌, ◌≤◌, max, Bool, true, false, ◌||◌, List, [], ◌∷◌, ◌++◌, length, drop, Option, Some, None, option_map, is_some, Ordering, Less, Equal, Greater, nat_cmp, refl, ap, sym, ◌∙◌, arith, length-append, length-drop}
 use Rattle.std.specs.Cmp.Lexicographic.{slice_cmp}
 use Rattle.oc_base.specs.declared.shelf.Shelf.{Shelf}
-use Rattle.oc_model.specs.declared.group.Group.{Group}
+use Rattle.oc_base.specs.declared.group.Group.{Group}
 use Rattle.oc_model.specs.Content.{adds_seal, grown_line}
-use Rattle.oc_model.specs.Groups.{same_name, group_of, with_group, or_empty, group_or_empty, shelf_of, shelf}
-use Rattle.oc_model.specs.Shelves.{line_of, line_or_none, line_at, with_line, is_behind, first_behind}
+use Rattle.oc_base.specs.Named.{same_name}
+use Rattle.oc_base.specs.Groups.{group_of, with_group, or_empty, group_or_empty, shelf_of, shelf}
+use Rattle.oc_model.specs.Shelves.{line_or_none, line_at, with_line, is_behind, first_behind}
+use Rattle.oc_base.specs.Shelves.{line_of}
 use Rattle.oc_model.specs.Step.{grown}
 use Rattle.oc_model.proofs.Groups.{AreFoundIn}
 

@@ -7,6 +7,7 @@ use Rattle.oc_base.specs.declared.refusal.Refusal.TheVariants as refusals
 use Rattle.oc_base.specs.Rank.{beneath_of}
 use Rattle.oc_model.specs.Numbers.{has}
 use Rattle.oc_model.specs.Table.{leased_children}
+use Rattle.oc_base.specs.declared.limits.TheConstants.{MAX_DEPTH}
 
 -- Ranks, and who may become whose parent.
 
@@ -14,13 +15,9 @@ use Rattle.oc_model.specs.Table.{leased_children}
 abbrev pub precedes : Rank → Rank → Bool
 precedes a b = nat_lt b.epoch a.epoch || (a.epoch == b.epoch && nat_lt a.depth b.depth)
 
--- the greatest depth, which is that of a node with no rank
-abbrev pub most_depth : ℕ
-most_depth = 1000
-
--- a rank, where none reads as the last of all
+-- a rank, where none reads as the last of all, of the greatest depth
 abbrev pub rank_or_last : Option Rank → Rank
-rank_or_last None = record { epoch = 0; depth = most_depth }
+rank_or_last None = record { epoch = 0; depth = MAX_DEPTH }
 rank_or_last (Some r) = r
 
 -- whether rank a precedes the rank of a node, or it has none
@@ -30,7 +27,7 @@ precedes_any a (Some b) = precedes a b
 
 -- whether the rank beneath the one that was told is better than the own
 abbrev pub is_better : Option Rank → Rank → Bool
-is_better own told = nat_lt told.depth most_depth && precedes_any (beneath_of told) own
+is_better own told = nat_lt told.depth MAX_DEPTH && precedes_any (beneath_of told) own
 
 -- the rank that a node takes when its parent tells its own: never a worse one
 abbrev pub take_rank : Option Rank → Rank → Option Rank
@@ -64,5 +61,5 @@ adoption_refusal h x r =
     if x == h.me then Some refusals.Own
     else if not h.in_tree then Some refusals.NotJoined
     else if has h.ancestors x then Some refusals.Ancestor
-    else if nat_le most_depth h.rank.depth then Some refusals.Depth
+    else if nat_le MAX_DEPTH h.rank.depth then Some refusals.Depth
     else option_or (chain_refusal h x h.chain_child) (rank_refusal h.rank r)

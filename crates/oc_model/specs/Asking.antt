@@ -10,7 +10,8 @@ use Rattle.oc_model.specs.declared.mode.Mode.TheVariants as modes
 use Rattle.oc_model.specs.declared.record.Record.TheVariants as records
 use Rattle.oc_model.specs.declared.soft.Search.{Search}
 use Rattle.oc_model.specs.declared.soft.Search.TheVariants.{Descend}
-use Rattle.oc_model.specs.Adoption.{rank_or_last, precedes_any, most_depth}
+use Rattle.oc_model.specs.Adoption.{rank_or_last, precedes_any}
+use Rattle.oc_base.specs.declared.limits.TheConstants.{MAX_ANCESTORS, MAX_DEPTH}
 use Rattle.oc_model.specs.Choice.{ask_order}
 use Rattle.oc_model.specs.Numbers.{number_end, raise}
 use Rattle.oc_model.specs.Plan.{Plan, write, send, answers, with_soft, searching, ignored, is_member}
@@ -87,13 +88,9 @@ abbrev pub is_asking : Mode → ℕ → Bool
 is_asking (modes.Asking q) p = q == p
 is_asking mode p = false
 
--- the greatest number of ancestors that a node keeps
-abbrev pub most_ancestors : ℕ
-most_ancestors = 1000
-
 -- the ancestors of a child of p, whose own are these
 abbrev pub ancestors_by : ℕ → List ℕ → List ℕ
-ancestors_by p xs = p ∷ take 999 xs
+ancestors_by p xs = take MAX_ANCESTORS (p ∷ xs)
 
 -- p is the parent
 abbrev pub joins : Plan → ℕ → Rank → List ℕ → Plan
@@ -103,7 +100,7 @@ joins o p r xs =
 
 abbrev pub took_yes : Plan → ℕ → ℕ → Rank → List ℕ → Plan
 took_yes o p seq r xs =
-    if is_asking o.node.kept.mode p && seq == o.node.kept.seq && nat_lt r.depth most_depth && precedes_any r o.node.kept.rank
+    if is_asking o.node.kept.mode p && seq == o.node.kept.seq && nat_lt r.depth MAX_DEPTH && precedes_any r o.node.kept.rank
     then joins o p r xs
     else ignored o
 

@@ -2,6 +2,7 @@ use Rattle.std.specs.Prelude.{◌≡◌, ℕ, ◌+◌, ◌-◌, Bool, ◌&&◌, 
 use Rattle.oc_base.specs.declared.cert.Cert.{Cert}
 use Rattle.oc_model.specs.Node.{Log}
 use Rattle.oc_model.specs.Numbers.{IsAmong}
+use Rattle.oc_base.specs.declared.limits.TheConstants.{MAX_CHECK_IN_CERTS}
 
 -- The change log: the certificates for the parent, in the order in which they came. Places are counted from its beginning.
 
@@ -29,13 +30,9 @@ acked_whole n = record { length = n; acked = n; waiting = [] }
 abbrev pub IsWaiting : Log → ℕ → Type 0
 IsWaiting l x = (c : Cert) × IsAmong c l.waiting × (c.subject ≡ x)
 
--- the greatest number of certificates in a check-in
-abbrev pub most_certs : ℕ
-most_certs = 64
-
 -- the certificates of the next check-in, and the place after them
 abbrev pub next_certs : Log → List Cert
-next_certs l = take most_certs l.waiting
+next_certs l = take MAX_CHECK_IN_CERTS l.waiting
 
 abbrev pub place_after : Log → ℕ
 place_after l = l.acked + length (next_certs l)

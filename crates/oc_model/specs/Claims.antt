@@ -2,10 +2,10 @@ use Rattle.std.specs.Prelude.{◌≡◌, ℕ, ◌+◌, ◌≤◌, true, Some, Li
 use Rattle.std.specs.List.{AllByRecursion}
 use Rattle.oc_base.specs.declared.shelf.Shelf.{Shelf}
 use Rattle.oc_model.specs.declared.event.Event.{Event}
-use Rattle.oc_model.specs.declared.group.Group.{Group}
+use Rattle.oc_base.specs.declared.group.Group.{Group}
 use Rattle.oc_model.specs.declared.message.Body.{Body}
 use Rattle.oc_model.specs.declared.message.Body.TheVariants.{Fetch, Chunk}
-use Rattle.oc_model.specs.Groups.{group_of}
+use Rattle.oc_base.specs.Groups.{group_of}
 use Rattle.oc_model.specs.NextWorld.{next_world}
 use Rattle.oc_model.specs.World.{World, node}
 

@@ -6,9 +6,10 @@ use Rattle.oc_model.specs.declared.message.Body.TheVariants as bodies
 use Rattle.oc_model.specs.declared.mode.Mode.{Mode}
 use Rattle.oc_model.specs.declared.mode.Mode.TheVariants as modes
 use Rattle.oc_model.specs.declared.want.Want.{Want}
-use Rattle.oc_model.specs.Groups.{most_chunk}
+use Rattle.oc_base.specs.declared.limits.TheConstants.{MAX_CHUNK_BYTES}
 use Rattle.oc_model.specs.Plan.{Plan, send, answers, ignored}
-use Rattle.oc_model.specs.Shelves.{line_of, line_at, with_line, limit, first_behind}
+use Rattle.oc_model.specs.Shelves.{line_at, with_line, limit, first_behind}
+use Rattle.oc_base.specs.Shelves.{line_of}
 
 -- The rule Content: how bytes come to be held, and how they spread.
 
@@ -52,7 +53,7 @@ pulled o shelf p = if p == o.node.me then answers o words.Own else send o p (bod
 
 -- how many bytes of a group a chunk has from a place on
 abbrev pub count_from : Shelf → ℕ → ℕ
-count_from l start = min most_chunk (l.held - start)
+count_from l start = min MAX_CHUNK_BYTES (l.held - start)
 
 -- these bytes, if they are any
 abbrev pub wanted : Shelf → ℕ → ℕ → Option Want

@@ -13,7 +13,7 @@ use Rattle.oc_model.specs.declared.mode.Mode.TheVariants.{Acting}
 use Rattle.oc_model.specs.declared.word.Word.{Word}
 use Rattle.oc_model.specs.declared.word.Word.TheVariants as words
 use Rattle.oc_model.specs.declared.answer.Answer.TheVariants as answers
-use Rattle.oc_model.specs.Groups.{shelf}
+use Rattle.oc_base.specs.Groups.{shelf}
 use Rattle.oc_model.specs.NextWorld.{next_world, word_of, world_after}
 use Rattle.oc_model.specs.Node.{Durable, Header}
 use Rattle.oc_model.specs.Table.{table_line}

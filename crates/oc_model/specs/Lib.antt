@@ -1,4 +1,3 @@
-pub mod Groups
 pub mod Node
 pub mod Lawful
 pub mod Playable

@@ -7,7 +7,7 @@ use Rattle.oc_model.specs.declared.input.Input.{Input}
 use Rattle.oc_model.specs.declared.record.Record.{Record}
 use Rattle.oc_model.specs.declared.word.Word.{Word}
 use Rattle.oc_model.specs.declared.word.Word.TheVariants as words
-use Rattle.oc_model.specs.Groups.{shelf}
+use Rattle.oc_base.specs.Groups.{shelf}
 use Rattle.oc_model.specs.Heal.{is_able, leader, heals}
 use Rattle.oc_model.specs.Node.{Node, Outcome, restarted}
 use Rattle.oc_model.specs.Ready.{is_ready}

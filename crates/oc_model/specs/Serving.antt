@@ -7,7 +7,7 @@ use Rattle.oc_model.specs.Node.{Control}
 use Rattle.oc_model.specs.Numbers.{capped, at, put_at}
 use Rattle.oc_model.specs.Plan.{Plan, write, answers, with_soft, is_member}
 use Rattle.oc_model.specs.Selected.{selected}
-use Rattle.oc_model.specs.Shelves.{line_of}
+use Rattle.oc_base.specs.Shelves.{line_of}
 
 -- The rules Client and Measured.
 

@@ -1,17 +1,12 @@
+-- What one shelf lacks of another.
 use Rattle.std.specs.Prelude.{ℕ, Bool, true, false, not, ◌&&◌, ◌||◌, ◌==◌, nat_lt, nat_le, if◌then◌else◌, Option, Some, None, is_some, List, [], ◌∷◌, length}
 use Rattle.std.specs.Ordering.{nat_cmp, match_ordering}
 use Rattle.std.specs.Cmp.Lexicographic.{slice_cmp}
 use Rattle.oc_base.specs.declared.shelf.Shelf.{Shelf}
 use Rattle.oc_model.specs.declared.answer.Answer.{Answer}
 use Rattle.oc_model.specs.declared.answer.Answer.TheVariants as words
-use Rattle.oc_model.specs.Groups.{same_name, most_groups, most_bytes}
-
--- A shelf: what a node holds, a line a group, ascending by name.
-
--- the line of a group
-abbrev pub line_of : List ℕ → List Shelf → Option Shelf
-line_of g [] = None
-line_of g (l ∷ ls) = if same_name g l.group then Some l else line_of g ls
+use Rattle.oc_base.specs.Shelves.{line_of}
+use Rattle.oc_base.specs.declared.limits.TheConstants.{MAX_GROUPS, MAX_GROUP_BYTES}
 
 abbrev pub line_or_none : List ℕ → Option Shelf → Shelf
 line_or_none g None = record { group = g; held = 0; sealed = false }
@@ -29,8 +24,8 @@ with_line l (k ∷ ks) = match_ordering (slice_cmp nat_cmp l.group k.group) (l �
 -- the limit that a group of this name would pass, if it grew to this length
 abbrev pub limit : List Shelf → List ℕ → ℕ → Option Answer
 limit ls g end =
-    if not (is_some (line_of g ls)) && nat_le most_groups (length ls) then Some words.Groups
-    else if nat_lt most_bytes end then Some words.TooLong
+    if not (is_some (line_of g ls)) && nat_le MAX_GROUPS (length ls) then Some words.Groups
+    else if nat_lt MAX_GROUP_BYTES end then Some words.TooLong
     else None
 
 -- whether the other has less than this line: it lacks the group, holds less of it, or as much without the seal that is here

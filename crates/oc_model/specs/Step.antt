@@ -1,6 +1,6 @@
 use Rattle.std.specs.Prelude.{ℕ, ◌-◌, Bool, ◌||◌, Option, Some, None, List, [], ◌++◌, length, take, drop, map}
 use Rattle.oc_base.specs.declared.shelf.Shelf.{Shelf}
-use Rattle.oc_model.specs.declared.group.Group.{Group}
+use Rattle.oc_base.specs.declared.group.Group.{Group}
 use Rattle.oc_model.specs.declared.input.Input.{Input}
 use Rattle.oc_model.specs.declared.input.Input.TheVariants as inputs
 use Rattle.oc_model.specs.declared.message.Message.{Message}
@@ -11,7 +11,7 @@ use Rattle.oc_model.specs.Adopting.{asked}
 use Rattle.oc_model.specs.Asking.{took_yes, took_no, unreachable, relocate}
 use Rattle.oc_model.specs.Checking.{checks, tick, checked_in, took_ack, took_rejoin}
 use Rattle.oc_model.specs.Content.{pulled, published, sealed_at, fetched, took_chunk}
-use Rattle.oc_model.specs.Groups.{group_or_empty, with_group, shelf}
+use Rattle.oc_base.specs.Groups.{group_or_empty, with_group, shelf}
 use Rattle.oc_model.specs.Looking.{looked, sees}
 use Rattle.oc_model.specs.Node.{Control, Node, Outcome}
 use Rattle.oc_model.specs.Plan.{Plan, begun}

@@ -4,12 +4,12 @@ use Rattle.oc_model.specs.declared.answer.Answer.{Answer}
 use Rattle.oc_model.specs.declared.answer.Answer.TheVariants as answers
 use Rattle.oc_model.specs.declared.event.Act.{Act}
 use Rattle.oc_model.specs.declared.event.Act.TheVariants as acts
-use Rattle.oc_model.specs.declared.group.Group.{Group}
+use Rattle.oc_base.specs.declared.group.Group.{Group}
 use Rattle.oc_model.specs.declared.input.Input.{Input}
 use Rattle.oc_model.specs.declared.input.Input.TheVariants as inputs
 use Rattle.oc_model.specs.declared.message.Message.{Message}
 use Rattle.oc_model.specs.declared.mode.Mode.{Mode}
-use Rattle.oc_model.specs.Groups.{group_or_empty, with_group}
+use Rattle.oc_base.specs.Groups.{group_or_empty, with_group}
 use Rattle.oc_model.specs.Node.{Header, Node, Outcome, new_node}
 use Rattle.oc_model.specs.Step.{step}
 

@@ -1,8 +1,9 @@
 use Rattle.std.specs.Prelude.{◌≡◌, ℕ, ◌≤◌, List, [], ◌∷◌, ◌++◌, ◌⊎◌, length}
 use Rattle.std.specs.List.{AllByRecursion}
-use Rattle.oc_model.specs.declared.group.Group.{Group}
+use Rattle.oc_base.specs.declared.group.Group.{Group}
 use Rattle.oc_model.specs.declared.message.Message.{Message}
-use Rattle.oc_model.specs.Groups.{most_groups, most_bytes, IsAscending}
+use Rattle.oc_base.specs.declared.limits.TheConstants.{MAX_GROUPS, MAX_GROUP_BYTES}
+use Rattle.oc_base.specs.Groups.{IsAscending}
 use Rattle.oc_model.specs.World.{World, node}
 
 -- What every world keeps to, whatever the events.
@@ -23,10 +24,10 @@ IsLater old new = (more : List Message) × (new.net ≡ old.net ++ more)
 
 -- groups in their order, no more and no longer than the limits allow
 abbrev pub IsShort : Group → Type 0
-IsShort k = length k.bytes ≤ most_bytes
+IsShort k = length k.bytes ≤ MAX_GROUP_BYTES
 
 abbrev pub AreWithinLimits : List Group → Type 0
-AreWithinLimits ks = IsAscending ks × (length ks ≤ most_groups) × AllByRecursion IsShort ks
+AreWithinLimits ks = IsAscending ks × (length ks ≤ MAX_GROUPS) × AllByRecursion IsShort ks
 
 -- those of each node are
 abbrev pub IsWithinLimits : World → Type 0

@@ -8,7 +8,6 @@
 mod answer;
 mod decisions;
 mod event;
-mod group;
 mod input;
 mod law;
 mod listing;
@@ -24,7 +23,6 @@ mod word;
 pub use answer::Answer;
 pub use decisions::decisions_compute;
 pub use event::{Act, Event};
-pub use group::Group;
 pub use input::Input;
 pub use law::{choices_compute, content_computes, leases_compute, moves_compute, roots_compute};
 pub use listing::listings_are_exact;

@@ -16,7 +16,7 @@ use Rattle.oc_replay.specs.Replay.{told_text}
 use Rattle.oc_replay.specs.Report.{SomeFront}
 use Rattle.oc_replay.specs.declared.end.ReplayEnd.{ReplayEnd}
 use Rattle.oc_replay.specs.declared.end.ReplayEnd.TheVariants as replays
-use Rattle.oc_schedule.specs.Limits.{most_bytes}
+use Rattle.oc_base.specs.declared.limits.TheConstants.{MAX_SCHEDULE_BYTES}
 use Rattle.oc_schedule.specs.Schedule.{schedule_of}
 use Rattle.oc_schedule.specs.Script.{Script}
 use Rattle.oc_schedule.specs.declared.fault.ScheduleFault.{ScheduleFault}
@@ -145,7 +145,7 @@ Happened o (Replayed end) = (o.verdict ≡ accepted) × HappenedAtReplay o end
 -- however the input is read to its end, it says this, and it has no more bytes than a schedule may have
 pub record SaysOnly {S : Type 0} (gives : S → List ℕ → S → Type 0) (ended : S → Type 0) (source : S) (says : Result Script ScheduleFault) : Type 0 where
   pub whole : (bytes : List ℕ) (rest : S) → gives source bytes rest → ended rest → schedule_of bytes ≡ says
-  pub few : (bytes : List ℕ) (rest : S) → gives source bytes rest → length bytes ≤ most_bytes
+  pub few : (bytes : List ℕ) (rest : S) → gives source bytes rest → length bytes ≤ MAX_SCHEDULE_BYTES
 
 -- the status of what a text says
 abbrev pub status_for : Result Script ScheduleFault → ℕ

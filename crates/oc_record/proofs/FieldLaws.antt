@@ -8,6 +8,7 @@ use Rattle.oc_base.specs.declared.rank.Rank.{Rank}
 use Rattle.oc_record.specs.Spelling.{four, eight, flag, rank_bytes, IsId, IsLong, IsCount, IsRank}
 use Rattle.oc_record.specs.Reading.{◌>>=◌, or_short, within_at, id_at, long_at, count_at, flag_at, rank_at, ids_at}
 use Rattle.oc_record.proofs.Standing.{IsBytes, Takes, takes_both, takes_first, takes_second, takes_nothing, bind_ok, ok_is, wide8, wide32, wide64, number_takes, number_again, within_takes, within_again}
+use Rattle.oc_base.specs.declared.limits.TheConstants.{MAX_DEPTH}
 
 pub id_takes : (nodes : ℕ) (bytes : List ℕ) (at id next : ℕ) → IsBytes bytes → id_at nodes bytes at ≡ Ok (id, next) → Takes bytes at (four id) next × IsId nodes id
 id_takes nodes bytes at id next fits e =
@@ -63,8 +64,8 @@ flag_again bytes at false next t = rw (within_again w8 (2 ^ 8) wide8 0 1 bytes a
 pub rank_takes : (bytes : List ℕ) (at : ℕ) (rank : Rank) (next : ℕ) → IsBytes bytes → rank_at bytes at ≡ Ok (rank, next) → Takes bytes at (rank_bytes rank) next × IsRank rank
 unfolding rank_at
 rank_takes bytes at rank next fits e =
-    let a = bind_ok (long_at bytes at) (λ epoch. within_at w32 0 1000 bytes epoch.1 >>= λ depth. Ok (record { epoch = epoch.0; depth = depth.0 }, depth.1)) (rank, next) e in
-    let b = bind_ok (within_at w32 0 1000 bytes a.0.1) (λ depth. Ok (record { epoch = a.0.0; depth = depth.0 }, depth.1)) (rank, next) a.2 in
+    let a = bind_ok (long_at bytes at) (λ epoch. within_at w32 0 MAX_DEPTH bytes epoch.1 >>= λ depth. Ok (record { epoch = epoch.0; depth = depth.0 }, depth.1)) (rank, next) e in
+    let b = bind_ok (within_at w32 0 MAX_DEPTH bytes a.0.1) (λ depth. Ok (record { epoch = a.0.0; depth = depth.0 }, depth.1)) (rank, next) a.2 in
     let s = long_takes bytes at a.0.0 a.0.1 fits a.1 in
     let t = within_takes w32 (2 ^ 32) wide32 0 1000 bytes a.0.1 b.0.0 b.0.1 fits b.1 in
     let made : Rank × ℕ = (record { epoch = a.0.0; depth = b.0.0 }, b.0.1) in

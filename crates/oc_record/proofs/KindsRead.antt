@@ -9,6 +9,7 @@ use Rattle.oc_record.specs.Spelling.{two, four, eight, flag, rank_bytes, code_of
 use Rattle.oc_record.specs.Reading.{◌>>=◌, or_short, within_at, id_at, long_at, count_at, flag_at, rank_at, ids_at, ask_at, joined_at, ranked_at, old_entry_at, acked_at, ancestors_at, rate_at, epoch_at, base_at, snapshot_at, entry_at, info_at}
 use Rattle.oc_record.proofs.Standing.{IsBytes, Takes, takes_both, bind_ok, done, ok_is, wide16, wide64, within_takes}
 use Rattle.oc_record.proofs.FieldLaws.{id_takes, long_takes, count_takes, byte_takes, flag_takes, rank_takes, ids_takes}
+use Rattle.oc_base.specs.declared.limits.TheConstants.{MAX_ANCESTORS, MAX_BASE_ACKED, MAX_RATE}
 
 -- what was made are the fields of a lawful record of the kind with this code, and they stand there
 pub record IsTaken (nodes code : ℕ) (bytes : List ℕ) (at : ℕ) (made : Record × ℕ) : Type 0 where
@@ -70,8 +71,8 @@ acked_takes nodes bytes at made fits e =
 pub rate_takes : (nodes : ℕ) (bytes : List ℕ) (at : ℕ) (made : Record × ℕ) → IsBytes bytes → rate_at nodes bytes at ≡ Ok made → IsTaken nodes 9 bytes at made
 unfolding rate_at
 rate_takes nodes bytes at made fits e =
-    let a = bind_ok (id_at nodes bytes at) (λ peer. within_at w64 0 (2 ^ 40) bytes peer.1 >>= λ rate. or_short (number_at w8 bytes rate.1) >>= λ hops. Ok (Rate peer.0 rate.0 hops.0, hops.1)) made e in
-    let b = bind_ok (within_at w64 0 (2 ^ 40) bytes a.0.1) (λ rate. or_short (number_at w8 bytes rate.1) >>= λ hops. Ok (Rate a.0.0 rate.0 hops.0, hops.1)) made a.2 in
+    let a = bind_ok (id_at nodes bytes at) (λ peer. within_at w64 0 MAX_RATE bytes peer.1 >>= λ rate. or_short (number_at w8 bytes rate.1) >>= λ hops. Ok (Rate peer.0 rate.0 hops.0, hops.1)) made e in
+    let b = bind_ok (within_at w64 0 MAX_RATE bytes a.0.1) (λ rate. or_short (number_at w8 bytes rate.1) >>= λ hops. Ok (Rate a.0.0 rate.0 hops.0, hops.1)) made a.2 in
     let c = bind_ok (or_short (number_at w8 bytes b.0.1)) (λ hops. Ok (Rate a.0.0 b.0.0 hops.0, hops.1)) made b.2 in
     let t0 = id_takes nodes bytes at a.0.0 a.0.1 fits a.1 in
     let t1 = within_takes w64 (2 ^ 64) wide64 0 (2 ^ 40) bytes a.0.1 b.0.0 b.0.1 fits b.1 in
@@ -89,7 +90,7 @@ epoch_takes nodes bytes at made fits e =
 pub base_takes : (nodes : ℕ) (bytes : List ℕ) (at : ℕ) (made : Record × ℕ) → IsBytes bytes → base_at bytes at ≡ Ok made → IsTaken nodes 11 bytes at made
 unfolding base_at
 base_takes nodes bytes at made fits e =
-    let a = bind_ok (within_at w64 0 (2 ^ 62) bytes at) (λ acked. Ok (Base acked.0, acked.1)) made e in
+    let a = bind_ok (within_at w64 0 MAX_BASE_ACKED bytes at) (λ acked. Ok (Base acked.0, acked.1)) made e in
     let t0 = within_takes w64 (2 ^ 64) wide64 0 (2 ^ 62) bytes at a.0.0 a.0.1 fits a.1 in
     taken nodes 11 bytes at (Base a.0.0, a.0.1) made a.2 (record { text = t0.0; lawful = t0.2; kind = refl {a = 11} })
 
@@ -133,7 +134,7 @@ info_takes nodes bytes at made fits e =
 pub ancestors_takes : (nodes : ℕ) (bytes : List ℕ) (at : ℕ) (made : Record × ℕ) → IsBytes bytes → ancestors_at nodes bytes at ≡ Ok made → IsTaken nodes 8 bytes at made
 unfolding ancestors_at
 ancestors_takes nodes bytes at made fits e =
-    let a = bind_ok (within_at w16 0 1000 bytes at) (λ count. ids_at nodes count.0 bytes count.1 >>= λ ids. Ok (Ancestors ids.0, ids.1)) made e in
+    let a = bind_ok (within_at w16 0 MAX_ANCESTORS bytes at) (λ count. ids_at nodes count.0 bytes count.1 >>= λ ids. Ok (Ancestors ids.0, ids.1)) made e in
     let b = bind_ok (ids_at nodes a.0.0 bytes a.0.1) (λ ids. Ok (Ancestors ids.0, ids.1)) made a.2 in
     let t0 = within_takes w16 (2 ^ 16) wide16 0 1000 bytes at a.0.0 a.0.1 fits a.1 in
     let t1 = ids_takes nodes a.0.0 bytes a.0.1 b.0.0 b.0.1 fits b.1 in

@@ -9,6 +9,7 @@ use Rattle.oc_model.specs.declared.record.Record.{Record}
 use Rattle.oc_model.specs.declared.record.Record.TheVariants.{Ask, Joined, Lost, Acting, Ranked, OldEntry, Acked, Ancestors, Rate, Epoch, Base, Snapshot, Entry, Info}
 use Rattle.oc_record.specs.declared.fault.RecordFault.{RecordFault}
 use Rattle.oc_record.specs.declared.fault.RecordFault.TheVariants as faults
+use Rattle.oc_base.specs.declared.limits.TheConstants.{MAX_ANCESTORS, MAX_BASE_ACKED, MAX_DEPTH, MAX_RATE}
 
 infixl 10 ◌>>=◌
 abbrev pub ◌>>=◌ : {A B : Type 0} → Result A RecordFault → (A → Result B RecordFault) → Result B RecordFault
@@ -46,7 +47,7 @@ flag_at bytes at = do
 unfoldable pub rank_at : List ℕ → ℕ → Result (Rank × ℕ) RecordFault
 rank_at bytes at = do
   epoch ← long_at bytes at
-  depth ← within_at w32 0 1000 bytes epoch.1
+  depth ← within_at w32 0 MAX_DEPTH bytes epoch.1
   Ok (record { epoch = epoch.0; depth = depth.0 }, depth.1)
 
 -- so many ids
@@ -91,14 +92,14 @@ acked_at bytes at = do
 
 unfoldable pub ancestors_at : ℕ → List ℕ → ℕ → Result (Record × ℕ) RecordFault
 ancestors_at nodes bytes at = do
-  count ← within_at w16 0 1000 bytes at
+  count ← within_at w16 0 MAX_ANCESTORS bytes at
   ids ← ids_at nodes count.0 bytes count.1
   Ok (Ancestors ids.0, ids.1)
 
 unfoldable pub rate_at : ℕ → List ℕ → ℕ → Result (Record × ℕ) RecordFault
 rate_at nodes bytes at = do
   peer ← id_at nodes bytes at
-  rate ← within_at w64 0 (2 ^ 40) bytes peer.1
+  rate ← within_at w64 0 MAX_RATE bytes peer.1
   hops ← or_short (number_at w8 bytes rate.1)
   Ok (Rate peer.0 rate.0 hops.0, hops.1)
 
@@ -109,7 +110,7 @@ epoch_at bytes at = do
 
 unfoldable pub base_at : List ℕ → ℕ → Result (Record × ℕ) RecordFault
 base_at bytes at = do
-  acked ← within_at w64 0 (2 ^ 62) bytes at
+  acked ← within_at w64 0 MAX_BASE_ACKED bytes at
   Ok (Base acked.0, acked.1)
 
 unfoldable pub snapshot_at : List ℕ → ℕ → Result (Record × ℕ) RecordFault

@@ -2,16 +2,13 @@ ghost use Rattle.std.specs.Prelude.{◌≡◌, ◌^◌, ◌-◌, ◌<◌};
 ghost use Rattle.std.specs.Int.{w8, w16, w32, w64};
 ghost use Rattle.oc_record.specs.Reading.{or_short, within_at, id_at, long_at, count_at, flag_at, rank_at, ids_at, Gives};
 ghost use Rattle.oc_base.specs.Fields.{number_at};
+ghost use Rattle.oc_base.specs.declared.limits.TheConstants.{MAX_ANCESTORS, MAX_DEPTH};
 
 use crate::RecordFault;
-use oc_base::{IdList, NodeId, Rank, take_u8, take_u16, take_u32, take_u64};
+use oc_base::{
+    IdList, MAX_ANCESTORS, MAX_DEPTH, NodeId, Rank, take_u8, take_u16, take_u32, take_u64,
+};
 use std::alloc::Global;
-
-/// The greatest depth of a rank.
-const DEEPEST: u32 = 1000;
-
-/// The most ancestors of a node.
-const MOST_ANCESTORS: u16 = 1000;
 
 /// The number of a node at a place, and the next place.
 #[tactic(auto, unfolding(crate::specs::Reading::within_at))]
@@ -78,10 +75,10 @@ pub fn flag_at(bytes: &[u8], at: usize) -> Result<(bool, usize), RecordFault>
 /// A depth.
 #[tactic(auto, unfolding(crate::specs::Reading::within_at))]
 fn depth_at(bytes: &[u8], at: usize) -> Result<(u32, usize), RecordFault>
-    ensures { result ≡ within_at w32 0 1000 bytes.now at }
+    ensures { result ≡ within_at w32 0 MAX_DEPTH bytes.now at }
 {
     let (depth, next) = take_u32(bytes, at)?;
-    if depth > DEEPEST {
+    if depth > MAX_DEPTH {
         return Err(RecordFault::Value);
     }
     Ok((depth, next))
@@ -100,10 +97,10 @@ pub fn rank_at(bytes: &[u8], at: usize) -> Result<(Rank, usize), RecordFault>
 /// The number of ancestors.
 #[tactic(auto, unfolding(crate::specs::Reading::within_at))]
 pub fn ancestors_count_at(bytes: &[u8], at: usize) -> Result<(u16, usize), RecordFault>
-    ensures { result ≡ within_at w16 0 1000 bytes.now at }
+    ensures { result ≡ within_at w16 0 MAX_ANCESTORS bytes.now at }
 {
     let (count, next) = take_u16(bytes, at)?;
-    if count > MOST_ANCESTORS {
+    if usize::from(count) > MAX_ANCESTORS {
         return Err(RecordFault::Value);
     }
     Ok((count, next))

@@ -8,15 +8,9 @@ use crate::RecordFault;
 use crate::fields::{
     ancestors_count_at, byte_at, count_at, flag_at, id_at, ids_at, long_at, long_within_at, rank_at,
 };
-use oc_base::Cert;
+use oc_base::{Cert, MAX_BASE_ACKED, MAX_RATE};
 use oc_model::Record;
 use std::alloc::Global;
-
-/// The greatest rate, in bytes per second.
-const MOST_RATE: u64 = 1 << 40;
-
-/// The greatest acknowledged count of a `Base`.
-const MOST_ACKED: u64 = 1 << 62;
 
 #[tactic(auto, unfolding(crate::specs::Reading::ask_at))]
 pub fn ask_at(nodes: u32, bytes: &[u8], at: usize) -> Result<(Record, usize), RecordFault>
@@ -88,7 +82,7 @@ pub fn rate_at(nodes: u32, bytes: &[u8], at: usize) -> Result<(Record, usize), R
     ensures { result ≡ rate_at nodes bytes.now at }
 {
     let (peer, next) = id_at(nodes, bytes, at)?;
-    let (rate, next) = long_within_at(0, MOST_RATE, bytes, next)?;
+    let (rate, next) = long_within_at(0, MAX_RATE, bytes, next)?;
     let (hops, next) = byte_at(bytes, next)?;
     Ok((Record::Rate { peer, rate, hops }, next))
 }
@@ -105,7 +99,7 @@ pub fn epoch_at(bytes: &[u8], at: usize) -> Result<(Record, usize), RecordFault>
 pub fn base_at(bytes: &[u8], at: usize) -> Result<(Record, usize), RecordFault>
     ensures { result ≡ base_at bytes.now at }
 {
-    let (acked, next) = long_within_at(0, MOST_ACKED, bytes, at)?;
+    let (acked, next) = long_within_at(0, MAX_BASE_ACKED, bytes, at)?;
     Ok((Record::Base { acked }, next))
 }
 

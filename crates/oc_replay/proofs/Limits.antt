@@ -8,7 +8,7 @@ use Rattle.oc_schedule.specs.declared.fault.ScheduleFault.TheVariants.{Line, Lim
 use Rattle.oc_schedule.specs.declared.fault.What.{What}
 use Rattle.oc_schedule.specs.declared.fault.What.TheVariants.{Lines, Bytes, Published}
 use Rattle.oc_schedule.specs.Fields.{words}
-use Rattle.oc_schedule.specs.Limits.{most_bytes, most_lines, most_published}
+use Rattle.oc_base.specs.declared.limits.TheConstants.{MAX_SCHEDULE_BYTES, MAX_SCHEDULE_LINES, MAX_SCHEDULE_PUBLISHED}
 use Rattle.oc_schedule.specs.Reading.{◌>>=◌, at_line, Gives}
 use Rattle.oc_schedule.specs.Schedule.{schedule_of, read_lines, read_line, read_words, read_statement, within_published, script_after, is_comment}
 use Rattle.oc_schedule.specs.Script.{Script, published_in}
@@ -37,7 +37,7 @@ IsOther-statement : (i : ℕ) (so_far : Option Script) (word : List ℕ) (fields
 IsOther-statement i so_far word fields =
     let said = script_after so_far word fields in
     IsOther-bind (at_line i said) within_published (IsOther-at_line i said)
-    (λ s. cond_both (nat_lt most_published (published_in s.events)) (Err (Limit Published)) (Ok s) IsOther (λ _. tt) (λ _. tt))
+    (λ s. cond_both (nat_lt MAX_SCHEDULE_PUBLISHED (published_in s.events)) (Err (Limit Published)) (Ok s) IsOther (λ _. tt) (λ _. tt))
 
 IsOther-words : (i : ℕ) (so_far : Option Script) (ws : List (List ℕ)) → IsOther (read_words i so_far ws)
 IsOther-words i so_far [] = tt
@@ -47,7 +47,7 @@ IsOther-words i so_far (word ∷ fields) =
 
 IsOther-line : (i : ℕ) (so_far : Option Script) (line : List ℕ) → IsOther (read_line i so_far line)
 IsOther-line i so_far line =
-    cond_both (nat_lt most_lines i) (Err (Limit Lines)) (read_words i so_far (words line)) IsOther (λ _. tt) (λ _. IsOther-words i so_far (words line))
+    cond_both (nat_lt MAX_SCHEDULE_LINES i) (Err (Limit Lines)) (read_words i so_far (words line)) IsOther (λ _. tt) (λ _. IsOther-words i so_far (words line))
 
 IsOther-lines : (i : ℕ) (so_far : Option Script) (ls : List (List ℕ)) → IsOther (read_lines i so_far ls)
 IsOther-lines i None [] = tt
@@ -56,10 +56,10 @@ IsOther-lines i so_far (line ∷ rest) =
     IsOther-bind (read_line i so_far line) (λ next. read_lines (i + 1) next rest) (IsOther-line i so_far line) (λ next. IsOther-lines (i + 1) next rest)
 
 -- so a text that is refused for it is too long
-too_long : (bytes : List ℕ) → schedule_of bytes ≡ Err (Limit Bytes) → most_bytes < length bytes
+too_long : (bytes : List ℕ) → schedule_of bytes ≡ Err (Limit Bytes) → MAX_SCHEDULE_BYTES < length bytes
 too_long bytes =
-    cond_both (nat_lt most_bytes (length bytes)) (Err (Limit Bytes)) (read_lines 1 None (lines bytes)) (λ (read : Result Script ScheduleFault). read ≡ Err (Limit Bytes) → most_bytes < length bytes)
-    (λ long _. ltb-true most_bytes (length bytes) long)
+    cond_both (nat_lt MAX_SCHEDULE_BYTES (length bytes)) (Err (Limit Bytes)) (read_lines 1 None (lines bytes)) (λ (read : Result Script ScheduleFault). read ≡ Err (Limit Bytes) → MAX_SCHEDULE_BYTES < length bytes)
+    (λ long _. ltb-true MAX_SCHEDULE_BYTES (length bytes) long)
     (λ _ e. absurd (subst IsOther e (IsOther-lines 1 None (lines bytes))))
 
 limit-passed : {S : Type 0} (gives : S → List ℕ → S → Type 0) (ended : S → Type 0) (old new : S) (what : What) → IsInput gives ended old new (Err (Limit what)) → PassesLimit gives ended old new what

@@ -7,7 +7,7 @@ use Rattle.oc_schedule.specs.declared.fault.ScheduleFault.{ScheduleFault}
 use Rattle.oc_schedule.specs.declared.fault.ScheduleFault.TheVariants.{Limit}
 use Rattle.oc_schedule.specs.declared.fault.What.{What}
 use Rattle.oc_schedule.specs.declared.fault.What.TheVariants.{Bytes}
-use Rattle.oc_schedule.specs.Limits.{most_bytes}
+use Rattle.oc_base.specs.declared.limits.TheConstants.{MAX_SCHEDULE_BYTES}
 use Rattle.oc_schedule.specs.Schedule.{schedule_of}
 use Rattle.oc_schedule.specs.Script.{Script}
 use Rattle.oc_replay.specs.Report.{run_text}
@@ -23,7 +23,7 @@ pub record IsInput {S : Type 0} (gives : S → List ℕ → S → Type 0) (ended
 
 -- more bytes came than a schedule may have, or all bytes came and pass another limit
 abbrev pub PassesLimit : {S : Type 0} → (S → List ℕ → S → Type 0) → (S → Type 0) → S → S → What → Type 0
-PassesLimit gives ended old new Bytes = (bytes : List ℕ) × gives old bytes new × (most_bytes < length bytes)
+PassesLimit gives ended old new Bytes = (bytes : List ℕ) × gives old bytes new × (MAX_SCHEDULE_BYTES < length bytes)
 PassesLimit gives ended old new what = IsInput gives ended old new (Err (Limit what))
 
 -- a stage says which world a header opens, which world an event leads to, and in which word

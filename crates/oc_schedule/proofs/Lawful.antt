@@ -14,7 +14,7 @@ use Rattle.oc_schedule.specs.declared.fault.ScheduleFault.TheVariants.{Limit}
 use Rattle.oc_schedule.specs.declared.fault.ScheduleFault.{ScheduleFault}
 use Rattle.oc_schedule.specs.declared.fault.What.TheVariants as limits
 use Rattle.oc_schedule.specs.Fields.{words}
-use Rattle.oc_schedule.specs.Limits.{most_lines, most_published}
+use Rattle.oc_base.specs.declared.limits.TheConstants.{MAX_SCHEDULE_LINES, MAX_SCHEDULE_PUBLISHED}
 use Rattle.oc_schedule.specs.Lines.{header_in, area_in, event_in}
 use Rattle.oc_schedule.specs.Reading.{Gives, at_line}
 use Rattle.oc_schedule.specs.Schedule.{IsSchedule, after_area, after_event, is_comment, first_script, read_line, read_lines, read_statement, read_words, script_after, with_area, with_event}
@@ -27,7 +27,7 @@ record IsBefore (i : ℕ) (s : Script) : Type 0 where
   header : IsHeader s.header
   events : AllByRecursion (IsPlayable s.header.nodes) s.events
   few : length s.events + 2 ≤ i
-  published : published_in s.events ≤ most_published
+  published : published_in s.events ≤ MAX_SCHEDULE_PUBLISHED
 
 -- before this line there is no script, or one
 abbrev AreBefore : ℕ → Option Script → Type 0
@@ -37,7 +37,7 @@ AreBefore i (Some s) = IsBefore i s
 -- what a line without the limit on published bytes leaves
 record IsSaid (i : ℕ) (s : Script) : Type 0 where
   header : IsHeader s.header
-  events : published_in s.events ≤ most_published → AllByRecursion (IsPlayable s.header.nodes) s.events
+  events : published_in s.events ≤ MAX_SCHEDULE_PUBLISHED → AllByRecursion (IsPlayable s.header.nodes) s.events
   few : length s.events + 1 ≤ i
 
 later : (i : ℕ) (so_far : Option Script) → AreBefore i so_far → AreBefore (i + 1) so_far
@@ -98,9 +98,9 @@ statement_range : (i : ℕ) (so_far : Option Script) (word : List ℕ) (fields :
 statement_range i so_far word fields t first before h =
     steps (at_line i (script_after so_far word fields)) _ _ h λ s is_said then.
     let script = said_range i so_far word fields s first before (from_line i (script_after so_far word fields) s is_said) in
-    let within = behind_guard (nat_lt most_published (published_in s.events)) (Limit limits.Published) (Ok s) t then in
+    let within = behind_guard (nat_lt MAX_SCHEDULE_PUBLISHED (published_in s.events)) (Limit limits.Published) (Ok s) t then in
     let same : s ≡ t = cc within.1 in
-    let few : published_in s.events ≤ most_published = grind (arith, nat_tests) in
+    let few : published_in s.events ≤ MAX_SCHEDULE_PUBLISHED = grind (arith, nat_tests) in
     subst (IsBefore (i + 1)) same (record { header = script.header; events = script.events few; few = omega (arith, script.few); published = few })
 
 words_range : (i : ℕ) (so_far : Option Script) (ws : List (List ℕ)) (next : Option Script) → 1 ≤ i → AreBefore i so_far → read_words i so_far ws ≡ Ok next → AreBefore (i + 1) next
@@ -116,15 +116,15 @@ words_range i so_far (word ∷ fields) next first before h =
           subst (AreBefore (i + 1)) same (statement_range i so_far word fields s first before is_read)
     ]
 
-lines_range : (i : ℕ) (so_far : Option Script) (ls : List (List ℕ)) (t : Script) → 1 ≤ i → i ≤ most_lines + 1 → AreBefore i so_far → read_lines i so_far ls ≡ Ok t → IsSchedule t
+lines_range : (i : ℕ) (so_far : Option Script) (ls : List (List ℕ)) (t : Script) → 1 ≤ i → i ≤ MAX_SCHEDULE_LINES + 1 → AreBefore i so_far → read_lines i so_far ls ≡ Ok t → IsSchedule t
 lines_range i None [] t first few before h = absurd (cc h)
 lines_range i (Some s) [] t first few before h =
     let same : s ≡ t = cc h in
     subst IsSchedule same (record { header = before.header; events = before.events; few = omega arith; published = before.published })
 lines_range i so_far (line ∷ rest) t first few before h =
     steps (read_line i so_far line) _ _ h λ next is_read then.
-    let within = behind_guard (nat_lt most_lines i) (Limit limits.Lines) _ next is_read in
-    let among : i ≤ most_lines = grind (arith, nat_tests) in
+    let within = behind_guard (nat_lt MAX_SCHEDULE_LINES i) (Limit limits.Lines) _ next is_read in
+    let among : i ≤ MAX_SCHEDULE_LINES = grind (arith, nat_tests) in
     lines_range (i + 1) next rest t (omega arith) (omega arith) (words_range i so_far (words line) next first before within.1) then
 
 -- what a call gave of these lines is a schedule within the ranges and the limits

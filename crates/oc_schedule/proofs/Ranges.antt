@@ -11,12 +11,14 @@ use Rattle.oc_model.specs.declared.event.Act.{Act}
 use Rattle.oc_model.specs.declared.event.Act.TheVariants.{Pull, Publish, Seal, Deliver}
 use Rattle.oc_model.specs.declared.event.Event.{Event}
 use Rattle.oc_model.specs.declared.event.Event.TheVariants.{Up, Do, Held}
-use Rattle.oc_model.specs.Lawful.{IsHeader, IsNode}
+use Rattle.oc_model.specs.Lawful.{IsHeader}
+use Rattle.oc_base.specs.Lawful.{IsNode}
 use Rattle.oc_model.specs.Playable.{IsPlayableAct, IsPlayable}
 use Rattle.oc_model.specs.Node.{Header}
 use Rattle.oc_schedule.proofs.Steps.{steps, chosen, behind_guard, within_guard}
 use Rattle.oc_schedule.specs.Fields.{one, two, three, six, is_number, number_in, node_in, group_in, bytes_in}
-use Rattle.oc_schedule.specs.Limits.{most_nodes, most_chain, most_area, most_number}
+use Rattle.oc_base.specs.declared.limits.TheConstants.{MAX_NODES, MAX_CHAIN, MAX_AREA}
+use Rattle.oc_model.specs.Numbers.{number_end}
 use Rattle.oc_schedule.specs.Lines.{sizes_in, opening_in, header_in, area_in, pull_in, publish_in, seal_in, deliver_in, act_in, up_in, held_in, act_alone_in, event_in}
 use Rattle.oc_schedule.specs.Reading.{with_fault}
 use Rattle.oc_schedule.specs.Script.{published_by}
@@ -47,10 +49,10 @@ with_sizes (nodes, chain) = record { nodes = nodes; chain = chain; areas = repli
 
 sizes_range : (n c : List ℕ) (sizes : ℕ × ℕ) → sizes_in n c ≡ Ok sizes → IsHeader (with_sizes sizes)
 sizes_range n c sizes h =
-    steps (number_in 1 most_nodes n) _ _ h λ nodes is_nodes then.
-    steps (number_in 1 (min most_chain nodes) c) _ _ then λ chain is_chain end.
-    let a = number_range 1 most_nodes n nodes is_nodes in
-    let b = number_range 1 (min most_chain nodes) c chain is_chain in
+    steps (number_in 1 MAX_NODES n) _ _ h λ nodes is_nodes then.
+    steps (number_in 1 (min MAX_CHAIN nodes) c) _ _ then λ chain is_chain end.
+    let a = number_range 1 MAX_NODES n nodes is_nodes in
+    let b = number_range 1 (min MAX_CHAIN nodes) c chain is_chain in
     let same : (nodes, chain) ≡ sizes = cc end in
     subst (λ (s : ℕ × ℕ). IsHeader (with_sizes s)) same
     (record { some = a.0; few = a.1; chain = b.0; short = omega arith; within = omega arith; areas = length-replicate nodes 0 })
@@ -77,10 +79,10 @@ pub area_range : (nodes : ℕ) (fields : List (List ℕ)) (area : ℕ × ℕ) �
 area_range nodes fields area h =
     steps (two fields) _ _ h λ f is_two then.
     steps (node_in nodes f.0) _ _ then λ node is_node then.
-    steps (number_in 0 most_area f.1) _ _ then λ a is_area end.
+    steps (number_in 0 MAX_AREA f.1) _ _ then λ a is_area end.
     let same : (node, a) ≡ area = cc end in
     subst (λ (x : ℕ × ℕ). IsNode nodes x.0 × (x.1 ≤ 255)) same
-    (number_range 1 nodes f.0 node is_node, (number_range 0 most_area f.1 a is_area).1)
+    (number_range 1 nodes f.0 node is_node, (number_range 0 MAX_AREA f.1 a is_area).1)
 
 -- Of an event that is read all is in range, where it does not publish too much.
 
@@ -118,9 +120,9 @@ seal_range nodes fields act h =
 deliver_range : (nodes : ℕ) (fields : List (List ℕ)) (act : Act) → deliver_in fields ≡ Ok act → IsActIfFew nodes act
 deliver_range nodes fields act h =
     steps (one fields) _ _ h λ k is_one then.
-    steps (number_in 1 most_number k) _ _ then λ number is_number end.
+    steps (number_in 1 number_end k) _ _ then λ number is_number end.
     let same : Deliver number ≡ act = cc end in
-    let range = number_range 1 most_number k number is_number in
+    let range = number_range 1 number_end k number is_number in
     subst (IsActIfFew nodes) same λ few. (range.0, omega arith)
 
 act_range : (nodes : ℕ) (word : List ℕ) (fields : List (List ℕ)) (act : Act) → act_in nodes word fields ≡ Ok act → IsActIfFew nodes act

@@ -8,7 +8,8 @@ use Rattle.oc_model.specs.declared.event.Event.{Event}
 use Rattle.oc_model.specs.declared.event.Event.TheVariants.{Up, Do, Held}
 use Rattle.oc_model.specs.Node.{Header}
 use Rattle.oc_schedule.specs.Fields.{one, two, three, six, number_in, node_in, group_in, bytes_in}
-use Rattle.oc_schedule.specs.Limits.{most_nodes, most_chain, most_area, most_number}
+use Rattle.oc_base.specs.declared.limits.TheConstants.{MAX_NODES, MAX_CHAIN, MAX_AREA}
+use Rattle.oc_model.specs.Numbers.{number_end}
 use Rattle.oc_schedule.specs.Reading.{◌>>=◌, with_fault}
 
 -- What a line says, by its words: one definition for each kind of line, and a row for it in `act_in` or `event_in`.
@@ -16,8 +17,8 @@ use Rattle.oc_schedule.specs.Reading.{◌>>=◌, with_fault}
 -- the numbers of nodes and of chain members
 abbrev pub sizes_in : List ℕ → List ℕ → Result (ℕ × ℕ) Why
 sizes_in n c = do
-  nodes ← number_in 1 most_nodes n
-  chain ← number_in 1 (min most_chain nodes) c
+  nodes ← number_in 1 MAX_NODES n
+  chain ← number_in 1 (min MAX_CHAIN nodes) c
   Ok (nodes, chain)
 
 -- `overcast 1 nodes N chain C`
@@ -39,7 +40,7 @@ abbrev pub area_in : ℕ → List (List ℕ) → Result (ℕ × ℕ) Why
 area_in nodes fields = do
   (n, a) ← two fields
   node ← node_in nodes n
-  area ← number_in 0 most_area a
+  area ← number_in 0 MAX_AREA a
   Ok (node, area)
 
 -- `pull N P`
@@ -71,7 +72,7 @@ seal_in nodes fields = do
 abbrev pub deliver_in : List (List ℕ) → Result Act Why
 deliver_in fields = do
   k ← one fields
-  number ← number_in 1 most_number k
+  number ← number_in 1 number_end k
   Ok (Deliver number)
 
 -- an act line, by its word

@@ -11,7 +11,7 @@ use Rattle.oc_schedule.specs.declared.fault.ScheduleFault.{ScheduleFault}
 use Rattle.oc_schedule.specs.declared.fault.ScheduleFault.TheVariants.{Line, Limit}
 use Rattle.oc_schedule.specs.declared.fault.What.TheVariants as limits
 use Rattle.oc_schedule.specs.Fields.{words}
-use Rattle.oc_schedule.specs.Limits.{most_bytes, most_lines, most_published}
+use Rattle.oc_base.specs.declared.limits.TheConstants.{MAX_SCHEDULE_BYTES, MAX_SCHEDULE_LINES, MAX_SCHEDULE_PUBLISHED}
 use Rattle.oc_schedule.specs.Lines.{header_in, area_in, event_in}
 use Rattle.oc_schedule.specs.Reading.{◌>>=◌, at_line}
 use Rattle.oc_schedule.specs.Script.{Script, published_in}
@@ -56,7 +56,7 @@ script_after (Some s) word fields = after_line s word fields
 
 -- the limit on published bytes
 abbrev pub within_published : Script → Result Script ScheduleFault
-within_published s = if nat_lt most_published (published_in s.events) then Err (Limit limits.Published) else Ok s
+within_published s = if nat_lt MAX_SCHEDULE_PUBLISHED (published_in s.events) then Err (Limit limits.Published) else Ok s
 
 -- a line that is not skipped: its cause, and behind it the limit on published bytes
 abbrev pub read_statement : ℕ → Option Script → List ℕ → List (List ℕ) → Result Script ScheduleFault
@@ -79,7 +79,7 @@ read_words i so_far (word ∷ fields) =
 
 -- the line of this number: the limit on lines before all
 abbrev pub read_line : ℕ → Option Script → List ℕ → Result (Option Script) ScheduleFault
-read_line i so_far line = if nat_lt most_lines i then Err (Limit limits.Lines) else read_words i so_far (words line)
+read_line i so_far line = if nat_lt MAX_SCHEDULE_LINES i then Err (Limit limits.Lines) else read_words i so_far (words line)
 
 -- the end of the text; without a header the line behind the last is refused
 abbrev pub script_at_end : ℕ → Option Script → Result Script ScheduleFault
@@ -95,11 +95,11 @@ read_lines i so_far (line ∷ rest) = do
 
 -- the schedule that a text is, or its first fault
 abbrev pub schedule_of : List ℕ → Result Script ScheduleFault
-schedule_of bytes = if nat_lt most_bytes (length bytes) then Err (Limit limits.Bytes) else read_lines 1 None (lines bytes)
+schedule_of bytes = if nat_lt MAX_SCHEDULE_BYTES (length bytes) then Err (Limit limits.Bytes) else read_lines 1 None (lines bytes)
 
 -- a schedule within the ranges and the limits: each line but the header gives an event at most
 pub record IsSchedule (s : Script) : Type 0 where
   pub header : IsHeader s.header
   pub events : AllByRecursion (IsPlayable s.header.nodes) s.events
-  pub few : length s.events < most_lines
-  pub published : published_in s.events ≤ most_published
+  pub few : length s.events < MAX_SCHEDULE_LINES
+  pub published : published_in s.events ≤ MAX_SCHEDULE_PUBLISHED

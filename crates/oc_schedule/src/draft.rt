@@ -1,16 +1,16 @@
 ghost use Rattle.std.specs.Prelude.{◌≡◌, ◌≤◌, length, Some};
-ghost use Rattle.oc_model.specs.Lawful.{IsNode};
+ghost use Rattle.oc_base.specs.Lawful.{IsNode};
 ghost use Rattle.oc_schedule.specs.Fields.{words};
-ghost use Rattle.oc_schedule.specs.Limits.{most_published};
+ghost use Rattle.oc_base.specs.declared.limits.TheConstants.{MAX_SCHEDULE_PUBLISHED};
 ghost use Rattle.oc_schedule.specs.Reading.{GivesBy, GivesLineBy};
 ghost use Rattle.oc_schedule.specs.Schedule.{first_script, read_statement, with_area, with_event, within_published};
 ghost use Rattle.oc_schedule.specs.Script.{published_by, published_in};
 
 use crate::Schedule;
-use crate::fault::{LineFault, MOST_PUBLISHED, ScheduleFault, What};
+use crate::fault::{LineFault, ScheduleFault, What};
 use crate::lines::{area, event, opening};
 use crate::words::is;
-use oc_base::{NodeId, Why};
+use oc_base::{MAX_SCHEDULE_PUBLISHED, NodeId, Why};
 use oc_model::{Act, Event};
 use std::alloc::Global;
 
@@ -21,7 +21,7 @@ pub(crate) struct Draft {
     /// The bytes that its events publish.
     published: usize,
     ghost counted: { published ≡ published_in schedule.events },
-    ghost within: { published ≤ most_published },
+    ghost within: { published ≤ MAX_SCHEDULE_PUBLISHED },
     ghost areas: { length schedule.header.areas ≡ schedule.header.nodes },
 }
 
@@ -99,7 +99,7 @@ impl Draft {
             published,
         } = self;
         let more = published_by(&event);
-        if more > MOST_PUBLISHED - published {
+        if more > MAX_SCHEDULE_PUBLISHED - published {
             return Err(ScheduleFault::Limit(What::Published));
         }
         schedule.events.push(event)?;

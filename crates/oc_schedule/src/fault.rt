@@ -2,7 +2,7 @@ ghost use Rattle.std.specs.Prelude.{◌≡◌};
 ghost use Rattle.oc_schedule.specs.Limits.{most_of, what_text};
 ghost use Rattle.oc_schedule.specs.Reading.{fault_at};
 
-use oc_base::Why;
+use oc_base::{MAX_SCHEDULE_BYTES, MAX_SCHEDULE_LINES, MAX_SCHEDULE_PUBLISHED, Why};
 use std::alloc::{AllocError, AllocFailed};
 use std::error::Error;
 use std::fmt;
@@ -46,21 +46,12 @@ impl What {
         ensures { result ≡ most_of self }
     {
         match self {
-            What::Lines => MOST_LINES as usize,
-            What::Bytes => MOST_BYTES,
-            What::Published => MOST_PUBLISHED,
+            What::Lines => MAX_SCHEDULE_LINES as usize,
+            What::Bytes => MAX_SCHEDULE_BYTES,
+            What::Published => MAX_SCHEDULE_PUBLISHED,
         }
     }
 }
-
-/// The most lines of a text.
-pub(crate) const MOST_LINES: u32 = 100_000;
-
-/// The most bytes of a text.
-pub(crate) const MOST_BYTES: usize = 67_108_864;
-
-/// The most bytes that the events of a text publish.
-pub(crate) const MOST_PUBLISHED: usize = 262_144;
 
 impl fmt::Display for What {
     fn fmt<W: fmt::Write>(&self, f: &mut fmt::Formatter<W>) -> fmt::Result {

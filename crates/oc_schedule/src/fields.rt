@@ -3,7 +3,7 @@ ghost use Rattle.std.specs.Char.{is_ascii_digit};
 ghost use Rattle.std.specs.Option.{SomeIff};
 ghost use Rattle.std.specs.List.{list_all};
 ghost use Rattle.std.specs.Str.Parse.{digits_value};
-ghost use Rattle.oc_model.specs.Lawful.{IsNode};
+ghost use Rattle.oc_base.specs.Lawful.{IsNode};
 ghost use Rattle.oc_schedule.specs.Fields.{is_number, number_in, node_in, group_in, bytes_in};
 ghost use Rattle.oc_schedule.specs.Reading.{GivesLine};
 

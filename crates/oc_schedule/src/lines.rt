@@ -1,21 +1,15 @@
 ghost use Rattle.std.specs.Prelude.{◌≡◌, IfOk};
 ghost use Rattle.oc_schedule.specs.Fields.{words};
-ghost use Rattle.oc_model.specs.Lawful.{IsNode};
+ghost use Rattle.oc_base.specs.Lawful.{IsNode};
 ghost use Rattle.oc_schedule.specs.Lines.{sizes_in, opening_in, area_in, pull_in, publish_in, seal_in, deliver_in, act_in, up_in, held_in, act_alone_in, event_in};
 ghost use Rattle.oc_schedule.specs.Reading.{GivesLine, GivesFields};
 
 use crate::fault::LineFault;
 use crate::fields::{bytes, group, node, number};
 use crate::words::{is, one_field, six_fields, three_fields, two_fields};
-use oc_base::{NodeId, Why};
+use oc_base::{MAX_AREA, MAX_CHAIN, MAX_NODES, NodeId, Why};
 use oc_model::{Act, Event};
 use std::alloc::Global;
-
-/// The most nodes.
-const MOST_NODES: u64 = 1024;
-
-/// The most chain members.
-const MOST_CHAIN: u64 = 16;
 
 /// `overcast 1 nodes N chain C`: the numbers of nodes and of chain members.
 pub(crate) fn opening(line: &[u8]) -> Result<(u32, u32), Why>
@@ -33,8 +27,8 @@ pub(crate) fn opening(line: &[u8]) -> Result<(u32, u32), Why>
 fn sizes(n: &[u8], c: &[u8]) -> Result<(u32, u32), Why>
     ensures { result ≡ sizes_in n.now c.now }
 {
-    let nodes = number(n, 1, MOST_NODES)?;
-    let chain = number(c, 1, nodes.min(MOST_CHAIN))?;
+    let nodes = number(n, 1, u64::from(MAX_NODES))?;
+    let chain = number(c, 1, nodes.min(u64::from(MAX_CHAIN)))?;
     Ok((nodes as u32, chain as u32))
 }
 
@@ -45,7 +39,7 @@ pub(crate) fn area(nodes: u32, fields: &[u8]) -> Result<(NodeId, u8), Why>
 {
     let (n, a) = two_fields(fields)?;
     let node_id = node(n, nodes)?;
-    let area = number(a, 0, u64::from(u8::MAX))?;
+    let area = number(a, 0, u64::from(MAX_AREA))?;
     Ok((node_id, area as u8))
 }
 

@@ -1,15 +1,15 @@
 ghost use Rattle.std.specs.Prelude.{◌≤◌, IfOk, None};
 ghost use Rattle.std.specs.Str.Lines.{lines};
 ghost use Rattle.oc_schedule.specs.Draft.{script_of};
-ghost use Rattle.oc_schedule.specs.Limits.{most_lines};
+ghost use Rattle.oc_base.specs.declared.limits.TheConstants.{MAX_SCHEDULE_LINES};
 ghost use Rattle.oc_schedule.specs.Reading.{Gives, GivesBy};
 ghost use Rattle.oc_schedule.specs.Schedule.{IsSchedule, read_line, read_lines, schedule_of};
 
 use crate::Schedule;
 use crate::draft::Draft;
-use crate::fault::{MOST_BYTES, MOST_LINES, ScheduleFault, What};
+use crate::fault::{ScheduleFault, What};
 use crate::words::{first_line, first_word};
-use oc_base::Why;
+use oc_base::{MAX_SCHEDULE_BYTES, MAX_SCHEDULE_LINES, Why};
 use std::alloc::Global;
 
 /// Reads the text of a schedule, any bytes: what it says, or its first fault.
@@ -23,7 +23,7 @@ pub fn read(alloc: Global, bytes: &[u8]) -> Result<Schedule, ScheduleFault>
     // The header and the events are within their ranges, and there are not too many events.
     ensures lawful { IfOk result IsSchedule }
 {
-    if bytes.len() > MOST_BYTES {
+    if bytes.len() > MAX_SCHEDULE_BYTES {
         return Err(ScheduleFault::Limit(What::Bytes));
     }
     read_lines(alloc, bytes)
@@ -38,7 +38,7 @@ fn read_lines(alloc: Global, bytes: &[u8]) -> Result<Schedule, ScheduleFault>
     let mut rest = bytes;
     'lines: while !rest.is_empty() {
         let (line, behind) = first_line(rest);
-        if number > MOST_LINES {
+        if number > MAX_SCHEDULE_LINES {
             return Err(ScheduleFault::Limit(What::Lines));
         }
         draft = read_line(alloc, draft, number, line)?;
@@ -61,7 +61,7 @@ fn read_line(
     number: u32,
     line: &[u8],
 ) -> Result<Option<Draft>, ScheduleFault>
-    requires { number ≤ most_lines }
+    requires { number ≤ MAX_SCHEDULE_LINES }
     ensures { GivesBy script_of result (read_line number (script_of draft) line.now) }
 {
     match first_word(line) {

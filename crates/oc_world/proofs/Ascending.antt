@@ -2,14 +2,12 @@
 use Rattle.std.proofs.Common.{◌≡◌, ◌≢◌, ℕ, Result, Ok, Err, IfOk, OnErr, Bool, List, sym, subst}
 use Rattle.oc_base.specs.declared.memory.Memory.{Memory}
 use Rattle.oc_model.specs.declared.answer.Answer.{Answer}
-use Rattle.oc_model.specs.declared.group.Group.{Group}
+use Rattle.oc_base.specs.declared.group.Group.{Group}
 use Rattle.oc_model.specs.declared.input.Input.{Input}
 use Rattle.oc_model.specs.declared.input.Input.TheVariants.{Publish, Delivered}
 use Rattle.oc_model.specs.declared.message.Body.TheVariants.{Chunk}
-use Rattle.oc_model.specs.Groups.{IsAscending}
-use Rattle.oc_world.specs.Spread.{published, took_chunk}
-use Rattle.oc_world.specs.Spread.{Outcome}
-use Rattle.oc_world.specs.Spread.{step}
+use Rattle.oc_base.specs.Groups.{IsAscending}
+use Rattle.oc_world.specs.Spread.{published, took_chunk, Outcome, step}
 use Rattle.oc_world.proofs.SpreadOutcomes.{step_ascends}
 use Rattle.oc_world.specs.Groups.{idle_node, quiet}
 

@@ -6,13 +6,16 @@ use Rattle.std.proofs.lemmas.List.{take_min}
 use Rattle.oc_base.specs.declared.shelf.Shelf.{Shelf}
 use Rattle.oc_model.specs.declared.answer.Answer.{Answer}
 use Rattle.oc_model.specs.declared.answer.Answer.TheVariants as answers
-use Rattle.oc_model.specs.declared.group.Group.{Group}
+use Rattle.oc_base.specs.declared.group.Group.{Group}
 use Rattle.oc_model.specs.declared.input.Input.{Input}
 use Rattle.oc_model.specs.declared.input.Input.TheVariants as inputs
 use Rattle.oc_model.specs.declared.message.Body.{Body}
 use Rattle.oc_model.specs.declared.message.Body.TheVariants.{Fetch, Chunk}
 use Rattle.oc_model.specs.declared.message.Message.{Message}
-use Rattle.oc_model.specs.Groups.{same_name, group_of, or_empty, group_or_empty, with_group, shelf_of, shelf, most_chunk, AreAbove, IsAscending}
+use Rattle.oc_base.specs.Named.{same_name}
+use Rattle.oc_base.specs.Shelves.{line_of}
+use Rattle.oc_base.specs.Groups.{group_of, or_empty, group_or_empty, with_group, shelf_of, shelf, AreAbove, IsAscending}
+use Rattle.oc_base.specs.declared.limits.TheConstants.{MAX_CHUNK_BYTES}
 use Rattle.oc_model.specs.Node.{Header, Outcome, new_control}
 use Rattle.oc_model.specs.Plan.{Plan, begun, send, answers as says, ignored}
 use Rattle.oc_model.specs.Content as rules
@@ -40,10 +43,10 @@ behind_is (Some l) k = refl
 
 first_behind_is : (have : List Shelf) (ks : List Group) → shelves.first_behind have (shelf ks) ≡ option_map shelf_of (spread.first_behind have ks)
 first_behind_is have [] = refl
-first_behind_is have (k ∷ ks) = by_test (first_behind_is have ks) (spread.is_behind (shelves.line_of k.name have) k) refl where
-  by_test : shelves.first_behind have (shelf ks) ≡ option_map shelf_of (spread.first_behind have ks) → (b : Bool) → spread.is_behind (shelves.line_of k.name have) k ≡ b → shelves.first_behind have (shelf (k ∷ ks)) ≡ option_map shelf_of (spread.first_behind have (k ∷ ks))
-  by_test rest true e = let same : shelves.is_behind (shelves.line_of k.name have) (shelf_of k) ≡ true = behind_is (shelves.line_of k.name have) k ∙ e in rw (same, e)
-  by_test rest false e = let same : shelves.is_behind (shelves.line_of k.name have) (shelf_of k) ≡ false = behind_is (shelves.line_of k.name have) k ∙ e in rw (same, e) rest
+first_behind_is have (k ∷ ks) = by_test (first_behind_is have ks) (spread.is_behind (line_of k.name have) k) refl where
+  by_test : shelves.first_behind have (shelf ks) ≡ option_map shelf_of (spread.first_behind have ks) → (b : Bool) → spread.is_behind (line_of k.name have) k ≡ b → shelves.first_behind have (shelf (k ∷ ks)) ≡ option_map shelf_of (spread.first_behind have (k ∷ ks))
+  by_test rest true e = let same : shelves.is_behind (line_of k.name have) (shelf_of k) ≡ true = behind_is (line_of k.name have) k ∙ e in rw (same, e)
+  by_test rest false e = let same : shelves.is_behind (line_of k.name have) (shelf_of k) ≡ false = behind_is (line_of k.name have) k ∙ e in rw (same, e) rest
 
 -- Choices
 
@@ -193,7 +196,7 @@ seal_lifts h x ks g =
     let n : spread.Node = record { me = x; groups = ks } in
     let o : Plan = begun (new_control h x) in
     let F : Plan → Outcome = finished (lifted_node h n) (inputs.Seal g) in
-    either_lifts h (x == 1) F (rules.seal_line o (shelves.line_of g (shelf ks))) (says o answers.NotSource)
+    either_lifts h (x == 1) F (rules.seal_line o (line_of g (shelf ks))) (says o answers.NotSource)
     (spread.seal_group n (group_of g ks)) (spread.says n answers.NotSource)
     (λ _. ap (λ (f : Option Shelf). F (rules.seal_line o f)) (line_of-shelf g ks) ∙ by_found (group_of g ks) refl)
     (λ _. refl) where
@@ -225,24 +228,24 @@ held_is g (Some l) = refl
 
 first_among : (P : Group → Type 0) (have : List Shelf) (ks : List Group) (k : Group) → AllByRecursion P ks → spread.first_behind have ks ≡ Some k → P k
 first_among P have [] k all e = absurd cc
-first_among P have (j ∷ js) k all e = by_test (first_among P have js k all.1) (spread.is_behind (shelves.line_of j.name have) j) refl where
-  by_test : (spread.first_behind have js ≡ Some k → P k) → (b : Bool) → spread.is_behind (shelves.line_of j.name have) j ≡ b → P k
+first_among P have (j ∷ js) k all e = by_test (first_among P have js k all.1) (spread.is_behind (line_of j.name have) j) refl where
+  by_test : (spread.first_behind have js ≡ Some k → P k) → (b : Bool) → spread.is_behind (line_of j.name have) j ≡ b → P k
   by_test rest true t =
       let same : Some j ≡ Some k = rw t at e in
       let here : j ≡ k = cc same in
       subst P here all.0
   by_test rest false t = rest (rw t at e)
 
-count_is : (k : Group) (start : ℕ) → rules.count_from (shelf_of k) start ≡ length (take most_chunk (drop start k.bytes))
-count_is k start = sym (length-take most_chunk (drop start k.bytes) ∙ ap (min most_chunk) (length-drop start k.bytes))
+count_is : (k : Group) (start : ℕ) → rules.count_from (shelf_of k) start ≡ length (take MAX_CHUNK_BYTES (drop start k.bytes))
+count_is k start = sym (length-take MAX_CHUNK_BYTES (drop start k.bytes) ∙ ap (min MAX_CHUNK_BYTES) (length-drop start k.bytes))
 
 -- a chunk that is filled
 chunk_is : (h : Header) (x p : ℕ) (ks : List Group) (k : Group) (start : ℕ) (i : Input) → group_of k.name ks ≡ Some k → kept_at None ks (piece_of i) false ≡ ks →
     finished (lifted_node h (record { me = x; groups = ks })) i (rules.sends_chunk (begun (new_control h x)) p (shelf_of k) start (rules.count_from (shelf_of k) start))
     ≡ lifted h (spread.sends (spread.says (record { me = x; groups = ks }) answers.Ok) p (spread.chunk_at k start))
-chunk_is h x p ks k start i found same = rw (count_is k start) (by_test (length (take most_chunk (drop start k.bytes)) == 0) refl) where
+chunk_is h x p ks k start i found same = rw (count_is k start) (by_test (length (take MAX_CHUNK_BYTES (drop start k.bytes)) == 0) refl) where
   T : List ℕ
-  T = take most_chunk (drop start k.bytes)
+  T = take MAX_CHUNK_BYTES (drop start k.bytes)
 
   by_test : (b : Bool) → (length T == 0) ≡ b →
       finished (lifted_node h (record { me = x; groups = ks })) i (rules.sends_chunk (begun (new_control h x)) p (shelf_of k) start (length T))
@@ -252,7 +255,7 @@ chunk_is h x p ks k start i found same = rw (count_is k start) (by_test (length 
   by_test false e =
       let here : group_or_empty k.name ks ≡ k = ap (or_empty k.name) found in
       let bytes : take (length T) (drop start (group_or_empty k.name ks).bytes) ≡ T =
-      ap (λ (j : Group). take (length T) (drop start j.bytes)) here ∙ (ap (λ (c : ℕ). take c (drop start k.bytes)) (length-take most_chunk (drop start k.bytes)) ∙ take_min most_chunk (drop start k.bytes)) in
+      ap (λ (j : Group). take (length T) (drop start j.bytes)) here ∙ (ap (λ (c : ℕ). take c (drop start k.bytes)) (length-take MAX_CHUNK_BYTES (drop start k.bytes)) ∙ take_min MAX_CHUNK_BYTES (drop start k.bytes)) in
       rw e (ap (λ (b : List ℕ). lifted h (spread.sends (spread.says (record { me = x; groups = ks }) answers.Ok) p (Chunk k.name start b (k.sealed && start + length T == length k.bytes)))) bytes)
 
 fetch_lifts : (h : Header) (x p : ℕ) (ks : List Group) (have : List Shelf) (i : Input) → IsAscending ks →
@@ -268,7 +271,7 @@ fetch_lifts h x p ks have i up =
       by_found None e = refl
       by_found (Some k) e =
           let found : group_of k.name ks ≡ Some k = first_among (λ j. group_of j.name ks ≡ Some j) have ks k (ascend-found ks up) e in
-          rw (held_is k.name (shelves.line_of k.name have)) (chunk_is h x p ks k (spread.held_in (shelves.line_of k.name have)) i found refl)
+          rw (held_is k.name (line_of k.name have)) (chunk_is h x p ks k (spread.held_in (line_of k.name have)) i found refl)
 
 -- Chunks
 adds_is : (ks : List Group) (k : Group) (end : ℕ) (last : Bool) → rules.adds (shelf ks) (shelf_of k) end last ≡ spread.adds (not (is_some (group_of k.name ks))) k end last

@@ -9,7 +9,7 @@ use Rattle.oc_model.specs.declared.event.Act.{Act}
 use Rattle.oc_model.specs.declared.event.Act.TheVariants as acts
 use Rattle.oc_model.specs.declared.event.Event.{Event}
 use Rattle.oc_model.specs.declared.event.Event.TheVariants.{Up, Do, Held}
-use Rattle.oc_model.specs.declared.group.Group.{Group}
+use Rattle.oc_base.specs.declared.group.Group.{Group}
 use Rattle.oc_model.specs.declared.input.Input.{Input}
 use Rattle.oc_model.specs.declared.input.Input.TheVariants as inputs
 use Rattle.oc_model.specs.declared.message.Body.{Body}
@@ -17,7 +17,7 @@ use Rattle.oc_model.specs.declared.message.Body.TheVariants.{Fetch, Chunk}
 use Rattle.oc_model.specs.declared.message.Message.{Message}
 use Rattle.oc_model.specs.declared.word.Word.{Word}
 use Rattle.oc_model.specs.declared.word.Word.TheVariants as words
-use Rattle.oc_model.specs.Groups.{group_of, group_or_empty, IsAscending}
+use Rattle.oc_base.specs.Groups.{group_of, group_or_empty, IsAscending}
 use Rattle.oc_model.specs.Playable.{IsPlayable, IsPlayableAct}
 use Rattle.oc_model.specs.Node.{Header, Outcome, new_node, restarted}
 use Rattle.oc_model.specs.NextWorld as model_events

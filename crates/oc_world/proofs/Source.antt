@@ -1,16 +1,13 @@
 -- In memory the source is what node 1 holds: a step leaves that so.
 use Rattle.std.proofs.Common.{◌≡◌, ◌≢◌, ℕ, ◌+◌, Bool, true, false, ◌==◌, List, ◌++◌, length, Option, Some, None, refl, sym, ap, ◌∙◌, subst, ne_eqb, eqb-true, eq-eqb}
 use Rattle.oc_model.specs.declared.answer.Answer.TheVariants as answers
-use Rattle.oc_model.specs.declared.group.Group.{Group}
+use Rattle.oc_base.specs.declared.group.Group.{Group}
 use Rattle.oc_model.specs.declared.input.Input.{Input}
 use Rattle.oc_model.specs.declared.input.Input.TheVariants as inputs
 use Rattle.oc_model.specs.declared.message.Body.{Body}
 use Rattle.oc_model.specs.declared.message.Body.TheVariants.{Fetch, Chunk}
-use Rattle.oc_model.specs.Groups.{group_of, group_or_empty, or_empty, with_group}
-use Rattle.oc_world.specs.Spread.{limit}
-use Rattle.oc_world.specs.Spread.{published, publish_to, sealed_at, seal_group, fetches, first_behind, answers_fetch, chunk_to}
-use Rattle.oc_world.specs.Spread.{Node, Outcome, says, keeps, unless}
-use Rattle.oc_world.specs.Spread.{step, received}
+use Rattle.oc_base.specs.Groups.{group_of, group_or_empty, or_empty, with_group}
+use Rattle.oc_world.specs.Spread.{limit, published, publish_to, sealed_at, seal_group, fetches, first_behind, answers_fetch, chunk_to, Node, Outcome, says, keeps, unless, step, received}
 use Rattle.oc_world.specs.SpreadWorld.{Process, process_in, with_process}
 use Rattle.oc_model.specs.World.{source_after}
 use Rattle.oc_world.proofs.SpreadOutcomes.{either, on_true, on_false, within}

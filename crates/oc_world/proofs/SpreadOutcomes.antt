@@ -2,12 +2,13 @@
 use Rattle.std.proofs.Common.{◌≡◌, ℕ, ◌+◌, Bool, true, false, not, ◌&&◌, ◌==◌, nat_lt, nat_le, if◌then◌else◌, Option, Some, None, is_some, List, [], ◌∷◌, ◌++◌, length, refl}
 use Rattle.oc_base.specs.declared.shelf.Shelf.{Shelf}
 use Rattle.oc_model.specs.declared.answer.Answer.TheVariants as answers
-use Rattle.oc_model.specs.declared.group.Group.{Group}
+use Rattle.oc_base.specs.declared.group.Group.{Group}
 use Rattle.oc_model.specs.declared.input.Input.{Input}
 use Rattle.oc_model.specs.declared.input.Input.TheVariants.{Pull, Publish, Seal, Delivered}
 use Rattle.oc_model.specs.declared.message.Body.{Body}
 use Rattle.oc_model.specs.declared.message.Body.TheVariants.{Fetch, Chunk}
-use Rattle.oc_model.specs.Groups.{group_of, group_or_empty, with_group, most_groups, most_bytes, AreAbove, IsAscending}
+use Rattle.oc_base.specs.Groups.{group_of, group_or_empty, with_group, AreAbove, IsAscending}
+use Rattle.oc_base.specs.declared.limits.TheConstants.{MAX_GROUPS, MAX_GROUP_BYTES}
 use Rattle.oc_model.proofs.Groups.{ascend-with_group}
 use Rattle.oc_world.specs.Spread.{Node, Outcome, says, keeps, unless, limit, publish_to, published, seal_group, sealed_at, fetches, first_behind, answers_fetch, fetched, adds, grown, keeps_chunk, chunk_to, took_chunk, received, step}
 
@@ -27,7 +28,7 @@ on_false b e P o q h = rw e h
 
 -- what holds of both refusals, and of what follows where neither limit is passed, holds within the limits
 pub within : (P : Outcome → Type 0) (n : Node) (ks : List Group) (g : List ℕ) (end : ℕ) (o : Outcome) → P (says n answers.Groups) → P (says n answers.TooLong) → P o → P (unless (limit ks g end) n o)
-within P n ks g end o groups long rest = by_tests (not (is_some (group_of g ks)) && nat_le most_groups (length ks)) (nat_lt most_bytes end) where
+within P n ks g end o groups long rest = by_tests (not (is_some (group_of g ks)) && nat_le MAX_GROUPS (length ks)) (nat_lt MAX_GROUP_BYTES end) where
   by_tests : (a b : Bool) → P (unless (if a then Some answers.Groups else if b then Some answers.TooLong else None) n o)
   by_tests true b = groups
   by_tests false true = long

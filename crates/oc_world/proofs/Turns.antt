@@ -4,13 +4,12 @@ use Rattle.std.specs.List.{range_with_len}
 use Rattle.std.proofs.lemmas.List.{set-get_or}
 use Rattle.oc_model.specs.declared.answer.Answer.{Answer}
 use Rattle.oc_model.specs.declared.answer.Answer.TheVariants as answers
-use Rattle.oc_model.specs.declared.group.Group.{Group}
+use Rattle.oc_base.specs.declared.group.Group.{Group}
 use Rattle.oc_model.specs.declared.input.Input.{Input}
 use Rattle.oc_model.specs.declared.input.Input.TheVariants as inputs
 use Rattle.oc_model.specs.declared.message.Message.{Message}
 use Rattle.oc_model.specs.declared.word.Word.TheVariants as words
-use Rattle.oc_world.specs.Spread.{Node, Outcome}
-use Rattle.oc_world.specs.Spread.{step, received}
+use Rattle.oc_world.specs.Spread.{Node, Outcome, step, received}
 use Rattle.oc_world.specs.SpreadWorld.{Process, process_in, with_process, acted, word_of_act, started, stepped}
 use Rattle.oc_model.specs.World.{message_at, delivery}
 use Rattle.oc_world.proofs.SpreadOutcomes.{step_me}

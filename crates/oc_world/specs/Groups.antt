@@ -1,24 +1,24 @@
 use Rattle.std.specs.Prelude.{◌≡◌, ℕ, ◌+◌, ◌<◌, ◌≤◌, Bool, false, ◌&&◌, nat_lt, if◌then◌else◌, Option, Some, None, List, [], ◌++◌, length, slice_get, slice_set, insert}
 use Rattle.oc_model.specs.declared.answer.Answer.{Answer}
 use Rattle.oc_model.specs.declared.answer.Answer.TheVariants as answers
-use Rattle.oc_model.specs.declared.group.Group.{Group}
-use Rattle.oc_model.specs.Groups.{group_of, with_group, most_bytes}
-use Rattle.oc_world.specs.Spread.{adds, grown}
+use Rattle.oc_base.specs.declared.group.Group.{Group}
+use Rattle.oc_base.specs.Groups.{group_of, with_group}
+use Rattle.oc_base.specs.declared.limits.TheConstants.{MAX_GROUP_BYTES}
+use Rattle.oc_world.specs.Spread.{adds, grown, Node, Outcome}
 use Rattle.oc_model.specs.declared.message.Message.{Message}
-use Rattle.oc_world.specs.Spread.{Node, Outcome}
-use Rattle.oc_world.specs.declared.groups.Place.{Place}
-use Rattle.oc_world.specs.declared.groups.Place.TheVariants.{Found, Free}
+use Rattle.oc_base.specs.declared.place.Place.{Place}
+use Rattle.oc_base.specs.declared.place.Place.TheVariants.{Found, Free}
 
 -- a node of the world in memory
 abbrev pub idle_node : ℕ → List Group → Node
 idle_node x ks = record { me = x; groups = ks }
 
 -- the group of this name stands at i, or is absent and would stand there
-abbrev pub IsPlace : List Group → List ℕ → Place → Type 0
-IsPlace ks g (Found i) =
+abbrev pub IsGroupPlace : List Group → List ℕ → Place → Type 0
+IsGroupPlace ks g (Found i) =
     (i < length ks) × ((k : Group) × (slice_get ks i ≡ Some k) × (group_of g ks ≡ Some k) × (k.name ≡ g))
     × ((n : Group) → n.name ≡ g → with_group n ks ≡ slice_set ks i n)
-IsPlace ks g (Free i) =
+IsGroupPlace ks g (Free i) =
     (i ≤ length ks) × (group_of g ks ≡ None)
     × ((n : Group) → n.name ≡ g → with_group n ks ≡ insert ks i n)
 
@@ -26,7 +26,7 @@ IsPlace ks g (Free i) =
 abbrev pub publish_one : Group → List ℕ → Group × Answer
 publish_one k bytes =
     if k.sealed then (k, answers.Sealed)
-    else if nat_lt most_bytes (length k.bytes + length bytes) then (k, answers.TooLong)
+    else if nat_lt MAX_GROUP_BYTES (length k.bytes + length bytes) then (k, answers.TooLong)
     else (record k { bytes = k.bytes ++ bytes }, answers.Ok)
 
 -- a chunk for one group that is held, with the answer
@@ -34,7 +34,7 @@ abbrev pub chunk_one : Group → ℕ → List ℕ → Bool → Group × Answer
 chunk_one k start bytes last =
     if nat_lt (length k.bytes) start then (k, answers.Gap)
     else if k.sealed && nat_lt (length k.bytes) (start + length bytes) then (k, answers.Sealed)
-    else if nat_lt most_bytes (start + length bytes) then (k, answers.TooLong)
+    else if nat_lt MAX_GROUP_BYTES (start + length bytes) then (k, answers.TooLong)
     else if adds false k (start + length bytes) last then (grown k start bytes last, answers.Ok)
     else (k, answers.Ignored)
 

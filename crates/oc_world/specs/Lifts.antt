@@ -2,7 +2,7 @@ use Rattle.std.specs.Prelude.{map}
 use Rattle.std.specs.List.{AllByRecursion}
 use Rattle.oc_model.specs.declared.message.Body.{Body}
 use Rattle.oc_model.specs.declared.message.Body.TheVariants.{Fetch, Chunk}
-use Rattle.oc_model.specs.Groups.{IsAscending}
+use Rattle.oc_base.specs.Groups.{IsAscending}
 use Rattle.oc_model.specs.Node.{Header, Node, new_control}
 use Rattle.oc_model.specs.World as model
 use Rattle.oc_world.specs.Spread as spread

@@ -2,14 +2,15 @@ use Rattle.std.specs.Prelude.{ℕ, ◌+◌, ◌-◌, Bool, true, not, ◌&&◌, 
 use Rattle.oc_base.specs.declared.shelf.Shelf.{Shelf}
 use Rattle.oc_model.specs.declared.answer.Answer.{Answer}
 use Rattle.oc_model.specs.declared.answer.Answer.TheVariants as answers
-use Rattle.oc_model.specs.declared.group.Group.{Group}
+use Rattle.oc_base.specs.declared.group.Group.{Group}
 use Rattle.oc_model.specs.declared.input.Input.{Input}
 use Rattle.oc_model.specs.declared.input.Input.TheVariants.{Pull, Publish, Seal, Delivered}
 use Rattle.oc_model.specs.declared.message.Body.{Body}
 use Rattle.oc_model.specs.declared.message.Body.TheVariants.{Fetch, Chunk}
 use Rattle.oc_model.specs.declared.message.Message.{Message}
-use Rattle.oc_model.specs.Groups.{group_of, group_or_empty, with_group, shelf, most_groups, most_bytes, most_chunk}
-use Rattle.oc_model.specs.Shelves.{line_of}
+use Rattle.oc_base.specs.Groups.{group_of, group_or_empty, with_group, shelf}
+use Rattle.oc_base.specs.declared.limits.TheConstants.{MAX_GROUPS, MAX_GROUP_BYTES, MAX_CHUNK_BYTES}
+use Rattle.oc_base.specs.Shelves.{line_of}
 
 -- How bytes spread among nodes that stand in no tree: what the rules of the model come to for a node whose control state
 -- is that of a new one. The proofs of `Lifts` tie each of these to the model's step.
@@ -45,8 +46,8 @@ unless (Some a) n o = says n a
 -- the limit that a group of this name would pass, if it grew to this length
 abbrev pub limit : List Group → List ℕ → ℕ → Option Answer
 limit ks g end =
-    if not (is_some (group_of g ks)) && nat_le most_groups (length ks) then Some answers.Groups
-    else if nat_lt most_bytes end then Some answers.TooLong
+    if not (is_some (group_of g ks)) && nat_le MAX_GROUPS (length ks) then Some answers.Groups
+    else if nat_lt MAX_GROUP_BYTES end then Some answers.TooLong
     else None
 
 -- a publish to this group, as it is held or empty
@@ -91,7 +92,7 @@ first_behind have (k ∷ ks) = if is_behind (line_of k.name have) k then Some k 
 -- the bytes of a group from a place on, as many as a chunk has; last where they end a sealed group
 abbrev pub chunk_at : Group → ℕ → Body
 chunk_at k start =
-    Chunk k.name start (take most_chunk (drop start k.bytes)) (k.sealed && start + length (take most_chunk (drop start k.bytes)) == length k.bytes)
+    Chunk k.name start (take MAX_CHUNK_BYTES (drop start k.bytes)) (k.sealed && start + length (take MAX_CHUNK_BYTES (drop start k.bytes)) == length k.bytes)
 
 abbrev pub answers_fetch : Node → ℕ → List Shelf → Option Group → Outcome
 answers_fetch n p have None = says n answers.Ok

@@ -1,9 +1,10 @@
 use Rattle.std.specs.Prelude.{◌≡◌, ℕ, ◌+◌, ◌<◌, ◌≤◌, List, [], ◌++◌, length}
 use Rattle.std.specs.List.{range_with_len, AllByRecursion}
-use Rattle.oc_model.specs.declared.group.Group.{Group}
+use Rattle.oc_base.specs.declared.group.Group.{Group}
 use Rattle.oc_model.specs.declared.message.Message.{Message}
 use Rattle.oc_model.specs.declared.word.Word.{Word}
-use Rattle.oc_model.specs.Groups.{most_groups, most_bytes, IsAscending}
+use Rattle.oc_base.specs.declared.limits.TheConstants.{MAX_GROUPS, MAX_GROUP_BYTES}
+use Rattle.oc_base.specs.Groups.{IsAscending}
 use Rattle.oc_model.specs.Node.{Header}
 use Rattle.oc_model.specs.World.{World, Process, ids}
 use Rattle.oc_world.specs.declared.stage.Said.{Said}
@@ -40,11 +41,11 @@ KeepsTime old new = (t : ℕ) → 1099511627776 ≤ t → AllByRecursion (IsBefo
 
 -- a group is no longer than the limit allows
 abbrev pub IsSmall : Group → Type 0
-IsSmall k = length k.bytes ≤ most_bytes
+IsSmall k = length k.bytes ≤ MAX_GROUP_BYTES
 
 -- its groups ascend by name, are at most 64, and each has at most 2^30 bytes
 abbrev pub IsWithinLimits : Process → Type 0
-IsWithinLimits p = IsAscending p.node.groups × (length p.node.groups ≤ most_groups) × AllByRecursion IsSmall p.node.groups
+IsWithinLimits p = IsAscending p.node.groups × (length p.node.groups ≤ MAX_GROUPS) × AllByRecursion IsSmall p.node.groups
 
 -- an event takes no node past the limits
 abbrev pub KeepsLimits : World → World → Type 0

@@ -1,45 +1,27 @@
 //! The groups of one node in memory: a list ascending by name.
 
-ghost use Rattle.std.specs.Prelude.{◌≡◌, ◌≢◌, ℕ, ◌+◌, ◌-◌, ◌≤◌, ◌==◌, ◌&&◌, true, if◌then◌else◌, [], ◌∷◌, ◌++◌, length, take, drop, insert, IfOk, OnOk, OnErr};
+ghost use Rattle.std.specs.Prelude.{◌≡◌, ◌≢◌, ℕ, ◌+◌, ◌-◌, ◌≤◌, nat_le, ◌==◌, ◌&&◌, true, if◌then◌else◌, [], ◌∷◌, ◌++◌, length, take, drop, insert, IfOk, OnOk, OnErr};
 ghost use Rattle.std.specs.Option.{option_copied, option_to_list};
-ghost use Rattle.oc_model.specs.Groups.{group_of, shelf, most_chunk, IsAscending};
+ghost use Rattle.oc_base.specs.Groups.{group_of, shelf, IsAscending};
+ghost use Rattle.oc_base.specs.declared.limits.TheConstants.{MAX_CHUNK_BYTES, MAX_GROUPS};
 ghost use Rattle.oc_world.specs.Spread.{published, sealed_at, fetched, took_chunk, is_behind, held_in, first_behind, chunk_at};
-ghost use Rattle.oc_model.specs.Shelves.{line_of};
-ghost use Rattle.oc_world.specs.Groups.{IsPlace, publish_one, chunk_one, idle_node, quiet, answered};
+ghost use Rattle.oc_base.specs.Shelves.{line_of};
+ghost use Rattle.oc_world.specs.Groups.{IsGroupPlace, publish_one, chunk_one, idle_node, quiet, answered};
 
-use oc_base::{Bytes, GroupName, Memory, NodeId, Shelf};
-use oc_model::{Answer, Body, Group, Message};
+use oc_base::{
+    Bytes, Group, GroupName, MAX_CHUNK_BYTES, MAX_GROUP_BYTES, MAX_GROUPS, Memory, NodeId, Place,
+    Shelf, place_of,
+};
+use oc_model::{Answer, Body, Message};
 use std::alloc::Global;
 use std::cmp::Ordering;
 
-/// The greatest number of groups of a node.
-const MOST_GROUPS: usize = 64;
-
-/// The greatest length of a group, in bytes.
-const MOST_BYTES: usize = 1 << 30;
-
-/// The greatest number of bytes of a chunk.
-const MOST_CHUNK: usize = 4096;
-
-/// Where a group stands in the list, or where it would stand.
-pub enum Place {
-    Found(usize),
-    Free(usize),
-}
-
-/// The place of a name.
-pub fn place_of(groups: &[Group], name: &GroupName) -> Place
+/// The index of a group, and what a group of that name does there.
+fn place_in(groups: &[Group], name: &GroupName) -> Place
     requires { IsAscending groups.now }
-    ensures { IsPlace groups.now name.now result }
+    ensures { IsGroupPlace groups.now name.now result }
 {
-    for (at, group) in groups.iter().enumerate() {
-        match name.cmp(&group.name) {
-            Ordering::Less => return Place::Free(at),
-            Ordering::Equal => return Place::Found(at),
-            Ordering::Greater => {}
-        }
-    }
-    Place::Free(groups.len())
+    place_of(groups, name)
 }
 
 /// Publishes at the source, which is node 1.
@@ -54,7 +36,7 @@ pub fn publish(
         published (idle_node 1 groups.old.items) name.now bytes.now ≡ quiet 1 groups.new.items answer) }
     ensures err { OnErr result (groups.new.items ≡ groups.old.items) }
 {
-    match place_of(groups, name) {
+    match place_in(groups, name) {
         Place::Found(at) => publish_onto(&mut groups[at], bytes),
         Place::Free(at) => publish_new(alloc, groups, at, name, bytes),
     }
@@ -69,7 +51,7 @@ fn publish_onto(group: &mut Group, bytes: &[u8]) -> Result<Answer, Memory>
         return Ok(Answer::Sealed);
     }
     let held = group.bytes.items().len();
-    if bytes.len() > MOST_BYTES || held > MOST_BYTES - bytes.len() {
+    if bytes.len() > MAX_GROUP_BYTES as usize || held > MAX_GROUP_BYTES as usize - bytes.len() {
         return Ok(Answer::TooLong);
     }
     group.bytes.append(bytes)?;
@@ -84,22 +66,29 @@ fn publish_new(
     name: &GroupName,
     bytes: &[u8],
 ) -> Result<Answer, Memory>
-    requires { IsPlace groups.old.items name.now (Place.Free at) }
+    requires { IsGroupPlace groups.old.items name.now (Place.Free at) }
     ensures ok { IfOk result (λ answer.
         published (idle_node 1 groups.old.items) name.now bytes.now ≡ quiet 1 groups.new.items answer) }
     ensures err { OnErr result (groups.new.items ≡ groups.old.items) }
 {
-    if groups.len() >= MOST_GROUPS {
+    if is_full(groups) {
         return Ok(Answer::Groups);
     }
-    if bytes.len() > MOST_BYTES {
+    if bytes.len() > MAX_GROUP_BYTES as usize {
         return Ok(Answer::TooLong);
     }
     insert_new(alloc, groups, at, name, bytes, false)?;
     Ok(Answer::Ok)
 }
 
-/// Puts a new group at its place.
+/// Whether a node holds as many groups as it may.
+fn is_full(groups: &[Group]) -> bool
+    ensures { result ≡ nat_le MAX_GROUPS (length groups.now) }
+{
+    groups.len() >= MAX_GROUPS
+}
+
+/// Puts a new group at its index.
 fn insert_new(
     alloc: Global,
     groups: &mut Vec<Group>,
@@ -130,7 +119,7 @@ pub fn seal(groups: &mut Vec<Group>, name: &GroupName) -> Answer
     requires { IsAscending groups.old.items }
     ensures { sealed_at (idle_node 1 groups.old.items) name.now ≡ quiet 1 groups.new.items result }
 {
-    match place_of(groups, name) {
+    match place_in(groups, name) {
         Place::Found(at) => seal_one(&mut groups[at]),
         Place::Free(_) => Answer::NoGroup,
     }
@@ -161,7 +150,7 @@ pub fn take_chunk(
         took_chunk (idle_node x groups.old.items) from name.now start bytes.now last ≡ quiet x groups.new.items answer) }
     ensures err { OnErr result (groups.new.items ≡ groups.old.items) }
 {
-    match place_of(groups, name) {
+    match place_in(groups, name) {
         Place::Found(at) => chunk_onto(&mut groups[at], start, bytes, last),
         Place::Free(at) => chunk_new(alloc, groups, at, name, start, bytes, last),
     }
@@ -180,7 +169,7 @@ fn chunk_onto(group: &mut Group, start: u64, bytes: &[u8], last: bool) -> Result
     if group.sealed && length > held - start {
         return Ok(Answer::Sealed);
     }
-    if length > MOST_BYTES as u64 || start > MOST_BYTES as u64 - length {
+    if length > MAX_GROUP_BYTES || start > MAX_GROUP_BYTES - length {
         return Ok(Answer::TooLong);
     }
     let end = start + length;
@@ -218,7 +207,7 @@ fn chunk_new(
     bytes: &[u8],
     last: bool,
 ) -> Result<Answer, Memory>
-    requires { IsPlace groups.old.items name.now (Place.Free at) }
+    requires { IsGroupPlace groups.old.items name.now (Place.Free at) }
     ensures ok { IfOk result (λ answer. (x from : ℕ) → x ≢ 1 →
         took_chunk (idle_node x groups.old.items) from name.now start bytes.now last ≡ quiet x groups.new.items answer) }
     ensures err { OnErr result (groups.new.items ≡ groups.old.items) }
@@ -226,10 +215,10 @@ fn chunk_new(
     if start > 0 {
         return Ok(Answer::Gap);
     }
-    if groups.len() >= MOST_GROUPS {
+    if is_full(groups) {
         return Ok(Answer::Groups);
     }
-    if bytes.len() > MOST_BYTES {
+    if bytes.len() > MAX_GROUP_BYTES as usize {
         return Ok(Answer::TooLong);
     }
     insert_new(alloc, groups, at, name, bytes, last)?;
@@ -281,11 +270,11 @@ fn chunk_from(alloc: Global, group: &Group, start: u64) -> Result<Body, Memory>
 /// As many bytes from a place on as a chunk has.
 fn piece_from(bytes: &[u8], start: usize) -> &[u8]
     requires { start ≤ length bytes.now }
-    ensures piece { result.now ≡ take most_chunk (drop start bytes.now) }
+    ensures piece { result.now ≡ take MAX_CHUNK_BYTES (drop start bytes.now) }
     ensures within { start + length result.now ≤ length bytes.now }
 {
     let rest = &bytes[start..];
-    &rest[..rest.len().min(MOST_CHUNK)]
+    &rest[..rest.len().min(MAX_CHUNK_BYTES)]
 }
 
 /// Whether so many bytes from a place on end a sealed group.

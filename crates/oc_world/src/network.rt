@@ -2,8 +2,9 @@ ghost use Rattle.std.specs.Prelude.{◌≡◌, ℕ, ◌+◌, ◌<◌, ◌≤◌,
 ghost use Rattle.oc_model.specs.declared.event.Event.TheVariants.{Up, Do};
 ghost use Rattle.oc_model.specs.declared.event.Act.TheVariants.{Publish, Seal, Pull, Deliver};
 ghost use Rattle.oc_model.specs.declared.message.Message.{Message as ModelMessage};
-ghost use Rattle.oc_model.specs.Groups.{shelf};
-ghost use Rattle.oc_model.specs.Lawful.{IsNode, IsHeader};
+ghost use Rattle.oc_base.specs.Groups.{shelf};
+ghost use Rattle.oc_model.specs.Lawful.{IsHeader};
+ghost use Rattle.oc_base.specs.Lawful.{IsNode};
 ghost use Rattle.oc_model.specs.Playable.{IsPlayableAct, IsPlayable};
 ghost use Rattle.oc_world.specs.SpreadWorld.{down, ids, process_in, node as node_in, next_world, word_of};
 ghost use Rattle.oc_model.specs.World.{message_at, new_world};

@@ -2,15 +2,14 @@
 
 ghost use Rattle.std.specs.Prelude.{◌≡◌, ◌==◌, ℕ, true, [], ◌∷◌, IfOk, OnErr};
 ghost use Rattle.std.specs.Option.{option_to_list};
-ghost use Rattle.oc_model.specs.Groups.{shelf};
-ghost use Rattle.oc_world.specs.Spread.{published, sealed_at, pulled, fetched, took_chunk};
-ghost use Rattle.oc_world.specs.Spread.{received};
+ghost use Rattle.oc_base.specs.Groups.{shelf};
+ghost use Rattle.oc_world.specs.Spread.{published, sealed_at, pulled, fetched, took_chunk, received};
 ghost use Rattle.oc_world.specs.SpreadWorld.{down};
 ghost use Rattle.oc_world.specs.Groups.{pull_answer};
 
 use crate::groups;
-use oc_base::{GroupName, Memory, NodeId, Shelf, ShelfList};
-use oc_model::{Answer, Body, Group, Message};
+use oc_base::{Group, GroupName, Memory, NodeId, Shelf, ShelfList};
+use oc_model::{Answer, Body, Message};
 use std::alloc::Global;
 use std::marker::Model;
 
@@ -24,7 +23,7 @@ pub struct Process {
 
 impl Model for Process {
     ghost use Rattle.oc_world.specs.SpreadWorld.{Process as ProcessState};
-    ghost use Rattle.oc_model.specs.Groups.{IsAscending};
+    ghost use Rattle.oc_base.specs.Groups.{IsAscending};
     ghost use Rattle.oc_world.specs.Groups.{idle_node};
 
     ghost Value = { ProcessState };

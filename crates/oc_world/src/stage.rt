@@ -2,8 +2,9 @@ ghost use Rattle.std.specs.Prelude.{◌≡◌, ℕ, ◌<◌, List, [], length, O
 ghost use Rattle.std.specs.List.{range_with_len};
 ghost use Rattle.oc_model.specs.declared.event.Event.{Event as ModelEvent};
 ghost use Rattle.oc_model.specs.declared.word.Word.{Word as ModelWord};
-ghost use Rattle.oc_model.specs.Groups.{shelf};
-ghost use Rattle.oc_model.specs.Lawful.{IsHeader, IsNode};
+ghost use Rattle.oc_base.specs.Groups.{shelf};
+ghost use Rattle.oc_model.specs.Lawful.{IsHeader};
+ghost use Rattle.oc_base.specs.Lawful.{IsNode};
 ghost use Rattle.oc_model.specs.Playable.{IsPlayable};
 ghost use Rattle.oc_model.specs.Node.{Header};
 ghost use Rattle.oc_model.specs.World.{World as WorldState, ids, node as node_in, message_at};

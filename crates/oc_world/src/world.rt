@@ -1,6 +1,7 @@
 ghost use Rattle.std.specs.Prelude.{◌≡◌, ℕ, [], length, IfOk, OnOk, OnErr};
-ghost use Rattle.oc_model.specs.Groups.{shelf};
-ghost use Rattle.oc_model.specs.Lawful.{IsNode, IsHeader};
+ghost use Rattle.oc_base.specs.Groups.{shelf};
+ghost use Rattle.oc_model.specs.Lawful.{IsHeader};
+ghost use Rattle.oc_base.specs.Lawful.{IsNode};
 ghost use Rattle.oc_model.specs.Playable.{IsPlayable};
 ghost use Rattle.oc_model.specs.NextWorld.{next_world, word_of};
 ghost use Rattle.oc_model.specs.World.{ids, node as node_in, message_at, new_world};

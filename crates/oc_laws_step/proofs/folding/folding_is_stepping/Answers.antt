@@ -1,5 +1,5 @@
 use Rattle.std.proofs.Common.{◌∙◌, ap}
-use Rattle.oc_model.specs.Groups.{shelf}
+use Rattle.oc_base.specs.Groups.{shelf}
 use Rattle.oc_model.specs.Records.{folded}
 use Rattle.oc_model.specs.Step.{piece_of, kept_at, plan}
 use Rattle.oc_laws_step.proofs.Steps.{writes}

@@ -1,4 +1,4 @@
-use Rattle.oc_model.specs.Groups.{shelf}
+use Rattle.oc_base.specs.Groups.{shelf}
 use Rattle.oc_laws_step.proofs.Soundness.{sound_new, sound_planned, sound_restarted, sound_started}
 use Rattle.oc_laws_step.proofs.reached.reached_nodes_are_sound.Goals as goal
 

@@ -1,5 +1,5 @@
 use Rattle.std.proofs.Common.{◌≡◌, drop}
-use Rattle.oc_model.specs.Shelves.{line_of}
+use Rattle.oc_base.specs.Shelves.{line_of}
 use Rattle.oc_world.proofs.groups.line_in.Given as goal
 
 -- no line so far is the one that is looked for

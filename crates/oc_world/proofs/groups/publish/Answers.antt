@@ -1,18 +1,17 @@
-use Rattle.oc_model.specs.declared.group.Group.{Group}
-use Rattle.std.proofs.Common.{◌∙◌}
+use Rattle.oc_base.specs.declared.group.Group.{Group}
+use Rattle.std.proofs.Common.{◌∙◌, subst, List}
 use Rattle.std.proofs.lemmas.Result.{IfOk-weaker}
 use Rattle.oc_world.proofs.Places.{read_at}
 use Rattle.oc_world.proofs.Rules.{publish_found, in_list}
-use Rattle.std.proofs.Common.{subst, List}
-use Rattle.oc_world.specs.Groups.{IsPlace}
-use Rattle.oc_world.specs.declared.groups.Place.TheVariants.{Found}
+use Rattle.oc_world.specs.Groups.{IsGroupPlace}
+use Rattle.oc_base.specs.declared.place.Place.TheVariants.{Found}
 use Rattle.oc_world.proofs.groups.publish.Goals as goal
 
 pub returns-in-Found-clause-ok : goal.returns-in-Found-clause-ok
 returns-in-Found-clause-ok c =
     let ks = c.args.groups.now.items in
     let k = c.index_mut.result.now in
-    let there = subst (λ (l : List Group). IsPlace l c.args.name.now (Found c.in-Found.at)) c.deref.ensures.value c.in-Found.ensures in
+    let there = subst (λ (l : List Group). IsGroupPlace l c.args.name.now (Found c.in-Found.at)) c.deref.ensures.value c.in-Found.ensures in
     IfOk-weaker c.publish_onto.result _ _ (λ a h.
     publish_found ks c.args.name.now c.in-Found.at k c.args.bytes.now there (read_at ks c.in-Found.at k there.0 c.index_mut.ensures.value)
     ∙ in_list 1 ks c.in-Found.at c.publish_onto.new.group a _ h) c.publish_onto.ensures.ok

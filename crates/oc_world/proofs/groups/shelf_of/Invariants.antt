@@ -1,5 +1,5 @@
 use Rattle.std.proofs.Common.{◌≡◌, ◌++◌, drop}
-use Rattle.oc_model.specs.Groups.{shelf}
+use Rattle.oc_base.specs.Groups.{shelf}
 use Rattle.oc_world.proofs.groups.shelf_of.Given as goal
 
 -- the lines so far and those of the groups to come are all

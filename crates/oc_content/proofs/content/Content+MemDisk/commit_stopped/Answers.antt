@@ -3,7 +3,7 @@ use Rattle.oc_outside.specs.MemDiskView.{MemDiskView, view_of}
 use Rattle.oc_journal.specs.JournalFile.{frames_of}
 use Rattle.oc_journal.specs.Stopped.{frames_after}
 use Rattle.oc_base.specs.declared.shelf.Shelf.{Shelf}
-use Rattle.oc_content.specs.Groups.{line_of}
+use Rattle.oc_base.specs.Shelves.{line_of}
 use Rattle.oc_content.specs.ContentFile.{fits, content_of, groups_in, groups_after}
 use Rattle.oc_content.specs.ContentView.{ContentView}
 use Rattle.oc_content.proofs.Views.{content_next, content_stopped, good_frames, groups_are}

@@ -1,5 +1,5 @@
 use Rattle.std.proofs.Common.{IsTrue, IfSome, IfNone, subst}
-use Rattle.oc_content.specs.Groups.{IsHeldAt}
+use Rattle.oc_base.specs.Shelves.{IsHeldAt}
 use Rattle.oc_content.specs.Founds.{IsSpot}
 use Rattle.oc_content.specs.ContentView.{ContentView}
 use Rattle.oc_content.proofs.Views.{IsIndexed-sized, spot_none, spot_some}

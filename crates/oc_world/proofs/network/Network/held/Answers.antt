@@ -1,7 +1,7 @@
 use Rattle.std.proofs.Common.{◌≤◌, ◌∙◌, sym, ap, subst, length, arith}
 use Rattle.std.proofs.lemmas.List.{length-map}
 use Rattle.std.proofs.lemmas.Result.{IfOk-weaker}
-use Rattle.oc_model.specs.Groups.{shelf}
+use Rattle.oc_base.specs.Groups.{shelf}
 use Rattle.oc_world.specs.SpreadWorld.{World, Process, ids}
 use Rattle.oc_world.proofs.Turns.{read_process}
 use Rattle.oc_world.proofs.network.Network.held.Goals as goal

@@ -1,6 +1,6 @@
 use Rattle.std.proofs.Common.{◌∙◌, sym, ap}
 use Rattle.std.proofs.lemmas.Result.{IfOk-weaker}
-use Rattle.oc_model.specs.Groups.{shelf}
+use Rattle.oc_base.specs.Groups.{shelf}
 use Rattle.oc_model.specs.Node.{Header}
 use Rattle.oc_world.proofs.LiftedWorlds.{groups_is}
 use Rattle.oc_world.proofs.world.World.held.Goals as goal

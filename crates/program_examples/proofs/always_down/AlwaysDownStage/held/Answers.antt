@@ -1,6 +1,6 @@
 use Rattle.std.proofs.Common.{◌∙◌, sym, ap}
 use Rattle.std.specs.List.{range_with_len}
-use Rattle.oc_model.specs.Groups.{shelf}
+use Rattle.oc_base.specs.Groups.{shelf}
 use Rattle.program_examples.proofs.New.{holds_nothing}
 use Rattle.program_examples.proofs.always_down.AlwaysDownStage.held.Goals as goal
 

@@ -1,0 +1,53 @@
+-- Values within their ranges: ids, rates, ranks, certificates, ancestors and children.
+use Rattle.std.specs.Prelude.{ℕ, ◌≤◌, ◌<◌, Option, Some, None, List, [], ◌∷◌, length}
+use Rattle.std.specs.List.{AllByRecursion}
+use Rattle.oc_base.specs.declared.cert.Cert.{Cert}
+use Rattle.oc_base.specs.declared.cert.Child.{Child}
+use Rattle.oc_base.specs.declared.limits.TheConstants.{MAX_DEPTH, MAX_ANCESTORS, MAX_RATE}
+use Rattle.oc_base.specs.declared.rank.Rank.{Rank}
+use Rattle.oc_base.specs.declared.refusal.Refusal.{Refusal}
+use Rattle.oc_base.specs.declared.refusal.Refusal.TheVariants as refusals
+
+-- the id of one of so many nodes
+abbrev pub IsNode : ℕ → ℕ → Type 0
+IsNode nodes x = (1 ≤ x) × (x ≤ nodes)
+
+abbrev pub AreNodes : ℕ → List ℕ → Type 0
+AreNodes nodes xs = AllByRecursion (IsNode nodes) xs
+
+abbrev pub IsNodeOrNone : ℕ → Option ℕ → Type 0
+IsNodeOrNone nodes None = Unit {0}
+IsNodeOrNone nodes (Some x) = IsNode nodes x
+
+-- bytes per second
+abbrev pub IsRate : ℕ → Type 0
+IsRate r = r ≤ MAX_RATE
+
+abbrev pub IsRank : Rank → Type 0
+IsRank r = r.depth ≤ MAX_DEPTH
+
+abbrev pub IsRankOrNone : Option Rank → Type 0
+IsRankOrNone None = Unit {0}
+IsRankOrNone (Some r) = IsRank r
+
+-- a certificate of nodes, of an ask that was counted
+pub record IsCert (nodes : ℕ) (c : Cert) : Type 0 where
+  pub subject : IsNode nodes c.subject
+  pub seq : 1 ≤ c.seq
+  pub parent : IsNode nodes c.parent
+
+abbrev pub AreCerts : ℕ → List Cert → Type 0
+AreCerts nodes cs = AllByRecursion (IsCert nodes) cs
+
+abbrev pub AreAncestors : ℕ → List ℕ → Type 0
+AreAncestors nodes xs = AreNodes nodes xs × (length xs ≤ MAX_ANCESTORS)
+
+-- a refusal that names a node at most
+abbrev pub IsRefusal : ℕ → Refusal → Type 0
+IsRefusal nodes (refusals.Chain k) = IsNode nodes k
+IsRefusal nodes why = Unit {0}
+
+-- children with their rates, each of a greater id than those before
+abbrev pub AreChildren : ℕ → List Child → Type 0
+AreChildren nodes [] = Unit {0}
+AreChildren nodes (c ∷ cs) = IsNode nodes c.id × IsRate c.rate × AllByRecursion (λ d. c.id < d.id) cs × AreChildren nodes cs

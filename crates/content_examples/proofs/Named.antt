@@ -1,5 +1,5 @@
 -- A name that was parsed is a group name.
-use Rattle.std.proofs.Common.{◌≡◌, ℕ, Result, Ok, Err, Option, Some, None, List, subst}
+use Rattle.std.proofs.Common.{◌≡◌, ℕ, Ok, Option, Some, None, List, subst}
 use Rattle.oc_base.specs.declared.group_name.NameFault.{NameFault}
 use Rattle.oc_base.specs.Names.{IsGroupName, name_fault, name_or}
 

@@ -3,3 +3,5 @@ pub mod Pads
 pub mod Differing
 pub mod NameOrder
 pub mod Finding
+pub mod LineCuts
+pub mod Numerals

@@ -9,3 +9,5 @@ pub mod Padding
 pub mod Why
 pub mod Fields
 pub mod Codes
+pub mod Steps
+pub mod Words

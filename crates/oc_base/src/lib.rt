@@ -6,7 +6,8 @@
 //! one *is* a value of the model. A [`NodeId`] is seen as its number, a [`GroupName`] as its bytes.
 //!
 //! The contracts used above: `GroupName::parse` accepts exactly the names with `IsGroupName`, and its
-//! refusals are `name_fault`; `of` and `items` of each list type are that list.
+//! refusals are `name_fault`; `of` and `items` of each list type are that list. What [`words`] reads
+//! of a line is `words` of it, and a number is `number_in`, with the first cause where it is refused.
 #![tactic(auto)]
 
 mod cert;
@@ -24,6 +25,7 @@ mod rank;
 mod refusal;
 mod shelf;
 mod why;
+pub mod words;
 
 pub use cert::{Cert, Child, Line};
 pub use code_row::{CodeRow, distinct, row_of};

@@ -13,7 +13,7 @@ use Rattle.oc_schedule.proofs.Steps.{steps, chosen, behind_guard}
 use Rattle.oc_schedule.specs.declared.fault.ScheduleFault.TheVariants.{Limit}
 use Rattle.oc_schedule.specs.declared.fault.ScheduleFault.{ScheduleFault}
 use Rattle.oc_schedule.specs.declared.fault.What.TheVariants as limits
-use Rattle.oc_schedule.specs.Fields.{words}
+use Rattle.oc_base.specs.Words.{words}
 use Rattle.oc_base.specs.declared.limits.TheConstants.{MAX_SCHEDULE_LINES, MAX_SCHEDULE_PUBLISHED}
 use Rattle.oc_schedule.specs.Lines.{header_in, area_in, event_in}
 use Rattle.oc_schedule.specs.Reading.{Gives, at_line}

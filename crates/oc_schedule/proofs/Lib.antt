@@ -1,5 +1,3 @@
-pub mod Cuts
-pub mod Numbers
 pub mod Steps
 pub mod Ranges
 pub mod Lawful

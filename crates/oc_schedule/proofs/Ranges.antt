@@ -16,11 +16,12 @@ use Rattle.oc_base.specs.Lawful.{IsNode}
 use Rattle.oc_model.specs.Playable.{IsPlayableAct, IsPlayable}
 use Rattle.oc_model.specs.Node.{Header}
 use Rattle.oc_schedule.proofs.Steps.{steps, chosen, behind_guard, within_guard}
-use Rattle.oc_schedule.specs.Fields.{one, two, three, six, is_number, number_in, node_in, group_in, bytes_in}
+use Rattle.oc_base.specs.Words.{one, two, three, six, is_number, number_in, node_in}
+use Rattle.oc_schedule.specs.Fields.{group_in, bytes_in}
 use Rattle.oc_base.specs.declared.limits.TheConstants.{MAX_NODES, MAX_CHAIN, MAX_AREA}
 use Rattle.oc_model.specs.Numbers.{number_end}
 use Rattle.oc_schedule.specs.Lines.{sizes_in, opening_in, header_in, area_in, pull_in, publish_in, seal_in, deliver_in, act_in, up_in, held_in, act_alone_in, event_in}
-use Rattle.oc_schedule.specs.Reading.{with_fault}
+use Rattle.oc_base.specs.Steps.{with_fault}
 use Rattle.oc_schedule.specs.Script.{published_by}
 
 -- What is read is within its range.

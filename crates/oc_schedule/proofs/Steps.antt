@@ -1,5 +1,5 @@
 use Rattle.std.proofs.Common.{◌≡◌, Bool, true, false, cond, ◌⊎◌, inl, inr, Result, Ok, Err, refl}
-use Rattle.oc_schedule.specs.Reading.{◌>>=◌}
+use Rattle.oc_base.specs.Steps.{◌>>=◌}
 
 -- What an `Ok` behind some steps shows.
 

@@ -7,10 +7,11 @@ use Rattle.oc_model.specs.declared.event.Act.TheVariants.{Pull, Publish, Seal, D
 use Rattle.oc_model.specs.declared.event.Event.{Event}
 use Rattle.oc_model.specs.declared.event.Event.TheVariants.{Up, Do, Held}
 use Rattle.oc_model.specs.Node.{Header}
-use Rattle.oc_schedule.specs.Fields.{one, two, three, six, number_in, node_in, group_in, bytes_in}
+use Rattle.oc_base.specs.Words.{one, two, three, six, number_in, node_in}
+use Rattle.oc_schedule.specs.Fields.{group_in, bytes_in}
 use Rattle.oc_base.specs.declared.limits.TheConstants.{MAX_NODES, MAX_CHAIN, MAX_AREA}
 use Rattle.oc_model.specs.Numbers.{number_end}
-use Rattle.oc_schedule.specs.Reading.{◌>>=◌, with_fault}
+use Rattle.oc_base.specs.Steps.{◌>>=◌, with_fault}
 
 -- What a line says, by its words: one definition for each kind of line, and a row for it in `act_in` or `event_in`.
 

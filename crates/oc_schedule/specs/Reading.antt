@@ -7,17 +7,6 @@ use Rattle.oc_base.specs.declared.why.Why.{Why}
 
 -- How reading is said: a function on lists gives a value or the first fault, and a call gives what it gives.
 
--- the `?` of the definitions: the second step, if the first gave a value
-infixl 10 ◌>>=◌
-abbrev pub ◌>>=◌ : {A B E : Type 0} → Result A E → (A → Result B E) → Result B E
-Ok x >>= f = f x
-Err e >>= f = Err e
-
--- this fault in the place of each
-abbrev pub with_fault : {A E F : Type 0} → F → Result A E → Result A F
-with_fault fault (Ok x) = Ok x
-with_fault fault (Err e) = Err fault
-
 -- a cause, at this line
 abbrev pub at_line : {A : Type 0} → ℕ → Result A Why → Result A ScheduleFault
 at_line i (Ok x) = Ok x
@@ -46,8 +35,3 @@ GivesLineBy view (Err lines.Memory) read = Unit {0}
 
 abbrev pub GivesLine : {A : Type 0} → Result A LineFault → Result A Why → Type 0
 GivesLine = GivesLineBy (λ x. x)
-
--- and of fields, seen by view, which take no memory
-abbrev pub GivesFields : {X A : Type 0} → (X → A) → Result X Why → Result A Why → Type 0
-GivesFields view (Ok x) read = read ≡ Ok (view x)
-GivesFields view (Err why) read = read ≡ Err why

@@ -10,10 +10,11 @@ use Rattle.oc_model.specs.Playable.{IsPlayable}
 use Rattle.oc_schedule.specs.declared.fault.ScheduleFault.{ScheduleFault}
 use Rattle.oc_schedule.specs.declared.fault.ScheduleFault.TheVariants.{Line, Limit}
 use Rattle.oc_schedule.specs.declared.fault.What.TheVariants as limits
-use Rattle.oc_schedule.specs.Fields.{words}
+use Rattle.oc_base.specs.Words.{words}
 use Rattle.oc_base.specs.declared.limits.TheConstants.{MAX_SCHEDULE_BYTES, MAX_SCHEDULE_LINES, MAX_SCHEDULE_PUBLISHED}
 use Rattle.oc_schedule.specs.Lines.{header_in, area_in, event_in}
-use Rattle.oc_schedule.specs.Reading.{◌>>=◌, at_line}
+use Rattle.oc_base.specs.Steps.{◌>>=◌}
+use Rattle.oc_schedule.specs.Reading.{at_line}
 use Rattle.oc_schedule.specs.Script.{Script, published_in}
 
 -- What a text says as a schedule: its lines, one after another.

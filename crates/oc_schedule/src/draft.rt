@@ -1,6 +1,6 @@
 ghost use Rattle.std.specs.Prelude.{◌≡◌, ◌≤◌, length, Some};
 ghost use Rattle.oc_base.specs.Lawful.{IsNode};
-ghost use Rattle.oc_schedule.specs.Fields.{words};
+ghost use Rattle.oc_base.specs.Words.{words};
 ghost use Rattle.oc_base.specs.declared.limits.TheConstants.{MAX_SCHEDULE_PUBLISHED};
 ghost use Rattle.oc_schedule.specs.Reading.{GivesBy, GivesLineBy};
 ghost use Rattle.oc_schedule.specs.Schedule.{first_script, read_statement, with_area, with_event, within_published};
@@ -9,7 +9,7 @@ ghost use Rattle.oc_schedule.specs.Script.{published_by, published_in};
 use crate::Schedule;
 use crate::fault::{LineFault, ScheduleFault, What};
 use crate::lines::{area, event, opening};
-use crate::words::is;
+use oc_base::words::is;
 use oc_base::{MAX_SCHEDULE_PUBLISHED, NodeId, Why};
 use oc_model::{Act, Event};
 use std::alloc::Global;

@@ -1,12 +1,13 @@
 ghost use Rattle.std.specs.Prelude.{◌≡◌, IfOk};
-ghost use Rattle.oc_schedule.specs.Fields.{words};
+ghost use Rattle.oc_base.specs.Words.{words};
 ghost use Rattle.oc_base.specs.Lawful.{IsNode};
 ghost use Rattle.oc_schedule.specs.Lines.{sizes_in, opening_in, area_in, pull_in, publish_in, seal_in, deliver_in, act_in, up_in, held_in, act_alone_in, event_in};
-ghost use Rattle.oc_schedule.specs.Reading.{GivesLine, GivesFields};
+ghost use Rattle.oc_base.specs.Words.{GivesFields};
+ghost use Rattle.oc_schedule.specs.Reading.{GivesLine};
 
 use crate::fault::LineFault;
-use crate::fields::{bytes, group, node, number};
-use crate::words::{is, one_field, six_fields, three_fields, two_fields};
+use crate::fields::{bytes, group};
+use oc_base::words::{is, node, number, one_field, six_fields, three_fields, two_fields};
 use oc_base::{MAX_AREA, MAX_CHAIN, MAX_NODES, NodeId, Why};
 use oc_model::{Act, Event};
 use std::alloc::Global;

@@ -8,7 +8,7 @@ ghost use Rattle.oc_schedule.specs.Schedule.{IsSchedule, read_line, read_lines, 
 use crate::Schedule;
 use crate::draft::Draft;
 use crate::fault::{ScheduleFault, What};
-use crate::words::{first_line, first_word};
+use oc_base::words::{first_line, first_word};
 use oc_base::{MAX_SCHEDULE_BYTES, MAX_SCHEDULE_LINES, Why};
 use std::alloc::Global;
 

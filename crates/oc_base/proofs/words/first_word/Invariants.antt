@@ -1,6 +1,6 @@
 use Rattle.std.proofs.Common.{◌≡◌, length}
-use Rattle.oc_schedule.specs.Fields.{words}
-use Rattle.oc_schedule.proofs.words.first_word.Given as goal
+use Rattle.oc_base.specs.Words.{words}
+use Rattle.oc_base.proofs.words.first_word.Given as goal
 
 abbrev pub invariant-spaces : goal.invariant-spaces
 invariant-spaces l = words l.rest ≡ words l.line

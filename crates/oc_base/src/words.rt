@@ -1,14 +1,22 @@
-ghost use Rattle.std.specs.Prelude.{◌≡◌, ◌<◌, ◌==◌, [], ◌∷◌, length, IfNone, IfSome, IfOk, IfErr, OnOk};
+//! The lines of a text, the words of a line, and what one word spells.
+//!
+//! Words stand between runs of spaces. A field is spelled as a number where it is decimal digits,
+//! the first of which is no zero unless it is the only one.
+ghost use Rattle.std.specs.Prelude.{◌≡◌, ◌^◌, ◌<◌, ◌≤◌, ◌==◌, [], ◌∷◌, length, IsTrue, IfNone, IfSome, IfOk, IfErr, OnOk};
+ghost use Rattle.std.specs.Char.{is_ascii_digit};
+ghost use Rattle.std.specs.Option.{SomeIff};
+ghost use Rattle.std.specs.List.{list_all};
 ghost use Rattle.std.specs.Str.{bytes_eq};
 ghost use Rattle.std.specs.Str.Lines.{lines, strip_carriage_return};
-ghost use Rattle.oc_schedule.specs.Fields.{words, one, two, three, six, IsMore};
-ghost use Rattle.oc_schedule.specs.Reading.{GivesFields};
+ghost use Rattle.std.specs.Str.Parse.{digits_value};
+ghost use Rattle.oc_base.specs.Words.{words, one, two, three, four, six, IsMore, GivesFields, is_number, number_in, node_in};
 ghost use Rattle.oc_base.specs.declared.why.Why.TheVariants.{Count};
 
-use oc_base::{Why, cut};
+use crate::{NodeId, Why, cut};
+use std::str;
 
 /// The first line of bytes that are not empty, and what is behind it.
-pub(crate) fn first_line(bytes: &[u8]) -> (&[u8], &[u8])
+pub fn first_line(bytes: &[u8]) -> (&[u8], &[u8])
     requires { 0 < length bytes.now }
     ensures first { lines bytes.now ≡ result.0.now ∷ lines result.1.now }
     ensures shorter { length result.1.now < length bytes.now }
@@ -30,7 +38,7 @@ fn without_return(line: &[u8]) -> &[u8]
 }
 
 /// The first word of a line, and what is behind it.
-pub(crate) fn first_word(line: &[u8]) -> Option<(&[u8], &[u8])>
+pub fn first_word(line: &[u8]) -> Option<(&[u8], &[u8])>
     ensures none { IfNone result (words line.now ≡ []) }
     ensures first { IfSome result (λ found. words line.now ≡ found.0.now ∷ words found.1.now) }
 {
@@ -46,14 +54,14 @@ pub(crate) fn first_word(line: &[u8]) -> Option<(&[u8], &[u8])>
 }
 
 /// Whether a word is this one.
-pub(crate) fn is(word: &[u8], text: &str) -> bool
+pub fn is(word: &[u8], text: &str) -> bool
     ensures { result ≡ bytes_eq word.now text.now }
 {
     word == text.as_bytes()
 }
 
 /// The field, where there is one.
-pub(crate) fn one_field(line: &[u8]) -> Result<&[u8], Why>
+pub fn one_field(line: &[u8]) -> Result<&[u8], Why>
     ensures { GivesFields (λ a. a.now) result (one (words line.now)) }
 {
     let (a, rest) = field(line)?;
@@ -62,7 +70,7 @@ pub(crate) fn one_field(line: &[u8]) -> Result<&[u8], Why>
 }
 
 /// The fields, where there are two.
-pub(crate) fn two_fields(line: &[u8]) -> Result<(&[u8], &[u8]), Why>
+pub fn two_fields(line: &[u8]) -> Result<(&[u8], &[u8]), Why>
     ensures { GivesFields (λ f. (f.0.now, f.1.now)) result (two (words line.now)) }
 {
     let (a, rest) = field(line)?;
@@ -72,7 +80,7 @@ pub(crate) fn two_fields(line: &[u8]) -> Result<(&[u8], &[u8]), Why>
 }
 
 /// The fields, where there are three.
-pub(crate) fn three_fields(line: &[u8]) -> Result<(&[u8], &[u8], &[u8]), Why>
+pub fn three_fields(line: &[u8]) -> Result<(&[u8], &[u8], &[u8]), Why>
     ensures { GivesFields (λ f. (f.0.now, f.1.now, f.2.now)) result (three (words line.now)) }
 {
     let (a, rest) = field(line)?;
@@ -82,11 +90,23 @@ pub(crate) fn three_fields(line: &[u8]) -> Result<(&[u8], &[u8], &[u8]), Why>
     Ok((a, b, c))
 }
 
+/// The fields, where there are four.
+pub fn four_fields(line: &[u8]) -> Result<(&[u8], &[u8], &[u8], &[u8]), Why>
+    ensures { GivesFields (λ f. (f.0.now, f.1.now, f.2.now, f.3.now)) result (four (words line.now)) }
+{
+    let (a, rest) = field(line)?;
+    let (b, rest) = field(rest)?;
+    let (c, rest) = field(rest)?;
+    let (d, rest) = field(rest)?;
+    end(rest)?;
+    Ok((a, b, c, d))
+}
+
 /// Six fields of a line.
-type Six<'a> = (&'a [u8], &'a [u8], &'a [u8], &'a [u8], &'a [u8], &'a [u8]);
+pub type Six<'a> = (&'a [u8], &'a [u8], &'a [u8], &'a [u8], &'a [u8], &'a [u8]);
 
 /// The fields, where there are six.
-pub(crate) fn six_fields(line: &[u8]) -> Result<Six<'_>, Why>
+pub fn six_fields(line: &[u8]) -> Result<Six<'_>, Why>
     ensures { GivesFields (λ f. (f.0.now, f.1.now, f.2.now, f.3.now, f.4.now, f.5.now)) result (six (words line.now)) }
 {
     let (a, rest) = field(line)?;
@@ -118,5 +138,53 @@ fn end(line: &[u8]) -> Result<(), Why>
     match first_word(line) {
         None => Ok(()),
         Some(_) => Err(Why::Count),
+    }
+}
+
+/// The number that a field spells, from least to most. `Number` where it spells none, `Range` where
+/// the number is outside.
+pub fn number(field: &[u8], least: u64, most: u64) -> Result<u64, Why>
+    ensures said { result ≡ number_in least most field.now }
+    ensures range { IfOk result (λ number. (least ≤ number) × (number ≤ most)) }
+{
+    if !is_spelled(field) {
+        return Err(Why::Number);
+    }
+    match value(field) {
+        Some(number) if least <= number && number <= most => Ok(number),
+        _ => Err(Why::Range),
+    }
+}
+
+/// The node whose number a field spells.
+pub fn node(field: &[u8], nodes: u32) -> Result<NodeId, Why>
+    ensures said { result ≡ node_in nodes field.now }
+    ensures range { IfOk result (λ node. (1 ≤ node) × (node ≤ nodes)) }
+{
+    let number = number(field, 1, u64::from(nodes))?;
+    Ok(NodeId(number as u32))
+}
+
+/// Whether a field is spelled as a number.
+fn is_spelled(field: &[u8]) -> bool
+    ensures { result ≡ is_number field.now }
+{
+    !field.is_empty() && !(field.len() > 1 && field[0] == b'0') && are_digits(field)
+}
+
+fn are_digits(field: &[u8]) -> bool
+    ensures { result ≡ list_all is_ascii_digit field.now }
+{
+    field.iter().all(|b| b.is_ascii_digit())
+}
+
+/// The value of a number; `None` where it does not fit.
+fn value(number: &[u8]) -> Option<u64>
+    requires { IsTrue (is_number number.now) }
+    ensures { SomeIff result (digits_value 10 number.now < 2 ^ 64) (digits_value 10 number.now) }
+{
+    match str::from_utf8(number) {
+        Ok(text) => text.parse().ok(),
+        Err(_) => None,
     }
 }

@@ -1,5 +1,5 @@
-use Rattle.oc_schedule.proofs.Numbers.{IsUtf8-number, parsed_number}
-use Rattle.oc_schedule.proofs.fields.value.Goals as goal
+use Rattle.oc_base.proofs.Numerals.{IsUtf8-number, parsed_number}
+use Rattle.oc_base.proofs.words.value.Goals as goal
 
 pub returns-in-Ok : goal.returns-in-Ok
 returns-in-Ok c =

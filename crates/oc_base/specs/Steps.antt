@@ -1,0 +1,13 @@
+-- The `?` of definitions.
+use Rattle.std.specs.Prelude.{Result, Ok, Err}
+
+-- the second step, if the first gave a value
+infixl 10 ◌>>=◌
+abbrev pub ◌>>=◌ : {A B E : Type 0} → Result A E → (A → Result B E) → Result B E
+Ok x >>= f = f x
+Err e >>= f = Err e
+
+-- this fault in the place of each
+abbrev pub with_fault : {A E F : Type 0} → F → Result A E → Result A F
+with_fault fault (Ok x) = Ok x
+with_fault fault (Err e) = Err fault

@@ -5,3 +5,9 @@ pub mod NameOrder
 pub mod Finding
 pub mod LineCuts
 pub mod Numerals
+pub mod Standing
+pub mod FieldReads
+pub mod PairReads
+pub mod ListReads
+pub mod ItemRuns
+pub mod Puts

@@ -11,3 +11,5 @@ pub mod Fields
 pub mod Codes
 pub mod Steps
 pub mod Words
+pub mod Spelling
+pub mod Reading

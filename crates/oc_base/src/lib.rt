@@ -14,6 +14,7 @@ mod cert;
 mod code_row;
 mod cutter;
 mod field;
+mod field_fault;
 mod group;
 mod group_name;
 mod limits;
@@ -22,15 +23,18 @@ mod memory;
 mod node_id;
 mod place;
 mod rank;
+pub mod reading;
 mod refusal;
 mod shelf;
 mod why;
 pub mod words;
+pub mod writing;
 
 pub use cert::{Cert, Child, Line};
 pub use code_row::{CodeRow, distinct, row_of};
 pub use cutter::cut;
 pub use field::{Short, take_bytes, take_u8, take_u16, take_u32, take_u64};
+pub use field_fault::FieldFault;
 pub use group::Group;
 pub use group_name::{GroupName, NameFault};
 pub use limits::{

@@ -6,7 +6,8 @@ use Rattle.std.proofs.lemmas.List.Concat.{flat_map-cons}
 use Rattle.oc_base.specs.Fields.{number_at}
 use Rattle.oc_base.specs.declared.rank.Rank.{Rank}
 use Rattle.oc_record.specs.Spelling.{four, eight, flag, rank_bytes, IsId, IsLong, IsCount, IsRank}
-use Rattle.oc_record.specs.Reading.{◌>>=◌, or_short, within_at, id_at, long_at, count_at, flag_at, rank_at, ids_at}
+use Rattle.oc_base.specs.Steps.{◌>>=◌}
+use Rattle.oc_record.specs.Reading.{or_short, within_at, id_at, long_at, count_at, flag_at, rank_at, ids_at}
 use Rattle.oc_record.proofs.Standing.{IsBytes, Takes, takes_both, takes_first, takes_second, takes_nothing, bind_ok, ok_is, wide8, wide32, wide64, number_takes, number_again, within_takes, within_again}
 use Rattle.oc_base.specs.declared.limits.TheConstants.{MAX_DEPTH}
 

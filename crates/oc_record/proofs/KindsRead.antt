@@ -6,7 +6,8 @@ use Rattle.oc_base.specs.Fields.{number_at}
 use Rattle.oc_model.specs.declared.record.Record.{Record}
 use Rattle.oc_model.specs.declared.record.Record.TheVariants.{Ask, Joined, Ranked, OldEntry, Acked, Ancestors, Rate, Epoch, Base, Snapshot, Entry, Info}
 use Rattle.oc_record.specs.Spelling.{two, four, eight, flag, rank_bytes, code_of, fields_bytes, IsLawful}
-use Rattle.oc_record.specs.Reading.{◌>>=◌, or_short, within_at, id_at, long_at, count_at, flag_at, rank_at, ids_at, ask_at, joined_at, ranked_at, old_entry_at, acked_at, ancestors_at, rate_at, epoch_at, base_at, snapshot_at, entry_at, info_at}
+use Rattle.oc_base.specs.Steps.{◌>>=◌}
+use Rattle.oc_record.specs.Reading.{or_short, within_at, id_at, long_at, count_at, flag_at, rank_at, ids_at, ask_at, joined_at, ranked_at, old_entry_at, acked_at, ancestors_at, rate_at, epoch_at, base_at, snapshot_at, entry_at, info_at}
 use Rattle.oc_record.proofs.Standing.{IsBytes, Takes, takes_both, bind_ok, done, ok_is, wide16, wide64, within_takes}
 use Rattle.oc_record.proofs.FieldLaws.{id_takes, long_takes, count_takes, byte_takes, flag_takes, rank_takes, ids_takes}
 use Rattle.oc_base.specs.declared.limits.TheConstants.{MAX_ANCESTORS, MAX_BASE_ACKED, MAX_RATE}

@@ -9,7 +9,8 @@ use Rattle.oc_model.specs.declared.record.Record.{Record}
 use Rattle.oc_model.specs.declared.record.Record.TheVariants.{Ask, Joined, Lost, Acting, Ranked, OldEntry, Acked, Ancestors, Rate, Epoch, Base, Snapshot, Entry, Info}
 use Rattle.oc_record.specs.declared.fault.RecordFault.{RecordFault}
 use Rattle.oc_record.specs.Spelling.{code_of, fields_bytes, record_bytes, records_bytes, HasSpelling, HaveSpellings, IsLawful, AreLawful}
-use Rattle.oc_record.specs.Reading.{◌>>=◌, or_short, fields_at, record_at, records_at, decoded}
+use Rattle.oc_base.specs.Steps.{◌>>=◌}
+use Rattle.oc_record.specs.Reading.{or_short, fields_at, record_at, records_at, decoded}
 use Rattle.oc_record.proofs.Standing.{IsBytes, Takes, takes_both, takes_first, takes_second, takes_nothing, bind_ok, done, ok_is}
 use Rattle.oc_record.proofs.FieldLaws.{byte_takes, byte_again}
 use Rattle.oc_record.proofs.KindsRead.{IsTaken, ask_takes, joined_takes, ranked_takes, old_entry_takes, acked_takes, ancestors_takes, rate_takes, epoch_takes, base_takes, snapshot_takes, entry_takes, info_takes}

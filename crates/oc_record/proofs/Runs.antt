@@ -6,7 +6,8 @@ use Rattle.std.proofs.lemmas.List.{append-nil, length-append}
 use Rattle.oc_model.specs.declared.record.Record.{Record}
 use Rattle.oc_record.specs.declared.fault.RecordFault.{RecordFault}
 use Rattle.oc_record.specs.declared.fault.RecordFault.TheVariants as faults
-use Rattle.oc_record.specs.Reading.{◌>>=◌, Gives, GivesList, record_at, records_at, decoded}
+use Rattle.oc_base.specs.Steps.{◌>>=◌}
+use Rattle.oc_record.specs.Reading.{Gives, GivesList, record_at, records_at, decoded}
 use Rattle.oc_record.proofs.Standing.{IsBytes}
 use Rattle.oc_record.specs.Spelling.{records_bytes, AreLawful}
 use Rattle.oc_record.proofs.ListLaws.{record_takes, is_spelled}

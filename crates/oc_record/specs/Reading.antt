@@ -5,16 +5,12 @@ use Rattle.std.specs.Int.{Width, w8, w16, w32, w64}
 use Rattle.oc_base.specs.declared.field.Short.{Short}
 use Rattle.oc_base.specs.declared.rank.Rank.{Rank}
 use Rattle.oc_base.specs.Fields.{number_at}
+use Rattle.oc_base.specs.Steps.{◌>>=◌}
 use Rattle.oc_model.specs.declared.record.Record.{Record}
 use Rattle.oc_model.specs.declared.record.Record.TheVariants.{Ask, Joined, Lost, Acting, Ranked, OldEntry, Acked, Ancestors, Rate, Epoch, Base, Snapshot, Entry, Info}
 use Rattle.oc_record.specs.declared.fault.RecordFault.{RecordFault}
 use Rattle.oc_record.specs.declared.fault.RecordFault.TheVariants as faults
 use Rattle.oc_base.specs.declared.limits.TheConstants.{MAX_ANCESTORS, MAX_BASE_ACKED, MAX_DEPTH, MAX_RATE}
-
-infixl 10 ◌>>=◌
-abbrev pub ◌>>=◌ : {A B : Type 0} → Result A RecordFault → (A → Result B RecordFault) → Result B RecordFault
-(Ok x) >>= f = f x
-(Err fault) >>= f = Err fault
 
 -- a field that is cut off
 abbrev pub or_short : {A : Type 0} → Result A Short → Result A RecordFault

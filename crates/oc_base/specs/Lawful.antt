@@ -1,5 +1,5 @@
 -- Values within their ranges: ids, rates, ranks, certificates, ancestors and children.
-use Rattle.std.specs.Prelude.{ℕ, ◌≤◌, ◌<◌, Option, Some, None, List, [], ◌∷◌, length}
+use Rattle.std.specs.Prelude.{ℕ, ◌^◌, ◌≤◌, ◌<◌, Option, Some, None, List, [], ◌∷◌, length}
 use Rattle.std.specs.List.{AllByRecursion}
 use Rattle.oc_base.specs.declared.cert.Cert.{Cert}
 use Rattle.oc_base.specs.declared.cert.Child.{Child}
@@ -23,8 +23,15 @@ IsNodeOrNone nodes (Some x) = IsNode nodes x
 abbrev pub IsRate : ℕ → Type 0
 IsRate r = r ≤ MAX_RATE
 
+-- a number of 64 bits, and one that is not 0
+abbrev pub IsLong : ℕ → Type 0
+IsLong n = n < 2 ^ 64
+
+abbrev pub IsCount : ℕ → Type 0
+IsCount n = (1 ≤ n) × (n < 2 ^ 64)
+
 abbrev pub IsRank : Rank → Type 0
-IsRank r = r.depth ≤ MAX_DEPTH
+IsRank r = IsLong r.epoch × (r.depth ≤ MAX_DEPTH)
 
 abbrev pub IsRankOrNone : Option Rank → Type 0
 IsRankOrNone None = Unit {0}
@@ -33,8 +40,10 @@ IsRankOrNone (Some r) = IsRank r
 -- a certificate of nodes, of an ask that was counted
 pub record IsCert (nodes : ℕ) (c : Cert) : Type 0 where
   pub subject : IsNode nodes c.subject
-  pub seq : 1 ≤ c.seq
+  pub seq : IsCount c.seq
   pub parent : IsNode nodes c.parent
+  pub number : IsLong c.number
+  pub clients : IsLong c.clients
 
 abbrev pub AreCerts : ℕ → List Cert → Type 0
 AreCerts nodes cs = AllByRecursion (IsCert nodes) cs

@@ -3,6 +3,7 @@ pub mod Cert
 pub mod Names
 pub mod Named
 pub mod Lawful
+pub mod Stops
 pub mod Groups
 pub mod Shelves
 pub mod Padding

@@ -35,6 +35,9 @@ pub const LAST_SECOND: u64 = 2_199_023_255_552;
 /// The greatest acknowledged count of a `Base` record: 2^62.
 pub const MAX_BASE_ACKED: u64 = 4_611_686_018_427_387_904;
 
+/// The greatest length of a change log at which a node takes a step: 2^62 + 2^40.
+pub const MAX_LOG_LENGTH: u64 = 4_611_687_117_939_015_680;
+
 // Content
 
 /// The least and the greatest number of bytes of a group's name.

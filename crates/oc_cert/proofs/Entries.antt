@@ -5,7 +5,8 @@ use Rattle.std.proofs.Math.ListN.{length-set}
 use Rattle.std.specs.Option.{option_flatten, option_copied, option_map, unwrap_or}
 use Rattle.oc_base.specs.declared.cert.Cert.{Cert}
 use Rattle.oc_model.specs.Table.{newest, put}
-use Rattle.oc_cert.specs.TableView.{IsNode, IsAmongNodes, AreRowsFrom, AreRows, entries_of}
+use Rattle.oc_cert.specs.TableView.{AreRowsFrom, AreRows, entries_of}
+use Rattle.oc_base.specs.Lawful.{IsNode, IsCert}
 
 -- the rows from a node on say nothing of those before it
 pub newest_before : (nodes x y : ℕ) (rows : List (Option Cert)) → AreRowsFrom nodes x rows → y < x → newest (entries_of rows) y ≡ None
@@ -34,11 +35,11 @@ pub newest_zero : (rows : List (Option Cert)) (y : ℕ) → AreRows rows → y <
 newest_zero rows y fit less = newest_before (length rows) 1 y rows fit less
 
 -- a row is about the node asked for, and within the range
-pub newest_fits : (nodes x y : ℕ) (rows : List (Option Cert)) (k : Cert) → AreRowsFrom nodes x rows → newest (entries_of rows) y ≡ Some k → (k.subject ≡ y) × IsAmongNodes nodes k
+pub newest_fits : (nodes x y : ℕ) (rows : List (Option Cert)) (k : Cert) → AreRowsFrom nodes x rows → newest (entries_of rows) y ≡ Some k → (k.subject ≡ y) × IsCert nodes k
 newest_fits nodes x y [] k fit h = absurd cc
 newest_fits nodes x y (None ∷ rows) k fit h = newest_fits nodes (x + 1) y rows k fit h
 newest_fits nodes x y (Some j ∷ rows) k fit h = by_test (λ g. newest_fits nodes (x + 1) y rows k fit.2 g) (j.subject == y) refl where
-  by_test : (newest (entries_of rows) y ≡ Some k → (k.subject ≡ y) × IsAmongNodes nodes k) → (b : Bool) → j.subject == y ≡ b → (k.subject ≡ y) × IsAmongNodes nodes k
+  by_test : (newest (entries_of rows) y ≡ Some k → (k.subject ≡ y) × IsCert nodes k) → (b : Bool) → j.subject == y ≡ b → (k.subject ≡ y) × IsCert nodes k
   by_test rest true e =
       let found : Some j ≡ Some k = rw e at h in
       let same : j ≡ k = cc in
@@ -75,7 +76,7 @@ found_row None = refl
 found_row (Some row) = refl
 
 -- what stands in a row, with what it is about
-pub row_fits : (rows : List (Option Cert)) (y : ℕ) (row : Option Cert) → AreRows rows → row ≡ newest (entries_of rows) y → IfSome row (λ k. (k.subject ≡ y) × IsAmongNodes (length rows) k)
+pub row_fits : (rows : List (Option Cert)) (y : ℕ) (row : Option Cert) → AreRows rows → row ≡ newest (entries_of rows) y → IfSome row (λ k. (k.subject ≡ y) × IsCert (length rows) k)
 row_fits rows y None fit e = tt
 row_fits rows y (Some k) fit e = newest_fits (length rows) 1 y rows k fit (sym e)
 
@@ -96,7 +97,7 @@ pub put_found : (t u : List Cert) (c : Cert) → u ≡ put t c → newest u c.su
 put_found t u c e = rw e (newest-put t c)
 
 -- rows stay rows where one is set
-set_fits_from : (nodes x i : ℕ) (rows : List (Option Cert)) (c : Cert) → AreRowsFrom nodes x rows → c.subject ≡ x + i → IsAmongNodes nodes c → AreRowsFrom nodes x (set rows i (Some c))
+set_fits_from : (nodes x i : ℕ) (rows : List (Option Cert)) (c : Cert) → AreRowsFrom nodes x rows → c.subject ≡ x + i → IsCert nodes c → AreRowsFrom nodes x (set rows i (Some c))
 set_fits_from nodes x i [] c fit e fits = tt
 set_fits_from nodes x zero (None ∷ rows) c fit e fits = (omega arith, fits, fit)
 set_fits_from nodes x (suc i) (None ∷ rows) c fit e fits = set_fits_from nodes (x + 1) i rows c fit (omega arith) fits
@@ -104,7 +105,7 @@ set_fits_from nodes x zero (Some k ∷ rows) c fit e fits = (omega arith, fits, 
 set_fits_from nodes x (suc i) (Some k ∷ rows) c fit e fits = (fit.0, fit.1, set_fits_from nodes (x + 1) i rows c fit.2 (omega arith) fits)
 
 -- the same for all rows
-pub set_fits : (rows : List (Option Cert)) (c : Cert) → AreRows rows → IsAmongNodes (length rows) c → AreRows (set rows (c.subject - 1) (Some c))
+pub set_fits : (rows : List (Option Cert)) (c : Cert) → AreRows rows → IsCert (length rows) c → AreRows (set rows (c.subject - 1) (Some c))
 set_fits rows c fit fits = subst (λ n. AreRowsFrom n 1 (set rows (c.subject - 1) (Some c))) (sym (length-set rows (c.subject - 1) (Some c))) (set_fits_from (length rows) 1 (c.subject - 1) rows c fit (omega (arith, fits.subject)) fits)
 
 -- rows without a certificate

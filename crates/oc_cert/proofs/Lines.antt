@@ -7,7 +7,8 @@ use Rattle.std.specs.List.{filter_map}
 use Rattle.oc_base.specs.declared.cert.Cert.{Cert}
 use Rattle.oc_base.specs.declared.cert.Line.{Line}
 use Rattle.oc_cert.specs.Listing.{subjects, line_in, lines_in, lines_of_row}
-use Rattle.oc_cert.specs.TableView.{IsNode, AreRowsFrom, entries_of}
+use Rattle.oc_cert.specs.TableView.{AreRowsFrom, entries_of}
+use Rattle.oc_base.specs.Lawful.{IsNode}
 
 -- the lines that these rows give
 abbrev pub lines_among : List Cert → ℕ → List (Option Cert) → List Line

@@ -2,7 +2,8 @@ ghost use Rattle.std.specs.Prelude.{◌≡◌, ◌-◌, ◌≤◌, ◌++◌, Non
 ghost use Rattle.std.specs.Option.{option_to_list};
 ghost use Rattle.oc_model.specs.Numbers.{at};
 ghost use Rattle.oc_cert.specs.Listing.{line_in, lines_in, lines_of_row, is_beneath, AreKnown};
-ghost use Rattle.oc_cert.specs.TableView.{IsNode, AreRows, entries_of};
+ghost use Rattle.oc_cert.specs.TableView.{AreRows, entries_of};
+ghost use Rattle.oc_base.specs.Lawful.{IsNode};
 
 use crate::post::Post;
 use crate::rows::{parent_of, place_of};

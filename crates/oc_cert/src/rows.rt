@@ -1,6 +1,7 @@
 ghost use Rattle.std.specs.Prelude.{◌≡◌, ◌-◌, ◌≤◌, None, Some, IfSome, length};
 ghost use Rattle.oc_model.specs.Table.{newest, parent_in, is_news, put};
-ghost use Rattle.oc_cert.specs.TableView.{IsNode, IsAmongNodes, AreRows, entries_of};
+ghost use Rattle.oc_cert.specs.TableView.{AreRows, entries_of};
+ghost use Rattle.oc_base.specs.Lawful.{IsNode, IsCert};
 
 use oc_base::{Cert, NodeId};
 
@@ -9,7 +10,7 @@ use oc_base::{Cert, NodeId};
 pub(crate) fn row_of(rows: &[Option<Cert>], node: NodeId) -> Option<Cert>
     requires { AreRows rows.now }
     ensures entry { result ≡ newest (entries_of rows.now) node }
-    ensures fits { IfSome result (λ entry. (entry.subject ≡ node) × IsAmongNodes (length rows.now) entry) }
+    ensures fits { IfSome result (λ entry. (entry.subject ≡ node) × IsCert (length rows.now) entry) }
 {
     match (node.0 as usize).checked_sub(1) {
         None => None,
@@ -52,7 +53,7 @@ pub(crate) fn place_of(node: NodeId) -> usize
 #[tactic(auto, using(crate::proofs::Entries::put_row, crate::proofs::Entries::set_fits, crate::proofs::Entries::put_found))]
 pub(crate) fn put(rows: &mut [Option<Cert>], cert: &Cert)
     requires rows { AreRows rows.old }
-    requires cert { IsAmongNodes (length rows.old) cert.now }
+    requires cert { IsCert (length rows.old) cert.now }
     ensures entries { entries_of rows.new ≡ put (entries_of rows.old) cert.now }
     ensures found { newest (entries_of rows.new) cert.now.subject ≡ Some cert.now }
     ensures rows { AreRows rows.new }

@@ -1,7 +1,8 @@
 ghost use Rattle.std.specs.Prelude.{◌≡◌, ◌≢◌, ◌≤◌, ◌↔◌, IsTrue, true, false, Some, length, map, IfOk, IfSome};
 ghost use Rattle.oc_model.specs.Table.{newest, is_news, merge, leased_by, is_listed, IsListed, listed_in};
 ghost use Rattle.oc_cert.specs.Listing.{lines_in};
-ghost use Rattle.oc_cert.specs.TableView.{IsAmongNodes, AreRows, entries_of, empty_table};
+ghost use Rattle.oc_cert.specs.TableView.{AreRows, entries_of, empty_table};
+ghost use Rattle.oc_base.specs.Lawful.{IsCert};
 
 use crate::listing::lines_of;
 use crate::rows::{is_news, put, row_of};
@@ -45,7 +46,7 @@ impl Table {
     /// Makes this the entry of its subject where there is none, or where it outranks the entry. Says
     /// whether the entry changed. Takes no memory.
     pub fn merge(&mut self, cert: &Cert) -> bool
-        requires { IsAmongNodes self.old.nodes cert.now }
+        requires { IsCert self.old.nodes cert.now }
         ensures news { result ≡ is_news self.old.entries cert.now }
         ensures entries { self.new.entries ≡ merge self.old.entries cert.now }
         ensures taken { IsTrue result → newest self.new.entries cert.now.subject ≡ Some cert.now }
@@ -63,7 +64,7 @@ impl Table {
     /// The newest certificate of a node.
     pub fn entry(&self, subject: NodeId) -> Option<Cert>
         ensures entry { result ≡ newest self.now.entries subject }
-        ensures fits { IfSome result (λ entry. (entry.subject ≡ subject) × IsAmongNodes self.now.nodes entry) }
+        ensures fits { IfSome result (λ entry. (entry.subject ≡ subject) × IsCert self.now.nodes entry) }
     {
         row_of(&self.rows, subject)
     }

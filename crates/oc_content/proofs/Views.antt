@@ -7,7 +7,8 @@ use Rattle.oc_outside.specs.Faults.{NoFall, Rose}
 use Rattle.oc_outside.proofs.DiskMoments.{still_honest, LeavesOnly-on, LeavesOnly-now}
 use Rattle.oc_journal.specs.declared.errors.AppendError.{AppendError}
 use Rattle.oc_journal.specs.JournalView.{JournalView, OnlyReads}
-use Rattle.oc_journal.specs.Stopped.{frames_after, is_kept_new}
+use Rattle.oc_journal.specs.Stopped.{frames_after}
+use Rattle.oc_base.specs.Stops.{is_kept_new}
 use Rattle.oc_base.specs.declared.shelf.Shelf.{Shelf}
 use Rattle.oc_content.specs.declared.index.Index.{Index}
 use Rattle.oc_content.specs.declared.track.Span.{Span}

@@ -2,7 +2,7 @@
 use Rattle.std.specs.Prelude.{◌≡◌, ◌≢◌, ℕ, suc, ◌+◌, ◌<◌, Bool, ◌&&◌, ◌||◌, not, ◌==◌, nat_lt, nat_le, if◌then◌else◌, Option, Some, None, IsSome, unwrap_or, option_map, List, [], length, take, fold, ◌++◌}
 use Rattle.oc_base.specs.declared.shelf.Shelf.{Shelf}
 use Rattle.oc_journal.specs.JournalFile.{frames_of, IsNoJournal}
-use Rattle.oc_journal.specs.Stopped.{is_kept_new}
+use Rattle.oc_base.specs.Stops.{is_kept_new}
 use Rattle.oc_base.specs.declared.group.Group.{Group}
 use Rattle.oc_base.specs.Groups.{group_of, group_or_empty, with_group, shelf, bytes_of}
 use Rattle.oc_base.specs.Shelves.{line_of}

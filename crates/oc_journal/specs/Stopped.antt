@@ -1,11 +1,8 @@
 -- What is left of a frame when the calls that append it are stopped.
 use Rattle.std.specs.Prelude.{◌≡◌, ℕ, Bool, ◌==◌, ◌&&◌, ◌||◌, List, [], ◌∷◌, ◌++◌, Option, None, Some, if◌then◌else◌}
+use Rattle.oc_base.specs.Stops.{is_kept_new}
 use Rattle.oc_outside.specs.MemDiskView.{MemDiskView, refused, wrote}
 use Rattle.oc_outside.specs.declared.failures.Stop.{Stop}
-
--- the new frame is kept exactly after four calls, or after three with an image that opens the gate
-abbrev pub is_kept_new : ℕ → ℕ → Bool
-is_kept_new calls image = (calls == 4) || ((calls == 3) && (image == 1))
 
 -- the frames after a stop
 abbrev pub frames_after : ℕ → ℕ → List (List ℕ) → List ℕ → List (List ℕ)

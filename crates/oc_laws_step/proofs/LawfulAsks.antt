@@ -1,6 +1,6 @@
 -- The rules by which a node comes by a parent keep it lawful, and write and send what is lawful.
 use Rattle.std.proofs.Common.{◌≡◌, ℕ, ◌+◌, ◌<◌, Bool, true, false, not, ◌&&◌, ◌||◌, ◌==◌, nat_lt, if◌then◌else◌, Option, Some, None, List, [], ◌∷◌, arith, ltb-true}
-use Rattle.std.proofs.lemmas.Bool.{and_parts}
+use Rattle.std.proofs.lemmas.Bool.{and_parts, eqb-false}
 use Rattle.oc_base.specs.declared.rank.Rank.{Rank}
 use Rattle.oc_base.specs.declared.refusal.Refusal.{Refusal}
 use Rattle.oc_base.specs.declared.refusal.Refusal.TheVariants as refusals
@@ -16,14 +16,14 @@ use Rattle.oc_model.specs.Adoption.{rank_or_last, precedes_any}
 use Rattle.oc_base.specs.declared.limits.TheConstants.{MAX_DEPTH}
 use Rattle.oc_model.specs.Asking.{lost_from, lost, send_ask, ask, next_epoch, act, descend, is_empty, try_at, try_first, next_try, set_tries, round, ask_before, is_asking, ancestors_by, joins, took_yes, refused, took_no, not_seen, not_reached, unreachable, relocate}
 use Rattle.oc_model.specs.Choice.{ask_order}
-use Rattle.oc_base.specs.Lawful.{IsNode, AreNodes, AreAncestors, IsRefusal}
+use Rattle.oc_base.specs.Lawful.{IsNode, AreNodes, AreAncestors, IsCount, IsRank, IsRefusal}
 use Rattle.oc_model.specs.Numbers.{number_end}
 use Rattle.oc_model.specs.Plan.{Plan, write, answers, with_soft, searching, ignored, is_member}
 use Rattle.oc_laws_step.specs.LawfulNode.{IsLawfulPlan}
 use Rattle.oc_laws_step.proofs.Asks.{few_ancestors}
 use Rattle.oc_laws_step.proofs.Goes.{either, either_by}
 use Rattle.oc_laws_step.proofs.LawfulFolds.{lawful_write, lawful_send, lawful_answers, lawful_soft, lawful_searching}
-use Rattle.oc_laws_step.proofs.Ranges.{all_take, order_nodes}
+use Rattle.oc_laws_step.proofs.Ranges.{all_take, order_nodes, rank_lawful, next_lawful}
 
 module _ (nodes : ℕ) where
   pub lawful_ignored : (o : Plan) → IsLawfulPlan nodes o → IsLawfulPlan nodes (ignored o)
@@ -41,19 +41,22 @@ module _ (nodes : ℕ) where
   abbrev asked_of : Plan → ℕ → Plan
   asked_of o p = searching (write o (records.Ask (o.node.kept.seq + 1) p)) None
 
-  lawful_asked_of : (o : Plan) (p : ℕ) → IsNode nodes p → IsLawfulPlan nodes o → IsLawfulPlan nodes (asked_of o p)
-  lawful_asked_of o p to ok =
+  lawful_asked_of : (o : Plan) (p : ℕ) → IsCount (o.node.kept.seq + 1) → IsNode nodes p → IsLawfulPlan nodes o → IsLawfulPlan nodes (asked_of o p)
+  lawful_asked_of o p next to ok =
       lawful_searching nodes (write o (records.Ask (o.node.kept.seq + 1) p)) None tt
-      (lawful_write nodes o (records.Ask (o.node.kept.seq + 1) p) (omega arith, to) ok)
+      (lawful_write nodes o (records.Ask (o.node.kept.seq + 1) p) (next, to) ok)
 
   pub lawful_ask : (o : Plan) (p : ℕ) → IsNode nodes p → IsLawfulPlan nodes o → IsLawfulPlan nodes (ask o p)
   lawful_ask o p to ok =
-      either (o.node.kept.seq == number_end) (IsLawfulPlan nodes) (answers (lost o) words.Spent) (send_ask (asked_of o p) p)
-      (lawful_answers nodes (lost o) words.Spent (lawful_lost o ok))
-      (lawful_send nodes (asked_of o p) p (bodies.Ask (o.node.kept.seq + 1) o.node.kept.rank) to (omega arith, ok.node.kept.rank) (lawful_asked_of o p to ok))
+      either_by (o.node.kept.seq == number_end) (IsLawfulPlan nodes) (answers (lost o) words.Spent) (send_ask (asked_of o p) p)
+      (λ _. lawful_answers nodes (lost o) words.Spent (lawful_lost o ok))
+      (λ e. let other : o.node.kept.seq ≡ number_end → ⊥ = eqb-false o.node.kept.seq number_end e in
+      let next : IsCount (o.node.kept.seq + 1) = (omega arith, omega (arith, ok.node.kept.seq, other)) in
+      lawful_send nodes (asked_of o p) p (bodies.Ask (o.node.kept.seq + 1) o.node.kept.rank) to (next, ok.node.kept.rank) (lawful_asked_of o p next to ok))
 
   pub lawful_act : (o : Plan) → IsLawfulPlan nodes o → IsLawfulPlan nodes (act o)
-  lawful_act o ok = lawful_write nodes (write o records.Acting) (records.Epoch (next_epoch (rank_or_last o.node.kept.rank))) tt (lawful_write nodes o records.Acting tt ok)
+  lawful_act o ok = lawful_write nodes (write o records.Acting) (records.Epoch (next_epoch (rank_or_last o.node.kept.rank)))
+      (next_lawful (rank_or_last o.node.kept.rank).epoch (rank_lawful o.node.kept.rank ok.node.kept.rank).0) (lawful_write nodes o records.Acting tt ok)
 
   pub lawful_descend : (o : Plan) (p : ℕ) → IsNode nodes p → IsLawfulPlan nodes o → IsLawfulPlan nodes (descend o p)
   lawful_descend o p to ok = lawful_send nodes (searching o (Some (Descend p))) p bodies.Look to tt (lawful_searching nodes o (Some (Descend p)) to ok)
@@ -95,20 +98,20 @@ module _ (nodes : ℕ) where
   abbrev joined_to : Plan → ℕ → Rank → List ℕ → Plan
   joined_to o p r xs = write (write o (records.Joined p (beneath_of r))) (records.Ancestors (ancestors_by p xs))
 
-  lawful_joins : (o : Plan) (p : ℕ) (r : Rank) (xs : List ℕ) → IsNode nodes p → nat_lt r.depth MAX_DEPTH ≡ true → AreNodes nodes xs → IsLawfulPlan nodes o → IsLawfulPlan nodes (joins o p r xs)
-  lawful_joins o p r xs from deep all ok =
+  lawful_joins : (o : Plan) (p : ℕ) (r : Rank) (xs : List ℕ) → IsNode nodes p → IsRank r → nat_lt r.depth MAX_DEPTH ≡ true → AreNodes nodes xs → IsLawfulPlan nodes o → IsLawfulPlan nodes (joins o p r xs)
+  lawful_joins o p r xs from told deep all ok =
       let less : r.depth < MAX_DEPTH = ltb-true r.depth MAX_DEPTH deep in
       lawful_soft nodes (joined_to o p r xs) (record o.node.soft { due = None; tries = []; search = None }) (record { clock = ok.node.soft.clock; tries = tt; search = tt })
       (lawful_write nodes (write o (records.Joined p (beneath_of r))) (records.Ancestors (ancestors_by p xs)) (lawful_ancestors p xs from all)
-      (lawful_write nodes o (records.Joined p (beneath_of r)) (from, omega (arith, less)) ok))
+      (lawful_write nodes o (records.Joined p (beneath_of r)) (from, (told.0, omega (arith, less))) ok))
 
   abbrev is_taken : Plan → ℕ → ℕ → Rank → Bool
   is_taken o p seq r = is_asking o.node.kept.mode p && seq == o.node.kept.seq && nat_lt r.depth MAX_DEPTH && precedes_any r o.node.kept.rank
 
-  pub lawful_took_yes : (o : Plan) (p seq : ℕ) (r : Rank) (xs : List ℕ) → IsNode nodes p → AreNodes nodes xs → IsLawfulPlan nodes o → IsLawfulPlan nodes (took_yes o p seq r xs)
-  lawful_took_yes o p seq r xs from all ok =
+  pub lawful_took_yes : (o : Plan) (p seq : ℕ) (r : Rank) (xs : List ℕ) → IsNode nodes p → IsRank r → AreNodes nodes xs → IsLawfulPlan nodes o → IsLawfulPlan nodes (took_yes o p seq r xs)
+  lawful_took_yes o p seq r xs from told all ok =
       either_by (is_taken o p seq r) (IsLawfulPlan nodes) (joins o p r xs) (ignored o)
-      (λ e. lawful_joins o p r xs from (and_parts (is_asking o.node.kept.mode p && seq == o.node.kept.seq) (nat_lt r.depth MAX_DEPTH) (and_parts _ (precedes_any r o.node.kept.rank) e).0).1 all ok)
+      (λ e. lawful_joins o p r xs from told (and_parts (is_asking o.node.kept.mode p && seq == o.node.kept.seq) (nat_lt r.depth MAX_DEPTH) (and_parts _ (precedes_any r o.node.kept.rank) e).0).1 all ok)
       (λ _. lawful_ignored o ok)
 
   lawful_refused : (o : Plan) (why : Refusal) → IsRefusal nodes why → IsLawfulPlan nodes o → IsLawfulPlan nodes (refused o why)

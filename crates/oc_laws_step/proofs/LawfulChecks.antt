@@ -1,5 +1,5 @@
 -- The rules Check now, Tick and Check-ins keep a node lawful, and write and send what is lawful.
-use Rattle.std.proofs.Common.{◌≡◌, ℕ, ◌+◌, ◌-◌, ◌<◌, ◌≤◌, min, max, true, not, ◌&&◌, ◌==◌, nat_lt, Option, Some, None, List, [], ◌∷◌, length, filter, take, refl, sym, subst, arith, ltb-true, length-take}
+use Rattle.std.proofs.Common.{◌≡◌, ℕ, ◌+◌, ◌-◌, ◌<◌, ◌≤◌, min, max, true, not, ◌&&◌, ◌==◌, nat_lt, Option, Some, None, List, [], ◌∷◌, length, filter, refl, sym, subst, arith, ltb-true, length-take}
 use Rattle.std.proofs.lemmas.Bool.{and_parts}
 use Rattle.oc_base.specs.declared.cert.Cert.{Cert}
 use Rattle.oc_base.specs.declared.rank.Rank.{Rank}
@@ -17,7 +17,7 @@ use Rattle.oc_model.specs.Asking.{ask_before, ancestors_by}
 use Rattle.oc_model.specs.ChangeLog.{is_ahead, next_certs, place_after}
 use Rattle.oc_model.specs.Checking.{counts_clients, checks_in, checks_as, next_check, checks, merges, merges_all, at_time, starts_leases, dies, ends_each, ends_leases, looks_at_each, looks_round, is_due, checks_if_due, fetches_as, fetches, tick, acknowledges, life, checked_in, is_joined_to, takes_place, takes_rank, same_ids, takes_ancestors, took_ack, is_peer, took_rejoin}
 use Rattle.oc_model.specs.Choice.{below}
-use Rattle.oc_base.specs.Lawful.{IsNode, AreNodes, IsRate, IsCert, AreCerts, AreAncestors}
+use Rattle.oc_base.specs.Lawful.{IsNode, AreNodes, IsLong, IsCount, IsRank, IsRate, IsCert, AreCerts, AreAncestors}
 use Rattle.oc_base.specs.Shelves.{IsShelf}
 use Rattle.oc_model.specs.Leases.{renew, start_all, ended}
 use Rattle.oc_model.specs.Numbers.{number_end, raise, capped, put_at}
@@ -27,8 +27,8 @@ use Rattle.oc_laws_step.specs.LawfulNode.{IsLawfulMode, IsLawfulPlan}
 use Rattle.oc_laws_step.proofs.Goes.{either, either_by}
 use Rattle.oc_laws_step.proofs.LawfulAdopts.{lawful_raises, lawful_rejoin}
 use Rattle.oc_laws_step.proofs.LawfulAsks.{lawful_ignored, lawful_round, lawful_ask_before, lawful_ancestors}
-use Rattle.oc_laws_step.proofs.LawfulFolds.{lawful_write, lawful_send, lawful_soft, lawful_searching, lawful_due, lawful_lists}
-use Rattle.oc_laws_step.proofs.Ranges.{IfFound, all_filter, all_take, all_set, cert_found, reading_rate, rank_lawful, below_lawful}
+use Rattle.oc_laws_step.proofs.LawfulFolds.{lawful_write, lawful_write_acked, lawful_send, lawful_send_if, lawful_soft, lawful_searching, lawful_due, lawful_lists}
+use Rattle.oc_laws_step.proofs.Ranges.{IfFound, all_filter, all_take, all_set, cert_found, reading_rate, rank_lawful, raise_lawful, capped_lawful, below_lawful}
 
 module _ (nodes : ℕ) where
   -- Check now
@@ -38,10 +38,12 @@ module _ (nodes : ℕ) where
 
   lawful_counts : (o : Plan) → IsLawfulPlan nodes o → IsLawfulPlan nodes (counts_clients o)
   lawful_counts o ok =
-      either (not (o.node.soft.served == 0) && nat_lt o.node.kept.number number_end) (IsLawfulPlan nodes) (with_soft (counted o) (record o.node.soft { served = 0 })) o
-      (lawful_soft nodes (counted o) (record o.node.soft { served = 0 }) (record { clock = ok.node.soft.clock; tries = ok.node.soft.tries; search = ok.node.soft.search })
-      (lawful_write nodes o (records.Info (o.node.kept.number + 1) (capped (o.node.kept.clients + o.node.soft.served))) (omega arith) ok))
-      ok
+      either_by (not (o.node.soft.served == 0) && nat_lt o.node.kept.number number_end) (IsLawfulPlan nodes) (with_soft (counted o) (record o.node.soft { served = 0 })) o
+      (λ e. let less : o.node.kept.number < number_end = ltb-true o.node.kept.number number_end (and_parts (not (o.node.soft.served == 0)) (nat_lt o.node.kept.number number_end) e).1 in
+      lawful_soft nodes (counted o) (record o.node.soft { served = 0 }) (record { clock = ok.node.soft.clock; tries = ok.node.soft.tries; search = ok.node.soft.search })
+      (lawful_write nodes o (records.Info (o.node.kept.number + 1) (capped (o.node.kept.clients + o.node.soft.served)))
+      ((omega arith, omega (arith, less)), capped_lawful (o.node.kept.clients + o.node.soft.served)) ok))
+      (λ _. ok)
 
   -- the number of the ask stays
   counts_seq : (o : Plan) → (counts_clients o).node.kept.seq ≡ o.node.kept.seq
@@ -51,17 +53,25 @@ module _ (nodes : ℕ) where
 
   lawful_checks_in : (o : Plan) (p : ℕ) → IsNode nodes p → 1 ≤ o.node.kept.seq → IsLawfulPlan nodes o → IsLawfulPlan nodes (checks_in o p)
   lawful_checks_in o p to asked ok =
-      lawful_send nodes o p (bodies.CheckIn o.node.kept.seq (place_after o.node.kept.log) (rate_to o.node p) o.node.kept.number o.node.kept.clients (next_certs o.node.kept.log)) to
-      (asked, reading_rate o.node.kept.measures p ok.node.kept.measures, all_take (IsCert nodes) MAX_CHECK_IN_CERTS o.node.kept.log.waiting ok.node.kept.waiting, few) ok where
-        few : length (next_certs o.node.kept.log) ≤ MAX_CHECK_IN_CERTS
-        few = let e : length (take MAX_CHECK_IN_CERTS o.node.kept.log.waiting) ≡ min MAX_CHECK_IN_CERTS (length o.node.kept.log.waiting) = length-take MAX_CHECK_IN_CERTS o.node.kept.log.waiting in omega (arith, e)
+      lawful_send_if nodes o p (bodies.CheckIn o.node.kept.seq (place_after o.node.kept.log) (rate_to o.node p) o.node.kept.number o.node.kept.clients (next_certs o.node.kept.log)) to
+      (λ room. (
+        (asked, ok.node.kept.seq),
+        omega (arith, room, taken, ok.log, ok.node.kept.whole),
+        reading_rate o.node.kept.measures p ok.node.kept.measures,
+        ok.node.kept.number,
+        ok.node.kept.clients,
+        all_take (IsCert nodes) MAX_CHECK_IN_CERTS o.node.kept.log.waiting ok.node.kept.waiting,
+        omega (arith, taken),
+      )) ok where
+        taken : length (next_certs o.node.kept.log) ≡ min MAX_CHECK_IN_CERTS (length o.node.kept.log.waiting)
+        taken = length-take MAX_CHECK_IN_CERTS o.node.kept.log.waiting
 
   lawful_checks_as : (m : Mode) (o : Plan) → IsLawfulMode nodes o.node.kept.seq m → IsLawfulPlan nodes o → IsLawfulPlan nodes (checks_as m o)
   lawful_checks_as (modes.Joined p) o mode ok =
       lawful_checks_in (counts_clients o) p mode.1 (subst (λ s. 1 ≤ s) (sym (counts_seq o)) mode.0) (lawful_counts o ok)
-  lawful_checks_as modes.Acting o mode ok = lawful_raises nodes o (raise (rank_or_last o.node.kept.rank).epoch) ok
+  lawful_checks_as modes.Acting o mode ok = lawful_raises nodes o (raise (rank_or_last o.node.kept.rank).epoch) (raise_lawful (rank_or_last o.node.kept.rank).epoch (rank_lawful o.node.kept.rank ok.node.kept.rank).0) ok
   lawful_checks_as modes.Idle o mode ok = lawful_round nodes o None ok
-  lawful_checks_as (modes.Asking p) o mode ok = lawful_send nodes o p (bodies.Ask o.node.kept.seq o.node.kept.rank) mode.1 (mode.0, ok.node.kept.rank) ok
+  lawful_checks_as (modes.Asking p) o mode ok = lawful_send nodes o p (bodies.Ask o.node.kept.seq o.node.kept.rank) mode.1 ((mode.0, ok.node.kept.seq), ok.node.kept.rank) ok
 
   abbrev dated : Plan → Plan
   dated o = with_soft o (record o.node.soft { due = Some (next_check o.node) })
@@ -87,7 +97,7 @@ module _ (nodes : ℕ) where
 
   lawful_dies : (k : Option Cert) (o : Plan) → IfFound (IsCert nodes) k → IsLawfulPlan nodes o → IsLawfulPlan nodes (dies k o)
   lawful_dies None o here ok = ok
-  lawful_dies (Some k) o here ok = lawful_merges o (record k { dead = true }) (record { subject = here.subject; seq = here.seq; parent = here.parent }) ok
+  lawful_dies (Some k) o here ok = lawful_merges o (record k { dead = true }) (record { subject = here.subject; seq = here.seq; parent = here.parent; number = here.number; clients = here.clients }) ok
 
   lawful_ends_each : (xs : List ℕ) (o : Plan) → IsLawfulPlan nodes o → IsLawfulPlan nodes (ends_each xs o)
   lawful_ends_each [] o ok = ok
@@ -134,40 +144,40 @@ module _ (nodes : ℕ) where
 
   -- Check-ins
 
-  lawful_acknowledges : (o : Plan) (x seq upto rate : ℕ) → IsNode nodes x → 1 ≤ seq → IsRate rate → IsLawfulPlan nodes o → IsLawfulPlan nodes (acknowledges o x seq upto rate)
-  lawful_acknowledges o x seq upto rate from asked fast ok =
+  lawful_acknowledges : (o : Plan) (x seq upto rate : ℕ) → IsNode nodes x → IsCount seq → IsLong upto → IsRate rate → IsLawfulPlan nodes o → IsLawfulPlan nodes (acknowledges o x seq upto rate)
+  lawful_acknowledges o x seq upto rate from asked place fast ok =
       lawful_send nodes (record o { node = record o.node { leases = renew o.node.leases x o.node.soft.clock; rates = put_at o.node.rates x rate } }) x
       (bodies.CheckAck seq upto (rank_or_last o.node.kept.rank) o.node.kept.ancestors) from
-      (asked, rank_lawful o.node.kept.rank ok.node.kept.rank, ok.node.kept.ancestors)
+      (asked, place, rank_lawful o.node.kept.rank ok.node.kept.rank, ok.node.kept.ancestors)
       (lawful_lists nodes o (renew o.node.leases x o.node.soft.clock) (put_at o.node.rates x rate) o.node.counts (all_set IsRate o.node.rates (x - 1) rate fast ok.node.rates) ok)
 
-  pub lawful_checked_in : (o : Plan) (x seq upto rate number clients : ℕ) (certs : List Cert) → IsNode nodes x → 1 ≤ seq → IsRate rate → AreCerts nodes certs
+  pub lawful_checked_in : (o : Plan) (x seq upto rate number clients : ℕ) (certs : List Cert) → IsNode nodes x → IsCount seq → IsLong upto → IsRate rate → IsLong number → IsLong clients → AreCerts nodes certs
       → IsLawfulPlan nodes o → IsLawfulPlan nodes (checked_in o x seq upto rate number clients certs)
-  lawful_checked_in o x seq upto rate number clients certs from asked fast all ok =
+  lawful_checked_in o x seq upto rate number clients certs from asked place fast own served all ok =
       either (has_lease o.node x seq) (IsLawfulPlan nodes) (acknowledges (merges_all (life x seq o.node.me number clients ∷ certs) o) x seq upto rate) (sends_rejoin o x seq)
-      (lawful_acknowledges (merges_all (life x seq o.node.me number clients ∷ certs) o) x seq upto rate from asked fast
-      (lawful_merges_all (life x seq o.node.me number clients ∷ certs) o (record { subject = from; seq = asked; parent = ok.node.me }, all) ok))
+      (lawful_acknowledges (merges_all (life x seq o.node.me number clients ∷ certs) o) x seq upto rate from asked place fast
+      (lawful_merges_all (life x seq o.node.me number clients ∷ certs) o (record { subject = from; seq = asked; parent = ok.node.me; number = own; clients = served }, all) ok))
       (lawful_rejoin nodes o x seq from asked ok)
 
   lawful_takes_place : (o : Plan) (upto : ℕ) → IsLawfulPlan nodes o → IsLawfulPlan nodes (takes_place o upto)
-  lawful_takes_place o upto ok = either (is_ahead o.node.kept.log upto) (IsLawfulPlan nodes) (write o (records.Acked upto)) o (lawful_write nodes o (records.Acked upto) tt ok) ok
+  lawful_takes_place o upto ok = either_by (is_ahead o.node.kept.log upto) (IsLawfulPlan nodes) (write o (records.Acked upto)) o (λ e. lawful_write_acked nodes o upto e ok) (λ _. ok)
 
-  lawful_takes_rank : (o : Plan) (told : Rank) → IsLawfulPlan nodes o → IsLawfulPlan nodes (takes_rank o told)
-  lawful_takes_rank o told ok =
+  lawful_takes_rank : (o : Plan) (told : Rank) → IsRank told → IsLawfulPlan nodes o → IsLawfulPlan nodes (takes_rank o told)
+  lawful_takes_rank o told here ok =
       either_by (is_better o.node.kept.rank told) (IsLawfulPlan nodes) (write o (records.Ranked (beneath_of told))) o
       (λ e. let less : told.depth < MAX_DEPTH = ltb-true told.depth MAX_DEPTH (and_parts (nat_lt told.depth MAX_DEPTH) (precedes_any (beneath_of told) o.node.kept.rank) e).0 in
-      lawful_write nodes o (records.Ranked (beneath_of told)) (omega (arith, less)) ok)
+      lawful_write nodes o (records.Ranked (beneath_of told)) (here.0, omega (arith, less)) ok)
       (λ _. ok)
 
   lawful_takes_ancestors : (o : Plan) (xs : List ℕ) → AreAncestors nodes xs → IsLawfulPlan nodes o → IsLawfulPlan nodes (takes_ancestors o xs)
   lawful_takes_ancestors o xs here ok =
       either (same_ids xs o.node.kept.ancestors) (IsLawfulPlan nodes) o (write o (records.Ancestors xs)) ok (lawful_write nodes o (records.Ancestors xs) here ok)
 
-  pub lawful_took_ack : (o : Plan) (p seq upto : ℕ) (told : Rank) (xs : List ℕ) → IsNode nodes p → AreNodes nodes xs → IsLawfulPlan nodes o → IsLawfulPlan nodes (took_ack o p seq upto told xs)
-  lawful_took_ack o p seq upto told xs from all ok =
+  pub lawful_took_ack : (o : Plan) (p seq upto : ℕ) (told : Rank) (xs : List ℕ) → IsNode nodes p → IsRank told → AreNodes nodes xs → IsLawfulPlan nodes o → IsLawfulPlan nodes (took_ack o p seq upto told xs)
+  lawful_took_ack o p seq upto told xs from here all ok =
       either (is_joined_to o.node.kept.mode p && seq == o.node.kept.seq) (IsLawfulPlan nodes) (takes_ancestors (takes_rank (takes_place o upto) told) (ancestors_by p xs)) (ignored o)
       (lawful_takes_ancestors (takes_rank (takes_place o upto) told) (ancestors_by p xs) (lawful_ancestors nodes p xs from all)
-      (lawful_takes_rank (takes_place o upto) told (lawful_takes_place o upto ok)))
+      (lawful_takes_rank (takes_place o upto) told here (lawful_takes_place o upto ok)))
       (lawful_ignored nodes o ok)
 
   pub lawful_took_rejoin : (o : Plan) (p seq : ℕ) → IsNode nodes p → IsLawfulPlan nodes o → IsLawfulPlan nodes (took_rejoin o p seq)

@@ -23,7 +23,7 @@ use Rattle.oc_laws_step.proofs.Ranges.{IfFound}
 
 module _ (nodes : ℕ) where
   lawful_keeps : (o : Plan) (at : ℕ) (closes : Bool) → IsLawfulPlan nodes o → IsLawfulPlan nodes (keeps o at closes)
-  lawful_keeps o at closes ok = record { node = ok.node; records = ok.records; sends = ok.sends; wants = ok.wants }
+  lawful_keeps o at closes ok = record { node = ok.node; log = ok.log; records = ok.records; sends = ok.sends; wants = ok.wants }
 
   lawful_unless : (a : Option Answer) (o q : Plan) → IsLawfulPlan nodes o → IsLawfulPlan nodes q → IsLawfulPlan nodes (unless a o q)
   lawful_unless None o q ok rest = rest
@@ -60,7 +60,7 @@ module _ (nodes : ℕ) where
   lawful_sends_chunk : (o : Plan) (p : ℕ) (l : Shelf) (start : ℕ) → IsNode nodes p → IsLine l → start ≤ MAX_GROUP_BYTES → IsLawfulPlan nodes o → IsLawfulPlan nodes (sends_chunk o p l start (count_from l start))
   lawful_sends_chunk o p l start to line within ok =
       let sent = lawful_send nodes o p (bodies.Chunk l.group start [] (l.sealed && start + count_from l start == l.held)) to (line.0, within, omega arith) ok in
-      record { node = sent.node; records = sent.records; sends = sent.sends; wants = want_lawful l start (count_from l start) (omega arith) }
+      record { node = sent.node; log = sent.log; records = sent.records; sends = sent.sends; wants = want_lawful l start (count_from l start) (omega arith) }
 
   lawful_answers_fetch : (o : Plan) (p : ℕ) (have : List Shelf) (l : Option Shelf) → IsNode nodes p → AreLines have → IfFound IsLine l → IsLawfulPlan nodes o → IsLawfulPlan nodes (answers_fetch o p have l)
   lawful_answers_fetch o p have None to lines here ok = ok

@@ -1,8 +1,9 @@
 -- The rules Client and Measured keep a node lawful.
-use Rattle.std.proofs.Common.{ℕ, ◌+◌, ◌-◌, ◌==◌, if◌then◌else◌, Option, Some, None, List}
+use Rattle.std.proofs.Common.{ℕ, ◌+◌, ◌-◌, ◌≤◌, ◌==◌, if◌then◌else◌, Option, Some, None, List}
 use Rattle.oc_base.specs.declared.shelf.Shelf.{Shelf}
 use Rattle.oc_model.specs.declared.answer.Answer.TheVariants as words
 use Rattle.oc_model.specs.declared.record.Record.TheVariants as records
+use Rattle.oc_base.specs.declared.limits.TheConstants.{MAX_HOPS}
 use Rattle.oc_base.specs.Lawful.{IsNode, IsRate}
 use Rattle.oc_model.specs.Measures.{reading_of, same_reading}
 use Rattle.oc_model.specs.Numbers.{capped, at, put_at}
@@ -32,10 +33,10 @@ module _ (nodes : ℕ) where
   pub lawful_client : (o : Plan) (shelf : List Shelf) (area start : ℕ) (g : List ℕ) → IsLawfulPlan nodes o → IsLawfulPlan nodes (client o shelf area start g)
   lawful_client o shelf area start g ok = lawful_client_of (line_of g shelf) o area start ok
 
-  pub lawful_measured : (o : Plan) (p rate hops : ℕ) → IsNode nodes p → IsRate rate → IsLawfulPlan nodes o → IsLawfulPlan nodes (measured o p rate hops)
-  lawful_measured o p rate hops to fast ok =
+  pub lawful_measured : (o : Plan) (p rate hops : ℕ) → IsNode nodes p → IsRate rate → hops ≤ MAX_HOPS → IsLawfulPlan nodes o → IsLawfulPlan nodes (measured o p rate hops)
+  lawful_measured o p rate hops to fast near ok =
       either (p == o.node.me) (IsLawfulPlan nodes) (answers o words.Own)
       (if same_reading (reading_of o.node.kept.measures p) (record { rate = rate; hops = hops }) then o else write o (records.Rate p rate hops))
       (lawful_answers nodes o words.Own ok)
       (either (same_reading (reading_of o.node.kept.measures p) (record { rate = rate; hops = hops })) (IsLawfulPlan nodes) o (write o (records.Rate p rate hops))
-      ok (lawful_write nodes o (records.Rate p rate hops) (to, fast) ok))
+      ok (lawful_write nodes o (records.Rate p rate hops) (to, fast, near) ok))

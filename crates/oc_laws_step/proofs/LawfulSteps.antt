@@ -1,7 +1,6 @@
 -- A lawful input leaves a lawful node lawful, and what it writes and sends is lawful.
-use Rattle.std.proofs.Common.{◌≡◌, ℕ, zero, suc, replicate, ◌<◌, ◌≤◌, Bool, Option, Some, None, List, [], ◌∷◌, length, drop, ◌⊎◌, inl, inr, ⊎_elim, refl, ap, sym, subst, arith, length-take}
+use Rattle.std.proofs.Common.{◌≡◌, ℕ, zero, suc, replicate, ◌≤◌, Bool, Option, Some, None, List, [], ◌∷◌, length, drop, ◌⊎◌, inl, inr, ⊎_elim, refl, ap, sym, subst, arith, length-take}
 use Rattle.std.specs.List.{AllByRecursion}
-use Rattle.oc_base.specs.declared.cert.Cert.{Cert}
 use Rattle.oc_base.specs.declared.shelf.Shelf.{Shelf}
 use Rattle.oc_base.specs.Names.{IsGroupName}
 use Rattle.oc_base.specs.declared.group.Group.{Group}
@@ -14,9 +13,9 @@ use Rattle.oc_model.specs.declared.record.Record.{Record}
 use Rattle.oc_model.specs.declared.want.Want.{Want}
 use Rattle.oc_model.specs.Content.{answers_fetch}
 use Rattle.oc_base.specs.Groups.{group_or_empty, shelf}
-use Rattle.oc_base.specs.declared.limits.TheConstants.{MAX_CHUNK_BYTES, MAX_NODES}
-use Rattle.oc_model.specs.Lawful.{IsBody, IsMessage, IsRecord, IsInput}
-use Rattle.oc_base.specs.Lawful.{IsNode, IsRate, IsCert, AreCerts}
+use Rattle.oc_base.specs.declared.limits.TheConstants.{MAX_CHUNK_BYTES, MAX_LOG_LENGTH}
+use Rattle.oc_model.specs.Lawful.{IsBody, IsMessage, IsRecord, IsInput, IsHeader}
+use Rattle.oc_base.specs.Lawful.{IsNode, IsRate}
 use Rattle.oc_base.specs.Shelves.{IsShelf}
 use Rattle.oc_model.specs.Node.{Control, Durable, Node, Header, new_durable, new_node, started_with, restarted}
 use Rattle.oc_model.specs.Records.{fold_one, folded}
@@ -28,7 +27,6 @@ use Rattle.oc_model.proofs.Limits.{all-with_group}
 use Rattle.oc_model.proofs.Lists.{all_weaker}
 use Rattle.oc_model.proofs.Outcomes.{step_leaves}
 use Rattle.oc_laws_step.specs.Frames.{HasFewCerts, IsFew, IsSmall, FitsFrame}
-use Rattle.oc_laws_step.specs.Sound.{AreAbove}
 use Rattle.oc_laws_step.specs.LawfulNode.{IsLawfulDurable, IsLawfulWant, IsLawfulControl, IsLawfulNode, IsLawfulPlan, IsLawfulOutcome}
 use Rattle.oc_laws_step.proofs.Adopts.{goes_asked}
 use Rattle.oc_laws_step.proofs.Asks.{goes_took_yes, goes_took_no, goes_unreachable, goes_relocate}
@@ -42,7 +40,7 @@ use Rattle.oc_laws_step.proofs.LawfulLooks.{lawful_looked, lawful_sees}
 use Rattle.oc_laws_step.proofs.LawfulServes.{lawful_client, lawful_measured}
 use Rattle.oc_laws_step.proofs.Lines.{AreNamed, groups_named, shelf_limits, limits_shelf}
 use Rattle.oc_laws_step.proofs.Looks.{goes_looked, goes_sees}
-use Rattle.oc_laws_step.proofs.Ranges.{all_map, few_rows}
+use Rattle.oc_laws_step.proofs.Ranges.{all_map, rows_few}
 use Rattle.oc_laws_step.proofs.Serves.{goes_client, goes_measured}
 use Rattle.oc_laws_step.proofs.Soundness.{fits}
 use Rattle.oc_laws_step.proofs.Steps.{goes_pulled}
@@ -53,26 +51,26 @@ lawful_received : (nodes : ℕ) (o : Plan) (lines : List Shelf) (p : ℕ) (b : B
 lawful_received nodes o lines p bodies.Look from body ls ok = lawful_looked nodes o p from ok
 lawful_received nodes o lines p (bodies.LookIs is_in parent rate children) from body ls ok =
     lawful_sees nodes o p (record { in_tree = is_in; parent = parent; rate = rate; children = children }) from (record { parent = body.0; children = body.2 }) ok
-lawful_received nodes o lines p (bodies.Ask seq rank) from body ls ok = lawful_asked nodes o p seq rank from body.0 ok
-lawful_received nodes o lines p (bodies.Yes seq rank ancestors) from body ls ok = lawful_took_yes nodes o p seq rank ancestors from body.2.0 ok
+lawful_received nodes o lines p (bodies.Ask seq rank) from body ls ok = lawful_asked nodes o p seq rank from body.0 body.1 ok
+lawful_received nodes o lines p (bodies.Yes seq rank ancestors) from body ls ok = lawful_took_yes nodes o p seq rank ancestors from body.1 body.2.0 ok
 lawful_received nodes o lines p (bodies.No seq why) from body ls ok = lawful_took_no nodes o p seq why body.1 ok
-lawful_received nodes o lines p (bodies.CheckIn seq upto rate number clients certs) from body ls ok = lawful_checked_in nodes o p seq upto rate number clients certs from body.0 body.1 body.2 ok
-lawful_received nodes o lines p (bodies.CheckAck seq upto rank ancestors) from body ls ok = lawful_took_ack nodes o p seq upto rank ancestors from body.2.0 ok
+lawful_received nodes o lines p (bodies.CheckIn seq upto rate number clients certs) from body ls ok = lawful_checked_in nodes o p seq upto rate number clients certs from body.0 body.1 body.2 body.3 body.4 body.5 ok
+lawful_received nodes o lines p (bodies.CheckAck seq upto rank ancestors) from body ls ok = lawful_took_ack nodes o p seq upto rank ancestors from body.2 body.3.0 ok
 lawful_received nodes o lines p (bodies.Rejoin seq) from body ls ok = lawful_took_rejoin nodes o p seq from ok
 lawful_received nodes o lines p (bodies.Fetch have) from body ls ok = lawful_fetched nodes o lines p have from ls body ok
 lawful_received nodes o lines p (bodies.Chunk g start bytes last) from body ls ok = lawful_took_chunk nodes o lines p g start bytes last from ls body.0 ok
 
-pub lawful_planned : (nodes : ℕ) (n : Control) (lines : List Shelf) (i : Input) → IsInput nodes n.me i → IsShelf lines → IsLawfulControl nodes n → IsLawfulPlan nodes (plan n lines i)
-lawful_planned nodes n lines (inputs.Tick t) fair ls ok = lawful_tick nodes (begun n) lines t fair ls (lawful_begun nodes n ok)
-lawful_planned nodes n lines inputs.CheckNow fair ls ok = lawful_checks nodes (begun n) (lawful_begun nodes n ok)
-lawful_planned nodes n lines (inputs.Relocate p) fair ls ok = lawful_relocate nodes (begun n) p fair (lawful_begun nodes n ok)
-lawful_planned nodes n lines (inputs.Unreachable p) fair ls ok = lawful_unreachable nodes (begun n) p (lawful_begun nodes n ok)
-lawful_planned nodes n lines (inputs.Pull p) fair ls ok = lawful_pulled nodes (begun n) lines p fair ls (lawful_begun nodes n ok)
-lawful_planned nodes n lines (inputs.Measured p rate hops) fair ls ok = lawful_measured nodes (begun n) p rate hops fair.0 fair.1 (lawful_begun nodes n ok)
-lawful_planned nodes n lines (inputs.Publish g bytes) fair ls ok = lawful_published nodes (begun n) lines g bytes (lawful_begun nodes n ok)
-lawful_planned nodes n lines (inputs.Seal g) fair ls ok = lawful_sealed_at nodes (begun n) lines g (lawful_begun nodes n ok)
-lawful_planned nodes n lines (inputs.Client area start g) fair ls ok = lawful_client nodes (begun n) lines area start g (lawful_begun nodes n ok)
-lawful_planned nodes n lines (inputs.Delivered m) fair ls ok = lawful_received nodes (begun n) lines m.from m.body fair.0.from fair.0.body ls (lawful_begun nodes n ok)
+pub lawful_planned : (nodes : ℕ) (n : Control) (lines : List Shelf) (i : Input) → IsInput nodes n.me i → IsShelf lines → n.kept.log.length ≤ MAX_LOG_LENGTH → IsLawfulControl nodes n → IsLawfulPlan nodes (plan n lines i)
+lawful_planned nodes n lines (inputs.Tick t) fair ls short ok = lawful_tick nodes (begun n) lines t fair ls (lawful_begun nodes n short ok)
+lawful_planned nodes n lines inputs.CheckNow fair ls short ok = lawful_checks nodes (begun n) (lawful_begun nodes n short ok)
+lawful_planned nodes n lines (inputs.Relocate p) fair ls short ok = lawful_relocate nodes (begun n) p fair (lawful_begun nodes n short ok)
+lawful_planned nodes n lines (inputs.Unreachable p) fair ls short ok = lawful_unreachable nodes (begun n) p (lawful_begun nodes n short ok)
+lawful_planned nodes n lines (inputs.Pull p) fair ls short ok = lawful_pulled nodes (begun n) lines p fair ls (lawful_begun nodes n short ok)
+lawful_planned nodes n lines (inputs.Measured p rate hops) fair ls short ok = lawful_measured nodes (begun n) p rate hops fair.0 fair.1 fair.2 (lawful_begun nodes n short ok)
+lawful_planned nodes n lines (inputs.Publish g bytes) fair ls short ok = lawful_published nodes (begun n) lines g bytes (lawful_begun nodes n short ok)
+lawful_planned nodes n lines (inputs.Seal g) fair ls short ok = lawful_sealed_at nodes (begun n) lines g (lawful_begun nodes n short ok)
+lawful_planned nodes n lines (inputs.Client area start g) fair ls short ok = lawful_client nodes (begun n) lines area start g (lawful_begun nodes n short ok)
+lawful_planned nodes n lines (inputs.Delivered m) fair ls short ok = lawful_received nodes (begun n) lines m.from m.body fair.0.from fair.0.body ls (lawful_begun nodes n short ok)
 
 -- Content
 
@@ -141,18 +139,37 @@ sends_filled nodes (Some w) ks ms few all =
     (all_weaker (IsMessage nodes) (λ m. IsMessage nodes (fill (bytes_wanted ks w) m))
     (λ m h. record { from = h.from; to = h.to; body = body_filled nodes (bytes_wanted ks w) m.body (omega (arith, few, length-take w.count (drop w.start (group_or_empty w.group ks).bytes))) h.body }) ms all)
 
+-- Frames
+
+-- a lawful node's table has no more rows than there are nodes
+small_lawful : (nodes : ℕ) (n : Control) → IsLawfulControl nodes n → IsSmall n
+small_lawful nodes n ok = record { nodes = omega (arith, ok.among, ok.few); table = omega (arith, ok.among, rows_few nodes n.kept.table ok.kept.sorted ok.kept.table) }
+
+few_body : (nodes : ℕ) (b : Body) → IsBody nodes b → HasFewCerts b
+few_body nodes (bodies.CheckIn seq upto rate number clients certs) here = here.6
+few_body nodes b here = tt
+
+few_lawful : (nodes me : ℕ) (i : Input) → IsInput nodes me i → IsFew i
+few_lawful nodes me (inputs.Delivered m) fair = few_body nodes m.body fair.0.body
+few_lawful nodes me i fair = tt
+
+-- so what a lawful input writes fits a frame
+pub lawful_fits : (nodes : ℕ) (n : Node) (i : Input) → IsInput nodes n.control.me i → IsLawfulNode nodes n → FitsFrame (step n i).records
+lawful_fits nodes n i fair ok = fits n i (small_lawful nodes n.control ok.control) (few_lawful nodes n.control.me i fair)
+
 -- The step
 
-pub lawful_stepped : (nodes : ℕ) (n : Node) (i : Input) → IsInput nodes n.control.me i → IsLawfulNode nodes n → IsLawfulOutcome nodes (step n i)
-lawful_stepped nodes n i fair ok =
-    let planned = lawful_planned nodes n.control (shelf n.groups) i fair ok.shelf ok.control in
+pub lawful_stepped : (nodes : ℕ) (n : Node) (i : Input) → IsInput nodes n.control.me i → n.control.kept.log.length ≤ MAX_LOG_LENGTH → IsLawfulNode nodes n → IsLawfulOutcome nodes (step n i)
+lawful_stepped nodes n i fair short ok =
+    let planned = lawful_planned nodes n.control (shelf n.groups) i fair ok.shelf short ok.control in
+    let few = (lawful_fits nodes n i fair ok).records in
     record {
       node = record {
         control = planned.node;
         shelf = limits_shelf (step n i).node.groups ((step_leaves n i).limits (shelf_limits n.groups ok.shelf)) (named_after nodes n i fair (groups_named n.groups ok.shelf.0));
       };
-      records = planned.records;
-      sends = sends_filled nodes (plan n.control (shelf n.groups) i).wants n.groups (plan n.control (shelf n.groups) i).sends planned.wants planned.sends;
+      records = planned.records few;
+      sends = sends_filled nodes (plan n.control (shelf n.groups) i).wants n.groups (plan n.control (shelf n.groups) i).sends planned.wants (planned.sends few);
     }
 
 -- Where it begins
@@ -161,22 +178,24 @@ all_replicate : {X : Type 0} (P : X → Type 0) (n : ℕ) (x : X) → P x → Al
 all_replicate P zero x here = tt
 all_replicate P (suc n) x here = (here, all_replicate P n x here)
 
-pub lawful_started : (h : Header) (x : ℕ) (d : Durable) → IsNode h.nodes x → h.chain ≤ h.nodes → IsLawfulDurable h.nodes d → IsLawfulControl h.nodes (started_with h x d)
-lawful_started h x d me chain ok = record {
+pub lawful_started : (h : Header) (x : ℕ) (d : Durable) → IsHeader h → IsNode h.nodes x → IsLawfulDurable h.nodes d → IsLawfulControl h.nodes (started_with h x d)
+lawful_started h x d header me ok = record {
+  few = header.few;
   among = refl;
   me = me;
-  chain = chain;
+  chain = header.within;
   kept = ok;
   soft = record { clock = omega arith; tries = tt; search = tt };
   rates = all_replicate IsRate h.nodes 0 (omega arith);
 }
 
-pub lawful_new : (h : Header) (x : ℕ) → IsNode h.nodes x → h.chain ≤ h.nodes → IsLawfulNode h.nodes (new_node h x)
-lawful_new h x me chain = record { control = lawful_started h x (new_durable h.nodes) me chain (lawful_new_durable h.nodes h.nodes); shelf = (tt, omega arith) }
+pub lawful_new : (h : Header) (x : ℕ) → IsHeader h → IsNode h.nodes x → IsLawfulNode h.nodes (new_node h x)
+lawful_new h x header me = record { control = lawful_started h x (new_durable h.nodes) header me (lawful_new_durable h.nodes h.nodes); shelf = (tt, omega arith) }
 
 pub lawful_restarted : (nodes : ℕ) (n : Node) → IsLawfulNode nodes n → IsLawfulNode nodes (restarted n)
 lawful_restarted nodes n ok = record {
   control = record {
+    few = ok.control.few;
     among = ok.control.among;
     me = ok.control.me;
     chain = ok.control.chain;
@@ -191,26 +210,3 @@ lawful_restarted nodes n ok = record {
 pub lawful_folded : (nodes : ℕ) (d : Durable) (rs : List Record) → AllByRecursion (IsRecord nodes) rs → IsLawfulDurable nodes d → IsLawfulDurable nodes (folded d rs)
 lawful_folded nodes d [] all ok = ok
 lawful_folded nodes d (r ∷ rs) all ok = lawful_folded nodes (fold_one d r) rs all.1 (lawful_fold_one nodes d r all.0 ok)
-
--- Frames
-
-above_none : (nodes : ℕ) (t : List Cert) → AreCerts nodes t → AreAbove 0 t
-above_none nodes t all = all_weaker (IsCert nodes) (λ k. 0 < k.subject) (λ k h. h.subject.0) t all
-
--- a lawful node's table has no more rows than there are nodes
-small_lawful : (nodes : ℕ) (n : Control) → nodes ≤ MAX_NODES → IsLawfulControl nodes n → IsSmall n
-small_lawful nodes n few ok =
-    let rows = few_rows nodes n.kept.table 0 (omega arith) (above_none nodes n.kept.table ok.kept.table) ok.kept.sorted ok.kept.table in
-    record { nodes = omega (arith, ok.among, few); table = omega (arith, ok.among, rows) }
-
-few_body : (nodes : ℕ) (b : Body) → IsBody nodes b → HasFewCerts b
-few_body nodes (bodies.CheckIn seq upto rate number clients certs) here = here.3
-few_body nodes b here = tt
-
-few_lawful : (nodes me : ℕ) (i : Input) → IsInput nodes me i → IsFew i
-few_lawful nodes me (inputs.Delivered m) fair = few_body nodes m.body fair.0.body
-few_lawful nodes me i fair = tt
-
--- so what a lawful input writes fits a frame
-pub lawful_fits : (nodes : ℕ) (n : Node) (i : Input) → nodes ≤ MAX_NODES → IsInput nodes n.control.me i → IsLawfulNode nodes n → FitsFrame (step n i).records
-lawful_fits nodes n i few fair ok = fits n i (small_lawful nodes n.control few ok.control) (few_lawful nodes n.control.me i fair)

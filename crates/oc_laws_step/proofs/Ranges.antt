@@ -1,8 +1,8 @@
 -- What the small decisions give is within the ranges of what they are given.
-use Rattle.std.proofs.Common.{ℕ, zero, suc, ◌+◌, ◌-◌, ◌*◌, ◌≤◌, min, Bool, not, ◌&&◌, ◌||◌, ◌==◌, nat_lt, nat_le, if◌then◌else◌, Option, Some, None, option_map, List, [], ◌∷◌, ◌++◌, length, map, filter, find, take, set, get_or, arith}
+use Rattle.std.proofs.Common.{◌≡◌, ℕ, zero, suc, ◌+◌, ◌-◌, ◌*◌, ◌<◌, ◌≤◌, min, Bool, true, false, not, ◌&&◌, ◌||◌, ◌==◌, nat_lt, nat_le, if◌then◌else◌, Option, Some, None, option_map, unwrap_or, List, [], ◌∷◌, ◌++◌, length, map, filter, find, take, set, get_or, refl, arith}
 use Rattle.std.specs.List.{AllByRecursion, range_with_len}
 use Rattle.std.specs.Option.{option_or}
-use Rattle.std.proofs.lemmas.Bool.{cond_both}
+use Rattle.std.proofs.lemmas.Bool.{cond_both, eqb-false}
 use Rattle.oc_base.specs.declared.cert.Cert.{Cert}
 use Rattle.oc_base.specs.declared.rank.Rank.{Rank}
 use Rattle.oc_base.specs.declared.refusal.Refusal.{Refusal}
@@ -14,12 +14,13 @@ use Rattle.oc_model.specs.declared.reading.Reading.{Reading}
 use Rattle.oc_model.specs.Adoption.{Host, rank_or_last, chain_refusal, rank_refusal, adoption_refusal, precedes_any}
 use Rattle.oc_base.specs.declared.limits.TheConstants.{MAX_DEPTH}
 use Rattle.oc_model.specs.Choice.{nearer_of, nearest, is_nearer, is_suitable, chosen, View, go_beneath, reviewed_with, reviewed, below, each_once, just, ask_order}
-use Rattle.oc_base.specs.Lawful.{IsNode, AreNodes, IsRate, IsRank, IsRankOrNone, IsCert, AreCerts, IsRefusal}
+use Rattle.oc_base.specs.Lawful.{IsNode, AreNodes, IsLong, IsRate, IsRank, IsRankOrNone, IsCert, AreCerts, IsRefusal}
 use Rattle.oc_model.specs.Measures.{reading_of}
 use Rattle.oc_model.specs.Node.{no_reading}
-use Rattle.oc_model.specs.Numbers.{has}
+use Rattle.oc_model.specs.Numbers.{has, number_end, raise, capped}
 use Rattle.oc_model.specs.Table.{newest, put, is_news, merge, is_lease_of, leased_children}
 use Rattle.oc_model.proofs.Lists.{all_weaker, all_append}
+use Rattle.oc_laws_step.specs.LawfulNode.{IsReading}
 use Rattle.oc_laws_step.specs.Sound.{AreAbove, IsTable}
 
 -- Lists
@@ -84,14 +85,38 @@ pub few_rows : (nodes : ℕ) (t : List Cert) (x : ℕ) → x ≤ nodes → AreAb
 few_rows nodes [] x most above up all = omega arith
 few_rows nodes (k ∷ ks) x most above up all = let rest = few_rows nodes ks k.subject all.0.subject.1 up.0 up.1 all.1 in omega (arith, rest, above.0)
 
--- Measures and ranks
+above_none : (nodes : ℕ) (t : List Cert) → AreCerts nodes t → AreAbove 0 t
+above_none nodes t all = all_weaker (IsCert nodes) (λ k. 0 < k.subject) (λ k h. h.subject.0) t all
 
-pub reading_rate : (ms : List Reading) (x : ℕ) → AllByRecursion (λ r. IsRate r.rate) ms → IsRate (reading_of ms x).rate
-reading_rate ms x all = all_at (λ r. IsRate r.rate) ms (x - 1) no_reading (omega arith) all
+-- a table of nodes has no more rows than there are nodes
+pub rows_few : (nodes : ℕ) (t : List Cert) → IsTable t → AreCerts nodes t → length t ≤ nodes
+rows_few nodes t sorted all = let rows = few_rows nodes t 0 (omega arith) (above_none nodes t all) sorted all in omega (arith, rows)
+
+-- Measures, ranks and numbers
+
+pub reading_rate : (ms : List Reading) (x : ℕ) → AllByRecursion IsReading ms → IsRate (reading_of ms x).rate
+reading_rate ms x all = let one : IsReading (reading_of ms x) = all_at IsReading ms (x - 1) no_reading (omega arith, omega arith) all in one.0
 
 pub rank_lawful : (r : Option Rank) → IsRankOrNone r → IsRank (rank_or_last r)
-rank_lawful None h = omega arith
+rank_lawful None h = (omega arith, omega arith)
 rank_lawful (Some r) h = h
+
+-- the next number, if there is one, has 64 bits
+pub raise_lawful : (e : ℕ) → IsLong e → IfFound IsLong (raise e)
+raise_lawful e h = by_end (e == number_end) refl where
+  by_end : (b : Bool) → e == number_end ≡ b → IfFound IsLong (if b then None else Some (e + 1))
+  by_end true is = tt
+  by_end false is = let other : e ≡ number_end → ⊥ = eqb-false e number_end is in omega (arith, h, other)
+
+-- and so has the one that stays where there is none
+pub next_lawful : (e : ℕ) → IsLong e → IsLong (unwrap_or (raise e) e)
+next_lawful e h = by_next (raise e) (raise_lawful e h) where
+  by_next : (next : Option ℕ) → IfFound IsLong next → IsLong (unwrap_or next e)
+  by_next None k = h
+  by_next (Some n) k = k
+
+pub capped_lawful : (n : ℕ) → IsLong (capped n)
+capped_lawful n = omega arith
 
 -- Places
 

@@ -1,15 +1,16 @@
-use Rattle.std.specs.Prelude.{ℕ, ◌≡◌, ◌≤◌, Option, Some, None}
+use Rattle.std.specs.Prelude.{ℕ, ◌≡◌, ◌+◌, ◌≤◌, Option, Some, None, length}
 use Rattle.std.specs.List.{AllByRecursion}
 use Rattle.oc_model.specs.declared.mode.Mode.{Mode}
 use Rattle.oc_model.specs.declared.mode.Mode.TheVariants.{Asking, Joined}
+use Rattle.oc_model.specs.declared.reading.Reading.{Reading}
 use Rattle.oc_model.specs.declared.soft.Search.{Search}
 use Rattle.oc_model.specs.declared.soft.Search.TheVariants.{Descend}
 use Rattle.oc_model.specs.declared.soft.Soft.{Soft}
 use Rattle.oc_model.specs.declared.want.Want.{Want}
 use Rattle.oc_base.specs.Groups.{shelf}
-use Rattle.oc_base.specs.declared.limits.TheConstants.{MAX_CHUNK_BYTES, LAST_SECOND}
-use Rattle.oc_model.specs.Lawful.{IsMessage, IsRecord}
-use Rattle.oc_base.specs.Lawful.{IsNode, AreNodes, AreAncestors, IsRate, IsRankOrNone, AreCerts}
+use Rattle.oc_base.specs.declared.limits.TheConstants.{MAX_NODES, MAX_HOPS, MAX_LOG_LENGTH, MAX_CHUNK_BYTES, MAX_FRAME_RECORDS, LAST_SECOND}
+use Rattle.oc_model.specs.Lawful.{IsMessage, AreRecords}
+use Rattle.oc_base.specs.Lawful.{IsNode, AreNodes, AreAncestors, IsLong, IsRate, IsRankOrNone, AreCerts}
 use Rattle.oc_base.specs.Shelves.{IsShelf}
 use Rattle.oc_model.specs.Node.{Control, Durable, Node, Outcome}
 use Rattle.oc_model.specs.Plan.{Plan}
@@ -23,15 +24,23 @@ IsLawfulMode nodes seq (Asking p) = (1 ≤ seq) × IsNode nodes p
 IsLawfulMode nodes seq (Joined p) = (1 ≤ seq) × IsNode nodes p
 IsLawfulMode nodes seq mode = Unit {0}
 
--- what is durable of a node among so many
+-- a reading of a peer
+abbrev pub IsReading : Reading → Type 0
+IsReading r = IsRate r.rate × (r.hops ≤ MAX_HOPS)
+
+-- what is durable of a node among this many; the change log is whole, and its length has a limit of its own
 pub record IsLawfulDurable (nodes : ℕ) (d : Durable) : Type 0 where
+  pub seq : IsLong d.seq
   pub mode : IsLawfulMode nodes d.seq d.mode
   pub rank : IsRankOrNone d.rank
+  pub number : IsLong d.number
+  pub clients : IsLong d.clients
   pub sorted : IsTable d.table
   pub table : AreCerts nodes d.table
   pub waiting : AreCerts nodes d.log.waiting
+  pub whole : d.log.length ≡ d.log.acked + length d.log.waiting
   pub ancestors : AreAncestors nodes d.ancestors
-  pub measures : AllByRecursion (λ r. IsRate r.rate) d.measures
+  pub measures : AllByRecursion IsReading d.measures
 
 abbrev pub IsLawfulSearch : ℕ → Option Search → Type 0
 IsLawfulSearch nodes (Some (Descend p)) = IsNode nodes p
@@ -43,8 +52,9 @@ pub record IsLawfulSoft (nodes : ℕ) (s : Soft) : Type 0 where
   pub tries : AreNodes nodes s.tries
   pub search : IsLawfulSearch nodes s.search
 
--- the control state of a node among so many
+-- the control state of a node among this many
 pub record IsLawfulControl (nodes : ℕ) (n : Control) : Type 0 where
+  pub few : nodes ≤ MAX_NODES
   pub among : n.nodes ≡ nodes
   pub me : IsNode nodes n.me
   pub chain : n.chain ≤ nodes
@@ -57,11 +67,13 @@ abbrev pub IsLawfulWant : Option Want → Type 0
 IsLawfulWant None = Unit {0}
 IsLawfulWant (Some w) = w.count ≤ MAX_CHUNK_BYTES
 
--- a step under way: of a lawful node, with lawful records and messages
+-- a step under way, of a lawful node: each record lengthens the change log by one certificate at most, and while there are no more of them
+-- than a frame may have, they and the messages are lawful
 pub record IsLawfulPlan (nodes : ℕ) (o : Plan) : Type 0 where
   pub node : IsLawfulControl nodes o.node
-  pub records : AllByRecursion (IsRecord nodes) o.records
-  pub sends : AllByRecursion (IsMessage nodes) o.sends
+  pub log : o.node.kept.log.length ≤ MAX_LOG_LENGTH + length o.records
+  pub records : length o.records ≤ MAX_FRAME_RECORDS → AreRecords nodes o.records
+  pub sends : length o.records ≤ MAX_FRAME_RECORDS → AllByRecursion (IsMessage nodes) o.sends
   pub wants : IsLawfulWant o.wants
 
 -- a node: its control state and its shelf
@@ -72,5 +84,5 @@ pub record IsLawfulNode (nodes : ℕ) (n : Node) : Type 0 where
 -- what a step leaves, writes and sends
 pub record IsLawfulOutcome (nodes : ℕ) (o : Outcome) : Type 0 where
   pub node : IsLawfulNode nodes o.node
-  pub records : AllByRecursion (IsRecord nodes) o.records
+  pub records : AreRecords nodes o.records
   pub sends : AllByRecursion (IsMessage nodes) o.sends

@@ -8,7 +8,7 @@ use Rattle.oc_model.specs.declared.mode.Mode.TheVariants.{Idle, Asking, Joined, 
 use Rattle.oc_model.specs.Chains.{IsUp, IsJoined}
 use Rattle.oc_model.specs.ChangeLog.{IsWaiting}
 use Rattle.oc_model.specs.Checking.{is_joined_to}
-use Rattle.oc_model.specs.NextWorld.{IsKeptNew, is_kept_new}
+use Rattle.oc_base.specs.Stops.{IsKeptNew, is_kept_new}
 use Rattle.oc_model.specs.Numbers.{IsAmong}
 use Rattle.oc_model.specs.Ready.{IsSettled, is_ready, is_current, is_empty, holds_current, has_told, is_calm, is_settled}
 use Rattle.oc_model.specs.Records.{is_joined}

@@ -1,9 +1,10 @@
 -- Lawful values: what is within the ranges of the texts, of the wire and of the records.
-use Rattle.std.specs.Prelude.{ℕ, ◌≤◌, ◌<◌, ◌≡◌, length}
-use Rattle.oc_base.specs.Lawful.{IsNode, IsNodeOrNone, IsRate, IsRank, IsRankOrNone, IsCert, AreCerts, AreAncestors, IsRefusal, AreChildren}
+use Rattle.std.specs.Prelude.{ℕ, ◌≤◌, ◌≡◌, List, length}
+use Rattle.std.specs.List.{AllByRecursion}
+use Rattle.oc_base.specs.Lawful.{IsNode, IsNodeOrNone, IsLong, IsCount, IsRate, IsRank, IsRankOrNone, IsCert, AreCerts, AreAncestors, IsRefusal, AreChildren}
 use Rattle.oc_base.specs.Names.{IsGroupName}
 use Rattle.oc_base.specs.Shelves.{IsShelf}
-use Rattle.oc_base.specs.declared.limits.TheConstants.{MAX_NODES, MAX_CHAIN, MAX_CHECK_IN_CERTS, MAX_TIME, MAX_BASE_ACKED, MAX_GROUP_BYTES, MAX_CHUNK_BYTES, MAX_PUBLISH_BYTES, MAX_START, LAST_SECOND}
+use Rattle.oc_base.specs.declared.limits.TheConstants.{MAX_NODES, MAX_CHAIN, MAX_AREA, MAX_HOPS, MAX_CHECK_IN_CERTS, MAX_TIME, MAX_BASE_ACKED, MAX_GROUP_BYTES, MAX_CHUNK_BYTES, MAX_PUBLISH_BYTES, MAX_START, LAST_SECOND}
 use Rattle.oc_model.specs.declared.event.Act.{Act}
 use Rattle.oc_model.specs.declared.event.Act.TheVariants as acts
 use Rattle.oc_model.specs.declared.event.Event.{Event}
@@ -22,12 +23,12 @@ use Rattle.oc_model.specs.Node.{Header}
 abbrev pub IsBody : ℕ → Body → Type 0
 IsBody nodes bodies.Look = Unit {0}
 IsBody nodes (bodies.LookIs in_tree parent rate children) = IsNodeOrNone nodes parent × IsRate rate × AreChildren nodes children
-IsBody nodes (bodies.Ask seq rank) = (1 ≤ seq) × IsRankOrNone rank
-IsBody nodes (bodies.Yes seq rank ancestors) = (1 ≤ seq) × IsRank rank × AreAncestors nodes ancestors
-IsBody nodes (bodies.No seq why) = (1 ≤ seq) × IsRefusal nodes why
-IsBody nodes (bodies.CheckIn seq upto rate number clients certs) = (1 ≤ seq) × IsRate rate × AreCerts nodes certs × (length certs ≤ MAX_CHECK_IN_CERTS)
-IsBody nodes (bodies.CheckAck seq upto rank ancestors) = (1 ≤ seq) × IsRank rank × AreAncestors nodes ancestors
-IsBody nodes (bodies.Rejoin seq) = 1 ≤ seq
+IsBody nodes (bodies.Ask seq rank) = IsCount seq × IsRankOrNone rank
+IsBody nodes (bodies.Yes seq rank ancestors) = IsCount seq × IsRank rank × AreAncestors nodes ancestors
+IsBody nodes (bodies.No seq why) = IsCount seq × IsRefusal nodes why
+IsBody nodes (bodies.CheckIn seq upto rate number clients certs) = IsCount seq × IsLong upto × IsRate rate × IsLong number × IsLong clients × AreCerts nodes certs × (length certs ≤ MAX_CHECK_IN_CERTS)
+IsBody nodes (bodies.CheckAck seq upto rank ancestors) = IsCount seq × IsLong upto × IsRank rank × AreAncestors nodes ancestors
+IsBody nodes (bodies.Rejoin seq) = IsCount seq
 IsBody nodes (bodies.Fetch have) = IsShelf have
 IsBody nodes (bodies.Chunk group start bytes last) = IsGroupName group × (start ≤ MAX_GROUP_BYTES) × (length bytes ≤ MAX_CHUNK_BYTES)
 
@@ -39,17 +40,22 @@ pub record IsMessage (nodes : ℕ) (m : Message) : Type 0 where
 -- Records
 
 abbrev pub IsRecord : ℕ → Record → Type 0
-IsRecord nodes (records.Ask seq peer) = (1 ≤ seq) × IsNode nodes peer
+IsRecord nodes (records.Ask seq peer) = IsCount seq × IsNode nodes peer
 IsRecord nodes (records.Joined peer rank) = IsNode nodes peer × IsRank rank
 IsRecord nodes (records.Ranked rank) = IsRank rank
-IsRecord nodes (records.OldEntry subject seq parent dead) = IsNode nodes subject × (1 ≤ seq) × IsNode nodes parent
+IsRecord nodes (records.OldEntry subject seq parent dead) = IsNode nodes subject × IsCount seq × IsNode nodes parent
+IsRecord nodes (records.Acked upto) = IsLong upto
 IsRecord nodes (records.Ancestors ids) = AreAncestors nodes ids
-IsRecord nodes (records.Rate peer rate hops) = IsNode nodes peer × IsRate rate
+IsRecord nodes (records.Rate peer rate hops) = IsNode nodes peer × IsRate rate × (hops ≤ MAX_HOPS)
+IsRecord nodes (records.Epoch epoch) = IsLong epoch
 IsRecord nodes (records.Base acked) = acked ≤ MAX_BASE_ACKED
-IsRecord nodes (records.Snapshot generation) = 1 ≤ generation
+IsRecord nodes (records.Snapshot generation) = IsCount generation
 IsRecord nodes (records.Entry cert) = IsCert nodes cert
-IsRecord nodes (records.Info number clients) = 1 ≤ number
+IsRecord nodes (records.Info number clients) = IsCount number × IsLong clients
 IsRecord nodes r = Unit {0}
+
+abbrev pub AreRecords : ℕ → List Record → Type 0
+AreRecords nodes rs = AllByRecursion (IsRecord nodes) rs
 
 -- Inputs
 
@@ -60,10 +66,10 @@ IsInput nodes me inputs.CheckNow = Unit {0}
 IsInput nodes me (inputs.Relocate p) = IsNode nodes p
 IsInput nodes me (inputs.Unreachable p) = IsNode nodes p
 IsInput nodes me (inputs.Pull p) = IsNode nodes p
-IsInput nodes me (inputs.Measured p rate hops) = IsNode nodes p × IsRate rate
+IsInput nodes me (inputs.Measured p rate hops) = IsNode nodes p × IsRate rate × (hops ≤ MAX_HOPS)
 IsInput nodes me (inputs.Publish group bytes) = IsGroupName group × (length bytes ≤ MAX_PUBLISH_BYTES)
 IsInput nodes me (inputs.Seal group) = IsGroupName group
-IsInput nodes me (inputs.Client area start group) = (start ≤ MAX_START) × IsGroupName group
+IsInput nodes me (inputs.Client area start group) = (area ≤ MAX_AREA) × (start ≤ MAX_START) × IsGroupName group
 IsInput nodes me (inputs.Delivered m) = IsMessage nodes m × (m.to ≡ me)
 
 -- Schedules
@@ -76,6 +82,7 @@ pub record IsHeader (h : Header) : Type 0 where
   pub short : h.chain ≤ MAX_CHAIN
   pub within : h.chain ≤ h.nodes
   pub areas : length h.areas ≡ h.nodes
+  pub bytes : AllByRecursion (λ a. a ≤ MAX_AREA) h.areas
 
 abbrev pub IsAct : ℕ → Act → Type 0
 IsAct nodes (acts.Tick x t) = IsNode nodes x × (t ≤ MAX_TIME)
@@ -83,11 +90,11 @@ IsAct nodes (acts.Check x) = IsNode nodes x
 IsAct nodes (acts.Move x p) = IsNode nodes x × IsNode nodes p
 IsAct nodes (acts.Fail x p) = IsNode nodes x × IsNode nodes p
 IsAct nodes (acts.Pull x p) = IsNode nodes x × IsNode nodes p
-IsAct nodes (acts.Measure x p rate hops) = IsNode nodes x × IsNode nodes p × IsRate rate × (hops ≤ 255)
+IsAct nodes (acts.Measure x p rate hops) = IsNode nodes x × IsNode nodes p × IsRate rate × (hops ≤ MAX_HOPS)
 IsAct nodes (acts.Publish x g bytes) = IsNode nodes x × IsGroupName g × (length bytes ≤ MAX_PUBLISH_BYTES)
 IsAct nodes (acts.Seal x g) = IsNode nodes x × IsGroupName g
-IsAct nodes (acts.Client x area start g) = IsNode nodes x × (area ≤ 255) × (start ≤ MAX_START) × IsGroupName g
-IsAct nodes (acts.Deliver k) = (1 ≤ k) × (k < 18446744073709551616)
+IsAct nodes (acts.Client x area start g) = IsNode nodes x × (area ≤ MAX_AREA) × (start ≤ MAX_START) × IsGroupName g
+IsAct nodes (acts.Deliver k) = IsCount k
 
 abbrev pub IsEvent : ℕ → Event → Type 0
 IsEvent nodes (events.Up x) = IsNode nodes x

@@ -1,4 +1,4 @@
-use Rattle.std.specs.Prelude.{◌≡◌, ℕ, ◌⊎◌, Bool, true, false, not, ◌&&◌, ◌||◌, ◌==◌, if◌then◌else◌, Option, Some, None, is_some, List, [], ◌∷◌, length}
+use Rattle.std.specs.Prelude.{ℕ, Bool, true, false, not, ◌&&◌, ◌||◌, if◌then◌else◌, Option, Some, None, is_some, List, [], ◌∷◌, length}
 use Rattle.oc_model.specs.declared.answer.Answer.TheVariants as answers
 use Rattle.oc_model.specs.declared.event.Act.{Act}
 use Rattle.oc_model.specs.declared.event.Event.{Event}
@@ -8,6 +8,7 @@ use Rattle.oc_model.specs.declared.record.Record.{Record}
 use Rattle.oc_model.specs.declared.word.Word.{Word}
 use Rattle.oc_model.specs.declared.word.Word.TheVariants as words
 use Rattle.oc_base.specs.Groups.{shelf}
+use Rattle.oc_base.specs.Stops.{is_kept_new}
 use Rattle.oc_model.specs.Heal.{is_able, leader, heals}
 use Rattle.oc_model.specs.Node.{Node, Outcome, restarted}
 use Rattle.oc_model.specs.Ready.{is_ready}
@@ -37,13 +38,6 @@ stopped n = down (restarted n)
 -- a crash, of a node that is up
 abbrev pub crashed : World → Process → World
 crashed w p = if p.up then put w (stopped p.node) else w
-
--- of the four device calls of a write the first k work, and behind them an image has this byte: the write is kept
-abbrev pub IsKeptNew : ℕ → ℕ → Type 0
-IsKeptNew k image = (k ≡ 4) ⊎ ((k ≡ 3) × (image ≡ 1))
-
-abbrev pub is_kept_new : ℕ → ℕ → Bool
-is_kept_new k image = k == 4 || (k == 3 && image == 1)
 
 -- an input whose write is cut off: it is kept, or all is as before; nothing is sent
 abbrev pub cut_off : Bool → World → Node → Input → Outcome → World

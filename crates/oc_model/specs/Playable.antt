@@ -1,10 +1,10 @@
-use Rattle.std.specs.Prelude.{ℕ, ◌≤◌, ◌<◌, length}
+use Rattle.std.specs.Prelude.{ℕ, ◌≤◌, length}
 use Rattle.oc_base.specs.Names.{IsGroupName}
 use Rattle.oc_model.specs.declared.event.Act.{Act}
 use Rattle.oc_model.specs.declared.event.Act.TheVariants as acts
 use Rattle.oc_model.specs.declared.event.Event.{Event}
 use Rattle.oc_model.specs.declared.event.Event.TheVariants as events
-use Rattle.oc_base.specs.Lawful.{IsNode}
+use Rattle.oc_base.specs.Lawful.{IsNode, IsCount}
 use Rattle.oc_base.specs.declared.limits.TheConstants.{MAX_PUBLISH_BYTES}
 
 -- What the program plays so far of all events: starts, the acts by which content spreads, and what is held; within their ranges. Nothing of
@@ -14,7 +14,7 @@ abbrev pub IsPlayableAct : ℕ → Act → Type 0
 IsPlayableAct nodes (acts.Pull x p) = IsNode nodes x × IsNode nodes p
 IsPlayableAct nodes (acts.Publish x g bytes) = IsNode nodes x × IsGroupName g × (length bytes ≤ MAX_PUBLISH_BYTES)
 IsPlayableAct nodes (acts.Seal x g) = IsNode nodes x × IsGroupName g
-IsPlayableAct nodes (acts.Deliver k) = (1 ≤ k) × (k < 18446744073709551616)
+IsPlayableAct nodes (acts.Deliver k) = IsCount k
 IsPlayableAct nodes act = ⊥
 
 abbrev pub IsPlayable : ℕ → Event → Type 0

@@ -3,8 +3,8 @@ use Rattle.std.proofs.Common.{◌≡◌, ℕ, suc, ◌-◌, ◌+◌, ◌≤◌, 
 use Rattle.std.proofs.lemmas.List.{append-nil}
 use Rattle.oc_record.specs.declared.fault.RecordFault.{RecordFault}
 use Rattle.oc_record.specs.declared.fault.RecordFault.TheVariants as faults
-use Rattle.oc_base.specs.Steps.{◌>>=◌}
 use Rattle.oc_record.specs.Reading.{id_at, ids_at, Gives}
+use Rattle.oc_base.specs.Steps.{◌>>=◌}
 
 -- what was read before, and what is still read
 abbrev pub with_front : List ℕ → Result (List ℕ × ℕ) RecordFault → Result (List ℕ × ℕ) RecordFault

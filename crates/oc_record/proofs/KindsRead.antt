@@ -5,9 +5,10 @@ use Rattle.std.specs.Int.{w8, w16, w64}
 use Rattle.oc_base.specs.Fields.{number_at}
 use Rattle.oc_model.specs.declared.record.Record.{Record}
 use Rattle.oc_model.specs.declared.record.Record.TheVariants.{Ask, Joined, Ranked, OldEntry, Acked, Ancestors, Rate, Epoch, Base, Snapshot, Entry, Info}
-use Rattle.oc_record.specs.Spelling.{two, four, eight, flag, rank_bytes, code_of, fields_bytes, IsLawful}
-use Rattle.oc_base.specs.Steps.{◌>>=◌}
+use Rattle.oc_record.specs.Spelling.{two, four, eight, flag, rank_bytes, code_of, fields_bytes}
+use Rattle.oc_model.specs.Lawful.{IsRecord}
 use Rattle.oc_record.specs.Reading.{or_short, within_at, id_at, long_at, count_at, flag_at, rank_at, ids_at, ask_at, joined_at, ranked_at, old_entry_at, acked_at, ancestors_at, rate_at, epoch_at, base_at, snapshot_at, entry_at, info_at}
+use Rattle.oc_base.specs.Steps.{◌>>=◌}
 use Rattle.oc_record.proofs.Standing.{IsBytes, Takes, takes_both, bind_ok, done, ok_is, wide16, wide64, within_takes}
 use Rattle.oc_record.proofs.FieldLaws.{id_takes, long_takes, count_takes, byte_takes, flag_takes, rank_takes, ids_takes}
 use Rattle.oc_base.specs.declared.limits.TheConstants.{MAX_ANCESTORS, MAX_BASE_ACKED, MAX_RATE}
@@ -15,7 +16,7 @@ use Rattle.oc_base.specs.declared.limits.TheConstants.{MAX_ANCESTORS, MAX_BASE_A
 -- what was made are the fields of a lawful record of the kind with this code, and they stand there
 pub record IsTaken (nodes code : ℕ) (bytes : List ℕ) (at : ℕ) (made : Record × ℕ) : Type 0 where
   pub text : Takes bytes at (fields_bytes made.0) made.1
-  pub lawful : IsLawful nodes made.0
+  pub lawful : IsRecord nodes made.0
   pub kind : code_of made.0 ≡ code
 
 -- what a reading that went well gave is taken
@@ -76,10 +77,10 @@ rate_takes nodes bytes at made fits e =
     let b = bind_ok (within_at w64 0 MAX_RATE bytes a.0.1) (λ rate. or_short (number_at w8 bytes rate.1) >>= λ hops. Ok (Rate a.0.0 rate.0 hops.0, hops.1)) made a.2 in
     let c = bind_ok (or_short (number_at w8 bytes b.0.1)) (λ hops. Ok (Rate a.0.0 b.0.0 hops.0, hops.1)) made b.2 in
     let t0 = id_takes nodes bytes at a.0.0 a.0.1 fits a.1 in
-    let t1 = within_takes w64 (2 ^ 64) wide64 0 (2 ^ 40) bytes a.0.1 b.0.0 b.0.1 fits b.1 in
+    let t1 = within_takes w64 (2 ^ 64) wide64 0 MAX_RATE bytes a.0.1 b.0.0 b.0.1 fits b.1 in
     let t2 = byte_takes bytes b.0.1 c.0.0 c.0.1 fits c.1 in
     let u1 = takes_both bytes at (four a.0.0) a.0.1 (eight b.0.0) b.0.1 t0.0 t1.0 in
-    taken nodes 9 bytes at (Rate a.0.0 b.0.0 c.0.0, c.0.1) made c.2 (record { text = takes_both bytes at (four a.0.0 ++ eight b.0.0) b.0.1 (c.0.0 ∷ []) c.0.1 u1 t2.0; lawful = (t0.1, t1.2, t2.1); kind = refl {a = 9} })
+    taken nodes 9 bytes at (Rate a.0.0 b.0.0 c.0.0, c.0.1) made c.2 (record { text = takes_both bytes at (four a.0.0 ++ eight b.0.0) b.0.1 (c.0.0 ∷ []) c.0.1 u1 t2.0; lawful = (t0.1, t1.2, omega (arith, t2.1)); kind = refl {a = 9} })
 
 pub epoch_takes : (nodes : ℕ) (bytes : List ℕ) (at : ℕ) (made : Record × ℕ) → IsBytes bytes → epoch_at bytes at ≡ Ok made → IsTaken nodes 10 bytes at made
 unfolding epoch_at
@@ -92,7 +93,7 @@ pub base_takes : (nodes : ℕ) (bytes : List ℕ) (at : ℕ) (made : Record × �
 unfolding base_at
 base_takes nodes bytes at made fits e =
     let a = bind_ok (within_at w64 0 MAX_BASE_ACKED bytes at) (λ acked. Ok (Base acked.0, acked.1)) made e in
-    let t0 = within_takes w64 (2 ^ 64) wide64 0 (2 ^ 62) bytes at a.0.0 a.0.1 fits a.1 in
+    let t0 = within_takes w64 (2 ^ 64) wide64 0 MAX_BASE_ACKED bytes at a.0.0 a.0.1 fits a.1 in
     taken nodes 11 bytes at (Base a.0.0, a.0.1) made a.2 (record { text = t0.0; lawful = t0.2; kind = refl {a = 11} })
 
 pub snapshot_takes : (nodes : ℕ) (bytes : List ℕ) (at : ℕ) (made : Record × ℕ) → IsBytes bytes → snapshot_at bytes at ≡ Ok made → IsTaken nodes 12 bytes at made
@@ -121,7 +122,7 @@ entry_takes nodes bytes at made fits e =
     let u2 = takes_both bytes at (four a.0.0 ++ eight b.0.0) b.0.1 (four c.0.0) c.0.1 u1 t2.0 in
     let u3 = takes_both bytes at (four a.0.0 ++ eight b.0.0 ++ four c.0.0) c.0.1 (flag d.0.0) d.0.1 u2 t3 in
     let u4 = takes_both bytes at (four a.0.0 ++ eight b.0.0 ++ four c.0.0 ++ flag d.0.0) d.0.1 (eight e.0.0) e.0.1 u3 t4.0 in
-    taken nodes 13 bytes at (Entry (record { subject = a.0.0; seq = b.0.0; parent = c.0.0; dead = d.0.0; number = e.0.0; clients = f.0.0 }), f.0.1) made f.2 (record { text = takes_both bytes at (four a.0.0 ++ eight b.0.0 ++ four c.0.0 ++ flag d.0.0 ++ eight e.0.0) e.0.1 (eight f.0.0) f.0.1 u4 t5.0; lawful = (t0.1, t1.1, t2.1, t4.1, t5.1); kind = refl {a = 13} })
+    taken nodes 13 bytes at (Entry (record { subject = a.0.0; seq = b.0.0; parent = c.0.0; dead = d.0.0; number = e.0.0; clients = f.0.0 }), f.0.1) made f.2 (record { text = takes_both bytes at (four a.0.0 ++ eight b.0.0 ++ four c.0.0 ++ flag d.0.0 ++ eight e.0.0) e.0.1 (eight f.0.0) f.0.1 u4 t5.0; lawful = record { subject = t0.1; seq = t1.1; parent = t2.1; number = t4.1; clients = t5.1 }; kind = refl {a = 13} })
 
 pub info_takes : (nodes : ℕ) (bytes : List ℕ) (at : ℕ) (made : Record × ℕ) → IsBytes bytes → info_at bytes at ≡ Ok made → IsTaken nodes 14 bytes at made
 unfolding info_at
@@ -137,11 +138,11 @@ unfolding ancestors_at
 ancestors_takes nodes bytes at made fits e =
     let a = bind_ok (within_at w16 0 MAX_ANCESTORS bytes at) (λ count. ids_at nodes count.0 bytes count.1 >>= λ ids. Ok (Ancestors ids.0, ids.1)) made e in
     let b = bind_ok (ids_at nodes a.0.0 bytes a.0.1) (λ ids. Ok (Ancestors ids.0, ids.1)) made a.2 in
-    let t0 = within_takes w16 (2 ^ 16) wide16 0 1000 bytes at a.0.0 a.0.1 fits a.1 in
+    let t0 = within_takes w16 (2 ^ 16) wide16 0 MAX_ANCESTORS bytes at a.0.0 a.0.1 fits a.1 in
     let t1 = ids_takes nodes a.0.0 bytes a.0.1 b.0.0 b.0.1 fits b.1 in
     let counted : Takes bytes at (two (length b.0.0)) a.0.1 = subst (λ (k : ℕ). Takes bytes at (two k) a.0.1) (sym t1.2) t0.0 in
     taken nodes 8 bytes at (Ancestors b.0.0, b.0.1) made b.2 (record {
       text = takes_both bytes at (two (length b.0.0)) a.0.1 (flat_map four b.0.0) b.0.1 counted t1.0;
-      lawful = (omega (arith, t0.2, t1.2), t1.1);
+      lawful = (t1.1, omega (arith, t0.2, t1.2));
       kind = refl {a = 8};
     })

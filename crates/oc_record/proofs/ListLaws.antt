@@ -8,9 +8,10 @@ use Rattle.oc_base.specs.Fields.{number_at}
 use Rattle.oc_model.specs.declared.record.Record.{Record}
 use Rattle.oc_model.specs.declared.record.Record.TheVariants.{Ask, Joined, Lost, Acting, Ranked, OldEntry, Acked, Ancestors, Rate, Epoch, Base, Snapshot, Entry, Info}
 use Rattle.oc_record.specs.declared.fault.RecordFault.{RecordFault}
-use Rattle.oc_record.specs.Spelling.{code_of, fields_bytes, record_bytes, records_bytes, HasSpelling, HaveSpellings, IsLawful, AreLawful}
-use Rattle.oc_base.specs.Steps.{◌>>=◌}
+use Rattle.oc_record.specs.Spelling.{code_of, fields_bytes, record_bytes, records_bytes, HasSpelling, HaveSpellings}
+use Rattle.oc_model.specs.Lawful.{IsRecord, AreRecords}
 use Rattle.oc_record.specs.Reading.{or_short, fields_at, record_at, records_at, decoded}
+use Rattle.oc_base.specs.Steps.{◌>>=◌}
 use Rattle.oc_record.proofs.Standing.{IsBytes, Takes, takes_both, takes_first, takes_second, takes_nothing, bind_ok, done, ok_is}
 use Rattle.oc_record.proofs.FieldLaws.{byte_takes, byte_again}
 use Rattle.oc_record.proofs.KindsRead.{IsTaken, ask_takes, joined_takes, ranked_takes, old_entry_takes, acked_takes, ancestors_takes, rate_takes, epoch_takes, base_takes, snapshot_takes, entry_takes, info_takes}
@@ -51,7 +52,7 @@ fields_takes code nodes bytes at made fits e =
     step nodes bytes at made code 14 _ _ e (info_takes nodes bytes at made fits) (λ e. absurd cc))))))))))))))
 
 -- a record that is read stands there, and is lawful
-pub record_takes : (nodes : ℕ) (bytes : List ℕ) (at : ℕ) (made : Record × ℕ) → IsBytes bytes → record_at nodes bytes at ≡ Ok made → Takes bytes at (record_bytes made.0) made.1 × IsLawful nodes made.0
+pub record_takes : (nodes : ℕ) (bytes : List ℕ) (at : ℕ) (made : Record × ℕ) → IsBytes bytes → record_at nodes bytes at ≡ Ok made → Takes bytes at (record_bytes made.0) made.1 × IsRecord nodes made.0
 unfolding record_at
 record_takes nodes bytes at made fits e =
     let a = bind_ok (or_short (number_at w8 bytes at)) (λ code. fields_at code.0 nodes bytes code.1) made e in
@@ -78,7 +79,7 @@ code_fits (Entry cert) = omega arith
 code_fits (Info number clients) = omega arith
 
 -- a lawful record that stands there is read
-pub record_again : (nodes : ℕ) (bytes : List ℕ) (at : ℕ) (r : Record) (next : ℕ) → nodes < 2 ^ 32 → IsLawful nodes r → Takes bytes at (record_bytes r) next → record_at nodes bytes at ≡ Ok (r, next)
+pub record_again : (nodes : ℕ) (bytes : List ℕ) (at : ℕ) (r : Record) (next : ℕ) → nodes < 2 ^ 32 → IsRecord nodes r → Takes bytes at (record_bytes r) next → record_at nodes bytes at ≡ Ok (r, next)
 unfolding record_at
 record_again nodes bytes at r next few h t =
     let first = byte_again bytes at (code_of r) (at + 1) (code_fits r) (takes_first bytes at (code_of r ∷ []) (fields_bytes r) next t) in
@@ -96,14 +97,14 @@ pub none_left : (bytes : List ℕ) (at : ℕ) → length bytes ≤ at → drop a
 none_left bytes at le = nil_from_length (drop at bytes) (omega (arith, le, length-drop at bytes))
 
 -- records that are read to the end stand there to the end, and are lawful
-pub records_take : (nodes most : ℕ) (bytes : List ℕ) (at : ℕ) (records : List Record) → IsBytes bytes → length bytes - at ≤ most → records_at nodes most bytes at ≡ Ok records → (drop at bytes ≡ records_bytes records) × AreLawful nodes records
+pub records_take : (nodes most : ℕ) (bytes : List ℕ) (at : ℕ) (records : List Record) → IsBytes bytes → length bytes - at ≤ most → records_at nodes most bytes at ≡ Ok records → (drop at bytes ≡ records_bytes records) × AreRecords nodes records
 unfolding records_at
 records_take nodes zero bytes at records fits fuel e =
     let none : List Record = [] in
-    subst (λ (rs : List Record). (drop at bytes ≡ records_bytes rs) × AreLawful nodes rs) (ok_is none records e) (none_left bytes at (omega (arith, fuel)), tt)
+    subst (λ (rs : List Record). (drop at bytes ≡ records_bytes rs) × AreRecords nodes rs) (ok_is none records e) (none_left bytes at (omega (arith, fuel)), tt)
 records_take nodes (suc most) bytes at records fits fuel e = by_test (λ next rest less read. records_take nodes most bytes next rest fits less read) (ltb at (length bytes)) refl e
   where
-    by_test : ((next : ℕ) (rest : List Record) → length bytes - next ≤ most → records_at nodes most bytes next ≡ Ok rest → (drop next bytes ≡ records_bytes rest) × AreLawful nodes rest) → (b : Bool) → ltb at (length bytes) ≡ b → cond b (record_at nodes bytes at >>= λ first. records_at nodes most bytes first.1 >>= λ rest. Ok (first.0 ∷ rest)) (Ok []) ≡ Ok records → (drop at bytes ≡ records_bytes records) × AreLawful nodes records
+    by_test : ((next : ℕ) (rest : List Record) → length bytes - next ≤ most → records_at nodes most bytes next ≡ Ok rest → (drop next bytes ≡ records_bytes rest) × AreRecords nodes rest) → (b : Bool) → ltb at (length bytes) ≡ b → cond b (record_at nodes bytes at >>= λ first. records_at nodes most bytes first.1 >>= λ rest. Ok (first.0 ∷ rest)) (Ok []) ≡ Ok records → (drop at bytes ≡ records_bytes records) × AreRecords nodes records
     by_test later true is e =
         let lt : at < length bytes = ltb-true at (length bytes) is in
         let a = bind_ok (record_at nodes bytes at) (λ first. records_at nodes most bytes first.1 >>= λ rest. Ok (first.0 ∷ rest)) records e in
@@ -111,13 +112,13 @@ records_take nodes (suc most) bytes at records fits fuel e = by_test (λ next re
         let t = record_takes nodes bytes at a.0 fits a.1 in
         let ih = later a.0.1 b.0 (omega (arith, fuel, lt, t.0.moved)) b.1 in
         let whole : drop at bytes ≡ record_bytes a.0.0 ++ records_bytes b.0 = behind bytes at (record_bytes a.0.0) a.0.1 t.0 ∙ ap (λ (x : List ℕ). record_bytes a.0.0 ++ x) ih.0 in
-        subst (λ (rs : List Record). (drop at bytes ≡ records_bytes rs) × AreLawful nodes rs) (ok_is (a.0.0 ∷ b.0) records b.2) (whole ∙ sym (flat_map-cons record_bytes a.0.0 b.0), (t.1, ih.1))
+        subst (λ (rs : List Record). (drop at bytes ≡ records_bytes rs) × AreRecords nodes rs) (ok_is (a.0.0 ∷ b.0) records b.2) (whole ∙ sym (flat_map-cons record_bytes a.0.0 b.0), (t.1, ih.1))
     by_test later false is e =
         let none : List Record = [] in
-        subst (λ (rs : List Record). (drop at bytes ≡ records_bytes rs) × AreLawful nodes rs) (ok_is none records e) (none_left bytes at (ltb-false at (length bytes) is), tt)
+        subst (λ (rs : List Record). (drop at bytes ≡ records_bytes rs) × AreRecords nodes rs) (ok_is none records e) (none_left bytes at (ltb-false at (length bytes) is), tt)
 
 -- lawful records that stand there to the end are read
-pub records_again : (nodes most : ℕ) (bytes : List ℕ) (at : ℕ) (records : List Record) → nodes < 2 ^ 32 → length bytes - at ≤ most → AreLawful nodes records → drop at bytes ≡ records_bytes records → records_at nodes most bytes at ≡ Ok records
+pub records_again : (nodes most : ℕ) (bytes : List ℕ) (at : ℕ) (records : List Record) → nodes < 2 ^ 32 → length bytes - at ≤ most → AreRecords nodes records → drop at bytes ≡ records_bytes records → records_at nodes most bytes at ≡ Ok records
 unfolding records_at
 records_again nodes zero bytes at [] few fuel h e = refl
 records_again nodes (suc most) bytes at [] few fuel h e = rw (le-ltb at (length bytes) (omega (arith, length-drop at bytes, ap (λ (x : List ℕ). length x) e))) refl
@@ -133,20 +134,20 @@ records_again nodes (suc most) bytes at (r ∷ rs) few fuel h e =
     rw (lt-ltb at (length bytes) long, record_again nodes bytes at r next few h.0 t, records_again nodes most bytes next rs few (omega (arith, fuel)) h.1 rest) refl
 
 -- what is decoded is spelled so
-pub is_spelled : (nodes : ℕ) (bytes : List ℕ) (records : List Record) → IsBytes bytes → decoded nodes bytes ≡ Ok records → AreLawful nodes records × (bytes ≡ records_bytes records)
+pub is_spelled : (nodes : ℕ) (bytes : List ℕ) (records : List Record) → IsBytes bytes → decoded nodes bytes ≡ Ok records → AreRecords nodes records × (bytes ≡ records_bytes records)
 is_spelled nodes bytes records fits e = let t = records_take nodes (length bytes) bytes 0 records fits (omega arith) e in (t.1, t.0)
 
 -- what is spelled so is decoded
-pub is_decoded : (nodes : ℕ) (bytes : List ℕ) (records : List Record) → nodes < 2 ^ 32 → AreLawful nodes records → bytes ≡ records_bytes records → decoded nodes bytes ≡ Ok records
+pub is_decoded : (nodes : ℕ) (bytes : List ℕ) (records : List Record) → nodes < 2 ^ 32 → AreRecords nodes records → bytes ≡ records_bytes records → decoded nodes bytes ≡ Ok records
 is_decoded nodes bytes records few h e = records_again nodes (length bytes) bytes 0 records few (omega arith) h e
 
 -- no two lists have one spelling
-pub one_spelling : (nodes : ℕ) (a b : List Record) → nodes < 2 ^ 32 → AreLawful nodes a → AreLawful nodes b → records_bytes a ≡ records_bytes b → a ≡ b
+pub one_spelling : (nodes : ℕ) (a b : List Record) → nodes < 2 ^ 32 → AreRecords nodes a → AreRecords nodes b → records_bytes a ≡ records_bytes b → a ≡ b
 one_spelling nodes a b few ha hb e =
     ok_is a b (sym (is_decoded nodes (records_bytes b) a few ha (sym e)) ∙ is_decoded nodes (records_bytes b) b few hb refl)
 
 -- a lawful record has a spelling
-has_spelling : (nodes : ℕ) (r : Record) → IsLawful nodes r → HasSpelling r
+has_spelling : (nodes : ℕ) (r : Record) → IsRecord nodes r → HasSpelling r
 has_spelling nodes (Ask seq peer) h = tt
 has_spelling nodes (Joined peer rank) h = tt
 has_spelling nodes Lost h = tt
@@ -163,6 +164,6 @@ has_spelling nodes (Entry cert) h = tt
 has_spelling nodes (Info number clients) h = tt
 
 -- and so have all of a list
-pub have_spellings : (nodes : ℕ) (records : List Record) → AreLawful nodes records → HaveSpellings records
+pub have_spellings : (nodes : ℕ) (records : List Record) → AreRecords nodes records → HaveSpellings records
 have_spellings nodes [] h = tt
 have_spellings nodes (r ∷ rs) h = (has_spelling nodes r h.0, have_spellings nodes rs h.1)

@@ -6,10 +6,11 @@ use Rattle.std.proofs.lemmas.List.{append-nil, length-append}
 use Rattle.oc_model.specs.declared.record.Record.{Record}
 use Rattle.oc_record.specs.declared.fault.RecordFault.{RecordFault}
 use Rattle.oc_record.specs.declared.fault.RecordFault.TheVariants as faults
-use Rattle.oc_base.specs.Steps.{◌>>=◌}
 use Rattle.oc_record.specs.Reading.{Gives, GivesList, record_at, records_at, decoded}
+use Rattle.oc_base.specs.Steps.{◌>>=◌}
 use Rattle.oc_record.proofs.Standing.{IsBytes}
-use Rattle.oc_record.specs.Spelling.{records_bytes, AreLawful}
+use Rattle.oc_record.specs.Spelling.{records_bytes}
+use Rattle.oc_model.specs.Lawful.{AreRecords}
 use Rattle.oc_record.proofs.ListLaws.{record_takes, is_spelled}
 
 -- what was read before, and what is still read
@@ -70,6 +71,6 @@ is_done nodes bytes front at le way =
 
 -- an answer that is a list is a spelled one
 pub is_found : (nodes : ℕ) (bytes : List ℕ) (answer : Result (Vec Record) RecordFault) → IsBytes bytes → GivesList answer (decoded nodes bytes)
-    → IfOk answer (λ list. AreLawful nodes list.items × (bytes ≡ records_bytes list.items))
+    → IfOk answer (λ list. AreRecords nodes list.items × (bytes ≡ records_bytes list.items))
 is_found nodes bytes (Ok list) fits given = is_spelled nodes bytes list.items fits given
 is_found nodes bytes (Err fault) fits given = tt

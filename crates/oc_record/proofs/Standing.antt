@@ -8,8 +8,8 @@ use Rattle.oc_base.specs.declared.field.Short.{Short}
 use Rattle.oc_base.specs.Fields.{number_at}
 use Rattle.oc_record.specs.declared.fault.RecordFault.{RecordFault}
 use Rattle.oc_record.specs.declared.fault.RecordFault.TheVariants as faults
-use Rattle.oc_base.specs.Steps.{◌>>=◌}
 use Rattle.oc_record.specs.Reading.{or_short, within_at}
+use Rattle.oc_base.specs.Steps.{◌>>=◌}
 
 abbrev pub IsBytes : List ℕ → Type 0
 IsBytes bytes = (i : ℕ) → get_or bytes i 0 < 256

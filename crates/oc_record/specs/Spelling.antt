@@ -1,5 +1,5 @@
 -- The one spelling of each list of control records, and which records are lawful. Numbers are big-endian.
-use Rattle.std.specs.Prelude.{ℕ, ◌^◌, ◌<◌, ◌≤◌, Bool, if◌then◌else◌, List, [], ◌∷◌, ◌++◌, length}
+use Rattle.std.specs.Prelude.{ℕ, ◌^◌, ◌<◌, Bool, if◌then◌else◌, List, [], ◌∷◌, ◌++◌, length}
 use Rattle.std.specs.List.{flat_map, AllByRecursion}
 use Rattle.std.specs.Int.{w16, w32, w64, to_be_bytes}
 use Rattle.oc_base.specs.declared.cert.Cert.{Cert}
@@ -86,41 +86,3 @@ HasSpelling _ = Unit {0}
 
 abbrev pub HaveSpellings : List Record → Type 0
 HaveSpellings records = AllByRecursion HasSpelling records
-
--- the number of one of so many nodes
-abbrev pub IsId : ℕ → ℕ → Type 0
-IsId nodes id = (1 ≤ id) × (id ≤ nodes)
-
--- a number of eight bytes, and one that is not 0
-abbrev pub IsLong : ℕ → Type 0
-IsLong n = n < 2 ^ 64
-
-abbrev pub IsCount : ℕ → Type 0
-IsCount n = (1 ≤ n) × (n < 2 ^ 64)
-
--- a depth of at most 1,000
-abbrev pub IsRank : Rank → Type 0
-IsRank rank = IsLong rank.epoch × (rank.depth ≤ 1000)
-
-abbrev pub IsCert : ℕ → Cert → Type 0
-IsCert nodes cert = IsId nodes cert.subject × IsCount cert.seq × IsId nodes cert.parent × IsLong cert.number × IsLong cert.clients
-
--- what a record of so many nodes may say
-abbrev pub IsLawful : ℕ → Record → Type 0
-IsLawful nodes (Ask seq peer) = IsCount seq × IsId nodes peer
-IsLawful nodes (Joined peer rank) = IsId nodes peer × IsRank rank
-IsLawful nodes Lost = Unit {0}
-IsLawful nodes Acting = Unit {0}
-IsLawful nodes (Ranked rank) = IsRank rank
-IsLawful nodes (OldEntry subject seq parent dead) = IsId nodes subject × IsCount seq × IsId nodes parent
-IsLawful nodes (Acked upto) = IsLong upto
-IsLawful nodes (Ancestors ids) = (length ids ≤ 1000) × AllByRecursion (IsId nodes) ids
-IsLawful nodes (Rate peer rate hops) = IsId nodes peer × (rate ≤ 2 ^ 40) × (hops < 256)
-IsLawful nodes (Epoch epoch) = IsLong epoch
-IsLawful nodes (Base acked) = acked ≤ 2 ^ 62
-IsLawful nodes (Snapshot generation) = IsCount generation
-IsLawful nodes (Entry cert) = IsCert nodes cert
-IsLawful nodes (Info number clients) = IsCount number × IsLong clients
-
-abbrev pub AreLawful : ℕ → List Record → Type 0
-AreLawful nodes records = AllByRecursion (IsLawful nodes) records

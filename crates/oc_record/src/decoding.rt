@@ -1,7 +1,8 @@
 ghost use Rattle.std.specs.Prelude.{◌≡◌, ◌+◌, ◌<◌, ◌⊎◌, List, IfOk, IfSome, IfNone};
 ghost use Rattle.oc_model.specs.declared.record.Record.{Record};
 ghost use Rattle.oc_record.specs.Reading.{Gives, GivesList, fields_at, record_at, decoded};
-ghost use Rattle.oc_record.specs.Spelling.{AreLawful, records_bytes};
+ghost use Rattle.oc_record.specs.Spelling.{records_bytes};
+ghost use Rattle.oc_model.specs.Lawful.{AreRecords};
 
 use crate::codes::CODES;
 use crate::fields::byte_at;
@@ -16,8 +17,8 @@ use std::alloc::Global;
 /// The records that the bytes spell for so many nodes: all of the bytes, or the first fault.
 pub fn decode(alloc: Global, bytes: &[u8], nodes: u32) -> Result<Vec<Record>, RecordFault>
     // Exactly the one spelling of a lawful list is read.
-    ensures found { IfOk result (λ list. AreLawful nodes list.items × (bytes.now ≡ records_bytes list.items)) }
-    ensures only { (list : List Record) → AreLawful nodes list → bytes.now ≡ records_bytes list
+    ensures found { IfOk result (λ list. AreRecords nodes list.items × (bytes.now ≡ records_bytes list.items)) }
+    ensures only { (list : List Record) → AreRecords nodes list → bytes.now ≡ records_bytes list
         → GivesList result (Ok list) }
 
     // Which fault it is: the first from the left of the first bad record.

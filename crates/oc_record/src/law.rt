@@ -5,7 +5,8 @@ ghost use Rattle.oc_model.specs.declared.record.Record.{Record};
 ghost use Rattle.oc_record.specs.Examples.{first_ask, first_ask_record, old_entry, old_entry_record};
 ghost use Rattle.oc_record.specs.Reading.{decoded};
 ghost use Rattle.oc_record.specs.Rows.{HasLeast};
-ghost use Rattle.oc_record.specs.Spelling.{AreLawful, HaveSpellings, records_bytes};
+ghost use Rattle.oc_record.specs.Spelling.{HaveSpellings, records_bytes};
+ghost use Rattle.oc_model.specs.Lawful.{AreRecords};
 ghost use Rattle.oc_record.specs.declared.fault.RecordFault.TheVariants.{Short as RecordShort, Value as RecordValue, Kind as RecordKind};
 
 use crate::codes::CODES;
@@ -25,14 +26,14 @@ pub fn least_lengths_are_exact()
 
 /// No two lists of lawful records have one spelling.
 pub fn no_two_lists_have_one_spelling()
-    ensures { (nodes : ℕ) (first second : List Record) → nodes < 2 ^ 32 → AreLawful nodes first → AreLawful nodes second
+    ensures { (nodes : ℕ) (first second : List Record) → nodes < 2 ^ 32 → AreRecords nodes first → AreRecords nodes second
         → records_bytes first ≡ records_bytes second → first ≡ second }
 {}
 
 /// Lawful records have a spelling, and it is read as them.
 pub fn spellings_are_read()
-    ensures spelled { (nodes : ℕ) (list : List Record) → AreLawful nodes list → HaveSpellings list }
-    ensures read { (nodes : ℕ) (list : List Record) → nodes < 2 ^ 32 → AreLawful nodes list
+    ensures spelled { (nodes : ℕ) (list : List Record) → AreRecords nodes list → HaveSpellings list }
+    ensures read { (nodes : ℕ) (list : List Record) → nodes < 2 ^ 32 → AreRecords nodes list
         → decoded nodes (records_bytes list) ≡ Ok list }
 {}
 

@@ -9,7 +9,8 @@ use Rattle.oc_schedule.specs.declared.fault.What.{What}
 use Rattle.oc_schedule.specs.declared.fault.What.TheVariants.{Lines, Bytes, Published}
 use Rattle.oc_schedule.specs.Fields.{words}
 use Rattle.oc_base.specs.declared.limits.TheConstants.{MAX_SCHEDULE_BYTES, MAX_SCHEDULE_LINES, MAX_SCHEDULE_PUBLISHED}
-use Rattle.oc_schedule.specs.Reading.{◌>>=◌, at_line, Gives}
+use Rattle.oc_schedule.specs.Reading.{at_line, Gives}
+use Rattle.oc_base.specs.Steps.{◌>>=◌}
 use Rattle.oc_schedule.specs.Schedule.{schedule_of, read_lines, read_line, read_words, read_statement, within_published, script_after, is_comment}
 use Rattle.oc_schedule.specs.Script.{Script, published_in}
 use Rattle.oc_replay.specs.Ends.{IfLimit, end_of_schedule}

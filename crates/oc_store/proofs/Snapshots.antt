@@ -7,7 +7,8 @@ use Rattle.std.proofs.lemmas.List.Concat.{flat_map-cons}
 use Rattle.std.proofs.lemmas.Nat.{from_be_bytes-to_be_bytes_8}
 use Rattle.oc_model.specs.declared.record.Record.{Record}
 use Rattle.oc_model.specs.declared.record.Record.TheVariants.{Snapshot}
-use Rattle.oc_record.specs.Spelling.{eight, record_bytes, records_bytes, AreLawful}
+use Rattle.oc_record.specs.Spelling.{eight, record_bytes, records_bytes}
+use Rattle.oc_model.specs.Lawful.{AreRecords}
 use Rattle.oc_record.specs.Reading.{decoded}
 use Rattle.oc_record.proofs.Standing.{IsBytes}
 use Rattle.oc_record.proofs.ListLaws.{is_spelled}
@@ -36,7 +37,7 @@ begins_above generation records frame above is = rw is (by_list records above)
     by_list (r ∷ rs) h = absurd h
 
 -- lawful records have the generation of the snapshot that begins them
-generation_spelled : (nodes : ℕ) (records : List Record) → AreLawful nodes records → generation_in (records_bytes records) ≡ begun_generation records
+generation_spelled : (nodes : ℕ) (records : List Record) → AreRecords nodes records → generation_in (records_bytes records) ≡ begun_generation records
 generation_spelled nodes [] lawful = refl
 generation_spelled nodes (Snapshot generation ∷ records) lawful = snapshot_first generation records lawful.0.1
 generation_spelled nodes (r ∷ records) lawful = ap generation_in (flat_map-cons record_bytes r records)

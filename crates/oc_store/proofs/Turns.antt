@@ -4,7 +4,8 @@ use Rattle.std.proofs.lemmas.Bool.{lt-ltb, le-ltb}
 use Rattle.oc_outside.specs.DiskView.{DiskView, LeavesOnly, IsConsistent}
 use Rattle.oc_journal.specs.JournalFile.{frames_of, IsBeforeOrAfter}
 use Rattle.oc_journal.specs.JournalView.{HasFrames}
-use Rattle.oc_journal.specs.Stopped.{frames_after, is_kept_new}
+use Rattle.oc_journal.specs.Stopped.{frames_after}
+use Rattle.oc_base.specs.Stops.{is_kept_new}
 use Rattle.oc_store.specs.declared.errors.Side.{Side}
 use Rattle.oc_store.specs.declared.errors.Side.TheVariants.{First, Second}
 use Rattle.oc_store.specs.ControlFiles.{generation_in, generation_of, number_of, current_side, at_side, current_frames, recovered_frames}

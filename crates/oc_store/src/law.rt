@@ -1,6 +1,7 @@
 ghost use Rattle.std.specs.Prelude.{◌≡◌, ℕ, ◌^◌, ◌<◌, List, [], ◌∷◌, ◌++◌, Ok, get_or};
 ghost use Rattle.oc_model.specs.declared.record.Record.{Record};
-ghost use Rattle.oc_record.specs.Spelling.{AreLawful, records_bytes};
+ghost use Rattle.oc_record.specs.Spelling.{records_bytes};
+ghost use Rattle.oc_model.specs.Lawful.{AreRecords};
 ghost use Rattle.oc_record.specs.Reading.{decoded};
 ghost use Rattle.oc_store.specs.ControlFiles.{records_in, records_of, generation_in, begun_generation};
 
@@ -8,7 +9,7 @@ use oc_record::spellings_are_read;
 
 /// A frame of lawful records has these records, and a frame more adds its records.
 pub fn frames_add_their_records()
-    ensures read { (nodes : ℕ) (list : List Record) → nodes < 2 ^ 32 → AreLawful nodes list
+    ensures read { (nodes : ℕ) (list : List Record) → nodes < 2 ^ 32 → AreRecords nodes list
         → records_in nodes (records_bytes list) ≡ list }
     ensures one { (nodes : ℕ) (body : List ℕ) → records_of nodes (body ∷ []) ≡ records_in nodes body }
     ensures more { (nodes : ℕ) (frames : List (List ℕ)) (body : List ℕ)

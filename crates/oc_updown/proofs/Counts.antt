@@ -4,7 +4,7 @@ use Rattle.std.proofs.Math.ListN.{length-set}
 use Rattle.std.proofs.lemmas.Bool.{cases_eq}
 use Rattle.oc_base.specs.declared.cert.Cert.{Cert}
 use Rattle.oc_model.specs.Numbers.{IsAmong}
-use Rattle.oc_cert.specs.TableView.{IsNode}
+use Rattle.oc_base.specs.Lawful.{IsNode}
 use Rattle.oc_updown.specs.Waiting.{count_of, AreCounts, AreOfNodes}
 
 -- a certificate at the end counts as one at the front

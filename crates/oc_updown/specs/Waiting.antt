@@ -2,7 +2,7 @@
 use Rattle.std.specs.Prelude.{◌≡◌, ℕ, ◌+◌, ◌==◌, if◌then◌else◌, List, [], ◌∷◌, get_or}
 use Rattle.std.specs.List.{AllByRecursion}
 use Rattle.oc_base.specs.declared.cert.Cert.{Cert}
-use Rattle.oc_cert.specs.TableView.{IsNode}
+use Rattle.oc_base.specs.Lawful.{IsNode}
 
 -- the number of nodes, the certificates, and how many there is room for
 pub record WaitingView : Type 0 where

@@ -1,7 +1,8 @@
 ghost use Rattle.std.specs.Prelude.{◌≡◌, ◌+◌, ◌-◌, ◌^◌, ◌<◌, ◌≤◌, ◌↔◌, ◌++◌, [], ◌∷◌, IsTrue, Option, length, take, max, IfOk, OnOk, OnErr, IfSome};
 ghost use Rattle.oc_model.specs.Node.{empty_log};
 ghost use Rattle.oc_model.specs.ChangeLog.{begun_with, note, ack, acked_whole, IsWaiting};
-ghost use Rattle.oc_cert.specs.TableView.{IsNode, AreRows, AreRowsFrom, entries_of};
+ghost use Rattle.oc_cert.specs.TableView.{AreRows, AreRowsFrom, entries_of};
+ghost use Rattle.oc_base.specs.Lawful.{IsNode};
 
 use crate::waiting::Waiting;
 use oc_base::{Cert, Memory, NodeId};

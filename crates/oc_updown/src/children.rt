@@ -2,7 +2,8 @@ ghost use Rattle.std.specs.Prelude.{◌≡◌, ◌-◌, ◌^◌, ◌≤◌, leng
 ghost use Rattle.oc_model.specs.Numbers.{at};
 ghost use Rattle.oc_model.specs.Table.{is_lease_of};
 ghost use Rattle.oc_model.specs.Leases.{renew, is_over, start_if, start_all, next_ended};
-ghost use Rattle.oc_cert.specs.TableView.{IsNode, AreRows, entries_of};
+ghost use Rattle.oc_cert.specs.TableView.{AreRows, entries_of};
+ghost use Rattle.oc_base.specs.Lawful.{IsNode};
 ghost use Rattle.oc_updown.specs.Children.{start_row, ended_of_row};
 
 use crate::leases::LEASE_TIME;

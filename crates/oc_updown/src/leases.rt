@@ -1,6 +1,6 @@
 ghost use Rattle.std.specs.Prelude.{◌≡◌, ◌^◌, ◌≤◌, length, replicate, None, IfOk};
 ghost use Rattle.oc_model.specs.Leases.{renew, start_all, next_ended};
-ghost use Rattle.oc_cert.specs.TableView.{IsNode};
+ghost use Rattle.oc_base.specs.Lawful.{IsNode};
 ghost use Rattle.oc_updown.specs.Ended.{IsNextEnded};
 
 use crate::children::{next_over, renew, start_rows};

@@ -1,6 +1,7 @@
 ghost use Rattle.std.specs.Prelude.{◌≡◌, ℕ, ◌+◌, ◌-◌, ◌^◌, ◌<◌, ◌≤◌, slice_index, slice_set, ◌↔◌, ◌∷◌, [], ◌++◌, IsTrue, take, drop, length, IfOk, IfSome, OnOk, vec_len, vec_capacity};
 ghost use Rattle.std.specs.VecDeque.{deque_len, deque_capacity};
-ghost use Rattle.oc_cert.specs.TableView.{IsNode, AreRows, entries_of};
+ghost use Rattle.oc_cert.specs.TableView.{AreRows, entries_of};
+ghost use Rattle.oc_base.specs.Lawful.{IsNode};
 ghost use Rattle.oc_updown.specs.Waiting.{count_of};
 
 use crate::place::place_of;

@@ -3,9 +3,10 @@ use Rattle.std.specs.List.{range_with_len, AllByRecursion}
 use Rattle.oc_base.specs.declared.group.Group.{Group}
 use Rattle.oc_model.specs.declared.message.Message.{Message}
 use Rattle.oc_model.specs.declared.word.Word.{Word}
-use Rattle.oc_base.specs.declared.limits.TheConstants.{MAX_GROUPS, MAX_GROUP_BYTES}
+use Rattle.oc_base.specs.declared.limits.TheConstants.{MAX_TIME}
 use Rattle.oc_base.specs.Groups.{IsAscending}
 use Rattle.oc_model.specs.Node.{Header}
+use Rattle.oc_model.specs.WorldBounds.{IsWithinLimits}
 use Rattle.oc_model.specs.World.{World, Process, ids}
 use Rattle.oc_world.specs.declared.stage.Said.{Said}
 
@@ -24,29 +25,17 @@ HoldsNothing p = p.node.groups ≡ []
 abbrev pub IsBefore : ℕ → Process → Type 0
 IsBefore t p = p.node.control.soft.clock ≤ t
 
--- the ids are those of the header, nothing was sent, no group is held, and no clock is past 2^40
+-- the ids are those of the header, nothing was sent, no group is held, and no clock is past the greatest time
 pub record IsBlank (h : Header) (w : World) : Type 0 where
   pub ids : ids w ≡ range_with_len 1 h.nodes
   pub net : w.net ≡ []
   pub groups : AllByRecursion HoldsNothing w.processes
-  pub clocks : AllByRecursion (IsBefore 1099511627776) w.processes
+  pub clocks : AllByRecursion (IsBefore MAX_TIME) w.processes
 
--- all that was sent stays sent
-abbrev pub IsLater : World → World → Type 0
-IsLater old new = (more : List Message) × (new.net ≡ old.net ++ more)
-
--- an event takes no clock past the latest one, or past 2^40, by more than 60 seconds
+-- an event takes no clock past the latest one, or past the greatest time, by more than 60 seconds
 abbrev pub KeepsTime : World → World → Type 0
-KeepsTime old new = (t : ℕ) → 1099511627776 ≤ t → AllByRecursion (IsBefore t) old.processes → AllByRecursion (IsBefore (t + 60)) new.processes
-
--- a group is no longer than the limit allows
-abbrev pub IsSmall : Group → Type 0
-IsSmall k = length k.bytes ≤ MAX_GROUP_BYTES
-
--- its groups ascend by name, are at most 64, and each has at most 2^30 bytes
-abbrev pub IsWithinLimits : Process → Type 0
-IsWithinLimits p = IsAscending p.node.groups × (length p.node.groups ≤ MAX_GROUPS) × AllByRecursion IsSmall p.node.groups
+KeepsTime old new = (t : ℕ) → MAX_TIME ≤ t → AllByRecursion (IsBefore t) old.processes → AllByRecursion (IsBefore (t + 60)) new.processes
 
 -- an event takes no node past the limits
 abbrev pub KeepsLimits : World → World → Type 0
-KeepsLimits old new = AllByRecursion IsWithinLimits old.processes → AllByRecursion IsWithinLimits new.processes
+KeepsLimits old new = IsWithinLimits old → IsWithinLimits new

@@ -17,7 +17,9 @@ use Rattle.oc_model.specs.World.{World, Process, Aimed, down, absent, node, proc
 use Rattle.oc_model.proofs.GoesOn.{ids-next_world, ids-always, net-next_world, limits-next_world}
 use Rattle.oc_model.proofs.Outcomes.{clock_by, step_leaves}
 use Rattle.oc_model.proofs.Lists.{all_weaker}
-use Rattle.oc_world.specs.Stage.{IsBlank, IsLater, KeepsTime, KeepsLimits, HoldsNothing, IsBefore}
+use Rattle.oc_base.specs.declared.limits.TheConstants.{MAX_TIME}
+use Rattle.oc_model.specs.WorldBounds.{IsLater}
+use Rattle.oc_world.specs.Stage.{IsBlank, KeepsTime, KeepsLimits, HoldsNothing, IsBefore}
 
 abbrev new_down : Header → ℕ → Process
 new_down h x = down (new_node h x)
@@ -28,7 +30,7 @@ nothing_held h [] = tt
 nothing_held h (x ∷ xs) = (refl, nothing_held h xs)
 
 -- nor has their clock run
-no_clock : (h : Header) (xs : List ℕ) → AllByRecursion (IsBefore 1099511627776) (map (new_down h) xs)
+no_clock : (h : Header) (xs : List ℕ) → AllByRecursion (IsBefore MAX_TIME) (map (new_down h) xs)
 no_clock h [] = tt
 no_clock h (x ∷ xs) = (omega arith, no_clock h xs)
 

@@ -7,8 +7,9 @@ ghost use Rattle.oc_model.specs.Lawful.{IsHeader};
 ghost use Rattle.oc_base.specs.Lawful.{IsNode};
 ghost use Rattle.oc_model.specs.Playable.{IsPlayable};
 ghost use Rattle.oc_model.specs.Node.{Header};
+ghost use Rattle.oc_model.specs.WorldBounds.{IsLater};
 ghost use Rattle.oc_model.specs.World.{World as WorldState, ids, node as node_in, message_at};
-ghost use Rattle.oc_world.specs.Stage.{IsSaid, IsBlank, IsLater, KeepsTime, KeepsLimits};
+ghost use Rattle.oc_world.specs.Stage.{IsSaid, IsBlank, KeepsTime, KeepsLimits};
 
 use oc_base::{Memory, NodeId, Shelf};
 use oc_model::{Event, Message, Word};

@@ -1,5 +1,5 @@
 ghost use Rattle.std.specs.Prelude.{◌≡◌, ◌≤◌, IsTrue, IfOk};
-ghost use Rattle.oc_cert.specs.TableView.{IsNode};
+ghost use Rattle.oc_base.specs.Lawful.{IsNode};
 
 use oc_base::{Cert, NodeId};
 use oc_cert::Table;

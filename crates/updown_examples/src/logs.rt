@@ -1,6 +1,6 @@
 ghost use Rattle.std.specs.Prelude.{◌≡◌, IfOk};
 ghost use Rattle.oc_model.specs.Node.{empty_log};
-ghost use Rattle.oc_cert.specs.TableView.{IsNode};
+ghost use Rattle.oc_base.specs.Lawful.{IsNode};
 
 use crate::certs::{NODES, birth, death, table_of};
 use oc_base::{Cert, NodeId};

@@ -1,5 +1,6 @@
 use Rattle.std.proofs.Common.{length, ◌-◌}
-use Rattle.oc_cert.specs.TableView.{IsNode, entries_of}
+use Rattle.oc_cert.specs.TableView.{entries_of}
+use Rattle.oc_base.specs.Lawful.{IsNode}
 use Rattle.oc_cert.proofs.Climbs.{IsClimb}
 use Rattle.oc_cert.proofs.listing.climb.Given as goal
 

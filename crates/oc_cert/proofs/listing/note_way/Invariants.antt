@@ -1,6 +1,7 @@
 use Rattle.std.proofs.Common.{◌≡◌, length}
 use Rattle.oc_cert.specs.Listing.{is_beneath, AreKnown}
-use Rattle.oc_cert.specs.TableView.{IsNode, entries_of}
+use Rattle.oc_cert.specs.TableView.{entries_of}
+use Rattle.oc_base.specs.Lawful.{IsNode}
 use Rattle.oc_cert.proofs.listing.note_way.Given as goal
 
 abbrev pub invariant-loop : goal.invariant-loop

@@ -1,6 +1,6 @@
 use Rattle.std.proofs.Common.{◌≡◌, ◌<◌, ◌≤◌, ◌^◌, length, get_or, arith, ap}
 use Rattle.std.specs.VecDeque.{deque_capacity}
-use Rattle.oc_cert.specs.TableView.{IsNode}
+use Rattle.oc_base.specs.Lawful.{IsNode}
 use Rattle.oc_updown.specs.Waiting.{WaitingView}
 use Rattle.oc_updown.proofs.Counts.{read_count, count_fits, counts_push_at, of_nodes_push}
 use Rattle.oc_updown.proofs.waiting.Waiting.push.Goals as goal

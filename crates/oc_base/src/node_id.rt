@@ -1,3 +1,5 @@
+ghost use Rattle.std.specs.Prelude.{◌≡◌, ◌+◌, ◌-◌, ◌≤◌};
+
 use std::fmt;
 use std::marker::Model;
 
@@ -13,6 +15,17 @@ impl Model for NodeId {
     ghost view = { λ n. n.0 };
 
     ghost inverse = { λ n. record { 0 = n } };
+}
+
+impl NodeId {
+    /// The index of what is kept of this node in a list by number: that of node 1 is 0.
+    pub fn index(self) -> usize
+        requires { 1 ≤ self }
+        ensures index { result ≡ self - 1 }
+        ensures next { result + 1 ≡ self }
+    {
+        self.0 as usize - 1
+    }
 }
 
 impl fmt::Display for NodeId {

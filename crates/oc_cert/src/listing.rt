@@ -6,7 +6,7 @@ ghost use Rattle.oc_cert.specs.TableView.{AreRows, entries_of};
 ghost use Rattle.oc_base.specs.Lawful.{IsNode};
 
 use crate::post::Post;
-use crate::rows::{parent_of, place_of};
+use crate::rows::parent_of;
 use oc_base::{Cert, Line, Memory, NodeId};
 use std::alloc::Global;
 
@@ -15,7 +15,7 @@ fn known_of(known: &[Option<bool>], node: NodeId) -> Option<bool>
     requires { IsNode (length known.now) node }
     ensures { result ≡ at known.now node None }
 {
-    known[place_of(node)]
+    known[node.index()]
 }
 
 /// Whether the way up from a node comes to the root. It ends where something is known already.
@@ -65,7 +65,7 @@ fn note_way(
         if known_of(known, place).is_some() {
             return;
         }
-        known[place_of(place)] = Some(listed);
+        known[place.index()] = Some(listed);
         match parent_of(rows, place) {
             Some(parent) if parent != root => place = parent,
             _ => return,

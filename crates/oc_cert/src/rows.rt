@@ -41,14 +41,6 @@ pub(crate) fn is_news(rows: &[Option<Cert>], cert: &Cert) -> bool
     }
 }
 
-/// The place of a node's row.
-pub(crate) fn place_of(node: NodeId) -> usize
-    requires { 1 ≤ node }
-    ensures { result ≡ node - 1 }
-{
-    node.0 as usize - 1
-}
-
 /// Sets the row of the certificate's subject.
 #[tactic(auto, using(crate::proofs::Entries::put_row, crate::proofs::Entries::set_fits, crate::proofs::Entries::put_found))]
 pub(crate) fn put(rows: &mut [Option<Cert>], cert: &Cert)
@@ -58,5 +50,5 @@ pub(crate) fn put(rows: &mut [Option<Cert>], cert: &Cert)
     ensures found { newest (entries_of rows.new) cert.now.subject ≡ Some cert.now }
     ensures rows { AreRows rows.new }
 {
-    rows[place_of(cert.subject)] = Some(*cert);
+    rows[cert.subject.index()] = Some(*cert);
 }

@@ -40,7 +40,7 @@ impl Measures {
         requires last { peer ≤ length self.old }
         ensures { self.new ≡ with_reading self.old peer (record { rate = rate; hops = hops }) }
     {
-        self.readings[peer.0 as usize - 1] = Reading { rate, hops };
+        self.readings[peer.index()] = Reading { rate, hops };
     }
 
     /// The rate and the hops that were put last for the peer, and `(0, 0)` where none were, as for a
@@ -50,7 +50,7 @@ impl Measures {
         ensures rate { result.0 ≡ (reading_of self.now peer).rate }
         ensures hops { result.1 ≡ (reading_of self.now peer).hops }
     {
-        match self.readings.get(peer.0 as usize - 1) {
+        match self.readings.get(peer.index()) {
             Some(reading) => (reading.rate, reading.hops),
             None => (0, 0),
         }

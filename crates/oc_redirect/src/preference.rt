@@ -53,7 +53,7 @@ impl<'a> Preference<'a> {
         requires areas { node ≤ length self.now.areas.now }
         ensures { result ≡ is_near self.now.areas.now self.now.area node }
     {
-        self.areas[node.0 as usize - 1] == self.area
+        self.areas[node.index()] == self.area
     }
 
     /// How many clients the node was sent.
@@ -62,6 +62,6 @@ impl<'a> Preference<'a> {
         requires counts { node ≤ length self.now.counts.now }
         ensures { result ≡ at self.now.counts.now node 0 }
     {
-        self.counts[node.0 as usize - 1]
+        self.counts[node.index()]
     }
 }

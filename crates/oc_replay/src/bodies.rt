@@ -4,10 +4,11 @@ ghost use Rattle.std.specs.Prelude.{◌≡◌, ◌++◌, OnOk};
 ghost use Rattle.oc_replay.specs.Bodies.{body_text, node_or_zero, rank_or_dash, rank_text, tree_text, why_text};
 
 use crate::items::{put_count, put_list};
-use crate::texts::{put, put_bytes, put_mark};
-use oc_base::{Cert, Child, GroupName, Memory, NodeId, Rank, Refusal, Shelf};
+use crate::texts::{put_bytes, put_mark};
+use oc_base::{
+    Cert, Child, GroupName, Memory, NodeId, Rank, Refusal, Shelf, put, put_number, put_with_number,
+};
 use oc_model::Body;
-use std::io::Write;
 
 /// Puts what a message says.
 pub(crate) fn put_body(out: &mut Vec<u8>, body: &Body) -> Result<(), Memory>
@@ -45,7 +46,7 @@ pub(crate) fn put_body(out: &mut Vec<u8>, body: &Body) -> Result<(), Memory>
             rank,
             ancestors,
         } => put_check_ack(out, *seq, *upto, *rank, ancestors.items()),
-        Body::Rejoin { seq } => write!(out, "rejoin {seq}").map_err(|_| Memory),
+        Body::Rejoin { seq } => put_with_number(out, b"rejoin ", *seq),
         Body::Fetch { have } => put_fetch(out, have.items()),
         Body::Chunk {
             group,
@@ -70,7 +71,8 @@ fn put_look_is(
     put(out, tree_word(in_tree).as_bytes())?;
     put(out, b" ")?;
     put_node_or_zero(out, parent)?;
-    write!(out, " {rate} ").map_err(|_| Memory)?;
+    put_with_number(out, b" ", rate)?;
+    put(out, b" ")?;
     put_list(out, children)
 }
 
@@ -87,10 +89,7 @@ fn put_node_or_zero(out: &mut Vec<u8>, node: Option<NodeId>) -> Result<(), Memor
 {
     match node {
         None => put(out, b"0"),
-        Some(node) => {
-            let node = node.0;
-            write!(out, "{node}").map_err(|_| Memory)
-        }
+        Some(node) => put_number(out, u64::from(node.0)),
     }
 }
 
@@ -98,7 +97,8 @@ fn put_node_or_zero(out: &mut Vec<u8>, node: Option<NodeId>) -> Result<(), Memor
 fn put_ask(out: &mut Vec<u8>, seq: u64, rank: Option<Rank>) -> Result<(), Memory>
     ensures { OnOk result (out.new.items ≡ out.old.items ++ body_text (Body.Ask seq rank)) }
 {
-    write!(out, "ask {seq} ").map_err(|_| Memory)?;
+    put_with_number(out, b"ask ", seq)?;
+    put(out, b" ")?;
     match rank {
         None => put(out, b"-"),
         Some(rank) => put_rank(out, rank),
@@ -109,16 +109,16 @@ fn put_ask(out: &mut Vec<u8>, seq: u64, rank: Option<Rank>) -> Result<(), Memory
 fn put_rank(out: &mut Vec<u8>, rank: Rank) -> Result<(), Memory>
     ensures { OnOk result (out.new.items ≡ out.old.items ++ rank_text rank) }
 {
-    let epoch = rank.epoch;
-    let depth = rank.depth;
-    write!(out, "{epoch}.{depth}").map_err(|_| Memory)
+    put_number(out, rank.epoch)?;
+    put_with_number(out, b".", u64::from(rank.depth))
 }
 
 /// Puts `yes S E.D [ids]`.
 fn put_yes(out: &mut Vec<u8>, seq: u64, rank: Rank, ancestors: &[NodeId]) -> Result<(), Memory>
     ensures { OnOk result (out.new.items ≡ out.old.items ++ body_text (Body.Yes seq rank ancestors.now)) }
 {
-    write!(out, "yes {seq} ").map_err(|_| Memory)?;
+    put_with_number(out, b"yes ", seq)?;
+    put(out, b" ")?;
     put_rank(out, rank)?;
     put(out, b" ")?;
     put_list(out, ancestors)
@@ -128,7 +128,8 @@ fn put_yes(out: &mut Vec<u8>, seq: u64, rank: Rank, ancestors: &[NodeId]) -> Res
 fn put_no(out: &mut Vec<u8>, seq: u64, why: Refusal) -> Result<(), Memory>
     ensures { OnOk result (out.new.items ≡ out.old.items ++ body_text (Body.No seq why)) }
 {
-    write!(out, "no {seq} ").map_err(|_| Memory)?;
+    put_with_number(out, b"no ", seq)?;
+    put(out, b" ")?;
     put_why(out, why)
 }
 
@@ -141,10 +142,7 @@ fn put_why(out: &mut Vec<u8>, why: Refusal) -> Result<(), Memory>
         Refusal::NotJoined => put(out, b"notjoined"),
         Refusal::Ancestor => put(out, b"ancestor"),
         Refusal::Depth => put(out, b"depth"),
-        Refusal::Chain(node) => {
-            let node = node.0;
-            write!(out, "chain {node}").map_err(|_| Memory)
-        }
+        Refusal::Chain(node) => put_with_number(out, b"chain ", u64::from(node.0)),
         Refusal::Rank => put(out, b"rank"),
     }
 }
@@ -159,7 +157,10 @@ fn put_check_in(
 ) -> Result<(), Memory>
     ensures { OnOk result (out.new.items ≡ out.old.items ++ body_text (Body.CheckIn seq upto rate 0 0 certs.now)) }
 {
-    write!(out, "checkin {seq} {upto} {rate} ").map_err(|_| Memory)?;
+    put_with_number(out, b"checkin ", seq)?;
+    put_with_number(out, b" ", upto)?;
+    put_with_number(out, b" ", rate)?;
+    put(out, b" ")?;
     put_list(out, certs)
 }
 
@@ -173,7 +174,9 @@ fn put_check_ack(
 ) -> Result<(), Memory>
     ensures { OnOk result (out.new.items ≡ out.old.items ++ body_text (Body.CheckAck seq upto rank ancestors.now)) }
 {
-    write!(out, "checkack {seq} {upto} ").map_err(|_| Memory)?;
+    put_with_number(out, b"checkack ", seq)?;
+    put_with_number(out, b" ", upto)?;
+    put(out, b" ")?;
     put_rank(out, rank)?;
     put(out, b" ")?;
     put_list(out, ancestors)
@@ -199,7 +202,8 @@ fn put_chunk(
 {
     put(out, b"chunk ")?;
     put(out, group.bytes())?;
-    write!(out, " {start} ").map_err(|_| Memory)?;
+    put_with_number(out, b" ", start)?;
+    put(out, b" ")?;
     put_bytes(out, bytes)?;
     put_mark(out, last, " last")
 }

@@ -3,9 +3,8 @@
 ghost use Rattle.std.specs.Prelude.{◌≡◌, ℕ, List, [], ◌++◌, OnOk, decimal};
 ghost use Rattle.oc_replay.specs.Bodies.{cert_text, child_text, count_text, list_text, pair_text, sign_text, spaced};
 
-use crate::texts::{put, put_mark};
-use oc_base::{Cert, Child, Memory, NodeId, Shelf};
-use std::io::Write;
+use crate::texts::put_mark;
+use oc_base::{Cert, Child, Memory, NodeId, Shelf, put, put_number, put_with_number};
 
 /// What stands in a list.
 pub(crate) trait Item {
@@ -45,8 +44,7 @@ impl Item for NodeId {
     ghost text = { decimal };
 
     fn put(&self, out: &mut Vec<u8>) -> Result<(), Memory> {
-        let node = self.0;
-        write!(out, "{node}").map_err(|_| Memory)
+        put_number(out, u64::from(self.0))
     }
 }
 
@@ -55,8 +53,7 @@ impl Item for Shelf {
 
     fn put(&self, out: &mut Vec<u8>) -> Result<(), Memory> {
         put(out, self.group.bytes())?;
-        let held = self.held;
-        write!(out, "@{held}").map_err(|_| Memory)?;
+        put_with_number(out, b"@", self.held)?;
         put_mark(out, self.sealed, "!")
     }
 }
@@ -65,9 +62,8 @@ impl Item for Child {
     ghost text = { child_text };
 
     fn put(&self, out: &mut Vec<u8>) -> Result<(), Memory> {
-        let id = self.id.0;
-        let rate = self.rate;
-        write!(out, "{id}:{rate}").map_err(|_| Memory)
+        put_number(out, u64::from(self.id.0))?;
+        put_with_number(out, b":", self.rate)
     }
 }
 
@@ -75,10 +71,9 @@ impl Item for Cert {
     ghost text = { cert_text };
 
     fn put(&self, out: &mut Vec<u8>) -> Result<(), Memory> {
-        let subject = self.subject.0;
-        let seq = self.seq;
-        let parent = self.parent.0;
-        write!(out, "{subject}/{seq}/{parent}").map_err(|_| Memory)?;
+        put_number(out, u64::from(self.subject.0))?;
+        put_with_number(out, b"/", self.seq)?;
+        put_with_number(out, b"/", u64::from(self.parent.0))?;
         put(out, sign(self.dead).as_bytes())?;
         put_count(out, "", self.number, self.clients)
     }
@@ -101,8 +96,8 @@ pub(crate) fn put_count(
     ensures { OnOk result (out.new.items ≡ out.old.items ++ count_text before.now number clients) }
 {
     if number != 0 {
-        put(out, before.as_bytes())?;
-        write!(out, "{number}:{clients}").map_err(|_| Memory)?;
+        put_with_number(out, before.as_bytes(), number)?;
+        put_with_number(out, b":", clients)?;
     }
     Ok(())
 }

@@ -4,17 +4,17 @@ ghost use Rattle.std.specs.Prelude.{◌≡◌, ◌++◌, OnOk, IfOk};
 ghost use Rattle.oc_replay.specs.Lines.{answer_text, word_text, event_line, message_line, held_line, held_text, end_line};
 
 use crate::bodies::put_body;
-use crate::texts::{put, put_mark};
-use oc_base::{Memory, Shelf};
+use crate::texts::put_mark;
+use oc_base::{Memory, Shelf, put, put_with_number};
 use oc_model::{Answer, Message, Word};
 use std::alloc::Global;
-use std::io::Write;
 
 /// Puts `#i WORD`.
 pub(crate) fn put_event(out: &mut Vec<u8>, number: u64, word: &Word) -> Result<(), Memory>
     ensures { OnOk result (out.new.items ≡ out.old.items ++ event_line number word.now) }
 {
-    write!(out, "#{number} ").map_err(|_| Memory)?;
+    put_with_number(out, b"#", number)?;
+    put(out, b" ")?;
     put_word(out, word)?;
     put(out, b"\n")
 }
@@ -30,9 +30,9 @@ fn put_word(out: &mut Vec<u8>, word: &Word) -> Result<(), Memory>
         Word::Up => put(out, b"up"),
         Word::StoppedOld => put(out, b"stopped old"),
         Word::StoppedNew => put(out, b"stopped new"),
-        Word::Settled(count) => write!(out, "settled {count}").map_err(|_| Memory),
+        Word::Settled(count) => put_with_number(out, b"settled ", *count),
         Word::Unready => put(out, b"unready"),
-        Word::Healed(count) => write!(out, "healed {count}").map_err(|_| Memory),
+        Word::Healed(count) => put_with_number(out, b"healed ", *count),
     }
 }
 
@@ -53,11 +53,8 @@ fn put_answer(out: &mut Vec<u8>, answer: Answer) -> Result<(), Memory>
         Answer::Waiting => put(out, b"waiting"),
         Answer::Spent => put(out, b"spent"),
         Answer::Sealed => put(out, b"sealed"),
-        Answer::Redirect(node) => {
-            let node = node.0;
-            write!(out, "redirect {node}").map_err(|_| Memory)
-        }
-        Answer::Serve(count) => write!(out, "serve {count}").map_err(|_| Memory),
+        Answer::Redirect(node) => put_with_number(out, b"redirect ", u64::from(node.0)),
+        Answer::Serve(count) => put_with_number(out, b"serve ", count),
     }
 }
 
@@ -65,9 +62,10 @@ fn put_answer(out: &mut Vec<u8>, answer: Answer) -> Result<(), Memory>
 pub(crate) fn put_message(out: &mut Vec<u8>, number: u64, message: &Message) -> Result<(), Memory>
     ensures { OnOk result (out.new.items ≡ out.old.items ++ message_line number message.now) }
 {
-    let from = message.from.0;
-    let to = message.to.0;
-    write!(out, "  m{number} {from}>{to} ").map_err(|_| Memory)?;
+    put_with_number(out, b"  m", number)?;
+    put_with_number(out, b" ", u64::from(message.from.0))?;
+    put_with_number(out, b">", u64::from(message.to.0))?;
+    put(out, b" ")?;
     put_body(out, &message.body)?;
     put(out, b"\n")
 }
@@ -88,8 +86,7 @@ fn put_held_line(out: &mut Vec<u8>, line: &Shelf) -> Result<(), Memory>
 {
     put(out, b"  ")?;
     put(out, line.group.bytes())?;
-    let held = line.held;
-    write!(out, " {held}").map_err(|_| Memory)?;
+    put_with_number(out, b" ", line.held)?;
     put_mark(out, line.sealed, " sealed")?;
     put(out, b"\n")
 }
@@ -98,7 +95,9 @@ fn put_held_line(out: &mut Vec<u8>, line: &Shelf) -> Result<(), Memory>
 pub(crate) fn put_end(out: &mut Vec<u8>, events: u64, messages: u64) -> Result<(), Memory>
     ensures { OnOk result (out.new.items ≡ out.old.items ++ end_line events messages) }
 {
-    writeln!(out, "end {events} {messages}").map_err(|_| Memory)
+    put_with_number(out, b"end ", events)?;
+    put_with_number(out, b" ", messages)?;
+    put(out, b"\n")
 }
 
 /// The block of `held`: a line for each group, in the order in which they come.

@@ -4,15 +4,7 @@ ghost use Rattle.std.specs.Prelude.{◌≡◌, ◌++◌, OnOk};
 ghost use Rattle.oc_replay.specs.Bodies.{mark, bytes_text};
 ghost use Rattle.hex.specs.Hex.{encode_lower};
 
-use oc_base::Memory;
-
-/// Puts a text.
-pub(crate) fn put(out: &mut Vec<u8>, text: &[u8]) -> Result<(), Memory>
-    ensures { OnOk result (out.new.items ≡ out.old.items ++ text.now) }
-{
-    out.extend_from_slice(text)?;
-    Ok(())
-}
+use oc_base::{Memory, put};
 
 /// Puts a mark, where it is due.
 pub(crate) fn put_mark(out: &mut Vec<u8>, due: bool, text: &str) -> Result<(), Memory>

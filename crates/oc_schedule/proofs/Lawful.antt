@@ -8,7 +8,7 @@ use Rattle.oc_base.specs.declared.why.Why.{Why}
 use Rattle.oc_model.specs.declared.event.Event.{Event}
 use Rattle.oc_model.specs.Lawful.{IsHeader}
 use Rattle.oc_model.specs.Playable.{IsPlayable}
-use Rattle.oc_schedule.proofs.Ranges.{event_range, header_range}
+use Rattle.oc_schedule.proofs.Ranges.{area_range, areas_set, event_range, header_range}
 use Rattle.oc_schedule.proofs.Steps.{steps, chosen, behind_guard}
 use Rattle.oc_schedule.specs.declared.fault.ScheduleFault.TheVariants.{Limit}
 use Rattle.oc_schedule.specs.declared.fault.ScheduleFault.{ScheduleFault}
@@ -70,6 +70,7 @@ said_area i s fields t before h =
       short = old.short;
       within = old.within;
       areas = length-set s.header.areas (area.0 - 1) area.1 ∙ old.areas;
+      bytes = areas_set s.header.areas (area.0 - 1) area.1 (area_range s.header.nodes fields area is_area).1 old.bytes;
     } in
     subst (IsSaid i) same (record { header = header; events = λ few. before.events; few = omega arith })
 

@@ -1,4 +1,5 @@
-use Rattle.std.proofs.Common.{◌≡◌, ℕ, ◌≤◌, not, ◌&&◌, Option, Some, None, Result, Ok, Err, List, inl, inr, refl, subst, arith, min, nat_le, replicate, codes}
+use Rattle.std.proofs.Common.{◌≡◌, ℕ, zero, suc, ◌≤◌, set, [], ◌∷◌, not, ◌&&◌, Option, Some, None, Result, Ok, Err, List, inl, inr, refl, subst, arith, min, nat_le, replicate, codes}
+use Rattle.std.specs.List.{AllByRecursion}
 use Rattle.std.specs.Str.{bytes_eq}
 use Rattle.std.specs.Str.Parse.{digits_value}
 use Rattle.std.proofs.lemmas.Bool.{and_parts}
@@ -18,7 +19,7 @@ use Rattle.oc_model.specs.Node.{Header}
 use Rattle.oc_schedule.proofs.Steps.{steps, chosen, behind_guard, within_guard}
 use Rattle.oc_base.specs.Words.{one, two, three, six, is_number, number_in, node_in}
 use Rattle.oc_schedule.specs.Fields.{group_in, bytes_in}
-use Rattle.oc_base.specs.declared.limits.TheConstants.{MAX_NODES, MAX_CHAIN, MAX_AREA}
+use Rattle.oc_base.specs.declared.limits.TheConstants.{MAX_NODES, MAX_CHAIN, MAX_AREA, MAX_PUBLISH_BYTES}
 use Rattle.oc_model.specs.Numbers.{number_end}
 use Rattle.oc_schedule.specs.Lines.{sizes_in, opening_in, header_in, area_in, pull_in, publish_in, seal_in, deliver_in, act_in, up_in, held_in, act_alone_in, event_in}
 use Rattle.oc_base.specs.Steps.{with_fault}
@@ -48,6 +49,20 @@ group_range field g h =
 abbrev with_sizes : ℕ × ℕ → Header
 with_sizes (nodes, chain) = record { nodes = nodes; chain = chain; areas = replicate nodes 0 }
 
+-- areas are bytes
+abbrev AreAreas : List ℕ → Type 0
+AreAreas areas = AllByRecursion (λ a. a ≤ MAX_AREA) areas
+
+no_areas : (n : ℕ) → AreAreas (replicate n 0)
+no_areas zero = tt
+no_areas (suc n) = (omega arith, no_areas n)
+
+-- one more is set
+pub areas_set : (areas : List ℕ) (i a : ℕ) → a ≤ MAX_AREA → AreAreas areas → AreAreas (set areas i a)
+areas_set [] i a here all = tt
+areas_set (b ∷ areas) zero a here all = (here, all.1)
+areas_set (b ∷ areas) (suc i) a here all = (all.0, areas_set areas i a here all.1)
+
 sizes_range : (n c : List ℕ) (sizes : ℕ × ℕ) → sizes_in n c ≡ Ok sizes → IsHeader (with_sizes sizes)
 sizes_range n c sizes h =
     steps (number_in 1 MAX_NODES n) _ _ h λ nodes is_nodes then.
@@ -56,7 +71,7 @@ sizes_range n c sizes h =
     let b = number_range 1 (min MAX_CHAIN nodes) c chain is_chain in
     let same : (nodes, chain) ≡ sizes = cc end in
     subst (λ (s : ℕ × ℕ). IsHeader (with_sizes s)) same
-    (record { some = a.0; few = a.1; chain = b.0; short = omega arith; within = omega arith; areas = length-replicate nodes 0 })
+    (record { some = a.0; few = a.1; chain = b.0; short = omega arith; within = omega arith; areas = length-replicate nodes 0; bytes = no_areas nodes })
 
 opening_range : (words : List (List ℕ)) (sizes : ℕ × ℕ) → opening_in words ≡ Ok sizes → IsHeader (with_sizes sizes)
 opening_range words sizes h =
@@ -76,22 +91,22 @@ header_range words h is =
     subst IsHeader same (opening_range words sizes (without_fault causes.Header (opening_in words) sizes first_script))
 
 -- so is the area of a node
-pub area_range : (nodes : ℕ) (fields : List (List ℕ)) (area : ℕ × ℕ) → area_in nodes fields ≡ Ok area → IsNode nodes area.0 × (area.1 ≤ 255)
+pub area_range : (nodes : ℕ) (fields : List (List ℕ)) (area : ℕ × ℕ) → area_in nodes fields ≡ Ok area → IsNode nodes area.0 × (area.1 ≤ MAX_AREA)
 area_range nodes fields area h =
     steps (two fields) _ _ h λ f is_two then.
     steps (node_in nodes f.0) _ _ then λ node is_node then.
     steps (number_in 0 MAX_AREA f.1) _ _ then λ a is_area end.
     let same : (node, a) ≡ area = cc end in
-    subst (λ (x : ℕ × ℕ). IsNode nodes x.0 × (x.1 ≤ 255)) same
+    subst (λ (x : ℕ × ℕ). IsNode nodes x.0 × (x.1 ≤ MAX_AREA)) same
     (number_range 1 nodes f.0 node is_node, (number_range 0 MAX_AREA f.1 a is_area).1)
 
 -- Of an event that is read all is in range, where it does not publish too much.
 
 abbrev IsActIfFew : ℕ → Act → Type 0
-IsActIfFew nodes act = published_by (Do act) ≤ 1000000 → IsPlayableAct nodes act
+IsActIfFew nodes act = published_by (Do act) ≤ MAX_PUBLISH_BYTES → IsPlayableAct nodes act
 
 abbrev IsEventIfFew : ℕ → Event → Type 0
-IsEventIfFew nodes event = published_by event ≤ 1000000 → IsPlayable nodes event
+IsEventIfFew nodes event = published_by event ≤ MAX_PUBLISH_BYTES → IsPlayable nodes event
 
 pull_range : (nodes : ℕ) (fields : List (List ℕ)) (act : Act) → pull_in nodes fields ≡ Ok act → IsActIfFew nodes act
 pull_range nodes fields act h =
@@ -160,7 +175,7 @@ alone_range nodes word fields event h =
     subst (IsEventIfFew nodes) same (act_range nodes word fields act is_act)
 
 -- an event that is read is one, where it does not publish too much
-pub event_range : (nodes : ℕ) (word : List ℕ) (fields : List (List ℕ)) (event : Event) → event_in nodes word fields ≡ Ok event → published_by event ≤ 1000000 → IsPlayable nodes event
+pub event_range : (nodes : ℕ) (word : List ℕ) (fields : List (List ℕ)) (event : Event) → event_in nodes word fields ≡ Ok event → published_by event ≤ MAX_PUBLISH_BYTES → IsPlayable nodes event
 event_range nodes word fields event h =
     elim (chosen (bytes_eq word (codes "up")) _ _ _ h) [
       | inl up ↦ up_range nodes fields event up.1

@@ -82,7 +82,7 @@ impl Draft {
             mut schedule,
             published,
         } = self;
-        schedule.areas[node.0 as usize - 1] = area;
+        schedule.areas[node.index()] = area;
         Draft {
             schedule,
             published,

@@ -7,7 +7,6 @@ ghost use Rattle.oc_base.specs.Lawful.{IsNode};
 ghost use Rattle.oc_updown.specs.Children.{start_row, ended_of_row};
 
 use crate::leases::LEASE_TIME;
-use crate::place::place_of;
 use oc_base::{Cert, NodeId};
 
 /// The lease of a child begins anew.
@@ -16,7 +15,7 @@ pub(crate) fn renew(ends: &mut [Option<u64>], child: NodeId, now: u64)
     requires now { now ≤ 2 ^ 41 }
     ensures { ends.new ≡ renew ends.old child now }
 {
-    ends[place_of(child)] = Some(now + LEASE_TIME);
+    ends[child.index()] = Some(now + LEASE_TIME);
 }
 
 /// Whether a certificate says that its subject is a child of this node.
@@ -32,7 +31,7 @@ fn start(ends: &mut [Option<u64>], child: NodeId, now: u64)
     requires now { now ≤ 2 ^ 41 }
     ensures { ends.new ≡ start_if (at ends.old child None) ends.old child now }
 {
-    if ends[place_of(child)].is_none() {
+    if ends[child.index()].is_none() {
         renew(ends, child, now);
     }
 }
@@ -80,7 +79,7 @@ fn is_over(ends: &[Option<u64>], child: NodeId, now: u64) -> bool
     requires { IsNode (length ends.now) child }
     ensures { result ≡ is_over (at ends.now child None) now }
 {
-    match ends[place_of(child)] {
+    match ends[child.index()] {
         Some(end) => end <= now,
         None => false,
     }

@@ -9,7 +9,6 @@
 mod change_log;
 mod children;
 mod leases;
-mod place;
 mod waiting;
 
 pub use change_log::ChangeLog;

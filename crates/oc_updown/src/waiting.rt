@@ -4,8 +4,7 @@ ghost use Rattle.oc_cert.specs.TableView.{AreRows, entries_of};
 ghost use Rattle.oc_base.specs.Lawful.{IsNode};
 ghost use Rattle.oc_updown.specs.Waiting.{count_of};
 
-use crate::place::place_of;
-use oc_base::{Cert, Memory, NodeId};
+use oc_base::{Cert, Memory, NodeId, push_reserved};
 use std::alloc::Global;
 use std::collections::VecDeque;
 use std::marker::Model;
@@ -65,8 +64,8 @@ impl Waiting {
         requires room { vec_len into.old + count ≤ vec_capacity into.old }
         ensures { into.new.items ≡ into.old.items ++ take count self.now.certs }
     {
-        for place in 0..count {
-            put_in(into, &self.certs[place]);
+        for index in 0..count {
+            push_reserved(into, self.certs[index]);
         }
     }
 
@@ -75,7 +74,7 @@ impl Waiting {
         requires { IsNode self.now.nodes subject }
         ensures { IsTrue result ↔ (0 < count_of subject self.now.certs) }
     {
-        self.counts[place_of(subject)] > 0
+        self.counts[subject.index()] > 0
     }
 
     /// Puts one at the end. There is room for it.
@@ -86,8 +85,8 @@ impl Waiting {
         ensures room { self.new.room ≡ self.old.room }
         ensures nodes { self.new.nodes ≡ self.old.nodes }
     {
-        let place = place_of(cert.subject);
-        self.counts[place] += 1;
+        let index = cert.subject.index();
+        self.counts[index] += 1;
         put(&mut self.certs, cert);
     }
 
@@ -98,8 +97,8 @@ impl Waiting {
         ensures nodes { self.new.nodes ≡ self.old.nodes }
     {
         if let Some(cert) = self.certs.pop_front() {
-            let place = place_of(cert.subject);
-            self.counts[place] -= 1;
+            let index = cert.subject.index();
+            self.counts[index] -= 1;
         }
     }
 
@@ -159,14 +158,4 @@ fn put(certs: &mut VecDeque<Cert>, cert: &Cert)
     ensures capacity { deque_capacity certs.new ≡ deque_capacity certs.old }
 {
     let _no_memory_taken = certs.push_back(*cert);
-}
-
-/// The same with a vector.
-fn put_in(certs: &mut Vec<Cert>, cert: &Cert)
-    requires { vec_len certs.old < vec_capacity certs.old }
-    ensures items { certs.new.items ≡ certs.old.items ++ cert.now ∷ [] }
-    ensures len { vec_len certs.new ≡ vec_len certs.old + 1 }
-    ensures capacity { vec_capacity certs.old ≤ vec_capacity certs.new }
-{
-    let _no_memory_taken = certs.push(*cert);
 }

@@ -1,10 +1,7 @@
-use Rattle.std.specs.Prelude.{◌≡◌, ℕ, ◌+◌, ◌<◌, ◌≤◌, List, [], ◌++◌, length}
+use Rattle.std.specs.Prelude.{◌≡◌, ℕ, ◌+◌, ◌<◌, ◌≤◌, [], length}
 use Rattle.std.specs.List.{range_with_len, AllByRecursion}
-use Rattle.oc_base.specs.declared.group.Group.{Group}
-use Rattle.oc_model.specs.declared.message.Message.{Message}
 use Rattle.oc_model.specs.declared.word.Word.{Word}
 use Rattle.oc_base.specs.declared.limits.TheConstants.{MAX_TIME}
-use Rattle.oc_base.specs.Groups.{IsAscending}
 use Rattle.oc_model.specs.Node.{Header}
 use Rattle.oc_model.specs.WorldBounds.{IsWithinLimits}
 use Rattle.oc_model.specs.World.{World, Process, ids}

@@ -24,14 +24,6 @@ use oc_model::{Act, Answer, Body, Event, Message, Word};
 use std::alloc::Global;
 use std::marker::Model;
 
-/// Where a node stands in the list of processes.
-fn place_of(node: NodeId) -> usize
-    requires { 1 ≤ node }
-    ensures { result + 1 ≡ node }
-{
-    node.0 as usize - 1
-}
-
 /// The node starts.
 fn start(processes: &mut Vec<Process>, node: NodeId) -> Word
     requires numbered { IsNumbered processes.old.items }
@@ -39,7 +31,7 @@ fn start(processes: &mut Vec<Process>, node: NodeId) -> Word
     ensures numbered { IsNumbered processes.new.items }
     ensures leads { (net : List ModelMessage) → Leads (world_of processes.old.items net) (Up node) (world_of processes.new.items net) result }
 {
-    let at = place_of(node);
+    let at = node.index();
     if processes[at].is_up() {
         return Word::Up;
     }
@@ -62,7 +54,7 @@ fn publish(
         Leads (world_of processes.old.items net) (Do (Publish node group.now bytes.now)) (world_of processes.new.items net) word) }
     ensures err { OnErr result (processes.new.items ≡ processes.old.items) }
 {
-    let at = place_of(node);
+    let at = node.index();
     if !processes[at].is_up() {
         return Ok(Word::Down);
     }
@@ -78,7 +70,7 @@ fn seal(processes: &mut Vec<Process>, node: NodeId, group: &GroupName) -> Word
     ensures leads { (net : List ModelMessage) →
         Leads (world_of processes.old.items net) (Do (Seal node group.now)) (world_of processes.new.items net) result }
 {
-    let at = place_of(node);
+    let at = node.index();
     if !processes[at].is_up() {
         return Word::Down;
     }
@@ -123,7 +115,8 @@ fn pull(
     ensures later { length net.old.items ≤ length net.new.items }
     ensures err { OnErr result (net.new.items ≡ net.old.items) }
 {
-    let process = &processes[place_of(node)];
+    let at = node.index();
+    let process = &processes[at];
     if !process.is_up() {
         return Ok(Word::Down);
     }
@@ -164,7 +157,7 @@ fn place_up(processes: &[Process], node: NodeId) -> Option<usize>
     if !is_numbered(node, processes.len()) {
         return None;
     }
-    let at = place_of(node);
+    let at = node.index();
     if processes[at].is_up() {
         Some(at)
     } else {
@@ -337,7 +330,8 @@ impl Network {
         requires { IsNode (length (ids self.now)) node }
         ensures { IfOk result (λ lines. lines.items ≡ shelf (node_in self.now node).groups) }
     {
-        self.processes[place_of(node)].shelf(self.alloc)
+        let at = node.index();
+        self.processes[at].shelf(self.alloc)
     }
 }
 

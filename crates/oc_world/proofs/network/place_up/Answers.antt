@@ -9,13 +9,13 @@ returns-then-not-is_numbered-clause-none c = nobody c.args.processes.now c.args.
 pub returns-then-is_up-clause-some : goal.returns-then-is_up-clause-some
 returns-then-is_up-clause-some c =
     let in_range = c.if-not-is_numbered.ensures.within in
-    let same = read_process c.args.processes.now c.args.node c.place_of-at.result c.index-processes-at.result c.requires c.place_of-at.ensures in_range.1 c.index-processes-at.is in
+    let same = read_process c.args.processes.now c.args.node c.index-at.result c.index-processes-at.result c.requires c.index-at.ensures.next in_range.1 c.index-processes-at.is in
     let up : c.index-processes-at.result.up ≡ true = cc in
-    (c.place_of-at.ensures, omega (arith, c.place_of-at.ensures, in_range.1), ap (λ (p : Process). p.up) same ∙ up)
+    (c.index-at.ensures.next, omega (arith, c.index-at.ensures.next, in_range.1), ap (λ (p : Process). p.up) same ∙ up)
 
 pub returns-else-is_up-clause-none : goal.returns-else-is_up-clause-none
 returns-else-is_up-clause-none c =
     let in_range = c.if-not-is_numbered.ensures.within in
-    let same = read_process c.args.processes.now c.args.node c.place_of-at.result c.index-processes-at.result c.requires c.place_of-at.ensures in_range.1 c.index-processes-at.is in
+    let same = read_process c.args.processes.now c.args.node c.index-at.result c.index-processes-at.result c.requires c.index-at.ensures.next in_range.1 c.index-processes-at.is in
     let down : c.index-processes-at.result.up ≡ false = cc in
     ap (λ (p : Process). p.up) same ∙ down

@@ -11,8 +11,8 @@ overflow_add-index_mut c =
     let certs : length c.self.inside.certs.items ≡ length c.args.self.now.certs = ap (λ (v : WaitingView). length v.certs) c.self.view_is in
     let room : deque_capacity c.self.inside.certs ≡ c.args.self.now.room = ap (λ (v : WaitingView). v.room) c.self.view_is in
     let node : IsNode (length c.self.inside.counts.items) c.args.cert.now.subject = rw nodes c.requires.subject in
-    let read : c.index_mut.result.now ≡ get_or c.self.inside.counts.items c.place_of-place.result 0 = read_count c.self.inside.counts.items c.place_of-place.result c.index_mut.result.now (omega arith) c.index_mut.ensures.value in
-    let most : get_or c.self.inside.counts.items c.place_of-place.result 0 ≤ length c.self.inside.certs.items = count_fits c.self.inside.counts.items c.self.inside.certs.items c.place_of-place.result c.self.invariant.0 in
+    let read : c.index_mut.result.now ≡ get_or c.self.inside.counts.items c.index-index.result 0 = read_count c.self.inside.counts.items c.index-index.result c.index_mut.result.now (omega arith) c.index_mut.ensures.value in
+    let most : get_or c.self.inside.counts.items c.index-index.result 0 ≤ length c.self.inside.certs.items = count_fits c.self.inside.counts.items c.self.inside.certs.items c.index-index.result c.self.invariant.0 in
     let small : deque_capacity c.self.inside.certs < 2 ^ 63 = c.self.inside.certs.small.0 in
     omega arith
 
@@ -20,7 +20,7 @@ pub invariant_of-self : goal.invariant_of-self
 invariant_of-self c =
     let nodes : length c.self.inside.counts.items ≡ c.args.self.now.nodes = ap (λ (v : WaitingView). v.nodes) c.self.view_is in
     let node : IsNode (length c.self.inside.counts.items) c.args.cert.now.subject = rw nodes c.requires.subject in
-    let read : c.index_mut.result.now ≡ get_or c.self.inside.counts.items c.place_of-place.result 0 = read_count c.self.inside.counts.items c.place_of-place.result c.index_mut.result.now (omega arith) c.index_mut.ensures.value in (
-      counts_push_at c.self.inside.counts.items c.self.inside.certs.items c.args.cert.now c.place_of-place.result c.index_mut.result.now c.put.new.certs.items c.self.invariant.0 node c.place_of-place.ensures read c.put.ensures.items,
-      of_nodes_push c.self.inside.counts.items c.self.inside.certs.items c.args.cert.now c.place_of-place.result c.index_mut.result.now c.put.new.certs.items c.self.invariant.1 node c.put.ensures.items,
+    let read : c.index_mut.result.now ≡ get_or c.self.inside.counts.items c.index-index.result 0 = read_count c.self.inside.counts.items c.index-index.result c.index_mut.result.now (omega arith) c.index_mut.ensures.value in (
+      counts_push_at c.self.inside.counts.items c.self.inside.certs.items c.args.cert.now c.index-index.result c.index_mut.result.now c.put.new.certs.items c.self.invariant.0 node c.index-index.ensures.index read c.put.ensures.items,
+      of_nodes_push c.self.inside.counts.items c.self.inside.certs.items c.args.cert.now c.index-index.result c.index_mut.result.now c.put.new.certs.items c.self.invariant.1 node c.put.ensures.items,
     )

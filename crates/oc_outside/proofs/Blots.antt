@@ -27,8 +27,8 @@ take-blotted (suc m) zero (suc n) byte (b ∷ bytes) = ap (λ (l : List ℕ). by
 take-blotted (suc m) zero zero byte (b ∷ bytes) = refl
 
 same_blot : (p q k j byte : ℕ) (bytes : List ℕ) → p ≡ q → k ≡ j → blotted p k byte bytes ≡ blotted q j byte bytes
-same_blot p q k j byte bytes same_place same_count =
-    ap (λ (x : ℕ). blotted x k byte bytes) same_place ∙ ap (λ (x : ℕ). blotted q x byte bytes) same_count
+same_blot p q k j byte bytes same_offset same_count =
+    ap (λ (x : ℕ). blotted x k byte bytes) same_offset ∙ ap (λ (x : ℕ). blotted q x byte bytes) same_count
 
 drop-blotted_is : (m at n byte : ℕ) (bytes : List ℕ) → drop m (blotted at n byte bytes) ≡ blotted (at - m) (n - (m - at)) byte (drop m bytes)
 drop-blotted_is zero at n byte bytes = same_blot at (at - zero) n (n - (zero - at)) byte bytes (omega arith) (omega arith)
@@ -40,7 +40,7 @@ drop-blotted_is (suc m) zero (suc n) byte (b ∷ bytes) =
 drop-blotted_is (suc m) zero zero byte (b ∷ bytes) =
     sym (blotted-none byte (drop m bytes)) ∙ same_blot zero (zero - suc m) zero (zero - (suc m - zero)) byte (drop m bytes) (omega arith) (omega arith)
 
--- what is behind a place depends on what was behind it
+-- what is behind an offset depends on what was behind it
 drop-blotted : (m at n byte : ℕ) (a b : List ℕ) → drop m a ≡ drop m b → drop m (blotted at n byte a) ≡ drop m (blotted at n byte b)
 drop-blotted m at n byte a b same =
     drop-blotted_is m at n byte a ∙ ap (blotted (at - m) (n - (m - at)) byte) same ∙ sym (drop-blotted_is m at n byte b)
@@ -137,7 +137,7 @@ crashed-told byte (Sync ∷ steps) pool bytes = refl
 crashed-told byte (Write at over n ∷ steps) pool bytes =
     crashed-told byte steps (take (length pool - over) pool) (blotted at n byte bytes)
 
--- each write of the steps since the last sync is within so many bytes
+-- each write of the steps since the last sync is within this many bytes
 abbrev pub AreWithin : ℕ → List Step → Type 0
 AreWithin size [] = Unit {0}
 AreWithin size (Sync ∷ steps) = Unit {0}

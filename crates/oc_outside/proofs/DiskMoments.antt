@@ -1,6 +1,8 @@
 -- How runs of calls of a disk go on.
 use Rattle.std.proofs.Common.{inl, inr, ⊎_elim, ℕ, ◌+◌, ◌≤◌, IsTrue, Bool, List, refl, sym, ◌∙◌, subst, arith}
-use Rattle.oc_outside.specs.DiskView.{DiskView, Elapses, GoesOn, StaysAsItWas, Takes, LeavesOnly, IsConsistent}
+use Rattle.oc_outside.specs.DiskView.{DiskView, Elapses, GoesOn, StaysAsItWas, Takes, CannotFail, Fails, HasNoFault, LeavesOnly, IsConsistent}
+use Rattle.oc_outside.specs.Faults.{NoFall}
+use Rattle.oc_outside.proofs.Counts.{Rose-after}
 
 -- before the first call
 pub LeavesOnly-start : (v : DiskView) (P : List ℕ → Type 0) → IsConsistent v → ((c : List ℕ) → v.may_leave c → P c) → LeavesOnly v v P
@@ -50,6 +52,7 @@ still_honest u v goes honest = subst (λ (b : Bool). IsTrue b) (sym goes.honest)
 pub GoesOn-then : (u v w : DiskView) → GoesOn u v → GoesOn v w → GoesOn u w
 GoesOn-then u v w first second = record {
   honest = second.honest ∙ first.honest;
+  reliable = second.reliable ∙ first.reliable;
   name = second.name ∙ first.name;
   listed = second.listed ∙ first.listed;
   count = omega (arith, first.count, second.count);
@@ -63,10 +66,47 @@ Takes-then u v w m n k j first second = record {
   calls = omega (arith, first.calls, second.calls);
 }
 
+-- a disk stays reliable
+pub still_reliable : (u v : DiskView) → GoesOn u v → IsTrue u.reliable → IsTrue v.reliable
+still_reliable u v goes reliable = subst (λ (b : Bool). IsTrue b) (sym goes.reliable) reliable
+
+-- calls behind some of a run that cannot fail
+pub CannotFail-then : (u v : DiskView) (m n k j : ℕ) → Takes m k u v → CannotFail (m + n) (k + j) u → CannotFail n j v
+CannotFail-then u v m n k j first sure = record {
+  reliable = still_reliable u v first.goes_on sure.reliable;
+  room = omega (arith, first.room, sure.room);
+  calls = omega (arith, first.calls, sure.calls);
+}
+
+-- a run that fails at once
+pub Fails-first : (u v : DiskView) (m n k j : ℕ) → Fails m k u v → Fails (m + n) (k + j) u v
+Fails-first u v m n k j failed = record {
+  count = failed.count;
+  unsure = λ sure. failed.unsure (record { reliable = sure.reliable; room = omega (arith, sure.room); calls = omega (arith, sure.calls) });
+}
+
+-- a run that fails later
+pub Fails-then : (u v w : DiskView) (m n k j : ℕ) → Takes m k u v → Fails n j v w → Fails (m + n) (k + j) u w
+Fails-then u v w m n k j first failed = record {
+  count = Rose-after _ _ _ first.goes_on.count failed.count;
+  unsure = λ sure. failed.unsure (CannotFail-then u v m n k j first sure);
+}
+
+-- a run that fails behind reads
+pub Fails-later : (u v w : DiskView) (n j : ℕ) → StaysAsItWas u v → Fails n j v w → Fails n j u w
+Fails-later u v w n j stays failed = record {
+  count = Rose-after _ _ _ stays.goes_on.count failed.count;
+  unsure = λ sure. failed.unsure (record {
+    reliable = still_reliable u v stays.goes_on sure.reliable;
+    room = omega (arith, stays.room, sure.room);
+    calls = omega (arith, stays.calls, sure.calls);
+  });
+}
+
 -- no call at all
 pub StaysAsItWas-none : (v : DiskView) → StaysAsItWas v v
 StaysAsItWas-none v = record {
-  goes_on = record { honest = refl; name = refl; listed = refl; count = omega arith };
+  goes_on = record { honest = refl; reliable = refl; name = refl; listed = refl; count = omega arith };
   time = λ _. record { later = omega arith; nothing_else = λ t c earlier left. inl left; keeps = λ t c earlier left. left };
   seen = λ _. refl;
   images = λ _ c left. left;

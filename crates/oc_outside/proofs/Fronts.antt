@@ -3,7 +3,7 @@ use Rattle.std.proofs.Common.{ℕ, ◌≡◌, ◌≤◌, ◌+◌, ◌-◌, List,
 use Rattle.std.proofs.lemmas.List.{length-drop, length-take-le, take-append-le, take-append-drop, drop-drop}
 use Rattle.std.proofs.Math.Seq.{take-add, take-length}
 
--- what a slice from a place to the end has
+-- what a slice from an index to the end has
 pub rest-is : (done : ℕ) (bytes : List ℕ) → take (length bytes - done) (drop done bytes) ≡ drop done bytes
 rest-is done bytes =
     let rest = drop done bytes in

@@ -2,7 +2,7 @@
 use Rattle.std.specs.Prelude.{◌≡◌, ◌⊎◌, ℕ, zero, suc, ◌+◌, ◌≤◌, List, [], ◌∷◌, ◌++◌, length, take, drop}
 use Rattle.oc_outside.specs.DiskView.{IsTorn}
 
--- a call that worked: a write with its place, the bytes that it wrote over and how many it wrote, or a sync
+-- a call that worked: a write with its offset, the bytes that it wrote over and how many it wrote, or a sync
 pub data Call : Type 0 where
   Wrote : ℕ → List ℕ → ℕ → Call
   Synced : Call
@@ -25,7 +25,7 @@ HadLeft bytes [] t c = c ≡ bytes
 HadLeft bytes (call ∷ past) t c =
     MayLeave bytes (call ∷ past) c ⊎ ((t ≤ length past) × HadLeft (undone call bytes) past t c)
 
--- n bytes from this place on are each this byte
+-- n bytes from this offset on are each this byte
 abbrev pub blotted : ℕ → ℕ → ℕ → List ℕ → List ℕ
 blotted at n byte [] = []
 blotted (suc at) n byte (b ∷ bytes) = b ∷ blotted at n byte bytes

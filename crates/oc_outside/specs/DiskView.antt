@@ -1,6 +1,7 @@
 -- What is known of a disk, and what its calls do to it.
-use Rattle.std.specs.Prelude.{◌≡◌, ◌⊎◌, ℕ, ◌+◌, ◌≤◌, max, Bool, IsTrue, List, ◌++◌, length, take, drop}
-use Rattle.oc_outside.specs.Faults.{NoFall}
+use Rattle.std.specs.Prelude.{◌≡◌, ◌⊎◌, ℕ, ◌+◌, ◌<◌, ◌≤◌, max, Bool, IsTrue, List, ◌++◌, length, take, drop}
+use Rattle.oc_outside.specs.declared.disk.TheConstants.{MAX_RELIABLE_BYTES}
+use Rattle.oc_outside.specs.Faults.{NoFall, Rose}
 
 -- a disk as the layers above see it
 pub record DiskView : Type 1 where
@@ -22,6 +23,8 @@ pub record DiskView : Type 1 where
   pub calls : ℕ
   -- how many calls failed
   pub faults : ℕ
+  -- no call fails that keeps within the size and the spare room
+  pub reliable : Bool
   -- the names of the loans through which the disk is reached
   pub name : List ℕ
   -- the calls that were listed to fail, where the disk is one on which failures can be set
@@ -35,7 +38,7 @@ Only bytes images = (c : List ℕ) → images c → c ≡ bytes
 abbrev pub IsSafe : DiskView → Type 0
 IsSafe v = Only v.seen v.may_leave
 
--- new is old with these bytes at this place
+-- new is old with these bytes at this offset
 abbrev pub Holds : List ℕ → ℕ → List ℕ → List ℕ → Type 0
 Holds old at bytes new = new ≡ take at old ++ bytes ++ drop (at + length bytes) old
 
@@ -60,14 +63,15 @@ pub record Elapses (old new : DiskView) : Type 0 where
   pub nothing_else : (t : ℕ) (c : List ℕ) → t ≤ old.moment → new.since t c → old.since t c ⊎ new.may_leave c
   pub keeps : (t : ℕ) (c : List ℕ) → t ≤ old.moment → old.since t c → new.since t c
 
--- the same disk at a later time: it is as honest as before, reached in the same way, and what was set to fail still is
+-- the same disk at a later time: it is as honest and as reliable as before, reached in the same way, and what was set to fail still is
 pub record GoesOn (old new : DiskView) : Type 0 where
   pub honest : new.honest ≡ old.honest
+  pub reliable : new.reliable ≡ old.reliable
   pub name : new.name ≡ old.name
   pub listed : new.listed ≡ old.listed
   pub count : NoFall old.faults new.faults
 
--- nothing was written: a read gives what it gave, no image was added, and the spare room is there
+-- nothing was written: a read gives what it gave, no image was added, and the spare room is still there
 pub record StaysAsItWas (old new : DiskView) : Type 0 where
   pub goes_on : GoesOn old new
   pub time : IsTrue old.honest → Elapses old new
@@ -83,6 +87,25 @@ pub record Takes (bytes turns : ℕ) (old new : DiskView) : Type 0 where
   pub moment : IsTrue old.honest → new.moment ≤ old.moment + turns
   pub room : old.room ≤ new.room + bytes
   pub calls : old.calls ≤ new.calls + turns
+
+-- Calls of `write_at` and `sync`, this many at most, that write this many bytes in all cannot fail: the disk is reliable, and has the room.
+pub record CannotFail (bytes turns : ℕ) (v : DiskView) : Type 0 where
+  pub reliable : IsTrue v.reliable
+  pub room : bytes ≤ v.room
+  pub calls : turns ≤ v.calls
+
+-- a call failed among such calls: its count of faults rose, and they were not ones that cannot fail
+pub record Fails (bytes turns : ℕ) (old new : DiskView) : Type 0 where
+  pub count : Rose old.faults new.faults
+  pub unsure : ¬ CannotFail bytes turns old
+
+-- a call failed that writes nothing, so the disk is not reliable
+abbrev pub FailsToRead : DiskView → DiskView → Type 0
+FailsToRead old new = Fails 0 0 old new
+
+-- no call failed
+abbrev pub HasNoFault : DiskView → DiskView → Type 0
+HasNoFault old new = new.faults ≡ old.faults
 
 -- A crash at any moment since the old disk leaves a file that has P.
 pub record LeavesOnly (old new : DiskView) (P : List ℕ → Type 0) : Type 0 where
@@ -100,3 +123,8 @@ pub record IsConsistent (v : DiskView) : Type 0 where
   pub counts_now : (t : ℕ) (c : List ℕ) → t ≤ v.moment → v.may_leave c → v.since t c
   -- since this moment there is no other
   pub only_now : (c : List ℕ) → v.since v.moment c → v.may_leave c
+
+-- what each reliable disk keeps: it is honest, and what it holds and its spare room have a limit together
+pub record IsReliable (v : DiskView) : Type 0 where
+  pub honest : IsTrue v.honest
+  pub fits : 0 < v.room → v.size + v.room ≤ MAX_RELIABLE_BYTES

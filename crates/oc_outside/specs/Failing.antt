@@ -1,37 +1,29 @@
--- Which calls of a disk in memory fail.
-use Rattle.std.specs.Prelude.{◌≡◌, ℕ, ◌-◌, List, [], Contains, Option, None, Some}
-use Rattle.oc_outside.specs.Tally.{counted}
+-- Which calls of a disk in memory fail: those that are listed, and those after a stop.
+use Rattle.std.specs.Prelude.{◌≡◌, ℕ, ◌-◌, Bool, true, false, List, [], ◌∷◌, Option, None, Some}
+use Rattle.oc_outside.specs.Tally.{Tally, fresh}
 use Rattle.oc_outside.specs.declared.failures.Stop.{Stop}
 
--- which calls fail: those of a list, by their numbers, and those after a stop; the calls made and the faults counted
+-- the calls that are listed, made and failed, and the stop
 pub record Failing : Type 0 where
-  pub listed : List ℕ
-  pub made : ℕ
+  pub calls : Tally
   pub stop : Option Stop
-  pub faults : ℕ
 
--- no call fails
-abbrev pub reliable : Failing
-reliable = record { listed = []; made = 0; stop = None; faults = 0 }
-
--- after one more call
-abbrev pub called : Failing → Failing
-called f = record f { made = counted f.made }
-
--- after one more fault
-abbrev pub faulted : Failing → Failing
-faulted f = record f { faults = counted f.faults }
+-- no call was made, and none fails
+abbrev pub no_failures : Failing
+no_failures = record { calls = fresh []; stop = None }
 
 -- one call less until the stop
 abbrev pub passed : Option Stop → Option Stop
 passed None = None
 passed (Some stop) = Some (record stop { left = stop.left - 1 })
 
--- the next call is one that fails
-abbrev pub IsListed : Failing → Type 0
-IsListed f = Contains f.listed (counted f.made)
-
 -- no more call of `write_at` and `sync` works
 abbrev pub IsStopped : Option Stop → Type 0
 IsStopped None = ⊥
 IsStopped (Some stop) = stop.left ≡ 0
+
+-- no call is listed to fail, and no stop is set
+abbrev pub none_fails : List ℕ → Option Stop → Bool
+none_fails [] None = true
+none_fails [] (Some stop) = false
+none_fails (call ∷ calls) stop = false

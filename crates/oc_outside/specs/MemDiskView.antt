@@ -1,10 +1,12 @@
 -- A disk in memory: its bytes, the record of its calls, the spare room, and which calls fail.
 use Rattle.std.specs.Prelude.{◌≡◌, ℕ, ◌+◌, ◌-◌, ◌^◌, ◌<◌, true, List, [], ◌∷◌, ◌++◌, length, take, drop, max, min, Option, None, Some, refl}
 use Rattle.std.proofs.Common.{inl, inr, arith}
-use Rattle.oc_outside.specs.DiskView.{DiskView, IsConsistent}
+use Rattle.oc_outside.specs.declared.disk.TheConstants.{MAX_RELIABLE_BYTES}
+use Rattle.oc_outside.specs.DiskView.{DiskView, IsConsistent, IsReliable}
 use Rattle.oc_outside.specs.DiskPast.{Call, Wrote, Synced, MayLeave, HadLeft, crashed}
 use Rattle.oc_outside.specs.declared.failures.Stop.{Stop}
-use Rattle.oc_outside.specs.Failing.{Failing, reliable, called, faulted, passed, IsListed, IsStopped}
+use Rattle.oc_outside.specs.Tally.{Tally, called, faulted, IsListed}
+use Rattle.oc_outside.specs.Failing.{Failing, no_failures, passed, none_fails, IsStopped}
 
 pub record MemDiskView : Type 0 where
   pub bytes : List ℕ
@@ -15,19 +17,19 @@ pub record MemDiskView : Type 0 where
 
 -- a new disk with these bytes, all of them safe
 abbrev pub disk_of : List ℕ → MemDiskView
-disk_of bytes = record { bytes = bytes; past = []; room = 0; calls = 0; failing = reliable }
+disk_of bytes = record { bytes = bytes; past = []; room = 0; calls = 0; failing = no_failures }
 
 -- a call failed: nothing changed but the counts
 abbrev pub refused : MemDiskView → MemDiskView
-refused d = record d { failing = faulted (called d.failing) }
+refused d = record d { failing = record d.failing { calls = faulted (called d.failing.calls) } }
 
 -- a call of `size` or `read_at` that worked
 abbrev pub read : MemDiskView → MemDiskView
-read d = record d { failing = called d.failing }
+read d = record d { failing = record d.failing { calls = called d.failing.calls } }
 
 -- a call of `write_at` or `sync` that is not refused
 abbrev pub admitted : MemDiskView → MemDiskView
-admitted d = record d { failing = record (called d.failing) { stop = passed d.failing.stop } }
+admitted d = record d { failing = record { calls = called d.failing.calls; stop = passed d.failing.stop } }
 
 -- the bytes after a write
 abbrev pub overwritten : List ℕ → ℕ → List ℕ → List ℕ
@@ -65,7 +67,7 @@ crash_of d = crash_by d.failing.stop d.past d.bytes
 
 -- why a call of `write_at` or `sync` that writes n bytes fails
 pub data Refuses (d : MemDiskView) (n : ℕ) : Type 0 where
-  by_list : IsListed d.failing → Refuses d n
+  by_list : IsListed d.failing.calls → Refuses d n
   no_room : d.room < n → Refuses d n
   no_calls : d.calls ≡ 0 → Refuses d n
   by_stop : IsStopped d.failing.stop → Refuses d n
@@ -79,11 +81,12 @@ view_of d = record {
   since = HadLeft d.bytes d.past;
   honest = true;
   size = length d.bytes;
-  room = min d.room (2 ^ 40 - length d.bytes);
+  room = min d.room (MAX_RELIABLE_BYTES - length d.bytes);
   calls = d.calls;
-  faults = d.failing.faults;
+  faults = d.failing.calls.faults;
+  reliable = none_fails d.failing.calls.listed d.failing.stop;
   name = [];
-  listed = d.failing.listed;
+  listed = d.failing.calls.listed;
 }
 
 -- what a read gives is an image
@@ -108,3 +111,6 @@ view_of-consistent d = record {
   counts_now = λ t c earlier now. had_left_now d.bytes d.past t c now;
   only_now = λ c left. only_left_now d.bytes d.past c left;
 }
+
+pub view_of-reliable : (d : MemDiskView) → IsReliable (view_of d)
+view_of-reliable d = record { honest = refl; fits = λ some. omega (arith, some) }

@@ -34,6 +34,14 @@ impl CallTally {
         }
     }
 
+    /// Of the later calls, counted from 1, those with these numbers fail.
+    pub fn list(&mut self, calls: Vec<u64>)
+        ensures { self.new ≡ record self.old { listed = calls.items; made = 0 } }
+    {
+        self.listed = calls;
+        self.made = 0;
+    }
+
     /// Counts a call, and fails where it is listed.
     pub fn call(&mut self) -> Result<(), Failed>
         ensures passed { OnOk result (¬ IsListed self.old × (self.new ≡ called self.old)) }

@@ -7,7 +7,7 @@ use std::marker::Model;
 /// A call of `write_at` or `sync` that worked.
 #[derive(Clone, Copy, Debug)]
 pub enum Step {
-    /// A write: its place, how many bytes it wrote over, and how many it wrote.
+    /// A write: its offset, how many bytes it wrote over, and how many it wrote.
     Write {
         at: usize,
         over: usize,
@@ -16,8 +16,8 @@ pub enum Step {
     Sync,
 }
 
-/// The record of the calls of a disk in memory. The bytes that were written over stand in one pool,
-/// so that the record takes no memory after `reserve`.
+/// The record of the calls of a disk in memory. The bytes that were written over are kept in one
+/// pool, so that the record takes no memory after `reserve`.
 #[derive(Debug, Drop)]
 pub struct DiskLog {
     steps: Vec<Step>,
@@ -66,7 +66,7 @@ impl DiskLog {
         self.calls
     }
 
-    /// Makes room for so many bytes and calls.
+    /// Makes room for this many bytes and calls.
     pub fn reserve(&mut self, bytes: usize, calls: usize) -> Result<(), AllocError>
         ensures ok { OnOk result
             (self.new ≡ record self.old { room = max self.old.room bytes; calls = max self.old.calls calls }) }
@@ -126,7 +126,7 @@ impl DiskLog {
     }
 }
 
-/// Makes each of `count` bytes from a place on this byte.
+/// Makes each of `count` bytes from an offset on this byte.
 fn fill(bytes: &mut [u8], at: usize, count: usize, image: u8)
     requires { at + count ≤ length bytes.old }
     ensures { bytes.new ≡ blotted at count image bytes.old }

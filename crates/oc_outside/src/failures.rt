@@ -1,7 +1,9 @@
 ghost use Rattle.std.specs.Prelude.{◌≡◌, ◌↔◌, Some, IsTrue, OnOk, OnErr};
 ghost use Rattle.oc_outside.specs.Faults.{NoFall};
-ghost use Rattle.oc_outside.specs.Failing.{reliable, called, faulted, passed, IsListed, IsStopped};
+ghost use Rattle.oc_outside.specs.Tally.{fresh, called, faulted, IsListed};
+ghost use Rattle.oc_outside.specs.Failing.{no_failures, passed, IsStopped};
 
+use crate::call_tally::CallTally;
 use crate::fault::Failed;
 use std::alloc::Global;
 use std::marker::Model;
@@ -15,43 +17,38 @@ pub struct Stop {
 }
 
 /// Which calls of a disk in memory fail: those of a list, by their numbers, and those after a stop.
-/// A count stays at its last value.
 #[derive(Debug, Drop)]
 pub struct Failures {
-    listed: Vec<u64>,
-    made: u64,
+    calls: CallTally,
     stop: Option<Stop>,
-    faults: u64,
 }
 
 impl Model for Failures {
-    ghost use Rattle.oc_outside.specs.Faults.{NoFall};
     ghost use Rattle.oc_outside.specs.Failing.{Failing};
 
     ghost Value = { Failing };
 
-    ghost view = { λ f. record { listed = f.listed.items; made = f.made; stop = f.stop; faults = f.faults } };
+    ghost view = { λ f. record { calls = f.calls; stop = f.stop } };
 }
 
 impl Failures {
     /// No call fails.
     pub fn none(alloc: Global) -> Failures
-        ensures { result ≡ reliable }
+        ensures { result ≡ no_failures }
     {
         Failures {
-            listed: Vec::new(alloc),
-            made: 0,
+            calls: CallTally::new(Vec::new(alloc)),
             stop: None,
-            faults: 0,
         }
     }
 
     /// Of the later calls, counted from 1, those with these numbers fail.
     pub fn list(&mut self, calls: Vec<u64>)
-        ensures { self.new ≡ record self.old { listed = calls.items; made = 0 } }
+        ensures { self.new ≡ record self.old {
+          calls = record self.old.calls { listed = calls.items; made = 0 };
+        } }
     {
-        self.listed = calls;
-        self.made = 0;
+        self.calls.list(calls);
     }
 
     /// Sets a stop.
@@ -70,25 +67,22 @@ impl Failures {
 
     /// Counts a call, and fails where it is listed.
     pub fn call(&mut self) -> Result<(), Failed>
-        ensures passed { OnOk result (¬ IsListed self.old × (self.new ≡ called self.old)) }
-        ensures listed { OnErr result (IsListed self.old × (self.new ≡ faulted (called self.old))) }
-        ensures count { NoFall self.old.faults self.new.faults }
+        ensures passed { OnOk result
+            (¬ IsListed self.old.calls × (self.new ≡ record self.old { calls = called self.old.calls })) }
+        ensures listed { OnErr result
+            (IsListed self.old.calls
+            × (self.new ≡ record self.old { calls = faulted (called self.old.calls) })) }
+        ensures count { NoFall self.old.calls.faults self.new.calls.faults }
     {
-        self.made = self.made.saturating_add(1);
-        if self.listed.contains(&self.made) {
-            self.faults = self.faults.saturating_add(1);
-            return Err(Failed);
-        }
-        Ok(())
+        self.calls.call()
     }
 
     /// Counts a fault of the call that was counted last.
     pub fn fault(&mut self) -> Failed
-        ensures faulted { self.new ≡ faulted self.old }
-        ensures count { NoFall self.old.faults self.new.faults }
+        ensures faulted { self.new ≡ record self.old { calls = faulted self.old.calls } }
+        ensures count { NoFall self.old.calls.faults self.new.calls.faults }
     {
-        self.faults = self.faults.saturating_add(1);
-        Failed
+        self.calls.fault()
     }
 
     /// Whether no more call of `write_at` and `sync` works.

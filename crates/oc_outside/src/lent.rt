@@ -1,5 +1,5 @@
 ghost use Rattle.std.specs.Prelude.{◌≡◌, ◌∷◌, refl};
-ghost use Rattle.oc_outside.specs.DiskView.{DiskView, IsConsistent};
+ghost use Rattle.oc_outside.specs.DiskView.{DiskView, IsConsistent, IsReliable};
 
 use crate::disk::Disk;
 use crate::fault::Failed;
@@ -26,6 +26,8 @@ impl<D: Disk> Disk for Lent<'_, D> {
     ghost view = { λ l. record (D.view l.disk.now) { name = l.disk.ghost_name ∷ (D.view l.disk.now).name } };
 
     ghost consistent = { λ l honest. let c = D.consistent l.disk.now honest in record { size = c.size; reads = c.reads; counts_now = c.counts_now; only_now = c.only_now } };
+
+    ghost reliable_keeps = { λ l reliable. let r = D.reliable_keeps l.disk.now reliable in record { honest = r.honest; fits = r.fits } };
 
     fn size(&mut self) -> Result<u64, Failed> {
         self.disk.size()

@@ -12,10 +12,14 @@
 //!
 //! A [`Disk`] is a file that may crash at any moment. One view of it holds all that is said: what a
 //! read gives, what a crash now or since an earlier moment may leave, whether it keeps the disk
-//! model, its size, its spare room, its count of faults, and the loans through which it is reached.
-//! A layer above rests on the clauses of its five calls and on what each honest disk keeps.
+//! model, its size, its spare room, its count of faults, whether it is reliable, and the loans
+//! through which it is reached. A layer above rests on the clauses of its five calls, on what each
+//! honest disk keeps, and on this: no call of a reliable disk fails that keeps within the size and
+//! the spare room.
+//!
 //! [`MemDisk`] tells the images of each moment from a record of its calls, and can be stopped and
-//! crashed; [`Lent`] is a disk that is lent.
+//! crashed. It is reliable where no stop is set and no call is listed to fail. [`Lent`] is a disk
+//! that is lent.
 //!
 //! [`MemSource`] and [`MemSink`] keep their bytes in memory and fail at given calls. There the
 //! relations say which bytes came or went, and a call fails only where it is listed or the sink is

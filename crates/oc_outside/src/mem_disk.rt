@@ -1,19 +1,16 @@
-ghost use Rattle.std.specs.Prelude.{◌≡◌, ◌∷◌, ◌↔◌, ℕ, ◌+◌, ◌-◌, ◌*◌, ◌^◌, ◌<◌, ◌≤◌, ◌⊎◌, true, Some, length, max, min, take, drop, vec_len, vec_capacity, IsTrue, IfOk, OnOk, OnErr};
-ghost use Rattle.oc_outside.specs.DiskView.{Only, Holds, Tears, AddsNoImage, Elapses, StaysAsItWas, Takes};
+ghost use Rattle.std.specs.Prelude.{◌≡◌, ◌∷◌, ℕ, ◌+◌, ◌-◌, ◌<◌, ◌≤◌, ◌⊎◌, true, Some, length, max, min, take, drop, vec_len, vec_capacity, IsTrue, IfOk, OnOk, OnErr};
+ghost use Rattle.oc_outside.specs.DiskView.{Only, Holds, Tears, AddsNoImage, Elapses, StaysAsItWas, Takes, Fails, FailsToRead, HasNoFault};
 ghost use Rattle.oc_outside.specs.DiskPast.{MayLeave, Wrote, Fits};
-ghost use Rattle.oc_outside.specs.Failing.{IsListed};
 ghost use Rattle.oc_outside.specs.Faults.{NoFall, Rose};
-ghost use Rattle.oc_outside.specs.MemDiskView.{disk_of, view_of, view_of-consistent, overwritten, refused, read, admitted, done, wrote, synced, reserved, crash_of, crash_by, Refuses};
+ghost use Rattle.oc_outside.specs.MemDiskView.{disk_of, view_of, view_of-consistent, view_of-reliable, overwritten, refused, read, admitted, done, wrote, synced, reserved, crash_of, crash_by, Refuses};
+ghost use Rattle.oc_outside.specs.Tally.{IsListed};
 
-use crate::disk::Disk;
+use crate::disk::{Disk, MAX_RELIABLE_BYTES};
 use crate::disk_log::DiskLog;
 use crate::failures::{Failures, Stop};
 use crate::fault::Failed;
 use std::alloc::{AllocError, Global};
 use std::marker::Model;
-
-/// The most bytes that a disk in memory may come to hold.
-const MOST: u64 = 1 << 40;
 
 /// How many calls of `write_at` and `sync` a `reserve` makes room for.
 const CALLS: usize = 16;
@@ -68,7 +65,9 @@ impl MemDisk {
     /// those with these numbers fail.
     pub fn fail_at(&mut self, calls: Vec<u64>)
         ensures { self.new ≡ record self.old {
-          failing = record self.old.failing { listed = calls.items; made = 0 };
+          failing = record self.old.failing {
+            calls = record self.old.failing.calls { listed = calls.items; made = 0 };
+          };
         } }
     {
         self.failures.list(calls);
@@ -97,11 +96,13 @@ impl MemDisk {
         Ok(MemDisk::new(self.bytes.clone()?))
     }
 
-    /// Counts a call of `size` or `read_at`; it fails where `refused` holds.
+    /// Counts a call of `size` or `read_at`; it fails where it is listed or `refuse` holds.
     fn look(&mut self, refuse: bool) -> Result<(), Failed>
-        ensures ok { OnOk result (¬ IsListed self.old.failing × ¬ IsTrue refuse × (self.new ≡ read self.old)) }
-        ensures err { OnErr result ((IsListed self.old.failing ⊎ IsTrue refuse) × (self.new ≡ refused self.old)) }
-        ensures count { NoFall self.old.failing.faults self.new.failing.faults }
+        ensures ok { OnOk result
+            (¬ IsListed self.old.failing.calls × ¬ IsTrue refuse × (self.new ≡ read self.old)) }
+        ensures err { OnErr result
+            ((IsListed self.old.failing.calls ⊎ IsTrue refuse) × (self.new ≡ refused self.old)) }
+        ensures count { NoFall self.old.failing.calls.faults self.new.failing.calls.faults }
     {
         self.failures.call()?;
         if refuse {
@@ -116,7 +117,7 @@ impl MemDisk {
         ensures ok { OnOk result (¬ Refuses self.old room × (self.new ≡ admitted self.old)) }
         ensures room { OnOk result ((room ≤ self.old.room) × (0 < self.old.calls)) }
         ensures err { OnErr result (Refuses self.old room × (self.new ≡ refused self.old)) }
-        ensures count { NoFall self.old.failing.faults self.new.failing.faults }
+        ensures count { NoFall self.old.failing.calls.faults self.new.failing.calls.faults }
     {
         self.failures.call()?;
         if room > self.log.room() || self.log.calls() == 0 || self.failures.is_stopped() {
@@ -150,7 +151,7 @@ fn leave(mut bytes: Vec<u8>, log: DiskLog, stop: Option<Stop>) -> Vec<u8>
     bytes
 }
 
-/// Notes a write of so many bytes in the record, with those that it writes over.
+/// Notes a write of `count` bytes in the record, with those that it writes over.
 fn keep(log: &mut DiskLog, bytes: &Vec<u8>, at: usize, count: usize)
     requires within { at ≤ vec_len bytes.now }
     requires room { count ≤ log.old.room }
@@ -178,7 +179,7 @@ fn overwrite(bytes: &mut Vec<u8>, at: usize, new: &[u8])
     bytes.extend_from_slice(&new[inside..]).unwrap();
 }
 
-/// Copies the bytes from a place within them into the buffer, as many as there are and fit.
+/// Copies the bytes from an offset within them into the buffer, as many as there are and fit.
 fn read_from(bytes: &[u8], at: usize, buf: &mut [u8]) -> usize
     requires { at ≤ length bytes.now }
     ensures count { result ≡ min (length buf.old) (length bytes.now - at) }
@@ -195,15 +196,18 @@ impl Disk for MemDisk {
 
     ghost consistent = { λ d _. view_of-consistent d };
 
+    ghost reliable_keeps = { λ d _. view_of-reliable d };
+
     fn size(&mut self) -> Result<u64, Failed>
         ensures size { IfOk result (λ size. size ≡ length self.new.bytes) }
         ensures size_err { OnErr result (length self.new.bytes ≡ length self.old.bytes) }
         ensures stays { StaysAsItWas (view_of self.old) (view_of self.new) }
-        ensures cause { OnErr result (Rose self.old.failing.faults self.new.failing.faults) }
+        ensures no_fault { OnOk result (HasNoFault (view_of self.old) (view_of self.new)) }
+        ensures fails { OnErr result (FailsToRead (view_of self.old) (view_of self.new)) }
 
         // It fails exactly where it is listed.
-        ensures ok { OnOk result (¬ IsListed self.old.failing × (self.new ≡ read self.old)) }
-        ensures err { OnErr result (IsListed self.old.failing × (self.new ≡ refused self.old)) }
+        ensures ok { OnOk result (¬ IsListed self.old.failing.calls × (self.new ≡ read self.old)) }
+        ensures err { OnErr result (IsListed self.old.failing.calls × (self.new ≡ refused self.old)) }
     {
         self.look(false)?;
         Ok(self.bytes.len() as u64)
@@ -214,13 +218,16 @@ impl Disk for MemDisk {
         ensures bytes { IfOk result (λ n. IsTrue true → take n buf.new ≡ take n (drop at self.old.bytes)) }
         ensures size { length self.new.bytes ≡ length self.old.bytes }
         ensures stays { StaysAsItWas (view_of self.old) (view_of self.new) }
-        ensures cause { OnErr result (Rose self.old.failing.faults self.new.failing.faults) }
+        ensures no_fault { OnOk result (HasNoFault (view_of self.old) (view_of self.new)) }
+        ensures cause { OnErr result (Rose (view_of self.old).faults (view_of self.new).faults) }
+        ensures fails { OnErr result
+            (at ≤ length self.old.bytes → FailsToRead (view_of self.old) (view_of self.new)) }
 
-        // It fails exactly where it is listed or its place is past the size.
+        // It fails exactly where it is listed or its offset is past the size.
         ensures ok { OnOk result
-            (¬ IsListed self.old.failing × (at ≤ length self.old.bytes) × (self.new ≡ read self.old)) }
+            (¬ IsListed self.old.failing.calls × (at ≤ length self.old.bytes) × (self.new ≡ read self.old)) }
         ensures err { OnErr result
-            ((IsListed self.old.failing ⊎ (length self.old.bytes < at)) × (self.new ≡ refused self.old)) }
+            ((IsListed self.old.failing.calls ⊎ (length self.old.bytes < at)) × (self.new ≡ refused self.old)) }
     {
         let past_the_size = at > self.bytes.len() as u64;
         self.look(past_the_size)?;
@@ -232,14 +239,15 @@ impl Disk for MemDisk {
         ensures calls { OnOk result (16 ≤ self.new.calls) }
         ensures size { length self.new.bytes ≡ length self.old.bytes }
         ensures stays { StaysAsItWas (view_of self.old) (view_of self.new) }
+        ensures no_fault { HasNoFault (view_of self.old) (view_of self.new) }
 
-        // It gives no more than a disk in memory may come to hold.
+        // It gives no more than a reliable disk may hold.
         ensures ok { OnOk result (self.new ≡ reserved self.old bytes) }
         ensures err { OnErr result (self.new ≡ self.old) }
-        ensures most { OnOk result (length self.old.bytes + bytes ≤ 2 ^ 40) }
+        ensures most { OnOk result (length self.old.bytes + bytes ≤ MAX_RELIABLE_BYTES) }
     {
         let length = self.bytes.len() as u64;
-        if length > MOST || bytes > MOST - length {
+        if length > MAX_RELIABLE_BYTES || bytes > MAX_RELIABLE_BYTES - length {
             return Err(AllocError);
         }
         let bytes = bytes as usize;
@@ -256,7 +264,8 @@ impl Disk for MemDisk {
         ensures torn { IsTrue true → Tears at (length bytes.now) (view_of self.old) (view_of self.new) }
         ensures size { OnOk result (length self.new.bytes ≡ max (length self.old.bytes) (at + length bytes.now)) }
         ensures no_smaller { length self.old.bytes ≤ length self.new.bytes }
-        ensures cause { OnErr result (Rose self.old.failing.faults self.new.failing.faults) }
+        ensures no_fault { OnOk result (HasNoFault (view_of self.old) (view_of self.new)) }
+        ensures fails { OnErr result (Fails (length bytes.now) 1 (view_of self.old) (view_of self.new)) }
 
         // It fails exactly where it is listed, there is no room, or the disk was stopped.
         ensures ok { OnOk result
@@ -276,7 +285,8 @@ impl Disk for MemDisk {
         ensures seen { IsTrue true → self.new.bytes ≡ self.old.bytes }
         ensures images { IsTrue true → AddsNoImage (view_of self.old) (view_of self.new) }
         ensures size { length self.new.bytes ≡ length self.old.bytes }
-        ensures cause { OnErr result (Rose self.old.failing.faults self.new.failing.faults) }
+        ensures no_fault { OnOk result (HasNoFault (view_of self.old) (view_of self.new)) }
+        ensures fails { OnErr result (Fails 0 1 (view_of self.old) (view_of self.new)) }
 
         // It fails exactly where it is listed, the record has no room, or the disk was stopped.
         ensures ok { OnOk result (¬ Refuses self.old 0 × (self.new ≡ synced self.old)) }

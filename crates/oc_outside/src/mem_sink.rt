@@ -1,4 +1,4 @@
-ghost use Rattle.std.specs.Prelude.{◌≡◌, ◌-◌, ℕ, ◌<◌, ◌≤◌, ◌⊎◌, [], length, min, take, IfOk, OnErr};
+ghost use Rattle.std.specs.Prelude.{◌≡◌, ◌-◌, ℕ, ◌+◌, ◌<◌, ◌≤◌, ◌⊎◌, [], length, min, take, IfOk, OnErr};
 ghost use Rattle.oc_outside.specs.Faults.{NoFall, Rose};
 ghost use Rattle.oc_outside.specs.SinkView.{sink_of, TakesBehind, FailsFull, IsFull, TakesBehind-nothing, TakesBehind-then, TakesBehind-fails};
 ghost use Rattle.oc_outside.specs.Tally.{called, faulted, IsListed};
@@ -54,6 +54,8 @@ impl Sink for MemSink {
 
     ghost fails = { FailsFull };
 
+    ghost calls = { λ s. s.calls.made };
+
     ghost faults = { λ s. s.calls.faults };
 
     ghost takes_nothing = { TakesBehind-nothing };
@@ -67,6 +69,7 @@ impl Sink for MemSink {
         ensures takes { IfOk result (λ n. TakesBehind self.old (take n bytes.now) self.new) }
         ensures some { IfOk result (λ n. 0 < length bytes.now → 0 < n) }
         ensures fails { OnErr result (FailsFull self.old [] self.new) }
+        ensures turn { self.new.calls.made ≤ self.old.calls.made + 1 }
         ensures count { NoFall self.old.calls.faults self.new.calls.faults }
         ensures cause { OnErr result (Rose self.old.calls.faults self.new.calls.faults) }
 

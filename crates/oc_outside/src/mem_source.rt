@@ -1,4 +1,4 @@
-ghost use Rattle.std.specs.Prelude.{◌≡◌, ℕ, ◌<◌, ◌≤◌, ◌↔◌, [], length, min, take, IfOk, IsErr, OnErr, OnOk};
+ghost use Rattle.std.specs.Prelude.{◌≡◌, ℕ, ◌+◌, ◌<◌, ◌≤◌, ◌↔◌, [], length, min, take, IfOk, IsErr, OnErr, OnOk};
 ghost use Rattle.oc_outside.specs.Faults.{NoFall, Rose};
 ghost use Rattle.oc_outside.specs.SourceView.{source_of, GivesFront, FailsBehind, IsEmptied, GivesFront-nothing, GivesFront-then, GivesFront-fails};
 ghost use Rattle.oc_outside.specs.Tally.{called, faulted, IsListed};
@@ -47,6 +47,8 @@ impl Source for MemSource {
 
     ghost ended = { IsEmptied };
 
+    ghost calls = { λ s. s.calls.made };
+
     ghost faults = { λ s. s.calls.faults };
 
     ghost gives_nothing = { GivesFront-nothing };
@@ -60,6 +62,7 @@ impl Source for MemSource {
         ensures gives { IfOk result (λ n. GivesFront self.old (take n buf.new) self.new) }
         ensures fails { OnErr result (FailsBehind self.old [] self.new) }
         ensures end { IfOk result (λ n. n ≡ 0 → 0 < length buf.old → IsEmptied self.new) }
+        ensures turn { self.new.calls.made ≤ self.old.calls.made + 1 }
         ensures count { NoFall self.old.calls.faults self.new.calls.faults }
         ensures cause { OnErr result (Rose self.old.calls.faults self.new.calls.faults) }
 

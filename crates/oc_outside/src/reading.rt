@@ -1,4 +1,4 @@
-ghost use Rattle.std.specs.Prelude.{◌≡◌, ℕ, ◌<◌, ◌≤◌, List, length, vec_len, IfOk, OnOk, IsErrOf};
+ghost use Rattle.std.specs.Prelude.{◌≡◌, ℕ, ◌+◌, ◌<◌, ◌≤◌, List, length, vec_len, IfOk, OnOk, IsErrOf};
 ghost use Rattle.oc_outside.specs.Faults.{NoFall, Rose};
 
 use crate::read_fault::ReadFault;
@@ -15,6 +15,9 @@ pub fn read_all<S: Source>(alloc: Global, source: &mut S, most: usize) -> Result
     ensures gives { IfOk result (λ bytes. S.gives source.old bytes.items source.new) }
     ensures end { OnOk result (S.ended source.new) }
     ensures within { IfOk result (λ bytes. vec_len bytes ≤ most) }
+
+    // It reads no more when it has found the end.
+    ensures calls { IfOk result (λ bytes. S.calls source.new ≤ S.calls source.old + length bytes.items + 1) }
 
     // What came before the fault.
     ensures failed { IsErrOf result ReadFault.Failed

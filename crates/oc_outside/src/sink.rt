@@ -1,4 +1,4 @@
-ghost use Rattle.std.specs.Prelude.{◌≡◌, ℕ, ◌<◌, ◌≤◌, List, [], ◌++◌, length, take, IfOk, OnErr};
+ghost use Rattle.std.specs.Prelude.{◌≡◌, ℕ, ◌+◌, ◌<◌, ◌≤◌, List, [], ◌++◌, length, take, IfOk, OnErr};
 ghost use Rattle.oc_outside.specs.Faults.{NoFall, Rose};
 
 use crate::fault::Failed;
@@ -11,6 +11,9 @@ pub trait Sink {
     /// From the old sink to the new one these bytes were taken, and then a call failed.
     ghost fails: { Self → List ℕ → Self → Type 0 };
 
+    /// How many calls were made so far, where it tells them, and else 0.
+    ghost calls: { Self → ℕ };
+
     /// How many calls failed so far.
     ghost faults: { Self → ℕ };
 
@@ -21,6 +24,7 @@ pub trait Sink {
         ensures takes { IfOk result (λ n. takes self.old (take n bytes.now) self.new) }
         ensures some { IfOk result (λ n. 0 < length bytes.now → 0 < n) }
         ensures fails { OnErr result (fails self.old [] self.new) }
+        ensures turn { calls self.new ≤ calls self.old + 1 }
         ensures count { NoFall (faults self.old) (faults self.new) }
         ensures cause { OnErr result (Rose (faults self.old) (faults self.new)) };
 

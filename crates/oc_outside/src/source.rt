@@ -1,4 +1,4 @@
-ghost use Rattle.std.specs.Prelude.{◌≡◌, ℕ, ◌<◌, ◌≤◌, List, [], ◌++◌, length, take, IfOk, OnErr};
+ghost use Rattle.std.specs.Prelude.{◌≡◌, ℕ, ◌+◌, ◌<◌, ◌≤◌, List, [], ◌++◌, length, take, IfOk, OnErr};
 ghost use Rattle.oc_outside.specs.Faults.{NoFall, Rose};
 
 use crate::fault::Failed;
@@ -14,6 +14,9 @@ pub trait Source {
     /// Nothing more comes.
     ghost ended: { Self → Type 0 };
 
+    /// How many calls were made so far, where it tells them, and else 0.
+    ghost calls: { Self → ℕ };
+
     /// How many calls failed so far.
     ghost faults: { Self → ℕ };
 
@@ -24,6 +27,7 @@ pub trait Source {
         ensures gives { IfOk result (λ n. gives self.old (take n buf.new) self.new) }
         ensures fails { OnErr result (fails self.old [] self.new) }
         ensures end { IfOk result (λ n. n ≡ 0 → 0 < length buf.old → ended self.new) }
+        ensures turn { calls self.new ≤ calls self.old + 1 }
         ensures count { NoFall (faults self.old) (faults self.new) }
         ensures cause { OnErr result (Rose (faults self.old) (faults self.new)) };
 

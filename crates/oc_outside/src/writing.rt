@@ -1,4 +1,4 @@
-ghost use Rattle.std.specs.Prelude.{◌≡◌, ℕ, ◌<◌, length, take, OnOk, OnErr};
+ghost use Rattle.std.specs.Prelude.{◌≡◌, ℕ, ◌+◌, ◌<◌, ◌≤◌, length, take, OnOk, OnErr};
 ghost use Rattle.oc_outside.specs.Faults.{NoFall, Rose};
 
 use crate::fault::Failed;
@@ -7,6 +7,9 @@ use crate::sink::Sink;
 /// Has the sink take all of these bytes. It takes no memory.
 pub fn write_all<K: Sink>(sink: &mut K, bytes: &[u8]) -> Result<(), Failed>
     ensures takes { OnOk result (K.takes sink.old bytes.now sink.new) }
+
+    // It writes no more when all were taken.
+    ensures calls { OnOk result (K.calls sink.new ≤ K.calls sink.old + length bytes.now) }
 
     // A front had been taken when a call failed.
     ensures fails { OnErr result

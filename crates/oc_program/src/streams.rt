@@ -33,6 +33,8 @@ impl<R: Read> Source for ReaderSource<R> {
 
     ghost ended = { λ source. ⊤ };
 
+    ghost calls = { λ source. 0 };
+
     ghost faults = { λ source. source.faults };
 
     ghost gives_nothing = { λ source. tt };
@@ -74,6 +76,8 @@ impl<W: Write> Sink for WriterSink<W> {
     ghost takes = { λ old bytes new. ⊤ };
 
     ghost fails = { λ old bytes new. ⊤ };
+
+    ghost calls = { λ sink. 0 };
 
     ghost faults = { λ sink. sink.faults };
 

@@ -10,6 +10,7 @@ loop-buffer-init g c = record {
   came = rw c.new-bytes.ensures.items (g.met.S.Source.gives_nothing c.args.source.now);
   within = omega arith;
   room = omega (arith, c.in_ok-buffer.ensures);
+  calls = omega arith;
   count = omega arith;
 }
 
@@ -59,6 +60,7 @@ loop-buffer-preserved g c =
       came = subst (λ came. g.S.Source.gives c.args.source.now came c.read.new.self) grown both;
       within = omega (arith, ap length grown, length-piece bytes c.read.new.buf c.in_ok-count.count fits, c.loop-buffer.bytes.ok.0, c.extend_from_slice.new.self.ok.0);
       room = omega arith;
+      calls = omega (arith, ap length grown, length-piece bytes c.read.new.buf c.in_ok-count.count fits, c.loop-buffer.bytes.ok.0, c.extend_from_slice.new.self.ok.0, c.read.ensures.turn, c.loop-buffer.invariant.calls);
       count = omega arith;
     }
 

@@ -1,5 +1,5 @@
 -- The bytes so far are what the source gave, and there are not too many.
-use Rattle.std.proofs.Common.{◌<◌, ◌≤◌, suc, ◌-◌, vec_len}
+use Rattle.std.proofs.Common.{◌<◌, ◌≤◌, ◌+◌, suc, ◌-◌, vec_len}
 use Rattle.oc_outside.specs.Faults.{NoFall}
 use Rattle.oc_outside.proofs.reading.read_all.Given as goal
 
@@ -8,6 +8,7 @@ invariant-loop-buffer g l = record {
   came : g.S.Source.gives l.fn.source l.bytes.items l.source;
   within : vec_len l.bytes ≤ l.most;
   room : 0 < vec_len l.buffer;
+  calls : g.S.Source.calls l.source ≤ g.S.Source.calls l.fn.source + vec_len l.bytes;
   count : NoFall (g.S.Source.faults l.fn.source) (g.S.Source.faults l.source);
 }
 

@@ -1,7 +1,7 @@
 use Rattle.std.proofs.Common.{◌-◌, length, take, drop, [], subst, arith}
 use Rattle.std.proofs.lemmas.List.{append-nil}
 use Rattle.std.proofs.lemmas.Result.{err_from_is_err_and}
-use Rattle.oc_outside.proofs.Fronts.{next-front, next-within}
+use Rattle.oc_outside.proofs.Fronts.{length-rest, next-front, next-within}
 use Rattle.oc_outside.proofs.writing.write_all.Goals as goal
 
 -- what had been taken, and then a call that took nothing and failed
@@ -23,5 +23,6 @@ loop-done-preserved g c =
     record {
       taken = subst (λ front. g.K.Sink.takes c.args.sink.now front c.write.new.self) (next-front done n bytes) both;
       within = next-within done n bytes c.loop-done.invariant.within c.in_ok-done.ensures.within;
+      calls = omega (arith, c.write.ensures.turn, c.loop-done.invariant.calls, c.in_ok-done.ensures.some (omega (arith, length-rest done bytes)));
       count = omega arith;
     }

@@ -7,7 +7,7 @@ use Rattle.oc_outside.specs.declared.disk_log.Step.{Step}
 use Rattle.oc_outside.proofs.Blots.{blotted_by, crashed-told, AreWithin, AreWithin-told, length-blotted}
 use Rattle.oc_outside.proofs.disk_log.DiskLog.blot.Goals as goal
 
--- the newest step stands first
+-- the newest step comes first
 turned : (steps rest : List Step) (last step : Step) → steps ≡ rest ++ last ∷ [] → last ≡ step → reverse steps ≡ step ∷ reverse rest
 turned steps rest last step popped is =
     ap reverse popped ∙ reverse-append rest (last ∷ []) ∙ ap (λ (s : Step). s ∷ reverse rest) is

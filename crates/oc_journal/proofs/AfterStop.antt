@@ -2,6 +2,7 @@
 use Rattle.std.proofs.Common.{◌≡◌, ◌≢◌, inl, inr, ℕ, ◌+◌, ◌-◌, ◌≤◌, Option, None, Some, IsSome, List, [], ◌∷◌, ◌++◌, length, drop, refl, sym, ◌∙◌, ap, subst, arith, length-append}
 use Rattle.std.proofs.lemmas.Bool.{cases_eq}
 use Rattle.std.proofs.lemmas.Bool.Decides.{nat_tests}
+use Rattle.oc_base.specs.declared.limits.TheConstants.{MAX_FRAME_BYTES}
 use Rattle.oc_outside.specs.DiskView.{IsTorn}
 use Rattle.oc_outside.specs.DiskPast.{Call, MayLeave, blotted, crashed}
 use Rattle.oc_outside.specs.Failing.{passed}
@@ -36,7 +37,7 @@ blotted_byte file p q x n byte long is =
     ∙ ap (λ (l : List ℕ). p ++ (byte ∷ l)) (back_of p q x n long)
 
 -- a frame is appended to a settled disk with a stop
-module _ (d : MemDiskView) (end : ℕ) (body : List ℕ) (settled : IsSettled (view_of d) end) (short : length body ≤ 1048576) (some : IsSome d.failing.stop) where
+module _ (d : MemDiskView) (end : ℕ) (body : List ℕ) (settled : IsSettled (view_of d) end) (short : length body ≤ MAX_FRAME_BYTES) (some : IsSome d.failing.stop) where
   abbrev frames : List (List ℕ)
   frames = frames_of d.bytes
 
@@ -49,7 +50,7 @@ module _ (d : MemDiskView) (end : ℕ) (body : List ℕ) (settled : IsSettled (v
   within : end + 1 ≤ length d.bytes
   within = omega (arith, EndsAt-within d.bytes frames end settled.ends)
 
-  -- with so many calls
+  -- with this many calls
   kept_at : (k : ℕ) → left_of d.failing.stop ≡ k → frames_after k (image_of d.failing.stop) frames body ≡ kept
   kept_at k is = ap (λ (n : ℕ). frames_after n (image_of d.failing.stop) frames body) (sym is)
 
@@ -81,7 +82,7 @@ module _ (d : MemDiskView) (end : ℕ) (body : List ℕ) (settled : IsSettled (v
   gated_parts : gated.bytes ≡ base ++ (1 ∷ (encoded body ++ staged.stale))
   gated_parts = written_byte gated.bytes behind.bytes base (encoded body ++ staged.stale) staged.gate 1 end (sym staged.end) staged.parts refl
 
-  -- the byte of the image stands in the gate
+  -- the byte of the image is in the gate
   gate_image : (r : List ℕ) → r ≡ base ++ (image_of d.failing.stop ∷ (encoded body ++ staged.stale)) → frames_of r ≡ frames_after 3 (image_of d.failing.stop) frames body
   gate_image r parts = elim (cases_eq (image_of d.failing.stop) 1) [
     | inl is_open ↦

@@ -1,4 +1,4 @@
--- What files of frames stand for.
+-- What files of frames mean.
 use Rattle.std.proofs.Common.{◌≡◌, ◌≢◌, inl, inr, ⊎_elim, ℕ, zero, suc, ◌+◌, ◌-◌, ◌*◌, ◌^◌, ◌<◌, ◌≤◌, Bool, true, false, cond, List, [], ◌∷◌, ◌++◌, length, take, drop, refl, sym, ◌∙◌, ap, arith, length-append, zero-add}
 use Rattle.std.proofs.lemmas.List.{append-nil, append_assoc, take_at, drop_at, nil_from_length}
 use Rattle.std.proofs.lemmas.Bool.{cases_lt, lt-ltb, le-ltb, false≢true}
@@ -49,7 +49,7 @@ is_broken_within-frame n body tail short more =
     ap (λ (w : Bool). cond w (is_broken_within n (next_gate rest)) true) (whole body tail short more)
     ∙ ap (is_broken_within n) (next_gate-written body tail short more)
 
--- one frame more before what stands behind
+-- one frame more before what is behind
 blocks-cons : (body : List ℕ) (bodies : List (List ℕ)) (tail : List ℕ) → blocks (body ∷ bodies) ++ tail ≡ 1 ∷ (to_be_bytes w32 (length body) ++ (body ++ (blocks bodies ++ tail)))
 blocks-cons body bodies tail =
     ap (λ (l : List ℕ). 1 ∷ (to_be_bytes w32 (length body) ++ l)) (append_assoc body (blocks bodies) tail)
@@ -57,7 +57,7 @@ blocks-cons body bodies tail =
 more_behind : (bodies : List (List ℕ)) (tail : List ℕ) → 0 < length tail → 0 < length (blocks bodies ++ tail)
 more_behind bodies tail more = omega (arith, length-append (blocks bodies) tail)
 
--- frames, and then what stands behind them
+-- frames, and then what is behind them
 pub frames_within-blocks : (bodies : List (List ℕ)) (k : ℕ) (tail : List ℕ) → AreShort bodies → 0 < length tail → frames_within (length bodies + k) (blocks bodies ++ tail) ≡ bodies ++ frames_within k tail
 frames_within-blocks [] k tail short more = ap (λ (n : ℕ). frames_within n tail) (zero-add k)
 frames_within-blocks (body ∷ bodies) k tail short more =
@@ -131,7 +131,7 @@ module _ (bodies : List (List ℕ)) (tail : List ℕ) (short : AreShort bodies) 
   none_in-short : length whole_file ≤ 9 → bodies ≡ []
   none_in-short small = nil_from_length bodies (omega (arith, length-whole_file, length-blocks_least bodies))
 
-  -- where no frame stands behind them, they are the frames of the file
+  -- where no frame is behind them, they are the frames of the file
   pub frames_of-file : frames_within left tail ≡ [] → frames_of whole_file ≡ bodies
   frames_of-file no_more = elim (cases_lt 9 (length whole_file)) [
     | inl longer ↦
@@ -143,15 +143,15 @@ module _ (bodies : List (List ℕ)) (tail : List ℕ) (short : AreShort bodies) 
   ]
 
 -- the frames of a file that is frames and a gate that is not open
-pub frames_of-ended : (file : List ℕ) (bodies : List (List ℕ)) (place : ℕ) → EndsAt file bodies place → frames_of file ≡ bodies
-frames_of-ended file bodies place e =
+pub frames_of-ended : (file : List ℕ) (bodies : List (List ℕ)) (offset : ℕ) → EndsAt file bodies offset → frames_of file ≡ bodies
+frames_of-ended file bodies offset e =
     let tail = e.gate ∷ e.stale in
     let more : 0 < length tail = omega arith in
     ap frames_of e.parts ∙ frames_of-file bodies tail e.short more (closed (left bodies tail e.short more) e.gate e.stale e.shut)
 
 -- and it is a journal
-pub journal_ended : (file : List ℕ) (bodies : List (List ℕ)) (place : ℕ) → EndsAt file bodies place → ¬ IsNoJournal file
-journal_ended file bodies place e bad =
+pub journal_ended : (file : List ℕ) (bodies : List (List ℕ)) (offset : ℕ) → EndsAt file bodies offset → ¬ IsNoJournal file
+journal_ended file bodies offset e bad =
     let tail = e.gate ∷ e.stale in
     let more : 0 < length tail = omega arith in
     let no_more = is_broken_within-file bodies tail e.short more ∙ unbroken (left bodies tail e.short more) e.gate e.stale e.shut in

@@ -8,7 +8,8 @@ use Rattle.std.proofs.Math.Seq.{take-add}
 use Rattle.oc_outside.specs.DiskView.{DiskView, StaysAsItWas}
 use Rattle.oc_outside.proofs.DiskMoments.{still_honest}
 use Rattle.oc_journal.specs.JournalFile.{magic, length_in, blocks, AreShort, IsNoJournal}
-use Rattle.oc_journal.specs.JournalView.{at_spot, at_spots, IsScanned, IsFound, IsGate, IsBrokenAt}
+use Rattle.oc_journal.specs.JournalView.{at_spot, at_spots}
+use Rattle.oc_journal.specs.Scanning.{IsScanned, IsFound, IsGate, IsBrokenAt}
 use Rattle.oc_journal.specs.declared.spot.Spot.{Spot}
 use Rattle.oc_journal.proofs.Blocks.{blocks-push, AreShort-push, length_in-number, broken_file}
 use Rattle.oc_journal.proofs.Spots.{within_push, snoc_some}

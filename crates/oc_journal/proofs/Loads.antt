@@ -1,9 +1,11 @@
 -- What loading finds, and what a crash in its course leaves.
 use Rattle.std.proofs.Common.{◌≡◌, ℕ, Bool, false, IsTrue, List, sym, ◌∙◌, ap, subst, arith}
 use Rattle.oc_outside.specs.DiskView.{DiskView, IsSafe, StaysAsItWas, LeavesOnly, IsConsistent}
-use Rattle.oc_outside.proofs.DiskMoments.{LeavesOnly-then, LeavesOnly-weaker, LeavesOnly-now}
+use Rattle.oc_outside.proofs.DiskMoments.{LeavesOnly-then, LeavesOnly-weaker, LeavesOnly-now, GoesOn-then, still_honest}
 use Rattle.oc_journal.specs.JournalFile.{frames_of, EndsAt, IsNoJournal}
-use Rattle.oc_journal.specs.JournalView.{at_spots, IsFound, IsIndexed, IsLikeAnImage}
+use Rattle.oc_journal.specs.JournalView.{at_spots, IsIndexed, IsLikeAnImage}
+use Rattle.oc_journal.specs.Promises.{LoadsSafely}
+use Rattle.oc_journal.specs.Scanning.{IsFound}
 use Rattle.oc_journal.specs.declared.spot.Spot.{Spot}
 use Rattle.oc_journal.proofs.Blocks.{frames_of-ended, journal_ended}
 use Rattle.oc_journal.proofs.Writes.{IsSettled-from}
@@ -13,10 +15,16 @@ like_then : (u v : DiskView) → ((c : List ℕ) → v.may_leave c → IsLikeAnI
 like_then u v earlier c (d, left, same) = let first = earlier d left in (first.0, first.1, same ∙ first.2)
 
 -- a run after one that left only what is like an image
-pub like_run : (u v w : DiskView) → LeavesOnly u v (IsLikeAnImage u) → IsConsistent v → LeavesOnly v w (IsLikeAnImage v) → LeavesOnly u w (IsLikeAnImage u)
+like_run : (u v w : DiskView) → LeavesOnly u v (IsLikeAnImage u) → IsConsistent v → LeavesOnly v w (IsLikeAnImage v) → LeavesOnly u w (IsLikeAnImage u)
 like_run u v w first law second =
     LeavesOnly-then u v w (IsLikeAnImage u) first
     (LeavesOnly-weaker v w (IsLikeAnImage v) (IsLikeAnImage u) (like_then u v (LeavesOnly-now u v (IsLikeAnImage u) first law)) second)
+
+pub LoadsSafely-then : (u v w : DiskView) → LoadsSafely u v → (IsTrue v.honest → IsConsistent v) → LoadsSafely v w → LoadsSafely u w
+LoadsSafely-then u v w first law second = record {
+  goes_on = GoesOn-then u v w first.goes_on second.goes_on;
+  any_moment = λ h. let k = still_honest u v first.goes_on h in like_run u v w (first.any_moment h) (law k) (second.any_moment k);
+}
 
 -- reads leave a disk as safe as it was
 pub IsSafe-stays : (u v : DiskView) → StaysAsItWas u v → IsTrue u.honest → IsSafe u → IsSafe v
@@ -24,26 +32,26 @@ IsSafe-stays u v stays honest safe c left =
     safe c (stays.images honest c left) ∙ sym (stays.seen honest)
 
 -- What was found, in what a read gives now.
-module _ (v w : DiskView) (spots : List Spot) (place : ℕ) (found : IsFound v spots place) (honest : w.honest ≡ v.honest) (size : w.size ≡ v.size) (seen : IsTrue v.honest → w.seen ≡ v.seen) (safe : IsTrue v.honest → IsSafe w) where
+module _ (v w : DiskView) (spots : List Spot) (offset : ℕ) (found : IsFound v spots offset) (honest : w.honest ≡ v.honest) (size : w.size ≡ v.size) (seen : IsTrue v.honest → w.seen ≡ v.seen) (safe : IsTrue v.honest → IsSafe w) where
   back : IsTrue w.honest → IsTrue v.honest
   back h = subst (λ (b : Bool). IsTrue b) honest h
 
-  ends : IsTrue v.honest → EndsAt w.seen (at_spots w.seen spots) place
-  ends h = subst (λ (file : List ℕ). EndsAt file (at_spots file spots) place) (sym (seen h)) (found.ends h)
+  ends : IsTrue v.honest → EndsAt w.seen (at_spots w.seen spots) offset
+  ends h = subst (λ (file : List ℕ). EndsAt file (at_spots file spots) offset) (sym (seen h)) (found.ends h)
 
-  pub IsIndexed-found : IsIndexed w spots place false
+  pub IsIndexed-found : IsIndexed w spots offset false
   IsIndexed-found = record {
     within = found.within;
     start = found.start;
     first = found.first;
     size = omega (arith, found.size, size);
-    settled = λ _ h. IsSettled-from w (at_spots w.seen spots) place (ends (back h)) (safe (back h));
-    frames = λ _ h. sym (frames_of-ended w.seen (at_spots w.seen spots) place (ends (back h)));
+    settled = λ _ h. IsSettled-from w (at_spots w.seen spots) offset (ends (back h)) (safe (back h));
+    frames = λ _ h. sym (frames_of-ended w.seen (at_spots w.seen spots) offset (ends (back h)));
   }
 
   pub found-frames : IsTrue v.honest → at_spots w.seen spots ≡ frames_of v.seen
   found-frames h =
-      sym (frames_of-ended w.seen (at_spots w.seen spots) place (ends h)) ∙ ap frames_of (seen h)
+      sym (frames_of-ended w.seen (at_spots w.seen spots) offset (ends h)) ∙ ap frames_of (seen h)
 
   pub found-journal : IsTrue v.honest → ¬ IsNoJournal v.seen
-  found-journal h = journal_ended v.seen (at_spots v.seen spots) place (found.ends h)
+  found-journal h = journal_ended v.seen (at_spots v.seen spots) offset (found.ends h)

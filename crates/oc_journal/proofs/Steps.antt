@@ -43,36 +43,36 @@ written_byte new old p q x y n long is holds =
     ∙ append_assoc p (y ∷ []) q
 
 -- the frames end within the file
-pub EndsAt-within : (file : List ℕ) (bodies : List (List ℕ)) (place : ℕ) → EndsAt file bodies place → place < length file
-EndsAt-within file bodies place e =
+pub EndsAt-within : (file : List ℕ) (bodies : List (List ℕ)) (offset : ℕ) → EndsAt file bodies offset → offset < length file
+EndsAt-within file bodies offset e =
     omega (arith, e.end, ap length e.parts, length-append (magic ++ blocks bodies) (e.gate ∷ e.stale))
 
 -- and at the end of the frames before the last gate
-pub EndsAt-same_front : (file c : List ℕ) (bodies : List (List ℕ)) (place : ℕ) → EndsAt file bodies place → take (place + 1) c ≡ take (place + 1) file → EndsAt c bodies place
-EndsAt-same_front file c bodies place e same =
+pub EndsAt-same_front : (file c : List ℕ) (bodies : List (List ℕ)) (offset : ℕ) → EndsAt file bodies offset → take (offset + 1) c ≡ take (offset + 1) file → EndsAt c bodies offset
+EndsAt-same_front file c bodies offset e same =
     let base = magic ++ blocks bodies in
-    let front = same ∙ ap (λ (l : List ℕ). take (place + 1) l) e.parts ∙ front_with base e.stale e.gate place (sym e.end) in
+    let front = same ∙ ap (λ (l : List ℕ). take (offset + 1) l) e.parts ∙ front_with base e.stale e.gate offset (sym e.end) in
     record {
       gate = e.gate;
-      stale = drop (place + 1) c;
-      parts = sym (take-append-drop (place + 1) c) ∙ ap (λ (l : List ℕ). l ++ drop (place + 1) c) front ∙ append_assoc base (e.gate ∷ []) (drop (place + 1) c);
+      stale = drop (offset + 1) c;
+      parts = sym (take-append-drop (offset + 1) c) ∙ ap (λ (l : List ℕ). l ++ drop (offset + 1) c) front ∙ append_assoc base (e.gate ∷ []) (drop (offset + 1) c);
       shut = e.shut;
       end = e.end;
       short = e.short;
     }
 
--- a frame stands whole behind the gate that is not open
-pub record IsStaged (file : List ℕ) (bodies : List (List ℕ)) (place : ℕ) (body : List ℕ) : Type 0 where
+-- a frame is whole behind the gate that is not open
+pub record IsStaged (file : List ℕ) (bodies : List (List ℕ)) (offset : ℕ) (body : List ℕ) : Type 0 where
   pub gate : ℕ
   pub stale : List ℕ
   pub parts : file ≡ (magic ++ blocks bodies) ++ (gate ∷ (encoded body ++ stale))
   pub shut : gate ≢ 1
-  pub end : place ≡ length (magic ++ blocks bodies)
+  pub end : offset ≡ length (magic ++ blocks bodies)
   pub short : AreShort bodies
 
 -- the frame does not count
-pub EndsAt-staged : (file : List ℕ) (bodies : List (List ℕ)) (place : ℕ) (body : List ℕ) → IsStaged file bodies place body → EndsAt file bodies place
-EndsAt-staged file bodies place body s = record {
+pub EndsAt-staged : (file : List ℕ) (bodies : List (List ℕ)) (offset : ℕ) (body : List ℕ) → IsStaged file bodies offset body → EndsAt file bodies offset
+EndsAt-staged file bodies offset body s = record {
   gate = s.gate;
   stale = encoded body ++ s.stale;
   parts = s.parts;
@@ -82,20 +82,20 @@ EndsAt-staged file bodies place body s = record {
 }
 
 -- a torn write behind the gate leaves the frames
-pub torn_behind : (file c : List ℕ) (bodies : List (List ℕ)) (place n : ℕ) → EndsAt file bodies place → IsTorn (place + 1) n file c → frames_of c ≡ bodies
-torn_behind file c bodies place n e torn =
-    frames_of-ended c bodies place (EndsAt-same_front file c bodies place e torn.before)
+pub torn_behind : (file c : List ℕ) (bodies : List (List ℕ)) (offset n : ℕ) → EndsAt file bodies offset → IsTorn (offset + 1) n file c → frames_of c ≡ bodies
+torn_behind file c bodies offset n e torn =
+    frames_of-ended c bodies offset (EndsAt-same_front file c bodies offset e torn.before)
 
-pub written_behind : (file new : List ℕ) (bodies : List (List ℕ)) (place : ℕ) (body : List ℕ) → EndsAt file bodies place → Holds file (place + 1) (encoded body) new → IsStaged new bodies place body
-written_behind file new bodies place body e holds =
+pub written_behind : (file new : List ℕ) (bodies : List (List ℕ)) (offset : ℕ) (body : List ℕ) → EndsAt file bodies offset → Holds file (offset + 1) (encoded body) new → IsStaged new bodies offset body
+written_behind file new bodies offset body e holds =
     let base = magic ++ blocks bodies in
-    let stale = drop (place + 1 + length (encoded body)) file in
+    let stale = drop (offset + 1 + length (encoded body)) file in
     record {
       gate = e.gate;
       stale = stale;
       parts =
           holds
-          ∙ ap (λ (l : List ℕ). l ++ encoded body ++ stale) (ap (λ (l : List ℕ). take (place + 1) l) e.parts ∙ front_with base e.stale e.gate place (sym e.end))
+          ∙ ap (λ (l : List ℕ). l ++ encoded body ++ stale) (ap (λ (l : List ℕ). take (offset + 1) l) e.parts ∙ front_with base e.stale e.gate offset (sym e.end))
           ∙ append_assoc (base ++ (e.gate ∷ [])) (encoded body) stale
           ∙ append_assoc base (e.gate ∷ []) (encoded body ++ stale);
       shut = e.shut;
@@ -104,8 +104,8 @@ written_behind file new bodies place body e holds =
     }
 
 -- with the gate open it is one of the frames
-pub opened : (file : List ℕ) (bodies : List (List ℕ)) (place gate : ℕ) (body stale : List ℕ) → gate ≡ 1 → file ≡ (magic ++ blocks bodies) ++ (gate ∷ (encoded body ++ stale)) → place ≡ length (magic ++ blocks bodies) → AreShort bodies → length body < 2 ^ 32 → EndsAt file (bodies ++ body ∷ []) (place + 5 + length body)
-opened file bodies place gate body stale is_open is end short one =
+pub opened : (file : List ℕ) (bodies : List (List ℕ)) (offset gate : ℕ) (body stale : List ℕ) → gate ≡ 1 → file ≡ (magic ++ blocks bodies) ++ (gate ∷ (encoded body ++ stale)) → offset ≡ length (magic ++ blocks bodies) → AreShort bodies → length body < 2 ^ 32 → EndsAt file (bodies ++ body ∷ []) (offset + 5 + length body)
+opened file bodies offset gate body stale is_open is end short one =
     record {
       gate = 0;
       stale = stale;
@@ -121,36 +121,36 @@ opened file bodies place gate body stale is_open is end short one =
       short = AreShort-push bodies body short one;
     }
 
--- the body of a frame stands behind its gate and its length
-pub body_there : (file p body rest : List ℕ) (place gate : ℕ) → length p ≡ place → file ≡ p ++ (gate ∷ (to_be_bytes w32 (length body) ++ (body ++ rest))) → take (length body) (drop (place + 5) file) ≡ body
-body_there file p body rest place gate long is =
+-- the body of a frame is behind its gate and its length
+pub body_there : (file p body rest : List ℕ) (offset gate : ℕ) → length p ≡ offset → file ≡ p ++ (gate ∷ (to_be_bytes w32 (length body) ++ (body ++ rest))) → take (length body) (drop (offset + 5) file) ≡ body
+body_there file p body rest offset gate long is =
     let head = gate ∷ to_be_bytes w32 (length body) in
-    ap (λ (l : List ℕ). take (length body) (drop (place + 5) l)) (is ∙ sym (append_assoc p head (body ++ rest)))
-    ∙ ap (take (length body)) (drop_at (p ++ head) (body ++ rest) (place + 5) (omega (arith, length-append p head)))
+    ap (λ (l : List ℕ). take (length body) (drop (offset + 5) l)) (is ∙ sym (append_assoc p head (body ++ rest)))
+    ∙ ap (take (length body)) (drop_at (p ++ head) (body ++ rest) (offset + 5) (omega (arith, length-append p head)))
     ∙ take_at body rest (length body) refl
 
 -- the file with the gate opened
-pub opened_parts : (file new : List ℕ) (bodies : List (List ℕ)) (place : ℕ) (body : List ℕ) (s : IsStaged file bodies place body) → Holds file place (1 ∷ []) new → new ≡ (magic ++ blocks bodies) ++ (1 ∷ (to_be_bytes w32 (length body) ++ (body ++ (0 ∷ s.stale))))
-opened_parts file new bodies place body s holds =
+pub opened_parts : (file new : List ℕ) (bodies : List (List ℕ)) (offset : ℕ) (body : List ℕ) (s : IsStaged file bodies offset body) → Holds file offset (1 ∷ []) new → new ≡ (magic ++ blocks bodies) ++ (1 ∷ (to_be_bytes w32 (length body) ++ (body ++ (0 ∷ s.stale))))
+opened_parts file new bodies offset body s holds =
     let base = magic ++ blocks bodies in
-    written_byte new file base (encoded body ++ s.stale) s.gate 1 place (sym s.end) s.parts holds
+    written_byte new file base (encoded body ++ s.stale) s.gate 1 offset (sym s.end) s.parts holds
     ∙ ap (λ (l : List ℕ). base ++ (1 ∷ (to_be_bytes w32 (length body) ++ l))) (append_assoc body (0 ∷ []) s.stale)
 
 -- a torn write of the gate leaves the frames, or those and the new one
-pub torn_gate : (file c : List ℕ) (bodies : List (List ℕ)) (place : ℕ) (body : List ℕ) → IsStaged file bodies place body → length body < 2 ^ 32 → IsTorn place 1 file c → IsBeforeOrAfter bodies body c
-torn_gate file c bodies place body s one torn =
+pub torn_gate : (file c : List ℕ) (bodies : List (List ℕ)) (offset : ℕ) (body : List ℕ) → IsStaged file bodies offset body → length body < 2 ^ 32 → IsTorn offset 1 file c → IsBeforeOrAfter bodies body c
+torn_gate file c bodies offset body s one torn =
     let base = magic ++ blocks bodies in
-    let gate = get_or c place 0 in
-    let parts = torn_byte c file base (encoded body ++ s.stale) s.gate place (sym s.end) s.parts torn in
+    let gate = get_or c offset 0 in
+    let parts = torn_byte c file base (encoded body ++ s.stale) s.gate offset (sym s.end) s.parts torn in
     elim (cases_eq gate 1) [
-      | inl is_open ↦ inr (frames_of-ended c (bodies ++ body ∷ []) (place + 5 + length body) (opened c bodies place gate body s.stale is_open parts s.end s.short one))
-      | inr shut ↦ inl (frames_of-ended c bodies place (record { gate = gate; stale = encoded body ++ s.stale; parts = parts; shut = shut; end = s.end; short = s.short }))
+      | inl is_open ↦ inr (frames_of-ended c (bodies ++ body ∷ []) (offset + 5 + length body) (opened c bodies offset gate body s.stale is_open parts s.end s.short one))
+      | inr shut ↦ inl (frames_of-ended c bodies offset (record { gate = gate; stale = encoded body ++ s.stale; parts = parts; shut = shut; end = s.end; short = s.short }))
     ]
 
-pub written_gate : (file new : List ℕ) (bodies : List (List ℕ)) (place : ℕ) (body : List ℕ) → IsStaged file bodies place body → length body < 2 ^ 32 → Holds file place (1 ∷ []) new → EndsAt new (bodies ++ body ∷ []) (place + 5 + length body)
-written_gate file new bodies place body s one holds =
+pub written_gate : (file new : List ℕ) (bodies : List (List ℕ)) (offset : ℕ) (body : List ℕ) → IsStaged file bodies offset body → length body < 2 ^ 32 → Holds file offset (1 ∷ []) new → EndsAt new (bodies ++ body ∷ []) (offset + 5 + length body)
+written_gate file new bodies offset body s one holds =
     let base = magic ++ blocks bodies in
-    opened new bodies place 1 body s.stale refl (written_byte new file base (encoded body ++ s.stale) s.gate 1 place (sym s.end) s.parts holds) s.end s.short one
+    opened new bodies offset 1 body s.stale refl (written_byte new file base (encoded body ++ s.stale) s.gate 1 offset (sym s.end) s.parts holds) s.end s.short one
 
 -- a closed first gate
 no_frame : (file rest : List ℕ) (gate : ℕ) → gate ≢ 1 → file ≡ magic ++ (gate ∷ rest) → EndsAt file [] 8
@@ -164,23 +164,23 @@ no_frame file rest gate shut parts = record {
 }
 
 -- a torn write of the first gate, which was open, leaves the frames or none
-pub torn_first_gate : (file c : List ℕ) (bodies : List (List ℕ)) (place : ℕ) → 0 < length bodies → EndsAt file bodies place → IsTorn 8 1 file c → IsAllOrNone bodies c
-torn_first_gate file c [] place some e torn = absurd (omega arith)
-torn_first_gate file c (body ∷ bodies) place some e torn =
+pub torn_first_gate : (file c : List ℕ) (bodies : List (List ℕ)) (offset : ℕ) → 0 < length bodies → EndsAt file bodies offset → IsTorn 8 1 file c → IsAllOrNone bodies c
+torn_first_gate file c [] offset some e torn = absurd (omega arith)
+torn_first_gate file c (body ∷ bodies) offset some e torn =
     let rest = (to_be_bytes w32 (length body) ++ (body ++ blocks bodies)) ++ (e.gate ∷ e.stale) in
     let gate = get_or c 8 0 in
     let parts : c ≡ magic ++ (gate ∷ rest) = torn_byte c file magic rest 1 8 refl e.parts torn in
     elim (cases_eq gate 1) [
       | inl is_open ↦
           let same : c ≡ file = parts ∙ ap (λ (g : ℕ). magic ++ (g ∷ rest)) is_open ∙ sym e.parts in
-          inl (ap frames_of same ∙ frames_of-ended file (body ∷ bodies) place e)
+          inl (ap frames_of same ∙ frames_of-ended file (body ∷ bodies) offset e)
       | inr shut ↦ inr (frames_of-ended c [] 8 (no_frame c rest gate shut parts))
     ]
 
 -- with the first gate closed there is no frame
-pub written_first_gate : (file new : List ℕ) (bodies : List (List ℕ)) (place : ℕ) → 0 < length bodies → EndsAt file bodies place → Holds file 8 (0 ∷ []) new → EndsAt new [] 8
-written_first_gate file new [] place some e holds = absurd (omega arith)
-written_first_gate file new (body ∷ bodies) place some e holds =
+pub written_first_gate : (file new : List ℕ) (bodies : List (List ℕ)) (offset : ℕ) → 0 < length bodies → EndsAt file bodies offset → Holds file 8 (0 ∷ []) new → EndsAt new [] 8
+written_first_gate file new [] offset some e holds = absurd (omega arith)
+written_first_gate file new (body ∷ bodies) offset some e holds =
     let rest = (to_be_bytes w32 (length body) ++ (body ++ blocks bodies)) ++ (e.gate ∷ e.stale) in
     no_frame new rest 0 (omega arith) (written_byte new file magic rest 1 0 8 refl e.parts holds)
 

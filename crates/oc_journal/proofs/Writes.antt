@@ -1,6 +1,7 @@
 -- What the writes of a journal do to a disk that was safe.
 use Rattle.std.proofs.Common.{◌≡◌, inl, ℕ, ◌+◌, ◌<◌, ◌≤◌, ◌^◌, List, [], ◌∷◌, ◌++◌, length, take, drop, sym, ◌∙◌, ap, subst, arith, Result, Ok, Err, OnOk}
 use Rattle.std.proofs.lemmas.List.{drop_all}
+use Rattle.oc_base.specs.declared.limits.TheConstants.{MAX_FRAME_BYTES}
 use Rattle.oc_outside.specs.DiskView.{DiskView, Holds, IsTorn, IsSafe, LeavesOnly, IsConsistent}
 use Rattle.oc_outside.proofs.DiskMoments.{LeavesOnly-now}
 use Rattle.oc_journal.specs.JournalFile.{magic, header, frames_of, encoded, blocks, EndsAt, IsBeforeOrAfter, IsAllOrNone}
@@ -14,9 +15,9 @@ both (Ok x) f p q = f p q
 both (Err e) f p q = tt
 
 -- a settled disk is told by where its frames end
-pub IsSettled-from : (v : DiskView) (bodies : List (List ℕ)) (place : ℕ) → EndsAt v.seen bodies place → IsSafe v → IsSettled v place
-IsSettled-from v bodies place e safe = record {
-  ends = subst (λ (fs : List (List ℕ)). EndsAt v.seen fs place) (sym (frames_of-ended v.seen bodies place e)) e;
+pub IsSettled-from : (v : DiskView) (bodies : List (List ℕ)) (offset : ℕ) → EndsAt v.seen bodies offset → IsSafe v → IsSettled v offset
+IsSettled-from v bodies offset e safe = record {
+  ends = subst (λ (fs : List (List ℕ)). EndsAt v.seen fs offset) (sym (frames_of-ended v.seen bodies offset e)) e;
   safe = safe;
 }
 
@@ -42,7 +43,7 @@ pub torn_seen : (v w : DiskView) (at n : ℕ) → LeavesOnly v w (IsTorn at n v.
 torn_seen v w at n run law = LeavesOnly-now v w (IsTorn at n v.seen) run law w.seen law.reads
 
 -- A frame is written behind the gate at the end of a settled file, and the gate is opened.
-module _ (v m w : DiskView) (end : ℕ) (body : List ℕ) (settled : IsSettled v end) (short : length body ≤ 1048576) where
+module _ (v m w : DiskView) (end : ℕ) (body : List ℕ) (settled : IsSettled v end) (short : length body ≤ MAX_FRAME_BYTES) where
   abbrev frames : List (List ℕ)
   frames = frames_of v.seen
 
@@ -62,6 +63,6 @@ module _ (v m w : DiskView) (end : ℕ) (body : List ℕ) (settled : IsSettled v
   pub gate_ends : Holds v.seen (end + 1) (encoded body) m.seen → Holds m.seen end (1 ∷ []) w.seen → EndsAt w.seen (frames ++ body ∷ []) (end + 5 + length body)
   gate_ends behind gate = written_gate m.seen w.seen frames end body (staged behind) fits gate
 
-  -- the body stands behind its gate and its length
+  -- the body is behind its gate and its length
   pub gate_body : Holds v.seen (end + 1) (encoded body) m.seen → Holds m.seen end (1 ∷ []) w.seen → take (length body) (drop (end + 5) w.seen) ≡ body
   gate_body behind gate = body_there w.seen (magic ++ blocks frames) body (0 ∷ (staged behind).stale) end 1 (sym (staged behind).end) (opened_parts m.seen w.seen frames end body (staged behind) gate)

@@ -1,4 +1,4 @@
--- What the bytes of a journal file stand for.
+-- What the bytes of a journal file mean.
 use Rattle.std.specs.Prelude.{◌≡◌, ◌≢◌, ◌⊎◌, ℕ, zero, suc, ◌+◌, ◌^◌, ◌<◌, Bool, true, false, ◌&&◌, List, [], ◌∷◌, ◌++◌, length, take, drop, if◌then◌else◌, ◌==◌, nat_lt}
 use Rattle.std.specs.Int.{w32, to_be_bytes, from_be_bytes}
 
@@ -26,7 +26,7 @@ body_in behind_gate = take (length_in behind_gate) (drop 4 behind_gate)
 abbrev pub next_gate : List ℕ → List ℕ
 next_gate behind_gate = drop (4 + length_in behind_gate) behind_gate
 
--- of at most so many frames from a gate on, the bodies of those whose gates are open
+-- of at most n frames from a gate on, the bodies of those whose gates are open
 abbrev pub frames_within : ℕ → List ℕ → List (List ℕ)
 frames_within zero bytes = []
 frames_within (suc n) [] = []
@@ -37,7 +37,7 @@ frames_within (suc n) (gate ∷ rest) =
 abbrev pub frames_of : List ℕ → List (List ℕ)
 frames_of file = if nat_lt 9 (length file) then frames_within (length file) (drop 8 file) else []
 
--- of at most so many frames from a gate on, one whose gate is open is not whole
+-- of at most n frames from a gate on, one whose gate is open is not whole
 abbrev pub is_broken_within : ℕ → List ℕ → Bool
 is_broken_within zero bytes = false
 is_broken_within (suc n) [] = false
@@ -58,7 +58,7 @@ abbrev pub blocks : List (List ℕ) → List ℕ
 blocks [] = []
 blocks (body ∷ bodies) = 1 ∷ (to_be_bytes w32 (length body) ++ (body ++ blocks bodies))
 
--- where the frames of these bodies end: the place of the gate behind them
+-- the offset where the frames of these bodies end, which is that of the gate behind them
 abbrev pub end_of : List (List ℕ) → ℕ
 end_of bodies = length (magic ++ blocks bodies)
 
@@ -67,19 +67,19 @@ abbrev pub AreShort : List (List ℕ) → Type 0
 AreShort [] = Unit {0}
 AreShort (body ∷ bodies) = (length body < 2 ^ 32) × AreShort bodies
 
--- the file is frames of these bodies, which end at this place, and a gate that is not open
-pub record EndsAt (file : List ℕ) (bodies : List (List ℕ)) (place : ℕ) : Type 0 where
+-- the file is frames of these bodies, which end at this offset, and a gate that is not open
+pub record EndsAt (file : List ℕ) (bodies : List (List ℕ)) (offset : ℕ) : Type 0 where
   pub gate : ℕ
   pub stale : List ℕ
   pub parts : file ≡ (magic ++ blocks bodies) ++ (gate ∷ stale)
   pub shut : gate ≢ 1
-  pub end : place ≡ end_of bodies
+  pub end : offset ≡ end_of bodies
   pub short : AreShort bodies
 
--- the file stands for the frames, with one more or without it
+-- the file has the frames, with one more or without it
 abbrev pub IsBeforeOrAfter : List (List ℕ) → List ℕ → List ℕ → Type 0
 IsBeforeOrAfter frames body file = (frames_of file ≡ frames) ⊎ (frames_of file ≡ frames ++ body ∷ [])
 
--- the file stands for the frames or for none
+-- the file has the frames or none
 abbrev pub IsAllOrNone : List (List ℕ) → List ℕ → Type 0
 IsAllOrNone frames file = (frames_of file ≡ frames) ⊎ (frames_of file ≡ [])

@@ -1,4 +1,6 @@
 pub mod JournalFile
 pub mod JournalView
+pub mod Scanning
+pub mod Promises
 pub mod FrameBytes
 pub mod Stopped

@@ -1,6 +1,6 @@
 ghost use Rattle.std.specs.Prelude.{◌≡◌};
 ghost use Rattle.oc_journal.specs.declared.errors.LoadError.TheVariants.{Disk as LoadDisk, Memory as LoadMemory};
-ghost use Rattle.oc_journal.specs.declared.errors.FrameError.TheVariants.{Disk as FrameDisk, Memory as FrameMemory};
+ghost use Rattle.oc_journal.specs.declared.errors.FrameError.TheVariants.{Memory as FrameMemory};
 
 use oc_outside::Failed;
 use std::alloc::{AllocError, AllocFailed};
@@ -21,7 +21,7 @@ pub enum LoadError {
 pub enum AppendError {
     /// A call on the disk failed earlier.
     Closed,
-    /// The file would have more than 2^40 bytes.
+    /// The file would have more than `MAX_JOURNAL_BYTES`.
     Full,
     /// A call on the disk failed.
     Disk,
@@ -76,24 +76,10 @@ impl<T: Drop> From<AllocFailed<T>> for LoadError {
     }
 }
 
-impl From<Failed> for FrameError {
-    ghost from_gives = { λ _ error. error ≡ FrameDisk };
-
-    fn from(_failed: Failed) -> FrameError {
-        FrameError::Disk
-    }
-}
-
 impl From<AllocError> for FrameError {
     ghost from_gives = { λ _ error. error ≡ FrameMemory };
 
     fn from(_error: AllocError) -> FrameError {
         FrameError::Memory
-    }
-}
-
-impl From<Failed> for PeekError {
-    fn from(_failed: Failed) -> PeekError {
-        PeekError::Disk
     }
 }

@@ -2,11 +2,9 @@ ghost use Rattle.std.specs.Prelude.{◌≡◌, ◌↔◌, ◌<◌, ◌≤◌, le
 ghost use Rattle.oc_journal.specs.JournalFile.{encoded};
 ghost use Rattle.oc_journal.specs.declared.frame.FrameFault.TheVariants.{Memory as FrameMemory};
 
+use oc_base::MAX_FRAME_BYTES;
 use std::alloc::{AllocError, Global};
 use std::marker::Model;
-
-/// The most bytes that a body may have.
-const LONGEST: usize = 1_048_576;
 
 /// The closed gate behind a frame.
 const CLOSED: u8 = 0;
@@ -31,7 +29,7 @@ impl Model for Frame {
 /// Why a body is no frame.
 #[derive(Clone, Copy, Debug, PartialEq, Eq)]
 pub enum FrameFault {
-    /// It is longer than 1,048,576 bytes.
+    /// It is longer than `MAX_FRAME_BYTES`.
     TooLong,
     /// Memory ran out.
     Memory,
@@ -49,10 +47,10 @@ impl Frame {
     /// A frame of this body.
     pub fn new(alloc: Global, body: &[u8]) -> Result<Frame, FrameFault>
         ensures body { IfOk result (λ frame. frame ≡ body.now) }
-        ensures short { IfOk result (λ _. length body.now ≤ 1048576) }
-        ensures too_long { IsErrOf result FrameFault.TooLong ↔ (1048576 < length body.now) }
+        ensures short { IfOk result (λ _. length body.now ≤ MAX_FRAME_BYTES) }
+        ensures too_long { IsErrOf result FrameFault.TooLong ↔ (MAX_FRAME_BYTES < length body.now) }
     {
-        if body.len() > LONGEST {
+        if body.len() > MAX_FRAME_BYTES {
             return Err(FrameFault::TooLong);
         }
         Ok(Frame {
@@ -63,7 +61,7 @@ impl Frame {
     /// How many bytes the body has.
     pub fn body_len(&self) -> u32
         ensures len { result ≡ length self.now }
-        ensures short { length self.now ≤ 1048576 }
+        ensures short { length self.now ≤ MAX_FRAME_BYTES }
     {
         (self.bytes.len() - 5) as u32
     }
@@ -71,7 +69,7 @@ impl Frame {
     /// What is written behind the closed gate: the length, the body and a closed gate.
     pub fn bytes(&self) -> &[u8]
         ensures bytes { result.now ≡ encoded self.now }
-        ensures short { length self.now ≤ 1048576 }
+        ensures short { length self.now ≤ MAX_FRAME_BYTES }
     {
         &self.bytes
     }
@@ -79,7 +77,7 @@ impl Frame {
 
 /// The length, the body and a closed gate.
 fn encode(alloc: Global, body: &[u8]) -> Result<Vec<u8>, AllocError>
-    requires { length body.now ≤ 1048576 }
+    requires { length body.now ≤ MAX_FRAME_BYTES }
     ensures { IfOk result (λ bytes. bytes.items ≡ encoded body.now) }
 {
     let mut bytes = Vec::with_capacity(alloc, body.len() + 5)?;

@@ -1,11 +1,10 @@
-ghost use Rattle.std.specs.Prelude.{◌≡◌, ◌↔◌, ℕ, ◌+◌, ◌-◌, ◌^◌, ◌<◌, ◌≤◌, [], ◌∷◌, ◌++◌, true, false, length, min, take, drop, get_or, IsTrue, IsErrOf, OnOk, OnErr, IfOk, IfErr};
-ghost use Rattle.oc_outside.specs.DiskView.{GoesOn, StaysAsItWas, Takes, LeavesOnly};
+ghost use Rattle.std.specs.Prelude.{◌≡◌, ◌≢◌, ◌↔◌, ℕ, ◌+◌, ◌-◌, ◌<◌, ◌≤◌, [], true, false, length, min, take, drop, get_or, IsTrue, IsOk, IsErrOf, OnOk, OnErr, IfOk, IfErr};
+ghost use Rattle.oc_outside.specs.DiskView.{StaysAsItWas, CannotFail, FailsToRead, HasNoFault};
 ghost use Rattle.oc_outside.specs.MemDiskView.{disk_of};
+ghost use Rattle.oc_journal.specs.JournalFile.{frames_of, end_of, IsNoJournal};
+ghost use Rattle.oc_journal.specs.JournalView.{HasFrames};
+ghost use Rattle.oc_journal.specs.Promises.{IsLoaded, LoadsSafely, RefusesLoad, OnlyReads, ClosesByRead, HasRoom, IsFullFor, Appends, AppendsSafely, ClosesByAppend, Restarts, RestartsSafely, ClosesByRestart};
 ghost use Rattle.oc_journal.specs.Stopped.{frames_after};
-ghost use Rattle.oc_outside.specs.Faults.{Rose};
-ghost use Rattle.oc_journal.specs.JournalFile.{header, frames_of, end_of, IsNoJournal, IsBeforeOrAfter, IsAllOrNone};
-ghost use Rattle.oc_journal.specs.JournalView.{OnlyReads, HasFrames, IsLikeAnImage};
-ghost use Rattle.oc_journal.specs.declared.errors.LoadError.TheVariants.{NotJournal, Disk as LoadDisk};
 
 use crate::errors::{AppendError, FrameError, LoadError, PeekError, RestartError};
 use crate::frame::Frame;
@@ -13,13 +12,10 @@ use crate::loading::find;
 use crate::safely::{FIRST_GATE, close_first_gate, write_frame};
 use crate::spot::Spot;
 use crate::stopped::write_until_stop;
-use oc_base::Memory;
+use oc_base::{MAX_JOURNAL_BYTES, Memory};
 use oc_outside::{Disk, Failed, MemDisk};
 use std::alloc::Global;
 use std::marker::Model;
-
-/// The most bytes that a journal file has.
-const MOST: u64 = 1 << 40;
 
 /// A journal on a disk. A contract sees its disk, the bodies of its frames, where they end in the
 /// file, how many more frames its index has memory for, and whether it is closed since the disk
@@ -47,29 +43,15 @@ impl<D: Disk> Journal<D> {
     /// Loads the journal of a disk. It reserves 9 bytes and begins with a sync, and a file of at most
     /// 9 bytes gets the header of a new one. On a refusal the disk comes back.
     pub fn load(alloc: Global, mut disk: D) -> Result<Journal<D>, (D, LoadError)>
-        // The frames are those of what a read gave, and every crash now leaves them.
-        ensures frames { IfOk result (λ journal. IsTrue (D.view disk).honest
-            → journal.frames ≡ frames_of (D.view disk).seen) }
-        ensures kept { IfOk result (λ journal. IsTrue (D.view disk).honest
-            → HasFrames (D.view journal.disk) journal.frames) }
-        ensures open { IfOk result (λ journal. journal.closed ≡ false) }
-        ensures header { IfOk result (λ journal. IsTrue (D.view disk).honest → length (D.view disk).seen ≤ 9
-            → (D.view journal.disk).seen ≡ header) }
+        ensures loaded { IfOk result (λ journal. IsLoaded D.view disk journal) }
+        ensures safely { IfOk result (λ journal. LoadsSafely (D.view disk) (D.view journal.disk)) }
+        ensures safely_err { IfErr result (λ refused. LoadsSafely (D.view disk) (D.view refused.0)) }
+        ensures refuses { IfErr result
+            (λ refused. RefusesLoad (D.view disk) (D.view refused.0) refused.1) }
 
-        // At every moment a crash leaves the frames that a crash at the start would have left.
-        ensures any_moment { IfOk result (λ journal. IsTrue (D.view disk).honest
-            → LeavesOnly (D.view disk) (D.view journal.disk) (IsLikeAnImage (D.view disk))) }
-        ensures any_moment_err { IfErr result (λ refused. IsTrue (D.view disk).honest
-            → LeavesOnly (D.view disk) (D.view refused.0) (IsLikeAnImage (D.view disk))) }
-        ensures goes_on { IfOk result (λ journal. GoesOn (D.view disk) (D.view journal.disk)) }
-        ensures goes_on_err { IfErr result (λ refused. GoesOn (D.view disk) (D.view refused.0)) }
-
-        // When it refuses.
-        ensures journal { OnOk result (IsTrue (D.view disk).honest → ¬ IsNoJournal (D.view disk).seen) }
-        ensures not_journal { IfErr result (λ refused. refused.1 ≡ NotJournal → IsTrue (D.view disk).honest
-            → IsNoJournal (D.view disk).seen) }
-        ensures disk { IfErr result (λ refused. refused.1 ≡ LoadDisk
-            → Rose (D.view disk).faults (D.view refused.0).faults) }
+        // A reliable disk is loaded.
+        ensures works { IfErr result (λ refused. IsTrue (D.view disk).reliable
+            → ¬ IsNoJournal (D.view disk).seen → refused.1 ≡ LoadError.Memory) }
     {
         match find(alloc, &mut disk) {
             Ok(index) => Ok(Journal {
@@ -93,14 +75,14 @@ impl<D: Disk> Journal<D> {
         self.spots.len() as u64
     }
 
-    /// Where the frames end in the file: the place of the gate behind them.
+    /// The offset in the file where the frames end, which is that of the gate behind them.
     pub fn end(&self) -> u64
         ensures end { result ≡ self.now.end }
         ensures within { self.now.end < (D.view self.now.disk).size }
         ensures first { self.now.frames ≡ [] → self.now.end ≡ 8 }
 
-        // While no call failed, they are what stands before that place.
-        ensures place { self.now.closed ≡ false → IsTrue (D.view self.now.disk).honest
+        // While no call failed, they are what the file has before it.
+        ensures offset { self.now.closed ≡ false → IsTrue (D.view self.now.disk).honest
             → self.now.end ≡ end_of self.now.frames }
     {
         self.end
@@ -115,11 +97,10 @@ impl<D: Disk> Journal<D> {
 
     /// Makes the room that `append` of this frame needs, and one byte more for a `restart`.
     pub fn reserve(&mut self, frame: &Frame) -> Result<(), Memory>
-        ensures spare { OnOk result (0 < self.new.spare) }
-        ensures room { OnOk result (length frame.now + 7 ≤ (D.view self.new.disk).room) }
-        ensures calls { OnOk result (16 ≤ (D.view self.new.disk).calls) }
-        ensures within { self.new.end < (D.view self.new.disk).size }
+        ensures room { OnOk result (HasRoom D.view self.new (length frame.now)) }
         ensures same { OnlyReads D.view self.old self.new }
+        ensures open { self.new.closed ≡ self.old.closed }
+        ensures no_fault { HasNoFault (D.view self.old.disk) (D.view self.new.disk) }
     {
         self.spots.reserve(1)?;
         self.disk.reserve(u64::from(frame.body_len()) + 7)?;
@@ -130,83 +111,53 @@ impl<D: Disk> Journal<D> {
     /// calls of `write_at` and `sync`. After `Disk` the journal is closed.
     pub fn append(&mut self, frame: &Frame) -> Result<(), AppendError>
         requires { 0 < self.old.spare }
+        ensures appends { OnOk result (Appends D.view frame.now self.old self.new) }
+        ensures safely { AppendsSafely D.view frame.now self.old self.new }
 
-        // The frame is added, and every crash leaves it.
-        ensures frames { OnOk result (IsTrue (D.view self.old.disk).honest
-            → self.new.frames ≡ self.old.frames ++ frame.now ∷ []) }
-        ensures kept { OnOk result (IsTrue (D.view self.old.disk).honest
-            → HasFrames (D.view self.new.disk) self.new.frames) }
-        ensures end { OnOk result (self.new.end ≡ self.old.end + 5 + length frame.now) }
-        ensures four { OnOk result (IsTrue (D.view self.old.disk).honest
-            → (D.view self.new.disk).moment ≡ (D.view self.old.disk).moment + 4) }
-        ensures open { OnOk result ((self.old.closed ≡ false) × (self.new.closed ≡ false)) }
-
-        // At every moment each image has the old frames, or those and the new one.
-        ensures any_moment { self.old.closed ≡ false → IsTrue (D.view self.old.disk).honest
-            → LeavesOnly (D.view self.old.disk) (D.view self.new.disk)
-            (IsBeforeOrAfter self.old.frames frame.now) }
-        ensures takes { Takes (length frame.now + 6) 4 (D.view self.old.disk) (D.view self.new.disk) }
-        ensures spare { self.old.spare ≤ self.new.spare + 1 }
-
-        // When it refuses.
+        // When it refuses, and what it leaves then.
         ensures closed { IsErrOf result AppendError.Closed ↔ IsTrue self.old.closed }
         ensures full { IsErrOf result AppendError.Full
-            ↔ ((self.old.closed ≡ false) × (2 ^ 40 < self.old.end + 6 + length frame.now)) }
+            ↔ ((self.old.closed ≡ false) × IsFullFor (length frame.now) self.old) }
+        ensures unchanged { IfErr result (λ error. error ≢ AppendError.Disk → self.new ≡ self.old) }
         ensures disk { IsErrOf result AppendError.Disk
-            → Rose (D.view self.old.disk).faults (D.view self.new.disk).faults }
-        ensures unchanged { IsErrOf result AppendError.Closed → self.new ≡ self.old }
-        ensures unchanged_full { IsErrOf result AppendError.Full → self.new ≡ self.old }
-        ensures closes { IsErrOf result AppendError.Disk → self.new.closed ≡ true }
-        ensures frames_err { OnErr result (IsTrue (D.view self.old.disk).honest
-            → self.new.frames ≡ self.old.frames) }
+            → ClosesByAppend D.view frame.now self.old self.new }
+
+        // An open journal on a reliable disk with the room takes it.
+        ensures works { self.old.closed ≡ false
+            → CannotFail (length frame.now + 6) 4 (D.view self.old.disk) → IsOk result }
     {
         if self.closed {
             return Err(AppendError::Closed);
         }
         let len = frame.body_len();
-        if self.end > MOST - 6 - u64::from(len) {
+        if self.end > MAX_JOURNAL_BYTES - 6 - u64::from(len) {
             return Err(AppendError::Full);
         }
         let Ok(()) = write_frame(&mut self.disk, self.end, frame) else {
             self.closed = true;
             return Err(AppendError::Disk);
         };
-        self.spots
-            .push(Spot {
-                at: self.end + 5,
-                len,
-            })
-            .unwrap();
+        self.spots.push_reserved(Spot {
+            at: self.end + 5,
+            len,
+        });
         self.end += 5 + u64::from(len);
         Ok(())
     }
 
     /// Begins the journal again without frames. With a frame it makes two calls of `write_at` and
-    /// `sync`, and with none it makes no call. After `Disk` the journal is closed.
+    /// `sync`, and with none it makes no call. It takes no memory. After `Disk` the journal is closed.
     pub fn restart(&mut self) -> Result<(), RestartError>
-        // There is no frame, and every crash leaves none.
-        ensures frames { OnOk result (self.new.frames ≡ []) }
-        ensures kept { OnOk result (IsTrue (D.view self.old.disk).honest → HasFrames (D.view self.new.disk) []) }
-        ensures end { OnOk result (self.new.end ≡ 8) }
-        ensures none { self.old.frames ≡ [] → self.new ≡ self.old }
-        ensures two { OnOk result (IsTrue (D.view self.old.disk).honest → 0 < length self.old.frames
-            → (D.view self.new.disk).moment ≡ (D.view self.old.disk).moment + 2) }
-        ensures open { OnOk result ((self.old.closed ≡ false) × (self.new.closed ≡ false)) }
+        ensures restarts { OnOk result (Restarts D.view self.old self.new) }
+        ensures safely { RestartsSafely D.view self.old self.new }
 
-        // At every moment each image has the old frames or none.
-        ensures any_moment { self.old.closed ≡ false → IsTrue (D.view self.old.disk).honest
-            → LeavesOnly (D.view self.old.disk) (D.view self.new.disk) (IsAllOrNone self.old.frames) }
-        ensures takes { Takes 1 2 (D.view self.old.disk) (D.view self.new.disk) }
-        ensures spare { self.old.spare ≤ self.new.spare }
-
-        // When it refuses.
+        // When it refuses, and what it leaves then.
         ensures closed { IsErrOf result RestartError.Closed ↔ IsTrue self.old.closed }
-        ensures disk { IsErrOf result RestartError.Disk
-            → Rose (D.view self.old.disk).faults (D.view self.new.disk).faults }
         ensures unchanged { IsErrOf result RestartError.Closed → self.new ≡ self.old }
-        ensures closes { IsErrOf result RestartError.Disk → self.new.closed ≡ true }
-        ensures frames_err { OnErr result (IsTrue (D.view self.old.disk).honest
-            → self.new.frames ≡ self.old.frames) }
+        ensures disk { IsErrOf result RestartError.Disk → ClosesByRestart D.view self.old self.new }
+
+        // An open journal on a reliable disk with the room is begun again.
+        ensures works { self.old.closed ≡ false → CannotFail 1 2 (D.view self.old.disk) → IsOk result }
     {
         if self.closed {
             return Err(RestartError::Closed);
@@ -224,16 +175,21 @@ impl<D: Disk> Journal<D> {
     }
 
     /// Puts the body of a frame in place of what `into` holds, and answers whether there is such a
-    /// frame; frames are numbered from 0. After `Disk` what `into` holds is left open.
+    /// frame; frames are numbered from 0. After `Disk` the journal is closed, and what `into` holds
+    /// is left open.
     pub fn frame(&mut self, index: u64, into: &mut Vec<u8>) -> Result<bool, FrameError>
         ensures found { IfOk result (λ found. IsTrue found ↔ (index < length self.old.frames)) }
         ensures body { IfOk result (λ found. IsTrue found → IsTrue (D.view self.old.disk).honest
             → into.new.items ≡ get_or self.old.frames index []) }
         ensures absent { IfOk result (λ found. found ≡ false → into.new.items ≡ into.old.items) }
         ensures memory { IsErrOf result FrameError.Memory → into.new.items ≡ into.old.items }
-        ensures disk { IsErrOf result FrameError.Disk
-            → Rose (D.view self.old.disk).faults (D.view self.new.disk).faults }
+        ensures disk { IsErrOf result FrameError.Disk → ClosesByRead D.view self.old self.new }
+        ensures open { ¬ IsErrOf result FrameError.Disk → self.new.closed ≡ self.old.closed }
         ensures same { OnlyReads D.view self.old self.new }
+
+        // On a reliable disk it is read.
+        ensures works { IsTrue (D.view self.old.disk).reliable
+            → IfErr result (λ error. error ≡ FrameError.Memory) }
     {
         if index >= self.spots.len() as u64 {
             return Ok(false);
@@ -243,20 +199,27 @@ impl<D: Disk> Journal<D> {
         into.reserve(len)?;
         into.clear();
         into.resize(len, 0)?;
-        self.disk.read_at(spot.at, into)?;
+        let Ok(_) = self.disk.read_at(spot.at, into) else {
+            self.closed = true;
+            return Err(FrameError::Disk);
+        };
         Ok(true)
     }
 
-    /// Copies the body of a frame from the place `skip` on into the buffer, as many bytes as fit,
-    /// and answers how many. It takes no memory.
+    /// Copies the body of a frame from the offset `skip` on into the buffer, as many bytes as fit,
+    /// and answers how many. It takes no memory. After `Disk` the journal is closed.
     pub fn peek(&mut self, index: u64, skip: u32, buf: &mut [u8]) -> Result<usize, PeekError>
         ensures within { IfOk result (λ n. n ≤ length buf.old) }
         ensures count { IfOk result (λ n. IsTrue (D.view self.old.disk).honest
             → n ≡ min (length buf.old) (length (get_or self.old.frames index []) - skip)) }
         ensures bytes { IfOk result (λ n. IsTrue (D.view self.old.disk).honest
             → take n buf.new ≡ take n (drop skip (get_or self.old.frames index []))) }
-        ensures disk { OnErr result (Rose (D.view self.old.disk).faults (D.view self.new.disk).faults) }
+        ensures disk { OnErr result (ClosesByRead D.view self.old self.new) }
+        ensures open { OnOk result (self.new.closed ≡ self.old.closed) }
         ensures same { OnlyReads D.view self.old self.new }
+
+        // On a reliable disk they are read.
+        ensures works { IsTrue (D.view self.old.disk).reliable → IsOk result }
     {
         if index >= self.spots.len() as u64 {
             return Ok(0);
@@ -267,20 +230,24 @@ impl<D: Disk> Journal<D> {
         }
         let count = buf.len().min((spot.len - skip) as usize);
         let at = spot.at + u64::from(skip);
-        Ok(read_part(&mut self.disk, at, count, buf)?)
+        let Ok(count) = read_part(&mut self.disk, at, count, buf) else {
+            self.closed = true;
+            return Err(PeekError::Disk);
+        };
+        Ok(count)
     }
 }
 
 impl Journal<MemDisk> {
-    /// Makes the four calls of `append` with a stop after so many of them, crashes, and hands back
+    /// Makes the four calls of `append` with a stop after `calls` of them, crashes, and hands back
     /// what is left. It takes no memory.
     pub fn append_stopped(self, frame: &Frame, calls: u8, image: u8) -> MemDisk
         requires calls { calls ≤ 4 }
-        requires no_fault { self.disk.failing.listed ≡ [] }
+        requires no_fault { self.disk.failing.calls.listed ≡ [] }
         requires open { self.closed ≡ false }
         requires room { length frame.now + 6 ≤ self.disk.room }
         requires turns { 4 ≤ self.disk.calls }
-        requires fits { self.end + 6 + length frame.now ≤ 2 ^ 40 }
+        requires fits { self.end + 6 + length frame.now ≤ MAX_JOURNAL_BYTES }
 
         // The old frames, and the new one exactly after four calls, or after three with an image
         // that opens the gate. All of it is safe, and nothing is set on the disk.
@@ -298,15 +265,16 @@ impl Journal<MemDisk> {
     }
 }
 
-/// Reads so many bytes from a place on into the front of the buffer.
+/// Reads `count` bytes from an offset within the size on into the front of the buffer.
 fn read_part<D: Disk>(disk: &mut D, at: u64, count: usize, buf: &mut [u8]) -> Result<usize, Failed>
-    requires { count ≤ length buf.old }
+    requires count { count ≤ length buf.old }
+    requires within { at ≤ (D.view disk.old).size }
     ensures count { IfOk result (λ n. n ≡ min count ((D.view disk.old).size - at)) }
     ensures bytes { IfOk result (λ n. IsTrue (D.view disk.old).honest
         → take n buf.new ≡ take n (drop at (D.view disk.old).seen)) }
     ensures size { (D.view disk.new).size ≡ (D.view disk.old).size }
     ensures stays { StaysAsItWas (D.view disk.old) (D.view disk.new) }
-    ensures cause { OnErr result (Rose (D.view disk.old).faults (D.view disk.new).faults) }
+    ensures fails { OnErr result (FailsToRead (D.view disk.old) (D.view disk.new)) }
 {
     disk.read_at(at, &mut buf[..count])
 }

@@ -1,17 +1,30 @@
 //! A journal of frames that survives a crash at any moment.
 //!
-//! The file is a magic, and then gates: behind a gate that is open stand a length, a body and the
-//! next gate. The frames are the bodies up to the first gate that is not open. A frame is written
-//! behind the closed gate and made safe before the gate is opened, and that is made safe too.
+//! The file is a magic and then gates. Behind a gate that is open come a length, a body and the next
+//! gate. The frames are the bodies up to the first gate that is not open. These are the bytes of a
+//! journal with the frames `ab` and `c`:
 //!
-//! A contract sees a [`Journal`] as its disk, the bodies of its frames, where they end, and whether
-//! it is closed. The layers above rest on this: over every honest disk, after `load` the frames are
+//! ```text
+//! offset  0         8  9           13   15 16          20  21
+//!        +---------+--+-----------+----+--+-----------+---+--+- - - -
+//!        | OVERCST1| 1| 0, 0, 0, 2| a b| 1| 0, 0, 0, 1| c | 0| stale
+//!        +---------+--+-----------+----+--+-----------+---+--+- - - -
+//!         magic   gate length      body gate length   body gate
+//! ```
+//!
+//! A frame is written behind the closed gate and made safe before the gate is opened, and that is
+//! made safe too. What is behind the last gate was never a frame, or is one no more.
+//!
+//! A contract sees a [`Journal`] as its disk, the bodies of its frames, where they end, how many more
+//! its index has memory for, and whether it is closed. `specs/Promises` names what each call
+//! promises. The layers above rest on this: over every honest disk, after `load` the frames are
 //! those of what a read gave and every crash leaves them; after an `append` that answered Ok every
 //! crash leaves the new frame too; at every moment of it each image has the old frames, or those and
 //! the new one; at every moment of `restart` the old frames or none; and at every moment of `load`
-//! the frames of an image at its start. After a failed call of the disk the journal is closed.
+//! the frames of an image at its start. After a failed call of the disk the journal is closed. Over a
+//! reliable disk with the room no call fails.
 //!
-//! `load` finds the frames by one read at each gate. `frame` and `peek` then read one place of the
+//! `load` finds the frames by one read at each gate. `frame` and `peek` then make one read of the
 //! disk. `append` takes no memory and makes four calls of `write_at` and `sync`.
 #![tactic(auto)]
 

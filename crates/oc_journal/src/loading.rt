@@ -1,14 +1,15 @@
-ghost use Rattle.std.specs.Prelude.{◌≡◌, ◌≢◌, ℕ, ◌+◌, ◌<◌, ◌≤◌, false, length, take, drop, IsTrue, IsErrOf, IfOk, IfSome, OnOk};
+ghost use Rattle.std.specs.Prelude.{◌≡◌, ◌≢◌, ℕ, ◌+◌, ◌<◌, ◌≤◌, false, length, take, drop, IsTrue, IsErrOf, IfOk, IfSome, OnOk, OnErr};
 ghost use Rattle.std.specs.Int.{w32, to_be_bytes};
-ghost use Rattle.oc_outside.specs.DiskView.{IsSafe, GoesOn, StaysAsItWas, LeavesOnly};
-ghost use Rattle.oc_outside.specs.Faults.{Rose};
+ghost use Rattle.oc_outside.specs.DiskView.{IsSafe, StaysAsItWas, FailsToRead, HasNoFault};
 ghost use Rattle.oc_journal.specs.JournalFile.{magic, header, frames_of, IsNoJournal};
-ghost use Rattle.oc_journal.specs.JournalView.{at_spots, IsFound, IsGate, IsBrokenAt, IsIndexed, IsLikeAnImage};
+ghost use Rattle.oc_journal.specs.JournalView.{at_spots, IsIndexed};
+ghost use Rattle.oc_journal.specs.Promises.{LoadsSafely};
+ghost use Rattle.oc_journal.specs.Scanning.{IsFound, IsGate, IsBrokenAt};
 
 use crate::errors::LoadError;
 use crate::safely::{FIRST_GATE, write_header};
 use crate::spot::Spot;
-use oc_outside::Disk;
+use oc_outside::{Disk, Failed};
 use std::alloc::Global;
 
 /// What every journal file begins with.
@@ -20,7 +21,7 @@ const OPEN: u8 = 1;
 /// The length of a header in bytes.
 const HEADER_LEN: u64 = 9;
 
-/// Where the bodies of the frames stand, and where the frames end.
+/// Where the bodies of the frames are, and where the frames end.
 #[derive(Debug, Drop)]
 pub struct Index {
     pub spots: Vec<Spot>,
@@ -35,13 +36,11 @@ pub fn find<D: Disk>(alloc: Global, disk: &mut D) -> Result<Index, LoadError>
     ensures header { OnOk result (IsTrue (D.view disk.old).honest → length (D.view disk.old).seen ≤ 9
         → (D.view disk.new).seen ≡ header) }
     ensures journal { OnOk result (IsTrue (D.view disk.old).honest → ¬ IsNoJournal (D.view disk.old).seen) }
-    ensures any_moment { IsTrue (D.view disk.old).honest
-        → LeavesOnly (D.view disk.old) (D.view disk.new) (IsLikeAnImage (D.view disk.old)) }
-    ensures goes_on { GoesOn (D.view disk.old) (D.view disk.new) }
+    ensures safely { LoadsSafely (D.view disk.old) (D.view disk.new) }
+    ensures no_fault { OnOk result (HasNoFault (D.view disk.old) (D.view disk.new)) }
     ensures not_journal { IsErrOf result LoadError.NotJournal → IsTrue (D.view disk.old).honest
         → IsNoJournal (D.view disk.old).seen }
-    ensures disk { IsErrOf result LoadError.Disk
-        → Rose (D.view disk.old).faults (D.view disk.new).faults }
+    ensures disk { IsErrOf result LoadError.Disk → FailsToRead (D.view disk.old) (D.view disk.new) }
 {
     let size = make_safe(disk)?;
     if size <= HEADER_LEN {
@@ -58,30 +57,56 @@ pub fn find<D: Disk>(alloc: Global, disk: &mut D) -> Result<Index, LoadError>
 /// Makes all that a read gives safe, with room for a header, and answers the size.
 fn make_safe<D: Disk>(disk: &mut D) -> Result<u64, LoadError>
     ensures size { IfOk result (λ size. size ≡ (D.view disk.new).size) }
+    ensures room { OnOk result (9 ≤ (D.view disk.new).room) }
+    ensures calls { OnOk result (2 ≤ (D.view disk.new).calls) }
     ensures safe { OnOk result (IsTrue (D.view disk.old).honest → IsSafe (D.view disk.new)) }
     ensures seen { IsTrue (D.view disk.old).honest → (D.view disk.new).seen ≡ (D.view disk.old).seen }
-    ensures any_moment { IsTrue (D.view disk.old).honest
-        → LeavesOnly (D.view disk.old) (D.view disk.new) (IsLikeAnImage (D.view disk.old)) }
-    ensures goes_on { GoesOn (D.view disk.old) (D.view disk.new) }
+    ensures safely { LoadsSafely (D.view disk.old) (D.view disk.new) }
+    ensures no_fault { OnOk result (HasNoFault (D.view disk.old) (D.view disk.new)) }
     ensures not_journal { IsErrOf result LoadError.NotJournal → ⊥ }
-    ensures disk { IsErrOf result LoadError.Disk
-        → Rose (D.view disk.old).faults (D.view disk.new).faults }
+    ensures disk { IsErrOf result LoadError.Disk → FailsToRead (D.view disk.old) (D.view disk.new) }
 {
-    disk.reserve(HEADER_LEN)?;
-    disk.sync()?;
-    Ok(disk.size()?)
+    sync_with_room(disk)?;
+    Ok(size_of(disk)?)
 }
 
-/// Reads the magic of a file that is longer than a header.
+/// Reserves the room for a header, and then syncs.
+fn sync_with_room<D: Disk>(disk: &mut D) -> Result<(), LoadError>
+    ensures room { OnOk result (9 ≤ (D.view disk.new).room) }
+    ensures calls { OnOk result (2 ≤ (D.view disk.new).calls) }
+    ensures safe { OnOk result (IsTrue (D.view disk.old).honest → IsSafe (D.view disk.new)) }
+    ensures seen { IsTrue (D.view disk.old).honest → (D.view disk.new).seen ≡ (D.view disk.old).seen }
+    ensures safely { LoadsSafely (D.view disk.old) (D.view disk.new) }
+    ensures no_fault { OnOk result (HasNoFault (D.view disk.old) (D.view disk.new)) }
+    ensures not_journal { IsErrOf result LoadError.NotJournal → ⊥ }
+    ensures disk { IsErrOf result LoadError.Disk → FailsToRead (D.view disk.old) (D.view disk.new) }
+{
+    disk.reserve(HEADER_LEN)?;
+    Ok(disk.sync()?)
+}
+
+/// The size of a file that is safe.
+fn size_of<D: Disk>(disk: &mut D) -> Result<u64, Failed>
+    requires safe { IsTrue (D.view disk.old).honest → IsSafe (D.view disk.old) }
+    ensures size { IfOk result (λ size. size ≡ (D.view disk.new).size) }
+    ensures stays { StaysAsItWas (D.view disk.old) (D.view disk.new) }
+    ensures no_fault { OnOk result (HasNoFault (D.view disk.old) (D.view disk.new)) }
+    ensures fails { OnErr result (FailsToRead (D.view disk.old) (D.view disk.new)) }
+{
+    disk.size()
+}
+
+/// Reads the magic of a safe file that is longer than a header.
 fn check_magic<D: Disk>(disk: &mut D) -> Result<(), LoadError>
-    requires { 9 < (D.view disk.old).size }
+    requires safe { IsTrue (D.view disk.old).honest → IsSafe (D.view disk.old) }
+    requires long { 9 < (D.view disk.old).size }
     ensures magic { OnOk result (IsTrue (D.view disk.old).honest → take 8 (D.view disk.old).seen ≡ magic) }
     ensures not_journal { IsErrOf result LoadError.NotJournal → IsTrue (D.view disk.old).honest
         → take 8 (D.view disk.old).seen ≢ magic }
     ensures size { (D.view disk.new).size ≡ (D.view disk.old).size }
     ensures stays { StaysAsItWas (D.view disk.old) (D.view disk.new) }
-    ensures disk { IsErrOf result LoadError.Disk
-        → Rose (D.view disk.old).faults (D.view disk.new).faults }
+    ensures no_fault { OnOk result (HasNoFault (D.view disk.old) (D.view disk.new)) }
+    ensures disk { IsErrOf result LoadError.Disk → FailsToRead (D.view disk.old) (D.view disk.new) }
 {
     let mut found = [0; 8];
     disk.read_at(0, &mut found)?;
@@ -91,8 +116,9 @@ fn check_magic<D: Disk>(disk: &mut D) -> Result<(), LoadError>
     Ok(())
 }
 
-/// Finds the frames of a file of this size, from the first gate on, by a read at each gate.
+/// Finds the frames of a safe file of this size, from the first gate on, by a read at each gate.
 fn find_frames<D: Disk>(alloc: Global, disk: &mut D, size: u64) -> Result<Index, LoadError>
+    requires safe { IsTrue (D.view disk.old).honest → IsSafe (D.view disk.old) }
     requires size { size ≡ (D.view disk.old).size }
     requires long { 9 < size }
     requires magic { IsTrue (D.view disk.old).honest → take 8 (D.view disk.old).seen ≡ magic }
@@ -101,8 +127,8 @@ fn find_frames<D: Disk>(alloc: Global, disk: &mut D, size: u64) -> Result<Index,
         → IsNoJournal (D.view disk.old).seen }
     ensures size { (D.view disk.new).size ≡ (D.view disk.old).size }
     ensures stays { StaysAsItWas (D.view disk.old) (D.view disk.new) }
-    ensures disk { IsErrOf result LoadError.Disk
-        → Rose (D.view disk.old).faults (D.view disk.new).faults }
+    ensures no_fault { OnOk result (HasNoFault (D.view disk.old) (D.view disk.new)) }
+    ensures disk { IsErrOf result LoadError.Disk → FailsToRead (D.view disk.old) (D.view disk.new) }
 {
     let mut spots = Vec::new(alloc);
     let mut gate = FIRST_GATE;
@@ -126,8 +152,8 @@ fn read_gate<D: Disk>(disk: &mut D, gate: u64, size: u64) -> Result<Option<u32>,
         → IsBrokenAt (D.view disk.old).seen gate }
     ensures size { (D.view disk.new).size ≡ (D.view disk.old).size }
     ensures stays { StaysAsItWas (D.view disk.old) (D.view disk.new) }
-    ensures disk { IsErrOf result LoadError.Disk
-        → Rose (D.view disk.old).faults (D.view disk.new).faults }
+    ensures no_fault { OnOk result (HasNoFault (D.view disk.old) (D.view disk.new)) }
+    ensures disk { IsErrOf result LoadError.Disk → FailsToRead (D.view disk.old) (D.view disk.new) }
 {
     let mut head = [0; 5];
     let read = disk.read_at(gate, &mut head)?;

@@ -1,6 +1,5 @@
 ghost use Rattle.std.specs.Prelude.{◌≡◌, ℕ, ◌+◌, ◌^◌, ◌<◌, ◌≤◌, [], ◌∷◌, ◌++◌, max, IsTrue, length, take, drop, OnOk, OnErr};
-ghost use Rattle.oc_outside.specs.DiskView.{Holds, IsTorn, IsSafe, Takes, LeavesOnly};
-ghost use Rattle.oc_outside.specs.Faults.{Rose};
+ghost use Rattle.oc_outside.specs.DiskView.{Holds, IsTorn, IsSafe, Takes, Fails, HasNoFault, LeavesOnly};
 ghost use Rattle.oc_journal.specs.JournalFile.{header, frames_of, IsBeforeOrAfter, IsAllOrNone};
 ghost use Rattle.oc_journal.specs.JournalView.{IsSettled, IsLikeAnImage};
 
@@ -10,10 +9,10 @@ use oc_outside::{Disk, Failed};
 /// The file of a journal without frames: the magic and a closed gate.
 pub const HEADER: [u8; 9] = *b"OVERCST1\0";
 
-/// Where the first gate stands.
+/// The offset of the first gate.
 pub const FIRST_GATE: u64 = 8;
 
-/// Writes at a place within the size, and syncs. Everything that a journal writes is written so: on
+/// Writes at an offset within the size, and syncs. Everything that a journal writes is written so: on
 /// a disk that was safe a crash leaves at every moment only what a torn write leaves, and after Ok
 /// the disk is safe again.
 pub fn write_safely<D: Disk>(disk: &mut D, at: u64, bytes: &[u8]) -> Result<(), Failed>
@@ -29,13 +28,14 @@ pub fn write_safely<D: Disk>(disk: &mut D, at: u64, bytes: &[u8]) -> Result<(), 
     ensures size { OnOk result
         ((D.view disk.new).size ≡ max (D.view disk.old).size (at + length bytes.now)) }
     ensures no_smaller { (D.view disk.old).size ≤ (D.view disk.new).size }
-    ensures cause { OnErr result (Rose (D.view disk.old).faults (D.view disk.new).faults) }
+    ensures no_fault { OnOk result (HasNoFault (D.view disk.old) (D.view disk.new)) }
+    ensures fails { OnErr result (Fails (length bytes.now) 2 (D.view disk.old) (D.view disk.new)) }
 {
     disk.write_at(at, bytes)?;
     disk.sync()
 }
 
-/// Writes a frame behind the frames, which end at that place, and opens the gate before it.
+/// Writes a frame behind the frames, which end at that offset, and opens the gate before it.
 pub fn write_frame<D: Disk>(disk: &mut D, end: u64, frame: &Frame) -> Result<(), Failed>
     requires size { end < (D.view disk.old).size }
     requires settled { IsTrue (D.view disk.old).honest → IsSettled (D.view disk.old) end }
@@ -53,20 +53,21 @@ pub fn write_frame<D: Disk>(disk: &mut D, end: u64, frame: &Frame) -> Result<(),
         → take (length frame.now) (drop (end + 5) (D.view disk.new).seen) ≡ frame.now) }
     ensures size { OnOk result (end + 5 + length frame.now < (D.view disk.new).size) }
 
-    // What stands before the gate stays.
+    // What is before the gate stays.
     ensures front { IsTrue (D.view disk.old).honest
         → take end (D.view disk.new).seen ≡ take end (D.view disk.old).seen }
     ensures no_smaller { (D.view disk.old).size ≤ (D.view disk.new).size }
     ensures any_moment { IsTrue (D.view disk.old).honest
         → LeavesOnly (D.view disk.old) (D.view disk.new)
         (IsBeforeOrAfter (frames_of (D.view disk.old).seen) frame.now) }
-    ensures cause { OnErr result (Rose (D.view disk.old).faults (D.view disk.new).faults) }
+    ensures no_fault { OnOk result (HasNoFault (D.view disk.old) (D.view disk.new)) }
+    ensures fails { OnErr result (Fails (length frame.now + 6) 4 (D.view disk.old) (D.view disk.new)) }
 {
     write_safely(disk, end + 1, frame.bytes())?;
     write_safely(disk, end, &[1])
 }
 
-/// Closes the first gate of a file that has frames, which end at that place.
+/// Closes the first gate of a file that has frames.
 pub fn close_first_gate<D: Disk>(disk: &mut D) -> Result<(), Failed>
     requires size { 8 < (D.view disk.old).size }
     requires settled { IsTrue (D.view disk.old).honest
@@ -78,22 +79,25 @@ pub fn close_first_gate<D: Disk>(disk: &mut D) -> Result<(), Failed>
     ensures none { OnOk result (IsTrue (D.view disk.old).honest
         → frames_of (D.view disk.new).seen ≡ []) }
 
-    // What stands behind the gate stays.
+    // What is behind the gate stays.
     ensures behind { IsTrue (D.view disk.old).honest
         → drop 9 (D.view disk.new).seen ≡ drop 9 (D.view disk.old).seen }
     ensures no_smaller { (D.view disk.old).size ≤ (D.view disk.new).size }
     ensures any_moment { IsTrue (D.view disk.old).honest
         → LeavesOnly (D.view disk.old) (D.view disk.new)
         (IsAllOrNone (frames_of (D.view disk.old).seen)) }
-    ensures cause { OnErr result (Rose (D.view disk.old).faults (D.view disk.new).faults) }
+    ensures no_fault { OnOk result (HasNoFault (D.view disk.old) (D.view disk.new)) }
+    ensures fails { OnErr result (Fails 1 2 (D.view disk.old) (D.view disk.new)) }
 {
     write_safely(disk, FIRST_GATE, &[0])
 }
 
-/// Writes the header of a new file, which is no longer than it.
+/// Writes the header of a new file, which is no longer than it. The room was reserved.
 pub fn write_header<D: Disk>(disk: &mut D) -> Result<(), Failed>
     requires size { (D.view disk.old).size ≤ 9 }
     requires safe { IsTrue (D.view disk.old).honest → IsSafe (D.view disk.old) }
+    requires room { 9 ≤ (D.view disk.old).room }
+    requires calls { 2 ≤ (D.view disk.old).calls }
     ensures takes { Takes 9 2 (D.view disk.old) (D.view disk.new) }
     ensures seen { OnOk result (IsTrue (D.view disk.old).honest → (D.view disk.new).seen ≡ header) }
     ensures settled { OnOk result (IsTrue (D.view disk.old).honest → IsSettled (D.view disk.new) 8) }
@@ -102,7 +106,8 @@ pub fn write_header<D: Disk>(disk: &mut D) -> Result<(), Failed>
     ensures size { OnOk result (8 < (D.view disk.new).size) }
     ensures any_moment { IsTrue (D.view disk.old).honest
         → LeavesOnly (D.view disk.old) (D.view disk.new) (IsLikeAnImage (D.view disk.old)) }
-    ensures cause { OnErr result (Rose (D.view disk.old).faults (D.view disk.new).faults) }
+    ensures no_fault { OnOk result (HasNoFault (D.view disk.old) (D.view disk.new)) }
+    ensures fails { OnErr result (Fails 9 2 (D.view disk.old) (D.view disk.new)) }
 {
     write_safely(disk, 0, &HEADER)
 }

@@ -1,4 +1,4 @@
-/// Where the body of a frame stands in the file, and its length in bytes.
+/// The offset of a frame's body in the file, and its length in bytes.
 #[derive(Clone, Copy, Debug)]
 pub struct Spot {
     pub at: u64,

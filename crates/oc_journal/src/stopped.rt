@@ -7,12 +7,12 @@ ghost use Rattle.oc_journal.specs.Stopped.{IsCut, frames_after, left_of, image_o
 use crate::frame::Frame;
 use oc_outside::{Disk, Failed, MemDisk};
 
-/// Writes a frame behind the frames, which end at that place, and opens the gate before it, by the
+/// Writes a frame behind the frames, which end at that offset, and opens the gate before it, by the
 /// calls of `append`; stops where the disk does, and crashes.
 pub fn write_until_stop(mut disk: MemDisk, end: u64, frame: &Frame) -> MemDisk
     requires stop { IsSome disk.failing.stop }
     requires left { left_of disk.failing.stop ≤ 4 }
-    requires no_fault { disk.failing.listed ≡ [] }
+    requires no_fault { disk.failing.calls.listed ≡ [] }
     requires settled { IsSettled (view_of disk) end }
     requires size { end < length disk.bytes }
     requires fits { end < 2 ^ 63 }
@@ -34,7 +34,7 @@ pub fn write_until_stop(mut disk: MemDisk, end: u64, frame: &Frame) -> MemDisk
 /// Writes and syncs, up to the stop.
 fn write_and_sync(disk: &mut MemDisk, at: u64, bytes: &[u8]) -> Result<(), Failed>
     requires stop { IsSome disk.old.failing.stop }
-    requires no_fault { disk.old.failing.listed ≡ [] }
+    requires no_fault { disk.old.failing.calls.listed ≡ [] }
     requires within { at ≤ length disk.old.bytes }
     requires room { length bytes.now ≤ disk.old.room }
     requires calls { 2 ≤ disk.old.calls }

@@ -2,25 +2,24 @@ use Rattle.std.proofs.Common.{◌≡◌, ◌≤◌, IsTrue, false, length, ◌�
 use Rattle.std.proofs.lemmas.Result.{IfOk-weaker}
 use Rattle.oc_outside.proofs.DiskMoments.{still_honest}
 use Rattle.oc_journal.specs.JournalFile.{frames_of, header, IsNoJournal}
-use Rattle.oc_journal.specs.JournalView.{at_spots, IsFound, IsIndexed}
-use Rattle.oc_journal.proofs.Loads.{like_run, IsSafe-stays, IsIndexed-found, found-frames, found-journal}
+use Rattle.oc_journal.specs.JournalView.{at_spots, IsIndexed}
+use Rattle.oc_journal.specs.Scanning.{IsFound}
+use Rattle.oc_journal.proofs.Loads.{LoadsSafely-then, IsSafe-stays, IsIndexed-found, found-frames, found-journal}
 use Rattle.oc_journal.proofs.loading.find.Goals as goal
 
-pub returns-in_err-write_header-clause-any_moment : goal.returns-in_err-write_header-clause-any_moment
-returns-in_err-write_header-clause-any_moment g c = λ honest.
+pub returns-in_err-write_header-clause-safely : goal.returns-in_err-write_header-clause-safely
+returns-in_err-write_header-clause-safely g c =
     let u = g.D.Disk.view c.args.disk.now in
     let v = g.D.Disk.view c.make_safe.new.disk in
     let w = g.D.Disk.view c.write_header.new.disk in
-    let h = still_honest u v c.make_safe.ensures.goes_on honest in
-    like_run u v w (c.make_safe.ensures.any_moment honest) (g.met.D.Disk.consistent c.make_safe.new.disk h) (c.write_header.ensures.any_moment h)
+    LoadsSafely-then u v w c.make_safe.ensures.safely (λ h. g.met.D.Disk.consistent c.make_safe.new.disk h) (record { goes_on = c.write_header.ensures.takes.goes_on; any_moment = c.write_header.ensures.any_moment })
 
-pub returns-then-size-le-HEADER_LEN-clause-any_moment : goal.returns-then-size-le-HEADER_LEN-clause-any_moment
-returns-then-size-le-HEADER_LEN-clause-any_moment g c = λ honest.
+pub returns-then-size-le-HEADER_LEN-clause-safely : goal.returns-then-size-le-HEADER_LEN-clause-safely
+returns-then-size-le-HEADER_LEN-clause-safely g c =
     let u = g.D.Disk.view c.args.disk.now in
     let v = g.D.Disk.view c.make_safe.new.disk in
     let w = g.D.Disk.view c.write_header.new.disk in
-    let h = still_honest u v c.make_safe.ensures.goes_on honest in
-    like_run u v w (c.make_safe.ensures.any_moment honest) (g.met.D.Disk.consistent c.make_safe.new.disk h) (c.write_header.ensures.any_moment h)
+    LoadsSafely-then u v w c.make_safe.ensures.safely (λ h. g.met.D.Disk.consistent c.make_safe.new.disk h) (record { goes_on = c.write_header.ensures.takes.goes_on; any_moment = c.write_header.ensures.any_moment })
 
 pub returns-clause-indexed : goal.returns-clause-indexed
 returns-clause-indexed g c =
@@ -30,7 +29,7 @@ returns-clause-indexed g c =
     let read = c.check_magic.ensures.stays in
     let scanned = c.find_frames.ensures.stays in
     let u = g.D.Disk.view c.args.disk.now in
-    let first = c.make_safe.ensures.goes_on in
+    let first = c.make_safe.ensures.safely.goes_on in
     IfOk-weaker c.find_frames.result (λ index. IsFound m index.spots.items index.end) (λ index. IsIndexed w index.spots.items index.end false)
     (λ index found. IsIndexed-found m w index.spots.items index.end found scanned.goes_on.honest c.find_frames.ensures.size scanned.seen
     (λ h. let back = subst (λ b. IsTrue b) (read.goes_on.honest ∙ first.honest) h in
@@ -46,7 +45,7 @@ returns-clause-frames g c =
     let w = g.D.Disk.view c.find_frames.new.disk in
     let read = c.check_magic.ensures.stays in
     let scanned = c.find_frames.ensures.stays in
-    let first = c.make_safe.ensures.goes_on in
+    let first = c.make_safe.ensures.safely.goes_on in
     IfOk-weaker c.find_frames.result (λ index. IsFound m index.spots.items index.end) (λ index. IsTrue u.honest → at_spots w.seen index.spots.items ≡ frames_of u.seen)
     (λ index found honest. let k = still_honest u v first honest in
     let h = still_honest v m read.goes_on k in
@@ -62,7 +61,7 @@ returns-clause-journal g c =
     let w = g.D.Disk.view c.find_frames.new.disk in
     let read = c.check_magic.ensures.stays in
     let scanned = c.find_frames.ensures.stays in
-    let first = c.make_safe.ensures.goes_on in
+    let first = c.make_safe.ensures.safely.goes_on in
     IfOk-weaker c.find_frames.result (λ index. IsFound m index.spots.items index.end) (λ _. IsTrue u.honest → ¬ IsNoJournal u.seen)
     (λ index found honest. let k = still_honest u v first honest in
     let h = still_honest v m read.goes_on k in
@@ -77,7 +76,7 @@ returns-clause-header g c =
     let m = g.D.Disk.view c.check_magic.new.disk in
     let w = g.D.Disk.view c.find_frames.new.disk in
     IfOk-weaker c.find_frames.result (λ index. IsFound m index.spots.items index.end) (λ _. IsTrue u.honest → length u.seen ≤ 9 → w.seen ≡ header)
-    (λ index found honest small. let k = still_honest u v c.make_safe.ensures.goes_on honest in
+    (λ index found honest small. let k = still_honest u v c.make_safe.ensures.safely.goes_on honest in
     let law = g.met.D.Disk.consistent c.make_safe.new.disk k in
     absurd (omega (arith, c.if-size-le-HEADER_LEN.false, c.in_ok-size.ensures.size, law.size, ap length (c.make_safe.ensures.seen honest), small)))
     c.find_frames.ensures.found

@@ -3,7 +3,7 @@ use Rattle.std.specs.Result.{IsErrOf}
 use Rattle.std.proofs.lemmas.Result.{err_from_is_err_and}
 use Rattle.oc_journal.specs.declared.spot.Spot.{Spot}
 use Rattle.oc_outside.proofs.DiskMoments.{still_honest, StaysAsItWas-then, StaysAsItWas-none}
-use Rattle.oc_journal.specs.JournalView.{IsGate, IsBrokenAt, IsScanned}
+use Rattle.oc_journal.specs.Scanning.{IsGate, IsBrokenAt, IsScanned}
 use Rattle.oc_journal.proofs.Gates.{IsGate-earlier, IsScanned-start, IsScanned-more, IsFound-shut, IsNoJournal-broken}
 use Rattle.oc_journal.proofs.loading.find_frames.Goals as goal
 
@@ -13,10 +13,11 @@ loop-spots-init g c =
     record {
       scanned = IsScanned-start v c.new-spots.result.items c.new-spots.ensures.items (omega (arith, c.requires.size, c.requires.long)) c.requires.magic;
       stays = StaysAsItWas-none v;
+      no_fault = refl;
       size = refl;
     }
 
--- an error with a value of another type in its place
+-- an error with a value of another type
 same_error : {A B E : Type 0} (x y : E) → IsErrOf {T = A} {E = E} (Err x) y → IsErrOf {T = B} {E = E} (Err x) y
 same_error x y is = let same : x ≡ y = cc in ap Err same
 
@@ -35,6 +36,7 @@ loop-spots-preserved g c =
       scanned = subst (λ (s : List Spot). IsScanned u s (c.loop-spots.gate + 5 + c.from.result)) (sym c.in_ok-push.ensures.items)
           (IsScanned-more u c.loop-spots.spots.items c.loop-spots.gate c.in-Some.len c.args.size (c.loop-spots.gate + 5 + c.from.result) so_far.scanned (λ h. (law h).size) (omega arith) c.requires.size whole found (omega (arith, c.from.ensures)));
       stays = StaysAsItWas-then u v w law so_far.stays c.in_ok-len.ensures.stays;
+      no_fault = c.in_ok-len.ensures.no_fault ∙ so_far.no_fault;
       size = c.in_ok-len.ensures.size ∙ so_far.size;
     }
 

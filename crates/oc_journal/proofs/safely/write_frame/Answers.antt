@@ -7,19 +7,19 @@ use Rattle.oc_journal.proofs.Blocks.{frames_of-ended}
 use Rattle.oc_journal.proofs.Writes.{both, IsSettled-from, behind_torn, gate_torn, gate_ends, gate_body, torn_seen}
 use Rattle.oc_journal.proofs.safely.write_frame.Goals as goal
 
--- what a torn write leaves before its place
-before_place : (v w : DiskView) (end at n : ℕ) → at ≡ end + 1 → IsTorn at n v.seen w.seen → take end w.seen ≡ take end v.seen
-before_place v w end at n is torn =
+-- what a torn write leaves before its range
+before_range : (v w : DiskView) (end at n : ℕ) → at ≡ end + 1 → IsTorn at n v.seen w.seen → take end w.seen ≡ take end v.seen
+before_range v w end at n is torn =
     sym (take-take end at w.seen (omega arith)) ∙ ap (take end) torn.before ∙ take-take end at v.seen (omega arith)
 
--- the first write, whole or torn, leaves what stands before the gate
+-- the first write, whole or torn, leaves what is before the gate
 pub returns-in_err-write_safely-clause-front : goal.returns-in_err-write_safely-clause-front
 returns-in_err-write_safely-clause-front g c = λ honest.
     let v = g.D.Disk.view c.args.disk.now in
     let m = g.D.Disk.view c.write_safely.new.disk in
     let law = g.met.D.Disk.consistent c.write_safely.new.disk (still_honest v m c.write_safely.ensures.takes.goes_on honest) in
     let run = c.write_safely.ensures.any_moment honest (c.requires.settled honest).safe in
-    before_place v m c.args.end (c.args.end + 1) (length c.bytes.result.now) (omega arith) (torn_seen v m _ _ run law)
+    before_range v m c.args.end (c.args.end + 1) (length c.bytes.result.now) (omega arith) (torn_seen v m _ _ run law)
 
 pub returns-in_err-write_safely-clause-any_moment : goal.returns-in_err-write_safely-clause-any_moment
 returns-in_err-write_safely-clause-any_moment g c = λ honest.
@@ -39,7 +39,7 @@ returns-clause-front g c = λ honest.
     let run = c.write_safely.ensures.any_moment honest (c.requires.settled honest).safe in
     let run_2 = c.write_safely-2.ensures.any_moment honest_m (c.in_ok-write_safely.ensures.safe honest) in
     (torn_seen m w c.args.end 1 run_2 (g.met.D.Disk.consistent c.write_safely-2.new.disk honest_w)).before
-    ∙ before_place v m c.args.end (c.args.end + 1) (length c.bytes.result.now) (omega arith) (torn_seen v m _ _ run (g.met.D.Disk.consistent c.write_safely.new.disk honest_m))
+    ∙ before_range v m c.args.end (c.args.end + 1) (length c.bytes.result.now) (omega arith) (torn_seen v m _ _ run (g.met.D.Disk.consistent c.write_safely.new.disk honest_m))
 
 pub returns-clause-any_moment : goal.returns-clause-any_moment
 returns-clause-any_moment g c = λ honest.

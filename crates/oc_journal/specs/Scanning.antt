@@ -1,0 +1,36 @@
+-- What is found of a file from gate to gate.
+use Rattle.std.specs.Prelude.{◌≡◌, ◌≢◌, ℕ, ◌+◌, ◌<◌, ◌≤◌, false, IsTrue, List, [], ◌∷◌, ◌++◌, take, drop, get_or, Option, None, Some}
+use Rattle.std.specs.Int.{w32, to_be_bytes}
+use Rattle.std.specs.List.{All}
+use Rattle.oc_outside.specs.DiskView.{DiskView}
+use Rattle.oc_journal.specs.JournalFile.{magic, blocks, is_whole, AreShort, EndsAt}
+use Rattle.oc_journal.specs.JournalView.{at_spots}
+use Rattle.oc_journal.specs.declared.spot.Spot.{Spot}
+
+-- These spots were found before a gate. Each is behind the first gate and before this one, which is the first where there is none.
+pub record IsScanned (v : DiskView) (spots : List Spot) (gate : ℕ) : Type 0 where
+  pub within : All (λ spot. (9 ≤ spot.at) × (spot.at + spot.len ≤ gate)) spots
+  pub start : 8 ≤ gate
+  pub first : spots ≡ [] → gate ≡ 8
+  pub size : gate < v.size
+  pub front : IsTrue v.honest → take gate v.seen ≡ magic ++ blocks (at_spots v.seen spots)
+  pub short : IsTrue v.honest → AreShort (at_spots v.seen spots)
+
+-- the file is the frames at these spots and a gate that is not open
+pub record IsFound (v : DiskView) (spots : List Spot) (end : ℕ) : Type 0 where
+  pub within : All (λ spot. (9 ≤ spot.at) × (spot.at + spot.len ≤ end)) spots
+  pub start : 8 ≤ end
+  pub first : spots ≡ [] → end ≡ 8
+  pub size : end < v.size
+  pub ends : IsTrue v.honest → EndsAt v.seen (at_spots v.seen spots) end
+
+-- what is read at a gate: it is not open, or it is open and a frame with a body of this length is whole behind it
+abbrev pub IsGate : List ℕ → ℕ → Option ℕ → Type 0
+IsGate file gate None = get_or file gate 0 ≢ 1
+IsGate file gate (Some len) = drop gate file ≡ 1 ∷ (to_be_bytes w32 len ++ drop (gate + 5) file)
+
+-- the gate is open, and no frame is whole behind it
+pub record IsBrokenAt (file : List ℕ) (gate : ℕ) : Type 0 where
+  pub rest : List ℕ
+  pub gate_open : drop gate file ≡ 1 ∷ rest
+  pub cut : is_whole rest ≡ false

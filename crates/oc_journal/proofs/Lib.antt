@@ -6,3 +6,4 @@ pub mod Spots
 pub mod Gates
 pub mod Loads
 pub mod AfterStop
+pub mod ReadRuns

@@ -39,6 +39,11 @@ pub record OnlyReads {D : Type 0} (view : D → DiskView) (old new : JournalView
   pub end : new.end ≡ old.end
   pub spare : old.spare ≤ new.spare
 
+-- no call of the disk failed, so the journal is as open as it was
+pub record NoneFailed {D : Type 0} (view : D → DiskView) (old new : JournalView D) : Type 0 where
+  pub closed : new.closed ≡ old.closed
+  pub no_fault : HasNoFault (view old.disk) (view new.disk)
+
 -- a read that failed, which closes the journal
 pub record ClosesByRead {D : Type 0} (view : D → DiskView) (old new : JournalView D) : Type 0 where
   pub fails : FailsToRead (view old.disk) (view new.disk)

@@ -3,7 +3,7 @@ ghost use Rattle.oc_outside.specs.DiskView.{StaysAsItWas, CannotFail, FailsToRea
 ghost use Rattle.oc_outside.specs.MemDiskView.{disk_of};
 ghost use Rattle.oc_journal.specs.JournalFile.{frames_of, end_of, IsNoJournal};
 ghost use Rattle.oc_journal.specs.JournalView.{HasFrames};
-ghost use Rattle.oc_journal.specs.Promises.{IsLoaded, LoadsSafely, RefusesLoad, OnlyReads, ClosesByRead, HasRoom, IsFullFor, Appends, AppendsSafely, ClosesByAppend, Restarts, RestartsSafely, ClosesByRestart};
+ghost use Rattle.oc_journal.specs.Promises.{IsLoaded, LoadsSafely, RefusesLoad, OnlyReads, NoneFailed, ClosesByRead, HasRoom, IsFullFor, Appends, AppendsSafely, ClosesByAppend, Restarts, RestartsSafely, ClosesByRestart};
 ghost use Rattle.oc_journal.specs.Stopped.{frames_after};
 
 use crate::errors::{AppendError, FrameError, LoadError, PeekError, RestartError};
@@ -99,8 +99,7 @@ impl<D: Disk> Journal<D> {
     pub fn reserve(&mut self, frame: &Frame) -> Result<(), Memory>
         ensures room { OnOk result (HasRoom D.view self.new (length frame.now)) }
         ensures same { OnlyReads D.view self.old self.new }
-        ensures open { self.new.closed ≡ self.old.closed }
-        ensures no_fault { HasNoFault (D.view self.old.disk) (D.view self.new.disk) }
+        ensures none_failed { NoneFailed D.view self.old self.new }
     {
         self.spots.reserve(1)?;
         self.disk.reserve(u64::from(frame.body_len()) + 7)?;
@@ -184,7 +183,7 @@ impl<D: Disk> Journal<D> {
         ensures absent { IfOk result (λ found. found ≡ false → into.new.items ≡ into.old.items) }
         ensures memory { IsErrOf result FrameError.Memory → into.new.items ≡ into.old.items }
         ensures disk { IsErrOf result FrameError.Disk → ClosesByRead D.view self.old self.new }
-        ensures open { ¬ IsErrOf result FrameError.Disk → self.new.closed ≡ self.old.closed }
+        ensures none_failed { ¬ IsErrOf result FrameError.Disk → NoneFailed D.view self.old self.new }
         ensures same { OnlyReads D.view self.old self.new }
 
         // On a reliable disk it is read.
@@ -215,7 +214,7 @@ impl<D: Disk> Journal<D> {
         ensures bytes { IfOk result (λ n. IsTrue (D.view self.old.disk).honest
             → take n buf.new ≡ take n (drop skip (get_or self.old.frames index []))) }
         ensures disk { OnErr result (ClosesByRead D.view self.old self.new) }
-        ensures open { OnOk result (self.new.closed ≡ self.old.closed) }
+        ensures none_failed { OnOk result (NoneFailed D.view self.old self.new) }
         ensures same { OnlyReads D.view self.old self.new }
 
         // On a reliable disk they are read.
@@ -274,6 +273,7 @@ fn read_part<D: Disk>(disk: &mut D, at: u64, count: usize, buf: &mut [u8]) -> Re
         → take n buf.new ≡ take n (drop at (D.view disk.old).seen)) }
     ensures size { (D.view disk.new).size ≡ (D.view disk.old).size }
     ensures stays { StaysAsItWas (D.view disk.old) (D.view disk.new) }
+    ensures no_fault { OnOk result (HasNoFault (D.view disk.old) (D.view disk.new)) }
     ensures fails { OnErr result (FailsToRead (D.view disk.old) (D.view disk.new)) }
 {
     disk.read_at(at, &mut buf[..count])

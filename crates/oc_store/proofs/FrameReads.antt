@@ -2,32 +2,10 @@
 use Rattle.std.proofs.Common.{◌≡◌, ℕ, suc, ◌+◌, ◌<◌, ◌≤◌, IsTrue, IsErr, List, [], ◌∷◌, ◌++◌, length, drop, get_or, option_map, Option, None, Some, Result, Ok, Err, refl, sym, ap, ◌∙◌, append_assoc, arith}
 use Rattle.std.proofs.lemmas.List.{append-nil, drop_more, length-drop, nil_from_length}
 use Rattle.std.proofs.lemmas.List.Concat.{flat_map-cons, flat_map-append}
-use Rattle.oc_outside.specs.DiskView.{DiskView, StaysAsItWas, LeavesOnly, IsConsistent}
-use Rattle.oc_outside.proofs.DiskMoments.{LeavesOnly-then, LeavesOnly-stays, LeavesOnly-now, StaysAsItWas-none, StaysAsItWas-then, still_honest}
-use Rattle.oc_journal.specs.JournalView.{JournalView, OnlyReads, HasFrames, IsLikeAnImage}
 use Rattle.oc_model.specs.declared.record.Record.{Record}
 use Rattle.oc_record.specs.declared.fault.RecordFault.{RecordFault}
 use Rattle.oc_record.specs.Reading.{decoded}
 use Rattle.oc_store.specs.ControlFiles.{or_none, records_in, records_of, bad_or, first_bad}
-
--- no read at all
-pub OnlyReads-none : {D : Type 0} (view : D → DiskView) (u : JournalView D) → OnlyReads view u u
-OnlyReads-none view u = record { disk = StaysAsItWas-none (view u.disk); frames = λ _. refl; count = refl; end = refl; spare = omega arith; closed = refl }
-
--- reads after reads
-pub OnlyReads-then : {D : Type 0} (view : D → DiskView) (u v w : JournalView D) → (IsTrue (view u.disk).honest → IsConsistent (view u.disk)) → OnlyReads view u v → OnlyReads view v w → OnlyReads view u w
-OnlyReads-then view u v w law first second = record {
-  disk = StaysAsItWas-then (view u.disk) (view v.disk) (view w.disk) law first.disk second.disk;
-  frames = λ h. second.frames (still_honest (view u.disk) (view v.disk) first.disk.goes_on h) ∙ first.frames h;
-  count = second.count ∙ first.count;
-  end = second.end ∙ first.end;
-  spare = omega (arith, first.spare, second.spare);
-  closed = second.closed ∙ first.closed;
-}
-
--- reads leave the frames that every crash leaves
-pub HasFrames-reads : {D : Type 0} (view : D → DiskView) (u v : JournalView D) → OnlyReads view u v → IsTrue (view u.disk).honest → HasFrames (view u.disk) u.frames → HasFrames (view v.disk) v.frames
-HasFrames-reads view u v reads honest kept = λ c left. kept c (reads.disk.images honest c left) ∙ sym (reads.frames honest)
 
 -- the frames before a number are read: these are their records, and none of them is bad
 pub record IsRead (nodes : ℕ) (frames : List (List ℕ)) (records : List Record) (number : ℕ) : Type 0 where
@@ -79,11 +57,6 @@ ends_all nodes frames records number le so_far =
       sym (append-nil records) ∙ ap (λ (bodies : List (List ℕ)). records ++ records_of nodes bodies) (sym none) ∙ so_far.whole,
       so_far.good ∙ ap (λ (bodies : List (List ℕ)). option_map (λ k. number + k) (first_bad nodes bodies)) none,
     )
-
--- reads after a load leave the same images
-pub reads_after : (u v w : DiskView) → LeavesOnly u v (IsLikeAnImage u) → IsConsistent v → IsTrue v.honest → StaysAsItWas v w → LeavesOnly u w (IsLikeAnImage u)
-reads_after u v w run law honest stays =
-    LeavesOnly-then u v w (IsLikeAnImage u) run (LeavesOnly-stays v w (IsLikeAnImage u) law honest stays (λ c left. LeavesOnly-now u v (IsLikeAnImage u) run law c left))
 
 -- the records of one frame
 pub one_frame : (nodes : ℕ) (body : List ℕ) → records_of nodes (body ∷ []) ≡ records_in nodes body

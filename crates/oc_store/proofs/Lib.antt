@@ -1,3 +1,4 @@
 pub mod FrameReads
+pub mod Refusals
 pub mod Turns
 pub mod Snapshots

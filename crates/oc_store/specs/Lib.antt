@@ -1,3 +1,4 @@
 pub mod Sides
 pub mod ControlFiles
 pub mod StoreView
+pub mod Promises

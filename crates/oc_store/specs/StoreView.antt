@@ -1,8 +1,8 @@
 -- A store of control records, as a contract sees it.
-use Rattle.std.specs.Prelude.{◌≡◌, ◌⊎◌, ℕ, ◌+◌, ◌^◌, ◌<◌, ◌≤◌, Bool, false, IsTrue, List, [], ◌∷◌}
+use Rattle.std.specs.Prelude.{◌≡◌, ◌⊎◌, ℕ, ◌^◌, ◌<◌, Bool, false, IsTrue, List, [], ◌∷◌}
 use Rattle.oc_outside.specs.DiskView.{DiskView}
 use Rattle.oc_journal.specs.JournalFile.{frames_of}
-use Rattle.oc_journal.specs.JournalView.{JournalView, HasFrames, OnlyReads}
+use Rattle.oc_journal.specs.JournalView.{JournalView, HasFrames}
 use Rattle.oc_model.specs.declared.record.Record.{Record}
 use Rattle.oc_model.specs.declared.record.Record.TheVariants.{Snapshot}
 use Rattle.oc_store.specs.declared.errors.Side.{Side}
@@ -57,26 +57,3 @@ BeginsAbove generation (r ∷ records) = ⊥
 -- a file with these frames, with none, or with the new one alone
 abbrev pub IsReplaced : List (List ℕ) → List ℕ → List ℕ → Type 0
 IsReplaced frames body file = (frames_of file ≡ frames) ⊎ (frames_of file ≡ []) ⊎ (frames_of file ≡ body ∷ [])
-
--- room for a frame of a body of n bytes
-pub record HasRoom {D : Type 0} (view : D → DiskView) (journal : JournalView D) (n : ℕ) : Type 0 where
-  pub spare : 0 < journal.spare
-  pub room : n + 7 ≤ (view journal.disk).room
-  pub calls : 16 ≤ (view journal.disk).calls
-  pub within : journal.end < (view journal.disk).size
-
--- a call that read or reserved, in the current file alone
-pub record ReadsCurrent {D : Type 0} (view : D → DiskView) (old new : StoreView D) : Type 0 where
-  pub current : OnlyReads view old.current new.current
-  pub other : new.other ≡ old.other
-  pub side : new.side ≡ old.side
-  pub generation : new.generation ≡ old.generation
-  pub closed : new.closed ≡ old.closed
-
--- a call that read or reserved, in the other file alone
-pub record ReadsOther {D : Type 0} (view : D → DiskView) (old new : StoreView D) : Type 0 where
-  pub current : new.current ≡ old.current
-  pub other : OnlyReads view old.other new.other
-  pub side : new.side ≡ old.side
-  pub generation : new.generation ≡ old.generation
-  pub closed : new.closed ≡ old.closed

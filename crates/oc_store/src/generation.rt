@@ -1,6 +1,5 @@
-ghost use Rattle.std.specs.Prelude.{◌≡◌, ◌<◌, [], length, IsTrue, IfOk, IsErrOf};
-ghost use Rattle.oc_outside.specs.Faults.{Rose};
-ghost use Rattle.oc_journal.specs.JournalView.{OnlyReads};
+ghost use Rattle.std.specs.Prelude.{◌≡◌, ◌<◌, [], length, IsTrue, IfOk, IsErrOf, OnOk};
+ghost use Rattle.oc_journal.specs.Promises.{OnlyReads, NoneFailed, ClosesByRead};
 ghost use Rattle.oc_store.specs.ControlFiles.{generation_in, generation_of};
 
 use oc_base::{take_u8, take_u64};
@@ -22,7 +21,7 @@ pub fn generation_in(body: &[u8]) -> u64
     }
 }
 
-/// That of the body of a frame.
+/// The generation of the snapshot that begins a frame, or 0.
 pub fn generation_in_frame(frame: &Frame) -> u64
     ensures { result ≡ generation_in frame.now }
 {
@@ -38,8 +37,8 @@ pub fn generation_of<D: Disk>(
     ensures generation { IfOk result (λ generation. IsTrue (D.view journal.old.disk).honest
         → generation ≡ generation_of journal.old.frames) }
     ensures same { OnlyReads D.view journal.old journal.new }
-    ensures disk { IsErrOf result FrameError.Disk
-        → Rose (D.view journal.old.disk).faults (D.view journal.new.disk).faults }
+    ensures disk { IsErrOf result FrameError.Disk → ClosesByRead D.view journal.old journal.new }
+    ensures none_failed { OnOk result (NoneFailed D.view journal.old journal.new) }
 {
     let mut body = Vec::new(alloc);
     if journal.frame(0, &mut body)? {

@@ -1,10 +1,9 @@
-ghost use Rattle.std.specs.Prelude.{◌≡◌, ℕ, ◌<◌, [], false, length, get_or, IsTrue, IsErrOf, IsErr, IfOk, IfErr, OnOk, OnErr};
-ghost use Rattle.oc_outside.specs.DiskView.{GoesOn, LeavesOnly};
-ghost use Rattle.oc_outside.specs.Faults.{Rose};
-ghost use Rattle.oc_journal.specs.JournalFile.{frames_of, IsNoJournal};
-ghost use Rattle.oc_journal.specs.JournalView.{OnlyReads, HasFrames, IsLikeAnImage};
+ghost use Rattle.std.specs.Prelude.{◌≡◌, ℕ, ◌<◌, [], length, get_or, IsTrue, IsErr, IfOk, IfErr, OnOk};
+ghost use Rattle.oc_journal.specs.JournalFile.{frames_of};
+ghost use Rattle.oc_journal.specs.Promises.{IsLoaded, LoadsSafely, OnlyReads, NoneFailed, ClosesByRead};
 ghost use Rattle.oc_record.specs.Reading.{decoded};
 ghost use Rattle.oc_store.specs.ControlFiles.{records_of, first_bad, generation_of};
+ghost use Rattle.oc_store.specs.Promises.{HasGood, RefusesFile};
 ghost use Rattle.oc_store.specs.declared.errors.SideError.TheVariants.{NotJournal as SideNotJournal, Disk as SideDisk, BadFrame as SideBadFrame};
 
 use crate::errors::SideError;
@@ -37,34 +36,16 @@ pub fn load_file<D: Disk>(
     disk: D,
     nodes: u32,
 ) -> Result<ControlFile<D>, (D, SideError)>
-    // The frames are those of what a read gave, the list is all their records, and every crash leaves them.
-    ensures frames { IfOk result (λ file. IsTrue (D.view disk).honest
-        → file.journal.frames ≡ frames_of (D.view disk).seen) }
+    ensures loaded { IfOk result (λ file. IsLoaded D.view disk file.journal) }
     ensures list { IfOk result (λ file. IsTrue (D.view disk).honest
         → file.contents.list.items ≡ records_of nodes (frames_of (D.view disk).seen)) }
     ensures generation { IfOk result (λ file. IsTrue (D.view disk).honest
         → file.contents.generation ≡ generation_of (frames_of (D.view disk).seen)) }
-    ensures kept { IfOk result (λ file. IsTrue (D.view disk).honest
-        → HasFrames (D.view file.journal.disk) file.journal.frames) }
-    ensures open { IfOk result (λ file. file.journal.closed ≡ false) }
-
-    // At every moment a crash leaves the frames that a crash at the start would have left.
-    ensures any_moment { IfOk result (λ file. IsTrue (D.view disk).honest
-        → LeavesOnly (D.view disk) (D.view file.journal.disk) (IsLikeAnImage (D.view disk))) }
-    ensures any_moment_err { IfErr result (λ refused. IsTrue (D.view disk).honest
-        → LeavesOnly (D.view disk) (D.view refused.0) (IsLikeAnImage (D.view disk))) }
-    ensures goes_on { IfOk result (λ file. GoesOn (D.view disk) (D.view file.journal.disk)) }
-    ensures goes_on_err { IfErr result (λ refused. GoesOn (D.view disk) (D.view refused.0)) }
-
-    // When it refuses.
-    ensures journal { OnOk result (IsTrue (D.view disk).honest → ¬ IsNoJournal (D.view disk).seen) }
-    ensures good { OnOk result (IsTrue (D.view disk).honest → first_bad nodes (frames_of (D.view disk).seen) ≡ None) }
-    ensures not_journal { IfErr result (λ refused. refused.1 ≡ SideNotJournal → IsTrue (D.view disk).honest
-        → IsNoJournal (D.view disk).seen) }
-    ensures bad_frame { IfErr result (λ refused. (number : ℕ) → refused.1 ≡ SideBadFrame number → IsTrue (D.view disk).honest
-        → (¬ IsNoJournal (D.view disk).seen) × (first_bad nodes (frames_of (D.view disk).seen) ≡ Some number)) }
-    ensures disk { IfErr result (λ refused. refused.1 ≡ SideDisk
-        → Rose (D.view disk).faults (D.view refused.0).faults) }
+    ensures good { OnOk result (HasGood nodes (D.view disk)) }
+    ensures safely { IfOk result (λ file. LoadsSafely (D.view disk) (D.view file.journal.disk)) }
+    ensures safely_err { IfErr result (λ refused. LoadsSafely (D.view disk) (D.view refused.0)) }
+    ensures refuses { IfErr result
+        (λ refused. RefusesFile nodes (D.view disk) (D.view refused.0) refused.1) }
 {
     let mut journal = match Journal::load(alloc, disk) {
         Ok(journal) => journal,
@@ -87,8 +68,8 @@ fn read<D: Disk>(alloc: Global, nodes: u32, journal: &mut Journal<D>) -> Result<
     ensures bad_frame { IfErr result (λ error. (number : ℕ) → error ≡ SideBadFrame number → IsTrue (D.view journal.old.disk).honest
         → first_bad nodes journal.old.frames ≡ Some number) }
     ensures journal { IfErr result (λ error. error ≡ SideNotJournal → ⊥) }
-    ensures disk { IfErr result (λ error. error ≡ SideDisk
-        → Rose (D.view journal.old.disk).faults (D.view journal.new.disk).faults) }
+    ensures disk { IfErr result (λ error. error ≡ SideDisk → ClosesByRead D.view journal.old journal.new) }
+    ensures none_failed { OnOk result (NoneFailed D.view journal.old journal.new) }
     ensures same { OnlyReads D.view journal.old journal.new }
 {
     let generation = generation_of(alloc, journal)?;
@@ -109,8 +90,8 @@ fn read_all<D: Disk>(
     ensures bad_frame { IfErr result (λ error. (number : ℕ) → error ≡ SideBadFrame number → IsTrue (D.view journal.old.disk).honest
         → first_bad nodes journal.old.frames ≡ Some number) }
     ensures journal { IfErr result (λ error. error ≡ SideNotJournal → ⊥) }
-    ensures disk { IfErr result (λ error. error ≡ SideDisk
-        → Rose (D.view journal.old.disk).faults (D.view journal.new.disk).faults) }
+    ensures disk { IfErr result (λ error. error ≡ SideDisk → ClosesByRead D.view journal.old journal.new) }
+    ensures none_failed { OnOk result (NoneFailed D.view journal.old journal.new) }
     ensures same { OnlyReads D.view journal.old journal.new }
 {
     let mut list = Vec::new(alloc);
@@ -135,8 +116,8 @@ fn read_frame<D: Disk>(
         → (bad ≡ number) × (IsTrue (D.view journal.old.disk).honest
         → IsErr (decoded nodes (get_or journal.old.frames number [])))) }
     ensures journal { IfErr result (λ error. error ≡ SideNotJournal → ⊥) }
-    ensures disk { IfErr result (λ error. error ≡ SideDisk
-        → Rose (D.view journal.old.disk).faults (D.view journal.new.disk).faults) }
+    ensures disk { IfErr result (λ error. error ≡ SideDisk → ClosesByRead D.view journal.old journal.new) }
+    ensures none_failed { OnOk result (NoneFailed D.view journal.old journal.new) }
     ensures same { OnlyReads D.view journal.old journal.new }
 {
     let mut body = Vec::new(alloc);

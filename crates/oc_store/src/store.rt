@@ -1,32 +1,25 @@
-ghost use Rattle.std.specs.Prelude.{◌≡◌, ◌↔◌, ◌⊎◌, ℕ, ◌+◌, ◌-◌, ◌^◌, ◌<◌, ◌≤◌, List, [], ◌∷◌, ◌++◌, false, true, length, IsTrue, IsErrOf, OnOk, OnErr, IfOk, IfErr};
-ghost use Rattle.oc_outside.specs.DiskView.{GoesOn, Takes, LeavesOnly};
-ghost use Rattle.oc_outside.specs.Faults.{Rose};
+ghost use Rattle.std.specs.Prelude.{◌≡◌, ◌≢◌, ◌↔◌, ℕ, ◌+◌, ◌-◌, ◌^◌, ◌<◌, ◌≤◌, [], ◌∷◌, false, length, IsTrue, IsOk, IsErrOf, OnOk, IfOk, IfErr};
+ghost use Rattle.oc_outside.specs.DiskView.{CannotFail};
 ghost use Rattle.oc_outside.specs.MemDiskView.{disk_of};
-ghost use Rattle.oc_journal.specs.JournalFile.{frames_of, IsNoJournal};
-ghost use Rattle.oc_journal.specs.JournalView.{HasFrames, IsLikeAnImage};
+ghost use Rattle.oc_journal.specs.JournalView.{HasFrames};
+ghost use Rattle.oc_journal.specs.Promises.{HasRoom, IsFullFor};
 ghost use Rattle.oc_journal.specs.Stopped.{frames_after};
-ghost use Rattle.oc_model.specs.declared.record.Record.{Record as RecordOf};
 ghost use Rattle.oc_record.specs.Spelling.{records_bytes, HaveSpellings};
-ghost use Rattle.oc_store.specs.ControlFiles.{generation_in, generation_of, number_of, current_side, at_side, recovered_frames, recovered, IsGood, IsBadAt};
-ghost use Rattle.oc_store.specs.Sides.{opposite};
-ghost use Rattle.oc_store.specs.StoreView.{StoreView, first_disk, second_disk, AreHonest, Recovers, RecoversEither, BeginsAbove, HasRoom, ReadsCurrent, ReadsOther};
-ghost use Rattle.oc_store.specs.declared.errors.StoreError.TheVariants.{Disk as StoreDisk, NotJournal as StoreNotJournal, BadFrame as StoreBadFrame};
-ghost use Rattle.oc_store.specs.declared.errors.Side.TheVariants.{First as OfFirst, Second as OfSecond};
+ghost use Rattle.oc_store.specs.ControlFiles.{generation_in, generation_of, number_of, current_side, at_side, recovered_frames, IsGood};
+ghost use Rattle.oc_store.specs.Promises.{IsStoreOf, LoadBothSafely, RefusesFiles, ReservesCurrent, ReservesOther, Commits, CommitsSafely, ClosesByCommit, TurnsOver, ClosesByTurn};
+ghost use Rattle.oc_store.specs.StoreView.{first_disk, second_disk, AreHonest, Recovers, RecoversEither, BeginsAbove};
 
 use crate::errors::{Side, StoreError};
 use crate::generation::{generation_in_frame, generation_with};
 use crate::loading::{ControlFile, load_file};
 use crate::turning::{framed, is_below, put_in_place};
-use oc_base::Memory;
+use oc_base::{DUE_BYTES, MAX_FRAME_BYTES, MAX_JOURNAL_BYTES, Memory};
 use oc_journal::{AppendError, Frame, Journal, RestartError};
 use oc_outside::{Disk, MemDisk};
-use oc_record::{Record, encode};
+use oc_record::Record;
 use std::alloc::Global;
 use std::marker::Model;
 use std::mem;
-
-/// The place of a file behind which its frames make it due to be turned over, in bytes.
-const LONG: u64 = 262_144;
 
 /// Control records on two journals. A contract sees the journal of the current file and the other one,
 /// which side the current one is, its generation, and whether the store is closed since a disk failed.
@@ -51,56 +44,28 @@ impl<D: Disk> Model for Store<D> {
 }
 
 impl<D: Disk> Store<D> {
-    /// Loads two control files, the first before the second, for so many nodes, and gives the records
-    /// of the current one in order. On a refusal the disks come back.
+    /// Loads two control files of a system of `nodes` nodes, the first before the second, and gives the
+    /// records of the current one in order. On a refusal the disks come back.
     pub fn load(
         alloc: Global,
         first: D,
         second: D,
         nodes: u32,
     ) -> Result<(Store<D>, Vec<Record>), (D, D, StoreError)>
-        // The list is that of what reads gave, and every crash now leaves it.
-        ensures list { IfOk result (λ loaded. IsTrue (D.view first).honest → IsTrue (D.view second).honest
-            → loaded.1.items ≡ recovered nodes (D.view first).seen (D.view second).seen) }
-        ensures frames { IfOk result (λ loaded. IsTrue (D.view first).honest → IsTrue (D.view second).honest
-            → loaded.0.current.frames ≡ recovered_frames (D.view first).seen (D.view second).seen) }
-        ensures side { IfOk result (λ loaded. IsTrue (D.view first).honest → IsTrue (D.view second).honest
-            → loaded.0.side ≡ current_side (frames_of (D.view first).seen) (frames_of (D.view second).seen)) }
-        ensures generation { IfOk result (λ loaded. IsTrue (D.view first).honest → IsTrue (D.view second).honest
-            → loaded.0.generation ≡ number_of (generation_of (recovered_frames (D.view first).seen (D.view second).seen))) }
-        ensures kept { IfOk result (λ loaded. IsTrue (D.view first).honest → IsTrue (D.view second).honest
-            → Recovers D.view loaded.0 (recovered_frames (D.view first).seen (D.view second).seen)) }
-        ensures open { IfOk result (λ loaded. loaded.0.closed ≡ false) }
+        ensures loaded { IfOk result
+            (λ loaded. IsStoreOf D.view nodes first second loaded.0 loaded.1.items) }
+        ensures safely { IfOk result (λ loaded. LoadBothSafely (D.view first) (D.view second)
+            (D.view (first_disk loaded.0)) (D.view (second_disk loaded.0))) }
+        ensures safely_err { IfErr result (λ refused. LoadBothSafely (D.view first) (D.view second)
+            (D.view refused.0) (D.view refused.1)) }
+        ensures refuses { IfErr result (λ refused. RefusesFiles nodes (D.view first) (D.view second)
+            (D.view refused.0) (D.view refused.1) refused.2) }
 
-        // At every moment a crash leaves of each file the frames that a crash at the start would have left.
-        ensures any_moment_first { IfOk result (λ loaded. IsTrue (D.view first).honest
-            → LeavesOnly (D.view first) (D.view (first_disk loaded.0)) (IsLikeAnImage (D.view first))) }
-        ensures any_moment_second { IfOk result (λ loaded. IsTrue (D.view second).honest
-            → LeavesOnly (D.view second) (D.view (second_disk loaded.0)) (IsLikeAnImage (D.view second))) }
-        ensures any_moment_first_err { IfErr result (λ refused. IsTrue (D.view first).honest
-            → LeavesOnly (D.view first) (D.view refused.0) (IsLikeAnImage (D.view first))) }
-        ensures any_moment_second_err { IfErr result (λ refused. IsTrue (D.view second).honest
-            → LeavesOnly (D.view second) (D.view refused.1) (IsLikeAnImage (D.view second))) }
-        ensures goes_on_first { IfOk result (λ loaded. GoesOn (D.view first) (D.view (first_disk loaded.0))) }
-        ensures goes_on_second { IfOk result (λ loaded. GoesOn (D.view second) (D.view (second_disk loaded.0))) }
-        ensures goes_on_first_err { IfErr result (λ refused. GoesOn (D.view first) (D.view refused.0)) }
-        ensures goes_on_second_err { IfErr result (λ refused. GoesOn (D.view second) (D.view refused.1)) }
-
-        // When it refuses: the first file is looked at before the second.
-        ensures good { OnOk result ((IsTrue (D.view first).honest → IsGood nodes (D.view first).seen)
-            × (IsTrue (D.view second).honest → IsGood nodes (D.view second).seen)) }
-        ensures not_journal_first { IfErr result (λ refused. refused.2 ≡ StoreNotJournal OfFirst
-            → IsTrue (D.view first).honest → IsNoJournal (D.view first).seen) }
-        ensures not_journal_second { IfErr result (λ refused. refused.2 ≡ StoreNotJournal OfSecond
-            → (IsTrue (D.view first).honest → IsGood nodes (D.view first).seen)
-            × (IsTrue (D.view second).honest → IsNoJournal (D.view second).seen)) }
-        ensures bad_frame_first { IfErr result (λ refused. (number : ℕ) → refused.2 ≡ StoreBadFrame OfFirst number
-            → IsTrue (D.view first).honest → IsBadAt nodes number (D.view first).seen) }
-        ensures bad_frame_second { IfErr result (λ refused. (number : ℕ) → refused.2 ≡ StoreBadFrame OfSecond number
-            → (IsTrue (D.view first).honest → IsGood nodes (D.view first).seen)
-            × (IsTrue (D.view second).honest → IsBadAt nodes number (D.view second).seen)) }
-        ensures disk { IfErr result (λ refused. refused.2 ≡ StoreDisk
-            → Rose (D.view first).faults (D.view refused.0).faults ⊎ Rose (D.view second).faults (D.view refused.1).faults) }
+        // Good files on reliable disks are loaded.
+        ensures works { IfErr result (λ refused.
+            IsTrue (D.view first).reliable → IsTrue (D.view second).reliable
+            → IsGood nodes (D.view first).seen → IsGood nodes (D.view second).seen
+            → refused.2 ≡ StoreError.Memory) }
     {
         let first = match load_file(alloc, first, nodes) {
             Ok(file) => file,
@@ -132,21 +97,21 @@ impl<D: Disk> Store<D> {
         self.generation
     }
 
-    /// Whether the current file is to be turned over: its frames end past byte 262,144, and a greater
+    /// Whether the current file is to be turned over: its frames end past `DUE_BYTES`, and a greater
     /// generation is left.
     pub fn due(&self) -> bool
-        ensures { IsTrue result ↔ ((262144 < self.now.current.end) × (self.now.generation < 2 ^ 64 - 1)) }
+        ensures { IsTrue result ↔ ((DUE_BYTES < self.now.current.end) × (self.now.generation < 2 ^ 64 - 1)) }
     {
-        self.current.end() > LONG && self.generation < u64::MAX
+        self.current.end() > DUE_BYTES && self.generation < u64::MAX
     }
 
     /// Makes a frame of records, and reserves its room in the current file.
     pub fn prepare(&mut self, list: &[Record]) -> Result<Frame, Memory>
         requires spelled { HaveSpellings list.now }
-        requires fits { length (records_bytes list.now) ≤ 1048576 }
+        requires fits { length (records_bytes list.now) ≤ MAX_FRAME_BYTES }
         ensures frame { IfOk result (λ frame. frame ≡ records_bytes list.now) }
         ensures room { OnOk result (HasRoom D.view self.new.current (length (records_bytes list.now))) }
-        ensures same { ReadsCurrent D.view self.old self.new }
+        ensures same { ReservesCurrent D.view self.old self.new }
     {
         let frame = framed(self.alloc, list)?;
         self.current.reserve(&frame)?;
@@ -158,55 +123,35 @@ impl<D: Disk> Store<D> {
     pub fn prepare_snapshot(&mut self, list: &[Record]) -> Result<Frame, Memory>
         requires above { BeginsAbove self.old.generation list.now }
         requires spelled { HaveSpellings list.now }
-        requires fits { length (records_bytes list.now) ≤ 1048576 }
+        requires fits { length (records_bytes list.now) ≤ MAX_FRAME_BYTES }
         ensures frame { IfOk result (λ frame. frame ≡ records_bytes list.now) }
         ensures above { IfOk result (λ frame. self.old.generation < generation_in frame) }
         ensures room { OnOk result (HasRoom D.view self.new.other (length (records_bytes list.now))) }
-        ensures same { ReadsOther D.view self.old self.new }
+        ensures same { ReservesOther D.view self.old self.new }
     {
         let frame = framed(self.alloc, list)?;
         self.other.reserve(&frame)?;
         Ok(frame)
     }
 
-    /// Appends a frame that was prepared to the current file. After `Disk` the store is closed.
+    /// Appends a frame that was prepared to the current file. It takes no memory. After `Disk` the
+    /// store is closed.
     pub fn commit(&mut self, frame: &Frame) -> Result<(), AppendError>
         requires { 0 < self.old.current.spare }
+        ensures commits { OnOk result (Commits D.view frame.now self.old self.new) }
+        ensures safely { CommitsSafely D.view frame.now self.old self.new }
 
-        // The frame is added, and every crash leaves it.
-        ensures frames { OnOk result (IsTrue (D.view self.old.current.disk).honest
-            → self.new.current.frames ≡ self.old.current.frames ++ frame.now ∷ []) }
-        ensures kept { OnOk result (AreHonest D.view self.old
-            → Recovers D.view self.new (self.old.current.frames ++ frame.now ∷ [])) }
-
-        // At every moment a crash leaves the old frames, or those and the new one.
-        ensures any_moment { self.old.closed ≡ false → AreHonest D.view self.old
-            → RecoversEither D.view self.old self.new self.old.current.frames (self.old.current.frames ++ frame.now ∷ []) }
-        ensures other { self.new.other ≡ self.old.other }
-        ensures side { self.new.side ≡ self.old.side }
-        ensures generation { OnOk result (0 < length self.old.current.frames
-            → self.new.generation ≡ self.old.generation) }
-        ensures generation_first { OnOk result (self.old.current.frames ≡ []
-            → self.new.generation ≡ generation_in frame.now) }
-        ensures end { OnOk result (self.new.current.end ≡ self.old.current.end + 5 + length frame.now) }
-        ensures goes_on { GoesOn (D.view self.old.current.disk) (D.view self.new.current.disk) }
-        ensures four { OnOk result (IsTrue (D.view self.old.current.disk).honest
-            → (D.view self.new.current.disk).moment ≡ (D.view self.old.current.disk).moment + 4) }
-        ensures takes { Takes (length frame.now + 6) 4 (D.view self.old.current.disk) (D.view self.new.current.disk) }
-
-        // When it refuses.
+        // When it refuses, and what it leaves then.
         ensures closed { IsErrOf result AppendError.Closed ↔ IsTrue self.old.closed }
         ensures full { IsErrOf result AppendError.Full
-            ↔ ((self.old.closed ≡ false) × (2 ^ 40 < self.old.current.end + 6 + length frame.now)) }
+            ↔ ((self.old.closed ≡ false) × IsFullFor (length frame.now) self.old.current) }
+        ensures unchanged { IfErr result (λ error. error ≢ AppendError.Disk → self.new ≡ self.old) }
         ensures disk { IsErrOf result AppendError.Disk
-            → Rose (D.view self.old.current.disk).faults (D.view self.new.current.disk).faults }
-        ensures unchanged { IsErrOf result AppendError.Closed → self.new ≡ self.old }
-        ensures unchanged_full { IsErrOf result AppendError.Full → self.new ≡ self.old }
-        ensures closes { IsErrOf result AppendError.Disk → self.new.closed ≡ true }
-        ensures open { OnOk result (self.new.closed ≡ false) }
-        ensures frames_err { OnErr result (IsTrue (D.view self.old.current.disk).honest
-            → self.new.current.frames ≡ self.old.current.frames) }
-        ensures generation_err { OnErr result (self.new.generation ≡ self.old.generation) }
+            → ClosesByCommit D.view frame.now self.old self.new }
+
+        // An open store on a reliable disk with the room takes it.
+        ensures works { self.old.closed ≡ false
+            → CannotFail (length frame.now + 6) 4 (D.view self.old.current.disk) → IsOk result }
     {
         if self.closed {
             return Err(AppendError::Closed);
@@ -231,32 +176,21 @@ impl<D: Disk> Store<D> {
     pub fn turn_over(&mut self, snapshot: &Frame) -> Result<(), RestartError>
         requires spare { 0 < self.old.other.spare }
         requires above { self.old.generation < generation_in snapshot.now }
+        ensures turns { OnOk result (TurnsOver D.view snapshot.now self.old self.new) }
 
-        // The snapshot alone is there, and every crash leaves it.
-        ensures frames { OnOk result (IsTrue (D.view self.old.other.disk).honest
-            → self.new.current.frames ≡ snapshot.now ∷ []) }
-        ensures kept { OnOk result (AreHonest D.view self.old → Recovers D.view self.new (snapshot.now ∷ [])) }
-
-        // At every moment a crash leaves the old frames or the snapshot.
+        // At every moment the old frames are recovered, or the snapshot.
         ensures any_moment { self.old.closed ≡ false → AreHonest D.view self.old
             → RecoversEither D.view self.old self.new self.old.current.frames (snapshot.now ∷ []) }
-        ensures side { OnOk result (self.new.side ≡ opposite self.old.side) }
-        ensures generation { OnOk result (self.new.generation ≡ generation_in snapshot.now) }
-        ensures other { OnOk result (self.new.other ≡ self.old.current) }
-        ensures end { OnOk result (self.new.current.end ≡ 13 + length snapshot.now) }
-        ensures goes_on { OnOk result (GoesOn (D.view self.old.other.disk) (D.view self.new.current.disk)) }
-        ensures goes_on_err { OnErr result (GoesOn (D.view self.old.other.disk) (D.view self.new.other.disk)) }
 
-        // When it refuses.
+        // When it refuses, and what it leaves then.
         ensures closed { IsErrOf result RestartError.Closed ↔ IsTrue self.old.closed }
-        ensures disk { IsErrOf result RestartError.Disk
-            → Rose (D.view self.old.other.disk).faults (D.view self.new.other.disk).faults }
         ensures unchanged { IsErrOf result RestartError.Closed → self.new ≡ self.old }
-        ensures closes { IsErrOf result RestartError.Disk → self.new.closed ≡ true }
-        ensures open { OnOk result (self.new.closed ≡ false) }
-        ensures current_err { OnErr result (self.new.current ≡ self.old.current) }
-        ensures side_err { OnErr result (self.new.side ≡ self.old.side) }
-        ensures generation_err { OnErr result (self.new.generation ≡ self.old.generation) }
+        ensures disk { IsErrOf result RestartError.Disk
+            → ClosesByTurn D.view snapshot.now self.old self.new }
+
+        // An open store on a reliable disk with the room is turned over.
+        ensures works { self.old.closed ≡ false
+            → CannotFail (length snapshot.now + 7) 6 (D.view self.old.other.disk) → IsOk result }
     {
         if self.closed {
             return Err(RestartError::Closed);
@@ -285,15 +219,15 @@ impl<D: Disk> Store<D> {
 }
 
 impl Store<MemDisk> {
-    /// Makes the four calls of `commit` with a stop after so many of them, crashes, and hands back both
+    /// Makes the four calls of `commit` with a stop after `calls` of them, crashes, and hands back both
     /// disks, the first before the second. It takes no memory.
     pub fn commit_stopped(self, frame: &Frame, calls: u8, image: u8) -> (MemDisk, MemDisk)
         requires calls { calls ≤ 4 }
-        requires no_fault { self.current.disk.failing.listed ≡ [] }
+        requires no_fault { self.current.disk.failing.calls.listed ≡ [] }
         requires open { self.closed ≡ false }
         requires room { length frame.now + 6 ≤ self.current.disk.room }
         requires turns { 4 ≤ self.current.disk.calls }
-        requires fits { self.current.end + 6 + length frame.now ≤ 2 ^ 40 }
+        requires fits { self.current.end + 6 + length frame.now ≤ MAX_JOURNAL_BYTES }
 
         // The frames of the current file are recovered, with the new one exactly after four calls, or after
         // three with an image that opens the gate. All of that file is safe, and the other one is as it was.

@@ -1,19 +1,15 @@
 ghost use Rattle.std.specs.Prelude.{◌≡◌, ◌⊎◌, ◌+◌, ◌<◌, [], ◌∷◌, ◌≤◌, length, false, true, IsTrue, IsErrOf, OnOk, OnErr, IfOk};
-ghost use Rattle.oc_outside.specs.DiskView.{GoesOn, LeavesOnly};
-ghost use Rattle.oc_outside.specs.Faults.{Rose};
+ghost use Rattle.oc_outside.specs.DiskView.{Takes, Fails, HasNoFault, LeavesOnly};
 ghost use Rattle.oc_journal.specs.JournalView.{HasFrames};
 ghost use Rattle.oc_record.specs.Spelling.{records_bytes, HaveSpellings};
 ghost use Rattle.oc_store.specs.ControlFiles.{is_below};
 ghost use Rattle.oc_store.specs.StoreView.{IsReplaced};
 
-use oc_base::Memory;
+use oc_base::{MAX_FRAME_BYTES, Memory};
 use oc_journal::{AppendError, Frame, FrameFault, Journal};
 use oc_outside::{Disk, Failed};
 use oc_record::{Record, encode};
 use std::alloc::Global;
-
-/// The most bytes of a frame's body.
-const LONGEST: u32 = 1_048_576;
 
 /// Whether a file of the second generation is current beside one of the first.
 pub fn is_below(first: Option<u64>, second: Option<u64>) -> bool
@@ -29,7 +25,7 @@ pub fn is_below(first: Option<u64>, second: Option<u64>) -> bool
 /// A frame of records.
 pub fn framed(alloc: Global, list: &[Record]) -> Result<Frame, Memory>
     requires spelled { HaveSpellings list.now }
-    requires fits { length (records_bytes list.now) ≤ 1048576 }
+    requires fits { length (records_bytes list.now) ≤ MAX_FRAME_BYTES }
     ensures { IfOk result (λ frame. frame ≡ records_bytes list.now) }
 {
     let body = encode(alloc, list)?;
@@ -51,14 +47,17 @@ pub fn put_in_place<D: Disk>(journal: &mut Journal<D>, frame: &Frame) -> Result<
     ensures end { OnOk result (journal.new.end ≡ 13 + length frame.now) }
     ensures any_moment { IsTrue (D.view journal.old.disk).honest
         → LeavesOnly (D.view journal.old.disk) (D.view journal.new.disk) (IsReplaced journal.old.frames frame.now) }
-    ensures goes_on { GoesOn (D.view journal.old.disk) (D.view journal.new.disk) }
-    ensures cause { OnErr result (Rose (D.view journal.old.disk).faults (D.view journal.new.disk).faults) }
+    ensures spare { OnOk result (journal.new.spare + 1 ≡ journal.old.spare + length journal.old.frames) }
+    ensures takes { Takes (length frame.now + 7) 6 (D.view journal.old.disk) (D.view journal.new.disk) }
+    ensures no_fault { OnOk result (HasNoFault (D.view journal.old.disk) (D.view journal.new.disk)) }
+    ensures fails { OnErr result
+        (Fails (length frame.now + 7) 6 (D.view journal.old.disk) (D.view journal.new.disk)) }
 {
     let Ok(()) = journal.restart() else {
         return Err(Failed);
     };
     let len = frame.body_len();
-    prove!(len <= LONGEST);
+    prove!(len as usize <= MAX_FRAME_BYTES);
     match journal.append(frame) {
         Ok(()) => Ok(()),
         Err(AppendError::Disk) => Err(Failed),

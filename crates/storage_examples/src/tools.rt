@@ -20,7 +20,7 @@ pub fn bytes_of(alloc: Global, disk: &mut MemDisk) -> Result<Vec<u8>, Fail> {
 /// The journal of a disk.
 pub fn loaded(alloc: Global, disk: MemDisk) -> Result<Journal<MemDisk>, Fail>
     ensures open { IfOk result (λ journal. journal.closed ≡ false) }
-    ensures listed { IfOk result (λ journal. journal.disk.failing.listed ≡ disk.failing.listed) }
+    ensures listed { IfOk result (λ journal. journal.disk.failing.calls.listed ≡ disk.failing.calls.listed) }
 {
     match Journal::load(alloc, disk) {
         Ok(journal) => Ok(journal),

@@ -22,7 +22,7 @@ pub fn bytes_of(alloc: Global, disk: &mut MemDisk) -> Result<Vec<u8>, Fail> {
 /// The journal of a disk.
 pub fn loaded(alloc: Global, disk: MemDisk) -> Result<Journal<MemDisk>, Fail>
     ensures open { IfOk result (λ journal. journal.closed ≡ false) }
-    ensures listed { IfOk result (λ journal. journal.disk.failing.listed ≡ disk.failing.listed) }
+    ensures listed { IfOk result (λ journal. journal.disk.failing.calls.listed ≡ disk.failing.calls.listed) }
 {
     match Journal::load(alloc, disk) {
         Ok(journal) => Ok(journal),
@@ -48,7 +48,7 @@ pub fn append(alloc: Global, journal: &mut Journal<MemDisk>, body: &[u8]) -> Res
 
 /// A control file with a snapshot of this generation.
 pub fn file_of(alloc: Global, generation: u64) -> Result<MemDisk, Fail>
-    ensures { IfOk result (λ disk. disk.failing.listed ≡ []) }
+    ensures { IfOk result (λ disk. disk.failing.calls.listed ≡ []) }
 {
     let body = encode(alloc, &[Record::Snapshot { generation }])?;
     Ok(disk_with(alloc, &[&body])?.crash())
@@ -61,8 +61,8 @@ pub fn opened(
     second: MemDisk,
 ) -> Result<(Store<MemDisk>, Vec<Record>), Fail>
     ensures open { IfOk result (λ loaded. loaded.0.closed ≡ false) }
-    ensures listed { IfOk result (λ loaded. first.failing.listed ≡ [] → second.failing.listed ≡ []
-        → loaded.0.current.disk.failing.listed ≡ []) }
+    ensures listed { IfOk result (λ loaded. first.failing.calls.listed ≡ [] → second.failing.calls.listed ≡ []
+        → loaded.0.current.disk.failing.calls.listed ≡ []) }
 {
     match Store::load(alloc, first, second, 2) {
         Ok(loaded) => Ok(loaded),

@@ -2,7 +2,8 @@ use Rattle.std.proofs.Common.{◌≡◌, ℕ, IsErr, List, Ok, [], get_or, subst
 use Rattle.std.proofs.lemmas.Result.{err_from_is_err_and}
 use Rattle.oc_outside.proofs.DiskMoments.{still_honest}
 use Rattle.oc_record.specs.Reading.{decoded}
-use Rattle.oc_store.proofs.FrameReads.{OnlyReads-then, goes_on, is_bad}
+use Rattle.oc_journal.proofs.ReadRuns.{OnlyReads-then, NoneFailed-then}
+use Rattle.oc_store.proofs.FrameReads.{goes_on, is_bad}
 use Rattle.oc_store.proofs.loading.read_all.Goals as goal
 
 pub returns-in_err-more-clause-bad_frame : goal.returns-in_err-more-clause-bad_frame
@@ -23,6 +24,7 @@ loop-number-preserved g c =
     let way = c.loop-number.invariant in
     record {
       reads = OnlyReads-then g.D.Disk.view c.args.journal.now c.loop-number.journal c.read_frame.new.journal (λ h. g.met.D.Disk.consistent c.args.journal.now.disk h) way.reads c.in_ok-more.ensures.same;
+      none_failed = NoneFailed-then g.D.Disk.view c.args.journal.now c.loop-number.journal c.read_frame.new.journal way.none_failed c.in_ok-more.ensures.none_failed;
       count = way.count;
       so_far = λ honest.
           let here = subst (λ (bodies : List (List ℕ)). decoded c.args.nodes (get_or bodies c.loop-number.number []) ≡ Ok c.in_ok-more.more.items) (way.reads.frames honest) (c.in_ok-more.ensures.list (still_honest u v way.reads.disk.goes_on honest)) in

@@ -1,5 +1,5 @@
 use Rattle.std.proofs.Common.{◌≡◌, IsTrue, length}
-use Rattle.oc_journal.specs.JournalView.{OnlyReads}
+use Rattle.oc_journal.specs.Promises.{OnlyReads, NoneFailed}
 use Rattle.oc_store.proofs.FrameReads.{IsRead}
 use Rattle.oc_store.proofs.loading.read_all.Given as goal
 
@@ -7,6 +7,7 @@ use Rattle.oc_store.proofs.loading.read_all.Given as goal
 abbrev pub invariant-loop-number : goal.invariant-loop-number
 invariant-loop-number g l = record {
   reads : OnlyReads g.D.Disk.view l.fn.journal l.journal;
+  none_failed : NoneFailed g.D.Disk.view l.fn.journal l.journal;
   count : l.number-end ≡ length l.fn.journal.frames;
   so_far : IsTrue (g.D.Disk.view l.fn.journal.disk).honest → IsRead l.nodes l.fn.journal.frames l.list.items l.number;
 }

@@ -10,6 +10,5 @@ pub mod Others
 pub mod Views
 pub mod Puts
 pub mod Loading
-pub mod Journals
 pub mod Locating
 pub mod Across

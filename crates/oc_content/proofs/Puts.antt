@@ -14,7 +14,7 @@ use Rattle.oc_base.specs.Named.{IsThere, is_free}
 use Rattle.oc_content.specs.declared.putting.Standing.{Standing}
 use Rattle.oc_content.specs.Entries.{Entry}
 use Rattle.oc_content.specs.ContentView.{PieceView, IsReady}
-use Rattle.oc_content.specs.Indexes.{IsWithin, HasRoom}
+use Rattle.oc_content.specs.Indexes.{IsWithin, HasTrackRoom}
 use Rattle.oc_content.proofs.Lines.{stands_within, goes_within, line_of-stands, line_of-goes}
 
 -- what is not refused
@@ -144,7 +144,7 @@ standing_short ss name (Free i) short at =
     rw absent (omega arith)
 
 -- what was put is ready
-pub ready_put : (ss : List Shelf) (rs : List ℕ) (spare : ℕ) (p : PieceView) (name : List ℕ) (start : ℕ) (bytes : List ℕ) (last : Bool) → All (λ s. s.held ≤ MAX_GROUP_BYTES) ss → IsLinePlace ss name p.place → fault_of (standing_in ss name) start (length bytes) ≡ None → p.entry ≡ put_entry (standing_in ss name) name start bytes last → HasRoom rs p.room p.place → 0 < spare → IsReady ss rs spare p
+pub ready_put : (ss : List Shelf) (rs : List ℕ) (spare : ℕ) (p : PieceView) (name : List ℕ) (start : ℕ) (bytes : List ℕ) (last : Bool) → All (λ s. s.held ≤ MAX_GROUP_BYTES) ss → IsLinePlace ss name p.place → fault_of (standing_in ss name) start (length bytes) ≡ None → p.entry ≡ put_entry (standing_in ss name) name start bytes last → HasTrackRoom rs p.room p.place → 0 < spare → IsReady ss rs spare p
 ready_put ss rs spare p name start bytes last short at none is room some = record {
   place = subst (λ (e : Entry). IsLinePlace ss e.group p.place) (sym is) at;
   fits = λ adds. subst (λ (e : Entry). fits (line_of e.group ss) (length ss) e.start (length e.bytes) e.seals ≡ true) (sym is) (put_fits ss name p.place start bytes last short at none (subst (λ (e : Entry). (is_free p.place || nat_lt 0 (length e.bytes) || e.seals) ≡ true) is adds));

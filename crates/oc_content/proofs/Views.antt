@@ -1,12 +1,11 @@
 -- The index beside its journal, as calls go on.
-use Rattle.std.proofs.Common.{◌≡◌, ◌≢◌, ℕ, zero, suc, ◌≤◌, Bool, true, false, IsTrue, List, [], ◌∷◌, ◌++◌, length, take, drop, inl, inr, Option, Some, None, Result, Ok, Err, option_map, unwrap_or, IfSome, IfNone, MatchOption, get_or, flat_map, vec_capacity, refl, sym, ap, subst, ◌∙◌, arith}
+use Rattle.std.proofs.Common.{◌≡◌, ◌≢◌, ℕ, zero, suc, ◌≤◌, Bool, true, false, IsTrue, List, [], ◌∷◌, ◌++◌, length, take, drop, Option, Some, None, Result, Ok, Err, option_map, unwrap_or, IfSome, IfNone, MatchOption, get_or, flat_map, vec_capacity, refl, sym, ap, subst, ◌∙◌, arith}
 use Rattle.std.proofs.lemmas.List.{length-map, drop_all}
-use Rattle.std.specs.Result.{IsErrOf, OnErr}
-use Rattle.oc_outside.specs.DiskView.{DiskView, StaysAsItWas, LeavesOnly, IsConsistent}
-use Rattle.oc_outside.specs.Faults.{NoFall, Rose}
-use Rattle.oc_outside.proofs.DiskMoments.{still_honest, LeavesOnly-on, LeavesOnly-now}
-use Rattle.oc_journal.specs.declared.errors.AppendError.{AppendError}
-use Rattle.oc_journal.specs.JournalView.{JournalView, OnlyReads}
+use Rattle.std.specs.Result.{IsErrOf}
+use Rattle.oc_outside.specs.DiskView.{DiskView}
+use Rattle.oc_outside.proofs.DiskMoments.{still_honest}
+use Rattle.oc_journal.specs.JournalView.{JournalView}
+use Rattle.oc_journal.specs.Promises.{OnlyReads, NoneFailed}
 use Rattle.oc_journal.specs.Stopped.{frames_after}
 use Rattle.oc_base.specs.Stops.{is_kept_new}
 use Rattle.oc_base.specs.declared.shelf.Shelf.{Shelf}
@@ -19,9 +18,9 @@ use Rattle.oc_base.specs.declared.group.Group.{Group}
 use Rattle.oc_base.specs.Groups.{group_of, shelf, shelf_of, bytes_of, or_empty}
 use Rattle.oc_content.specs.Entries.{Entry, entry_of}
 use Rattle.oc_content.specs.ContentFile.{fits, taken, content_of, groups_in, bytes_in, with_entry, IsShelved, IsSameElsewhere, groups_after}
-use Rattle.oc_content.specs.Indexes.{IsIndexOf, IsSized, AreTracked, KeepsTracks, paths, rooms, helds, bytes_at, IsTracked}
+use Rattle.oc_content.specs.Indexes.{IsIndexOf, IsSized, AreTracked, KeepsTracks, paths, helds, bytes_at, IsTracked}
 use Rattle.oc_content.specs.Founds.{IsRest, BeginsWithin, IsSpot}
-use Rattle.oc_content.specs.ContentView.{ContentView, IsIndexed, IsOpened}
+use Rattle.oc_content.specs.ContentView.{IsIndexed, IsOpened, parts}
 use Rattle.oc_content.proofs.Adding.{IsSized-good}
 use Rattle.oc_content.proofs.Lines.{line_of-shelf, length-shelf}
 use Rattle.oc_content.proofs.Meanings.{content_of-push}
@@ -180,37 +179,13 @@ read_there view j x g at start spans skip is stands finds honest =
     let rest = finds is.bodies there.group there.tracked there.held in
     ap (λ (bs : List (List ℕ)). drop skip (flat_map (bytes_at bs) spans)) (is.frames honest) ∙ (sym rest.rest ∙ ap (drop start) (sym (bytes_there view j x g there.group is honest there.found)))
 
--- what a contract sees of a journal and an index
-abbrev pub parts : {D : Type 0} → JournalView D → Index → ContentView D
-parts j x = record { journal = j; shelves = x.shelves.items; rooms = rooms x.tracks.items }
-
--- the same parts are seen the same
-pub same_parts : {D : Type 0} (j k : JournalView D) (x y : Index) → k ≡ j → y ≡ x → parts k y ≡ parts j x
-same_parts {D} j k x y e f = ap (λ (a : JournalView D). parts a y) e ∙ ap (λ (b : Index). parts j b) f
-
--- what is said of each error is said of this one
-pub on_err_of : (r : Result ℕ AppendError) (e : AppendError) (P : Type 0) → IsErrOf r e → OnErr r P → P
-on_err_of (Ok n) e P is on = let f : Ok n ≡ Err e = is in absurd cc
-on_err_of (Err d) e P is on = on
-
 -- a journal that was only read, with its index
-pub opened : {D : Type 0} (view : D → DiskView) (j k : JournalView D) (x : Index) → OnlyReads view j k → IsIndexed view k x → IsOpened view j (parts k x)
-opened view j k x same is = record {
-  stays = same.disk;
-  frames = same.frames;
-  shelved = λ honest. shelved view k x is (still_honest (view j.disk) (view k.disk) same.disk.goes_on honest);
-  closed = same.closed;
+pub opened : {D : Type 0} (view : D → DiskView) (j k : JournalView D) (x : Index) → OnlyReads view j k → NoneFailed view j k → IsIndexed view k x → IsOpened view j (parts k x)
+opened view j k x reads none is = record {
+  reads = reads;
+  none_failed = none;
+  shelved = λ honest. shelved view k x is (still_honest (view j.disk) (view k.disk) reads.disk.goes_on honest);
 }
-
--- a run and then calls that only read
-pub LeavesOnly-read : (u v w : DiskView) (P : List ℕ → Type 0) → LeavesOnly u v P → IsConsistent v → IsTrue v.honest → StaysAsItWas v w → LeavesOnly u w P
-LeavesOnly-read u v w P run law honest stays =
-    LeavesOnly-on u v w P run (stays.time honest) (λ c left. LeavesOnly-now u v P run law c (stays.images honest c left))
-
--- a count that rose has risen since an earlier time
-pub Rose-later : (a b c : ℕ) → NoFall a b → Rose b c → Rose a c
-Rose-later a b c no_fall (inl more) = inl (omega (arith, no_fall, more))
-Rose-later a b c no_fall (inr last) = inr last
 
 -- a success is no error
 pub ok_is_no_error : (n : ℕ) (e : ReadError) → ¬ IsErrOf {T = ℕ} {E = ReadError} (Ok n) e

@@ -1,5 +1,5 @@
 -- The index: the line of each group, and the frames that hold its bytes.
-use Rattle.std.specs.Prelude.{◌≡◌, ℕ, zero, suc, ◌+◌, ◌<◌, ◌≤◌, ◌||◌, nat_lt, if◌then◌else◌, Some, List, [], ◌∷◌, ◌++◌, length, drop, map, get_or, insert, flat_map, vec_capacity, All, IsTrue, Bool}
+use Rattle.std.specs.Prelude.{◌≡◌, ℕ, zero, suc, ◌+◌, ◌-◌, ◌<◌, ◌≤◌, ◌||◌, nat_lt, if◌then◌else◌, Some, List, [], ◌∷◌, ◌++◌, length, drop, map, get_or, insert, flat_map, vec_capacity, All, IsTrue, Bool}
 use Rattle.oc_base.specs.declared.shelf.Shelf.{Shelf}
 use Rattle.oc_base.specs.declared.place.Place.{Place}
 use Rattle.oc_base.specs.declared.place.Place.TheVariants.{Found, Free}
@@ -78,9 +78,22 @@ IsWithin (Found i) n = i < n
 IsWithin (Free i) n = (i ≤ n) × (n < MAX_GROUPS)
 
 -- memory for one more frame: of a group that is held in its own track, of a new one in the track that it brings
-abbrev pub HasRoom : List ℕ → ℕ → Place → Type 0
-HasRoom rooms room (Found i) = 0 < get_or rooms i 0
-HasRoom rooms room (Free i) = 0 < room
+abbrev pub HasTrackRoom : List ℕ → ℕ → Place → Type 0
+HasTrackRoom rooms room (Found i) = 0 < get_or rooms i 0
+HasTrackRoom rooms room (Free i) = 0 < room
+
+-- how many spans an entry of n bytes has
+abbrev pub spans_for : ℕ → ℕ
+spans_for n = if nat_lt 0 n then 1 else 0
+
+-- the rooms with an entry of n bytes, for whose group this room is brought where it is new
+abbrev pub rooms_with : Place → ℕ → ℕ → List ℕ → List ℕ
+rooms_with (Found i) room n rooms = changed (λ r. r - spans_for n) i rooms
+rooms_with (Free i) room n rooms = insert rooms i (room - spans_for n)
+
+-- for how many lines and tracks the index has memory
+abbrev pub memory_of : Index → ℕ
+memory_of x = vec_capacity x.shelves + vec_capacity x.tracks
 
 -- the spans stay, and all memory
 pub record KeepsTracks (old new : List Track) : Type 0 where

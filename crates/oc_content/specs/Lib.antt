@@ -8,3 +8,4 @@ pub mod Pieces
 pub mod Indexes
 pub mod Founds
 pub mod ContentView
+pub mod Promises

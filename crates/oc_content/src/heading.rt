@@ -1,4 +1,4 @@
-//! What stands before the bytes in the body of a frame.
+//! What is before the bytes in the body of a frame.
 
 ghost use Rattle.std.specs.Prelude.{◌≡◌, ◌+◌, ◌^◌, ◌<◌, ◌≤◌, ◌++◌, length, take, IfOk, IfSome};
 ghost use Rattle.std.specs.Int.{w64, from_be_bytes};
@@ -6,7 +6,7 @@ ghost use Rattle.oc_base.specs.Names.{IsGroupName};
 ghost use Rattle.oc_content.specs.Entries.{entry_of, fields, heading};
 ghost use Rattle.oc_content.specs.Headings.{IsBehind, IsHeadingOf};
 
-use oc_base::GroupName;
+use oc_base::{GroupName, MAX_FRAME_BYTES, MAX_PUBLISH_BYTES};
 use oc_journal::{Frame, FrameFault};
 use std::alloc::{AllocError, Global};
 
@@ -19,7 +19,7 @@ pub struct Heading {
     pub group: GroupName,
     /// The length of the group before this body, in bytes.
     pub start: u64,
-    /// The place in the body where its bytes begin.
+    /// The offset in the body where its bytes begin.
     pub skip: u16,
     /// Whether the group is sealed behind the bytes.
     pub seals: bool,
@@ -59,7 +59,7 @@ impl Heading {
 
     /// The body with this heading and these bytes.
     pub fn frame(&self, alloc: Global, bytes: &[u8]) -> Result<Frame, AllocError>
-        requires { length bytes.now ≤ 1000000 }
+        requires { length bytes.now ≤ MAX_PUBLISH_BYTES }
         ensures { IfOk result (λ frame.
             frame ≡ heading self.now.seals self.now.group self.now.start ++ bytes.now) }
     {
@@ -84,7 +84,7 @@ fn name_len(name: GroupName) -> u8
 
 /// A frame of a body that is short enough for one.
 fn short_frame(alloc: Global, body: &[u8]) -> Result<Frame, AllocError>
-    requires { length body.now ≤ 1048576 }
+    requires { length body.now ≤ MAX_FRAME_BYTES }
     ensures { IfOk result (λ frame. frame ≡ body.now) }
 {
     match Frame::new(alloc, body) {
@@ -94,7 +94,7 @@ fn short_frame(alloc: Global, body: &[u8]) -> Result<Frame, AllocError>
     }
 }
 
-/// Reads the length of a name, the name and the start, before which so many bytes stand.
+/// Reads the length of a name, the name and the start, which are behind `before` bytes.
 fn read_fields(bytes: &[u8], seals: bool, before: u16) -> Option<Heading>
     requires { before ≤ 1 }
     ensures { IsHeadingOf before bytes.now result (fields seals bytes.now) }

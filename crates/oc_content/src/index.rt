@@ -1,13 +1,13 @@
 //! The line and the track of each group.
 
-ghost use Rattle.std.specs.Prelude.{◌≡◌, ℕ, ◌+◌, ◌^◌, ◌<◌, ◌≤◌, Bool, [], ◌∷◌, ◌++◌, List, length, vec_capacity, None, Some, true, MatchBool, IsTrue, IfOk, IfSome, MatchOption, OnOk, All, insert, get_or, ◌||◌};
+ghost use Rattle.std.specs.Prelude.{◌≡◌, ℕ, ◌+◌, ◌-◌, ◌^◌, ◌<◌, ◌≤◌, Bool, [], ◌∷◌, ◌++◌, List, length, vec_capacity, None, Some, true, MatchBool, IsTrue, IfOk, IfSome, MatchOption, OnOk, All, insert, get_or, ◌||◌};
 ghost use Rattle.oc_base.specs.declared.group.Group.{Group};
 ghost use Rattle.oc_base.specs.Shelves.{line_of, held_of, IsHeldAt, AreLinesAscending, IsLinePlace};
 ghost use Rattle.oc_content.specs.Entries.{entry_of};
 ghost use Rattle.oc_content.specs.ContentFile.{fits, taken, with_entry};
 ghost use Rattle.oc_base.specs.declared.limits.TheConstants.{MAX_GROUPS, MAX_GROUP_BYTES};
 ghost use Rattle.oc_content.specs.Tracks.{room_of};
-ghost use Rattle.oc_content.specs.Indexes.{IsIndexOf, IsSized, IsWithin, HasRoom, paths, rooms, line_with, lines_with, span_of, paths_with, changed, KeepsTracks, helds, IsTracked};
+ghost use Rattle.oc_content.specs.Indexes.{IsIndexOf, IsSized, IsWithin, HasTrackRoom, paths, rooms, line_with, lines_with, span_of, paths_with, spans_for, rooms_with, memory_of, changed, KeepsTracks, helds, IsTracked};
 ghost use Rattle.oc_content.specs.Founds.{IsRest, IsSpot};
 
 use crate::heading::Heading;
@@ -38,7 +38,7 @@ impl Index {
         })
     }
 
-    /// Takes the frame of this number, and answers whether it may stand behind those before it.
+    /// Takes the frame of this number, and answers whether it may follow those before it.
     pub fn take(&mut self, alloc: Global, frame: u64, body: &[u8]) -> Result<bool, AllocError>
         requires { IsSized self.old }
         ensures { IfOk result (λ took. (bodies : List (List ℕ)) (groups : List Group) (honest : Bool)
@@ -60,7 +60,7 @@ impl Index {
         Ok(true)
     }
 
-    /// Whether an entry with so many bytes may stand behind what is held.
+    /// Whether an entry with `count` bytes may follow what is held.
     fn fits(&self, place: Place, heading: &Heading, count: u64) -> bool
         requires { IsLinePlace self.now.shelves.items heading.now.group place }
         ensures { result ≡ fits (line_of heading.now.group self.now.shelves.items)
@@ -75,7 +75,7 @@ impl Index {
     /// Memory for one more span of a group: in its own track, or in the one that is handed out.
     pub fn reserve(&mut self, alloc: Global, place: Place) -> Result<Track, AllocError>
         requires { IsWithin place (length self.old.tracks.items) }
-        ensures room { IfOk result (λ track. HasRoom (rooms self.new.tracks.items) (room_of track) place) }
+        ensures room { IfOk result (λ track. HasTrackRoom (rooms self.new.tracks.items) (room_of track) place) }
         ensures empty { IfOk result (λ track. track.spans.items ≡ []) }
         ensures lines { self.new.shelves ≡ self.old.shelves }
         ensures tracks { KeepsTracks self.old.tracks.items self.new.tracks.items }
@@ -90,7 +90,7 @@ impl Index {
         }
     }
 
-    /// Finds a byte of the group at a place: the spans from that on which holds it, and the place of
+    /// Finds a byte of the group at an index: the spans from that on which holds it, and the offset of
     /// the byte among those of the first.
     pub fn find(&self, at: usize, start: u64) -> Option<(&[Span], u32)>
         requires within { at < length self.now.shelves.items }
@@ -123,7 +123,7 @@ impl Index {
         }
     }
 
-    /// The frame that holds a byte of a group, and the place in its bytes.
+    /// The frame that holds a byte of a group, and the offset in its bytes.
     pub fn spot(&self, group: &GroupName, start: u64) -> Option<Spot>
         requires { IsSized self.now }
         ensures held { IfSome result (λ _. IsHeldAt group.now self.now.shelves.items start) }
@@ -148,8 +148,11 @@ impl Index {
         requires place { IsLinePlace self.old.shelves.items piece.entry.group piece.place }
         requires fits { fits (line_of piece.entry.group self.old.shelves.items) (length self.old.shelves.items)
             piece.entry.start (length piece.entry.bytes) piece.entry.seals ≡ true }
-        requires room { HasRoom (rooms self.old.tracks.items) piece.room piece.place }
+        requires room { HasTrackRoom (rooms self.old.tracks.items) piece.room piece.place }
         ensures held { result ≡ piece.entry.start + length piece.entry.bytes }
+        ensures rooms { rooms self.new.tracks.items
+            ≡ rooms_with piece.place piece.room (length piece.entry.bytes) (rooms self.old.tracks.items) }
+        ensures memory { memory_of self.new ≡ memory_of self.old }
         ensures added { (bodies : List (List ℕ)) (groups : List Group) (honest : Bool)
             → IsIndexOf bodies groups self.old honest → (IsTrue honest → frame ≡ length bodies)
             → IsIndexOf (bodies ++ piece.body ∷ []) (with_entry piece.entry groups) self.new honest }
@@ -165,21 +168,23 @@ impl Index {
         heading.start + count
     }
 
-    /// Adds an entry with so many bytes, which is in the frame of this number.
+    /// Adds an entry with `count` bytes, which is in the frame of this number.
     pub fn add(&mut self, place: Place, track: Track, heading: &Heading, count: u64, frame: u64)
         requires within { IsWithin place (length self.old.shelves.items) }
         requires rows { length self.old.tracks.items ≡ length self.old.shelves.items }
         requires line_memory { MAX_GROUPS ≤ vec_capacity self.old.shelves }
         requires track_memory { MAX_GROUPS ≤ vec_capacity self.old.tracks }
-        requires room { HasRoom (rooms self.old.tracks.items) (room_of track) place }
+        requires room { HasTrackRoom (rooms self.old.tracks.items) (room_of track) place }
         requires empty { track.spans.items ≡ [] }
         requires short { All (λ s. s.held ≤ MAX_GROUP_BYTES) self.old.shelves.items }
         requires few { count ≤ MAX_GROUP_BYTES }
         ensures lines { self.new.shelves.items ≡ lines_with place heading.now count self.old.shelves.items }
         ensures paths { paths self.new.tracks.items
             ≡ paths_with place (span_of heading.now count frame) (paths self.old.tracks.items) }
-        ensures line_memory { MAX_GROUPS ≤ vec_capacity self.new.shelves }
-        ensures track_memory { MAX_GROUPS ≤ vec_capacity self.new.tracks }
+        ensures rooms { rooms self.new.tracks.items
+            ≡ rooms_with place (room_of track) count (rooms self.old.tracks.items) }
+        ensures line_memory { vec_capacity self.new.shelves ≡ vec_capacity self.old.shelves }
+        ensures track_memory { vec_capacity self.new.tracks ≡ vec_capacity self.old.tracks }
     {
         match place {
             Place::Found(at) => {
@@ -190,7 +195,7 @@ impl Index {
         }
     }
 
-    /// Puts a new group at its place.
+    /// Puts a new group at its index.
     fn insert(&mut self, at: usize, mut track: Track, heading: &Heading, count: u64, frame: u64)
         requires within { at ≤ length self.old.shelves.items }
         requires few { length self.old.shelves.items < MAX_GROUPS }
@@ -203,8 +208,10 @@ impl Index {
             (record { group = heading.now.group; held = count; sealed = heading.now.seals }) }
         ensures paths { paths self.new.tracks.items
             ≡ insert (paths self.old.tracks.items) at (span_of heading.now count frame) }
-        ensures line_memory { MAX_GROUPS ≤ vec_capacity self.new.shelves }
-        ensures track_memory { MAX_GROUPS ≤ vec_capacity self.new.tracks }
+        ensures rooms { rooms self.new.tracks.items
+            ≡ insert (rooms self.old.tracks.items) at (room_of track - spans_for count) }
+        ensures line_memory { vec_capacity self.new.shelves ≡ vec_capacity self.old.shelves }
+        ensures track_memory { vec_capacity self.new.tracks ≡ vec_capacity self.old.tracks }
     {
         add_span(&mut track, heading, count, frame);
         self.shelves
@@ -221,7 +228,7 @@ impl Index {
     }
 }
 
-/// Whether an entry with so many bytes may stand behind those of its group.
+/// Whether an entry with `count` bytes may follow those of its group.
 fn fits_held(shelf: &Shelf, heading: &Heading, count: u64) -> bool
     ensures { (groups : ℕ)
         → result ≡ fits (Some shelf.now) groups heading.now.start count heading.now.seals }
@@ -233,7 +240,7 @@ fn fits_held(shelf: &Shelf, heading: &Heading, count: u64) -> bool
         && (heading.seals || 0 < count)
 }
 
-/// Whether an entry with so many bytes may begin a group, behind so many others.
+/// Whether an entry with `count` bytes may begin a group, behind this many others.
 fn fits_new(groups: usize, heading: &Heading, count: u64) -> bool
     ensures { result ≡ fits None groups heading.now.start count heading.now.seals }
 {
@@ -250,18 +257,18 @@ fn reserve_at(tracks: &mut Vec<Track>, at: usize) -> Result<(), AllocError>
     tracks[at].reserve()
 }
 
-/// The line of the group at a place with so many bytes more.
+/// The line of the group at an index with `count` bytes more.
 fn grow_at(shelves: &mut Vec<Shelf>, at: usize, heading: &Heading, count: u64)
     requires within { at < length shelves.old.items }
     requires short { All (λ s. s.held ≤ MAX_GROUP_BYTES) shelves.old.items }
     requires few { count ≤ MAX_GROUP_BYTES }
     ensures lines { shelves.new.items ≡ changed (line_with heading.now count) at shelves.old.items }
-    ensures memory { vec_capacity shelves.old ≤ vec_capacity shelves.new }
+    ensures memory { vec_capacity shelves.new ≡ vec_capacity shelves.old }
 {
     grow(&mut shelves[at], heading, count);
 }
 
-/// The line of a group with so many bytes more.
+/// The line of a group with `count` bytes more.
 fn grow(shelf: &mut Shelf, heading: &Heading, count: u64)
     requires { shelf.old.held + count < 2 ^ 64 }
     ensures { shelf.new ≡ line_with heading.now count shelf.old }
@@ -270,13 +277,14 @@ fn grow(shelf: &mut Shelf, heading: &Heading, count: u64)
     shelf.sealed = shelf.sealed || heading.seals;
 }
 
-/// The track of the group at a place with the span of an entry.
+/// The track of the group at an index with the span of an entry.
 fn add_span_at(tracks: &mut Vec<Track>, at: usize, heading: &Heading, count: u64, frame: u64)
     requires within { at < length tracks.old.items }
     requires room { 0 < get_or (rooms tracks.old.items) at 0 }
     ensures paths { paths tracks.new.items
         ≡ changed (λ path. path ++ span_of heading.now count frame) at (paths tracks.old.items) }
-    ensures memory { vec_capacity tracks.old ≤ vec_capacity tracks.new }
+    ensures rooms { rooms tracks.new.items ≡ changed (λ room. room - spans_for count) at (rooms tracks.old.items) }
+    ensures memory { vec_capacity tracks.new ≡ vec_capacity tracks.old }
 {
     add_span(&mut tracks[at], heading, count, frame);
 }
@@ -284,7 +292,8 @@ fn add_span_at(tracks: &mut Vec<Track>, at: usize, heading: &Heading, count: u64
 /// The span of an entry that has bytes.
 fn add_span(track: &mut Track, heading: &Heading, count: u64, frame: u64)
     requires { 0 < room_of track.old }
-    ensures { track.new.spans.items ≡ track.old.spans.items ++ span_of heading.now count frame }
+    ensures spans { track.new.spans.items ≡ track.old.spans.items ++ span_of heading.now count frame }
+    ensures room { room_of track.new ≡ room_of track.old - spans_for count }
 {
     if 0 < count {
         track.push(Span {

@@ -1,8 +1,7 @@
 //! Loading: the index of the frames of a journal.
 
-ghost use Rattle.std.specs.Prelude.{◌≡◌, ℕ, IsTrue, IfOk, IsErrOf};
-ghost use Rattle.oc_outside.specs.Faults.{Rose};
-ghost use Rattle.oc_journal.specs.JournalView.{OnlyReads};
+ghost use Rattle.std.specs.Prelude.{◌≡◌, ℕ, IsTrue, IfOk, IsErrOf, OnOk};
+ghost use Rattle.oc_journal.specs.Promises.{OnlyReads, NoneFailed, ClosesByRead};
 ghost use Rattle.oc_content.specs.ContentFile.{IsFirstBad};
 ghost use Rattle.oc_content.specs.ContentView.{IsIndexed};
 
@@ -17,8 +16,8 @@ pub fn index_frames<D: Disk>(alloc: Global, journal: &mut Journal<D>) -> Result<
     ensures indexed { IfOk result (λ index. IsIndexed D.view journal.new index) }
     ensures bad { (i : ℕ) → IsErrOf result (ContentError.BadFrame i)
         → IsTrue (D.view journal.old.disk).honest → IsFirstBad journal.old.frames i }
-    ensures disk { IsErrOf result ContentError.Disk
-        → Rose (D.view journal.old.disk).faults (D.view journal.new.disk).faults }
+    ensures disk { IsErrOf result ContentError.Disk → ClosesByRead D.view journal.old journal.new }
+    ensures none_failed { OnOk result (NoneFailed D.view journal.old journal.new) }
     ensures journal { IsErrOf result ContentError.NotJournal → ⊥ }
     ensures same { OnlyReads D.view journal.old journal.new }
 {

@@ -6,13 +6,13 @@ ghost use Rattle.oc_content.specs.ContentView.{adds};
 
 use crate::heading::Heading;
 use crate::track::Track;
-use oc_base::Place;
+use oc_base::{MAX_PUBLISH_BYTES, Place};
 use oc_journal::Frame;
 use std::alloc::{AllocError, Global};
 use std::marker::Model;
 
 /// Bytes, and perhaps a seal, made ready for a group. A contract sees the body of its frame, what
-/// that says, the place of the group, and the memory that it brings for a new one.
+/// that says, the index of the group, and the memory that it brings for a new one.
 #[derive(Drop)]
 pub struct Piece {
     pub(crate) frame: Frame,
@@ -48,7 +48,7 @@ impl Piece {
         requires name { IsGroupName heading.group }
         requires skip { heading.skip ≡ length (heading_of heading.seals heading.group heading.start) }
         requires start { heading.start < 2 ^ 64 }
-        requires few { length bytes.now ≤ 1000000 }
+        requires few { length bytes.now ≤ MAX_PUBLISH_BYTES }
         requires empty { track.spans.items ≡ [] }
         ensures body { IfOk result (λ piece. piece.body
             ≡ heading_of heading.seals heading.group heading.start ++ bytes.now) }

@@ -6,16 +6,16 @@ ghost use Rattle.oc_content.specs.Entries.{written, heading};
 ghost use Rattle.oc_base.specs.declared.limits.TheConstants.{MAX_GROUP_BYTES};
 ghost use Rattle.oc_base.specs.Shelves.{IsLinePlace};
 ghost use Rattle.oc_base.specs.Named.{IsThere};
-ghost use Rattle.oc_content.specs.Indexes.{IsSized, HasRoom, KeepsTracks, rooms};
+ghost use Rattle.oc_content.specs.Indexes.{IsSized, HasTrackRoom, KeepsTracks, rooms};
 ghost use Rattle.oc_content.specs.Putting.{standing, standing_in, fault_of, put_entry};
 ghost use Rattle.oc_content.specs.ContentView.{IsIndexed, IsReady};
-ghost use Rattle.oc_journal.specs.JournalView.{OnlyReads};
+ghost use Rattle.oc_journal.specs.Promises.{OnlyReads, NoneFailed, HasRoom};
 
 use crate::errors::PutError;
 use crate::heading::Heading;
 use crate::index::Index;
 use crate::piece::Piece;
-use oc_base::{GroupName, MAX_GROUP_BYTES, MAX_GROUPS, Place, Shelf, place_of};
+use oc_base::{GroupName, MAX_GROUP_BYTES, MAX_GROUPS, MAX_PUBLISH_BYTES, Place, Shelf, place_of};
 use oc_journal::Journal;
 use oc_outside::Disk;
 use std::alloc::{AllocError, Global};
@@ -32,22 +32,22 @@ pub fn ready<D: Disk>(
 ) -> Result<Piece, PutError>
     requires indexed { IsIndexed D.view journal.old index.old }
     requires name { IsGroupName group.now }
-    requires few { length bytes.now ≤ 1000000 }
+    requires few { length bytes.now ≤ MAX_PUBLISH_BYTES }
     ensures indexed { IsIndexed D.view journal.new index.new }
     ensures entry { IfOk result (λ piece. piece.entry
         ≡ put_entry (standing_in index.old.shelves.items group.now) group.now start bytes.now last) }
     ensures body { IfOk result (λ piece. piece.body ≡ written piece.entry) }
     ensures ready { IfOk result (λ piece.
         IsReady index.new.shelves.items (rooms index.new.tracks.items) journal.new.spare piece) }
-    ensures room { IfOk result (λ piece. length piece.body + 7 ≤ (D.view journal.new.disk).room) }
-    ensures calls { OnOk result (16 ≤ (D.view journal.new.disk).calls) }
-    ensures within { OnOk result (journal.new.end < (D.view journal.new.disk).size) }
+    ensures room { IfOk result (λ piece. HasRoom D.view journal.new (length piece.body)) }
     ensures fault { IfErr result (λ error. error ≢ PutError.Memory
         → fault_of (standing_in index.old.shelves.items group.now) start (length bytes.now) ≡ Some error) }
     ensures none { OnOk result
         (fault_of (standing_in index.old.shelves.items group.now) start (length bytes.now) ≡ None) }
     ensures same { OnlyReads D.view journal.old journal.new }
+    ensures none_failed { NoneFailed D.view journal.old journal.new }
     ensures lines { index.new.shelves ≡ index.old.shelves }
+    ensures memory { vec_capacity index.old.tracks ≤ vec_capacity index.new.tracks }
     ensures tracks { KeepsTracks index.old.tracks.items index.new.tracks.items }
 {
     let piece = piece_for(alloc, index, group, start, bytes, last)?;
@@ -66,7 +66,7 @@ fn piece_for(
 ) -> Result<Piece, PutError>
     requires sized { IsSized index.old }
     requires name { IsGroupName group.now }
-    requires few { length bytes.now ≤ 1000000 }
+    requires few { length bytes.now ≤ MAX_PUBLISH_BYTES }
     ensures fault { IfErr result (λ error. error ≢ PutError.Memory
         → fault_of (standing_in index.old.shelves.items group.now) start (length bytes.now) ≡ Some error) }
     ensures none { OnOk result
@@ -75,7 +75,7 @@ fn piece_for(
         ≡ put_entry (standing_in index.old.shelves.items group.now) group.now start bytes.now last) }
     ensures body { IfOk result (λ piece. piece.body ≡ written piece.entry) }
     ensures place { IfOk result (λ piece. IsLinePlace index.old.shelves.items group.now piece.place) }
-    ensures room { IfOk result (λ piece. HasRoom (rooms index.new.tracks.items) piece.room piece.place) }
+    ensures room { IfOk result (λ piece. HasTrackRoom (rooms index.new.tracks.items) piece.room piece.place) }
     ensures lines { index.new.shelves ≡ index.old.shelves }
     ensures tracks { KeepsTracks index.old.tracks.items index.new.tracks.items }
     ensures memory { vec_capacity index.old.tracks ≤ vec_capacity index.new.tracks }

@@ -1,8 +1,7 @@
 //! Reading bytes that lie across frames.
 
-ghost use Rattle.std.specs.Prelude.{◌≡◌, ◌+◌, ◌-◌, ◌<◌, ◌≤◌, ◌++◌, ◌↔◌, None, IsTrue, IsErrOf, IfOk, OnErr, length, take, drop, min, flat_map};
-ghost use Rattle.oc_outside.specs.Faults.{Rose};
-ghost use Rattle.oc_journal.specs.JournalView.{OnlyReads};
+ghost use Rattle.std.specs.Prelude.{◌≡◌, ◌+◌, ◌-◌, ◌<◌, ◌≤◌, ◌++◌, ◌↔◌, None, IsTrue, IsErrOf, IfOk, OnOk, OnErr, length, take, drop, min, flat_map};
+ghost use Rattle.oc_journal.specs.Promises.{OnlyReads, NoneFailed, ClosesByRead};
 ghost use Rattle.oc_content.specs.ContentFile.{bytes_in};
 ghost use Rattle.oc_base.specs.declared.limits.TheConstants.{MAX_GROUP_BYTES};
 ghost use Rattle.oc_base.specs.Shelves.{held_of};
@@ -17,7 +16,7 @@ use oc_base::{GroupName, Place, place_of};
 use oc_journal::{Journal, PeekError};
 use oc_outside::Disk;
 
-/// Reads the bytes of a group from a place on, as many as fit; answers how many.
+/// Reads the bytes of a group from an offset on, as many as fit; answers how many.
 pub fn read_group<D: Disk>(
     journal: &mut Journal<D>,
     index: &Index,
@@ -30,8 +29,8 @@ pub fn read_group<D: Disk>(
     ensures bytes { IfOk result (λ n. IsTrue (D.view journal.old.disk).honest
         → take n buf.new ≡ take (length buf.old) (drop start (bytes_in group.now journal.old.frames))) }
     ensures no_group { IsErrOf result ReadError.NoGroup ↔ (held_of group.now index.now.shelves.items ≡ None) }
-    ensures disk { IsErrOf result ReadError.Disk
-        → Rose (D.view journal.old.disk).faults (D.view journal.new.disk).faults }
+    ensures disk { IsErrOf result ReadError.Disk → ClosesByRead D.view journal.old journal.new }
+    ensures none_failed { ¬ IsErrOf result ReadError.Disk → NoneFailed D.view journal.old journal.new }
     ensures same { OnlyReads D.view journal.old journal.new }
 {
     let Place::Found(at) = place_of(&index.shelves, group) else {
@@ -43,7 +42,7 @@ pub fn read_group<D: Disk>(
     Ok(read_spans(journal, spans, skip, buf)?)
 }
 
-/// Reads the bytes of these spans from the place `skip` of the first on, as many as fit, by one
+/// Reads the bytes of these spans from the offset `skip` of the first on, as many as fit, by one
 /// read for each span that it touches; answers how many.
 pub fn read_spans<D: Disk>(
     journal: &mut Journal<D>,
@@ -56,7 +55,8 @@ pub fn read_spans<D: Disk>(
     ensures bytes { IfOk result (λ n. IsTrue (D.view journal.old.disk).honest
         → BeginsWithin journal.old.frames skip spans.now
         → take n buf.new ≡ take (length buf.old) (drop skip (flat_map (bytes_at journal.old.frames) spans.now))) }
-    ensures disk { OnErr result (Rose (D.view journal.old.disk).faults (D.view journal.new.disk).faults) }
+    ensures disk { OnErr result (ClosesByRead D.view journal.old journal.new) }
+    ensures none_failed { OnOk result (NoneFailed D.view journal.old journal.new) }
     ensures same { OnlyReads D.view journal.old journal.new }
 {
     let mut count = 0;
@@ -70,8 +70,8 @@ pub fn read_spans<D: Disk>(
     Ok(count)
 }
 
-/// Reads the bytes of a span from a place on, behind so many bytes that are in the buffer; answers
-/// how many are there then.
+/// Reads the bytes of a span from an offset on, behind the `count` bytes that are in the buffer;
+/// answers how many are there then.
 fn read_span<D: Disk>(
     journal: &mut Journal<D>,
     span: &Span,
@@ -87,7 +87,8 @@ fn read_span<D: Disk>(
     ensures bytes { IfOk result (λ n. IsTrue (D.view journal.old.disk).honest
         → take n buf.new
         ≡ take count buf.old ++ take (n - count) (drop skip (bytes_at journal.old.frames span.now))) }
-    ensures disk { OnErr result (Rose (D.view journal.old.disk).faults (D.view journal.new.disk).faults) }
+    ensures disk { OnErr result (ClosesByRead D.view journal.old journal.new) }
+    ensures none_failed { OnOk result (NoneFailed D.view journal.old journal.new) }
     ensures same { OnlyReads D.view journal.old journal.new }
 {
     let more = journal.peek(span.frame, u32::from(span.skip) + skip, &mut buf[count..])?;

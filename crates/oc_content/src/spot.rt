@@ -3,6 +3,6 @@
 pub struct Spot {
     /// The number of the frame that holds it.
     pub frame: u64,
-    /// The place of the byte among those of the frame.
+    /// The offset of the byte among those of the frame.
     pub skip: u32,
 }

@@ -1,6 +1,6 @@
 //! The frames that hold the bytes of one group.
 
-ghost use Rattle.std.specs.Prelude.{◌≡◌, ℕ, ◌+◌, ◌<◌, ◌≤◌, [], ◌∷◌, ◌++◌, List, length, OnOk, IfOk, IfSome};
+ghost use Rattle.std.specs.Prelude.{◌≡◌, ℕ, ◌+◌, ◌-◌, ◌<◌, ◌≤◌, [], ◌∷◌, ◌++◌, List, length, OnOk, IfOk, IfSome};
 ghost use Rattle.oc_base.specs.declared.group.Group.{Group};
 ghost use Rattle.oc_base.specs.declared.limits.TheConstants.{MAX_GROUP_BYTES};
 ghost use Rattle.oc_content.specs.Indexes.{IsTracked};
@@ -9,14 +9,14 @@ ghost use Rattle.oc_content.specs.Tracks.{room_of, IsLastBefore};
 
 use std::alloc::{AllocError, Global};
 
-/// Bytes of a group that stand in one frame.
+/// Bytes of a group that one frame holds.
 #[derive(Clone, Copy)]
 pub struct Span {
     /// The number of the frame.
     pub frame: u64,
-    /// The place of the first of them in the group.
+    /// The offset of the first of them in the group.
     pub start: u64,
-    /// The place of the first of them in the body of the frame.
+    /// The offset of the first of them in the body of the frame.
     pub skip: u16,
 }
 
@@ -58,18 +58,19 @@ impl Track {
     /// One more span, for which `reserve` made room.
     pub fn push(&mut self, span: Span)
         requires { 0 < room_of self.old }
-        ensures { self.new.spans.items ≡ self.old.spans.items ++ span ∷ [] }
+        ensures spans { self.new.spans.items ≡ self.old.spans.items ++ span ∷ [] }
+        ensures room { room_of self.new ≡ room_of self.old - 1 }
     {
-        self.spans.push(span).unwrap();
+        self.spans.push_reserved(span);
     }
 }
 
 /// Where a byte of a group was found.
 #[derive(Clone, Copy)]
 pub struct Found {
-    /// The place of its span among those of the group.
+    /// The index of its span among those of the group.
     pub span: usize,
-    /// The place of the byte among those of the span.
+    /// The offset of the byte among those of the span.
     pub skip: u32,
 }
 
@@ -89,7 +90,7 @@ pub fn find_byte(spans: &[Span], start: u64) -> Option<Found>
     })
 }
 
-/// The place of the last span that begins at this byte or before it.
+/// The index of the last span that begins at this byte or before it.
 fn last_before(spans: &[Span], start: u64) -> Option<usize>
     ensures { IsLastBefore spans.now start result }
 {

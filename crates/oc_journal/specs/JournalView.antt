@@ -1,5 +1,5 @@
 -- A journal on a disk: its frames and its index.
-use Rattle.std.specs.Prelude.{◌≡◌, ℕ, ◌+◌, ◌<◌, ◌≤◌, Bool, false, IsTrue, List, [], length, take, drop, map}
+use Rattle.std.specs.Prelude.{◌≡◌, ℕ, ◌+◌, ◌<◌, ◌≤◌, Bool, false, IsTrue, List, [], take, drop, map}
 use Rattle.std.specs.List.{All}
 use Rattle.oc_outside.specs.DiskView.{DiskView, IsSafe}
 use Rattle.oc_journal.specs.JournalFile.{frames_of, EndsAt}

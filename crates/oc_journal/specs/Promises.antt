@@ -1,5 +1,5 @@
 -- What the calls of a journal promise.
-use Rattle.std.specs.Prelude.{◌≡◌, ℕ, ◌+◌, ◌<◌, ◌≤◌, Bool, false, true, IsTrue, List, [], ◌∷◌, ◌++◌, length}
+use Rattle.std.specs.Prelude.{◌≡◌, ℕ, ◌+◌, ◌<◌, ◌≤◌, false, true, IsTrue, List, [], ◌∷◌, ◌++◌, length}
 use Rattle.oc_base.specs.declared.limits.TheConstants.{MAX_JOURNAL_BYTES}
 use Rattle.oc_outside.specs.DiskView.{DiskView, GoesOn, StaysAsItWas, Takes, Fails, FailsToRead, HasNoFault, LeavesOnly}
 use Rattle.oc_journal.specs.JournalFile.{header, frames_of, IsNoJournal, IsBeforeOrAfter, IsAllOrNone}

@@ -1,8 +1,17 @@
 -- What is left of a frame when the calls that append it are stopped.
-use Rattle.std.specs.Prelude.{◌≡◌, ℕ, Bool, ◌==◌, ◌&&◌, ◌||◌, List, [], ◌∷◌, ◌++◌, Option, None, Some, if◌then◌else◌}
+use Rattle.std.specs.Prelude.{◌≡◌, ℕ, ◌+◌, ◌≤◌, Bool, ◌==◌, ◌&&◌, ◌||◌, List, [], ◌∷◌, ◌++◌, Option, None, Some, if◌then◌else◌}
+use Rattle.oc_base.specs.declared.limits.TheConstants.{MAX_JOURNAL_BYTES}
 use Rattle.oc_base.specs.Stops.{is_kept_new}
 use Rattle.oc_outside.specs.MemDiskView.{MemDiskView, refused, wrote}
 use Rattle.oc_outside.specs.declared.failures.Stop.{Stop}
+use Rattle.oc_journal.specs.JournalView.{JournalView}
+
+-- An append of a body of n bytes can be stopped: no call of the disk is listed to fail, there is the room, and the file stays within its limit.
+pub record CanStop (n : ℕ) (journal : JournalView MemDiskView) : Type 0 where
+  pub no_fault : journal.disk.failing.calls.listed ≡ []
+  pub room : n + 6 ≤ journal.disk.room
+  pub calls : 4 ≤ journal.disk.calls
+  pub fits : journal.end + 6 + n ≤ MAX_JOURNAL_BYTES
 
 -- the frames after a stop
 abbrev pub frames_after : ℕ → ℕ → List (List ℕ) → List ℕ → List (List ℕ)

@@ -4,7 +4,7 @@ ghost use Rattle.oc_outside.specs.MemDiskView.{disk_of};
 ghost use Rattle.oc_journal.specs.JournalFile.{frames_of, end_of, IsNoJournal};
 ghost use Rattle.oc_journal.specs.JournalView.{HasFrames};
 ghost use Rattle.oc_journal.specs.Promises.{IsLoaded, LoadsSafely, RefusesLoad, OnlyReads, NoneFailed, ClosesByRead, HasRoom, IsFullFor, Appends, AppendsSafely, ClosesByAppend, Restarts, RestartsSafely, ClosesByRestart};
-ghost use Rattle.oc_journal.specs.Stopped.{frames_after};
+ghost use Rattle.oc_journal.specs.Stopped.{frames_after, CanStop};
 
 use crate::errors::{AppendError, FrameError, LoadError, PeekError, RestartError};
 use crate::frame::Frame;
@@ -242,11 +242,8 @@ impl Journal<MemDisk> {
     /// what is left. It takes no memory.
     pub fn append_stopped(self, frame: &Frame, calls: u8, image: u8) -> MemDisk
         requires calls { calls ≤ 4 }
-        requires no_fault { self.disk.failing.calls.listed ≡ [] }
         requires open { self.closed ≡ false }
-        requires room { length frame.now + 6 ≤ self.disk.room }
-        requires turns { 4 ≤ self.disk.calls }
-        requires fits { self.end + 6 + length frame.now ≤ MAX_JOURNAL_BYTES }
+        requires room { CanStop (length frame.now) self }
 
         // The old frames, and the new one exactly after four calls, or after three with an image
         // that opens the gate. All of it is safe, and nothing is set on the disk.

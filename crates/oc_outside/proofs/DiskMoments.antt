@@ -1,7 +1,6 @@
 -- How runs of calls of a disk go on.
 use Rattle.std.proofs.Common.{inl, inr, ⊎_elim, ℕ, ◌+◌, ◌≤◌, IsTrue, Bool, List, refl, sym, ◌∙◌, subst, arith}
-use Rattle.oc_outside.specs.DiskView.{DiskView, Elapses, GoesOn, StaysAsItWas, Takes, CannotFail, Fails, HasNoFault, LeavesOnly, IsConsistent}
-use Rattle.oc_outside.specs.Faults.{NoFall}
+use Rattle.oc_outside.specs.DiskView.{DiskView, Elapses, GoesOn, StaysAsItWas, Takes, CannotFail, Fails, LeavesOnly, IsConsistent}
 use Rattle.oc_outside.proofs.Counts.{Rose-after}
 
 -- before the first call

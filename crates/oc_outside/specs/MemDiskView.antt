@@ -1,11 +1,11 @@
 -- A disk in memory: its bytes, the record of its calls, the spare room, and which calls fail.
-use Rattle.std.specs.Prelude.{◌≡◌, ℕ, ◌+◌, ◌-◌, ◌^◌, ◌<◌, true, List, [], ◌∷◌, ◌++◌, length, take, drop, max, min, Option, None, Some, refl}
+use Rattle.std.specs.Prelude.{◌≡◌, ℕ, ◌+◌, ◌-◌, ◌<◌, true, List, [], ◌∷◌, ◌++◌, length, take, drop, max, min, Option, None, Some, refl}
 use Rattle.std.proofs.Common.{inl, inr, arith}
 use Rattle.oc_outside.specs.declared.disk.TheConstants.{MAX_RELIABLE_BYTES}
 use Rattle.oc_outside.specs.DiskView.{DiskView, IsConsistent, IsReliable}
 use Rattle.oc_outside.specs.DiskPast.{Call, Wrote, Synced, MayLeave, HadLeft, crashed}
 use Rattle.oc_outside.specs.declared.failures.Stop.{Stop}
-use Rattle.oc_outside.specs.Tally.{Tally, called, faulted, IsListed}
+use Rattle.oc_outside.specs.Tally.{called, faulted, IsListed}
 use Rattle.oc_outside.specs.Failing.{Failing, no_failures, passed, none_fails, IsStopped}
 
 pub record MemDiskView : Type 0 where

@@ -1,11 +1,9 @@
 -- What the calls of a store promise.
-use Rattle.std.specs.Prelude.{◌≡◌, ◌⊎◌, ℕ, ◌+◌, ◌<◌, Bool, false, true, IsTrue, List, [], ◌∷◌, ◌++◌, length}
-use Rattle.oc_outside.specs.DiskView.{DiskView, GoesOn, Takes, Fails, FailsToRead, HasNoFault}
+use Rattle.std.specs.Prelude.{◌≡◌, ◌⊎◌, ℕ, ◌+◌, ◌<◌, false, true, IsTrue, List, [], ◌∷◌, ◌++◌, length}
+use Rattle.oc_outside.specs.DiskView.{DiskView, Takes, Fails, FailsToRead, HasNoFault}
 use Rattle.oc_journal.specs.JournalFile.{frames_of, IsNoJournal}
-use Rattle.oc_journal.specs.JournalView.{JournalView}
 use Rattle.oc_journal.specs.Promises.{LoadsSafely, OnlyReads, NoneFailed, Appends, ClosesByAppend}
 use Rattle.oc_model.specs.declared.record.Record.{Record}
-use Rattle.oc_store.specs.declared.errors.Side.{Side}
 use Rattle.oc_store.specs.declared.errors.Side.TheVariants.{First, Second}
 use Rattle.oc_store.specs.declared.errors.SideError.{SideError}
 use Rattle.oc_store.specs.declared.errors.SideError.TheVariants as sides

@@ -3,7 +3,7 @@ ghost use Rattle.oc_outside.specs.DiskView.{CannotFail};
 ghost use Rattle.oc_outside.specs.MemDiskView.{disk_of};
 ghost use Rattle.oc_journal.specs.JournalView.{HasFrames};
 ghost use Rattle.oc_journal.specs.Promises.{HasRoom, IsFullFor};
-ghost use Rattle.oc_journal.specs.Stopped.{frames_after};
+ghost use Rattle.oc_journal.specs.Stopped.{frames_after, CanStop};
 ghost use Rattle.oc_record.specs.Spelling.{records_bytes, HaveSpellings};
 ghost use Rattle.oc_store.specs.ControlFiles.{generation_in, generation_of, number_of, current_side, at_side, recovered_frames, IsGood};
 ghost use Rattle.oc_store.specs.Promises.{IsStoreOf, LoadBothSafely, RefusesFiles, ReservesCurrent, ReservesOther, Commits, CommitsSafely, ClosesByCommit, TurnsOver, ClosesByTurn};
@@ -13,7 +13,7 @@ use crate::errors::{Side, StoreError};
 use crate::generation::{generation_in_frame, generation_with};
 use crate::loading::{ControlFile, load_file};
 use crate::turning::{framed, is_below, put_in_place};
-use oc_base::{DUE_BYTES, MAX_FRAME_BYTES, MAX_JOURNAL_BYTES, Memory};
+use oc_base::{DUE_BYTES, MAX_FRAME_BYTES, Memory};
 use oc_journal::{AppendError, Frame, Journal, RestartError};
 use oc_outside::{Disk, MemDisk};
 use oc_record::Record;
@@ -223,11 +223,8 @@ impl Store<MemDisk> {
     /// disks, the first before the second. It takes no memory.
     pub fn commit_stopped(self, frame: &Frame, calls: u8, image: u8) -> (MemDisk, MemDisk)
         requires calls { calls ≤ 4 }
-        requires no_fault { self.current.disk.failing.calls.listed ≡ [] }
         requires open { self.closed ≡ false }
-        requires room { length frame.now + 6 ≤ self.current.disk.room }
-        requires turns { 4 ≤ self.current.disk.calls }
-        requires fits { self.current.end + 6 + length frame.now ≤ MAX_JOURNAL_BYTES }
+        requires room { CanStop (length frame.now) self.current }
 
         // The frames of the current file are recovered, with the new one exactly after four calls, or after
         // three with an image that opens the gate. All of that file is safe, and the other one is as it was.

@@ -1,8 +1,8 @@
-use Rattle.std.proofs.Common.{◌≡◌, ℕ, ◌<◌, IsTrue, List, [], length, get_or, ap, subst, ◌∙◌, arith}
+use Rattle.std.proofs.Common.{◌≡◌, ℕ, ◌<◌, IsTrue, List, [], length, get_or, ap, subst, ◌∙◌, arith, rules}
 use Rattle.oc_outside.proofs.DiskMoments.{still_honest}
 use Rattle.oc_content.specs.ContentFile.{IsFirstBad}
 use Rattle.oc_content.proofs.Loading.{IsIndexedTo-start, IsSized-to, IsIndexedTo-more, IsFirstBad-at, IsIndexed-all}
-use Rattle.oc_content.proofs.Journals.{OnlyReads-none, OnlyReads-then}
+use Rattle.oc_journal.proofs.ReadRuns.{OnlyReads-none, OnlyReads-then, NoneFailed-none, NoneFailed-then}
 use Rattle.oc_content.proofs.indexing.index_frames.Goals as goal
 
 pub loop-number-init : goal.loop-number-init
@@ -11,6 +11,7 @@ loop-number-init g c =
     record {
       indexed = IsIndexedTo-start g.D.Disk.view c.args.journal.now c.in_ok-index.index e.lines e.tracks e.line_memory e.track_memory;
       same = OnlyReads-none g.D.Disk.view c.args.journal.now;
+      none_failed = NoneFailed-none g.D.Disk.view c.args.journal.now;
     }
 
 pub take-requires : goal.take-requires
@@ -47,7 +48,8 @@ loop-number-preserved g c =
     c.deref.ensures.value ∙ (c.in_ok-frame.ensures.body (c.in_ok-frame.ensures.found.1 there) h ∙ ap (λ (fs : List (List ℕ)). get_or fs n []) (so_far.same.frames honest)) in
     record {
       indexed = IsIndexedTo-more view start c.loop-number.index c.take.new.self n c.deref.result.now within reads (λ bodies groups b is number. rw c.if-not-branch.false at (c.in_ok-take.ensures bodies groups b is number)) so_far.indexed;
-      same = OnlyReads-then view g.met.D.Disk.consistent start before c.frame.new.self so_far.same c.in_ok-frame.ensures.same;
+      none_failed = NoneFailed-then view start before c.frame.new.self so_far.none_failed (c.in_ok-frame.ensures.none_failed (search rules));
+      same = OnlyReads-then view start before c.frame.new.self (λ h. g.met.D.Disk.consistent start.disk h) so_far.same c.in_ok-frame.ensures.same;
     }
 
 pub returns-clause-indexed : goal.returns-clause-indexed

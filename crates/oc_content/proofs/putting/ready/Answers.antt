@@ -4,7 +4,7 @@ use Rattle.oc_content.specs.Indexes.{rooms}
 use Rattle.oc_content.specs.ContentView.{IsReady}
 use Rattle.oc_content.proofs.Views.{IsIndexed-sized, IsIndexed-kept}
 use Rattle.oc_content.proofs.Puts.{ready_put}
-use Rattle.oc_content.proofs.Journals.{OnlyReads-none}
+use Rattle.oc_journal.proofs.ReadRuns.{OnlyReads-none}
 use Rattle.oc_content.proofs.putting.ready.Goals as goal
 
 pub piece_for-requires-clause-sized : goal.piece_for-requires-clause-sized
@@ -35,4 +35,4 @@ returns-clause-ready g c =
     let sized = IsIndexed-sized g.D.Disk.view c.args.journal.now x c.requires.indexed in
     let e = c.in_ok-piece.ensures in
     subst (λ (ss : List Shelf). IsReady ss (rooms y.tracks.items) c.reserve.new.self.spare c.in_ok-piece.piece) (sym (ap (λ v. v.items) c.piece_for.ensures.lines))
-    (ready_put x.shelves.items (rooms y.tracks.items) c.reserve.new.self.spare c.in_ok-piece.piece c.args.group.now c.args.start c.args.bytes.now c.args.last sized.short e.place e.none e.entry e.room c.in_ok-reserve.ensures.spare)
+    (ready_put x.shelves.items (rooms y.tracks.items) c.reserve.new.self.spare c.in_ok-piece.piece c.args.group.now c.args.start c.args.bytes.now c.args.last sized.short e.place e.none e.entry e.room c.in_ok-reserve.ensures.room.spare)

@@ -6,7 +6,7 @@ use Rattle.oc_content.proofs.Lines.{stands_within}
 use Rattle.oc_content.proofs.Locating.{held_of-goes}
 use Rattle.oc_content.proofs.Views.{IsIndexed-sized, read_nothing, read_past, read_begins, read_there, ok_is_no_error, disk_is_no_group, stands_there}
 use Rattle.std.proofs.lemmas.Result.{err_from_is_err_and}
-use Rattle.oc_content.proofs.Journals.{OnlyReads-none}
+use Rattle.oc_journal.proofs.ReadRuns.{OnlyReads-none}
 use Rattle.oc_content.proofs.reading.read_group.Goals as goal
 
 pub place_of-requires : goal.place_of-requires

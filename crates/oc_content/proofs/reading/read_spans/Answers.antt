@@ -4,7 +4,7 @@ use Rattle.oc_outside.proofs.DiskMoments.{still_honest}
 use Rattle.oc_content.specs.declared.track.Span.{Span}
 use Rattle.oc_content.specs.Indexes.{bytes_at}
 use Rattle.oc_content.proofs.Across.{read_on, begins_first}
-use Rattle.oc_content.proofs.Journals.{OnlyReads-then}
+use Rattle.oc_journal.proofs.ReadRuns.{OnlyReads-then, NoneFailed-then}
 use Rattle.oc_content.proofs.reading.read_spans.Goals as goal
 
 pub loop-span-preserved : goal.loop-span-preserved
@@ -33,5 +33,6 @@ loop-span-preserved g c =
           let read = subst (λ (f : List (List ℕ)). take n new ≡ take count buf ++ take (n - count) (drop skip (bytes_at f s))) frames (c.in_ok-count.ensures.bytes h) in
           subst (λ (most : ℕ). take n new ++ take (most - n) (flat_map (bytes_at start.frames) (drop (i + 1) spans)) ≡ take most (drop c.args.skip (flat_map (bytes_at start.frames) spans))) (sym len)
           (read_on start.frames spans i s (length buf) count n skip buf new (take (length buf) (drop c.args.skip (flat_map (bytes_at start.frames) spans))) c.loop-span-test.true (get_or_default spans i (record { frame = 0; start = 0; skip = 0 }) s c.loop-span-test.true) so_far.within (so_far.begins b) many read (so_far.whole honest b));
-      same = OnlyReads-then view g.met.D.Disk.consistent start before c.read_span.new.journal so_far.same c.in_ok-count.ensures.same;
+      none_failed = NoneFailed-then view start before c.read_span.new.journal so_far.none_failed c.in_ok-count.ensures.none_failed;
+      same = OnlyReads-then view start before c.read_span.new.journal (λ h. g.met.D.Disk.consistent start.disk h) so_far.same c.in_ok-count.ensures.same;
     }

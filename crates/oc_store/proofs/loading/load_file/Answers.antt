@@ -1,4 +1,4 @@
-use Rattle.oc_journal.proofs.ReadRuns.{LoadsSafely-reads, IsLoaded-reads}
+use Rattle.oc_journal.proofs.ReadRuns.{LoadsSafely-reads}
 use Rattle.oc_store.proofs.loading.load_file.Goals as goal
 
 pub returns-in-Ok-read-clause-safely : goal.returns-in-Ok-read-clause-safely

@@ -1,8 +1,8 @@
-use Rattle.std.proofs.Common.{◌≡◌, IsTrue, sym, subst, ◌∙◌}
+use Rattle.std.proofs.Common.{IsTrue, sym, subst}
 use Rattle.oc_outside.proofs.DiskMoments.{still_honest}
-use Rattle.oc_journal.specs.declared.errors.AppendError.TheVariants.{Closed, Full}
 use Rattle.oc_content.specs.ContentView.{ContentView, IsPrepared}
-use Rattle.oc_content.proofs.Views.{shelved, same_parts, on_err_of}
+use Rattle.oc_content.proofs.Views.{shelved}
+use Rattle.oc_content.proofs.Causes.{parts_kept, closed_parts}
 use Rattle.oc_content.proofs.content.Content.commit.Goals as goal
 
 pub append-requires-clause-ready : goal.append-requires-clause-ready
@@ -13,12 +13,12 @@ pub returns-clause-lines : goal.returns-clause-lines
 returns-clause-lines g c = λ honest.
     let view = g.D.Disk.view in
     let h = subst (λ (v : ContentView g.row.D.Denot). IsTrue (view v.journal.disk).honest) (sym c.self.view_is) honest in
-    shelved view c.append.new.journal c.append.new.index c.append.ensures.indexed (still_honest (view c.self.inside.journal.disk) (view c.append.new.journal.disk) c.append.ensures.takes.goes_on h)
+    shelved view c.append.new.journal c.append.new.index c.append.ensures.indexed (still_honest (view c.self.inside.journal.disk) (view c.append.new.journal.disk) c.append.ensures.safely.takes.goes_on h)
 
 pub returns-clause-unchanged : goal.returns-clause-unchanged
-returns-clause-unchanged g c = λ is.
-    same_parts c.self.inside.journal c.append.new.journal c.self.inside.index c.append.new.index (c.append.ensures.unchanged is) (on_err_of c.append.result Closed (c.append.new.index ≡ c.self.inside.index) is c.append.ensures.index_err) ∙ c.self.view_is
+returns-clause-unchanged g c =
+    rw (← c.self.view_is) (parts_kept c.self.inside.journal c.append.new.journal c.self.inside.index c.append.new.index c.append.result c.append.ensures.unchanged c.append.ensures.index_err)
 
-pub returns-clause-unchanged_full : goal.returns-clause-unchanged_full
-returns-clause-unchanged_full g c = λ is.
-    same_parts c.self.inside.journal c.append.new.journal c.self.inside.index c.append.new.index (c.append.ensures.unchanged_full is) (on_err_of c.append.result Full (c.append.new.index ≡ c.self.inside.index) is c.append.ensures.index_err) ∙ c.self.view_is
+pub returns-clause-disk : goal.returns-clause-disk
+returns-clause-disk g c =
+    rw (← c.self.view_is) (closed_parts g.D.Disk.view c.args.piece.body c.self.inside.journal c.append.new.journal c.self.inside.index c.append.new.index c.append.result c.append.ensures.disk c.append.ensures.index_err)

@@ -1,6 +1,6 @@
-use Rattle.std.proofs.Common.{ap, subst}
-use Rattle.oc_content.specs.ContentView.{ContentView, PutsNothing}
-use Rattle.oc_content.proofs.Views.{parts}
+use Rattle.std.proofs.Common.{ap, subst, arith, vec_capacity}
+use Rattle.oc_content.specs.ContentView.{ContentView, parts}
+use Rattle.oc_content.specs.Promises.{PutsNothing}
 use Rattle.oc_content.proofs.content.Content.prepare.Goals as goal
 
 pub returns-clause-same : goal.returns-clause-same
@@ -9,4 +9,5 @@ returns-clause-same g c =
       journal = c.ready.ensures.same;
       shelves = ap (λ v. v.items) c.ready.ensures.lines;
       rooms = c.ready.ensures.tracks.rooms;
+      memory = omega (arith, ap (λ v. vec_capacity v) c.ready.ensures.lines, c.ready.ensures.memory);
     })

@@ -1,6 +1,7 @@
 use Rattle.std.proofs.Common.{refl, subst, arith}
-use Rattle.oc_content.specs.ContentView.{ContentView, PutsNothing}
-use Rattle.oc_content.proofs.Views.{IsIndexed-same, parts}
+use Rattle.oc_content.specs.ContentView.{ContentView, parts}
+use Rattle.oc_content.specs.Promises.{PutsNothing}
+use Rattle.oc_content.proofs.Views.{IsIndexed-same}
 use Rattle.oc_content.proofs.content.Content.read.Goals as goal
 
 pub invariant_of-self : goal.invariant_of-self
@@ -14,4 +15,5 @@ returns-clause-same g c =
       journal = c.read_group.ensures.same;
       shelves = refl;
       rooms = λ i. omega arith;
+      memory = omega arith;
     })

@@ -1,4 +1,4 @@
-use Rattle.std.proofs.Common.{ℕ, ◌-◌, List, length, sym, ap, subst, ◌∙◌}
+use Rattle.std.proofs.Common.{ℕ, ◌-◌, List, length, vec_capacity, sym, ap, subst, ◌∙◌, arith}
 use Rattle.std.proofs.lemmas.List.{length-drop, length-map}
 use Rattle.oc_base.specs.declared.shelf.Shelf.{Shelf}
 use Rattle.oc_content.specs.declared.track.Track.{Track}
@@ -49,5 +49,5 @@ returns c = λ bodies groups honest is number.
     let place = c.place_of-place.result in
     let at = subst (λ (l : List Shelf). IsLinePlace l h.group place) c.deref.ensures.value c.place_of-place.ensures in (
       with_entry (entry_at h body) groups,
-      IsIndexOf-add bodies groups c.args.self.now c.add.new.self honest h body count c.args.frame place is at (sym c.if-not-fits.ensures) (sym (length-drop h.skip body)) c.in-Some.ensures.entry number (c.add.ensures.lines ∙ ap (λ v. lines_with place h count v.items) c.in_ok-track.ensures.lines) (c.add.ensures.paths ∙ ap (paths_with place (span_of h count c.args.frame)) c.in_ok-track.ensures.tracks.paths) c.add.ensures.line_memory c.add.ensures.track_memory,
+      IsIndexOf-add bodies groups c.args.self.now c.add.new.self honest h body count c.args.frame place is at (sym c.if-not-fits.ensures) (sym (length-drop h.skip body)) c.in-Some.ensures.entry number (c.add.ensures.lines ∙ ap (λ v. lines_with place h count v.items) c.in_ok-track.ensures.lines) (c.add.ensures.paths ∙ ap (paths_with place (span_of h count c.args.frame)) c.in_ok-track.ensures.tracks.paths) (omega (arith, c.requires.line_memory, ap (λ v. vec_capacity v) c.in_ok-track.ensures.lines, c.add.ensures.line_memory)) (omega (arith, c.requires.track_memory, c.in_ok-track.ensures.memory, c.add.ensures.track_memory)),
     )

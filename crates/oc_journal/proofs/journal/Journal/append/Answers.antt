@@ -1,4 +1,4 @@
-use Rattle.std.proofs.Common.{ℕ, ◌+◌, ◌<◌, IsTrue, List, [], ◌∷◌, ◌++◌, length, sym, ◌∙◌, ap, subst, arith, rules}
+use Rattle.std.proofs.Common.{ℕ, IsTrue, List, [], ◌∷◌, ◌++◌, sym, ◌∙◌, ap, subst, arith, rules}
 use Rattle.oc_journal.specs.JournalView.{JournalView}
 use Rattle.oc_journal.proofs.Spots.{at_spots-same_front, appended-frames, appended-indexed, appended-kept}
 use Rattle.oc_journal.proofs.journal.Journal.append.Goals as goal

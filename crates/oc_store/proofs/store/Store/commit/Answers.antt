@@ -1,8 +1,6 @@
 use Rattle.std.proofs.Common.{[], ◌∷◌, ◌++◌, subst, rules}
 use Rattle.oc_journal.specs.JournalView.{HasFrames}
 use Rattle.oc_store.proofs.Turns.{kept_recovers, commit_moments, current_more}
-use Rattle.oc_store.specs.Promises.{CommitsSafely}
-use Rattle.oc_store.specs.StoreView.{AreHonest, Recovers}
 use Rattle.oc_store.proofs.store.Store.commit.Goals as goal
 
 pub returns-in-Ok-clause-commits : goal.returns-in-Ok-clause-commits

@@ -1,5 +1,3 @@
-use Rattle.std.proofs.Common.{arith}
-use Rattle.oc_outside.proofs.DiskMoments.{still_honest}
 use Rattle.oc_store.proofs.Refusals.{refused_first, refused_second, refused_memory}
 use Rattle.oc_store.proofs.store.Store.load.Goals as goal
 

@@ -1,4 +1,4 @@
-use Rattle.std.specs.Prelude.{ℕ, ◌≤◌, length}
+use Rattle.std.specs.Prelude.{ℕ, ◌≤◌, Bool, true, false, length}
 use Rattle.oc_base.specs.Names.{IsGroupName}
 use Rattle.oc_model.specs.declared.event.Act.{Act}
 use Rattle.oc_model.specs.declared.event.Act.TheVariants as acts
@@ -22,3 +22,18 @@ IsPlayable nodes (events.Up x) = IsNode nodes x
 IsPlayable nodes (events.Do act) = IsPlayableAct nodes act
 IsPlayable nodes (events.Held x) = IsNode nodes x
 IsPlayable nodes e = ⊥
+
+-- whether the program plays an act so far
+abbrev pub is_playable_act : Act → Bool
+is_playable_act (acts.Pull x p) = true
+is_playable_act (acts.Publish x g bytes) = true
+is_playable_act (acts.Seal x g) = true
+is_playable_act (acts.Deliver k) = true
+is_playable_act act = false
+
+-- whether it plays an event so far
+abbrev pub is_playable : Event → Bool
+is_playable (events.Up x) = true
+is_playable (events.Do act) = is_playable_act act
+is_playable (events.Held x) = true
+is_playable e = false

@@ -1,10 +1,11 @@
 -- What had happened at the end of a replay, from what the replay itself says of each end.
-use Rattle.std.proofs.Common.{ℕ, ◌⊎◌, List, []}
+use Rattle.std.proofs.Common.{◌≡◌, ℕ, ◌⊎◌, Some, None, List, []}
 use Rattle.std.specs.Prelude.{Ok, Err}
-use Rattle.oc_replay.specs.Ends.{OnDone, IfText, IfLimit, OnSource, OnSink, OnMemory, OnRefusal}
+use Rattle.oc_replay.specs.Ends.{OnDone, IfText, IfLimit, IfUnsupported, OnSource, OnSink, OnMemory, OnRefusal}
+use Rattle.oc_replay.specs.Replay.{first_unsupported}
 use Rattle.oc_replay.specs.Report.{SomeFront}
 use Rattle.oc_replay.specs.declared.end.ReplayEnd.{ReplayEnd}
-use Rattle.oc_replay.specs.declared.end.ReplayEnd.TheVariants.{Done, Text, Limit, Source, Sink, Memory}
+use Rattle.oc_replay.specs.declared.end.ReplayEnd.TheVariants.{Done, Text, Limit, Unsupported, Source, Sink, Memory}
 use Rattle.oc_schedule.specs.Script.{Script}
 use Rattle.oc_schedule.specs.declared.fault.ScheduleFault.TheVariants as faults
 use Rattle.oc_program.specs.Run.{Outside, HappenedAtReplay, HeadlineHolds}
@@ -14,6 +15,7 @@ pub both_on_source : (A B : Type 0) (end : ReplayEnd) → OnSource end A → OnS
 both_on_source A B Done a b = tt
 both_on_source A B (Text line why) a b = tt
 both_on_source A B (Limit what) a b = tt
+both_on_source A B (Unsupported event) a b = tt
 both_on_source A B Source a b = (a, b)
 both_on_source A B Sink a b = tt
 both_on_source A B Memory a b = tt
@@ -25,23 +27,26 @@ pub cut_on_sink : (says : Script → Type 0) (report : Script → List ℕ) (fai
 cut_on_sink says report fails stage cause Done a b = tt
 cut_on_sink says report fails stage cause (Text line why) a b = tt
 cut_on_sink says report fails stage cause (Limit what) a b = tt
+cut_on_sink says report fails stage cause (Unsupported event) a b = tt
 cut_on_sink says report fails stage cause Source a b = tt
 cut_on_sink says report fails stage cause Sink a b = let (s, said, front, at) = a in (s, said, (front.0, (front.1, b)), at)
 cut_on_sink says report fails stage cause Memory a b = tt
 
 pub happened_at : (o : Outside) (end : ReplayEnd) → ((s : Script) → HeadlineHolds s)
-    → OnDone end ((s : Script) × o.input_says (Ok s) × o.written (o.report s) × o.played s s.events)
+    → OnDone end ((s : Script) × o.input_says (Ok s) × (first_unsupported s ≡ None) × o.written (o.report s) × o.played s s.events)
     → IfText end (λ line why. o.input_says (Err (faults.Line line why)))
     → IfLimit end (λ what. o.input_passes what)
+    → IfUnsupported end (λ event. (s : Script) × o.input_says (Ok s) × (first_unsupported s ≡ Some event))
     → OnSource end o.input_failed
     → OnRefusal end (o.written [])
     → OnRefusal end o.unplayed
     → OnSink end ((s : Script) × o.input_says (Ok s) × SomeFront (o.report s) o.cut_off × SomeFront s.events (o.played s))
     → OnMemory end ((o.input_came × o.written [] × o.unplayed) ⊎ ((s : Script) × o.input_says (Ok s) × SomeFront (o.report s) o.written))
     → HappenedAtReplay o end
-happened_at o Done sound done text limit source unwritten unplayed sink memory = let (s, says, report, played) = done in (s, says, report, played, sound s)
-happened_at o (Text line why) sound done text limit source unwritten unplayed sink memory = (text, unwritten, unplayed)
-happened_at o (Limit what) sound done text limit source unwritten unplayed sink memory = (limit, unwritten, unplayed)
-happened_at o Source sound done text limit source unwritten unplayed sink memory = (source, unwritten, unplayed)
-happened_at o Sink sound done text limit source unwritten unplayed sink memory = sink
-happened_at o Memory sound done text limit source unwritten unplayed sink memory = memory
+happened_at o Done sound done text limit unsupported source unwritten unplayed sink memory = let (s, says, all, report, played) = done in (s, says, all, report, played, sound s)
+happened_at o (Text line why) sound done text limit unsupported source unwritten unplayed sink memory = (text, unwritten, unplayed)
+happened_at o (Limit what) sound done text limit unsupported source unwritten unplayed sink memory = (limit, unwritten, unplayed)
+happened_at o (Unsupported event) sound done text limit unsupported source unwritten unplayed sink memory = (unsupported, unwritten, unplayed)
+happened_at o Source sound done text limit unsupported source unwritten unplayed sink memory = (source, unwritten, unplayed)
+happened_at o Sink sound done text limit unsupported source unwritten unplayed sink memory = sink
+happened_at o Memory sound done text limit unsupported source unwritten unplayed sink memory = memory

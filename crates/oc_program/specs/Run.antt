@@ -1,5 +1,5 @@
 -- How a run ends: its status, its line on the error output, and what had happened outside.
-use Rattle.std.specs.Prelude.{◌≡◌, ℕ, ◌<◌, ◌≤◌, ◌⊎◌, List, [], ◌∷◌, ◌++◌, length, codes, decimal, Result, Ok, Err}
+use Rattle.std.specs.Prelude.{◌≡◌, ℕ, ◌<◌, ◌≤◌, ◌⊎◌, List, [], ◌∷◌, ◌++◌, length, codes, decimal, Option, Some, None, Result, Ok, Err}
 use Rattle.std.specs.Borrow.{Bor}
 use Rattle.oc_base.specs.Why.{why_text}
 use Rattle.oc_model.specs.declared.event.Event.{Event}
@@ -12,7 +12,7 @@ use Rattle.oc_laws_world.specs.Ranks.{ToldRanksHold}
 use Rattle.oc_laws_world.specs.Throughout.{Throughout}
 use Rattle.oc_laws_tree.specs.Listing.{SettledListsExactly}
 use Rattle.oc_outside.specs.Faults.{Rose}
-use Rattle.oc_replay.specs.Replay.{told_text}
+use Rattle.oc_replay.specs.Replay.{first_unsupported, told_text}
 use Rattle.oc_replay.specs.Report.{SomeFront}
 use Rattle.oc_replay.specs.declared.end.ReplayEnd.{ReplayEnd}
 use Rattle.oc_replay.specs.declared.end.ReplayEnd.TheVariants as replays
@@ -21,8 +21,8 @@ use Rattle.oc_schedule.specs.Schedule.{schedule_of}
 use Rattle.oc_schedule.specs.Script.{Script}
 use Rattle.oc_schedule.specs.declared.fault.ScheduleFault.{ScheduleFault}
 use Rattle.oc_schedule.specs.declared.fault.ScheduleFault.TheVariants as faults
+use Rattle.oc_schedule.specs.Limits.{most_of, what_text}
 use Rattle.oc_schedule.specs.declared.fault.What.{What}
-use Rattle.oc_schedule.specs.declared.fault.What.TheVariants.{Lines, Bytes, Published}
 use Rattle.oc_program.specs.Words.{Verdict, accepted, helped, refused}
 use Rattle.oc_program.specs.declared.running.End.{End}
 use Rattle.oc_program.specs.declared.running.End.TheVariants.{Helped, HelpFailed, Misused, NoMemory, Replayed}
@@ -35,6 +35,7 @@ abbrev pub status_of_replay : ReplayEnd → Status
 status_of_replay replays.Done = statuses.Done
 status_of_replay (replays.Text line why) = statuses.BadText
 status_of_replay (replays.Limit what) = statuses.Limit
+status_of_replay (replays.Unsupported event) = statuses.BadText
 status_of_replay replays.Source = statuses.Failed
 status_of_replay replays.Sink = statuses.Failed
 status_of_replay replays.Memory = statuses.Memory
@@ -47,12 +48,6 @@ status_of Misused = statuses.Usage
 status_of NoMemory = statuses.Memory
 status_of (Replayed end) = status_of_replay end
 
--- a limit and its number
-abbrev pub limit_text : What → List ℕ
-limit_text Lines = codes "lines 100000"
-limit_text Bytes = codes "bytes 67108864"
-limit_text Published = codes "published 262144"
-
 -- the end of a line
 abbrev pub newline : List ℕ
 newline = 10 ∷ []
@@ -60,7 +55,8 @@ newline = 10 ∷ []
 abbrev pub line_of_replay : ReplayEnd → List ℕ
 line_of_replay replays.Done = []
 line_of_replay (replays.Text line why) = codes "overcast: line " ++ decimal line ++ codes ": " ++ why_text why ++ newline
-line_of_replay (replays.Limit what) = codes "overcast: limit " ++ limit_text what ++ newline
+line_of_replay (replays.Limit what) = codes "overcast: limit " ++ what_text what ++ codes " " ++ decimal (most_of what) ++ newline
+line_of_replay (replays.Unsupported event) = codes "overcast: event " ++ decimal event ++ codes ": " ++ codes "not played yet" ++ newline
 line_of_replay replays.Source = codes "overcast: input failed" ++ newline
 line_of_replay replays.Sink = codes "overcast: output failed" ++ newline
 line_of_replay replays.Memory = codes "overcast: out of memory" ++ newline
@@ -121,9 +117,10 @@ pub record Outside : Type 1 where
   pub unplayed : Type 0
 
 abbrev pub HappenedAtReplay : Outside → ReplayEnd → Type 0
-HappenedAtReplay o replays.Done = (s : Script) × o.input_says (Ok s) × o.written (o.report s) × o.played s s.events × HeadlineHolds s
+HappenedAtReplay o replays.Done = (s : Script) × o.input_says (Ok s) × (first_unsupported s ≡ None) × o.written (o.report s) × o.played s s.events × HeadlineHolds s
 HappenedAtReplay o (replays.Text line why) = o.input_says (Err (faults.Line line why)) × o.written [] × o.unplayed
 HappenedAtReplay o (replays.Limit what) = o.input_passes what × o.written [] × o.unplayed
+HappenedAtReplay o (replays.Unsupported event) = ((s : Script) × o.input_says (Ok s) × (first_unsupported s ≡ Some event)) × o.written [] × o.unplayed
 HappenedAtReplay o replays.Source = o.input_failed × o.written [] × o.unplayed
 HappenedAtReplay o replays.Sink = (s : Script) × o.input_says (Ok s) × SomeFront (o.report s) o.cut_off × SomeFront s.events (o.played s)
 HappenedAtReplay o replays.Memory = (o.input_came × o.written [] × o.unplayed) ⊎ ((s : Script) × o.input_says (Ok s) × SomeFront (o.report s) o.written)
@@ -147,9 +144,14 @@ pub record SaysOnly {S : Type 0} (gives : S → List ℕ → S → Type 0) (ende
   pub whole : (bytes : List ℕ) (rest : S) → gives source bytes rest → ended rest → schedule_of bytes ≡ says
   pub few : (bytes : List ℕ) (rest : S) → gives source bytes rest → length bytes ≤ MAX_SCHEDULE_BYTES
 
+-- the status of a schedule: that of a fault where an event is not played yet
+abbrev pub status_unless : Option ℕ → ℕ
+status_unless None = 0
+status_unless (Some event) = 3
+
 -- the status of what a text says
 abbrev pub status_for : Result Script ScheduleFault → ℕ
-status_for (Ok s) = 0
+status_for (Ok s) = status_unless (first_unsupported s)
 status_for (Err (faults.Line line why)) = 3
 status_for (Err (faults.Limit what)) = 5
 status_for (Err faults.Memory) = 4

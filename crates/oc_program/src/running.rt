@@ -13,12 +13,14 @@ use crate::status::Status;
 use crate::telling::tell;
 use crate::texts::help;
 use crate::words::{Request, WordsFault, read_words};
-use oc_laws_world::{content_stays_true_throughout, parent_links_form_no_cycle, ranks_hold_throughout};
-use oc_outside::{Sink, Source, write_all};
-use oc_replay::{ReplayEnd, replay};
 use oc_laws_tree::{
     every_count_is_informed, every_line_is_explained, settled_trees_are_listed_exactly,
 };
+use oc_laws_world::{
+    content_stays_true_throughout, parent_links_form_no_cycle, ranks_hold_throughout,
+};
+use oc_outside::{Sink, Source, write_all};
+use oc_replay::{ReplayEnd, replay};
 use oc_world::{Stage, World};
 use std::alloc::Global;
 
@@ -57,7 +59,7 @@ fn replay_status(end: ReplayEnd) -> Status
 {
     match end {
         ReplayEnd::Done => Status::Done,
-        ReplayEnd::Text { .. } => Status::BadText,
+        ReplayEnd::Text { .. } | ReplayEnd::Unsupported { .. } => Status::BadText,
         ReplayEnd::Limit(_) => Status::Limit,
         ReplayEnd::Source | ReplayEnd::Sink => Status::Failed,
         ReplayEnd::Memory => Status::Memory,

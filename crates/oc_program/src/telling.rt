@@ -3,7 +3,7 @@
 
 ghost use Rattle.std.specs.Prelude.{◌≡◌, ℕ, List, OnOk};
 ghost use Rattle.oc_outside.specs.Faults.{NoFall};
-ghost use Rattle.oc_program.specs.Run.{IsWrittenOrCut, joined, line_of, line_of_replay, limit_text};
+ghost use Rattle.oc_program.specs.Run.{IsWrittenOrCut, joined, line_of, line_of_replay};
 
 use crate::running::End;
 use crate::texts::usage;
@@ -12,17 +12,6 @@ use oc_base::Why;
 use oc_outside::{Failed, Sink, write_all};
 use oc_replay::ReplayEnd;
 use oc_schedule::What;
-
-/// The text of a limit with its number.
-fn limit_name(what: What) -> &'static str
-    ensures { result.now ≡ limit_text what }
-{
-    match what {
-        What::Lines => "lines 100000",
-        What::Bytes => "bytes 67108864",
-        What::Published => "published 262144",
-    }
-}
 
 /// Has the sink take these parts, one behind the other.
 fn write_parts<K: Sink>(sink: &mut K, parts: &[&[u8]]) -> Result<(), Failed>
@@ -57,12 +46,8 @@ fn tell_replay<E: Sink>(err: &mut E, end: ReplayEnd) -> Result<(), Failed>
     match end {
         ReplayEnd::Done => Ok(()),
         ReplayEnd::Text { line, why } => tell_line(err, line, why),
-        ReplayEnd::Limit(what) => {
-            write_parts(
-                err,
-                &[b"overcast: limit ", limit_name(what).as_bytes(), b"\n"],
-            )
-        }
+        ReplayEnd::Limit(what) => tell_limit(err, what),
+        ReplayEnd::Unsupported { event } => tell_unsupported(err, event),
         ReplayEnd::Source => write_all(err, b"overcast: input failed\n"),
         ReplayEnd::Sink => write_all(err, b"overcast: output failed\n"),
         ReplayEnd::Memory => write_all(err, b"overcast: out of memory\n"),
@@ -84,5 +69,35 @@ fn tell_line<E: Sink>(err: &mut E, line: u32, why: Why) -> Result<(), Failed>
             why.word().as_bytes(),
             b"\n",
         ],
+    )
+}
+
+fn tell_limit<E: Sink>(err: &mut E, what: What) -> Result<(), Failed>
+    ensures told { IsWrittenOrCut E.takes E.fails E.faults err.old err.new (line_of_replay (ReplayEnd.Limit what)) }
+    ensures count { NoFall (E.faults err.old) (E.faults err.new) }
+{
+    let mut digits = Buffer::new();
+    let number = digits.format(what.most()).as_bytes();
+    write_parts(
+        err,
+        &[
+            b"overcast: limit ",
+            what.word().as_bytes(),
+            b" ",
+            number,
+            b"\n",
+        ],
+    )
+}
+
+fn tell_unsupported<E: Sink>(err: &mut E, event: u64) -> Result<(), Failed>
+    ensures told { IsWrittenOrCut E.takes E.fails E.faults err.old err.new (line_of_replay (ReplayEnd.Unsupported event)) }
+    ensures count { NoFall (E.faults err.old) (E.faults err.new) }
+{
+    let mut digits = Buffer::new();
+    let number = digits.format(event).as_bytes();
+    write_parts(
+        err,
+        &[b"overcast: event ", number, b": ", b"not played yet", b"\n"],
     )
 }

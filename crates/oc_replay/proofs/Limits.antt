@@ -6,13 +6,13 @@ use Rattle.oc_base.specs.declared.why.Why.{Why}
 use Rattle.oc_schedule.specs.declared.fault.ScheduleFault.{ScheduleFault}
 use Rattle.oc_schedule.specs.declared.fault.ScheduleFault.TheVariants.{Line, Limit, Memory}
 use Rattle.oc_schedule.specs.declared.fault.What.{What}
-use Rattle.oc_schedule.specs.declared.fault.What.TheVariants.{Lines, Bytes, Published}
-use Rattle.oc_schedule.specs.Fields.{words}
-use Rattle.oc_base.specs.declared.limits.TheConstants.{MAX_SCHEDULE_BYTES, MAX_SCHEDULE_LINES, MAX_SCHEDULE_PUBLISHED}
+use Rattle.oc_schedule.specs.declared.fault.What.TheVariants.{Lines, Bytes, Published, Settles}
+use Rattle.oc_base.specs.Words.{words}
+use Rattle.oc_base.specs.declared.limits.TheConstants.{MAX_SCHEDULE_BYTES, MAX_SCHEDULE_LINES, MAX_SCHEDULE_PUBLISHED, MAX_SCHEDULE_SETTLES}
 use Rattle.oc_schedule.specs.Reading.{at_line, Gives}
 use Rattle.oc_base.specs.Steps.{◌>>=◌}
-use Rattle.oc_schedule.specs.Schedule.{schedule_of, read_lines, read_line, read_words, read_statement, within_published, script_after, is_comment}
-use Rattle.oc_schedule.specs.Script.{Script, published_in}
+use Rattle.oc_schedule.specs.Schedule.{schedule_of, read_lines, read_line, read_words, read_statement, within_limits, script_after, is_comment}
+use Rattle.oc_schedule.specs.Script.{Script, published_in, settles_in}
 use Rattle.oc_replay.specs.Ends.{IfLimit, end_of_schedule}
 use Rattle.oc_replay.specs.Replay.{IsInput, PassesLimit}
 
@@ -27,6 +27,7 @@ IsOther-bind (Ok x) f first next = next x
 IsOther-bind (Err (Limit Bytes)) f first next = first
 IsOther-bind (Err (Limit Lines)) f first next = tt
 IsOther-bind (Err (Limit Published)) f first next = tt
+IsOther-bind (Err (Limit Settles)) f first next = tt
 IsOther-bind (Err (Line i why)) f first next = tt
 IsOther-bind (Err Memory) f first next = tt
 
@@ -37,8 +38,9 @@ IsOther-at_line i (Err why) = tt
 IsOther-statement : (i : ℕ) (so_far : Option Script) (word : List ℕ) (fields : List (List ℕ)) → IsOther (read_statement i so_far word fields)
 IsOther-statement i so_far word fields =
     let said = script_after so_far word fields in
-    IsOther-bind (at_line i said) within_published (IsOther-at_line i said)
-    (λ s. cond_both (nat_lt MAX_SCHEDULE_PUBLISHED (published_in s.events)) (Err (Limit Published)) (Ok s) IsOther (λ _. tt) (λ _. tt))
+    IsOther-bind (at_line i said) within_limits (IsOther-at_line i said)
+    (λ s. cond_both (nat_lt MAX_SCHEDULE_PUBLISHED (published_in s.events)) (Err (Limit Published)) _ IsOther (λ _. tt)
+    (λ _. cond_both (nat_lt MAX_SCHEDULE_SETTLES (settles_in s.events)) (Err (Limit Settles)) (Ok s) IsOther (λ _. tt) (λ _. tt)))
 
 IsOther-words : (i : ℕ) (so_far : Option Script) (ws : List (List ℕ)) → IsOther (read_words i so_far ws)
 IsOther-words i so_far [] = tt
@@ -67,6 +69,7 @@ limit-passed : {S : Type 0} (gives : S → List ℕ → S → Type 0) (ended : S
 limit-passed gives ended old new Bytes input = (input.bytes, input.came, too_long input.bytes input.read)
 limit-passed gives ended old new Lines input = input
 limit-passed gives ended old new Published input = input
+limit-passed gives ended old new Settles input = input
 
 -- an input that is refused for a limit passes it
 pub limit-at : {S : Type 0} (gives : S → List ℕ → S → Type 0) (ended : S → Type 0) (old new : S) (bytes : List ℕ) (fault : ScheduleFault) → gives old bytes new → ended new → Gives {A = Script} (Err fault) (schedule_of bytes) → IfLimit (end_of_schedule fault) (PassesLimit gives ended old new)

@@ -1,6 +1,6 @@
 use Rattle.std.specs.Prelude.{ℕ, ◌==◌, Bool, true, false, not, Option, Some, None, List, [], ◌∷◌, ◌++◌, codes, decimal}
 use Rattle.std.specs.List.{flat_map}
-use Rattle.hex.specs.Hex.{encode_lower}
+use Rattle.oc_schedule.specs.Fields.{bytes_text}
 use Rattle.oc_base.specs.declared.cert.Cert.{Cert}
 use Rattle.oc_base.specs.declared.cert.Child.{Child}
 use Rattle.oc_base.specs.declared.rank.Rank.{Rank}
@@ -68,11 +68,6 @@ why_text refusals.Ancestor = codes "ancestor"
 why_text refusals.Depth = codes "depth"
 why_text (refusals.Chain k) = codes "chain " ++ decimal k
 why_text refusals.Rank = codes "rank"
-
--- bytes in hexadecimal, and `-` where there are none
-abbrev pub bytes_text : List ℕ → List ℕ
-bytes_text [] = codes "-"
-bytes_text (b ∷ bs) = encode_lower (b ∷ bs)
 
 -- whether a node is in the tree
 abbrev pub tree_text : Bool → List ℕ

@@ -1,4 +1,5 @@
-use Rattle.std.specs.Prelude.{◌≡◌, ℕ, ◌<◌, Result, Err, List, length, fold}
+use Rattle.std.specs.Prelude.{◌≡◌, ℕ, ◌<◌, not, Option, Result, Err, List, length, fold, position, option_map, suc}
+use Rattle.oc_model.specs.Playable.{is_playable}
 use Rattle.oc_model.specs.declared.event.Event.{Event}
 use Rattle.oc_model.specs.declared.word.Word.{Word}
 use Rattle.oc_model.specs.Node.{Header}
@@ -25,6 +26,10 @@ pub record IsInput {S : Type 0} (gives : S → List ℕ → S → Type 0) (ended
 abbrev pub PassesLimit : {S : Type 0} → (S → List ℕ → S → Type 0) → (S → Type 0) → S → S → What → Type 0
 PassesLimit gives ended old new Bytes = (bytes : List ℕ) × gives old bytes new × (MAX_SCHEDULE_BYTES < length bytes)
 PassesLimit gives ended old new what = IsInput gives ended old new (Err (Limit what))
+
+-- the number, from 1, of the first event that the program does not play yet
+abbrev pub first_unsupported : Script → Option ℕ
+first_unsupported s = option_map suc (position (λ e. not (is_playable e)) s.events)
 
 -- a stage says which world a header opens, which world an event leads to, and in which word
 module _ (first : Header → World) (after : World → Event → World) where

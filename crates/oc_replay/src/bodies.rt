@@ -4,11 +4,12 @@ ghost use Rattle.std.specs.Prelude.{◌≡◌, ◌++◌, OnOk};
 ghost use Rattle.oc_replay.specs.Bodies.{body_text, node_or_zero, rank_or_dash, rank_text, tree_text, why_text};
 
 use crate::items::{put_count, put_list};
-use crate::texts::{put_bytes, put_mark};
+use crate::texts::put_mark;
 use oc_base::{
     Cert, Child, GroupName, Memory, NodeId, Rank, Refusal, Shelf, put, put_number, put_with_number,
 };
 use oc_model::Body;
+use oc_schedule::put_bytes;
 
 /// Puts what a message says.
 pub(crate) fn put_body(out: &mut Vec<u8>, body: &Body) -> Result<(), Memory>

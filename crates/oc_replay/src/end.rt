@@ -11,6 +11,8 @@ pub enum ReplayEnd {
     Text { line: u32, why: Why },
     /// The schedule passes a limit.
     Limit(What),
+    /// The event of this number, counted from 1, is not played yet.
+    Unsupported { event: u64 },
     /// A call on the source failed.
     Source,
     /// A call on the sink failed.

@@ -1,3 +1,4 @@
+-- A schedule that is read is within the ranges and the limits.
 use Rattle.std.proofs.Common.{◌≡◌, ℕ, ◌+◌, ◌-◌, ◌≤◌, ◌&&◌, ◌==◌, nat_lt, Option, Some, None, Result, Ok, Err, IfOk, List, [], ◌∷◌, ◌++◌, length, inl, inr, ◌∙◌, subst, arith, codes, length-append}
 use Rattle.std.specs.List.{AllByRecursion}
 use Rattle.std.specs.Str.{bytes_eq}
@@ -6,28 +7,26 @@ use Rattle.std.proofs.lemmas.Bool.Decides.{nat_tests}
 use Rattle.std.proofs.lemmas.List.Sums.{sum_by_push}
 use Rattle.oc_base.specs.declared.why.Why.{Why}
 use Rattle.oc_model.specs.declared.event.Event.{Event}
-use Rattle.oc_model.specs.Lawful.{IsHeader}
-use Rattle.oc_model.specs.Playable.{IsPlayable}
-use Rattle.oc_schedule.proofs.Ranges.{area_range, areas_set, event_range, header_range}
+use Rattle.oc_model.specs.Lawful.{IsHeader, IsEvent}
+use Rattle.oc_schedule.proofs.Ranges.{area_range, event_range, header_range, set_keeps_areas}
 use Rattle.oc_schedule.proofs.Steps.{steps, chosen, behind_guard}
 use Rattle.oc_schedule.specs.declared.fault.ScheduleFault.TheVariants.{Limit}
 use Rattle.oc_schedule.specs.declared.fault.ScheduleFault.{ScheduleFault}
 use Rattle.oc_schedule.specs.declared.fault.What.TheVariants as limits
 use Rattle.oc_base.specs.Words.{words}
-use Rattle.oc_base.specs.declared.limits.TheConstants.{MAX_SCHEDULE_LINES, MAX_SCHEDULE_PUBLISHED}
+use Rattle.oc_base.specs.declared.limits.TheConstants.{MAX_SCHEDULE_LINES, MAX_SCHEDULE_PUBLISHED, MAX_SCHEDULE_SETTLES}
 use Rattle.oc_schedule.specs.Lines.{header_in, area_in, event_in}
 use Rattle.oc_schedule.specs.Reading.{Gives, at_line}
 use Rattle.oc_schedule.specs.Schedule.{IsSchedule, after_area, after_event, is_comment, first_script, read_line, read_lines, read_statement, read_words, script_after, with_area, with_event}
-use Rattle.oc_schedule.specs.Script.{Script, published_by, published_in}
-
--- A schedule that is read is within the ranges and the limits.
+use Rattle.oc_schedule.specs.Script.{Script, published_by, published_in, settles_in}
 
 -- a script before the line of this number, which is not the first
 record IsBefore (i : ℕ) (s : Script) : Type 0 where
   header : IsHeader s.header
-  events : AllByRecursion (IsPlayable s.header.nodes) s.events
+  events : AllByRecursion (IsEvent s.header.nodes) s.events
   few : length s.events + 2 ≤ i
   published : published_in s.events ≤ MAX_SCHEDULE_PUBLISHED
+  settles : settles_in s.events ≤ MAX_SCHEDULE_SETTLES
 
 -- before this line there is no script, or one
 abbrev AreBefore : ℕ → Option Script → Type 0
@@ -37,12 +36,12 @@ AreBefore i (Some s) = IsBefore i s
 -- what a line without the limit on published bytes leaves
 record IsSaid (i : ℕ) (s : Script) : Type 0 where
   header : IsHeader s.header
-  events : published_in s.events ≤ MAX_SCHEDULE_PUBLISHED → AllByRecursion (IsPlayable s.header.nodes) s.events
+  events : published_in s.events ≤ MAX_SCHEDULE_PUBLISHED → AllByRecursion (IsEvent s.header.nodes) s.events
   few : length s.events + 1 ≤ i
 
 later : (i : ℕ) (so_far : Option Script) → AreBefore i so_far → AreBefore (i + 1) so_far
 later i None before = tt
-later i (Some s) before = record { header = before.header; events = before.events; few = omega arith; published = before.published }
+later i (Some s) before = record { header = before.header; events = before.events; few = omega arith; published = before.published; settles = before.settles }
 
 from_line : {A : Type 0} (i : ℕ) (r : Result A Why) (x : A) → at_line i r ≡ Ok x → r ≡ Ok x
 from_line i (Ok y) x h = cc h
@@ -70,7 +69,7 @@ said_area i s fields t before h =
       short = old.short;
       within = old.within;
       areas = length-set s.header.areas (area.0 - 1) area.1 ∙ old.areas;
-      bytes = areas_set s.header.areas (area.0 - 1) area.1 (area_range s.header.nodes fields area is_area).1 old.bytes;
+      bytes = set_keeps_areas s.header.areas (area.0 - 1) area.1 old.bytes (area_range s.header.nodes fields area is_area).1;
     } in
     subst (IsSaid i) same (record { header = header; events = λ few. before.events; few = omega arith })
 
@@ -99,10 +98,12 @@ statement_range : (i : ℕ) (so_far : Option Script) (word : List ℕ) (fields :
 statement_range i so_far word fields t first before h =
     steps (at_line i (script_after so_far word fields)) _ _ h λ s is_said then.
     let script = said_range i so_far word fields s first before (from_line i (script_after so_far word fields) s is_said) in
-    let within = behind_guard (nat_lt MAX_SCHEDULE_PUBLISHED (published_in s.events)) (Limit limits.Published) (Ok s) t then in
-    let same : s ≡ t = cc within.1 in
+    let within = behind_guard (nat_lt MAX_SCHEDULE_PUBLISHED (published_in s.events)) (Limit limits.Published) _ t then in
+    let rarely = behind_guard (nat_lt MAX_SCHEDULE_SETTLES (settles_in s.events)) (Limit limits.Settles) (Ok s) t within.1 in
+    let same : s ≡ t = cc rarely.1 in
     let few : published_in s.events ≤ MAX_SCHEDULE_PUBLISHED = grind (arith, nat_tests) in
-    subst (IsBefore (i + 1)) same (record { header = script.header; events = script.events few; few = omega (arith, script.few); published = few })
+    let seldom : settles_in s.events ≤ MAX_SCHEDULE_SETTLES = grind (arith, nat_tests) in
+    subst (IsBefore (i + 1)) same (record { header = script.header; events = script.events few; few = omega (arith, script.few); published = few; settles = seldom })
 
 words_range : (i : ℕ) (so_far : Option Script) (ws : List (List ℕ)) (next : Option Script) → 1 ≤ i → AreBefore i so_far → read_words i so_far ws ≡ Ok next → AreBefore (i + 1) next
 words_range i so_far [] next first before h =
@@ -121,7 +122,7 @@ lines_range : (i : ℕ) (so_far : Option Script) (ls : List (List ℕ)) (t : Scr
 lines_range i None [] t first few before h = absurd (cc h)
 lines_range i (Some s) [] t first few before h =
     let same : s ≡ t = cc h in
-    subst IsSchedule same (record { header = before.header; events = before.events; few = omega arith; published = before.published })
+    subst IsSchedule same (record { header = before.header; events = before.events; few = omega arith; published = before.published; settles = before.settles })
 lines_range i so_far (line ∷ rest) t first few before h =
     steps (read_line i so_far line) _ _ h λ next is_read then.
     let within = behind_guard (nat_lt MAX_SCHEDULE_LINES i) (Limit limits.Lines) _ next is_read in

@@ -1,11 +1,11 @@
--- What a field says that is no number.
-use Rattle.std.specs.Prelude.{ℕ, ◌==◌, if◌then◌else◌, Result, Ok, Err, List, [], length, codes}
+-- What a field says that is no number, and how bytes are spelled.
+use Rattle.std.specs.Prelude.{ℕ, ◌==◌, if◌then◌else◌, Result, Ok, Err, List, [], ◌∷◌, length, codes}
 use Rattle.std.specs.Str.{bytes_eq}
-use Rattle.hex.specs.Hex.{decode_of}
+use Rattle.hex.specs.Hex.{decode_of, encode_lower}
 use Rattle.oc_base.specs.Names.{parsed_name}
 use Rattle.oc_base.specs.Steps.{with_fault}
 use Rattle.oc_base.specs.declared.why.Why.{Why}
-use Rattle.oc_base.specs.declared.why.Why.TheVariants.{Group, Hex}
+use Rattle.oc_base.specs.declared.why.Why.TheVariants.{Count, Group, Hex}
 
 -- the group whose name a field is
 abbrev pub group_in : List ℕ → Result (List ℕ) Why
@@ -17,3 +17,13 @@ bytes_in field =
     if bytes_eq field (codes "-") then Ok []
     else if length field == 0 then Err Hex
     else with_fault Hex (decode_of field)
+
+-- bytes in hexadecimal, or `-` where there are none
+abbrev pub bytes_text : List ℕ → List ℕ
+bytes_text [] = codes "-"
+bytes_text (b ∷ bs) = encode_lower (b ∷ bs)
+
+-- the first three fields and those behind them
+abbrev pub first_three : List (List ℕ) → Result (List ℕ × List ℕ × List ℕ × List (List ℕ)) Why
+first_three (a ∷ b ∷ c ∷ rest) = Ok (a, b, c, rest)
+first_three fields = Err Count

@@ -1,19 +1,16 @@
-use Rattle.std.specs.Prelude.{ℕ, ◌&&◌, if◌then◌else◌, Result, Ok, Err, List, min, replicate, codes}
+-- The header, areas and event lines: for each kind what its fields say, and beside it the words that say it.
+use Rattle.std.specs.Prelude.{ℕ, ◌&&◌, if◌then◌else◌, Result, Ok, Err, List, [], ◌∷◌, min, replicate, codes, decimal}
 use Rattle.std.specs.Str.{bytes_eq}
+use Rattle.oc_base.specs.Steps.{◌>>=◌, with_fault}
+use Rattle.oc_base.specs.Words.{one, two, six, number_in, node_in}
+use Rattle.oc_base.specs.declared.limits.TheConstants.{MAX_NODES, MAX_CHAIN}
 use Rattle.oc_base.specs.declared.why.Why.{Why}
 use Rattle.oc_base.specs.declared.why.Why.TheVariants as causes
-use Rattle.oc_model.specs.declared.event.Act.{Act}
-use Rattle.oc_model.specs.declared.event.Act.TheVariants.{Pull, Publish, Seal, Deliver}
 use Rattle.oc_model.specs.declared.event.Event.{Event}
-use Rattle.oc_model.specs.declared.event.Event.TheVariants.{Up, Do, Held}
+use Rattle.oc_model.specs.declared.event.Event.TheVariants.{Up, Crash, Stop, Do, Held, Show, Settle, Heal}
 use Rattle.oc_model.specs.Node.{Header}
-use Rattle.oc_base.specs.Words.{one, two, three, six, number_in, node_in}
-use Rattle.oc_schedule.specs.Fields.{group_in, bytes_in}
-use Rattle.oc_base.specs.declared.limits.TheConstants.{MAX_NODES, MAX_CHAIN, MAX_AREA}
-use Rattle.oc_model.specs.Numbers.{number_end}
-use Rattle.oc_base.specs.Steps.{◌>>=◌, with_fault}
-
--- What a line says, by its words: one definition for each kind of line, and a row for it in `act_in` or `event_in`.
+use Rattle.oc_schedule.specs.Acts.{act_in, act_word, act_fields, act_words, most_byte}
+use Rattle.oc_schedule.specs.Fields.{first_three}
 
 -- the numbers of nodes and of chain members
 abbrev pub sizes_in : List ℕ → List ℕ → Result (ℕ × ℕ) Why
@@ -36,70 +33,70 @@ header_in words = do
   (nodes, chain) ← with_fault causes.Header (opening_in words)
   Ok (record { nodes = nodes; chain = chain; areas = replicate nodes 0 })
 
+abbrev pub header_words : ℕ → ℕ → List (List ℕ)
+header_words nodes chain =
+    codes "overcast" ∷ codes "1" ∷ codes "nodes" ∷ decimal nodes ∷ codes "chain" ∷ decimal chain ∷ []
+
 -- `area N A`
 abbrev pub area_in : ℕ → List (List ℕ) → Result (ℕ × ℕ) Why
 area_in nodes fields = do
   (n, a) ← two fields
   node ← node_in nodes n
-  area ← number_in 0 MAX_AREA a
+  area ← number_in 0 most_byte a
   Ok (node, area)
 
--- `pull N P`
-abbrev pub pull_in : ℕ → List (List ℕ) → Result Act Why
-pull_in nodes fields = do
-  (n, p) ← two fields
-  node ← node_in nodes n
-  peer ← node_in nodes p
-  Ok (Pull node peer)
+abbrev pub area_words : ℕ → ℕ → List (List ℕ)
+area_words node area = codes "area" ∷ decimal node ∷ decimal area ∷ []
 
--- `publish N G X`
-abbrev pub publish_in : ℕ → List (List ℕ) → Result Act Why
-publish_in nodes fields = do
-  (n, g, x) ← three fields
-  node ← node_in nodes n
-  group ← group_in g
-  bytes ← bytes_in x
-  Ok (Publish node group bytes)
-
--- `seal N G`
-abbrev pub seal_in : ℕ → List (List ℕ) → Result Act Why
-seal_in nodes fields = do
-  (n, g) ← two fields
-  node ← node_in nodes n
-  group ← group_in g
-  Ok (Seal node group)
-
--- `deliver K`
-abbrev pub deliver_in : List (List ℕ) → Result Act Why
-deliver_in fields = do
-  k ← one fields
-  number ← number_in 1 number_end k
-  Ok (Deliver number)
-
--- an act line, by its word
-abbrev pub act_in : ℕ → List ℕ → List (List ℕ) → Result Act Why
-act_in nodes word fields =
-    if bytes_eq word (codes "pull") then pull_in nodes fields
-    else if bytes_eq word (codes "publish") then publish_in nodes fields
-    else if bytes_eq word (codes "seal") then seal_in nodes fields
-    else if bytes_eq word (codes "deliver") then deliver_in fields
-    else Err causes.Word
+-- a node, the field of four kinds of lines
+abbrev pub node_alone_in : ℕ → List (List ℕ) → Result ℕ Why
+node_alone_in nodes fields = do
+  n ← one fields
+  node_in nodes n
 
 -- `up N`
 abbrev pub up_in : ℕ → List (List ℕ) → Result Event Why
 up_in nodes fields = do
-  n ← one fields
-  node ← node_in nodes n
+  node ← node_alone_in nodes fields
   Ok (Up node)
+
+-- `crash N`
+abbrev pub crash_in : ℕ → List (List ℕ) → Result Event Why
+crash_in nodes fields = do
+  node ← node_alone_in nodes fields
+  Ok (Crash node)
 
 -- `held N`
 abbrev pub held_in : ℕ → List (List ℕ) → Result Event Why
 held_in nodes fields = do
-  n ← one fields
-  node ← node_in nodes n
+  node ← node_alone_in nodes fields
   Ok (Held node)
 
--- an act line that stands alone
+-- `show N`
+abbrev pub show_in : ℕ → List (List ℕ) → Result Event Why
+show_in nodes fields = do
+  node ← node_alone_in nodes fields
+  Ok (Show node)
+
+-- an event without fields
+abbrev pub alone : Event → List (List ℕ) → Result Event Why
+alone event [] = Ok event
+alone event (field ∷ fields) = Err causes.Count
+
+-- the greatest number of device calls that a stop lets work
+abbrev pub most_calls : ℕ
+most_calls = 4
+
+-- `stop K P` and an act line: the two numbers are looked at before the act
+abbrev pub stop_in : ℕ → List (List ℕ) → Result Event Why
+stop_in nodes words = do
+  (k, p, word, fields) ← first_three words
+  calls ← number_in 0 most_calls k
+  image ← number_in 0 most_byte p
+  act ← act_in nodes word fields
+  Ok (Stop calls image act)
+
+-- an act line by itself
 abbrev pub act_alone_in : ℕ → List ℕ → List (List ℕ) → Result Event Why
 act_alone_in nodes word fields = do
   act ← act_in nodes word fields
@@ -109,5 +106,36 @@ act_alone_in nodes word fields = do
 abbrev pub event_in : ℕ → List ℕ → List (List ℕ) → Result Event Why
 event_in nodes word fields =
     if bytes_eq word (codes "up") then up_in nodes fields
+    else if bytes_eq word (codes "crash") then crash_in nodes fields
+    else if bytes_eq word (codes "stop") then stop_in nodes fields
     else if bytes_eq word (codes "held") then held_in nodes fields
+    else if bytes_eq word (codes "show") then show_in nodes fields
+    else if bytes_eq word (codes "settle") then alone Settle fields
+    else if bytes_eq word (codes "heal") then alone Heal fields
     else act_alone_in nodes word fields
+
+-- the word of an event line
+abbrev pub event_word : Event → List ℕ
+event_word (Up node) = codes "up"
+event_word (Crash node) = codes "crash"
+event_word (Stop calls image act) = codes "stop"
+event_word (Do act) = act_word act
+event_word (Held node) = codes "held"
+event_word (Show node) = codes "show"
+event_word Settle = codes "settle"
+event_word Heal = codes "heal"
+
+-- the fields of an event line
+abbrev pub event_fields : Event → List (List ℕ)
+event_fields (Up node) = decimal node ∷ []
+event_fields (Crash node) = decimal node ∷ []
+event_fields (Stop calls image act) = decimal calls ∷ decimal image ∷ act_words act
+event_fields (Do act) = act_fields act
+event_fields (Held node) = decimal node ∷ []
+event_fields (Show node) = decimal node ∷ []
+event_fields Settle = []
+event_fields Heal = []
+
+-- the words of an event line
+abbrev pub event_words : Event → List (List ℕ)
+event_words event = event_word event ∷ event_fields event

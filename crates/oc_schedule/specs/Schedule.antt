@@ -1,3 +1,4 @@
+-- What a text says as a schedule: its lines, one after another.
 use Rattle.std.specs.Prelude.{ℕ, ◌+◌, ◌-◌, ◌<◌, ◌≤◌, Bool, ◌&&◌, ◌==◌, nat_lt, if◌then◌else◌, Option, Some, None, Result, Ok, Err, List, [], ◌∷◌, ◌++◌, length, slice_index, slice_set, codes}
 use Rattle.std.specs.List.{AllByRecursion}
 use Rattle.std.specs.Str.{byte, bytes_eq}
@@ -5,19 +6,16 @@ use Rattle.std.specs.Str.Lines.{lines}
 use Rattle.oc_base.specs.declared.why.Why.{Why}
 use Rattle.oc_base.specs.declared.why.Why.TheVariants as causes
 use Rattle.oc_model.specs.declared.event.Event.{Event}
-use Rattle.oc_model.specs.Lawful.{IsHeader}
-use Rattle.oc_model.specs.Playable.{IsPlayable}
+use Rattle.oc_base.specs.declared.limits.TheConstants.{MAX_SCHEDULE_LINES, MAX_SCHEDULE_BYTES, MAX_SCHEDULE_PUBLISHED, MAX_SCHEDULE_SETTLES}
+use Rattle.oc_model.specs.Lawful.{IsHeader, IsEvent}
 use Rattle.oc_schedule.specs.declared.fault.ScheduleFault.{ScheduleFault}
 use Rattle.oc_schedule.specs.declared.fault.ScheduleFault.TheVariants.{Line, Limit}
 use Rattle.oc_schedule.specs.declared.fault.What.TheVariants as limits
 use Rattle.oc_base.specs.Words.{words}
-use Rattle.oc_base.specs.declared.limits.TheConstants.{MAX_SCHEDULE_BYTES, MAX_SCHEDULE_LINES, MAX_SCHEDULE_PUBLISHED}
 use Rattle.oc_schedule.specs.Lines.{header_in, area_in, event_in}
 use Rattle.oc_base.specs.Steps.{◌>>=◌}
 use Rattle.oc_schedule.specs.Reading.{at_line}
-use Rattle.oc_schedule.specs.Script.{Script, published_in}
-
--- What a text says as a schedule: its lines, one after another.
+use Rattle.oc_schedule.specs.Script.{Script, published_in, settles_in}
 
 -- the script after the header
 abbrev pub first_script : List (List ℕ) → Result Script Why
@@ -55,15 +53,18 @@ abbrev pub script_after : Option Script → List ℕ → List (List ℕ) → Res
 script_after None word fields = first_script (word ∷ fields)
 script_after (Some s) word fields = after_line s word fields
 
--- the limit on published bytes
-abbrev pub within_published : Script → Result Script ScheduleFault
-within_published s = if nat_lt MAX_SCHEDULE_PUBLISHED (published_in s.events) then Err (Limit limits.Published) else Ok s
+-- the limits on what the events have together: the bytes that they publish, and then how often they settle or heal
+abbrev pub within_limits : Script → Result Script ScheduleFault
+within_limits s =
+    if nat_lt MAX_SCHEDULE_PUBLISHED (published_in s.events) then Err (Limit limits.Published)
+    else if nat_lt MAX_SCHEDULE_SETTLES (settles_in s.events) then Err (Limit limits.Settles)
+    else Ok s
 
--- a line that is not skipped: its cause, and behind it the limit on published bytes
+-- a line that is not skipped: its cause, and behind it these limits
 abbrev pub read_statement : ℕ → Option Script → List ℕ → List (List ℕ) → Result Script ScheduleFault
 read_statement i so_far word fields = do
   s ← at_line i (script_after so_far word fields)
-  within_published s
+  within_limits s
 
 -- whether a line that begins with this word is a comment
 abbrev pub is_comment : List ℕ → Bool
@@ -101,6 +102,7 @@ schedule_of bytes = if nat_lt MAX_SCHEDULE_BYTES (length bytes) then Err (Limit 
 -- a schedule within the ranges and the limits: each line but the header gives an event at most
 pub record IsSchedule (s : Script) : Type 0 where
   pub header : IsHeader s.header
-  pub events : AllByRecursion (IsPlayable s.header.nodes) s.events
+  pub events : AllByRecursion (IsEvent s.header.nodes) s.events
   pub few : length s.events < MAX_SCHEDULE_LINES
   pub published : published_in s.events ≤ MAX_SCHEDULE_PUBLISHED
+  pub settles : settles_in s.events ≤ MAX_SCHEDULE_SETTLES

@@ -1,20 +1,38 @@
-use Rattle.std.specs.Prelude.{ℕ, List, length}
-use Rattle.std.specs.List.{sum_by}
+-- What a schedule says, and what is counted of it.
+use Rattle.std.specs.Prelude.{ℕ, ◌<◌, List, length}
+use Rattle.std.specs.List.{sum_by, All}
+use Rattle.oc_model.specs.declared.event.Act.{Act}
 use Rattle.oc_model.specs.declared.event.Act.TheVariants as acts
 use Rattle.oc_model.specs.declared.event.Event.{Event}
-use Rattle.oc_model.specs.declared.event.Event.TheVariants.{Do}
+use Rattle.oc_model.specs.declared.event.Event.TheVariants.{Do, Stop, Settle, Heal}
 use Rattle.oc_model.specs.Node.{Header}
 
--- what a schedule says: how the world opens, and what happens in it, in this order
+-- how the world opens, and what happens in it, in this order
 pub record Script : Type 0 where
   pub header : Header
   pub events : List Event
 
--- the bytes that an event publishes
+-- the bytes that an act publishes
+abbrev pub bytes_of_act : Act → ℕ
+bytes_of_act (acts.Publish node group bytes) = length bytes
+bytes_of_act act = 0
+
+-- the bytes that an event publishes, also where a stop cuts it off
 abbrev pub published_by : Event → ℕ
-published_by (Do (acts.Publish node group bytes)) = length bytes
+published_by (Do act) = bytes_of_act act
+published_by (Stop calls image act) = bytes_of_act act
 published_by event = 0
 
 -- the bytes that all events publish
 abbrev pub published_in : List Event → ℕ
 published_in events = sum_by published_by events
+
+-- settling and healing count together
+abbrev pub settles_by : Event → ℕ
+settles_by Settle = 1
+settles_by Heal = 1
+settles_by event = 0
+
+-- how often the events settle or heal
+abbrev pub settles_in : List Event → ℕ
+settles_in events = sum_by settles_by events

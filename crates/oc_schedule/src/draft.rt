@@ -1,16 +1,16 @@
 ghost use Rattle.std.specs.Prelude.{◌≡◌, ◌≤◌, length, Some};
 ghost use Rattle.oc_base.specs.Lawful.{IsNode};
 ghost use Rattle.oc_base.specs.Words.{words};
-ghost use Rattle.oc_base.specs.declared.limits.TheConstants.{MAX_SCHEDULE_PUBLISHED};
+ghost use Rattle.oc_base.specs.declared.limits.TheConstants.{MAX_SCHEDULE_PUBLISHED, MAX_SCHEDULE_SETTLES};
 ghost use Rattle.oc_schedule.specs.Reading.{GivesBy, GivesLineBy};
-ghost use Rattle.oc_schedule.specs.Schedule.{first_script, read_statement, with_area, with_event, within_published};
-ghost use Rattle.oc_schedule.specs.Script.{published_by, published_in};
+ghost use Rattle.oc_schedule.specs.Schedule.{first_script, read_statement, with_area, with_event, within_limits};
+ghost use Rattle.oc_schedule.specs.Script.{bytes_of_act, published_by, published_in, settles_by, settles_in};
 
 use crate::Schedule;
 use crate::fault::{LineFault, ScheduleFault, What};
 use crate::lines::{area, event, opening};
 use oc_base::words::is;
-use oc_base::{MAX_SCHEDULE_PUBLISHED, NodeId, Why};
+use oc_base::{MAX_SCHEDULE_PUBLISHED, MAX_SCHEDULE_SETTLES, NodeId, Why};
 use oc_model::{Act, Event};
 use std::alloc::Global;
 
@@ -20,8 +20,12 @@ pub(crate) struct Draft {
     schedule: Schedule,
     /// The bytes that its events publish.
     published: usize,
+    /// How often they settle or heal.
+    settles: u32,
     ghost counted: { published ≡ published_in schedule.events },
     ghost within: { published ≤ MAX_SCHEDULE_PUBLISHED },
+    ghost counted_settles: { settles ≡ settles_in schedule.events },
+    ghost within_settles: { settles ≤ MAX_SCHEDULE_SETTLES },
     ghost areas: { length schedule.header.areas ≡ schedule.header.nodes },
 }
 
@@ -40,6 +44,7 @@ impl Draft {
                 events: Vec::new(alloc),
             },
             published: 0,
+            settles: 0,
         })
     }
 
@@ -81,41 +86,70 @@ impl Draft {
         let Draft {
             mut schedule,
             published,
+            settles,
         } = self;
         schedule.areas[node.index()] = area;
         Draft {
             schedule,
             published,
+            settles,
         }
     }
 
-    /// The draft with one event more, where it does not publish too much.
+    /// The draft with one event more, where it passes no limit.
     fn with_event(self, event: Event) -> Result<Draft, ScheduleFault>
         ensures { GivesBy (λ d. d.schedule) result
-            (within_published (with_event self.schedule event)) }
+            (within_limits (with_event self.schedule event)) }
     {
         let Draft {
             mut schedule,
             published,
+            settles,
         } = self;
         let more = published_by(&event);
         if more > MAX_SCHEDULE_PUBLISHED - published {
             return Err(ScheduleFault::Limit(What::Published));
         }
+        let once = settles_by(&event);
+        if once > MAX_SCHEDULE_SETTLES - settles {
+            return Err(ScheduleFault::Limit(What::Settles));
+        }
         schedule.events.push(event)?;
         Ok(Draft {
             schedule,
             published: published + more,
+            settles: settles + once,
         })
     }
 }
 
-/// The bytes that an event publishes.
+/// The bytes that an event publishes, also where a stop cuts it off.
 fn published_by(event: &Event) -> usize
     ensures { result ≡ published_by event.now }
 {
     match event {
-        Event::Do(Act::Publish { bytes, .. }) => bytes.items().len(),
+        Event::Do(act) | Event::Stop { act, .. } => bytes_of(act),
+        _ => 0,
+    }
+}
+
+/// The bytes that an act publishes.
+fn bytes_of(act: &Act) -> usize
+    ensures { result ≡ bytes_of_act act.now }
+{
+    match act {
+        Act::Publish { bytes, .. } => bytes.items().len(),
+        _ => 0,
+    }
+}
+
+/// 1 for an event that settles or heals.
+fn settles_by(event: &Event) -> u32
+    ensures value { result ≡ settles_by event.now }
+    ensures few { result ≤ 1 }
+{
+    match event {
+        Event::Settle | Event::Heal => 1,
         _ => 0,
     }
 }

@@ -2,7 +2,9 @@ ghost use Rattle.std.specs.Prelude.{◌≡◌};
 ghost use Rattle.oc_schedule.specs.Limits.{most_of, what_text};
 ghost use Rattle.oc_schedule.specs.Reading.{fault_at};
 
-use oc_base::{MAX_SCHEDULE_BYTES, MAX_SCHEDULE_LINES, MAX_SCHEDULE_PUBLISHED, Why};
+use oc_base::{
+    MAX_SCHEDULE_BYTES, MAX_SCHEDULE_LINES, MAX_SCHEDULE_PUBLISHED, MAX_SCHEDULE_SETTLES, Why,
+};
 use std::alloc::{AllocError, AllocFailed};
 use std::error::Error;
 use std::fmt;
@@ -27,6 +29,8 @@ pub enum What {
     Bytes,
     /// Bytes that its events publish.
     Published,
+    /// Lines that settle or heal.
+    Settles,
 }
 
 impl What {
@@ -38,6 +42,7 @@ impl What {
             What::Lines => "lines",
             What::Bytes => "bytes",
             What::Published => "published",
+            What::Settles => "settles",
         }
     }
 
@@ -49,6 +54,7 @@ impl What {
             What::Lines => MAX_SCHEDULE_LINES as usize,
             What::Bytes => MAX_SCHEDULE_BYTES,
             What::Published => MAX_SCHEDULE_PUBLISHED,
+            What::Settles => MAX_SCHEDULE_SETTLES as usize,
         }
     }
 }

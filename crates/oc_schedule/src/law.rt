@@ -1,6 +1,17 @@
+ghost use Rattle.std.specs.Prelude.{ℕ, ◌+◌, ◌≤◌};
+ghost use Rattle.oc_base.specs.declared.limits.TheConstants.{MAX_NODES};
+ghost use Rattle.oc_schedule.specs.declared.generating.TheConstants.{MAX_GENERATED_EVENTS};
+ghost use Rattle.oc_schedule.specs.Generator.{generated};
+ghost use Rattle.oc_schedule.specs.Schedule.{IsSchedule};
 ghost use Rattle.oc_schedule.specs.Examples.{AreRead};
 
 /// The worked examples, as the definitions read them.
 pub fn examples_are_read()
     ensures { AreRead }
+{}
+
+/// What is generated is a schedule within the ranges and the limits.
+pub fn generated_schedules_are_lawful()
+    ensures { (seed nodes more : ℕ) → 1 ≤ nodes → nodes ≤ MAX_NODES → nodes + more ≤ MAX_GENERATED_EVENTS
+        → IsSchedule (generated seed nodes more) }
 {}

@@ -11,17 +11,24 @@
 //! of `act_in` and `act` or of `event_in` and `event`.
 #![tactic(auto)]
 
+mod acts;
 mod draft;
 mod fault;
 mod fields;
+mod generating;
 mod law;
 mod lines;
+mod printing;
 mod reading;
 mod schedule;
+mod texts;
 
 pub use fault::{ScheduleFault, What};
-pub use law::examples_are_read;
+pub use generating::{MAX_GENERATED_EVENTS, generate};
+pub use law::{examples_are_read, generated_schedules_are_lawful};
 pub use oc_base::Why;
 pub use oc_model::{Act, Event};
+pub use printing::{print, put_act_line, put_recv_line};
 pub use reading::read;
 pub use schedule::Schedule;
+pub use texts::put_bytes;

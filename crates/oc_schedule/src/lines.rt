@@ -1,16 +1,26 @@
-ghost use Rattle.std.specs.Prelude.{◌≡◌, IfOk};
-ghost use Rattle.oc_base.specs.Words.{words};
+//! The header, areas and event lines: for each kind how it is read, and in `put_event` how it is written.
+//!
+//! A further kind is one more definition in `specs/Lines`, one reader here, and a branch of [`event`]
+//! and [`put_event`].
+
+ghost use Rattle.std.specs.Prelude.{◌≡◌, ◌++◌, OnOk, IfOk, codes, decimal};
 ghost use Rattle.oc_base.specs.Lawful.{IsNode};
-ghost use Rattle.oc_schedule.specs.Lines.{sizes_in, opening_in, area_in, pull_in, publish_in, seal_in, deliver_in, act_in, up_in, held_in, act_alone_in, event_in};
-ghost use Rattle.oc_base.specs.Words.{GivesFields};
+ghost use Rattle.oc_base.specs.Words.{words, GivesFields};
+ghost use Rattle.oc_schedule.specs.Fields.{first_three};
+ghost use Rattle.oc_schedule.specs.Lines.{sizes_in, opening_in, area_in, node_alone_in, alone, stop_in, event_in, event_words};
+ghost use Rattle.oc_schedule.specs.Printing.{spaced};
 ghost use Rattle.oc_schedule.specs.Reading.{GivesLine};
 
+use crate::acts::{act, put_act};
 use crate::fault::LineFault;
-use crate::fields::{bytes, group};
-use oc_base::words::{is, node, number, one_field, six_fields, three_fields, two_fields};
-use oc_base::{MAX_AREA, MAX_CHAIN, MAX_NODES, NodeId, Why};
-use oc_model::{Act, Event};
+use crate::texts::put_number_field;
+use oc_base::words::{first_word, is, node, number, one_field, six_fields, two_fields};
+use oc_base::{MAX_CHAIN, MAX_NODES, Memory, NodeId, Why, put};
+use oc_model::Event;
 use std::alloc::Global;
+
+/// The greatest number of device calls that a stop lets work.
+const MAX_CALLS: u64 = 4;
 
 /// `overcast 1 nodes N chain C`: the numbers of nodes and of chain members.
 pub(crate) fn opening(line: &[u8]) -> Result<(u32, u32), Why>
@@ -40,90 +50,55 @@ pub(crate) fn area(nodes: u32, fields: &[u8]) -> Result<(NodeId, u8), Why>
 {
     let (n, a) = two_fields(fields)?;
     let node_id = node(n, nodes)?;
-    let area = number(a, 0, u64::from(MAX_AREA))?;
+    let area = number(a, 0, u64::from(u8::MAX))?;
     Ok((node_id, area as u8))
 }
 
-/// `up N`
-fn up(nodes: u32, fields: &[u8]) -> Result<Event, Why>
-    ensures { result ≡ up_in nodes (words fields.now) }
+/// `N`: a node.
+fn node_alone(nodes: u32, fields: &[u8]) -> Result<NodeId, Why>
+    ensures { result ≡ node_alone_in nodes (words fields.now) }
 {
     let n = one_field(fields)?;
-    Ok(Event::Up(node(n, nodes)?))
+    node(n, nodes)
 }
 
-/// `held N`
-fn held(nodes: u32, fields: &[u8]) -> Result<Event, Why>
-    ensures { result ≡ held_in nodes (words fields.now) }
+/// An event without fields.
+fn alone(event: Event, fields: &[u8]) -> Result<Event, Why>
+    ensures { result ≡ alone event (words fields.now) }
 {
-    let n = one_field(fields)?;
-    Ok(Event::Held(node(n, nodes)?))
-}
-
-/// `pull N P`
-fn pull(nodes: u32, fields: &[u8]) -> Result<Act, Why>
-    ensures { result ≡ pull_in nodes (words fields.now) }
-{
-    let (n, p) = two_fields(fields)?;
-    let node_id = node(n, nodes)?;
-    let peer = node(p, nodes)?;
-    Ok(Act::Pull {
-        node: node_id,
-        peer,
-    })
-}
-
-/// `publish N G X`
-fn publish(alloc: Global, nodes: u32, fields: &[u8]) -> Result<Act, LineFault>
-    ensures { GivesLine result (publish_in nodes (words fields.now)) }
-{
-    let (n, g, x) = three_fields(fields)?;
-    Ok(Act::Publish {
-        node: node(n, nodes)?,
-        group: group(g)?,
-        bytes: bytes(alloc, x)?,
-    })
-}
-
-/// `seal N G`
-fn seal(nodes: u32, fields: &[u8]) -> Result<Act, Why>
-    ensures { result ≡ seal_in nodes (words fields.now) }
-{
-    let (n, g) = two_fields(fields)?;
-    Ok(Act::Seal {
-        node: node(n, nodes)?,
-        group: group(g)?,
-    })
-}
-
-/// `deliver K`
-fn deliver(fields: &[u8]) -> Result<Act, Why>
-    ensures { result ≡ deliver_in (words fields.now) }
-{
-    let k = one_field(fields)?;
-    Ok(Act::Deliver {
-        number: number(k, 1, u64::MAX)?,
-    })
-}
-
-/// An act line, by its word. A further kind is one more branch, here and in `act_in`.
-fn act(alloc: Global, nodes: u32, word: &[u8], fields: &[u8]) -> Result<Act, LineFault>
-    ensures { GivesLine result (act_in nodes word.now (words fields.now)) }
-{
-    if is(word, "pull") {
-        Ok(pull(nodes, fields)?)
-    } else if is(word, "publish") {
-        publish(alloc, nodes, fields)
-    } else if is(word, "seal") {
-        Ok(seal(nodes, fields)?)
-    } else if is(word, "deliver") {
-        Ok(deliver(fields)?)
-    } else {
-        Err(LineFault::Cause(Why::Word))
+    match first_word(fields) {
+        None => Ok(event),
+        Some(_) => Err(Why::Count),
     }
 }
 
-/// An event line, by its word. A further kind is one more branch, here and in `event_in`.
+/// The first three fields of a line, and what is behind them.
+type FirstThree<'a> = (&'a [u8], &'a [u8], &'a [u8], &'a [u8]);
+
+fn three_and_more(line: &[u8]) -> Result<FirstThree<'_>, Why>
+    ensures { GivesFields (λ f. (f.0.now, f.1.now, f.2.now, words f.3.now)) result (first_three (words line.now)) }
+{
+    let (a, rest) = first_word(line).ok_or(Why::Count)?;
+    let (b, rest) = first_word(rest).ok_or(Why::Count)?;
+    let (c, rest) = first_word(rest).ok_or(Why::Count)?;
+    Ok((a, b, c, rest))
+}
+
+/// `stop K P` and an act line. The two numbers are looked at before the act.
+fn stop(alloc: Global, nodes: u32, fields: &[u8]) -> Result<Event, LineFault>
+    ensures { GivesLine result (stop_in nodes (words fields.now)) }
+{
+    let (k, p, word, behind) = three_and_more(fields)?;
+    let calls = number(k, 0, MAX_CALLS)?;
+    let image = number(p, 0, u64::from(u8::MAX))?;
+    Ok(Event::Stop {
+        calls: calls as u8,
+        image: image as u8,
+        act: act(alloc, nodes, word, behind)?,
+    })
+}
+
+/// An event line, by its word.
 pub(crate) fn event(
     alloc: Global,
     nodes: u32,
@@ -133,10 +108,50 @@ pub(crate) fn event(
     ensures { GivesLine result (event_in nodes word.now (words fields.now)) }
 {
     if is(word, "up") {
-        Ok(up(nodes, fields)?)
+        Ok(Event::Up(node_alone(nodes, fields)?))
+    } else if is(word, "crash") {
+        Ok(Event::Crash(node_alone(nodes, fields)?))
+    } else if is(word, "stop") {
+        stop(alloc, nodes, fields)
     } else if is(word, "held") {
-        Ok(held(nodes, fields)?)
+        Ok(Event::Held(node_alone(nodes, fields)?))
+    } else if is(word, "show") {
+        Ok(Event::Show(node_alone(nodes, fields)?))
+    } else if is(word, "settle") {
+        Ok(alone(Event::Settle, fields)?)
+    } else if is(word, "heal") {
+        Ok(alone(Event::Heal, fields)?)
     } else {
         Ok(Event::Do(act(alloc, nodes, word, fields)?))
     }
+}
+
+/// Puts the words of an event line.
+pub(crate) fn put_event(out: &mut Vec<u8>, event: &Event) -> Result<(), Memory>
+    ensures { OnOk result (out.new.items ≡ out.old.items ++ spaced (event_words event.now)) }
+{
+    match event {
+        Event::Up(node) => put_node_line(out, "up", *node),
+        Event::Crash(node) => put_node_line(out, "crash", *node),
+        Event::Stop { calls, image, act } => {
+            put(out, b"stop")?;
+            put_number_field(out, u64::from(*calls))?;
+            put_number_field(out, u64::from(*image))?;
+            put(out, b" ")?;
+            put_act(out, act)
+        }
+        Event::Do(act) => put_act(out, act),
+        Event::Held(node) => put_node_line(out, "held", *node),
+        Event::Show(node) => put_node_line(out, "show", *node),
+        Event::Settle => put(out, b"settle"),
+        Event::Heal => put(out, b"heal"),
+    }
+}
+
+/// Puts a word and a node.
+fn put_node_line(out: &mut Vec<u8>, word: &str, node: NodeId) -> Result<(), Memory>
+    ensures { OnOk result (out.new.items ≡ out.old.items ++ word.now ++ (codes " " ++ decimal node)) }
+{
+    put(out, word.as_bytes())?;
+    put_number_field(out, u64::from(node.0))
 }

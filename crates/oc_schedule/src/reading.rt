@@ -15,8 +15,8 @@ use std::alloc::Global;
 /// Reads the text of a schedule, any bytes: what it says, or its first fault.
 ///
 /// A text of too many bytes is refused before all else. Then each line is refused in this order:
-/// where there are too many lines, for the cause of the line, where too many bytes are published. A
-/// text without a header is refused at the line behind its last.
+/// where there are too many lines, for the cause of the line, where too many bytes are published,
+/// where it settles or heals too often. A text without a header is refused at the line behind its last.
 pub fn read(alloc: Global, bytes: &[u8]) -> Result<Schedule, ScheduleFault>
     ensures exact { Gives result (schedule_of bytes.now) }
 

@@ -37,7 +37,7 @@ returns-in-Ok-Replay-clause-happened g c =
             informed = c.every_count_is_informed.ensures.throughout s.header s.events;
             settled = c.settled_trees_are_listed_exactly.ensures.throughout s.header s.events;
           })
-          c.replay.ensures.done c.replay.ensures.text c.replay.ensures.limit
+          c.replay.ensures.done c.replay.ensures.text c.replay.ensures.limit c.replay.ensures.unsupported
           (both_on_source ((bytes : List ℕ) × g.S.Source.fails c.args.input.now bytes c.replay.new.source) (Rose (g.S.Source.faults c.args.input.now) (g.S.Source.faults c.replay.new.source)) c.replay.result c.replay.ensures.source c.replay.ensures.source_cause)
           c.replay.ensures.unwritten
           c.replay.ensures.unplayed

@@ -12,4 +12,4 @@ report-requires-clause-lawful g c =
     opened-lawful g.T.Stage.first g.met.T.Stage.opens c.args.schedule.now (opened c.deref.result.now) (g.T.Stage.world c.open.new.self) c.deref-2.result.now
     (ap opened c.deref.ensures.value ∙ ap (λ (s : Script). s.header) c.schedule.view_is)
     (c.deref-2.ensures.value ∙ ap (λ (s : Script). s.events) c.schedule.view_is)
-    c.in_ok-open.ensures c.requires
+    c.in_ok-open.ensures c.requires.lawful c.requires.supported

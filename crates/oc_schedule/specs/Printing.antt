@@ -1,0 +1,70 @@
+-- The text of a schedule: a line of words for the header, for each area that is not 0, and for each event.
+use Rattle.std.specs.Prelude.{ℕ, ◌+◌, ◌==◌, ◌<◌, ◌≤◌, if◌then◌else◌, List, [], ◌∷◌, ◌++◌, length, codes, decimal}
+use Rattle.std.specs.List.{AllByRecursion, flat_map}
+use Rattle.hex.specs.Hex.{encode_lower, IsBytes}
+use Rattle.oc_base.specs.declared.limits.TheConstants.{MAX_SCHEDULE_LINES, MAX_SCHEDULE_BYTES}
+use Rattle.oc_model.specs.declared.event.Act.{Act}
+use Rattle.oc_model.specs.declared.event.Act.TheVariants as acts
+use Rattle.oc_model.specs.declared.event.Event.{Event}
+use Rattle.oc_model.specs.declared.event.Event.TheVariants.{Do, Stop}
+use Rattle.oc_schedule.specs.Acts.{act_words}
+use Rattle.oc_schedule.specs.Lines.{header_words, area_words, event_words}
+use Rattle.oc_schedule.specs.Schedule.{IsSchedule}
+use Rattle.oc_schedule.specs.Script.{Script}
+
+-- words with a space between each two
+abbrev pub spaced : List (List ℕ) → List ℕ
+spaced [] = []
+spaced (word ∷ words) = word ++ flat_map (λ w. codes " " ++ w) words
+
+-- a line of these words
+abbrev pub line_text : List (List ℕ) → List ℕ
+line_text words = spaced words ++ codes "\n"
+
+-- the line of an act
+abbrev pub act_line : Act → List ℕ
+act_line act = line_text (act_words act)
+
+-- the line of a message that came to a node, by its bytes
+abbrev pub recv_line : ℕ → List ℕ → List ℕ
+recv_line node bytes = line_text (codes "recv" ∷ decimal node ∷ encode_lower bytes ∷ [])
+
+-- the line of a node's area, unless that is 0
+abbrev pub area_text : ℕ → ℕ → List ℕ
+area_text node area = if area == 0 then [] else line_text (area_words node area)
+
+-- those of the nodes from this one on
+abbrev pub areas_text : ℕ → List ℕ → List ℕ
+areas_text node [] = []
+areas_text node (area ∷ areas) = area_text node area ++ areas_text (node + 1) areas
+
+-- a line for each event
+abbrev pub events_text : List Event → List ℕ
+events_text [] = []
+events_text (event ∷ events) = line_text (event_words event) ++ events_text events
+
+-- the text of a schedule
+abbrev pub script_text : Script → List ℕ
+script_text s = line_text (header_words s.header.nodes s.header.chain) ++ areas_text 1 s.header.areas ++ events_text s.events
+
+-- how many areas have a line
+abbrev pub area_lines : List ℕ → ℕ
+area_lines [] = 0
+area_lines (area ∷ areas) = if area == 0 then area_lines areas else area_lines areas + 1
+
+-- what an act publishes is bytes
+abbrev pub PublishesBytes : Act → Type 0
+PublishesBytes (acts.Publish node group bytes) = IsBytes bytes
+PublishesBytes act = Unit {0}
+
+abbrev pub IsOfBytes : Event → Type 0
+IsOfBytes (Do act) = PublishesBytes act
+IsOfBytes (Stop calls image act) = PublishesBytes act
+IsOfBytes event = Unit {0}
+
+-- a schedule within its ranges whose text is within the limits
+pub record IsPrintable (s : Script) : Type 0 where
+  pub lawful : IsSchedule s
+  pub bytes : AllByRecursion IsOfBytes s.events
+  pub lines : 1 + area_lines s.header.areas + length s.events ≤ MAX_SCHEDULE_LINES
+  pub short : length (script_text s) ≤ MAX_SCHEDULE_BYTES

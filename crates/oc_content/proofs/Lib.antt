@@ -12,3 +12,4 @@ pub mod Puts
 pub mod Loading
 pub mod Locating
 pub mod Across
+pub mod ByPieces

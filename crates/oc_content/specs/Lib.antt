@@ -1,6 +1,7 @@
 pub mod Headings
 pub mod Errors
 pub mod Entries
+pub mod GroupPieces
 pub mod ContentFile
 pub mod Putting
 pub mod Tracks

@@ -21,6 +21,7 @@ mod errors;
 mod heading;
 mod index;
 mod indexing;
+mod law;
 mod piece;
 mod putting;
 mod reading;
@@ -28,6 +29,7 @@ mod spot;
 mod track;
 
 pub use content::Content;
+pub use law::{bodies_say_their_entry, groups_are_their_pieces};
 pub use errors::{ContentError, PutError, ReadError};
 pub use oc_base::Shelf;
 pub use oc_journal::AppendError;

@@ -1,4 +1,5 @@
 ghost use Rattle.std.specs.Prelude.{◌≡◌, ◌≢◌, ◌≤◌, ◌↔◌, IsTrue, true, false, Some, length, map, IfOk, IfSome};
+ghost use Rattle.oc_base.specs.declared.limits.TheConstants.{MAX_NODES};
 ghost use Rattle.oc_model.specs.Table.{newest, is_news, merge, leased_by, is_listed, IsListed, listed_in};
 ghost use Rattle.oc_cert.specs.Listing.{lines_in};
 ghost use Rattle.oc_cert.specs.TableView.{AreRows, entries_of, empty_table};
@@ -21,13 +22,14 @@ pub struct Table {
 
 impl Model for Table {
     ghost use Rattle.std.specs.Prelude.{length, ◌≤◌};
+    ghost use Rattle.oc_base.specs.declared.limits.TheConstants.{MAX_NODES};
     ghost use Rattle.oc_cert.specs.TableView.{TableView, AreRows, entries_of};
 
     ghost Value = { TableView };
 
     ghost view = { λ t. record { nodes = length t.rows.items; entries = entries_of t.rows.items } };
 
-    ghost invariant = { λ t. AreRows t.rows.items × (length t.rows.items ≤ 1024) };
+    ghost invariant = { λ t. AreRows t.rows.items × (length t.rows.items ≤ MAX_NODES) };
 }
 
 impl Table {
@@ -35,7 +37,7 @@ impl Table {
     #[tactic(auto, using(crate::proofs::Entries::no_rows, crate::proofs::Entries::no_entries))]
     pub fn new(alloc: Global, nodes: u32) -> Result<Table, Memory>
         requires least { 1 ≤ nodes }
-        requires most { nodes ≤ 1024 }
+        requires most { nodes ≤ MAX_NODES }
         ensures { IfOk result (λ table. table ≡ empty_table nodes) }
     {
         Ok(Table {
@@ -106,7 +108,7 @@ impl Table {
         ensures rows { AreRows result.now }
         ensures entries { entries_of result.now ≡ self.now.entries }
         ensures nodes { length result.now ≡ self.now.nodes }
-        ensures most { self.now.nodes ≤ 1024 }
+        ensures most { self.now.nodes ≤ MAX_NODES }
         ensures fewer { length self.now.entries ≤ self.now.nodes }
     {
         &self.rows

@@ -2,6 +2,7 @@
 use Rattle.std.proofs.Common.{◌≡◌, ℕ, ◌+◌, ◌≤◌, Bool, true, false, not, ◌&&◌, ◌||◌, ◌==◌, nat_lt, nat_le, if◌then◌else◌, Option, Some, None, ◌⊎◌, inl, inr, refl, sym, subst, ◌∙◌, arith}
 use Rattle.std.specs.Option.{option_or}
 use Rattle.std.proofs.lemmas.Bool.Decides.{nat_tests}
+use Rattle.oc_base.specs.declared.limits.TheConstants.{MAX_DEPTH}
 use Rattle.oc_base.specs.declared.rank.Rank.{Rank}
 use Rattle.oc_base.specs.declared.refusal.Refusal.{Refusal}
 use Rattle.oc_base.specs.declared.refusal.Refusal.TheVariants.{Own, NotJoined, Ancestor, Depth, Chain, Rank as TooLow}
@@ -47,7 +48,7 @@ at_ancestor h x r Ancestor at cause = cause
 at_ancestor h x r _ at cause = absurd (omega arith)
 
 -- at the fourth, that the host is too deep
-at_depth : (h : Host) (x : ℕ) (r : Option Rank) (why : Refusal) → place_of why ≡ 3 → HasCause h x r why → 1000 ≤ h.rank.depth
+at_depth : (h : Host) (x : ℕ) (r : Option Rank) (why : Refusal) → place_of why ≡ 3 → HasCause h x r why → MAX_DEPTH ≤ h.rank.depth
 at_depth h x r Depth at cause = cause
 at_depth h x r _ at cause = absurd (omega arith)
 
@@ -136,5 +137,5 @@ from_all h x r =
     place_before h x r 0 (x == h.me) Own _ refl (λ t. grind (arith, nat_tests)) (λ t other at cause. let e = at_own h x r other at cause in grind (arith, nat_tests))
     (place_before h x r 1 (not h.in_tree) NotJoined _ refl (λ t. not_true h.in_tree t) (λ t other at cause. let f : true ≡ false = sym (not_false h.in_tree t) ∙ at_not_joined h x r other at cause in absurd cc)
     (place_before h x r 2 (has h.ancestors x) Ancestor _ refl (λ t. has_among h.ancestors x t) (λ t other at cause. let e = among_has h.ancestors x (at_ancestor h x r other at cause) in absurd (let f : true ≡ false = sym e ∙ t in cc))
-    (place_before h x r 3 (nat_le 1000 h.rank.depth) Depth _ refl (λ t. grind (arith, nat_tests)) (λ t other at cause. let e = at_depth h x r other at cause in grind (arith, nat_tests))
+    (place_before h x r 3 (nat_le MAX_DEPTH h.rank.depth) Depth _ refl (λ t. grind (arith, nat_tests)) (λ t other at cause. let e = at_depth h x r other at cause in grind (arith, nat_tests))
     (from_chain h x r h.chain_child refl))))

@@ -1,4 +1,5 @@
 use Rattle.std.specs.Prelude.{◌≡◌, ℕ, ◌<◌, ◌≤◌, ◌⊎◌, false, Option, Some, None}
+use Rattle.oc_base.specs.declared.limits.TheConstants.{MAX_DEPTH}
 use Rattle.oc_base.specs.declared.rank.Rank.{Rank}
 use Rattle.oc_base.specs.declared.refusal.Refusal.{Refusal}
 use Rattle.oc_base.specs.declared.refusal.Refusal.TheVariants as refusals
@@ -22,7 +23,7 @@ abbrev pub HasCause : Host → ℕ → Option Rank → Refusal → Type 0
 HasCause h x r refusals.Own = x ≡ h.me
 HasCause h x r refusals.NotJoined = h.in_tree ≡ false
 HasCause h x r refusals.Ancestor = IsAmong x h.ancestors
-HasCause h x r refusals.Depth = 1000 ≤ h.rank.depth
+HasCause h x r refusals.Depth = MAX_DEPTH ≤ h.rank.depth
 HasCause h x r (refusals.Chain k) = BelongsBeneath h x k
 HasCause h x r refusals.Rank = IsNotBefore h.rank r
 

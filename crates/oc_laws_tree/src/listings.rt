@@ -1,16 +1,13 @@
 ghost use Rattle.std.specs.Prelude.{◌≡◌, ◌↔◌, ℕ, List};
 ghost use Rattle.oc_base.specs.declared.cert.Cert.{Cert};
-ghost use Rattle.oc_model.specs.declared.event.Event.{Event};
 ghost use Rattle.oc_model.specs.Chains.{IsRoot};
 ghost use Rattle.oc_model.specs.ClaimsTree.{table_of, IsExplained, IsInformed, HasMissingCause, HasWrongCause, IsWalk, IsTopmostFalse};
-ghost use Rattle.oc_model.specs.NextWorld.{world_after};
-ghost use Rattle.oc_model.specs.Node.{Header};
 ghost use Rattle.oc_model.specs.Ready.{IsSettled};
 ghost use Rattle.oc_model.specs.Table.{IsListed};
-ghost use Rattle.oc_model.specs.World.{World, new_world};
+ghost use Rattle.oc_model.specs.World.{World};
 ghost use Rattle.oc_laws_step.specs.Sound.{IsTable};
 ghost use Rattle.oc_laws_world.specs.Numbers.{HaveOnePeer, AskNumbersAreBelow};
-ghost use Rattle.oc_laws_world.specs.Throughout.{Throughout};
+ghost use Rattle.oc_laws_world.specs.Throughout.{Always};
 ghost use Rattle.oc_laws_tree.specs.Clients.{HaveOneCount, OwnNumbersAreBelow};
 ghost use Rattle.oc_laws_tree.specs.Coverage.{ChildrenAreCovered};
 ghost use Rattle.oc_laws_tree.specs.Grants.{FactsAreGranted};
@@ -25,8 +22,7 @@ ghost use Rattle.oc_laws_tree.specs.Listing.{SettledListsExactly};
 /// and should not be, the topmost false link of the listed way still has its lease, or a certificate about
 /// that child waits above.
 pub fn every_line_is_explained()
-    ensures after { (h : Header) (events : List Event) → IsExplained (world_after (new_world h) events) }
-    ensures throughout { (h : Header) (events : List Event) → Throughout IsExplained (new_world h) events }
+    ensures { Always IsExplained }
 {}
 
 /// Where a root's line of a node is right, so is its count of that node's clients, or the cause is at hand:
@@ -35,8 +31,7 @@ pub fn every_line_is_explained()
 /// The cause is one for which the line could be missing, or that the node's parent has not been told of its
 /// last own number yet.
 pub fn every_count_is_informed()
-    ensures after { (h : Header) (events : List Event) → IsInformed (world_after (new_world h) events) }
-    ensures throughout { (h : Header) (events : List Event) → Throughout IsInformed (new_world h) events }
+    ensures { Always IsInformed }
 {}
 
 /// A settled tree is listed exactly: after any events, from any new world, and in every world on the way.
@@ -44,8 +39,7 @@ pub fn every_count_is_informed()
 /// In a settled world the root's table tells of each node the first link of its live way, and lists no
 /// other, so no node that is down.
 pub fn settled_trees_are_listed_exactly()
-    ensures after { (h : Header) (events : List Event) → SettledListsExactly (world_after (new_world h) events) }
-    ensures throughout { (h : Header) (events : List Event) → Throughout SettledListsExactly (new_world h) events }
+    ensures { Always SettledListsExactly }
 {}
 
 /// Why lines and counts are explained: in a world of ascending tables it follows from what is said of ask

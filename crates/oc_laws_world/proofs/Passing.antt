@@ -4,8 +4,9 @@ use Rattle.oc_model.specs.declared.event.Act.{Act}
 use Rattle.oc_model.specs.declared.event.Event.{Event}
 use Rattle.oc_model.specs.declared.event.Event.TheVariants.{Settle, Heal}
 use Rattle.oc_model.specs.NextWorld.{settle_acts, heal_acts, next_world, world_after}
-use Rattle.oc_model.specs.World.{World, after_act}
-use Rattle.oc_laws_world.specs.Throughout.{Along, AlongAny, Inside, Throughout}
+use Rattle.oc_model.specs.World.{World, after_act, new_world}
+use Rattle.oc_model.specs.Node.{Header}
+use Rattle.oc_laws_world.specs.Throughout.{Along, AlongAny, Inside, Throughout, Always}
 
 module _ (J : World → Type 0) (of_act : (w : World) (a : Act) → J w → J (after_act w a)) (of_event : (w : World) (e : Event) → J w → J (next_world w e)) where
   pub passing_after : (w : World) (es : List Event) → J w → J (world_after w es)
@@ -29,3 +30,12 @@ module _ (J : World → Type 0) (of_act : (w : World) (a : Act) → J w → J (a
     pub passing_throughout : (w : World) → J w → (es : List Event) → Throughout Q w es
     passing_throughout w holds [] = follows w holds
     passing_throughout w holds (e ∷ es) = (follows w holds, passing_inside w holds e, passing_throughout (next_world w e) (of_event w e holds) es)
+
+-- what holds of each world on the way holds of the last one
+throughout_after : (P : World → Type 0) (w : World) (events : List Event) → Throughout P w events → P (world_after w events)
+throughout_after P w [] all = all
+throughout_after P w (e ∷ es) all = throughout_after P (next_world w e) es all.2
+
+-- so what holds throughout holds always
+pub always : (P : World → Type 0) → ((h : Header) (events : List Event) → Throughout P (new_world h) events) → Always P
+always P all = λ h events. (all h events, throughout_after P (new_world h) events (all h events))

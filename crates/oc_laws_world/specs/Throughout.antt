@@ -1,9 +1,11 @@
+-- What holds of each world on the way.
 use Rattle.std.specs.Prelude.{Option, Some, None, List, [], ◌∷◌}
 use Rattle.oc_model.specs.declared.event.Act.{Act}
 use Rattle.oc_model.specs.declared.event.Event.{Event}
 use Rattle.oc_model.specs.declared.event.Event.TheVariants.{Settle, Heal}
-use Rattle.oc_model.specs.NextWorld.{settle_acts, heal_acts, next_world}
-use Rattle.oc_model.specs.World.{World, after_act}
+use Rattle.oc_model.specs.NextWorld.{settle_acts, heal_acts, next_world, world_after}
+use Rattle.oc_model.specs.Node.{Header}
+use Rattle.oc_model.specs.World.{World, after_act, new_world}
 
 -- this holds of each world to which these acts lead, one after another
 abbrev pub Along : (World → Type 0) → World → List Act → Type 0
@@ -25,3 +27,7 @@ Inside P w e = Unit {0}
 abbrev pub Throughout : (World → Type 0) → World → List Event → Type 0
 Throughout P w [] = P w
 Throughout P w (e ∷ es) = P w × Inside P w e × Throughout P (next_world w e) es
+
+-- this holds after any events, in any order, from any new world, and of each world on the way
+abbrev pub Always : (World → Type 0) → Type 0
+Always P = (h : Header) (events : List Event) → Throughout P (new_world h) events × P (world_after (new_world h) events)

@@ -3,9 +3,9 @@
 //!
 //! A law is a public function with an empty body. Code that relies on it calls it, and then knows its
 //! clauses. [`content_stays_true`], [`ranks_hold`], [`parent_links_form_no_cycle`] and
-//! [`ask_numbers_have_one_peer`] speak of the world after a list of events, and what ends in
-//! `_throughout` of each world on the way, as a replay needs it. The lemmas on processes and groups in
-//! `proofs/` are of the model alone, for whoever stands above.
+//! [`ask_numbers_have_one_peer`] say what holds `Always`: after any list of events, and of each world on
+//! the way, as a replay needs it. The lemmas on processes and groups in `proofs/` are of the model alone,
+//! for the crates above.
 //!
 //! The laws of the tree are invariants of one fine machine (`proofs/Machine`), a transition system with
 //! some twenty small changes of one node: every step, start and stop is a sequence of them, whomever a
@@ -17,7 +17,7 @@ mod numbers;
 mod ranks;
 mod worlds;
 
-pub use content::{content_stays_true, content_stays_true_throughout};
-pub use numbers::{ask_numbers_have_one_peer, ask_numbers_have_one_peer_throughout};
-pub use ranks::{parent_links_form_no_cycle, ranks_hold, ranks_hold_throughout};
+pub use content::content_stays_true;
+pub use numbers::ask_numbers_have_one_peer;
+pub use ranks::{parent_links_form_no_cycle, ranks_hold};
 pub use worlds::{chains_are_computed, events_go_on, tests_decide};

@@ -16,9 +16,7 @@ use crate::words::{Request, WordsFault, read_words};
 use oc_laws_tree::{
     every_count_is_informed, every_line_is_explained, settled_trees_are_listed_exactly,
 };
-use oc_laws_world::{
-    content_stays_true_throughout, parent_links_form_no_cycle, ranks_hold_throughout,
-};
+use oc_laws_world::{content_stays_true, parent_links_form_no_cycle, ranks_hold};
 use oc_outside::{Sink, Source, write_all};
 use oc_replay::{ReplayEnd, replay};
 use oc_world::{Stage, World};
@@ -143,9 +141,9 @@ fn perform<S: Source, K: Sink, T: Stage>(
 {
     match read_words(alloc, words) {
         Ok(Request::Replay) => {
-            content_stays_true_throughout();
+            content_stays_true();
             parent_links_form_no_cycle();
-            ranks_hold_throughout();
+            ranks_hold();
             every_line_is_explained();
             every_count_is_informed();
             settled_trees_are_listed_exactly();

@@ -1,4 +1,5 @@
 ghost use Rattle.std.specs.Prelude.{◌≡◌, ◌+◌, ◌-◌, ◌^◌, ◌<◌, ◌≤◌, ◌↔◌, ◌++◌, [], ◌∷◌, IsTrue, Option, length, take, max, IfOk, OnOk, OnErr, IfSome};
+ghost use Rattle.oc_base.specs.declared.limits.TheConstants.{MAX_BASE_ACKED};
 ghost use Rattle.oc_model.specs.Node.{empty_log};
 ghost use Rattle.oc_model.specs.ChangeLog.{begun_with, note, ack, acked_whole, IsWaiting};
 ghost use Rattle.oc_cert.specs.TableView.{AreRows, AreRowsFrom, entries_of};
@@ -78,7 +79,7 @@ impl ChangeLog {
 
     /// Makes it a log of this length, all of it acknowledged. Takes no memory.
     pub fn rebase(&mut self, acked: u64)
-        requires { acked ≤ 2 ^ 62 }
+        requires { acked ≤ MAX_BASE_ACKED }
         ensures log { self.new.log ≡ acked_whole acked }
         ensures room { self.new.room ≡ self.old.room }
         ensures nodes { self.new.nodes ≡ self.old.nodes }

@@ -1,4 +1,5 @@
 ghost use Rattle.std.specs.Prelude.{◌≡◌, ◌-◌, ◌^◌, ◌≤◌, length, None, IfSome};
+ghost use Rattle.oc_base.specs.declared.limits.TheConstants.{LAST_SECOND};
 ghost use Rattle.oc_model.specs.Numbers.{at};
 ghost use Rattle.oc_model.specs.Table.{is_lease_of};
 ghost use Rattle.oc_model.specs.Leases.{renew, is_over, start_if, start_all, next_ended};
@@ -12,7 +13,7 @@ use oc_base::{Cert, NodeId};
 /// The lease of a child begins anew.
 pub(crate) fn renew(ends: &mut [Option<u64>], child: NodeId, now: u64)
     requires child { IsNode (length ends.old) child }
-    requires now { now ≤ 2 ^ 41 }
+    requires now { now ≤ LAST_SECOND }
     ensures { ends.new ≡ renew ends.old child now }
 {
     ends[child.index()] = Some(now + LEASE_TIME);
@@ -28,7 +29,7 @@ fn is_lease_of(parent: NodeId, cert: &Cert) -> bool
 /// The lease of a child begins, if no end is set for it.
 fn start(ends: &mut [Option<u64>], child: NodeId, now: u64)
     requires child { IsNode (length ends.old) child }
-    requires now { now ≤ 2 ^ 41 }
+    requires now { now ≤ LAST_SECOND }
     ensures { ends.new ≡ start_if (at ends.old child None) ends.old child now }
 {
     if ends[child.index()].is_none() {
@@ -39,7 +40,7 @@ fn start(ends: &mut [Option<u64>], child: NodeId, now: u64)
 /// The lease of the subject of a row begins, if it is a child of this node and has no end.
 fn start_of_row(row: &Option<Cert>, me: NodeId, ends: &mut [Option<u64>], now: u64)
     requires row { IfSome row.now (λ cert. IsNode (length ends.old) cert.subject) }
-    requires now { now ≤ 2 ^ 41 }
+    requires now { now ≤ LAST_SECOND }
     ensures { ends.new ≡ start_row me row.now ends.old now }
 {
     if let Some(cert) = row
@@ -53,7 +54,7 @@ fn start_of_row(row: &Option<Cert>, me: NodeId, ends: &mut [Option<u64>], now: u
 pub(crate) fn start_rows(rows: &[Option<Cert>], me: NodeId, ends: &mut [Option<u64>], now: u64)
     requires rows { AreRows rows.now }
     requires nodes { length rows.now ≤ length ends.old }
-    requires now { now ≤ 2 ^ 41 }
+    requires now { now ≤ LAST_SECOND }
     ensures { ends.new ≡ start_all (entries_of rows.now) me ends.old now }
 {
     for row in rows {

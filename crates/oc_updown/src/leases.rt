@@ -1,4 +1,5 @@
 ghost use Rattle.std.specs.Prelude.{◌≡◌, ◌^◌, ◌≤◌, length, replicate, None, IfOk};
+ghost use Rattle.oc_base.specs.declared.limits.TheConstants.{LAST_SECOND};
 ghost use Rattle.oc_model.specs.Leases.{renew, start_all, next_ended};
 ghost use Rattle.oc_base.specs.Lawful.{IsNode};
 ghost use Rattle.oc_updown.specs.Ended.{IsNextEnded};
@@ -43,7 +44,7 @@ impl Leases {
     #[tactic(auto, using(crate::proofs::Lengths::length_of_renewed))]
     pub fn renew(&mut self, child: NodeId, now: u64)
         requires child { IsNode (length self.old) child }
-        requires now { now ≤ 2 ^ 41 }
+        requires now { now ≤ LAST_SECOND }
         ensures ends { self.new ≡ renew self.old child now }
         ensures length { length self.new ≡ length self.old }
     {
@@ -54,7 +55,7 @@ impl Leases {
     #[tactic(auto, using(crate::proofs::Lengths::length_of_started))]
     pub fn start_all(&mut self, table: &Table, me: NodeId, now: u64)
         requires nodes { table.now.nodes ≤ length self.old }
-        requires now { now ≤ 2 ^ 41 }
+        requires now { now ≤ LAST_SECOND }
         ensures ends { self.new ≡ start_all table.now.entries me self.old now }
         ensures length { length self.new ≡ length self.old }
     {

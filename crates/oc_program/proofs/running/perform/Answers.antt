@@ -28,14 +28,14 @@ returns-in-Ok-Replay-clause-happened g c =
       c.in-Ok-Replay.ensures.replay.only (ap Ok c.in-Ok-Replay.field-0-is),
       happened_at o c.replay.result
           (λ s. record {
-            prefixes = c.content_stays_true_throughout.ensures.prefixes s.header s.events;
-            acknowledged = c.content_stays_true_throughout.ensures.acknowledged s.header s.events;
-            whole = c.content_stays_true_throughout.ensures.whole s.header s.events;
-            no_cycle = c.parent_links_form_no_cycle.ensures.throughout s.header s.events;
-            told_ranks = c.ranks_hold_throughout.ensures.told s.header s.events;
-            explained = c.every_line_is_explained.ensures.throughout s.header s.events;
-            informed = c.every_count_is_informed.ensures.throughout s.header s.events;
-            settled = c.settled_trees_are_listed_exactly.ensures.throughout s.header s.events;
+            prefixes = (c.content_stays_true.ensures.prefixes s.header s.events).0;
+            acknowledged = (c.content_stays_true.ensures.acknowledged s.header s.events).0;
+            whole = (c.content_stays_true.ensures.whole s.header s.events).0;
+            no_cycle = (c.parent_links_form_no_cycle.ensures s.header s.events).0;
+            told_ranks = (c.ranks_hold.ensures.told s.header s.events).0;
+            explained = (c.every_line_is_explained.ensures s.header s.events).0;
+            informed = (c.every_count_is_informed.ensures s.header s.events).0;
+            settled = (c.settled_trees_are_listed_exactly.ensures s.header s.events).0;
           })
           c.replay.ensures.done c.replay.ensures.text c.replay.ensures.limit c.replay.ensures.unsupported
           (both_on_source ((bytes : List ℕ) × g.S.Source.fails c.args.input.now bytes c.replay.new.source) (Rose (g.S.Source.faults c.args.input.now) (g.S.Source.faults c.replay.new.source)) c.replay.result c.replay.ensures.source c.replay.ensures.source_cause)

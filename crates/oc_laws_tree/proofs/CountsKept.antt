@@ -13,7 +13,6 @@ use Rattle.oc_model.specs.Adoption.{rank_or_last}
 use Rattle.oc_model.specs.ChangeLog.{next_certs, place_after}
 use Rattle.oc_base.specs.declared.limits.TheConstants.{MAX_CHECK_IN_CERTS}
 use Rattle.oc_model.specs.Checking.{life}
-use Rattle.oc_model.specs.NextWorld.{world_after}
 use Rattle.oc_model.specs.Node.{Header, Control}
 use Rattle.oc_model.specs.Numbers.{IsAmong}
 use Rattle.oc_model.specs.Records.{entered}
@@ -24,7 +23,7 @@ use Rattle.oc_laws_step.proofs.Merges.{among_left, among_split}
 use Rattle.oc_laws_step.proofs.Ranges.{all_take}
 use Rattle.oc_laws_world.specs.Numbers.{Tells, IsAnywhere}
 use Rattle.oc_laws_world.specs.Throughout.{Throughout}
-use Rattle.oc_laws_world.proofs.Laws.{law_after, law_throughout}
+use Rattle.oc_laws_world.proofs.Laws.{law_throughout}
 use Rattle.oc_laws_world.proofs.Lifts.{control_of, HasSent, Becomes, IsLaw, at_each}
 use Rattle.oc_laws_world.proofs.Listed.{all_among, among_either, all_merge, all_newest, all_noted, all_acked}
 use Rattle.oc_laws_world.proofs.Machine.{IsMachine, IsLoose, and_sent, with_kept}
@@ -327,9 +326,6 @@ counts_new h = record {
   new x = process_in-new h (range_with_len 1 h.nodes) x
 
 -- the law holds of every world
-pub counts_always : (h : Header) (events : List Event) → CountsHold (world_after (new_world h) events)
-counts_always h events = law_after CountsHold IsCounting counts_law h events (counts_new h)
-
 pub counts_throughout : (Q : World → Type 0) → ((w : World) → CountsHold w → Q w) → (h : Header) (events : List Event) → Throughout Q (new_world h) events
 counts_throughout Q follows h events = law_throughout CountsHold IsCounting counts_law Q follows h events (counts_new h)
 

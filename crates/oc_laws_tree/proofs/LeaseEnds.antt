@@ -11,7 +11,7 @@ use Rattle.oc_model.specs.declared.message.Body.{Body}
 use Rattle.oc_model.specs.declared.message.Body.TheVariants.{CheckIn}
 use Rattle.oc_model.specs.declared.message.Message.{Message}
 use Rattle.oc_model.specs.ClaimsTree.{table_of}
-use Rattle.oc_model.specs.NextWorld.{next_world, world_after, stopped}
+use Rattle.oc_model.specs.NextWorld.{next_world, stopped}
 use Rattle.oc_model.specs.Node.{Header, Control, Node, restarted}
 use Rattle.oc_model.specs.Numbers.{IsAmong}
 use Rattle.oc_model.specs.Step.{step}
@@ -22,7 +22,7 @@ use Rattle.oc_laws_world.specs.Numbers.{IsAnywhere}
 use Rattle.oc_laws_world.specs.Throughout.{Throughout}
 use Rattle.oc_laws_world.proofs.Laws.{Tabled, tables_new, tabled_act, tabled_event}
 use Rattle.oc_laws_world.proofs.Lifts.{HasSent, IsLaw, control_of, IsActLaw, act_lift, act_event}
-use Rattle.oc_laws_world.proofs.Passing.{passing_after, passing_throughout}
+use Rattle.oc_laws_world.proofs.Passing.{passing_throughout}
 use Rattle.oc_laws_world.proofs.Walks.{HasCome}
 use Rattle.oc_laws_tree.specs.LeaseEnds.{LeaseEndsLieAhead}
 use Rattle.oc_laws_tree.proofs.Known.{Knows}
@@ -107,12 +107,7 @@ module _ (JG : World → Type 0) (PG : World → ℕ → Control → List Messag
   ahead_event : (w : World) (e : Event) → Ahead w → Ahead (next_world w e)
   ahead_event w e holds = (tabled_event JG PG law w e holds.0, act_event (Tabled JG) AreAllAhead ahead_beside (tabled_act JG PG law) w e holds.0 holds.1)
 
-  -- after a list of events from a new world the lease ends lie ahead
-  pub lease_ends_after : (h : Header) → JG (new_world h) → (events : List Event) → LeaseEndsLieAhead (world_after (new_world h) events)
-  lease_ends_after h holds events =
-      lie_ahead (world_after (new_world h) events) (passing_after Ahead ahead_act ahead_event (new_world h) events ((tables_new h, holds), ahead_new h)).1
-
-  -- and so they do in each world on the way
+  -- the lease ends lie ahead in each world on the way
   pub lease_ends_throughout : (h : Header) → JG (new_world h) → (events : List Event) → Throughout LeaseEndsLieAhead (new_world h) events
   lease_ends_throughout h holds events =
       passing_throughout Ahead ahead_act ahead_event LeaseEndsLieAhead (λ w k. lie_ahead w k.1) (new_world h) ((tables_new h, holds), ahead_new h) events

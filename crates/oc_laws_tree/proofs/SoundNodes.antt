@@ -3,7 +3,7 @@ use Rattle.std.proofs.Common.{ℕ, true, List, [], ◌∷◌, length, ap, sym, s
 use Rattle.std.specs.List.{range_with_len}
 use Rattle.oc_model.specs.declared.event.Act.{Act}
 use Rattle.oc_model.specs.declared.event.Event.{Event}
-use Rattle.oc_model.specs.NextWorld.{next_world, world_after, stopped}
+use Rattle.oc_model.specs.NextWorld.{next_world, stopped}
 use Rattle.oc_model.specs.Node.{Header, Node, Durable}
 use Rattle.oc_base.specs.Groups.{shelf}
 use Rattle.oc_model.specs.declared.input.Input.{Input}
@@ -15,7 +15,7 @@ use Rattle.oc_laws_step.specs.Sound.{IsSound, IsSoundDurable}
 use Rattle.oc_laws_step.proofs.Soundness.{sound_new, sound_planned, sound_restarted}
 use Rattle.oc_laws_step.proofs.Unfolding.{snapshot_stands}
 use Rattle.oc_laws_world.specs.Throughout.{Throughout}
-use Rattle.oc_laws_world.proofs.Passing.{passing_after, passing_throughout}
+use Rattle.oc_laws_world.proofs.Passing.{passing_throughout}
 use Rattle.oc_laws_tree.specs.Clients.{kept_of}
 use Rattle.oc_laws_tree.specs.Coverage.{SnapshotsKeepLogs}
 
@@ -57,9 +57,6 @@ pub sound_in_new : (h : Header) → AreSound (new_world h)
 sound_in_new h x =
     let new : IsNew x (process (new_world h) x) = process_in-new h (range_with_len 1 h.nodes) x in
     subst (λ (p : Process). IsSound p.node.control) (sym new.1) (sound_new new.0 x)
-
-pub sound_after : (h : Header) (events : List Event) → AreSound (world_after (new_world h) events)
-sound_after h events = passing_after AreSound sound_act sound_event (new_world h) events (sound_in_new h)
 
 pub sound_throughout : (Q : World → Type 0) → ((w : World) → AreSound w → Q w) → (h : Header) (events : List Event) → Throughout Q (new_world h) events
 sound_throughout Q follows h events = passing_throughout AreSound sound_act sound_event Q follows (new_world h) (sound_in_new h) events

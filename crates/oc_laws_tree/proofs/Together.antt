@@ -2,11 +2,10 @@
 use Rattle.std.proofs.Common.{ℕ, List, inl, inr, refl, ⊎_elim}
 use Rattle.oc_model.specs.declared.event.Event.{Event}
 use Rattle.oc_model.specs.declared.message.Message.{Message}
-use Rattle.oc_model.specs.NextWorld.{world_after}
 use Rattle.oc_model.specs.Node.{Header, Control}
 use Rattle.oc_model.specs.World.{World, new_world}
 use Rattle.oc_laws_world.specs.Throughout.{Throughout}
-use Rattle.oc_laws_world.proofs.Laws.{both_laws, Tabled, tabled_after, tabled_throughout}
+use Rattle.oc_laws_world.proofs.Laws.{both_laws, Tabled, tabled_throughout}
 use Rattle.oc_laws_world.proofs.Lifts.{IsLaw}
 use Rattle.oc_laws_world.proofs.NumbersKept.{NumbersHold, IsCounting as IsAsking, numbers_law, numbers_new, one_peer, numbers_below}
 use Rattle.oc_laws_tree.specs.Coverage.{ChildrenAreCovered}
@@ -59,9 +58,6 @@ all_of : (w : World) → Tabled Asked w → AllHold w
 all_of w holds = record { asks = holds.1.0; counts = holds.1.1.0; grants = holds.1.1.1.0; sessions = holds.1.1.1.1 }
 
 -- what follows from them holds of every world
-pub all_after : (Q : World → Type 0) → ((w : World) → AllHold w → Q w) → (h : Header) (events : List Event) → Q (world_after (new_world h) events)
-all_after Q follows h events = follows (world_after (new_world h) events) (all_of (world_after (new_world h) events) (tabled_after Asked AskedNode asked_law h events (asked_new h)))
-
 pub all_throughout : (Q : World → Type 0) → ((w : World) → AllHold w → Q w) → (h : Header) (events : List Event) → Throughout Q (new_world h) events
 all_throughout Q follows h events = tabled_throughout Asked AskedNode asked_law Q (λ w holds. follows w (all_of w holds)) h events (asked_new h)
 

@@ -6,14 +6,13 @@ use Rattle.oc_model.specs.declared.event.Event.TheVariants.{Settle, Heal}
 use Rattle.oc_model.specs.declared.message.Body.{Body}
 use Rattle.oc_model.specs.declared.message.Body.TheVariants.{Fetch, Chunk}
 use Rattle.oc_model.specs.Claims.{HoldPrefixes, HoldAcknowledged, IsAcknowledged, SealedAreWhole, IsTrueChunk, ChunksAreTrue, SealedSourceStays}
-use Rattle.oc_model.specs.NextWorld.{settle_acts, heal_acts, next_world, world_after}
-use Rattle.oc_model.specs.Node.{Header}
-use Rattle.oc_model.specs.World.{World, node, new_world, after_act}
+use Rattle.oc_model.specs.NextWorld.{settle_acts, heal_acts, next_world}
+use Rattle.oc_model.specs.World.{World, node, after_act}
 use Rattle.oc_laws_world.specs.Throughout.{Along, AlongAny, Inside, Throughout}
 use Rattle.oc_model.proofs.Lists.{all_weaker}
 use Rattle.oc_model.proofs.Processes.{process_in-me}
 use Rattle.oc_laws_world.proofs.Truth.{IsTrueOfSource, IsTrueOfSender}
-use Rattle.oc_laws_world.proofs.Turns.{Sound, IsTrueIn, sound_new, sound_after, act_turn, event_turn}
+use Rattle.oc_laws_world.proofs.Turns.{Sound, IsTrueIn, act_turn, event_turn}
 
 -- a sound world has HoldPrefixes
 pub sound_prefixes : (w : World) → Sound w → HoldPrefixes w
@@ -50,10 +49,6 @@ sound_chunks w sound = all_weaker (IsTrueIn w) (λ m. IsTrueChunk w m.body) (λ 
 -- no event changes what is sealed in the source of a sound world
 pub sound_sealed : (w : World) → Sound w → (e : Event) → SealedSourceStays w e
 sound_sealed w sound e g s h closed = let grown = (event_turn w sound e).source g s h in grown.found ∙ ap Some (grown.stays closed)
-
--- every world to which events lead a new one is sound
-pub sound_always : (h : Header) (events : List Event) → Sound (world_after (new_world h) events)
-sound_always h events = sound_after (new_world h) (sound_new h) events
 
 -- Throughout
 

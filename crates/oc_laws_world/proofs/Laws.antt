@@ -6,7 +6,7 @@ use Rattle.oc_model.specs.declared.event.Act.{Act}
 use Rattle.oc_model.specs.declared.event.Event.{Event}
 use Rattle.oc_model.specs.declared.message.Message.{Message}
 use Rattle.oc_model.specs.Adopting.{birth}
-use Rattle.oc_model.specs.NextWorld.{next_world, world_after}
+use Rattle.oc_model.specs.NextWorld.{next_world}
 use Rattle.oc_model.specs.Node.{Header, Control}
 use Rattle.oc_model.specs.World.{World, Process, process, after_act, new_world}
 use Rattle.oc_model.proofs.Processes.{IsNew, process_in-new}
@@ -15,7 +15,7 @@ use Rattle.oc_laws_step.proofs.Tables.{table_merge}
 use Rattle.oc_laws_world.specs.Throughout.{Throughout}
 use Rattle.oc_laws_world.proofs.Lifts.{HasSent, IsLaw, AreTables, at_each, lift_act, lift_event}
 use Rattle.oc_laws_world.proofs.Machine.{IsMachine, both_kept}
-use Rattle.oc_laws_world.proofs.Passing.{passing_after, passing_throughout}
+use Rattle.oc_laws_world.proofs.Passing.{passing_throughout}
 
 -- two laws hold together
 pub both_laws : (J K : World → Type 0) (P Q : World → ℕ → Control → List Message → Type 0) → IsLaw J P → IsLaw K Q → IsLaw (λ w. J w × K w) (λ w x n ms. P w x n ms × Q w x n ms)
@@ -86,11 +86,7 @@ module _ (J : World → Type 0) (P : World → ℕ → Control → List Message 
   pub tabled_event : (w : World) (e : Event) → Tabled J w → Tabled J (next_world w e)
   tabled_event w e holds = lift_event (Tabled J) (TabledNode P) (tabled J P law) (λ v k. k.0) w e holds
 
-  -- from a new world on, so does a list of events
-  pub tabled_after : (h : Header) (events : List Event) → J (new_world h) → Tabled J (world_after (new_world h) events)
-  tabled_after h events holds = passing_after (Tabled J) tabled_act tabled_event (new_world h) events (tables_new h, holds)
-
-  -- and what follows holds of each world on the way
+  -- what follows holds of each world on the way from a new one
   pub tabled_throughout : (Q : World → Type 0) → ((w : World) → Tabled J w → Q w) → (h : Header) (events : List Event) → J (new_world h) → Throughout Q (new_world h) events
   tabled_throughout Q follows h events holds = passing_throughout (Tabled J) tabled_act tabled_event Q follows (new_world h) (tables_new h, holds) events
 
@@ -98,12 +94,5 @@ module _ (J : World → Type 0) (P : World → ℕ → Control → List Message 
   pub law_event : (w : World) (e : Event) → AreTables w → J w → J (next_world w e)
   law_event w e tables holds = (tabled_event w e (tables, holds)).1
 
-  pub law_after : (h : Header) (events : List Event) → J (new_world h) → J (world_after (new_world h) events)
-  law_after h events holds = (tabled_after h events holds).1
-
   pub law_throughout : (Q : World → Type 0) → ((w : World) → J w → Q w) → (h : Header) (events : List Event) → J (new_world h) → Throughout Q (new_world h) events
   law_throughout Q follows h events holds = tabled_throughout Q (λ w k. follows w k.1) h events holds
-
-  -- and where the tables alone are spoken of
-  pub tables_after : (h : Header) (events : List Event) → J (new_world h) → AreTables (world_after (new_world h) events)
-  tables_after h events holds = (tabled_after h events holds).0

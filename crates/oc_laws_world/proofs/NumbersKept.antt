@@ -16,7 +16,6 @@ use Rattle.oc_model.specs.ChangeLog.{next_certs, place_after}
 use Rattle.oc_base.specs.declared.limits.TheConstants.{MAX_CHECK_IN_CERTS}
 use Rattle.oc_model.specs.Checking.{life}
 use Rattle.oc_model.specs.ClaimsTree.{seq_of}
-use Rattle.oc_model.specs.NextWorld.{world_after}
 use Rattle.oc_model.specs.Node.{Header, Control}
 use Rattle.oc_model.specs.Numbers.{IsAmong}
 use Rattle.oc_model.specs.Records.{entered}
@@ -27,7 +26,7 @@ use Rattle.oc_laws_step.proofs.Merges.{among_left, among_split}
 use Rattle.oc_laws_step.proofs.Ranges.{all_take}
 use Rattle.oc_laws_world.specs.Numbers.{HasAskedIn, HasAsked, IsPeer, Tells, IsAnywhere, GoesWith, HaveOnePeer, AskNumbersAreBelow}
 use Rattle.oc_laws_world.specs.Throughout.{Throughout}
-use Rattle.oc_laws_world.proofs.Laws.{law_after, law_throughout}
+use Rattle.oc_laws_world.proofs.Laws.{law_throughout}
 use Rattle.oc_laws_world.proofs.Lifts.{control_of, HasSent, Becomes, IsLaw, at_each}
 use Rattle.oc_laws_world.proofs.Listed.{all_among, among_either, all_merge, all_newest, all_noted, all_acked}
 use Rattle.oc_laws_world.proofs.Machine.{IsMachine, IsLoose, and_sent, with_kept}
@@ -339,9 +338,6 @@ numbers_new h = record {
   new_mode x = ap (λ (p : Process). p.node.control.kept.mode) (new x).1
 
 -- the law holds of every world
-pub numbers_always : (h : Header) (events : List Event) → NumbersHold (world_after (new_world h) events)
-numbers_always h events = law_after NumbersHold IsCounting numbers_law h events (numbers_new h)
-
 pub numbers_throughout : (Q : World → Type 0) → ((w : World) → NumbersHold w → Q w) → (h : Header) (events : List Event) → Throughout Q (new_world h) events
 numbers_throughout Q follows h events = law_throughout NumbersHold IsCounting numbers_law Q follows h events (numbers_new h)
 

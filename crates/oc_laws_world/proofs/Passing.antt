@@ -9,10 +9,6 @@ use Rattle.oc_model.specs.Node.{Header}
 use Rattle.oc_laws_world.specs.Throughout.{Along, AlongAny, Inside, Throughout, Always}
 
 module _ (J : World → Type 0) (of_act : (w : World) (a : Act) → J w → J (after_act w a)) (of_event : (w : World) (e : Event) → J w → J (next_world w e)) where
-  pub passing_after : (w : World) (es : List Event) → J w → J (world_after w es)
-  passing_after w [] holds = holds
-  passing_after w (e ∷ es) holds = passing_after (next_world w e) es (of_event w e holds)
-
   module _ (Q : World → Type 0) (follows : (w : World) → J w → Q w) where
     passing_along : (w : World) → J w → (done : List Act) → Along Q w done
     passing_along w holds [] = tt

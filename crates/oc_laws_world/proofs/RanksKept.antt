@@ -12,7 +12,7 @@ use Rattle.oc_model.specs.declared.mode.Mode.TheVariants as modes
 use Rattle.oc_model.specs.Adopting.{in_tree}
 use Rattle.oc_model.specs.Adoption.{rank_or_last}
 use Rattle.oc_model.specs.Chains.{AreJoined, HasNoCycle}
-use Rattle.oc_model.specs.NextWorld.{next_world, world_after}
+use Rattle.oc_model.specs.NextWorld.{next_world}
 use Rattle.oc_model.specs.Node.{Header, Control}
 use Rattle.oc_model.specs.Numbers.{IsAmong}
 use Rattle.oc_model.specs.World.{World, Process, process, mode_of, new_world}
@@ -21,7 +21,7 @@ use Rattle.oc_model.proofs.Processes.{IsNew, process_in-me, process_in-new}
 use Rattle.oc_laws_step.proofs.RankOrder.{precedes_irreflexive, precedes_transitive}
 use Rattle.oc_laws_world.specs.Ranks.{own_rank, rank_of, IsRanked, IsAtLeast, NoRankWorsens, InTreeAreRanked, IsBacked, ToldRanksHold, ParentsPrecede}
 use Rattle.oc_laws_world.specs.Throughout.{Throughout}
-use Rattle.oc_laws_world.proofs.Laws.{HasTable, both_laws, tables_law, tables_new, law_event, law_after, law_throughout, tables_after}
+use Rattle.oc_laws_world.proofs.Laws.{HasTable, both_laws, tables_law, tables_new, law_event, law_throughout}
 use Rattle.oc_laws_world.proofs.Lifts.{control_of, HasSent, AreTables, Becomes, IsLaw, at_each}
 use Rattle.oc_laws_world.proofs.Machine.{IsMachine, IsLoose, and_sent}
 use Rattle.oc_laws_world.proofs.RankSteps.{Rises, precedes_by, at_least_then, precedes_beneath, rises_itself, rises_read, rises_then, rises_ranked, rises_no_worse, rises_epoch, rises_acting, rises_joined, rises_better}
@@ -195,20 +195,12 @@ ranks_new h = record {
   new_mode : (x : ℕ) → mode_of (new_world h) x ≡ modes.Idle
   new_mode x = let new : IsNew x (process (new_world h) x) = process_in-new h (range_with_len 1 h.nodes) x in ap (λ (p : Process). p.node.control.kept.mode) new.1
 
--- the law holds of every world
-pub ranks_always : (h : Header) (events : List Event) → RanksHold (new_world h) (world_after (new_world h) events)
-ranks_always h events = law_after (RanksHold (new_world h)) IsClimbing (ranks_law (new_world h)) h events (ranks_new h)
-
 -- no event worsens a rank, where the law holds beside any earlier world
 worsens_none : (old w : World) → AreTables w → RanksHold old w → (e : Event) → NoRankWorsens w e
 worsens_none old w tables holds e x =
     rises_no_worse (own_rank w x) (own_rank (next_world w e) x) ((law_event (RanksHold w) IsClimbing (ranks_law w) w e tables (ranks_still old w holds)).rise x)
 
-pub no_rank_worsens : (h : Header) (events : List Event) (e : Event) → NoRankWorsens (world_after (new_world h) events) e
-no_rank_worsens h events e =
-    worsens_none (new_world h) (world_after (new_world h) events) (tables_after (RanksHold (new_world h)) IsClimbing (ranks_law (new_world h)) h events (ranks_new h)) (ranks_always h events) e
-
--- nor does one in any world on the way
+-- so no event worsens one in any world on the way
 pub no_rank_worsens_throughout : (h : Header) (events : List Event) → Throughout (λ w. (e : Event) → NoRankWorsens w e) (new_world h) events
 no_rank_worsens_throughout h events =
     law_throughout (λ w. AreTables w × RanksHold (new_world h) w) (λ w x n ms. HasTable w x n ms × IsClimbing w x n ms)

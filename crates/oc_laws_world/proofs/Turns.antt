@@ -8,7 +8,7 @@ use Rattle.oc_model.specs.declared.event.Event.{Event}
 use Rattle.oc_model.specs.declared.event.Event.TheVariants.{Up, Crash, Stop, Do, Held, Show, Settle, Heal}
 use Rattle.oc_base.specs.declared.group.Group.{Group}
 use Rattle.oc_model.specs.declared.message.Message.{Message}
-use Rattle.oc_model.specs.NextWorld.{stopped, cut_off, keeps_write, stopped_at, settle_acts, heal_acts, after_any, next_world, world_after}
+use Rattle.oc_model.specs.NextWorld.{stopped, cut_off, keeps_write, stopped_at, settle_acts, heal_acts, after_any, next_world}
 use Rattle.oc_model.specs.Node.{Header, Node, Outcome, new_node, restarted}
 use Rattle.oc_model.specs.Runs.{after_acts}
 use Rattle.oc_model.specs.Step.{step}
@@ -234,8 +234,3 @@ event_turn w sound (Held x) = turn_itself w sound
 event_turn w sound (Show x) = turn_itself w sound
 event_turn w sound Settle = any_turn w sound (settle_acts w)
 event_turn w sound Heal = any_turn w sound (heal_acts w)
-
--- and so does a list of events
-pub sound_after : (w : World) → Sound w → (es : List Event) → Sound (world_after w es)
-sound_after w sound [] = sound
-sound_after w sound (e ∷ es) = sound_after (next_world w e) (event_turn w sound e).sound es

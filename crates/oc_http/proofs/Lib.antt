@@ -1,0 +1,14 @@
+pub mod Numbers
+pub mod Faults
+pub mod LineEnds
+pub mod Heads
+pub mod Forms
+pub mod TakenRequests
+pub mod TakenResponses
+pub mod OneAnswer
+pub mod Stops
+pub mod Filled
+pub mod Tests
+pub mod Written
+pub mod Answered
+pub mod OneReply

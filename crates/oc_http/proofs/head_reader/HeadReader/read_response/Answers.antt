@@ -1,0 +1,16 @@
+-- A fault in the body, behind the head.
+use Rattle.std.proofs.Common.{◌++◌, inr, refl}
+use Rattle.std.proofs.lemmas.Result.{err_from_is_err_and}
+use Rattle.oc_http.proofs.Answered.{took_then}
+use Rattle.oc_http.proofs.Stops.{Joins}
+use Rattle.oc_http.proofs.head_reader.HeadReader.read_response.Goals as goal
+
+pub returns-in_err-body-clause-refused : goal.returns-in_err-body-clause-refused
+returns-in_err-body-clause-refused g c =
+    let p = err_from_is_err_and c.from_residual-in_err-body.result c.from_residual-in_err-body.ensures.1 in
+    let joins : Joins g.S.Source.gives g.S.Source.fails = record { both = g.met.S.Source.gives_then; last = g.met.S.Source.gives_fails } in
+    let head = c.in_ok-head.ensures.read in
+    let stopped = rw c.body_length-length.ensures at c.in_err-body.ensures.refused in
+    let fault = c.in_err-body.field-0.0 in
+    let took = took_then joins c.args.source.now c.read_start.new.source c.take_content.new.source head.0 stopped.0 head.1 fault stopped.1 in
+    rw (p.1, p.2) (head.0 ++ stopped.0, took, inr (head.0, stopped.0, refl, record { head = c.in_ok-head.head; says = head.2; stops = stopped.2 }))

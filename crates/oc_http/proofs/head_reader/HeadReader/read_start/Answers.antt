@@ -1,0 +1,17 @@
+-- What the whole head says is the answer.
+use Rattle.httparse.specs.Grammar.{ReadsResponse}
+use Rattle.oc_http.specs.Responses.{read_reply_start}
+use Rattle.oc_http.proofs.Answered.{reply_start_fields, says, refuses}
+use Rattle.oc_http.proofs.head_reader.HeadReader.read_start.Goals as goal
+
+pub returns-clause-read : goal.returns-clause-read
+returns-clause-read g c =
+    let taken = c.in_ok-parts.ensures.whole in
+    let answered = rw c.deref.ensures.value at c.read_response_start.ensures in
+    says g.S.Source.gives ReadsResponse read_reply_start c.args.source.now c.take_response.new.source c.take_response.new.bytes.items answered.0 c.read_response_start.result taken.0 answered.1 taken.1.fits answered.2
+
+pub returns-clause-refused : goal.returns-clause-refused
+returns-clause-refused g c =
+    let taken = c.in_ok-parts.ensures.whole in
+    let answered = rw c.deref.ensures.value at c.read_response_start.ensures in
+    refuses g.S.Source.gives g.S.Source.fails ReadsResponse read_reply_start reply_start_fields c.args.source.now c.take_response.new.source _ c.take_response.new.bytes.items answered.0 c.read_response_start.result taken.0 answered.1 taken.1.fits answered.2

@@ -1,0 +1,20 @@
+use Rattle.std.proofs.Common.{refl}
+use Rattle.std.specs.Fmt.{digits}
+use Rattle.httparse.proofs.OnLiterals.{httparse_on_literals}
+use Rattle.oc_http.proofs.law.examples_compute.Goals as goal
+
+pub returns-clause-refused : goal.returns-clause-refused
+unfolding httparse_on_literals digits
+returns-clause-refused c = record { none = refl; old = refl; most_fields = refl; too_many_fields = refl; no_host = refl; two_hosts = refl; coding = refl; both = refl; no_number = refl; empty = refl; too_great = refl; twice = refl; no_length = refl; most = refl; too_long = refl }
+
+pub returns-clause-replies : goal.returns-clause-replies
+unfolding httparse_on_literals digits
+returns-clause-replies c = record { none = refl; chunked = refl; refused = refl; strange = refl; twice = refl; both = refl; long = refl; too_long = refl }
+
+pub returns-clause-parts : goal.returns-clause-parts
+unfolding httparse_on_literals digits
+returns-clause-parts c = record { path = refl; query = refl; no_query = refl; absolute = refl; authority = refl; other_scheme = refl; zeros = refl; greatest = refl; closes_last = refl; closes_not = refl; waits = refl; waits_not = refl; chunked = refl }
+
+pub returns-clause-texts : goal.returns-clause-texts
+unfolding httparse_on_literals digits
+returns-clause-texts c = record { request = refl; get = refl; probe = refl; follow = refl; redirect = refl; content = refl; no_content = refl; method = refl; denied = refl; kept = refl }

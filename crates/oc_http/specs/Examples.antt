@@ -1,0 +1,88 @@
+-- Worked examples of heads and texts.
+use Rattle.std.specs.Prelude.{◌≡◌, ℕ, true, false, Some, None, List, [], ◌∷◌, codes, replicate}
+use Rattle.oc_http.specs.Fields.{Named, closes, is_unusable, length_of}
+use Rattle.oc_http.specs.Requests.{head_fault, path_of, query_of, expects}
+use Rattle.oc_http.specs.Responses.{reply_head_fault, reply_fault, is_chunked}
+use Rattle.oc_http.specs.Writing.{request_text, get_text, follow_text, probe_text, head_text, response_text}
+use Rattle.oc_http.specs.declared.fault.HttpFault.TheVariants as faults
+use Rattle.oc_http.specs.declared.framing.Connection.TheVariants.{Keep}
+use Rattle.oc_http.specs.declared.framing.Framing.TheVariants as framings
+use Rattle.oc_http.specs.declared.head.Verb.TheVariants.{Get, Post}
+use Rattle.oc_http.specs.declared.reply.Reply.{Reply}
+
+abbrev host : Named
+host = (codes "hOST", codes "a")
+
+abbrev length_is : List ℕ → Named
+length_is value = (codes "Content-Length", value)
+
+abbrev coding_is : List ℕ → Named
+coding_is value = (codes "Transfer-Encoding", value)
+
+abbrev connection_is : List ℕ → Named
+connection_is value = (codes "connection", value)
+
+-- the faults of requests, each before those behind it
+pub record AreRefused : Type 0 where
+  pub none : head_fault Get 1 (host ∷ []) ≡ None
+  pub old : head_fault Get 0 [] ≡ None
+  pub most_fields : head_fault Get 0 (replicate 64 (codes "a", [])) ≡ None
+  pub too_many_fields : head_fault Get 1 (replicate 65 (codes "a", [])) ≡ Some faults.Fields
+  pub no_host : head_fault Get 1 (coding_is (codes "chunked") ∷ []) ≡ Some faults.Host
+  pub two_hosts : head_fault Get 0 (host ∷ host ∷ []) ≡ Some faults.Host
+  pub coding : head_fault Get 1 (host ∷ coding_is (codes "chunked") ∷ []) ≡ Some (faults.Coding false)
+  pub both : head_fault Get 1 (host ∷ length_is (codes "x") ∷ coding_is [] ∷ []) ≡ Some (faults.Coding true)
+  pub no_number : head_fault Post 1 (host ∷ length_is (codes "+1") ∷ []) ≡ Some (faults.Length false)
+  pub empty : head_fault Post 1 (host ∷ length_is [] ∷ []) ≡ Some (faults.Length false)
+  pub too_great : head_fault Get 1 (host ∷ length_is (codes "18446744073709551616") ∷ []) ≡ Some (faults.Length false)
+  pub twice : head_fault Post 1 (host ∷ length_is (codes "1") ∷ length_is (codes "1") ∷ []) ≡ Some (faults.Length false)
+  pub no_length : head_fault Post 1 (host ∷ []) ≡ Some (faults.Length true)
+  pub most : head_fault Post 1 (host ∷ length_is (codes "1000000") ∷ []) ≡ None
+  pub too_long : head_fault Get 1 (host ∷ length_is (codes "1000001") ∷ []) ≡ Some faults.BodyLong
+
+-- the faults of responses
+pub record AreRepliesRefused : Type 0 where
+  pub none : reply_fault [] ≡ None
+  pub chunked : reply_head_fault (coding_is (codes "CHUNKED") ∷ []) ≡ None
+  pub refused : reply_fault (coding_is (codes "chunked") ∷ []) ≡ Some (faults.Coding false)
+  pub strange : reply_head_fault (coding_is (codes "gzip") ∷ []) ≡ Some (faults.Coding false)
+  pub twice : reply_head_fault (coding_is (codes "chunked") ∷ coding_is (codes "chunked") ∷ []) ≡ Some (faults.Coding false)
+  pub both : reply_head_fault (coding_is (codes "chunked") ∷ length_is (codes "1") ∷ []) ≡ Some (faults.Coding true)
+  pub long : reply_head_fault (length_is (codes "1000001") ∷ []) ≡ None
+  pub too_long : reply_fault (length_is (codes "1000001") ∷ []) ≡ Some faults.BodyLong
+
+-- the parts of heads
+pub record AreParts : Type 0 where
+  pub path : path_of (codes "/a?b?c") ≡ codes "/a"
+  pub query : query_of (codes "/a?b?c") ≡ codes "b?c"
+  pub no_query : query_of (codes "/a") ≡ []
+  pub absolute : path_of (codes "HTTP://h:1/a/b?c") ≡ codes "/a/b"
+  pub authority : path_of (codes "http://h") ≡ codes "/"
+  pub other_scheme : path_of (codes "https://h/a") ≡ codes "https://h/a"
+  pub zeros : length_of (codes "007" ∷ []) ≡ Some 7
+  pub greatest : is_unusable (codes "18446744073709551615" ∷ []) ≡ false
+  pub closes_last : closes (connection_is (codes "keep-alive") ∷ connection_is (codes "a,\t Close ") ∷ []) ≡ true
+  pub closes_not : closes (connection_is (codes "closed, clo se") ∷ []) ≡ false
+  pub waits : expects 1 ((codes "Expect", codes "100-Continue") ∷ []) ≡ true
+  pub waits_not : expects 0 ((codes "Expect", codes "100-continue") ∷ []) ≡ false
+  pub chunked : is_chunked (coding_is (codes "Chunked") ∷ []) ≡ true
+
+abbrev reply : ℕ → Reply
+reply status = record { status = status; location = None; content_type = false; body = []; rule = None }
+
+-- the texts
+pub record AreTexts : Type 0 where
+  pub request : request_text (codes "node2") (codes "ab")
+      ≡ codes "POST /!overcast HTTP/1.1\r\nHost: node2\r\nContent-Type: application/octet-stream\r\nContent-Length: 2\r\nConnection: close\r\n\r\nab"
+  pub get : get_text (codes "/a") (Some (codes "start=2")) (codes "h:80") ≡ codes "GET /a?start=2 HTTP/1.1\r\nHost: h:80\r\nConnection: close\r\n\r\n"
+  pub probe : probe_text (codes "h") ≡ codes "GET /!probe HTTP/1.1\r\nHost: h\r\nConnection: close\r\n\r\n"
+  pub follow : follow_text (codes "/a") 10 (Some (codes "4")) (codes "h") ≡ codes "GET /a?start=10&follow&area=4 HTTP/1.1\r\nHost: h\r\n\r\n"
+  pub redirect : response_text (record (reply 302) { location = Some (codes "http://127.0.0.1:7002/news/a?start=2") })
+      ≡ codes "HTTP/1.1 302 Found\r\nLocation: http://127.0.0.1:7002/news/a?start=2\r\nContent-Length: 0\r\nConnection: close\r\n\r\n"
+  pub content : response_text (record (reply 200) { content_type = true; body = codes "llo" })
+      ≡ codes "HTTP/1.1 200 OK\r\nContent-Type: application/octet-stream\r\nContent-Length: 3\r\nConnection: close\r\n\r\nllo"
+  pub no_content : response_text (reply 204) ≡ codes "HTTP/1.1 204 No Content\r\nConnection: close\r\n\r\n"
+  pub method : response_text (reply 405) ≡ codes "HTTP/1.1 405 Method Not Allowed\r\nAllow: GET, HEAD, POST\r\nContent-Length: 0\r\nConnection: close\r\n\r\n"
+  pub denied : response_text (record (reply 403) { rule = Some 7 }) ≡ codes "HTTP/1.1 403 Forbidden\r\nOvercast-Rule: 7\r\nContent-Length: 0\r\nConnection: close\r\n\r\n"
+  pub kept : head_text (record (reply 200) { content_type = true }) framings.Chunked Keep
+      ≡ codes "HTTP/1.1 200 OK\r\nContent-Type: application/octet-stream\r\nTransfer-Encoding: chunked\r\n\r\n"

@@ -1,0 +1,11 @@
+pub mod Writing
+pub mod Fields
+pub mod Requests
+pub mod Responses
+pub mod Taking
+pub mod Found
+pub mod Gives
+pub mod Lines
+pub mod Answers
+pub mod Reads
+pub mod Examples

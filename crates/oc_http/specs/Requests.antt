@@ -1,0 +1,92 @@
+-- What the head of a request says, and which faults it has.
+use Rattle.std.specs.Prelude.{ℕ, Bool, true, false, not, ◌&&◌, ◌||◌, ◌==◌, nat_lt, if◌then◌else◌, Option, Some, None, unwrap_or, Result, List, length, take, drop, codes}
+use Rattle.std.specs.List.{before_first, after_first, position}
+use Rattle.std.specs.Str.{byte, bytes_eq}
+use Rattle.httparse.specs.Grammar.{RequestHead}
+use Rattle.oc_base.specs.declared.limits.TheConstants.{MAX_FIELDS, MAX_BODY_BYTES}
+use Rattle.oc_http.specs.Fields.{Named, named, fault_or, is_alike, is_present, is_repeated, is_only, is_unusable, length_of, hosts, codings, lengths, expectations, closes}
+use Rattle.oc_http.specs.declared.fault.HttpFault.{HttpFault}
+use Rattle.oc_http.specs.declared.fault.HttpFault.TheVariants as faults
+use Rattle.oc_http.specs.declared.head.Head.{Head}
+use Rattle.oc_http.specs.declared.head.Verb.{Verb}
+use Rattle.oc_http.specs.declared.head.Verb.TheVariants as verbs
+
+-- the method that this text names
+abbrev pub verb_of : List ℕ → Verb
+verb_of method =
+    if bytes_eq method (codes "GET") then verbs.Get
+    else if bytes_eq method (codes "HEAD") then verbs.Head
+    else if bytes_eq method (codes "POST") then verbs.Post
+    else verbs.Other
+
+abbrev pub is_post : Verb → Bool
+is_post verbs.Post = true
+is_post verb = false
+
+-- so a target begins that has scheme and authority, in any case
+abbrev pub scheme : List ℕ
+scheme = codes "http://"
+
+abbrev pub is_absolute : List ℕ → Bool
+is_absolute target = is_alike (take (length scheme) target) scheme
+
+-- from that place on, or a slash where there is none
+abbrev pub from_place : List ℕ → Option ℕ → List ℕ
+from_place rest None = codes "/"
+from_place rest (Some at) = drop at rest
+
+-- from the first slash on, or a slash where there is none
+abbrev pub from_slash : List ℕ → List ℕ
+from_slash rest = from_place rest (position (λ b. b == byte "/") rest)
+
+-- the target without scheme and authority
+abbrev pub origin_form : List ℕ → List ℕ
+origin_form target = if is_absolute target then from_slash (drop (length scheme) target) else target
+
+-- the target up to the first question mark
+abbrev pub path_of : List ℕ → List ℕ
+path_of target = before_first (λ b. b == byte "?") (origin_form target)
+
+-- what stands behind that question mark
+abbrev pub query_of : List ℕ → List ℕ
+query_of target = after_first (λ b. b == byte "?") (origin_form target)
+
+-- a request has one Host, and one of version 1.0 may have none
+abbrev pub has_host_fault : ℕ → List (List ℕ) → Bool
+has_host_fault minor values = is_repeated values || (minor == 1 && not (is_present values))
+
+-- the first fault of a request's head
+abbrev pub head_fault : Verb → ℕ → List Named → Option HttpFault
+head_fault verb minor fields =
+    if nat_lt MAX_FIELDS (length fields) then Some faults.Fields
+    else if has_host_fault minor (hosts fields) then Some faults.Host
+    else if is_present (codings fields) then Some (faults.Coding (is_present (lengths fields)))
+    else if is_unusable (lengths fields) then Some (faults.Length false)
+    else if is_post verb && not (is_present (lengths fields)) then Some (faults.Length true)
+    else if nat_lt MAX_BODY_BYTES (unwrap_or (length_of (lengths fields)) 0) then Some faults.BodyLong
+    else None
+
+-- a request of version 1.1 waits for 100 Continue before it sends the body
+abbrev pub expects : ℕ → List Named → Bool
+expects minor fields = minor == 1 && is_only (codes "100-continue") (expectations fields)
+
+-- what the head of a request says
+abbrev pub head_of : List ℕ → List ℕ → ℕ → List Named → Head
+head_of method target minor fields = record {
+  method = verb_of method;
+  path = path_of target;
+  query = query_of target;
+  length = unwrap_or (length_of (lengths fields)) 0;
+  expects = expects minor fields;
+  minor = minor;
+  closes = closes fields;
+}
+
+-- what these parts of a head say, or its first fault
+abbrev pub read_request_parts : List ℕ → List ℕ → ℕ → List Named → Result Head HttpFault
+read_request_parts method target minor fields =
+    fault_or (head_of method target minor fields) (head_fault (verb_of method) minor fields)
+
+-- what a whole head says, or its first fault
+abbrev pub read_request : RequestHead → Result Head HttpFault
+read_request head = read_request_parts head.method head.target head.minor (named head.fields)

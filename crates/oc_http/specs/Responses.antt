@@ -1,0 +1,63 @@
+-- What the head of a response says, which faults it has, and how long its body is.
+use Rattle.std.specs.Prelude.{◌≡◌, ℕ, ◌≤◌, Bool, false, not, ◌&&◌, ◌==◌, nat_lt, if◌then◌else◌, Option, Some, None, unwrap_or, Result, List, length, codes}
+use Rattle.httparse.specs.Grammar.{ResponseHead, status_code}
+use Rattle.oc_base.specs.declared.limits.TheConstants.{MAX_FIELDS, MAX_BODY_BYTES}
+use Rattle.oc_http.specs.Fields.{Named, named, fault_or, is_present, is_only, is_unusable, length_of, first_of, codings, lengths, locations, closes}
+use Rattle.oc_http.specs.declared.fault.HttpFault.{HttpFault}
+use Rattle.oc_http.specs.declared.fault.HttpFault.TheVariants as faults
+use Rattle.oc_http.specs.declared.reply.Reply.{Reply}
+use Rattle.oc_http.specs.declared.reply.ReplyHead.{ReplyHead}
+
+-- the body is sent in chunks, and nothing else is said of it
+abbrev pub is_chunked : List Named → Bool
+is_chunked fields = is_only (codes "chunked") (codings fields) && not (is_present (lengths fields))
+
+-- the first fault of a response's head, for a reader that understands chunks
+abbrev pub reply_head_fault : List Named → Option HttpFault
+reply_head_fault fields =
+    if nat_lt MAX_FIELDS (length fields) then Some faults.Fields
+    else if is_present (codings fields) && not (is_chunked fields) then Some (faults.Coding (is_present (lengths fields)))
+    else if is_unusable (lengths fields) then Some (faults.Length false)
+    else None
+
+-- the first fault of a response's head, for a reader of whole messages, which understands no transfer coding
+abbrev pub reply_fault : List Named → Option HttpFault
+reply_fault fields =
+    if nat_lt MAX_FIELDS (length fields) then Some faults.Fields
+    else if is_present (codings fields) then Some (faults.Coding (is_present (lengths fields)))
+    else if is_unusable (lengths fields) then Some (faults.Length false)
+    else if nat_lt MAX_BODY_BYTES (unwrap_or (length_of (lengths fields)) 0) then Some faults.BodyLong
+    else None
+
+-- what the head of a response says
+abbrev pub reply_head_of : ℕ → List Named → ReplyHead
+reply_head_of status fields = record {
+  status = status;
+  location = first_of (locations fields);
+  length = length_of (lengths fields);
+  chunked = is_chunked fields;
+  closes = closes fields;
+}
+
+-- what a whole head says, or its first fault
+abbrev pub read_reply_head : ResponseHead → Result ReplyHead HttpFault
+read_reply_head head =
+    fault_or (reply_head_of (status_code head) (named head.fields)) (reply_head_fault (named head.fields))
+
+-- the same for a reader of whole messages
+abbrev pub read_reply_start : ResponseHead → Result ReplyHead HttpFault
+read_reply_start head =
+    fault_or (reply_head_of (status_code head) (named head.fields)) (reply_fault (named head.fields))
+
+-- how many bytes the body has, and none where it goes to the end of the source; a 204 has no body
+abbrev pub body_length : ReplyHead → Option ℕ
+body_length head = if head.status == 204 then Some 0 else head.length
+
+-- these bytes are as long as a body, which without a length goes to the end
+abbrev pub IsLong : Option ℕ → List ℕ → Type 0
+IsLong (Some count) body = length body ≡ count
+IsLong None body = length body ≤ MAX_BODY_BYTES
+
+-- a response with this head and this body
+abbrev pub reply_of : ReplyHead → List ℕ → Reply
+reply_of head body = record { status = head.status; location = head.location; content_type = false; body = body; rule = None }

@@ -1,0 +1,117 @@
+-- Which bytes are taken of a source for a message, and what then is answered.
+use Rattle.std.specs.Prelude.{◌≡◌, ℕ, ◌<◌, ◌≤◌, ◌⊎◌, Option, Some, None, Result, Ok, Err, List, [], ◌∷◌, ◌++◌, length, ⊤}
+use Rattle.httparse.specs.Ascii.{line_feed}
+use Rattle.httparse.specs.Grammar.{ReadsRequest, ReadsResponse}
+use Rattle.oc_base.specs.declared.limits.TheConstants.{MAX_HEAD_BYTES, MAX_BODY_BYTES}
+use Rattle.oc_http.specs.Requests.{read_request}
+use Rattle.oc_http.specs.Responses.{read_reply_head, read_reply_start, body_length, IsLong, reply_of}
+use Rattle.oc_http.specs.declared.fault.HttpFault.{HttpFault}
+use Rattle.oc_http.specs.declared.fault.HttpFault.TheVariants.{Source, Ended, Head as NoHead, HeadLong, BodyLong, Memory}
+use Rattle.oc_http.specs.declared.head.Head.{Head}
+use Rattle.oc_http.specs.declared.reply.Reply.{Reply}
+use Rattle.oc_http.specs.declared.reply.ReplyHead.{ReplyHead}
+
+-- from the old source to the new one these bytes came, and with the fault `Source` a call then failed
+abbrev pub Took : {S : Type 0} → (S → List ℕ → S → Type 0) → (S → List ℕ → S → Type 0) → S → List ℕ → S → HttpFault → Type 0
+Took gives fails old bytes new Source = fails old bytes new
+Took gives fails old bytes new fault = gives old bytes new
+
+-- bytes can follow that make these a whole head
+abbrev pub CanBecome : {H : Type 0} → (List ℕ → H → List ℕ → Type 0) → List ℕ → Type 0
+CanBecome {H} Reads bytes = (more : List ℕ) × (head : H) × Reads (bytes ++ more) head []
+
+-- the bytes hold no whole head, and at the end of each line they could still become one
+pub record IsUnfinished {H : Type 0} (Reads : List ℕ → H → List ℕ → Type 0) (bytes : List ℕ) : Type 0 where
+  pub no_head : (head : H) (rest : List ℕ) → ¬ (Reads bytes head rest)
+  pub goes_on : (line rest : List ℕ) → bytes ≡ line ++ line_feed ∷ rest → CanBecome Reads (line ++ line_feed ∷ [])
+
+-- since the end of the last line no bytes can follow with which there is a head
+pub record IsHopeless {H : Type 0} (Reads : List ℕ → H → List ℕ → Type 0) (bytes : List ℕ) : Type 0 where
+  pub before : List ℕ
+  pub ends : bytes ≡ before ++ line_feed ∷ []
+  pub unfinished : IsUnfinished Reads before
+  pub never : (more : List ℕ) (head : H) (rest : List ℕ) → ¬ (Reads (bytes ++ more) head rest)
+
+-- the bytes are a whole head with nothing behind it, to which this is the answer
+pub record IsAnswered {H A : Type 0} (Reads : List ℕ → H → List ℕ → Type 0) (read : H → Result A HttpFault) (bytes : List ℕ) (answer : Result A HttpFault) : Type 0 where
+  pub head : H
+  pub whole : Reads bytes head []
+  pub fits : length bytes ≤ MAX_HEAD_BYTES
+  pub answer_is : read head ≡ answer
+
+-- with these bytes reading stopped before a whole head; done says that the source ended
+abbrev pub StopsInHead : {H : Type 0} → (List ℕ → H → List ℕ → Type 0) → List ℕ → Type 0 → HttpFault → Type 0
+StopsInHead Reads bytes done Source = IsUnfinished Reads bytes × (length bytes < MAX_HEAD_BYTES)
+StopsInHead Reads bytes done Ended = IsUnfinished Reads bytes × (length bytes < MAX_HEAD_BYTES) × done
+StopsInHead Reads bytes done NoHead = IsHopeless Reads bytes × (length bytes ≤ MAX_HEAD_BYTES)
+StopsInHead Reads bytes done HeadLong = IsUnfinished Reads bytes × (length bytes ≡ MAX_HEAD_BYTES)
+StopsInHead Reads bytes done Memory = ⊤
+StopsInHead Reads bytes done fault = ⊥
+
+-- with these bytes reading stopped, or they are a whole head that has the fault
+abbrev pub RefusesHead : {H A : Type 0} → (List ℕ → H → List ℕ → Type 0) → (H → Result A HttpFault) → List ℕ → Type 0 → HttpFault → Type 0
+RefusesHead Reads read bytes done Source = StopsInHead Reads bytes done Source
+RefusesHead Reads read bytes done Ended = StopsInHead Reads bytes done Ended
+RefusesHead Reads read bytes done NoHead = StopsInHead Reads bytes done NoHead
+RefusesHead Reads read bytes done HeadLong = StopsInHead Reads bytes done HeadLong
+RefusesHead Reads read bytes done Memory = ⊤
+RefusesHead Reads read bytes done fault = IsAnswered Reads read bytes (Err fault)
+
+-- the bytes are the head of a request that says this
+abbrev pub SaysRequest : List ℕ → Head → Type 0
+SaysRequest bytes head = IsAnswered ReadsRequest read_request bytes (Ok head)
+
+-- with these bytes the reading of a request's head ended with a fault
+abbrev pub RefusesRequest : List ℕ → Type 0 → HttpFault → Type 0
+RefusesRequest = RefusesHead ReadsRequest read_request
+
+-- the bytes are the head of a response that says this
+abbrev pub SaysReplyHead : List ℕ → ReplyHead → Type 0
+SaysReplyHead bytes head = IsAnswered ReadsResponse read_reply_head bytes (Ok head)
+
+-- with these bytes the reading of a response's head ended with a fault
+abbrev pub RefusesReplyHead : List ℕ → Type 0 → HttpFault → Type 0
+RefusesReplyHead = RefusesHead ReadsResponse read_reply_head
+
+-- the bytes are the head of a response that says this, for a reader of whole messages
+abbrev pub SaysReplyStart : List ℕ → ReplyHead → Type 0
+SaysReplyStart bytes head = IsAnswered ReadsResponse read_reply_start bytes (Ok head)
+
+-- with these bytes its reading ended with a fault
+abbrev pub RefusesReplyStart : List ℕ → Type 0 → HttpFault → Type 0
+RefusesReplyStart = RefusesHead ReadsResponse read_reply_start
+
+-- with these bytes the reading of a body of this length ended with a fault
+abbrev pub RefusesBody : ℕ → List ℕ → Type 0 → HttpFault → Type 0
+RefusesBody count bytes done Source = length bytes < count
+RefusesBody count bytes done Ended = (length bytes < count) × done
+RefusesBody count bytes done Memory = bytes ≡ []
+RefusesBody count bytes done fault = ⊥
+
+-- the same of a body that may go to the end of the source
+abbrev pub RefusesContent : Option ℕ → List ℕ → Type 0 → HttpFault → Type 0
+RefusesContent (Some count) bytes done fault = RefusesBody count bytes done fault
+RefusesContent None bytes done Source = length bytes ≤ MAX_BODY_BYTES
+RefusesContent None bytes done BodyLong = MAX_BODY_BYTES < length bytes
+RefusesContent None bytes done Memory = length bytes ≤ MAX_BODY_BYTES
+RefusesContent None bytes done fault = ⊥
+
+-- the bytes are the head of a response, which says this, and these are the body behind it
+pub record SaysReply (bytes body : List ℕ) (done : Type 0) (reply : Reply) : Type 0 where
+  pub head : ReplyHead
+  pub says : SaysReplyStart bytes head
+  pub long : IsLong (body_length head) body
+  pub whole : body_length head ≡ None → done
+  pub reply_is : reply ≡ reply_of head body
+
+-- the bytes are the head of a response, and with these bytes behind it the reading of the body ended with a fault
+pub record StopsInBody (bytes body : List ℕ) (done : Type 0) (fault : HttpFault) : Type 0 where
+  pub head : ReplyHead
+  pub says : SaysReplyStart bytes head
+  pub stops : RefusesContent (body_length head) body done fault
+
+-- with these bytes the reading of a response ended with a fault, in its head or in its body
+abbrev pub RefusesReply : List ℕ → Type 0 → HttpFault → Type 0
+RefusesReply bytes done fault =
+    RefusesReplyStart bytes done fault
+    ⊎ ((head body : List ℕ) × (bytes ≡ head ++ body) × StopsInBody head body done fault)

@@ -1,0 +1,145 @@
+-- The texts of requests and replies.
+use Rattle.std.specs.Prelude.{ℕ, ◌≤◌, Bool, true, false, ◌||◌, ◌==◌, if◌then◌else◌, Option, Some, None, IsSome, List, [], ◌++◌, length, codes, decimal, IsTrue}
+use Rattle.std.specs.Char.{is_ascii_alphanumeric}
+use Rattle.std.specs.List.{list_all}
+use Rattle.std.specs.Str.{byte}
+use Rattle.oc_http.specs.declared.reply.Reply.{Reply}
+use Rattle.oc_http.specs.declared.framing.Framing.{Framing}
+use Rattle.oc_http.specs.declared.framing.Framing.TheVariants as framings
+use Rattle.oc_http.specs.declared.framing.Connection.{Connection}
+use Rattle.oc_http.specs.declared.framing.Connection.TheVariants.{Close, Keep}
+
+-- the end of a line
+abbrev pub line_end : List ℕ
+line_end = codes "\r\n"
+
+-- a letter, a digit, `.`, `-` or `:`
+abbrev pub is_host_byte : ℕ → Bool
+is_host_byte b = is_ascii_alphanumeric b || b == byte "." || b == byte "-" || b == byte ":"
+
+-- 1 to 255 such bytes
+pub record IsHost (host : List ℕ) : Type 0 where
+  pub some : 1 ≤ length host
+  pub most : length host ≤ 255
+  pub bytes : IsTrue (list_all is_host_byte host)
+
+-- `Host: H`
+abbrev pub host_line : List ℕ → List ℕ
+host_line host = codes "Host: " ++ host ++ line_end
+
+-- `Content-Type: application/octet-stream`
+abbrev pub type_line : List ℕ
+type_line = codes "Content-Type: application/octet-stream\r\n"
+
+-- `Content-Length: N`
+abbrev pub length_line : ℕ → List ℕ
+length_line count = codes "Content-Length: " ++ decimal count ++ line_end
+
+-- `Connection: close`, save where the connection is kept
+abbrev pub connection_line : Connection → List ℕ
+connection_line Close = codes "Connection: close\r\n"
+connection_line Keep = []
+
+-- the head of a node's request with a body of so many bytes
+abbrev pub request_head_text : List ℕ → ℕ → List ℕ
+request_head_text host count =
+    codes "POST /!overcast HTTP/1.1\r\n" ++ host_line host ++ type_line ++ length_line count ++ connection_line Close ++ line_end
+
+-- a node's request with this body
+abbrev pub request_text : List ℕ → List ℕ → List ℕ
+request_text host body = request_head_text host (length body) ++ body
+
+-- a GET request
+abbrev pub get_request_text : List ℕ → List ℕ → Connection → List ℕ
+get_request_text target host connection =
+    codes "GET " ++ target ++ codes " HTTP/1.1\r\n" ++ host_line host ++ connection_line connection ++ line_end
+
+-- `?` and a query, where there is one
+abbrev pub query_text : Option (List ℕ) → List ℕ
+query_text None = []
+query_text (Some query) = codes "?" ++ query
+
+-- the request of a download
+abbrev pub get_text : List ℕ → Option (List ℕ) → List ℕ → List ℕ
+get_text path query host = get_request_text (path ++ query_text query) host Close
+
+-- the request of a probe
+abbrev pub probe_text : List ℕ → List ℕ
+probe_text host = get_text (codes "/!probe") None host
+
+-- `&area=A`, where there is one
+abbrev pub area_text : Option (List ℕ) → List ℕ
+area_text None = []
+area_text (Some area) = codes "&area=" ++ area
+
+-- the request of a download that follows a group, from a byte on
+abbrev pub follow_text : List ℕ → ℕ → Option (List ℕ) → List ℕ → List ℕ
+follow_text path start area host =
+    get_request_text (path ++ codes "?start=" ++ decimal start ++ codes "&follow" ++ area_text area) host Keep
+
+-- what a status is called
+abbrev pub phrase : ℕ → Option (List ℕ)
+phrase status =
+    if status == 200 then Some (codes "OK")
+    else if status == 204 then Some (codes "No Content")
+    else if status == 302 then Some (codes "Found")
+    else if status == 400 then Some (codes "Bad Request")
+    else if status == 403 then Some (codes "Forbidden")
+    else if status == 404 then Some (codes "Not Found")
+    else if status == 405 then Some (codes "Method Not Allowed")
+    else if status == 411 then Some (codes "Length Required")
+    else if status == 413 then Some (codes "Content Too Large")
+    else if status == 431 then Some (codes "Request Header Fields Too Large")
+    else if status == 501 then Some (codes "Not Implemented")
+    else None
+
+-- the status has a phrase
+abbrev pub HasPhrase : ℕ → Type 0
+HasPhrase status = IsSome (phrase status)
+
+-- the phrase of a status that has one
+abbrev pub phrase_or_none : Option (List ℕ) → List ℕ
+phrase_or_none None = []
+phrase_or_none (Some text) = text
+
+-- `HTTP/1.1 CODE PHRASE`
+abbrev pub status_line : ℕ → List ℕ
+status_line status = codes "HTTP/1.1 " ++ decimal status ++ codes " " ++ phrase_or_none (phrase status) ++ line_end
+
+-- `Location`, of a 302
+abbrev pub location_line : ℕ → Option (List ℕ) → List ℕ
+location_line status None = []
+location_line status (Some location) = if status == 302 then codes "Location: " ++ location ++ line_end else []
+
+-- `Allow`, of a 405
+abbrev pub allow_line : ℕ → List ℕ
+allow_line status = if status == 405 then codes "Allow: GET, HEAD, POST\r\n" else []
+
+-- `Overcast-Rule`, where a rule denied the request
+abbrev pub rule_line : Option ℕ → List ℕ
+rule_line None = []
+rule_line (Some rule) = codes "Overcast-Rule: " ++ decimal rule ++ line_end
+
+-- `Content-Type`, where it is told
+abbrev pub content_type_line : Bool → List ℕ
+content_type_line true = type_line
+content_type_line false = []
+
+-- where the content ends
+abbrev pub framing_line : Framing → List ℕ
+framing_line (framings.Length count) = length_line count
+framing_line framings.Chunked = codes "Transfer-Encoding: chunked\r\n"
+
+-- the same, save of a 204, which has no content
+abbrev pub content_line : ℕ → Framing → List ℕ
+content_line status framing = if status == 204 then [] else framing_line framing
+
+-- the head of a reply, with the empty line that ends it
+abbrev pub head_text : Reply → Framing → Connection → List ℕ
+head_text reply framing connection =
+    status_line reply.status ++ location_line reply.status reply.location ++ allow_line reply.status ++ rule_line reply.rule
+    ++ content_type_line reply.content_type ++ content_line reply.status framing ++ connection_line connection ++ line_end
+
+-- a reply with its body
+abbrev pub response_text : Reply → List ℕ
+response_text reply = head_text reply (framings.Length (length reply.body)) Close ++ reply.body

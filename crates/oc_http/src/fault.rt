@@ -1,0 +1,106 @@
+ghost use Rattle.std.specs.Prelude.{◌≡◌};
+ghost use Rattle.oc_http.specs.Reads.{fault_of_read};
+ghost use Rattle.oc_http.specs.declared.fault.HttpFault.TheVariants.{Memory as HttpMemory, Source as HttpSource};
+
+use oc_base::Memory;
+use oc_outside::{Failed, ReadFault};
+use std::alloc::{AllocError, AllocFailed};
+use std::error::Error;
+use std::fmt;
+
+/// Why a message was not read. The faults that a head can have at once come in this order.
+#[derive(Clone, Copy, Debug, PartialEq, Eq)]
+pub enum HttpFault {
+    /// A call on the source failed.
+    Source,
+    /// The source ended before the head or the body was whole.
+    Ended,
+    /// The bytes are no head, and none that follow make them one.
+    Head,
+    /// The head is longer than `MAX_HEAD_BYTES`.
+    HeadLong,
+    /// The head has more than `MAX_FIELDS` fields.
+    Fields,
+    /// There are several Host fields, or none in a request of version 1.1 (RFC 9112, section 3.2).
+    Host,
+    /// The body has a transfer coding that is not understood (RFC 9112, section 6.1).
+    Coding {
+        /// There is a Content-Length too.
+        both: bool,
+    },
+    /// The Content-Length is unusable (RFC 9112, section 6.3), or it is missing where it is wanted
+    /// (RFC 9110, section 15.5.12).
+    Length {
+        /// The field is missing, and is not just unusable.
+        missing: bool,
+    },
+    /// The body is longer than `MAX_BODY_BYTES`.
+    BodyLong,
+    /// Memory ran out.
+    Memory,
+}
+
+impl fmt::Display for HttpFault {
+    fn fmt<W: fmt::Write>(&self, f: &mut fmt::Formatter<W>) -> fmt::Result {
+        let text = match self {
+            HttpFault::Source => "the source failed",
+            HttpFault::Ended => "the source ended within a message",
+            HttpFault::Head => "the bytes are no head",
+            HttpFault::HeadLong => "the head is too long",
+            HttpFault::Fields => "the head has too many fields",
+            HttpFault::Host => "there is not one Host field",
+            HttpFault::Coding { .. } => "the transfer coding is not understood",
+            HttpFault::Length { missing: true } => "there is no Content-Length",
+            HttpFault::Length { missing: false } => "the Content-Length is no number",
+            HttpFault::BodyLong => "the body is too long",
+            HttpFault::Memory => "out of memory",
+        };
+        write!(f, "{text}")
+    }
+}
+
+impl Error for HttpFault {}
+
+impl From<Failed> for HttpFault {
+    ghost from_gives = { λ _ fault. fault ≡ HttpSource };
+
+    fn from(_failed: Failed) -> HttpFault {
+        HttpFault::Source
+    }
+}
+
+impl From<Memory> for HttpFault {
+    ghost from_gives = { λ _ fault. fault ≡ HttpMemory };
+
+    fn from(_memory: Memory) -> HttpFault {
+        HttpFault::Memory
+    }
+}
+
+impl From<AllocError> for HttpFault {
+    ghost from_gives = { λ _ fault. fault ≡ HttpMemory };
+
+    fn from(_error: AllocError) -> HttpFault {
+        HttpFault::Memory
+    }
+}
+
+impl<T: Drop> From<AllocFailed<T>> for HttpFault {
+    ghost from_gives = { λ _ fault. fault ≡ HttpMemory };
+
+    fn from(_error: AllocFailed<T>) -> HttpFault {
+        HttpFault::Memory
+    }
+}
+
+impl From<ReadFault> for HttpFault {
+    ghost from_gives = { λ read fault. fault ≡ fault_of_read read };
+
+    fn from(fault: ReadFault) -> HttpFault {
+        match fault {
+            ReadFault::Failed => HttpFault::Source,
+            ReadFault::TooMany => HttpFault::BodyLong,
+            ReadFault::Memory => HttpFault::Memory,
+        }
+    }
+}

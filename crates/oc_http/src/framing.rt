@@ -1,0 +1,15 @@
+/// How a reply tells where its content ends (RFC 9112, section 6).
+#[derive(Clone, Copy, Debug, PartialEq, Eq)]
+pub enum Framing {
+    /// By its length in bytes.
+    Length(u64),
+    /// By chunks.
+    Chunked,
+}
+
+/// What becomes of the connection behind a message (RFC 9112, section 9.6).
+#[derive(Clone, Copy, Debug, PartialEq, Eq)]
+pub enum Connection {
+    Close,
+    Keep,
+}

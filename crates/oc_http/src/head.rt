@@ -1,0 +1,28 @@
+use oc_base::Text;
+
+/// What a request's method is, as far as it matters here.
+#[derive(Clone, Copy, Debug, PartialEq, Eq)]
+pub enum Verb {
+    Get,
+    Head,
+    Post,
+    Other,
+}
+
+/// What the head of a request says.
+#[derive(Clone, Debug, Drop)]
+pub struct Head {
+    pub method: Verb,
+    /// The target up to the first `?`, without scheme and authority.
+    pub path: Text,
+    /// What stands behind that `?`.
+    pub query: Text,
+    /// The length of the body in bytes.
+    pub length: u64,
+    /// The client waits for `100 Continue` before it sends the body (RFC 9110, section 10.1.1).
+    pub expects: bool,
+    /// 1 for version 1.1, and 0 for 1.0.
+    pub minor: u8,
+    /// The client closes the connection behind this request (RFC 9112, section 9.6).
+    pub closes: bool,
+}

@@ -1,0 +1,49 @@
+//! Laws of the definitions.
+
+ghost use Rattle.std.specs.Prelude.{◌≡◌, ℕ, ◌≤◌, List, [], ◌++◌, length, Result, Ok};
+ghost use Rattle.oc_base.specs.declared.limits.TheConstants.{MAX_BODY_BYTES};
+ghost use Rattle.oc_http.specs.Answers.{IsDecided, AnswersRequest, AnswersReplyHead, AnswersReply, written_head};
+ghost use Rattle.oc_http.specs.Examples.{AreRefused, AreRepliesRefused, AreParts, AreTexts};
+ghost use Rattle.oc_http.specs.Taking.{SaysRequest};
+ghost use Rattle.oc_http.specs.Writing.{IsHost, request_head_text, request_text};
+ghost use Rattle.oc_http.specs.declared.fault.HttpFault.{HttpFault};
+ghost use Rattle.oc_http.specs.declared.head.Head.{Head};
+ghost use Rattle.oc_http.specs.declared.reply.Reply.{Reply};
+ghost use Rattle.oc_http.specs.declared.reply.ReplyHead.{ReplyHead};
+
+/// There is one answer to the bytes of a source, however they come: the head of a request that is read, or
+/// the fault, and what is left behind. A failed call and want of memory are left out.
+pub fn a_request_has_one_answer()
+    ensures { (left r s : List ℕ) (first second : Result Head HttpFault) → AnswersRequest left r first → AnswersRequest left s second
+        → IsDecided first → IsDecided second → (first ≡ second) × (r ≡ s) }
+{}
+
+/// The same of the head of a response.
+pub fn a_response_head_has_one_answer()
+    ensures { (left r s : List ℕ) (first second : Result ReplyHead HttpFault) → AnswersReplyHead left r first → AnswersReplyHead left s second
+        → IsDecided first → IsDecided second → (first ≡ second) × (r ≡ s) }
+{}
+
+/// The same of a whole response, of which a body that is too long may be taken further.
+pub fn a_response_has_one_answer()
+    ensures { (left r s : List ℕ) (first second : Result Reply HttpFault) → AnswersReply left r first → AnswersReply left s second
+        → IsDecided first → IsDecided second → first ≡ second }
+{}
+
+/// What `write_request` writes is read as the head of a POST to `/!overcast` with the body's length, and
+/// behind it the body is left.
+pub fn a_written_request_is_read()
+    ensures says { (host : List ℕ) (count : ℕ) → IsHost host → count ≤ MAX_BODY_BYTES
+        → SaysRequest (request_head_text host count) (written_head count) }
+    ensures read { (host body rest : List ℕ) (answer : Result Head HttpFault) → IsHost host → length body ≤ MAX_BODY_BYTES
+        → AnswersRequest (request_text host body) rest answer → IsDecided answer
+        → (answer ≡ Ok (written_head (length body))) × (rest ≡ body) }
+{}
+
+/// Worked examples compute from the definitions.
+pub fn examples_compute()
+    ensures refused { AreRefused }
+    ensures replies { AreRepliesRefused }
+    ensures parts { AreParts }
+    ensures texts { AreTexts }
+{}

@@ -1,0 +1,48 @@
+//! The lines of a head, taken of a source one byte at a time, so that nothing behind the head is taken.
+
+ghost use Rattle.std.specs.Prelude.{◌≡◌, ◌≤◌, [], IfOk, IfErr, OnErr, OnOk, IsErrOf, None, vec_len, vec_capacity};
+ghost use Rattle.oc_outside.specs.Faults.{NoFall, Rose};
+ghost use Rattle.oc_http.specs.Lines.{bytes_of, IsLineTaken, IsLineCut};
+
+use crate::fault::HttpFault;
+use oc_base::MAX_HEAD_BYTES;
+use oc_outside::{Failed, Source};
+
+/// The next byte of a source; `None` at its end.
+fn take_byte<S: Source>(source: &mut S) -> Result<Option<u8>, Failed>
+    ensures gives { IfOk result (λ byte. S.gives source.old (bytes_of byte) source.new) }
+    ensures end { IfOk result (λ byte. byte ≡ None → S.ended source.new) }
+    ensures fails { OnErr result (S.fails source.old [] source.new) }
+    ensures count { NoFall (S.faults source.old) (S.faults source.new) }
+    ensures cause { OnErr result (Rose (S.faults source.old) (S.faults source.new)) }
+{
+    let mut byte = [0];
+    let count = source.read(&mut byte)?;
+    if count == 0 {
+        return Ok(None);
+    }
+    Ok(Some(byte[0]))
+}
+
+/// Takes the rest of a line, with its end, and puts it behind the bytes of the head so far. There is
+/// room for them, so no memory is taken.
+pub(crate) fn take_line<S: Source>(source: &mut S, bytes: &mut Vec<u8>) -> Result<(), HttpFault>
+    requires short { vec_len bytes.old ≤ MAX_HEAD_BYTES }
+    requires room { MAX_HEAD_BYTES ≤ vec_capacity bytes.old }
+    ensures line { OnOk result (IsLineTaken S.gives source.old source.new bytes.old.items bytes.new.items) }
+    ensures cut { IfErr result (IsLineCut S.gives S.fails source.old source.new bytes.old.items (S.ended source.new)) }
+    ensures room { MAX_HEAD_BYTES ≤ vec_capacity bytes.new }
+    ensures count { NoFall (S.faults source.old) (S.faults source.new) }
+    ensures cause { IsErrOf result HttpFault.Source → Rose (S.faults source.old) (S.faults source.new) }
+{
+    'bytes: while bytes.len() < MAX_HEAD_BYTES {
+        let Some(byte) = take_byte(source)? else {
+            return Err(HttpFault::Ended);
+        };
+        bytes.push(byte)?;
+        if byte == b'\n' {
+            return Ok(());
+        }
+    }
+    Err(HttpFault::HeadLong)
+}

@@ -1,0 +1,30 @@
+use oc_base::{Bytes, Text};
+
+/// A response that is written, or what is read of one.
+#[derive(Clone, Debug, Drop)]
+pub struct Reply {
+    /// The status code (RFC 9110, section 15).
+    pub status: u16,
+    /// Where the client is sent by a 302.
+    pub location: Option<Text>,
+    /// The content is bytes of a group or a message, so its type is told.
+    pub content_type: bool,
+    pub body: Bytes,
+    /// The number of the access rule that denied the request.
+    pub rule: Option<u32>,
+}
+
+/// What the head of a response says.
+#[derive(Clone, Debug, Drop)]
+pub struct ReplyHead {
+    /// The status code (RFC 9110, section 15).
+    pub status: u16,
+    /// Where the client is sent by a 302.
+    pub location: Option<Text>,
+    /// The length of the body in bytes, where it is told.
+    pub length: Option<u64>,
+    /// The body is sent in chunks (RFC 9112, section 7.1).
+    pub chunked: bool,
+    /// The server closes the connection behind this response (RFC 9112, section 9.6).
+    pub closes: bool,
+}

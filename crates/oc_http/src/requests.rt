@@ -1,0 +1,134 @@
+//! What the head of a request says.
+
+ghost use Rattle.std.specs.Prelude.{◌≡◌, [], unwrap_or};
+ghost use Rattle.httparse.specs.Grammar.{ReadsRequest, RequestHead};
+ghost use Rattle.oc_http.specs.Fields.{is_unusable, length_of, lengths, hosts, codings, is_present, fault_or};
+ghost use Rattle.oc_http.specs.Requests.{verb_of, is_absolute, from_slash, origin_form, path_of, query_of, has_host_fault, head_fault, expects, read_request, read_request_parts};
+ghost use Rattle.oc_http.specs.Lines.{IsRequestTaken};
+ghost use Rattle.oc_http.specs.Gives.{Gives};
+
+use crate::fault::HttpFault;
+use crate::fields::Fields;
+use crate::found::Found;
+use crate::head::{Head, Verb};
+use crate::text::{copy, cut_at_first, is_alike, place_of};
+use httparse::spans::{HeaderSpan, RequestSpans};
+use oc_base::{MAX_BODY_BYTES, MAX_FIELDS};
+use std::alloc::Global;
+
+/// So a target begins that has scheme and authority, in any case.
+const SCHEME: &str = "http://";
+
+/// What the head of a request says, or its first fault. The head is all of the bytes.
+pub(crate) fn read_request(
+    alloc: Global,
+    bytes: &[u8],
+    spans: &[HeaderSpan],
+    parts: RequestSpans,
+) -> Result<Head, HttpFault>
+    requires { IsRequestTaken bytes.now spans.now parts }
+    ensures { (head : RequestHead) × ReadsRequest bytes.now head [] × Gives result (read_request head) }
+{
+    let fields = Fields::of(bytes, &spans[..parts.headers]);
+    let method = parts.method.of(bytes);
+    let target = parts.path.of(bytes);
+    read_parts(alloc, method, target, parts.version, &fields)
+}
+
+/// What the parts of a head say, or its first fault.
+fn read_parts(
+    alloc: Global,
+    method: &[u8],
+    target: &[u8],
+    minor: u8,
+    fields: &Fields,
+) -> Result<Head, HttpFault>
+    ensures { Gives result (read_request_parts method.now target.now minor fields.now) }
+{
+    let method = verb_of(method);
+    let length = body_length(method, minor, fields)?;
+    let (path, query) = cut_at_first(origin_form(target), b'?');
+    Ok(Head {
+        method,
+        path: copy(alloc, path)?,
+        query: copy(alloc, query)?,
+        length,
+        expects: expects(minor, fields),
+        minor,
+        closes: fields.closes(),
+    })
+}
+
+/// The length of the body in bytes, 0 where none is told, or the first fault of the head.
+fn body_length(method: Verb, minor: u8, fields: &Fields) -> Result<u64, HttpFault>
+    ensures { result ≡ fault_or (unwrap_or (length_of (lengths fields.now)) 0) (head_fault method minor fields.now) }
+{
+    if fields.count() > MAX_FIELDS {
+        return Err(HttpFault::Fields);
+    }
+    if has_host_fault(minor, fields) {
+        return Err(HttpFault::Host);
+    }
+    match fields.checked_length()? {
+        None if method == Verb::Post => Err(HttpFault::Length { missing: true }),
+        None => Ok(0),
+        Some(length) if length > MAX_BODY_BYTES => Err(HttpFault::BodyLong),
+        Some(length) => Ok(length),
+    }
+}
+
+/// The method that a text names.
+fn verb_of(method: &[u8]) -> Verb
+    ensures { result ≡ verb_of method.now }
+{
+    match method {
+        b"GET" => Verb::Get,
+        b"HEAD" => Verb::Head,
+        b"POST" => Verb::Post,
+        _ => Verb::Other,
+    }
+}
+
+/// The target without scheme and authority (RFC 9112, section 3.2).
+fn origin_form(target: &[u8]) -> &[u8]
+    ensures { result.now ≡ origin_form target.now }
+{
+    if !is_absolute(target) {
+        return target;
+    }
+    from_slash(&target[SCHEME.len()..])
+}
+
+fn is_absolute(target: &[u8]) -> bool
+    ensures { result ≡ is_absolute target.now }
+{
+    target.len() >= SCHEME.len() && is_alike(&target[..SCHEME.len()], SCHEME)
+}
+
+/// The bytes from the first slash on, or a slash where there is none.
+fn from_slash(rest: &[u8]) -> &[u8]
+    ensures { result.now ≡ from_slash rest.now }
+{
+    match place_of(rest, b'/') {
+        Some(at) => &rest[at..],
+        None => b"/",
+    }
+}
+
+/// Whether Host stands more than once, or is missing in a request of version 1.1.
+fn has_host_fault(minor: u8, fields: &Fields) -> bool
+    ensures { result ≡ has_host_fault minor (hosts fields.now) }
+{
+    match fields.find("host") {
+        Found::Absent => minor == 1,
+        Found::One(_) => false,
+        Found::Several(_) => true,
+    }
+}
+
+/// Whether the client waits for `100 Continue`.
+fn expects(minor: u8, fields: &Fields) -> bool
+    ensures { result ≡ expects minor fields.now }
+{
+    minor == 1 && fields.has_only("expect", "100-continue")
+}

@@ -1,0 +1,124 @@
+//! What the head of a response says.
+
+ghost use Rattle.std.specs.Prelude.{◌≡◌, ◌&&◌, [], not, IfOk};
+ghost use Rattle.httparse.specs.Grammar.{ReadsResponse, ResponseHead};
+ghost use Rattle.oc_http.specs.Fields.{fault_or, first_of, locations, length_of, lengths, is_present, codings};
+ghost use Rattle.oc_http.specs.Gives.{Gives};
+ghost use Rattle.oc_http.specs.Responses.{is_chunked, reply_fault, reply_head_fault, reply_head_of, read_reply_head, read_reply_start, body_length};
+ghost use Rattle.oc_http.specs.Lines.{IsResponseTaken};
+
+use crate::fault::HttpFault;
+use crate::fields::Fields;
+use crate::found::Found;
+use crate::reply::ReplyHead;
+use crate::text::copy;
+use httparse::spans::{HeaderSpan, ResponseSpans};
+use oc_base::{MAX_BODY_BYTES, MAX_FIELDS, Memory, Text};
+use std::alloc::Global;
+
+/// What the head of a response says, or its first fault, for a reader that understands chunks. The head
+/// is all of the bytes.
+pub(crate) fn read_response_head(
+    alloc: Global,
+    bytes: &[u8],
+    spans: &[HeaderSpan],
+    parts: ResponseSpans,
+) -> Result<ReplyHead, HttpFault>
+    requires { IsResponseTaken bytes.now spans.now parts }
+    ensures { (head : ResponseHead) × ReadsResponse bytes.now head [] × Gives result (read_reply_head head) }
+{
+    let fields = Fields::of(bytes, &spans[..parts.headers]);
+    read_reply_head(alloc, parts.code, &fields)
+}
+
+/// The same for a reader of whole messages, which understands no transfer coding.
+pub(crate) fn read_response_start(
+    alloc: Global,
+    bytes: &[u8],
+    spans: &[HeaderSpan],
+    parts: ResponseSpans,
+) -> Result<ReplyHead, HttpFault>
+    requires { IsResponseTaken bytes.now spans.now parts }
+    ensures { (head : ResponseHead) × ReadsResponse bytes.now head [] × Gives result (read_reply_start head) }
+{
+    let fields = Fields::of(bytes, &spans[..parts.headers]);
+    read_reply_start(alloc, parts.code, &fields)
+}
+
+/// How many bytes the body has, `None` where it goes to the end of the source (RFC 9112, section 6.3).
+pub(crate) fn body_length(head: &ReplyHead) -> Option<u64>
+    ensures { result ≡ body_length head.now }
+{
+    if head.status == 204 {
+        Some(0)
+    } else {
+        head.length
+    }
+}
+
+/// What a status and fields say, or their first fault, for a reader that understands chunks.
+fn read_reply_head(alloc: Global, status: u16, fields: &Fields) -> Result<ReplyHead, HttpFault>
+    ensures { Gives result (fault_or (reply_head_of status fields.now) (reply_head_fault fields.now)) }
+{
+    let length = told_length(fields)?;
+    Ok(ReplyHead {
+        status,
+        location: location(alloc, fields)?,
+        length,
+        chunked: is_chunked(fields),
+        closes: fields.closes(),
+    })
+}
+
+/// The same for a reader of whole messages, which understands no transfer coding.
+fn read_reply_start(alloc: Global, status: u16, fields: &Fields) -> Result<ReplyHead, HttpFault>
+    ensures { Gives result (fault_or (reply_head_of status fields.now) (reply_fault fields.now)) }
+{
+    let head = read_reply_head(alloc, status, fields)?;
+    if head.chunked {
+        return Err(HttpFault::Coding { both: false });
+    }
+    match head.length {
+        Some(length) if length > MAX_BODY_BYTES => Err(HttpFault::BodyLong),
+        _ => Ok(head),
+    }
+}
+
+/// The length of the body in bytes, where it is told, or the first fault of the head.
+fn told_length(fields: &Fields) -> Result<Option<u64>, HttpFault>
+    ensures { result ≡ fault_or (length_of (lengths fields.now)) (reply_head_fault fields.now) }
+{
+    if fields.count() > MAX_FIELDS {
+        return Err(HttpFault::Fields);
+    }
+    if has_strange_coding(fields) {
+        return Err(HttpFault::Coding {
+            both: fields.is_present("content-length"),
+        });
+    }
+    fields.length()
+}
+
+/// Whether there is a transfer coding but `chunked` alone.
+fn has_strange_coding(fields: &Fields) -> bool
+    ensures { result ≡ (is_present (codings fields.now) && not (is_chunked fields.now)) }
+{
+    fields.is_present("transfer-encoding") && !is_chunked(fields)
+}
+
+/// Whether the body is sent in chunks, and nothing else is said of it.
+fn is_chunked(fields: &Fields) -> bool
+    ensures { result ≡ is_chunked fields.now }
+{
+    fields.has_only("transfer-encoding", "chunked") && !fields.is_present("content-length")
+}
+
+/// The value of the first Location field.
+fn location(alloc: Global, fields: &Fields) -> Result<Option<Text>, Memory>
+    ensures { IfOk result (λ location. location ≡ first_of (locations fields.now)) }
+{
+    match fields.find("location") {
+        Found::Absent => Ok(None),
+        Found::One(first) | Found::Several(first) => Ok(Some(copy(alloc, first)?)),
+    }
+}

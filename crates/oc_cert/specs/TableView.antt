@@ -4,14 +4,11 @@ use Rattle.std.specs.List.{filter_map}
 use Rattle.oc_base.specs.declared.cert.Cert.{Cert}
 use Rattle.oc_base.specs.Lawful.{IsCert}
 
--- the number of nodes, and a certificate for each that has one, ascending by subject
+-- the number of nodes, a certificate for each that has one, ascending by subject, and how many rows there is memory for
 pub record TableView : Type 0 where
   pub nodes : ℕ
   pub entries : List Cert
-
--- a table of this many nodes with nothing in it
-abbrev pub empty_table : ℕ → TableView
-empty_table nodes = record { nodes = nodes; entries = [] }
+  pub room : ℕ
 
 -- the rows of the nodes from x on: what stands at the place of a node is about that node
 abbrev pub AreRowsFrom : ℕ → ℕ → List (Option Cert) → Type 0

@@ -1,8 +1,8 @@
-ghost use Rattle.std.specs.Prelude.{◌≡◌, ◌≢◌, ◌≤◌, ◌↔◌, IsTrue, true, false, Some, length, map, IfOk, IfSome};
+ghost use Rattle.std.specs.Prelude.{◌≡◌, ◌≢◌, ◌≤◌, ◌↔◌, IsTrue, true, false, Some, [], length, map, IfOk, IfSome};
 ghost use Rattle.oc_base.specs.declared.limits.TheConstants.{MAX_NODES};
 ghost use Rattle.oc_model.specs.Table.{newest, is_news, merge, leased_by, is_listed, IsListed, listed_in};
 ghost use Rattle.oc_cert.specs.Listing.{lines_in};
-ghost use Rattle.oc_cert.specs.TableView.{AreRows, entries_of, empty_table};
+ghost use Rattle.oc_cert.specs.TableView.{AreRows, entries_of};
 ghost use Rattle.oc_base.specs.Lawful.{IsCert};
 
 use crate::listing::lines_of;
@@ -12,22 +12,22 @@ use oc_base::{Cert, Line, Memory, NodeId};
 use std::alloc::Global;
 use std::marker::Model;
 
-/// The newest certificate of each node, where there is one. A contract sees the number of nodes and
-/// the entries, ascending by subject.
+/// The newest certificate of each node, where there is one. A contract sees the number of nodes, the
+/// entries, ascending by subject, and how many rows there is memory for.
 #[derive(Debug, Drop)]
 pub struct Table {
-    /// The row of the node `n` is at the place `n - 1`.
+    /// By the index of the node.
     rows: Vec<Option<Cert>>,
 }
 
 impl Model for Table {
-    ghost use Rattle.std.specs.Prelude.{length, ◌≤◌};
+    ghost use Rattle.std.specs.Prelude.{length, ◌≤◌, vec_capacity};
     ghost use Rattle.oc_base.specs.declared.limits.TheConstants.{MAX_NODES};
     ghost use Rattle.oc_cert.specs.TableView.{TableView, AreRows, entries_of};
 
     ghost Value = { TableView };
 
-    ghost view = { λ t. record { nodes = length t.rows.items; entries = entries_of t.rows.items } };
+    ghost view = { λ t. record { nodes = length t.rows.items; entries = entries_of t.rows.items; room = vec_capacity t.rows } };
 
     ghost invariant = { λ t. AreRows t.rows.items × (length t.rows.items ≤ MAX_NODES) };
 }
@@ -38,7 +38,8 @@ impl Table {
     pub fn new(alloc: Global, nodes: u32) -> Result<Table, Memory>
         requires least { 1 ≤ nodes }
         requires most { nodes ≤ MAX_NODES }
-        ensures { IfOk result (λ table. table ≡ empty_table nodes) }
+        ensures nodes { IfOk result (λ table. table.nodes ≡ nodes) }
+        ensures empty { IfOk result (λ table. table.entries ≡ []) }
     {
         Ok(Table {
             rows: vec![in alloc; None; nodes as usize]?,
@@ -55,6 +56,7 @@ impl Table {
         ensures changed { IsTrue result → newest self.old.entries cert.now.subject ≢ Some cert.now }
         ensures kept { result ≡ false → self.new.entries ≡ self.old.entries }
         ensures nodes { self.new.nodes ≡ self.old.nodes }
+        ensures room { self.new.room ≡ self.old.room }
     {
         if !is_news(&self.rows, cert) {
             return false;

@@ -14,26 +14,27 @@ use std::marker::Model;
 pub const LEASE_TIME: u64 = 30;
 
 /// The seconds at which the leases of children end. A contract sees them as a list by the number of a
-/// node, with none where no end is set.
+/// node, with none where no end is set, and for how many there is memory.
 #[derive(Drop)]
 pub struct Leases {
-    /// The end of the node `n` is at the place `n - 1`.
+    /// By the index of the node.
     ends: Vec<Option<u64>>,
 }
 
 impl Model for Leases {
-    ghost use Rattle.std.specs.Prelude.{List, ℕ, Option};
+    ghost use Rattle.std.specs.Prelude.{vec_capacity};
+    ghost use Rattle.oc_updown.specs.LeasesView.{LeasesView};
 
-    ghost Value = { List (Option ℕ) };
+    ghost Value = { LeasesView };
 
-    ghost view = { λ l. l.ends.items };
+    ghost view = { λ l. record { ends = l.ends.items; room = vec_capacity l.ends } };
 }
 
 impl Leases {
     /// No end is set.
     pub fn new(alloc: Global, nodes: u32) -> Result<Leases, Memory>
-        ensures unset { IfOk result (λ leases. leases ≡ replicate nodes None) }
-        ensures length { IfOk result (λ leases. length leases ≡ nodes) }
+        ensures unset { IfOk result (λ leases. leases.ends ≡ replicate nodes None) }
+        ensures length { IfOk result (λ leases. length leases.ends ≡ nodes) }
     {
         Ok(Leases {
             ends: vec![in alloc; None; nodes as usize]?,
@@ -43,21 +44,23 @@ impl Leases {
     /// The lease of a child begins anew, and ends a lease's time from now. Takes no memory.
     #[tactic(auto, using(crate::proofs::Lengths::length_of_renewed))]
     pub fn renew(&mut self, child: NodeId, now: u64)
-        requires child { IsNode (length self.old) child }
+        requires child { IsNode (length self.old.ends) child }
         requires now { now ≤ LAST_SECOND }
-        ensures ends { self.new ≡ renew self.old child now }
-        ensures length { length self.new ≡ length self.old }
+        ensures ends { self.new.ends ≡ renew self.old.ends child now }
+        ensures length { length self.new.ends ≡ length self.old.ends }
+        ensures room { self.new.room ≡ self.old.room }
     {
         renew(&mut self.ends, child, now);
     }
 
-    /// Each leased child of this node without an end gets one, a lease's time from now.
+    /// Each leased child of this node without an end gets one, a lease's time from now. Takes no memory.
     #[tactic(auto, using(crate::proofs::Lengths::length_of_started))]
     pub fn start_all(&mut self, table: &Table, me: NodeId, now: u64)
-        requires nodes { table.now.nodes ≤ length self.old }
+        requires nodes { table.now.nodes ≤ length self.old.ends }
         requires now { now ≤ LAST_SECOND }
-        ensures ends { self.new ≡ start_all table.now.entries me self.old now }
-        ensures length { length self.new ≡ length self.old }
+        ensures ends { self.new.ends ≡ start_all table.now.entries me self.old.ends now }
+        ensures length { length self.new.ends ≡ length self.old.ends }
+        ensures room { self.new.room ≡ self.old.room }
     {
         start_rows(table.rows(), me, &mut self.ends, now);
     }
@@ -66,9 +69,9 @@ impl Leases {
     /// now. Takes no memory.
     #[tactic(auto, using(crate::proofs::Least::next_is_least))]
     pub fn next_ended(&self, table: &Table, me: NodeId, after: u32, now: u64) -> Option<NodeId>
-        requires { table.now.nodes ≤ length self.now }
-        ensures found { result ≡ next_ended table.now.entries me self.now after now }
-        ensures least { IsNextEnded table.now.entries me self.now after now result }
+        requires { table.now.nodes ≤ length self.now.ends }
+        ensures found { result ≡ next_ended table.now.entries me self.now.ends after now }
+        ensures least { IsNextEnded table.now.entries me self.now.ends after now result }
     {
         next_over(table.rows(), me, &self.ends, after, now)
     }

@@ -14,7 +14,7 @@ use std::marker::Model;
 #[derive(Drop)]
 pub(crate) struct Waiting {
     certs: VecDeque<Cert>,
-    /// The count of the node `n` is at the place `n - 1`.
+    /// By the index of the node.
     counts: Vec<u64>,
 }
 

@@ -12,7 +12,7 @@ const PARENT: NodeId = NodeId(1);
 
 /// Leases without an end.
 fn no_ends(alloc: Global) -> Result<Leases, Fail>
-    ensures { IfOk result (λ leases. length leases ≡ NODES) }
+    ensures { IfOk result (λ leases. length leases.ends ≡ NODES) }
 {
     Ok(Leases::new(alloc, NODES)?)
 }

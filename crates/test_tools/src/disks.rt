@@ -1,0 +1,93 @@
+use crate::fault::Fault;
+use crate::fields::Fields;
+use crate::step::Step;
+use oc_journal::{Frame, Journal};
+use oc_outside::{Disk, MemDisk};
+use std::alloc::Global;
+
+/// More frames than a row names.
+const MOST_FRAMES: u32 = 1000;
+
+/// The bytes that a disk reads.
+pub fn bytes_of(alloc: Global, disk: &mut MemDisk) -> Result<Vec<u8>, Fault> {
+    let Ok(size) = disk.size() else {
+        return Err(Fault::Unready);
+    };
+    let mut bytes = Vec::new(alloc);
+    bytes.resize(size as usize, 0)?;
+    match disk.read_at(0, &mut bytes) {
+        Ok(count) if count == bytes.len() => Ok(bytes),
+        _ => Err(Fault::Unready),
+    }
+}
+
+/// A disk with the journal of these bodies, all of it safe.
+pub fn disk_with(alloc: Global, bodies: &[Vec<u8>]) -> Result<MemDisk, Fault> {
+    let Ok(mut journal) = Journal::load(alloc, MemDisk::new(Vec::new(alloc))) else {
+        return Err(Fault::Unready);
+    };
+    for body in bodies {
+        append(alloc, &mut journal, body)?;
+    }
+    Ok(journal.into_disk().crash())
+}
+
+/// Appends a frame of this body.
+fn append(alloc: Global, journal: &mut Journal<MemDisk>, body: &[u8]) -> Result<(), Fault> {
+    let Ok(frame) = Frame::new(alloc, body) else {
+        return Err(Fault::Unready);
+    };
+    journal.reserve(&frame)?;
+    match journal.append(&frame) {
+        Ok(()) => Ok(()),
+        Err(_) => Err(Fault::Unready),
+    }
+}
+
+/// The disk of a text: what it holds, and behind a `/` how it fails.
+///
+/// It holds `bytes:HEX`, or the journal of the frames `frames:HEX,HEX`, or that of the one frame
+/// `long:HEX,END`, which begins so, goes on with bytes 3, and ends at this place of the file. Then
+/// `fail:CALL` has that one of its later calls fail, and `stop:CALLS,IMAGE` all writes and syncs behind so
+/// many, where a crash leaves this byte wherever something was not synced.
+pub fn disk_in(alloc: Global, text: &str) -> Result<MemDisk, Fault> {
+    let (held, failing) = text.split_once('/').unwrap_or((text, ""));
+    let mut disk = filled(alloc, Step::of(held))?;
+    let step = Step::of(failing);
+    let mut fields = step.fields;
+    match step.word {
+        "" => {}
+        "fail" => disk.fail_at(vec![in alloc; fields.number()?]?),
+        "stop" => disk.stop_after(fields.byte()?, fields.byte()?),
+        _ => return Err(Fault::Field),
+    }
+    Ok(disk)
+}
+
+/// The disk that holds this.
+fn filled(alloc: Global, step: Step<'_>) -> Result<MemDisk, Fault> {
+    let mut fields = step.fields;
+    match step.word {
+        "bytes" => Ok(MemDisk::new(fields.bytes(alloc)?)),
+        "frames" => disk_with(alloc, &bodies_in(alloc, fields)?),
+        "long" => {
+            let mut body = fields.bytes(alloc)?;
+            let end = fields.small()? as usize;
+            body.resize(end.saturating_sub(13), 3)?;
+            disk_with(alloc, &vec![in alloc; body]?)
+        }
+        _ => Err(Fault::Field),
+    }
+}
+
+fn bodies_in(alloc: Global, fields: Fields<'_>) -> Result<Vec<Vec<u8>>, Fault> {
+    let mut fields = fields;
+    let mut bodies = Vec::new(alloc);
+    for _ in 0..MOST_FRAMES {
+        if fields.is_empty() {
+            break;
+        }
+        bodies.push(fields.bytes(alloc)?)?;
+    }
+    Ok(bodies)
+}

@@ -4,36 +4,42 @@ use std::alloc::Global;
 use std::rt::Files;
 use std::{fs, io};
 
-/// Plays the table of a file: prints for each row its name and `ok`, or the words that came in place of
-/// those that are wanted.
+/// Plays a table, which is the file of its name with `.txt` behind it. Prints for each row the names of the
+/// table and of the row and `ok`, or the words that came in place of those that are wanted.
 pub fn play<R: Files + Print + AllocGlobal, F: Fn(Global, &str) -> Result<String, Fault>>(
     rt: &R,
-    file: &str,
+    table: &str,
     answer: F,
 ) -> io::Result<()>
     requires { F.IsAlwaysCallable answer }
 {
-    let table = fs::read_to_string(rt, file)?;
-    for line in table.lines() {
+    let file = format!(in rt.alloc(); "{table}.txt")?;
+    let rows = fs::read_to_string(rt, file.as_str())?;
+    for line in rows.lines() {
         if let Some(row) = Row::read(line) {
-            tell(rt, &row, answer(rt.alloc(), row.given))?;
+            tell(rt, table, &row, answer(rt.alloc(), row.given))?;
         }
     }
     Ok(())
 }
 
 /// Prints the line of a row.
-fn tell<R: Print>(rt: &R, row: &Row<'_>, answer: Result<String, Fault>) -> io::Result<()> {
+fn tell<R: Print>(
+    rt: &R,
+    table: &str,
+    row: &Row<'_>,
+    answer: Result<String, Fault>,
+) -> io::Result<()> {
     let name = row.name;
     match answer {
         Ok(words) => {
             let words = words.as_str().trim();
             if words == row.wanted {
-                println!(rt; "{name} ok")
+                println!(rt; "{table} {name} ok")
             } else {
-                println!(rt; "{name} gives {words}")
+                println!(rt; "{table} {name} gives {words}")
             }
         }
-        Err(fault) => println!(rt; "{name} gives nothing: {fault}"),
+        Err(fault) => println!(rt; "{table} {name} gives nothing: {fault}"),
     }
 }

@@ -1,0 +1,144 @@
+//! The journal of a disk: what is appended, restarted, read and recovered.
+
+use oc_journal::{Frame, Journal, LoadError};
+use oc_outside::MemDisk;
+use std::alloc::Global;
+use test_tools::{Fault, Step, bytes_of, disk_in, put_hex};
+
+/// The words of a row: what each step says, and then what the disk holds after a crash.
+pub fn answer(alloc: Global, given: &str) -> Result<String, Fault> {
+    let mut fields = given.split_ascii_whitespace();
+    let shown = fields.next().unwrap_or("");
+    let disk = disk_in(alloc, fields.next().unwrap_or(""))?;
+    let mut said = String::new(alloc);
+    if shown == "stopped" {
+        let disk = stopped(alloc, disk, Step::of(fields.next().unwrap_or("")))?;
+        show(alloc, shown, disk, &mut said)?;
+        return Ok(said);
+    }
+    match Journal::load(alloc, disk) {
+        Ok(mut journal) => {
+            for field in fields {
+                act(alloc, &mut journal, Step::of(field), &mut said)?;
+            }
+            show(alloc, shown, journal.into_disk().crash(), &mut said)?;
+        }
+        Err((disk, LoadError::Disk)) => {
+            said.push_str("Disk ")?;
+            show(alloc, shown, disk.crash(), &mut said)?;
+        }
+        Err((_disk, error)) => write!(said, "{error:?}")?,
+    }
+    Ok(said)
+}
+
+/// Does a step, and puts what it says.
+fn act(
+    alloc: Global,
+    journal: &mut Journal<MemDisk>,
+    step: Step<'_>,
+    said: &mut String,
+) -> Result<(), Fault> {
+    let mut fields = step.fields;
+    match step.word {
+        "append" => append(alloc, journal, &fields.bytes(alloc)?, said),
+        "restart" => restart(journal, said),
+        "peek" => peek(alloc, journal, step, said),
+        _ => Err(Fault::Field),
+    }
+}
+
+/// Appends a frame, and puts the error, if there is one.
+fn append(
+    alloc: Global,
+    journal: &mut Journal<MemDisk>,
+    body: &[u8],
+    said: &mut String,
+) -> Result<(), Fault> {
+    let Ok(frame) = Frame::new(alloc, body) else {
+        return Err(Fault::Field);
+    };
+    journal.reserve(&frame)?;
+    if let Err(error) = journal.append(&frame) {
+        write!(said, "{error:?} ")?;
+    }
+    Ok(())
+}
+
+/// Restarts a journal, and where that fails does it again; puts each error.
+fn restart(journal: &mut Journal<MemDisk>, said: &mut String) -> Result<(), Fault> {
+    if let Err(error) = journal.restart() {
+        write!(said, "{error:?} ")?;
+        if let Err(error) = journal.restart() {
+            write!(said, "{error:?} ")?;
+        }
+    }
+    Ok(())
+}
+
+/// Puts the bytes of the body of a frame, from a place on, at most so many.
+fn peek(
+    alloc: Global,
+    journal: &mut Journal<MemDisk>,
+    step: Step<'_>,
+    said: &mut String,
+) -> Result<(), Fault> {
+    let mut fields = step.fields;
+    let index = fields.number()?;
+    let skip = fields.small()?;
+    let mut part = vec![in alloc; 0; fields.byte()? as usize]?;
+    match journal.peek(index, skip, &mut part) {
+        Ok(count) => put_hex(said, &part[..count])?,
+        Err(error) => write!(said, "{error:?}")?,
+    }
+    Ok(said.push_str(" ")?)
+}
+
+/// What an append leaves, where a crash comes after so many of its calls.
+fn stopped(alloc: Global, disk: MemDisk, step: Step<'_>) -> Result<MemDisk, Fault> {
+    let mut fields = step.fields;
+    let body = fields.bytes(alloc)?;
+    let calls = fields.byte()?;
+    let image = fields.byte()?;
+    let (Ok(mut journal), Ok(frame)) = (
+        Journal::load(alloc, disk.crash()),
+        Frame::new(alloc, &body),
+    ) else {
+        return Err(Fault::Unready);
+    };
+    if calls > 4 {
+        return Err(Fault::Field);
+    }
+    journal.reserve(&frame)?;
+    Ok(journal.append_stopped(&frame, calls, image))
+}
+
+/// Puts the bytes of a disk, or the frames of its journal.
+fn show(alloc: Global, shown: &str, disk: MemDisk, said: &mut String) -> Result<(), Fault> {
+    let mut disk = disk;
+    if shown == "bytes" {
+        return put_hex(said, &bytes_of(alloc, &mut disk)?);
+    }
+    match Journal::load(alloc, disk) {
+        Ok(mut journal) => put_frames(alloc, &mut journal, said),
+        Err(_) => Err(Fault::Unready),
+    }
+}
+
+/// Puts the frames of a journal, each in brackets.
+fn put_frames(
+    alloc: Global,
+    journal: &mut Journal<MemDisk>,
+    said: &mut String,
+) -> Result<(), Fault> {
+    let mut body = Vec::new(alloc);
+    for index in 0..journal.count() {
+        if journal.frame(index, &mut body) != Ok(true) {
+            return Err(Fault::Unready);
+        }
+        said.push_str("[")?;
+        put_hex(said, &body)?;
+        said.push_str("]")?;
+    }
+    Ok(())
+}

@@ -1,0 +1,131 @@
+//! Change logs: what is noted, told and acknowledged.
+
+ghost use Rattle.std.specs.Prelude.{◌≡◌, ◌<◌, ◌≤◌, IfOk, OnOk};
+
+use crate::tables::put_all;
+use oc_base::{Cert, NodeId};
+use oc_cert::Table;
+use oc_updown::ChangeLog;
+use std::alloc::Global;
+use test_tools::{Fault, Fields, Step, cert_in, put_cert};
+
+/// The number of nodes.
+const NODES: u32 = 6;
+
+/// More certificates than a log notes in a row.
+const MOST: u64 = 1000;
+
+/// A log among so many nodes.
+#[derive(Drop)]
+struct Told {
+    log: ChangeLog,
+    ghost nodes: { log.nodes ≡ 6 },
+}
+
+/// The words of a row: what each step on a new log says.
+pub fn answer(alloc: Global, given: &str) -> Result<String, Fault> {
+    let mut told = Told {
+        log: ChangeLog::new(alloc, NODES)?,
+    };
+    let mut said = String::new(alloc);
+    for field in given.split_ascii_whitespace() {
+        act(alloc, &mut told, Step::of(field), &mut said)?;
+    }
+    Ok(said)
+}
+
+/// Does a step, and puts what it says.
+fn act(alloc: Global, told: &mut Told, step: Step<'_>, said: &mut String) -> Result<(), Fault> {
+    let mut fields = step.fields;
+    match step.word {
+        "begin" => begin(alloc, told, fields),
+        "note" => note(told, &cert_in(fields.text())?),
+        "births" => note_births(told, fields.number()?),
+        "ack" => {
+            told.log.ack(fields.number()?);
+            Ok(())
+        }
+        "rebase" => rebase(told, fields.number()?),
+        "clear" => {
+            told.log.clear();
+            Ok(())
+        }
+        "take" => take(alloc, told, fields.byte()?, said),
+        "state" => put_state(told, said),
+        "waiting" => put_waiting(told, said),
+        _ => Err(Fault::Field),
+    }
+}
+
+/// Begins the log anew with a table of these certificates.
+fn begin(alloc: Global, told: &mut Told, fields: Fields<'_>) -> Result<(), Fault> {
+    let mut table = Table::new(alloc, NODES)?;
+    put_all(&mut table, fields)?;
+    told.log.reserve(table.rows().len())?;
+    told.log.begin(&table);
+    Ok(())
+}
+
+/// Puts a certificate at the end of the log.
+fn note(told: &mut Told, cert: &Cert) -> Result<(), Fault> {
+    if cert.subject.0 < 1 || NODES < cert.subject.0 || told.log.length() >= MOST {
+        return Err(Fault::Field);
+    }
+    told.log.reserve(1)?;
+    told.log.note(cert);
+    Ok(())
+}
+
+/// Notes so many births of node 2, ascending by the number of the ask from 1 on.
+fn note_births(told: &mut Told, count: u64) -> Result<(), Fault> {
+    for seq in 1..=count {
+        let cert = Cert {
+            subject: NodeId(2),
+            seq,
+            parent: NodeId(1),
+            dead: false,
+            number: 0,
+            clients: 0,
+        };
+        note(told, &cert)?;
+    }
+    Ok(())
+}
+
+fn rebase(told: &mut Told, acked: u64) -> Result<(), Fault> {
+    if acked > 1 << 62 {
+        return Err(Fault::Field);
+    }
+    told.log.rebase(acked);
+    Ok(())
+}
+
+/// Puts the first certificates that wait, at most so many, and the place behind them.
+fn take(alloc: Global, told: &Told, limit: u8, said: &mut String) -> Result<(), Fault> {
+    let mut certs = Vec::new(alloc);
+    let place = told.log.take(limit as usize, &mut certs)?;
+    said.push_str("[")?;
+    for cert in &certs {
+        said.push_str(" ")?;
+        put_cert(said, cert)?;
+    }
+    Ok(write!(said, " ] {place} ")?)
+}
+
+/// Puts how many certificates are acknowledged, and how many there are.
+fn put_state(told: &Told, said: &mut String) -> Result<(), Fault> {
+    let acked = told.log.acked();
+    let length = told.log.length();
+    Ok(write!(said, "{acked}/{length} ")?)
+}
+
+/// Puts the nodes about which something waits.
+fn put_waiting(told: &Told, said: &mut String) -> Result<(), Fault> {
+    said.push_str("{")?;
+    for node in 1..=NODES {
+        if told.log.waiting(NodeId(node)) {
+            write!(said, " {node}")?;
+        }
+    }
+    Ok(said.push_str(" } ")?)
+}

@@ -1,0 +1,124 @@
+//! Tables of certificates: merges, entries and listings.
+
+ghost use Rattle.std.specs.Prelude.{◌≡◌, ◌≤◌, IsTrue, IfOk};
+ghost use Rattle.oc_cert.specs.TableView.{IsNode};
+
+use oc_base::{Cert, NodeId};
+use oc_cert::Table;
+use std::alloc::Global;
+use test_tools::{Fault, Fields, Step, cert_in, put_cert};
+
+/// More certificates than a row names.
+const MOST: u32 = 10_000;
+
+/// The words of a row: what each step on a new table says.
+pub fn answer(alloc: Global, given: &str) -> Result<String, Fault> {
+    let mut fields = given.split_ascii_whitespace();
+    let nodes = Fields::of(fields.next().unwrap_or(""), ' ').small()?;
+    if nodes < 1 || 1024 < nodes {
+        return Err(Fault::Field);
+    }
+    let mut table = Table::new(alloc, nodes)?;
+    let mut said = String::new(alloc);
+    for field in fields {
+        act(&mut table, Step::of(field), &mut said)?;
+    }
+    Ok(said)
+}
+
+/// Does a step, and puts what it says.
+fn act(table: &mut Table, step: Step<'_>, said: &mut String) -> Result<(), Fault> {
+    let mut fields = step.fields;
+    match step.word {
+        "merge" => {
+            let is_new = merge(table, &cert_in(fields.text())?)?;
+            Ok(write!(said, "{is_new} ")?)
+        }
+        "put" => put_all(table, fields),
+        "line" => put_line(table, fields.small()?, fields.small()?),
+        "entry" => put_entry(table, fields.node()?, said),
+        "leased" => {
+            let seq = table.leased_by(fields.node()?, fields.node()?);
+            Ok(write!(said, "{seq:?} ")?)
+        }
+        "is_listed" => {
+            let is_listed = table.is_listed(fields.node()?, fields.node()?);
+            Ok(write!(said, "{is_listed} ")?)
+        }
+        "listed" => put_listed(table, fields.node()?, said),
+        "count" => {
+            let count = table.listed(fields.node()?)?.len();
+            Ok(write!(said, "{count} ")?)
+        }
+        _ => Err(Fault::Field),
+    }
+}
+
+/// Merges a certificate, if it is one among the nodes of the table.
+pub fn merge(table: &mut Table, cert: &Cert) -> Result<bool, Fault>
+    ensures { table.new.nodes ≡ table.old.nodes }
+{
+    let nodes = table.rows().len();
+    if is_node(nodes, cert.subject) && is_node(nodes, cert.parent) && cert.seq >= 1 {
+        Ok(table.merge(cert))
+    } else {
+        Err(Fault::Field)
+    }
+}
+
+fn is_node(nodes: usize, id: NodeId) -> bool
+    ensures { IsTrue result → IsNode nodes id }
+{
+    1 <= id.0 && id.0 as usize <= nodes
+}
+
+/// Merges the certificates of the fields.
+pub fn put_all(table: &mut Table, fields: Fields<'_>) -> Result<(), Fault>
+    ensures { table.new.nodes ≡ table.old.nodes }
+{
+    let mut fields = fields;
+    for _ in 0..MOST {
+        if fields.is_empty() {
+            break;
+        }
+        merge(table, &cert_in(fields.text())?)?;
+    }
+    Ok(())
+}
+
+/// Merges the birth of each node from the first to the last under the one before it.
+fn put_line(table: &mut Table, first: u32, last: u32) -> Result<(), Fault> {
+    for node in first..=last {
+        let cert = Cert {
+            subject: NodeId(node),
+            seq: 1,
+            parent: NodeId(node.saturating_sub(1)),
+            dead: false,
+            number: 0,
+            clients: 0,
+        };
+        merge(table, &cert)?;
+    }
+    Ok(())
+}
+
+/// Puts the entry of a node, or `-`.
+fn put_entry(table: &Table, node: NodeId, said: &mut String) -> Result<(), Fault> {
+    match table.entry(node) {
+        Some(cert) => put_cert(said, &cert)?,
+        None => said.push_str("-")?,
+    }
+    Ok(said.push_str(" ")?)
+}
+
+/// Puts who is listed beneath a root, each with its parent.
+fn put_listed(table: &Table, root: NodeId, said: &mut String) -> Result<(), Fault> {
+    let listed = table.listed(root)?;
+    said.push_str("[")?;
+    for line in &listed {
+        let node = line.node.0;
+        let parent = line.parent.0;
+        write!(said, " {node}<{parent}")?;
+    }
+    Ok(said.push_str(" ] ")?)
+}

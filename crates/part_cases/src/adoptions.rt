@@ -2,15 +2,19 @@
 
 use oc_climb::{Host, may_adopt, take_rank};
 use std::alloc::Global;
-use test_tools::{Fault, Fields};
+use test_tools::{Cases, Fault, Fields};
 
 /// The words of a row: the refusal or `ok`, or the rank that is taken.
-pub fn answer(alloc: Global, given: &str) -> Result<String, Fault> {
-    let mut fields = Fields::of(given, ' ');
-    match fields.text() {
-        "adopt" => adopt(alloc, fields),
-        "take" => take(alloc, fields),
-        _ => Err(Fault::Field),
+pub struct Rows;
+
+impl Cases for Rows {
+    fn answer(alloc: Global, given: &str) -> Result<String, Fault> {
+        let mut fields = Fields::of(given, ' ');
+        match fields.text() {
+            "adopt" => adopt(alloc, fields),
+            "take" => take(alloc, fields),
+            _ => Err(Fault::Field),
+        }
     }
 }
 

@@ -3,23 +3,27 @@
 use oc_base::NodeId;
 use oc_place::{Candidate, View, choose, review};
 use std::alloc::Global;
-use test_tools::{Fault, Fields};
+use test_tools::{Cases, Fault, Fields};
 
 /// More candidates than a row names.
 const MOST: u32 = 1000;
 
 /// The words of a row: the node that is chosen, or what a review says.
-pub fn answer(alloc: Global, given: &str) -> Result<String, Fault> {
-    let mut fields = Fields::of(given, ' ');
-    match fields.text() {
-        "choose" => {
-            let direct = fields.number()?;
-            let candidates = candidates_in(alloc, fields.list())?;
-            let chosen = choose(direct, &candidates);
-            Ok(format!(in alloc; "{chosen:?}")?)
+pub struct Rows;
+
+impl Cases for Rows {
+    fn answer(alloc: Global, given: &str) -> Result<String, Fault> {
+        let mut fields = Fields::of(given, ' ');
+        match fields.text() {
+            "choose" => {
+                let direct = fields.number()?;
+                let candidates = candidates_in(alloc, fields.list())?;
+                let chosen = choose(direct, &candidates);
+                Ok(format!(in alloc; "{chosen:?}")?)
+            }
+            "review" => reviewed(alloc, fields),
+            _ => Err(Fault::Field),
         }
-        "review" => reviewed(alloc, fields),
-        _ => Err(Fault::Field),
     }
 }
 

@@ -3,18 +3,22 @@
 use oc_base::NodeId;
 use oc_roots::{ask_order, raise};
 use std::alloc::Global;
-use test_tools::{Fault, Fields};
+use test_tools::{Cases, Fault, Fields};
 
 /// The words of a row: the nodes that are asked, or the next epoch.
-pub fn answer(alloc: Global, given: &str) -> Result<String, Fault> {
-    let mut fields = Fields::of(given, ' ');
-    match fields.text() {
-        "order" => order(alloc, fields),
-        "raise" => {
-            let epoch = raise(fields.number()?);
-            Ok(format!(in alloc; "{epoch:?}")?)
+pub struct Rows;
+
+impl Cases for Rows {
+    fn answer(alloc: Global, given: &str) -> Result<String, Fault> {
+        let mut fields = Fields::of(given, ' ');
+        match fields.text() {
+            "order" => order(alloc, fields),
+            "raise" => {
+                let epoch = raise(fields.number()?);
+                Ok(format!(in alloc; "{epoch:?}")?)
+            }
+            _ => Err(Fault::Field),
         }
-        _ => Err(Fault::Field),
     }
 }
 

@@ -6,24 +6,28 @@ ghost use Rattle.oc_cert.specs.TableView.{IsNode};
 use oc_base::{Cert, NodeId};
 use oc_cert::Table;
 use std::alloc::Global;
-use test_tools::{Fault, Fields, Step, cert_in, put_cert};
+use test_tools::{Cases, Fault, Fields, Step, cert_in, put_cert};
 
 /// More certificates than a row names.
 const MOST: u32 = 10_000;
 
 /// The words of a row: what each step on a new table says.
-pub fn answer(alloc: Global, given: &str) -> Result<String, Fault> {
-    let mut fields = given.split_ascii_whitespace();
-    let nodes = Fields::of(fields.next().unwrap_or(""), ' ').small()?;
-    if nodes < 1 || 1024 < nodes {
-        return Err(Fault::Field);
+pub struct Rows;
+
+impl Cases for Rows {
+    fn answer(alloc: Global, given: &str) -> Result<String, Fault> {
+        let mut fields = given.split_ascii_whitespace();
+        let nodes = Fields::of(fields.next().unwrap_or(""), ' ').small()?;
+        if nodes < 1 || 1024 < nodes {
+            return Err(Fault::Field);
+        }
+        let mut table = Table::new(alloc, nodes)?;
+        let mut said = String::new(alloc);
+        for field in fields {
+            act(&mut table, Step::of(field), &mut said)?;
+        }
+        Ok(said)
     }
-    let mut table = Table::new(alloc, nodes)?;
-    let mut said = String::new(alloc);
-    for field in fields {
-        act(&mut table, Step::of(field), &mut said)?;
-    }
-    Ok(said)
 }
 
 /// Does a step, and puts what it says.
@@ -86,9 +90,9 @@ pub fn put_all(table: &mut Table, fields: Fields<'_>) -> Result<(), Fault>
     Ok(())
 }
 
-/// Merges the birth of each node from the first to the last under the one before it.
+/// Merges the birth of each node from the first on and before the last, under the one before it.
 fn put_line(table: &mut Table, first: u32, last: u32) -> Result<(), Fault> {
-    for node in first..=last {
+    for node in first..last {
         let cert = Cert {
             subject: NodeId(node),
             seq: 1,

@@ -1,8 +1,8 @@
 //! What the programs of worked cases share.
 //!
 //! A table is a text file with a case in each row: its name, what it is given, a `=`, and the words that
-//! have to come of it. [`play`] hands what each row is given to a function, and prints a line for each row:
-//! its name and `ok`, or the words that came in their place. [`Fields`] cuts what a row is given into
+//! have to come of it. A [`Cases`] says what comes of a
+//! row, and [`play`] prints a line for each row: its name and `ok`, or the words that came in their place. [`Fields`] cuts what a row is given into
 //! numbers, bytes, ids and certificates.
 #![tactic(auto)]
 
@@ -23,5 +23,5 @@ pub use fields::Fields;
 pub use groups::group_in;
 pub use row::Row;
 pub use step::Step;
-pub use table::play;
+pub use table::{Cases, play};
 pub use texts::{first_difference, put_hex};

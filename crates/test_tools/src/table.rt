@@ -4,20 +4,20 @@ use std::alloc::Global;
 use std::rt::Files;
 use std::{fs, io};
 
+/// What the rows of a table come to.
+pub trait Cases {
+    /// The words that come of what a row is given.
+    fn answer(alloc: Global, given: &str) -> Result<String, Fault>;
+}
+
 /// Plays a table, which is the file of its name with `.txt` behind it. Prints for each row the names of the
 /// table and of the row and `ok`, or the words that came in place of those that are wanted.
-pub fn play<R: Files + Print + AllocGlobal, F: Fn(Global, &str) -> Result<String, Fault>>(
-    rt: &R,
-    table: &str,
-    answer: F,
-) -> io::Result<()>
-    requires { F.IsAlwaysCallable answer }
-{
-    let file = format!(in rt.alloc(); "{table}.txt")?;
+pub fn play<T: Cases, R: Files + Print + AllocGlobal>(rt: &R, name: &str) -> io::Result<()> {
+    let file = format!(in rt.alloc(); "{name}.txt")?;
     let rows = fs::read_to_string(rt, file.as_str())?;
     for line in rows.lines() {
         if let Some(row) = Row::read(line) {
-            tell(rt, table, &row, answer(rt.alloc(), row.given))?;
+            tell(rt, name, &row, T::answer(rt.alloc(), row.given))?;
         }
     }
     Ok(())

@@ -3,33 +3,32 @@
 use oc_journal::{Frame, Journal, LoadError};
 use oc_outside::MemDisk;
 use std::alloc::Global;
-use test_tools::{Fault, Step, bytes_of, disk_in, put_hex};
+use test_tools::{Cases, Fault, Step, bytes_of, disk_in, put_hex};
 
 /// The words of a row: what each step says, and then what the disk holds after a crash.
-pub fn answer(alloc: Global, given: &str) -> Result<String, Fault> {
-    let mut fields = given.split_ascii_whitespace();
-    let shown = fields.next().unwrap_or("");
-    let disk = disk_in(alloc, fields.next().unwrap_or(""))?;
-    let mut said = String::new(alloc);
-    if shown == "stopped" {
-        let disk = stopped(alloc, disk, Step::of(fields.next().unwrap_or("")))?;
-        show(alloc, shown, disk, &mut said)?;
-        return Ok(said);
-    }
-    match Journal::load(alloc, disk) {
-        Ok(mut journal) => {
-            for field in fields {
-                act(alloc, &mut journal, Step::of(field), &mut said)?;
+pub struct Rows;
+
+impl Cases for Rows {
+    fn answer(alloc: Global, given: &str) -> Result<String, Fault> {
+        let mut fields = given.split_ascii_whitespace();
+        let shown = fields.next().unwrap_or("");
+        let disk = disk_in(alloc, fields.next().unwrap_or(""))?;
+        let mut said = String::new(alloc);
+        match Journal::load(alloc, disk) {
+            Ok(mut journal) => {
+                for field in fields {
+                    act(alloc, &mut journal, Step::of(field), &mut said)?;
+                }
+                show(alloc, shown, journal.into_disk().crash(), &mut said)?;
             }
-            show(alloc, shown, journal.into_disk().crash(), &mut said)?;
+            Err((disk, LoadError::Disk)) => {
+                said.push_str("Disk ")?;
+                show(alloc, shown, disk.crash(), &mut said)?;
+            }
+            Err((_disk, error)) => write!(said, "{error:?}")?,
         }
-        Err((disk, LoadError::Disk)) => {
-            said.push_str("Disk ")?;
-            show(alloc, shown, disk.crash(), &mut said)?;
-        }
-        Err((_disk, error)) => write!(said, "{error:?}")?,
+        Ok(said)
     }
-    Ok(said)
 }
 
 /// Does a step, and puts what it says.
@@ -92,25 +91,6 @@ fn peek(
         Err(error) => write!(said, "{error:?}")?,
     }
     Ok(said.push_str(" ")?)
-}
-
-/// What an append leaves, where a crash comes after so many of its calls.
-fn stopped(alloc: Global, disk: MemDisk, step: Step<'_>) -> Result<MemDisk, Fault> {
-    let mut fields = step.fields;
-    let body = fields.bytes(alloc)?;
-    let calls = fields.byte()?;
-    let image = fields.byte()?;
-    let (Ok(mut journal), Ok(frame)) = (
-        Journal::load(alloc, disk.crash()),
-        Frame::new(alloc, &body),
-    ) else {
-        return Err(Fault::Unready);
-    };
-    if calls > 4 {
-        return Err(Fault::Field);
-    }
-    journal.reserve(&frame)?;
-    Ok(journal.append_stopped(&frame, calls, image))
 }
 
 /// Puts the bytes of a disk, or the frames of its journal.

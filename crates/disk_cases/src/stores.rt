@@ -1,43 +1,39 @@
 //! The store of a node's control records on two disks.
 
-ghost use Rattle.std.specs.Prelude.{◌≡◌, ◌≤◌, [], false, IfOk};
-
-use oc_base::NodeId;
 use oc_outside::MemDisk;
 use oc_store::{Record, Store, StoreError};
 use std::alloc::Global;
-use test_tools::{Fault, Step, bytes_of, disk_in, put_hex};
+use test_tools::{Cases, Fault, Step, bytes_of, disk_in, put_hex};
 
 /// How many nodes there are.
 const NODES: u32 = 2;
 
 /// The words of a row: what each step says, and then what the disks hold after a crash.
-pub fn answer(alloc: Global, given: &str) -> Result<String, Fault> {
-    let mut fields = given.split_ascii_whitespace();
-    let shown = fields.next().unwrap_or("");
-    let first = disk_in(alloc, fields.next().unwrap_or(""))?;
-    let second = disk_in(alloc, fields.next().unwrap_or(""))?;
-    let mut said = String::new(alloc);
-    if shown == "stopped" {
-        let (first, second) = stopped(alloc, first, second, Step::of(fields.next().unwrap_or("")))?;
-        show(alloc, shown, first, second, &mut said)?;
-        return Ok(said);
-    }
-    match Store::load(alloc, first, second, NODES) {
-        Ok((mut store, _list)) => {
-            for field in fields {
-                act(&mut store, Step::of(field), &mut said)?;
+pub struct Rows;
+
+impl Cases for Rows {
+    fn answer(alloc: Global, given: &str) -> Result<String, Fault> {
+        let mut fields = given.split_ascii_whitespace();
+        let shown = fields.next().unwrap_or("");
+        let first = disk_in(alloc, fields.next().unwrap_or(""))?;
+        let second = disk_in(alloc, fields.next().unwrap_or(""))?;
+        let mut said = String::new(alloc);
+        match Store::load(alloc, first, second, NODES) {
+            Ok((mut store, _list)) => {
+                for field in fields {
+                    act(&mut store, Step::of(field), &mut said)?;
+                }
+                let (first, second) = store.into_disks();
+                show(alloc, shown, first.crash(), second.crash(), &mut said)?;
             }
-            let (first, second) = store.into_disks();
-            show(alloc, shown, first.crash(), second.crash(), &mut said)?;
+            Err((first, second, StoreError::Disk)) => {
+                said.push_str("Disk ")?;
+                show(alloc, shown, first.crash(), second.crash(), &mut said)?;
+            }
+            Err((_first, _second, error)) => write!(said, "{error:?}")?,
         }
-        Err((first, second, StoreError::Disk)) => {
-            said.push_str("Disk ")?;
-            show(alloc, shown, first.crash(), second.crash(), &mut said)?;
-        }
-        Err((_first, _second, error)) => write!(said, "{error:?}")?,
+        Ok(said)
     }
-    Ok(said)
 }
 
 /// Does a step, and puts what it says.
@@ -93,36 +89,6 @@ fn turn_over(store: &mut Store<MemDisk>, said: &mut String) -> Result<(), Fault>
         write!(said, "{error:?} ")?;
     }
     Ok(())
-}
-
-/// What a commit of one record leaves, where a crash comes after so many of its calls.
-fn stopped(
-    alloc: Global,
-    first: MemDisk,
-    second: MemDisk,
-    step: Step<'_>,
-) -> Result<(MemDisk, MemDisk), Fault> {
-    let mut fields = step.fields;
-    let calls = fields.byte()?;
-    let image = fields.byte()?;
-    if calls > 4 {
-        return Err(Fault::Field);
-    }
-    let mut store = opened(alloc, first.crash(), second.crash())?;
-    let frame = store.prepare(&[Record::Lost])?;
-    Ok(store.commit_stopped(&frame, calls, image))
-}
-
-/// The store of two disks.
-fn opened(alloc: Global, first: MemDisk, second: MemDisk) -> Result<Store<MemDisk>, Fault>
-    ensures open { IfOk result (λ store. store.closed ≡ false) }
-    ensures listed { IfOk result (λ store. first.failing.listed ≡ [] → second.failing.listed ≡ []
-        → store.current.disk.failing.listed ≡ []) }
-{
-    match Store::load(alloc, first, second, NODES) {
-        Ok((store, _list)) => Ok(store),
-        Err(_) => Err(Fault::Unready),
-    }
 }
 
 /// Puts the bytes of both disks, or the records that they recover.

@@ -7,7 +7,7 @@ use oc_base::{GroupName, Shelf};
 use oc_content::{Content, ContentError};
 use oc_outside::MemDisk;
 use std::alloc::Global;
-use test_tools::{Fault, Step, bytes_of, disk_in, group_in, put_hex};
+use test_tools::{Cases, Fault, Step, bytes_of, disk_in, group_in, put_hex};
 
 /// The most bytes that a piece has.
 const MOST: usize = 1_000_000;
@@ -16,25 +16,29 @@ const MOST: usize = 1_000_000;
 const MOST_READS: u32 = 1000;
 
 /// The words of a row: what each step says, and then what the disk holds after a crash.
-pub fn answer(alloc: Global, given: &str) -> Result<String, Fault> {
-    let mut fields = given.split_ascii_whitespace();
-    let shown = fields.next().unwrap_or("");
-    let disk = disk_in(alloc, fields.next().unwrap_or(""))?;
-    let mut said = String::new(alloc);
-    match Content::load(alloc, disk) {
-        Ok(mut content) => {
-            for field in fields {
-                act(alloc, &mut content, Step::of(field), &mut said)?;
+pub struct Rows;
+
+impl Cases for Rows {
+    fn answer(alloc: Global, given: &str) -> Result<String, Fault> {
+        let mut fields = given.split_ascii_whitespace();
+        let shown = fields.next().unwrap_or("");
+        let disk = disk_in(alloc, fields.next().unwrap_or(""))?;
+        let mut said = String::new(alloc);
+        match Content::load(alloc, disk) {
+            Ok(mut content) => {
+                for field in fields {
+                    act(alloc, &mut content, Step::of(field), &mut said)?;
+                }
+                show(alloc, shown, content.into_disk().crash(), &mut said)?;
             }
-            show(alloc, shown, content.into_disk().crash(), &mut said)?;
+            Err((disk, ContentError::Disk)) => {
+                said.push_str("Disk ")?;
+                show(alloc, shown, disk.crash(), &mut said)?;
+            }
+            Err((_disk, error)) => write!(said, "{error:?}")?,
         }
-        Err((disk, ContentError::Disk)) => {
-            said.push_str("Disk ")?;
-            show(alloc, shown, disk.crash(), &mut said)?;
-        }
-        Err((_disk, error)) => write!(said, "{error:?}")?,
+        Ok(said)
     }
-    Ok(said)
 }
 
 /// Does a step, and puts what it says.
@@ -147,7 +151,7 @@ fn show(alloc: Global, shown: &str, disk: MemDisk, said: &mut String) -> Result<
     match Content::load(alloc, disk) {
         Ok(content) => {
             for line in content.groups() {
-                put_line(alloc, line, said)?;
+                put_line(line, said)?;
             }
             Ok(())
         }
@@ -155,9 +159,11 @@ fn show(alloc: Global, shown: &str, disk: MemDisk, said: &mut String) -> Result<
     }
 }
 
-fn put_line(alloc: Global, line: &Shelf, said: &mut String) -> Result<(), Fault> {
-    let name = String::from_utf8_lossy(alloc, line.group.bytes())?;
+fn put_line(line: &Shelf, said: &mut String) -> Result<(), Fault> {
+    for byte in line.group.bytes() {
+        said.push(*byte as char)?;
+    }
     let held = line.held;
     let mark = if line.sealed { "!" } else { "" };
-    Ok(write!(said, "{name}@{held}{mark} ")?)
+    Ok(write!(said, "@{held}{mark} ")?)
 }

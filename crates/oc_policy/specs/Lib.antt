@@ -1,0 +1,4 @@
+pub mod PrefixBytes
+pub mod Prefixes
+pub mod Rules
+pub mod Covering

@@ -1,0 +1,48 @@
+-- Which rule matches a request, and what the first that matches decides.
+use Rattle.std.specs.Prelude.{ℕ, ◌+◌, ◌<◌, Bool, true, false, ◌&&◌, nat_eq, if◌then◌else◌, IsTrue, Option, Some, None, List, position, slice_get}
+use Rattle.oc_base.specs.Names.{IsGroupName}
+use Rattle.oc_policy.specs.Prefixes.{is_within}
+use Rattle.oc_policy.specs.declared.rule.Action.{Action}
+use Rattle.oc_policy.specs.declared.rule.Action.TheVariants.{Get, Post}
+use Rattle.oc_policy.specs.declared.rule.Rule.{Rule}
+use Rattle.oc_policy.specs.declared.deciding.Verdict.{Verdict}
+use Rattle.oc_policy.specs.declared.deciding.Verdict.TheVariants.{Allowed, Denied}
+
+-- whether two actions are the same
+abbrev pub same_action : Action → Action → Bool
+same_action Get Get = true
+same_action Post Post = true
+same_action a b = false
+
+-- whether a part of a rule is absent or equal
+abbrev pub is_absent_or : {A : Type 0} → (A → A → Bool) → Option A → A → Bool
+is_absent_or same None x = true
+is_absent_or same (Some part) x = same part x
+
+-- whether a rule speaks of this request
+abbrev pub rule_matches : Rule → Action → List ℕ → ℕ → Bool
+rule_matches rule action group area =
+    is_absent_or same_action rule.action action && is_absent_or nat_eq rule.area area && is_within rule.prefix group
+
+-- rule j leaves nothing to rule i: it matches each request that rule i matches
+abbrev pub rule_covers : Rule → Rule → Type 0
+rule_covers j i = (action : Action) (group : List ℕ) (area : ℕ) → IsGroupName group → area < 256
+    → IsTrue (rule_matches i action group area) → IsTrue (rule_matches j action group area)
+
+-- the place of the first rule that matches
+abbrev pub first_match : List Rule → Action → List ℕ → ℕ → Option ℕ
+first_match rules action group area = position (λ rule. rule_matches rule action group area) rules
+
+-- a rule that matches first allows, or denies by its number
+abbrev pub verdict_of : Option Rule → ℕ → Verdict
+verdict_of None number = Allowed
+verdict_of (Some rule) number = if rule.allow then Allowed else Denied number
+
+-- the rule at this place decides; where none matches the request is allowed
+abbrev pub verdict_at : List Rule → Option ℕ → Verdict
+verdict_at rules None = Allowed
+verdict_at rules (Some place) = verdict_of (slice_get rules place) (place + 1)
+
+-- what the rules say of a request: the first that matches decides
+abbrev pub verdict : List Rule → Action → List ℕ → ℕ → Verdict
+verdict rules action group area = verdict_at rules (first_match rules action group area)

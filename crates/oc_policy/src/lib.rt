@@ -1,0 +1,21 @@
+//! Access rules: who may get or post which group.
+//!
+//! A rule speaks of an action, of the groups within a prefix and of an area; what is absent speaks of
+//! all. [`decide`] gives what the first rule that matches says (`verdict`), and allows where none
+//! matches. [`shadow`] names the first earlier rule that covers a rule: one that matches all that the
+//! rule matches, over all actions, group names and areas (`rule_covers`).
+//! [`a_shadowed_rule_decides_nothing`] is the law between the two. Neither call takes memory.
+#![tactic(auto)]
+
+mod deciding;
+mod law;
+mod prefix;
+mod rule;
+mod shadowing;
+
+pub use deciding::{MAX_RULES, Verdict, decide};
+pub use law::a_shadowed_rule_decides_nothing;
+pub use oc_base::{GroupName, NameFault};
+pub use prefix::Prefix;
+pub use rule::{Action, Rule};
+pub use shadowing::shadow;

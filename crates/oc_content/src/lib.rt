@@ -29,8 +29,8 @@ mod spot;
 mod track;
 
 pub use content::Content;
-pub use law::{bodies_say_their_entry, groups_are_their_pieces};
 pub use errors::{ContentError, PutError, ReadError};
+pub use law::{bodies_say_their_entry, groups_are_their_pieces};
 pub use oc_base::Shelf;
 pub use oc_journal::AppendError;
 pub use piece::Piece;

@@ -1,7 +1,6 @@
 -- What a move, its ask and the yes do, each to the node that takes it.
-use Rattle.std.proofs.Common.{◌≡◌, ℕ, ◌+◌, ◌≤◌, ◌<◌, Bool, true, false, not, ◌&&◌, ◌||◌, ◌==◌, nat_lt, nat_le, if◌then◌else◌, Option, Some, None, List, [], ◌∷◌, ◌++◌, refl, ap, ap₂, sym, subst, ◌∙◌, arith, eq-eqb, ne_eqb, lt-ltb}
+use Rattle.std.proofs.Common.{◌≡◌, ℕ, ◌+◌, ◌≤◌, ◌<◌, Bool, true, false, not, ◌&&◌, ◌||◌, ◌==◌, nat_lt, nat_le, if◌then◌else◌, Option, Some, None, List, [], ◌∷◌, ◌++◌, refl, ap, sym, subst, ◌∙◌, arith, eq-eqb, ne_eqb, lt-ltb}
 use Rattle.std.specs.Option.{option_or}
-use Rattle.std.proofs.lemmas.Bool.{and_right, true≢false, cond_both}
 use Rattle.oc_base.specs.declared.cert.Cert.{Cert}
 use Rattle.oc_base.specs.declared.rank.Rank.{Rank}
 use Rattle.oc_base.specs.declared.refusal.Refusal.{Refusal}
@@ -9,22 +8,20 @@ use Rattle.oc_base.specs.declared.refusal.Refusal.TheVariants as refusals
 use Rattle.oc_base.specs.Rank.{beneath_of}
 use Rattle.oc_base.specs.declared.limits.TheConstants.{MAX_DEPTH}
 use Rattle.oc_model.specs.declared.answer.Answer.TheVariants as words
-use Rattle.oc_model.specs.declared.message.Body.TheVariants.{Ask, Yes, No}
-use Rattle.oc_model.specs.declared.message.Message.{Message}
-use Rattle.oc_model.specs.declared.mode.Mode.{Mode}
-use Rattle.oc_model.specs.declared.mode.Mode.TheVariants.{Idle, Asking, Joined, Acting}
+use Rattle.oc_model.specs.declared.message.Body.TheVariants.{Ask, Yes}
+use Rattle.oc_model.specs.declared.mode.Mode.TheVariants.{Asking, Joined}
 use Rattle.oc_model.specs.declared.record.Record.TheVariants as records
 use Rattle.oc_model.specs.Adopting.{in_tree, is_acting, raises, raises_over, host, birth, has_lease, grants, sends_rejoin, adopts, answers_ask, asked_at, asked}
 use Rattle.oc_model.specs.Adoption.{precedes, rank_or_last, precedes_any, chain_child, chain_refusal, rank_refusal, adoption_refusal}
-use Rattle.oc_model.specs.Asking.{lost, send_ask, ask, set_tries, ask_before, is_asking, ancestors_by, joins, took_yes, relocate}
+use Rattle.oc_model.specs.Asking.{lost, send_ask, set_tries, ask_before, is_asking, ancestors_by, joins, took_yes, relocate}
 use Rattle.oc_model.specs.Heal.{epoch_in}
 use Rattle.oc_model.specs.ChangeLog.{begun_with}
 use Rattle.oc_model.specs.Node.{Control, Durable}
 use Rattle.oc_model.specs.Numbers.{number_end, raise, has}
-use Rattle.oc_model.specs.Plan.{Plan, begun, write, send, answers, searching, is_member}
+use Rattle.oc_model.specs.Plan.{Plan, begun, write, answers, searching, is_member}
 use Rattle.oc_model.specs.Table.{is_news, merge}
 use Rattle.oc_laws_calm.proofs.Checks.{from_to, HasSameRest}
-use Rattle.oc_laws_calm.proofs.Core.{Core, core_of, asking, epoch_or_last}
+use Rattle.oc_laws_calm.proofs.Core.{core_of, asking}
 use Rattle.oc_laws_calm.proofs.Line.{IsTop}
 
 -- The move

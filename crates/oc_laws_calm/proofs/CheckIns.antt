@@ -1,5 +1,5 @@
 -- What one check-in does between a node and its parent: three acts, or two where it is not acknowledged.
-use Rattle.std.proofs.Common.{◌≡◌, ℕ, suc, ◌+◌, Bool, true, false, Option, Some, None, List, [], ◌∷◌, ◌++◌, ◌⊎◌, inl, inr, slice_get, length, refl, ap, ap₂, sym, subst, ◌∙◌, arith, length-append, eq-eqb}
+use Rattle.std.proofs.Common.{◌≡◌, ℕ, suc, true, false, Option, Some, None, List, [], ◌∷◌, ◌++◌, ◌⊎◌, inl, inr, slice_get, length, refl, ap, ap₂, sym, subst, ◌∙◌, arith, length-append, eq-eqb}
 use Rattle.std.proofs.lemmas.Bool.{cond_both, cases_eq}
 use Rattle.oc_base.specs.declared.cert.Cert.{Cert}
 use Rattle.oc_base.specs.declared.rank.Rank.{Rank}
@@ -8,9 +8,8 @@ use Rattle.oc_model.specs.declared.event.Act.TheVariants as acts
 use Rattle.oc_model.specs.declared.input.Input.{Input}
 use Rattle.oc_model.specs.declared.input.Input.TheVariants as inputs
 use Rattle.oc_model.specs.declared.message.Body.{Body}
-use Rattle.oc_model.specs.declared.message.Body.TheVariants.{CheckIn, CheckAck, Rejoin}
+use Rattle.oc_model.specs.declared.message.Body.TheVariants.{CheckIn, CheckAck}
 use Rattle.oc_model.specs.declared.message.Message.{Message}
-use Rattle.oc_model.specs.declared.mode.Mode.TheVariants.{Joined}
 use Rattle.oc_model.specs.Adopting.{is_number, has_lease}
 use Rattle.oc_model.specs.Adoption.{rank_or_last, take_rank}
 use Rattle.oc_model.specs.Asking.{ancestors_by}
@@ -23,18 +22,18 @@ use Rattle.oc_model.specs.Leases.{renew}
 use Rattle.oc_model.specs.Node.{Control, Node}
 use Rattle.oc_model.specs.Plan.{Plan, begun}
 use Rattle.oc_model.specs.Ready.{HoldsLease}
-use Rattle.oc_model.specs.Runs.{Run, rests, does, and_then, last_body, body_in, delivers_last}
+use Rattle.oc_model.specs.Runs.{Run, does, and_then, last_body, body_in, delivers_last}
 use Rattle.oc_model.specs.Settle.{takes_ack, checks_in}
 use Rattle.oc_model.specs.Step.{plan, filled, step}
 use Rattle.oc_model.specs.Table.{leased_by, merge_all}
-use Rattle.oc_model.specs.World.{World, Process, Aimed, node, process, process_in, with_process, is_up, message_at, source_after, stepped, delivery, aimed, acted, after_act}
+use Rattle.oc_model.specs.World.{World, Process, node, process_in, with_process, is_up, message_at, stepped, delivery, acted, after_act}
 use Rattle.oc_model.specs.WorldBounds.{clock_of}
 use Rattle.oc_model.proofs.Outcomes.{step_leaves}
 use Rattle.oc_model.proofs.Processes.{process_in-me, process_in-with_up, process_in-with_other}
-use Rattle.oc_model.proofs.Rules.{IsClosed, keeps_checks, keeps_checked_in, keeps_took_ack}
+use Rattle.oc_model.proofs.Rules.{IsClosed, keeps_checks, keeps_checked_in}
 use Rattle.oc_laws_world.proofs.Lifts.{control_of}
 use Rattle.oc_laws_tree.specs.Sessions.{log_of}
-use Rattle.oc_laws_calm.proofs.Checks.{from_to, HasSameRest, SendsCheckIn, check_sends, TakesCheckIn, check_in_taken, check_in_refused, TakesAck, ack_taken}
+use Rattle.oc_laws_calm.proofs.Checks.{from_to, HasSameRest, SendsCheckIn, check_sends, TakesCheckIn, check_in_taken, TakesAck, ack_taken}
 use Rattle.oc_laws_calm.proofs.Core.{Core, core_of, has_uncounted, with_count, counted}
 
 -- Acts

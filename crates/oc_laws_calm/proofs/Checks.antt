@@ -1,11 +1,11 @@
 -- What a check of a joined node, its check-in and the acknowledgement do, each to the node that takes it.
-use Rattle.std.proofs.Common.{◌≡◌, ℕ, ◌+◌, Bool, true, false, not, ◌&&◌, ◌==◌, nat_lt, if◌then◌else◌, Option, Some, None, List, [], ◌∷◌, ◌++◌, refl, ap, ap₂, sym, subst, ◌∙◌, eqb-true, eq-eqb}
+use Rattle.std.proofs.Common.{◌≡◌, ℕ, ◌+◌, Bool, true, false, ◌&&◌, ◌==◌, if◌then◌else◌, Option, Some, List, [], ◌∷◌, ◌++◌, refl, ap, ap₂, sym, subst, ◌∙◌, eqb-true, eq-eqb}
 use Rattle.std.proofs.lemmas.Bool.{and_parts}
 use Rattle.oc_base.specs.declared.cert.Cert.{Cert}
 use Rattle.oc_base.specs.declared.rank.Rank.{Rank}
 use Rattle.oc_base.specs.Rank.{beneath_of}
 use Rattle.oc_model.specs.declared.message.Body.{Body}
-use Rattle.oc_model.specs.declared.message.Body.TheVariants.{CheckIn, CheckAck, Rejoin}
+use Rattle.oc_model.specs.declared.message.Body.TheVariants.{CheckIn, CheckAck}
 use Rattle.oc_model.specs.declared.message.Message.{Message}
 use Rattle.oc_model.specs.declared.mode.Mode.{Mode}
 use Rattle.oc_model.specs.declared.mode.Mode.TheVariants.{Joined}
@@ -16,10 +16,10 @@ use Rattle.oc_model.specs.Asking.{ancestors_by}
 use Rattle.oc_model.specs.ChangeLog.{next_certs, place_after, ack, is_ahead}
 use Rattle.oc_model.specs.Checking.{checks_in, checks_as, next_check, checks, merges, merges_all, acknowledges, life, checked_in, is_joined_to, takes_place, takes_rank, same_ids, takes_ancestors, took_ack}
 use Rattle.oc_model.specs.Leases.{renew}
-use Rattle.oc_model.specs.Node.{Control, Log}
+use Rattle.oc_model.specs.Node.{Control}
 use Rattle.oc_model.specs.Numbers.{capped}
-use Rattle.oc_model.specs.Plan.{Plan, begun, write, send, with_soft}
-use Rattle.oc_model.specs.Table.{is_news, put, merge, merge_all}
+use Rattle.oc_model.specs.Plan.{Plan, begun, write, with_soft}
+use Rattle.oc_model.specs.Table.{is_news, put, merge_all}
 use Rattle.oc_laws_calm.proofs.Core.{Core, core_of, has_uncounted, with_count, counted}
 
 -- a message

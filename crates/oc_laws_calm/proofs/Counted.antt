@@ -1,22 +1,21 @@
 -- How many acts the first five steps of settle take.
-use Rattle.std.proofs.Common.{◌≡◌, ℕ, ◌+◌, ◌*◌, ◌≤◌, Bool, true, false, if◌then◌else◌, Option, Some, None, List, [], ◌∷◌, inl, inr, filter, length, refl, ap, sym, subst, ◌∙◌, arith, length-append}
-use Rattle.std.proofs.lemmas.Bool.{true≢false}
+use Rattle.std.proofs.Common.{◌≡◌, ℕ, ◌+◌, ◌*◌, ◌≤◌, Bool, true, false, if◌then◌else◌, Option, Some, None, List, [], ◌∷◌, inl, inr, filter, length, refl, ap, sym, ◌∙◌, arith, length-append}
 use Rattle.oc_model.specs.declared.event.Act.TheVariants as acts
 use Rattle.oc_model.specs.declared.message.Body.{Body}
 use Rattle.oc_model.specs.declared.message.Body.TheVariants as bodies
 use Rattle.oc_model.specs.declared.mode.Mode.{Mode}
 use Rattle.oc_model.specs.declared.mode.Mode.TheVariants.{Idle, Asking, Joined, Acting}
-use Rattle.oc_model.specs.Chains.{IsUp, IsJoined}
+use Rattle.oc_model.specs.Chains.{IsUp}
 use Rattle.oc_model.specs.Node.{Header}
 use Rattle.oc_model.specs.Records.{is_joined}
 use Rattle.oc_model.specs.Runs.{Run, does, and_then, for_each, last_body, delivers_last}
 use Rattle.oc_model.specs.Settle.{ticks, all_tick, takes_ack, takes_any_ack, checks_in, checks_in_if, checks_in_if_joined, all_check_in, first_five_steps}
-use Rattle.oc_model.specs.World.{World, is_up, mode_of, up_ids}
+use Rattle.oc_model.specs.World.{World, mode_of, up_ids}
 use Rattle.oc_model.specs.WorldBounds.{IsOneOf}
 use Rattle.oc_laws_calm.specs.Settling.{up_joined}
 use Rattle.oc_laws_calm.proofs.CheckIns.{ChecksIn, checks_in_once}
-use Rattle.oc_laws_calm.proofs.FiveSteps.{HasStayed, stayed_itself, stayed_then, up_of, FiveSteps, five_steps}
-use Rattle.oc_laws_calm.proofs.Held.{Stays, Steady, IsHeld}
+use Rattle.oc_laws_calm.proofs.FiveSteps.{HasStayed, stayed_then, up_of, FiveSteps, five_steps}
+use Rattle.oc_laws_calm.proofs.Held.{IsHeld}
 use Rattle.oc_laws_calm.proofs.ReadyStays.{AreHeld, held_stay, up_ids_stay, joined_stays}
 use Rattle.oc_laws_calm.proofs.Reached.{Reached}
 use Rattle.oc_laws_calm.proofs.Told.{CheckInKeeps, checks_in_keeps, parent_apart}

@@ -1,30 +1,30 @@
 -- How a root's new rank is told down a chain: each node of it checks in, from the top down.
-use Rattle.std.proofs.Common.{◌≡◌, ℕ, zero, suc, ◌+◌, ◌-◌, ◌*◌, ◌≤◌, ◌<◌, Bool, true, false, ◌&&◌, ◌||◌, ◌==◌, nat_lt, if◌then◌else◌, Option, Some, None, List, [], ◌∷◌, ◌++◌, ◌⊎◌, inl, inr, drop, take, reverse, length, refl, ap, ap₂, sym, subst, ◌∙◌, ⊎_elim, arith, lt-ltb, ltb-false, ne_eqb, eq-eqb, length-append, append_assoc}
+use Rattle.std.proofs.Common.{◌≡◌, ℕ, zero, suc, ◌+◌, ◌-◌, ◌*◌, ◌≤◌, ◌<◌, Bool, true, false, ◌&&◌, ◌||◌, ◌==◌, nat_lt, if◌then◌else◌, Option, Some, None, List, [], ◌∷◌, ◌++◌, inl, inr, drop, take, reverse, length, refl, ap, sym, subst, ◌∙◌, arith, lt-ltb, ltb-false, ne_eqb, eq-eqb, length-append}
 use Rattle.std.proofs.lemmas.List.{reverse-append, length-reverse}
-use Rattle.std.proofs.lemmas.Bool.{or_left, or_right, and_from, true≢false, cases_order}
+use Rattle.std.proofs.lemmas.Bool.{or_left, or_right, and_from, true≢false}
 use Rattle.oc_base.specs.declared.rank.Rank.{Rank}
 use Rattle.oc_base.specs.Rank.{Precedes, beneath_of}
 use Rattle.oc_base.specs.declared.limits.TheConstants.{MAX_DEPTH}
 use Rattle.oc_model.specs.declared.mode.Mode.TheVariants.{Acting}
-use Rattle.oc_model.specs.Adoption.{rank_or_last, precedes, precedes_any, is_better, take_rank}
+use Rattle.oc_model.specs.Adoption.{rank_or_last, precedes, is_better, take_rank}
 use Rattle.oc_model.specs.Asking.{ancestors_by}
-use Rattle.oc_model.specs.Chains.{IsUp, IsJoined, IsTrueChain}
+use Rattle.oc_model.specs.Chains.{IsUp, IsTrueChain}
 use Rattle.oc_model.specs.Heal.{AreLeased, epoch_in, top_down}
-use Rattle.oc_model.specs.Node.{Header, Control}
+use Rattle.oc_model.specs.Node.{Header}
 use Rattle.oc_model.specs.Numbers.{has}
 use Rattle.oc_model.specs.Ready.{HoldsLease, IsLeased}
-use Rattle.oc_model.specs.Runs.{Run, rests, and_then, for_each}
+use Rattle.oc_model.specs.Runs.{Run, for_each}
 use Rattle.oc_model.specs.Settle.{checks_in}
 use Rattle.oc_model.specs.World.{World, mode_of}
 use Rattle.oc_model.specs.ClaimsTree.{seq_of}
 use Rattle.oc_model.specs.WorldBounds.{IsOneOf}
 use Rattle.oc_model.proofs.Chains.{acting_alone, joined_once}
-use Rattle.oc_laws_world.specs.Ranks.{own_rank, rank_of, ParentsPrecede}
+use Rattle.oc_laws_world.specs.Ranks.{own_rank, ParentsPrecede}
 use Rattle.oc_laws_world.proofs.Lifts.{control_of}
-use Rattle.oc_laws_world.proofs.RanksKept.{ranks_always}
+use Rattle.oc_laws_calm.proofs.Points.{parents_after}
 use Rattle.oc_laws_calm.proofs.CheckIns.{ChecksIn, checks_in_once}
 use Rattle.oc_laws_calm.proofs.Core.{Core, core_of}
-use Rattle.oc_laws_calm.proofs.Held.{Stays, Steady, steady_itself, stays_then, IsHeld}
+use Rattle.oc_laws_calm.proofs.Held.{Steady, steady_itself, stays_then, IsHeld}
 use Rattle.oc_laws_calm.proofs.Levels.{for_each-append}
 use Rattle.oc_laws_calm.proofs.ReadyStays.{chain_first_up, chain_root}
 use Rattle.oc_laws_calm.proofs.Reached.{Reached, of_reached}
@@ -138,7 +138,7 @@ tells_down h w x m y epoch (a ∷ d ∷ ds) reached chain leased out short rank 
     let parent_not_x : x ≡ d → ⊥ = λ e. out (inr (inl e)) in
     let host : Rank = record { epoch = epoch; depth = first.rank.0 } in
     let told : rank_or_last (own_rank u d) ≡ host = ap rank_or_last first.rank.1 in
-    let parents : ParentsPrecede u = of_reached ParentsPrecede (λ g events. (ranks_always g events).parents) h u first.reached in
+    let parents : ParentsPrecede u = of_reached ParentsPrecede parents_after h u first.reached in
     let precedes_own : Precedes host (rank_or_last (own_rank u y)) = subst (λ (r : Rank). Precedes r (rank_or_last (own_rank u y))) told (parents y d here.joined).1 in
     let taken : IsOfEpoch epoch (first.rank.0 + 1) (take_rank (own_rank u y) host) = taken_beneath (own_rank u y) host (omega (arith, first.rank.2, short)) precedes_own in
     let took : own_rank v y ≡ take_rank (own_rank u y) host = ap (λ (k : Core). k.rank) checked.child ∙ ap (take_rank (own_rank u y)) told in

@@ -1,5 +1,5 @@
 -- No lease end lies further ahead of its node's clock than a lease lasts, in any world that is reached.
-use Rattle.std.proofs.Common.{◌≡◌, ℕ, zero, suc, ◌+◌, ◌-◌, ◌≤◌, max, Bool, true, false, if◌then◌else◌, Option, Some, None, List, [], ◌∷◌, ◌⊎◌, inl, inr, get_or, set, replicate, refl, ap, sym, subst, ◌∙◌, ⊎_elim, arith}
+use Rattle.std.proofs.Common.{◌≡◌, ℕ, zero, suc, ◌+◌, ◌-◌, ◌≤◌, max, Bool, true, false, if◌then◌else◌, Option, Some, None, List, get_or, replicate, refl, sym, subst, ◌∙◌, ⊎_elim, arith}
 use Rattle.std.specs.List.{range_with_len}
 use Rattle.oc_base.specs.declared.cert.Cert.{Cert}
 use Rattle.oc_base.specs.declared.rank.Rank.{Rank}
@@ -26,9 +26,9 @@ use Rattle.oc_model.specs.World.{World, Process, node, process, process_in, with
 use Rattle.oc_model.proofs.Processes.{IsNew, process_in-new, at_put, anew}
 use Rattle.oc_model.proofs.Rules.{either}
 use Rattle.oc_laws_world.proofs.Lifts.{control_of, IsActLaw, act_lift, act_event}
-use Rattle.oc_laws_world.proofs.Passing.{passing_after}
+use Rattle.oc_laws_calm.proofs.Points.{passing_after}
 use Rattle.oc_laws_tree.proofs.LeaseRules.{OfLeases, OfPlan, stays_took_yes, stays_took_no, stays_unreachable, stays_relocate, stays_raises_over, stays_checks, stays_took_ack, stays_took_rejoin, stays_sees, stays_client, stays_measured, stays_published, stays_sealed_at, stays_pulled, stays_fetched, stays_took_chunk}
-use Rattle.oc_laws_calm.proofs.Checks.{TakesCheckIn, check_in_taken, check_in_refused}
+use Rattle.oc_laws_calm.proofs.Checks.{check_in_taken, check_in_refused}
 use Rattle.oc_laws_calm.proofs.Reached.{Reached}
 use Rattle.oc_laws_calm.proofs.Ticks.{set_at, HasTicked, has_ticked}
 

@@ -1,32 +1,29 @@
 -- The first five steps of settle, from any world that is reached: they end every lease that is not current, and keep all links that hold.
-use Rattle.std.proofs.Common.{◌≡◌, ℕ, ◌+◌, ◌*◌, ◌≤◌, ◌<◌, Bool, true, false, if◌then◌else◌, Option, Some, None, List, [], ◌∷◌, ◌⊎◌, inl, inr, filter, length, refl, ap, ap₂, sym, subst, ◌∙◌, ⊎_elim, arith, length-append}
+use Rattle.std.proofs.Common.{◌≡◌, ℕ, ◌+◌, ◌≤◌, ◌<◌, Bool, Some, None, List, [], ◌∷◌, inl, inr, filter, refl, ap, sym, subst, ◌∙◌, ⊎_elim, arith}
 use Rattle.std.proofs.lemmas.Bool.{cases_eq, cond_both}
-use Rattle.oc_base.specs.declared.cert.Cert.{Cert}
 use Rattle.oc_model.specs.declared.mode.Mode.{Mode}
 use Rattle.oc_model.specs.declared.mode.Mode.TheVariants.{Idle, Asking, Joined, Acting}
-use Rattle.oc_model.specs.Chains.{IsUp, IsJoined}
-use Rattle.oc_model.specs.ClaimsTree.{table_of, seq_of, KnowsNumber}
+use Rattle.oc_model.specs.Chains.{IsUp}
+use Rattle.oc_model.specs.ClaimsTree.{seq_of, KnowsNumber}
 use Rattle.oc_model.specs.Leases.{lease_time}
 use Rattle.oc_model.specs.Node.{Header, Control}
 use Rattle.oc_model.specs.Numbers.{at}
 use Rattle.oc_model.specs.Ready.{HoldsLease}
-use Rattle.oc_model.specs.Records.{is_joined}
-use Rattle.oc_model.specs.Runs.{Run, and_then, for_each}
+use Rattle.oc_model.specs.Runs.{and_then}
 use Rattle.oc_model.specs.Settle.{ticks, all_tick, checks_in, checks_in_if, checks_in_if_joined, all_check_in, first_five_steps}
-use Rattle.oc_model.specs.Table.{newest, lease_number, leased_by}
+use Rattle.oc_model.specs.Table.{lease_number}
 use Rattle.oc_model.specs.World.{World, is_up, mode_of, ids, up_ids}
 use Rattle.oc_model.specs.WorldBounds.{IsOneOf, IsDistinct, clock_of}
 use Rattle.oc_model.proofs.Able.{among_up}
 use Rattle.oc_model.proofs.Members.{of_filter}
 use Rattle.oc_laws_world.proofs.Lifts.{control_of}
-use Rattle.oc_laws_calm.proofs.CheckIns.{ChecksIn, checks_in_once}
-use Rattle.oc_laws_calm.proofs.Core.{Core, core_of, HasChecked, IsCounted}
-use Rattle.oc_laws_calm.proofs.Held.{Stays, Steady, steady_itself, stays_then, IsHeld, held_on, held_before, IsCurrent, current_stays}
+use Rattle.oc_laws_calm.proofs.Core.{Core, core_of, IsCounted}
+use Rattle.oc_laws_calm.proofs.Held.{Steady, steady_itself, stays_then, IsHeld, held_on, held_before, IsCurrent, current_stays}
 use Rattle.oc_laws_calm.proofs.Passes.{IsTurn, HasPassed, each_passes}
 use Rattle.oc_laws_calm.proofs.Reached.{Reached}
 use Rattle.oc_laws_calm.proofs.Spans.{ids_distinct, up_id}
 use Rattle.oc_laws_calm.proofs.Ticking.{TickKeeps, tick_keeps, row_fresh, none_over, all_stale, fresh_row, less_stale, IsStaleBy, IsFreshBy, stale_other, fresh_other, leased_id, ends_ahead}
-use Rattle.oc_laws_calm.proofs.Told.{CheckInKeeps, keeps_before, checks_in_keeps, parent_apart}
+use Rattle.oc_laws_calm.proofs.Told.{CheckInKeeps, keeps_before, checks_in_keeps}
 
 -- What the steps keep
 

@@ -1,28 +1,28 @@
 -- Links that hold: a node joined to one that is up and has its lease. What a step of settle leaves of them, and of the rest.
-use Rattle.std.proofs.Common.{◌≡◌, ℕ, ◌+◌, ◌<◌, ◌≤◌, Bool, true, false, Option, Some, None, List, ◌⊎◌, inl, inr, refl, ap, sym, subst, ◌∙◌, ⊎_elim, arith}
+use Rattle.std.proofs.Common.{◌≡◌, ℕ, ◌<◌, ◌≤◌, false, Option, Some, ◌⊎◌, inl, inr, refl, ap, sym, subst, ◌∙◌, arith}
 use Rattle.std.proofs.lemmas.Bool.{cases_order, false_from_ne_true}
 use Rattle.oc_base.specs.declared.cert.Cert.{Cert}
 use Rattle.oc_base.specs.Cert.{Outranks}
-use Rattle.oc_model.specs.declared.mode.Mode.TheVariants.{Idle, Asking, Joined, Acting}
+use Rattle.oc_model.specs.declared.mode.Mode.TheVariants.{Acting}
 use Rattle.oc_model.specs.Certificates.{outranks}
-use Rattle.oc_model.specs.Chains.{IsUp, IsJoined, IsRoot, IsTrueChain, HasNoCycle}
-use Rattle.oc_model.specs.ClaimsTree.{table_of, seq_of, KnowsNumber}
-use Rattle.oc_model.specs.Node.{Header, Control}
+use Rattle.oc_model.specs.Chains.{IsUp, IsJoined}
+use Rattle.oc_model.specs.ClaimsTree.{table_of, seq_of}
+use Rattle.oc_model.specs.Node.{Header}
 use Rattle.oc_model.specs.Numbers.{IsAmong}
 use Rattle.oc_model.specs.Ready.{HoldsLease}
-use Rattle.oc_model.specs.Table.{newest, is_news, is_news_to}
+use Rattle.oc_model.specs.Table.{newest, is_news_to}
 use Rattle.oc_model.specs.World.{World, is_up, mode_of}
 use Rattle.oc_laws_step.proofs.CertOrder.{outranks_fact}
-use Rattle.oc_laws_step.proofs.Tables.{newest-subject}
 use Rattle.oc_laws_world.proofs.Lifts.{control_of}
 use Rattle.oc_laws_world.specs.Numbers.{IsAnywhere, GoesWith}
 use Rattle.oc_laws_tree.specs.Sessions.{log_of}
-use Rattle.oc_laws_tree.proofs.Known.{Knows, newest_among}
+use Rattle.oc_laws_tree.proofs.Known.{Knows}
 use Rattle.oc_laws_tree.proofs.Rising.{row_goes}
 use Rattle.oc_laws_tree.proofs.Rows.{IsLiveRow, lease_row}
-use Rattle.oc_laws_tree.proofs.Together.{AllHold, all_after, tree_holds}
+use Rattle.oc_laws_tree.proofs.Together.{AllHold, tree_holds}
 use Rattle.oc_laws_tree.proofs.TreeHolds.{TreeHolds}
 use Rattle.oc_laws_calm.proofs.Core.{Core, core_of, HasChecked}
+use Rattle.oc_laws_calm.proofs.Points.{all_after}
 use Rattle.oc_laws_calm.proofs.Reached.{Reached, of_reached}
 
 -- Places
@@ -102,7 +102,7 @@ held_before w v steady y x held had =
 -- What the laws say of the facts in a child's log
 
 pub all_hold : (h : Header) (w : World) → Reached h w → AllHold w
-all_hold h w reached = of_reached AllHold (all_after AllHold (λ v holds. holds)) h w reached
+all_hold h w reached = of_reached AllHold all_after h w reached
 
 pub tree_of : (h : Header) (w : World) → Reached h w → TreeHolds w
 tree_of h w reached = tree_holds w (all_hold h w reached)

@@ -1,5 +1,5 @@
 -- How a node comes beneath a host, in a world: it moves there, the host takes its ask, and it takes the yes.
-use Rattle.std.proofs.Common.{◌≡◌, ℕ, ◌+◌, ◌≤◌, ◌<◌, Bool, true, false, ◌&&◌, ◌||◌, ◌==◌, nat_lt, Option, Some, None, List, [], ◌∷◌, ◌⊎◌, inl, inr, length, refl, ap, ap₂, sym, subst, ◌∙◌, arith, lt-ltb, ltb-true, length-append}
+use Rattle.std.proofs.Common.{◌≡◌, ℕ, ◌+◌, ◌≤◌, ◌<◌, true, false, nat_lt, Option, Some, None, List, [], ◌∷◌, length, refl, ap, ap₂, sym, subst, ◌∙◌, arith, lt-ltb, ltb-true}
 use Rattle.std.proofs.lemmas.Bool.{or_left, leb-false, false_from_ne_true}
 use Rattle.oc_base.specs.declared.cert.Cert.{Cert}
 use Rattle.oc_base.specs.declared.rank.Rank.{Rank}
@@ -26,13 +26,12 @@ use Rattle.oc_model.specs.Step.{plan, step}
 use Rattle.oc_model.specs.Table.{newest, is_news, is_news_to, leased_by, merge}
 use Rattle.oc_model.specs.World.{World, node, is_up, mode_of, after_act}
 use Rattle.oc_model.proofs.Rules.{keeps_relocate, keeps_asked}
-use Rattle.oc_laws_step.proofs.Tables.{newest-subject}
 use Rattle.oc_laws_world.specs.Ranks.{own_rank}
 use Rattle.oc_laws_world.proofs.Lifts.{control_of}
 use Rattle.oc_laws_tree.proofs.Rising.{row_goes}
 use Rattle.oc_laws_tree.proofs.Rows.{lease_row}
 use Rattle.oc_laws_calm.proofs.Asks.{SendsAsk, move_sends, raised_host, HasRaised, MayAdopt, TakesAsk, ask_taken, ask_refused, TakesYes, yes_taken}
-use Rattle.oc_laws_calm.proofs.CheckIns.{Goes, act_goes, IsLast, last_goes, goes_last, dry, dry_sends, me_of, me_is, lease_test}
+use Rattle.oc_laws_calm.proofs.CheckIns.{Goes, act_goes, IsLast, last_goes, goes_last, dry, dry_sends, me_is, lease_test}
 use Rattle.oc_laws_calm.proofs.Checks.{from_to, HasSameRest}
 use Rattle.oc_laws_calm.proofs.Core.{Core, core_of, asking}
 use Rattle.oc_laws_calm.proofs.Held.{tree_of}

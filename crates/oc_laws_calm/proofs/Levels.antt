@@ -1,9 +1,9 @@
 -- Step 6 of settle, level by level: behind it nothing waits at any node of a ready tree.
-use Rattle.std.proofs.Common.{◌≡◌, ℕ, zero, suc, ◌+◌, ◌*◌, ◌≤◌, ◌<◌, Bool, true, false, ◌==◌, Option, Some, None, List, [], ◌∷◌, ◌++◌, ◌⊎◌, inl, inr, filter, length, refl, ap, sym, subst, ◌∙◌, ⊎_elim, arith, length-append, append_assoc, eq-eqb, eqb-true}
+use Rattle.std.proofs.Common.{◌≡◌, ℕ, zero, suc, ◌+◌, ◌*◌, ◌≤◌, ◌<◌, List, [], ◌∷◌, ◌++◌, inl, inr, length, refl, ap, sym, subst, ◌∙◌, ⊎_elim, arith, length-append, append_assoc, eq-eqb, eqb-true}
 use Rattle.std.proofs.lemmas.Bool.{cases_eq}
 use Rattle.oc_base.specs.declared.cert.Cert.{Cert}
 use Rattle.oc_model.specs.declared.event.Act.{Act}
-use Rattle.oc_model.specs.Chains.{IsUp, IsJoined, IsTrueChain, HasTrueChain, chain_from}
+use Rattle.oc_model.specs.Chains.{IsUp, IsTrueChain, HasTrueChain, chain_from}
 use Rattle.oc_model.specs.Node.{Header, Log}
 use Rattle.oc_model.specs.Ready.{IsReadyUnder}
 use Rattle.oc_model.specs.Runs.{Run, rests, followed_by, and_then, for_each}
@@ -16,7 +16,8 @@ use Rattle.oc_model.proofs.Members.{of_filter, in_filter}
 use Rattle.oc_laws_world.proofs.Lifts.{control_of}
 use Rattle.oc_laws_step.specs.Sound.{IsSoundAs}
 use Rattle.oc_laws_tree.specs.Sessions.{log_of}
-use Rattle.oc_laws_tree.proofs.SoundNodes.{AreSound, sound_after}
+use Rattle.oc_laws_tree.proofs.SoundNodes.{AreSound}
+use Rattle.oc_laws_calm.proofs.Points.{sound_after}
 use Rattle.oc_laws_calm.specs.Settling.{batches, waiting_at, acts_to_tell, acts_of_step_six}
 use Rattle.oc_laws_calm.proofs.FiveSteps.{HasCalmed, stayed_itself, filter_distinct, up_distinct, up_of, AreTold, AreCurrent}
 use Rattle.oc_laws_calm.proofs.Held.{IsHeld}

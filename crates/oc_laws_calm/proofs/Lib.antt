@@ -1,5 +1,6 @@
 pub mod Refused
 pub mod Reached
+pub mod Points
 pub mod Spans
 pub mod Core
 pub mod Checks

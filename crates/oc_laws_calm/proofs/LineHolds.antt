@@ -1,5 +1,5 @@
 -- In every world that is reached the chain is one line, and each root stands above all.
-use Rattle.std.proofs.Common.{◌≡◌, ℕ, zero, suc, ◌+◌, ◌<◌, ◌≤◌, Bool, true, false, ◌&&◌, ◌||◌, not, ◌==◌, nat_lt, nat_le, if◌then◌else◌, Option, Some, None, List, [], ◌∷◌, length, refl, ap, ap₂, sym, subst, ◌∙◌, arith, leb-true, eq-eqb}
+use Rattle.std.proofs.Common.{◌≡◌, ℕ, ◌<◌, ◌≤◌, Bool, true, ◌==◌, nat_le, if◌then◌else◌, Option, Some, None, List, [], ◌∷◌, refl, ap, ap₂, sym, subst, ◌∙◌, arith, leb-true, eq-eqb}
 use Rattle.std.specs.List.{range_with_len}
 use Rattle.std.proofs.lemmas.Bool.{le-leb}
 use Rattle.oc_base.specs.declared.cert.Cert.{Cert}
@@ -20,12 +20,11 @@ use Rattle.oc_model.specs.declared.record.Record.TheVariants as records
 use Rattle.oc_model.specs.Adopting.{raises_over, host, birth, has_lease, grants, sends_rejoin, adopts, answers_ask, asked}
 use Rattle.oc_model.specs.Adoption.{rank_or_last, adoption_refusal}
 use Rattle.oc_model.specs.Checking.{at_time, starts_leases, merges, merges_all, dies, ends_each, ends_leases, checks_if_due, tick, acknowledges, life, checked_in, is_peer}
-use Rattle.oc_model.specs.Chains.{IsUp, IsJoined}
-use Rattle.oc_model.specs.Heal.{IsMember}
+use Rattle.oc_model.specs.Chains.{IsJoined}
 use Rattle.oc_model.specs.Leases.{ended}
 use Rattle.oc_model.specs.Measures.{reading_of, same_reading}
 use Rattle.oc_model.specs.NextWorld.{next_world, stopped}
-use Rattle.oc_model.specs.Node.{Header, Control, Node, restarted}
+use Rattle.oc_model.specs.Node.{Header, Node, restarted}
 use Rattle.oc_model.specs.Plan.{Plan, begun, write, answers, is_member}
 use Rattle.oc_model.specs.Serving.{redirects, server_for, client_of, client, measured}
 use Rattle.oc_model.specs.Step.{received, step}
@@ -34,7 +33,7 @@ use Rattle.oc_model.specs.World.{World, Process, node, process, process_in, with
 use Rattle.oc_model.proofs.Processes.{IsNew, process_in-me, process_in-new, at_put, anew}
 use Rattle.oc_model.proofs.Rules.{either}
 use Rattle.oc_laws_world.proofs.Lifts.{control_of, IsActLaw, act_lift, act_event}
-use Rattle.oc_laws_world.proofs.Passing.{passing_after}
+use Rattle.oc_laws_calm.proofs.Points.{passing_after}
 use Rattle.oc_laws_calm.proofs.ContentRules.{content_published, content_sealed_at, content_pulled, content_fetched, content_took_chunk}
 use Rattle.oc_laws_calm.proofs.Line.{IsInLine, OfLine, IsTop, line_took_yes, line_took_no, line_unreachable, line_relocate, line_raises_over, line_checks, line_checks_if_due, line_fetches_as, line_took_ack, line_took_rejoin, line_sees}
 use Rattle.oc_laws_calm.proofs.Reached.{Reached}

@@ -1,19 +1,17 @@
 -- How far the first five steps of settle take ask numbers and epochs: each tick takes them one on at most, a check-in not at all.
-use Rattle.std.proofs.Common.{◌≡◌, ℕ, ◌+◌, ◌≤◌, List, [], ◌∷◌, ◌⊎◌, inl, inr, refl, ap, sym, subst, ◌∙◌, ⊎_elim, arith}
-use Rattle.std.proofs.lemmas.Bool.{cases_eq}
+use Rattle.std.proofs.Common.{◌≡◌, ℕ, ◌+◌, ◌≤◌, List, [], ◌∷◌, inl, inr, refl, sym, subst, ◌∙◌, arith}
 use Rattle.oc_model.specs.declared.mode.Mode.{Mode}
 use Rattle.oc_model.specs.declared.mode.Mode.TheVariants.{Idle, Asking, Joined, Acting}
 use Rattle.oc_model.specs.Chains.{IsUp}
 use Rattle.oc_model.specs.ClaimsTree.{seq_of}
 use Rattle.oc_model.specs.Heal.{epoch_in}
 use Rattle.oc_model.specs.Node.{Header, Control}
-use Rattle.oc_model.specs.Runs.{and_then, for_each}
+use Rattle.oc_model.specs.Runs.{for_each}
 use Rattle.oc_model.specs.Settle.{ticks, all_tick, checks_in, checks_in_if, checks_in_if_joined, all_check_in, first_five_steps}
 use Rattle.oc_model.specs.World.{World, is_up, mode_of, up_ids}
 use Rattle.oc_model.specs.WorldBounds.{IsOneOf}
 use Rattle.oc_model.proofs.Able.{among_up}
 use Rattle.oc_laws_world.specs.Ranks.{own_rank}
-use Rattle.oc_laws_world.proofs.Lifts.{control_of}
 use Rattle.oc_laws_calm.proofs.FiveSteps.{up_of, up_distinct}
 use Rattle.oc_laws_calm.proofs.Passes.{IsTurn, HasPassed, each_passes}
 use Rattle.oc_laws_calm.proofs.Reached.{Reached}

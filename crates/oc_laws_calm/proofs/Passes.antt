@@ -1,6 +1,6 @@
 -- The same done for each of some nodes: what each turn makes of its node, and leaves of the others, holds of all in the end.
-use Rattle.std.proofs.Common.{◌≡◌, ℕ, ◌+◌, ◌*◌, ◌≤◌, Bool, true, false, if◌then◌else◌, List, [], ◌∷◌, ◌++◌, ◌⊎◌, inl, inr, filter, length, refl, ap, sym, subst, ◌∙◌, ⊎_elim, arith, length-append}
-use Rattle.oc_model.specs.Runs.{Run, rests, followed_by, and_then, for_each}
+use Rattle.std.proofs.Common.{◌≡◌, ℕ, List, [], ◌∷◌, inl, inr, refl, sym, subst, ⊎_elim}
+use Rattle.oc_model.specs.Runs.{Run, for_each}
 use Rattle.oc_model.specs.World.{World}
 use Rattle.oc_model.specs.WorldBounds.{IsOneOf, IsDistinct}
 

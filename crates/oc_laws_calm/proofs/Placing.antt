@@ -1,35 +1,27 @@
 -- A node that is not placed is put under the chain member before it: what that needs of the world, and what it keeps.
-use Rattle.std.proofs.Common.{◌≡◌, ℕ, zero, suc, ◌+◌, ◌-◌, ◌*◌, ◌≤◌, ◌<◌, Bool, true, false, not, ◌&&◌, ◌||◌, ◌==◌, nat_lt, nat_le, if◌then◌else◌, Option, Some, None, List, [], ◌∷◌, ◌⊎◌, inl, inr, find, length, refl, ap, ap₂, sym, subst, ◌∙◌, ⊎_elim, arith, leb-true, lt-ltb, ltb-true, eqb-true, eq-eqb}
-use Rattle.std.proofs.lemmas.Bool.{cases_eq, and_parts, and_from, le-leb, or_right, or_cases, true≢false, not-true, false_from_ne_true, eqb-false}
-use Rattle.oc_base.specs.declared.cert.Cert.{Cert}
-use Rattle.oc_base.specs.declared.rank.Rank.{Rank}
-use Rattle.oc_base.specs.declared.refusal.Refusal.{Refusal}
+use Rattle.std.proofs.Common.{◌≡◌, ℕ, ◌+◌, ◌-◌, ◌≤◌, ◌<◌, Bool, true, false, not, ◌&&◌, ◌||◌, ◌==◌, nat_lt, nat_le, if◌then◌else◌, Option, Some, None, List, [], ◌∷◌, inl, inr, length, refl, ap, sym, subst, ◌∙◌, ⊎_elim, arith, leb-true, lt-ltb, ltb-true, eqb-true}
+use Rattle.std.proofs.lemmas.Bool.{cases_eq, and_parts, and_from, le-leb, or_right, or_cases, false_from_ne_true}
 use Rattle.oc_base.specs.declared.refusal.Refusal.TheVariants as refusals
-use Rattle.oc_model.specs.declared.mode.Mode.TheVariants.{Idle, Asking, Joined, Acting}
-use Rattle.oc_model.specs.Adopting.{birth, host}
+use Rattle.oc_model.specs.Adopting.{host}
 use Rattle.oc_model.specs.Adoption.{chain_child, chain_refusal}
 use Rattle.oc_model.specs.Chains.{IsUp, IsJoined, IsRoot, IsTrueChain}
 use Rattle.oc_model.specs.ClaimsTree.{table_of, seq_of}
-use Rattle.oc_model.specs.Heal.{AreLeased, IsPlaced, epoch_in}
+use Rattle.oc_model.specs.Heal.{AreLeased, IsPlaced}
 use Rattle.oc_model.specs.Node.{Header, Control}
 use Rattle.oc_model.specs.Ready.{HoldsLease, IsLeased}
-use Rattle.oc_model.specs.Table.{newest, lease_number, leased_by, leased_children, is_news, put, merge}
-use Rattle.oc_model.specs.World.{World, is_up, mode_of}
+use Rattle.oc_model.specs.Table.{leased_children}
+use Rattle.oc_model.specs.World.{World, is_up}
 use Rattle.oc_model.specs.WorldBounds.{IsOneOf}
-use Rattle.oc_model.proofs.Chains.{acting_alone, joined_once, chain_unique}
 use Rattle.oc_model.proofs.Members.{found_by, found_passes}
 use Rattle.oc_laws_step.specs.Sound.{IsTable}
-use Rattle.oc_laws_world.specs.Ranks.{own_rank}
-use Rattle.oc_laws_world.proofs.Lifts.{control_of}
-use Rattle.oc_laws_tree.proofs.LeaseTicks.{leased_among}
-use Rattle.oc_laws_tree.proofs.SoundNodes.{AreSound, sound_after}
+use Rattle.oc_laws_tree.proofs.SoundNodes.{AreSound}
+use Rattle.oc_laws_calm.proofs.Points.{sound_after, leased_among}
 use Rattle.oc_laws_calm.proofs.Children.{found_one, child_leased, found_least}
 use Rattle.oc_laws_calm.proofs.Descending.{link_held}
-use Rattle.oc_laws_calm.proofs.Held.{Stays, Steady, stays_then, IsHeld, IsCurrent, current_stays}
+use Rattle.oc_laws_calm.proofs.Held.{Stays, IsHeld, IsCurrent}
 use Rattle.oc_laws_calm.proofs.LineHolds.{earlier_parent}
-use Rattle.oc_laws_calm.proofs.ReadyStays.{chain_first_up, chain_root}
 use Rattle.oc_laws_calm.proofs.Reached.{Reached, of_reached}
-use Rattle.oc_laws_calm.proofs.Spans.{IsId, up_id}
+use Rattle.oc_laws_calm.proofs.Spans.{up_id}
 
 -- Chains of members
 

@@ -1,49 +1,23 @@
 -- The turn of a node in step 3 of heal: it comes under the chain member before it, and all that are placed stay so.
-use Rattle.std.proofs.Common.{◌≡◌, ℕ, zero, suc, ◌+◌, ◌-◌, ◌*◌, ◌≤◌, ◌<◌, Bool, true, false, not, ◌&&◌, ◌||◌, ◌==◌, nat_lt, nat_le, if◌then◌else◌, Option, Some, None, List, [], ◌∷◌, ◌⊎◌, inl, inr, length, refl, ap, ap₂, sym, subst, ◌∙◌, ⊎_elim, arith, ne_eqb, lt-ltb, ltb-true, eqb-true, eq-eqb, length-append}
-use Rattle.std.proofs.lemmas.Bool.{cases_eq, or_left, or_cases, and_parts, false_from_ne_true, true≢false}
-use Rattle.std.proofs.Common.{leb-true}
+use Rattle.std.proofs.Common.{◌≡◌, ℕ, ◌+◌, ◌≤◌, true, if◌then◌else◌, Some, None, List, refl, ap, sym, subst, ◌∙◌, ⊎_elim, arith, eq-eqb}
+use Rattle.std.proofs.lemmas.Bool.{cases_eq}
 use Rattle.oc_base.specs.declared.cert.Cert.{Cert}
-use Rattle.oc_base.specs.declared.rank.Rank.{Rank}
-use Rattle.oc_base.specs.declared.refusal.Refusal.TheVariants as refusals
-use Rattle.oc_base.specs.Rank.{beneath_of}
-use Rattle.oc_base.specs.declared.limits.TheConstants.{MAX_DEPTH}
-use Rattle.oc_model.specs.declared.event.Act.TheVariants as acts
-use Rattle.oc_model.specs.declared.input.Input.TheVariants as inputs
-use Rattle.oc_model.specs.declared.mode.Mode.{Mode}
-use Rattle.oc_model.specs.declared.mode.Mode.TheVariants.{Idle, Asking, Joined, Acting}
-use Rattle.oc_model.specs.Adopting.{is_acting, in_tree, birth, host, raises}
-use Rattle.oc_model.specs.Adoption.{rank_or_last, precedes, precedes_any, chain_child, chain_refusal, adoption_refusal}
-use Rattle.oc_model.specs.Chains.{IsUp, IsJoined, IsRoot, IsTrueChain, chain_to}
-use Rattle.oc_model.specs.Checking.{next_check, checks_as, checks}
+use Rattle.oc_model.specs.Adopting.{birth}
+use Rattle.oc_model.specs.Chains.{IsUp}
 use Rattle.oc_model.specs.ClaimsTree.{table_of, seq_of}
-use Rattle.oc_model.specs.Heal.{AreLeased, IsPlaced, epoch_in, asks, joins, top_down, below, tells_rank, joins_by}
 use Rattle.oc_model.specs.Node.{Header, Control}
-use Rattle.oc_model.specs.Numbers.{number_end, raise, has}
-use Rattle.oc_model.specs.Plan.{Plan, begun, with_soft, is_member}
+use Rattle.oc_model.specs.Plan.{Plan}
 use Rattle.oc_model.specs.Ready.{HoldsLease}
-use Rattle.oc_model.specs.Runs.{Run, does, and_then, for_each}
-use Rattle.oc_model.specs.Settle.{checks_in}
-use Rattle.oc_model.specs.Step.{step}
-use Rattle.oc_model.specs.Table.{newest, lease_number, leased_by, put, is_news, merge}
-use Rattle.oc_model.specs.World.{World, node, is_up, mode_of, after_act}
-use Rattle.oc_model.specs.WorldBounds.{IsOneOf}
-use Rattle.oc_model.proofs.Chains.{acting_alone, joined_once, chain_to-finds}
+use Rattle.oc_model.specs.Runs.{Run}
+use Rattle.oc_model.specs.Table.{lease_number, leased_by, put, is_news, merge}
+use Rattle.oc_model.specs.World.{World}
 use Rattle.oc_laws_step.proofs.Tables.{newest-put_same}
-use Rattle.oc_laws_world.specs.Ranks.{own_rank}
-use Rattle.oc_laws_world.proofs.Lifts.{control_of}
 use Rattle.oc_laws_tree.proofs.LeasesAhead.{leased_merge_other}
-use Rattle.oc_laws_calm.proofs.Asks.{raised_host, raised_none, begun_raised, HasRaised, HasRisenOver, root_raised, MayAdopt, line_refuses}
-use Rattle.oc_laws_calm.proofs.CheckIns.{Goes, act_goes, me_is}
-use Rattle.oc_laws_calm.proofs.Checks.{HasSameRest}
-use Rattle.oc_laws_calm.proofs.Core.{Core, core_of, epoch_or_last}
-use Rattle.oc_laws_calm.proofs.Descending.{IsOfEpoch, TellsDown, tells_down}
-use Rattle.oc_laws_calm.proofs.Held.{Stays, Steady, stays_same, stays_core, stays_then, IsHeld, IsCurrent, current_stays}
-use Rattle.oc_laws_calm.proofs.Joining.{CanMove, ComesBeneath, comes_beneath, AsksInVain, asks_in_vain, is_new}
-use Rattle.oc_laws_calm.proofs.Line.{IsTop}
-use Rattle.oc_laws_calm.proofs.LineHolds.{member_of, earlier_parent, root_top}
-use Rattle.oc_laws_calm.proofs.Placing.{IsClimb, chain_climbs, placed_member, top_child, placed_beneath, IsHealing, ChangesAt, healing_on, placed_on, IsBefore, line_free, line_taken}
-use Rattle.oc_laws_calm.proofs.Reached.{Reached, reached_act}
-use Rattle.oc_laws_calm.proofs.Spans.{IsId, up_id, among_them}
+use Rattle.oc_laws_calm.proofs.Core.{Core, core_of}
+use Rattle.oc_laws_calm.proofs.Held.{Stays, Steady, stays_same, stays_core, IsHeld, IsCurrent}
+use Rattle.oc_laws_calm.proofs.Joining.{ComesBeneath, AsksInVain, is_new}
+use Rattle.oc_laws_calm.proofs.Placing.{IsHealing, ChangesAt}
+use Rattle.oc_laws_calm.proofs.Reached.{Reached}
 
 -- Changes
 

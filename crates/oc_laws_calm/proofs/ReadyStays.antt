@@ -1,16 +1,15 @@
 -- A world that is ready stays so while places and links do.
-use Rattle.std.proofs.Common.{◌≡◌, ℕ, ◌+◌, Bool, true, false, ◌==◌, if◌then◌else◌, Option, Some, None, List, [], ◌∷◌, ◌⊎◌, inl, inr, filter, length, refl, ap, sym, subst, ◌∙◌, ⊎_elim}
+use Rattle.std.proofs.Common.{◌≡◌, ℕ, Bool, true, false, ◌==◌, if◌then◌else◌, Option, Some, None, List, [], ◌∷◌, filter, refl, ap, sym, subst, ◌∙◌, ⊎_elim}
 use Rattle.std.proofs.lemmas.Bool.{cases_eq}
 use Rattle.oc_model.specs.declared.mode.Mode.{Mode}
 use Rattle.oc_model.specs.declared.mode.Mode.TheVariants.{Idle, Asking, Joined, Acting}
-use Rattle.oc_model.specs.Chains.{IsUp, IsJoined, IsRoot, IsTrueChain, HasTrueChain, chain_from, last_from, ending_at, chain_to}
+use Rattle.oc_model.specs.Chains.{IsUp, IsJoined, IsRoot, IsTrueChain, chain_from, last_from, ending_at}
 use Rattle.oc_model.specs.ClaimsTree.{seq_of}
 use Rattle.oc_model.specs.Node.{Header}
 use Rattle.oc_model.specs.Ready.{HoldsLease, IsLeased, IsReadyUnder}
 use Rattle.oc_model.specs.Records.{is_joined}
 use Rattle.oc_model.specs.World.{World, is_up, mode_of, ids, up_ids}
 use Rattle.oc_model.proofs.Chains.{acting_alone, joined_once, chain_to-finds}
-use Rattle.oc_laws_calm.specs.Settling.{up_joined}
 use Rattle.oc_laws_calm.proofs.FiveSteps.{HasStayed}
 use Rattle.oc_laws_calm.proofs.Held.{Stays, Steady, IsHeld}
 use Rattle.oc_laws_calm.proofs.Reached.{Reached}

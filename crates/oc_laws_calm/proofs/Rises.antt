@@ -1,8 +1,6 @@
 -- Step 1 of heal: the least chain member that is up comes to act as root, after no more events than it asks twice each earlier member.
-use Rattle.std.proofs.Common.{◌≡◌, ℕ, zero, suc, ◌+◌, ◌-◌, ◌*◌, ◌<◌, ◌≤◌, Bool, true, false, not, ◌&&◌, ◌==◌, nat_lt, nat_le, if◌then◌else◌, Option, Some, None, List, [], ◌∷◌, ◌⊎◌, inl, inr, length, unwrap_or, refl, ap, sym, subst, ◌∙◌, ⊎_elim, arith, ne_eqb, eq-eqb, length-append}
-use Rattle.std.proofs.lemmas.Bool.{cond_both, and_from}
-use Rattle.oc_base.specs.declared.rank.Rank.{Rank}
-use Rattle.oc_base.specs.Groups.{shelf}
+use Rattle.std.proofs.Common.{◌≡◌, ℕ, zero, suc, ◌+◌, ◌-◌, ◌*◌, ◌<◌, ◌≤◌, Bool, true, false, not, ◌&&◌, ◌==◌, if◌then◌else◌, Option, Some, None, List, [], ◌∷◌, ◌⊎◌, inl, inr, length, refl, ap, sym, subst, ◌∙◌, ⊎_elim, arith, ne_eqb, eq-eqb, length-append}
+use Rattle.std.proofs.lemmas.Bool.{cond_both}
 use Rattle.oc_model.specs.declared.answer.Answer.TheVariants as words
 use Rattle.oc_model.specs.declared.event.Act.{Act}
 use Rattle.oc_model.specs.declared.event.Act.TheVariants as acts
@@ -12,7 +10,7 @@ use Rattle.oc_model.specs.declared.mode.Mode.{Mode}
 use Rattle.oc_model.specs.declared.mode.Mode.TheVariants as modes
 use Rattle.oc_model.specs.declared.record.Record.TheVariants as records
 use Rattle.oc_model.specs.Adoption.{rank_or_last}
-use Rattle.oc_model.specs.Asking.{lost_from, lost, send_ask, ask, next_epoch, act, descend, is_empty, try_at, try_first, next_try, set_tries, round, not_seen, not_reached, unreachable}
+use Rattle.oc_model.specs.Asking.{lost_from, lost, send_ask, ask, act, descend, is_empty, try_at, try_first, next_try, set_tries, round, not_seen, not_reached, unreachable}
 use Rattle.oc_model.specs.Chains.{IsUp}
 use Rattle.oc_model.specs.Checking.{next_check, checks_as, checks}
 use Rattle.oc_model.specs.ClaimsTree.{seq_of}
@@ -21,13 +19,13 @@ use Rattle.oc_model.specs.Node.{Header, Control}
 use Rattle.oc_model.specs.Numbers.{number_end}
 use Rattle.oc_model.specs.Plan.{Plan, begun, write, answers, with_soft, searching, is_member}
 use Rattle.oc_model.specs.Runs.{Run, rests, does, and_then}
-use Rattle.oc_model.specs.Step.{plan, step}
+use Rattle.oc_model.specs.Step.{step}
 use Rattle.oc_model.specs.World.{World, node, is_up, mode_of, aimed, acted, after_act}
 use Rattle.oc_laws_world.specs.Ranks.{own_rank}
 use Rattle.oc_laws_world.proofs.Lifts.{control_of}
 use Rattle.oc_laws_calm.proofs.CheckIns.{Goes, act_goes, me_is}
 use Rattle.oc_laws_calm.proofs.Core.{epoch_or_last, next_epoch_most}
-use Rattle.oc_laws_calm.proofs.Line.{InLine, order_below}
+use Rattle.oc_laws_calm.proofs.Line.{order_below}
 use Rattle.oc_laws_calm.proofs.LineHolds.{in_line, is_member_of}
 use Rattle.oc_laws_calm.proofs.Reached.{Reached, reached_act}
 use Rattle.oc_laws_calm.proofs.Spans.{IsId, up_id}

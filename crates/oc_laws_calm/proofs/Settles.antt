@@ -1,31 +1,29 @@
 -- A ready world settles: what holds behind all six steps, and how many acts they take.
-use Rattle.std.proofs.Common.{◌≡◌, ℕ, ◌+◌, ◌*◌, ◌<◌, ◌⊎◌, inl, inr, Option, Some, None, List, [], ◌∷◌, length, refl, ap, sym, subst, ◌∙◌, ⊎_elim, arith, length-append}
+use Rattle.std.proofs.Common.{◌≡◌, ℕ, inl, inr, Option, Some, None, List, [], ◌∷◌, length, refl, ap, sym, subst, ◌∙◌, arith, length-append}
 use Rattle.oc_base.specs.declared.cert.Cert.{Cert}
 use Rattle.oc_model.specs.declared.event.Event.TheVariants.{Settle}
 use Rattle.oc_model.specs.declared.word.Word.TheVariants.{Settled}
 use Rattle.oc_model.specs.Chains.{IsUp, IsJoined, IsRoot, IsTrueChain, chain_to, first_link, true_line}
 use Rattle.oc_model.specs.ClaimsTree.{table_of, IsTold, KnowsNumber, IsCountInformed}
 use Rattle.oc_model.specs.NextWorld.{next_world}
-use Rattle.oc_model.specs.Node.{Header, Log}
+use Rattle.oc_model.specs.Node.{Header}
 use Rattle.oc_model.specs.Numbers.{IsAmong}
 use Rattle.oc_model.specs.Ready.{IsReadyUnder, IsReady, IsSettled}
-use Rattle.oc_model.specs.Runs.{Run}
 use Rattle.oc_model.specs.Settle.{first_five_steps, all_tell, settles}
 use Rattle.oc_model.specs.Table.{newest}
 use Rattle.oc_model.specs.World.{World, node}
 use Rattle.oc_model.proofs.Chains.{chain_to-true}
 use Rattle.oc_laws_tree.specs.Listing.{ListsExactly}
-use Rattle.oc_laws_tree.specs.Sessions.{log_of}
 use Rattle.oc_laws_tree.proofs.Explained.{explained}
 use Rattle.oc_laws_tree.proofs.Informed.{informed}
 use Rattle.oc_laws_tree.proofs.SettledExact.{none_missing, settled_exact}
 use Rattle.oc_laws_tree.proofs.Together.{counted_tree}
 use Rattle.oc_laws_calm.specs.Settling.{CountsExactly, acts_to_settle, SettleSettles, SettleTells, SettleKeepsRoot, SettleLists, SettleTakes}
 use Rattle.oc_laws_calm.proofs.Counted.{five_acts}
-use Rattle.oc_laws_calm.proofs.FiveSteps.{HasCalmed, HasStayed, stayed_then, FiveSteps, five_steps}
-use Rattle.oc_laws_calm.proofs.Held.{Steady, stays_then, IsHeld, all_hold, tree_of}
+use Rattle.oc_laws_calm.proofs.FiveSteps.{FiveSteps, five_steps}
+use Rattle.oc_laws_calm.proofs.Held.{all_hold, tree_of}
 use Rattle.oc_laws_calm.proofs.Levels.{HasToldAll, step_six}
-use Rattle.oc_laws_calm.proofs.ReadyStays.{AreHeld, ready_held, held_stay, ready_stays}
+use Rattle.oc_laws_calm.proofs.ReadyStays.{AreHeld, ready_held, ready_stays}
 use Rattle.oc_laws_calm.proofs.Reached.{Reached}
 use Rattle.oc_laws_calm.proofs.Refused.{settle_does, settle_tells}
 

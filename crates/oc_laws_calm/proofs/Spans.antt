@@ -1,10 +1,8 @@
 -- The ids of the nodes of a world that is reached, from 1 to their number; and that whoever is told of in a table is one of them.
-use Rattle.std.proofs.Common.{◌≡◌, ℕ, zero, suc, ◌+◌, ◌≤◌, ◌<◌, Bool, true, false, ◌==◌, Option, List, [], ◌∷◌, ◌⊎◌, inl, inr, map, if◌then◌else◌, refl, ap, sym, subst, ◌∙◌, ⊎_elim, arith, eqb-true, eq-eqb}
+use Rattle.std.proofs.Common.{◌≡◌, ℕ, zero, suc, ◌+◌, ◌≤◌, ◌<◌, Bool, true, false, ◌==◌, List, [], ◌∷◌, ◌⊎◌, inl, inr, map, if◌then◌else◌, refl, ap, sym, subst, ◌∙◌, ⊎_elim, arith, eqb-true}
 use Rattle.std.specs.List.{AllByRecursion, range_with_len}
 use Rattle.std.proofs.lemmas.Bool.{cases_eq, cases_order, eqb-false}
 use Rattle.oc_base.specs.declared.cert.Cert.{Cert}
-use Rattle.oc_base.specs.declared.rank.Rank.{Rank}
-use Rattle.oc_model.specs.declared.event.Event.{Event}
 use Rattle.oc_model.specs.declared.message.Body.{Body}
 use Rattle.oc_model.specs.declared.message.Body.TheVariants as bodies
 use Rattle.oc_model.specs.declared.message.Message.{Message}
@@ -13,22 +11,20 @@ use Rattle.oc_model.specs.Chains.{IsUp}
 use Rattle.oc_model.specs.Adoption.{rank_or_last}
 use Rattle.oc_model.specs.ChangeLog.{next_certs, place_after}
 use Rattle.oc_model.specs.ClaimsTree.{table_of, seq_of}
-use Rattle.oc_model.specs.NextWorld.{world_after}
 use Rattle.oc_model.specs.Node.{Header, Control, new_node}
 use Rattle.oc_model.specs.Numbers.{IsAmong}
-use Rattle.oc_model.specs.World.{World, Process, down, absent, process, process_in, ids, up_ids, is_up, new_world}
+use Rattle.oc_model.specs.World.{World, Process, down, absent, process, process_in, ids, new_world}
 use Rattle.oc_model.specs.WorldBounds.{IsOneOf, IsDistinct}
 use Rattle.oc_model.proofs.GoesOn.{ids-always}
-use Rattle.oc_model.proofs.Members.{of_filter}
 use Rattle.oc_model.proofs.Places.{process_in-outside}
 use Rattle.oc_model.proofs.Processes.{process_in-new, IsNew, up_in}
-use Rattle.oc_model.proofs.Lists.{all_append, all_weaker}
-use Rattle.oc_laws_world.proofs.Laws.{law_after}
-use Rattle.oc_laws_world.proofs.Lifts.{control_of, HasSent, Becomes, IsLaw, at_each}
+use Rattle.oc_model.proofs.Lists.{all_append}
+use Rattle.oc_laws_world.proofs.Lifts.{control_of, HasSent, IsLaw, at_each}
 use Rattle.oc_laws_world.proofs.Listed.{all_among}
 use Rattle.oc_laws_world.proofs.Machine.{IsMachine, IsLoose, and_sent}
 use Rattle.oc_laws_world.proofs.NumbersKept.{IsAskedFact}
-use Rattle.oc_laws_tree.proofs.Together.{AllHold, all_after}
+use Rattle.oc_laws_tree.proofs.Together.{AllHold}
+use Rattle.oc_laws_calm.proofs.Points.{law_after, all_after}
 use Rattle.oc_laws_calm.proofs.Reached.{Reached, of_reached}
 
 -- Ranges
@@ -218,7 +214,7 @@ numbered_new h = record {
 -- whoever a table tells of has asked, so it is a node of the world
 pub told_id : (h : Header) (w : World) (y : ℕ) (f : Cert) → Reached h w → IsAmong f (table_of w y) → IsId h f.subject
 told_id h w y f reached among =
-    let all : AllHold w = of_reached AllHold (all_after AllHold (λ v holds. holds)) h w reached in
+    let all : AllHold w = of_reached AllHold all_after h w reached in
     let numbered : AreNumbered w = of_reached AreNumbered (λ g events. law_after AreNumbered IsNumberedNode numbered_law g events (numbered_new g)) h w reached in
     let asked : IsAskedFact w f = all_among (IsAskedFact w) (table_of w y) f (all.asks.table y) among in
     let sent : Message = record { from = f.subject; to = f.parent; body = bodies.Ask f.seq asked.0 } in

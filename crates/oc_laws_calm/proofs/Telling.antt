@@ -1,32 +1,25 @@
 -- Step 6 of settle: each node tells all that waits, those of longer chains first, so that in the end nothing waits.
-use Rattle.std.proofs.Common.{◌≡◌, ℕ, zero, suc, ◌+◌, ◌-◌, ◌*◌, ◌/◌, ◌≤◌, ◌<◌, Bool, true, false, ◌&&◌, ◌==◌, nat_lt, nat_le, if◌then◌else◌, Option, Some, None, List, [], ◌∷◌, ◌++◌, ◌⊎◌, inl, inr, filter, length, take, drop, refl, ap, ap₂, sym, subst, ◌∙◌, ⊎_elim, arith, length-append, length-drop, append_assoc, eq-eqb, eqb-true, lt-ltb}
+use Rattle.std.proofs.Common.{◌≡◌, ℕ, zero, suc, ◌+◌, ◌-◌, ◌*◌, ◌≤◌, Bool, true, false, nat_lt, nat_le, if◌then◌else◌, List, [], ◌∷◌, length, take, drop, refl, ap, sym, subst, ◌∙◌, ⊎_elim, arith, length-append, length-drop, lt-ltb}
 use Rattle.std.proofs.lemmas.Bool.{cases_eq, le-leb}
 use Rattle.oc_base.specs.declared.cert.Cert.{Cert}
 use Rattle.oc_base.specs.declared.limits.TheConstants.{MAX_CHECK_IN_CERTS}
-use Rattle.oc_model.specs.declared.mode.Mode.TheVariants.{Joined}
-use Rattle.oc_model.specs.ChangeLog.{next_certs, place_after, is_ahead, ack}
-use Rattle.oc_model.specs.Chains.{IsUp, IsJoined, IsRoot, IsTrueChain, chain_from}
-use Rattle.oc_model.specs.ClaimsTree.{table_of, seq_of, KnowsNumber}
+use Rattle.oc_model.specs.ChangeLog.{place_after, is_ahead, ack}
+use Rattle.oc_model.specs.Chains.{IsJoined}
+use Rattle.oc_model.specs.ClaimsTree.{KnowsNumber}
 use Rattle.oc_model.specs.Node.{Header, Control, Log}
-use Rattle.oc_model.specs.Ready.{HoldsLease, IsReadyUnder}
-use Rattle.oc_model.specs.Runs.{Run, rests, followed_by, and_then, for_each}
-use Rattle.oc_model.specs.Settle.{checks_in, tells_while, tells_all, has_length, with_chain_of, deepest_first, all_tell}
-use Rattle.oc_model.specs.World.{World, node, is_up, mode_of, up_ids}
-use Rattle.oc_model.specs.WorldBounds.{IsOneOf, IsDistinct}
-use Rattle.oc_model.proofs.Able.{among_up}
-use Rattle.oc_model.proofs.Chains.{chain_unique, chain_short}
-use Rattle.oc_model.proofs.Members.{of_filter, in_filter}
+use Rattle.oc_model.specs.Runs.{Run}
+use Rattle.oc_model.specs.Settle.{checks_in, tells_while}
+use Rattle.oc_model.specs.World.{World, mode_of}
 use Rattle.oc_laws_world.proofs.Lifts.{control_of}
 use Rattle.oc_laws_tree.specs.Sessions.{log_of}
-use Rattle.oc_laws_tree.proofs.SoundNodes.{AreSound, sound_after}
+use Rattle.oc_laws_tree.proofs.SoundNodes.{AreSound}
+use Rattle.oc_laws_calm.proofs.Points.{sound_after}
 use Rattle.oc_laws_step.specs.Sound.{IsSoundAs}
-use Rattle.oc_laws_calm.specs.Settling.{batches, waiting_at, acts_to_tell}
+use Rattle.oc_laws_calm.specs.Settling.{batches}
 use Rattle.oc_laws_calm.proofs.CheckIns.{ChecksIn, checks_in_once}
 use Rattle.oc_laws_calm.proofs.Core.{Core, core_of, IsCounted}
-use Rattle.oc_laws_calm.proofs.FiveSteps.{HasStayed, stayed_then, AreTold, AreCurrent, HasCalmed, filter_distinct, up_distinct, up_of}
-use Rattle.oc_laws_calm.proofs.Held.{Steady, IsHeld, current_stays}
-use Rattle.oc_laws_calm.proofs.Passes.{IsTurn, HasPassed, each_passes}
-use Rattle.oc_laws_calm.proofs.ReadyStays.{AreHeld, held_stay, ready_held, ready_stays, chain_stays, chain_from-finds}
+use Rattle.oc_laws_calm.proofs.FiveSteps.{stayed_then, HasCalmed}
+use Rattle.oc_laws_calm.proofs.Held.{IsHeld, current_stays}
 use Rattle.oc_laws_calm.proofs.Reached.{Reached, of_reached}
 use Rattle.oc_laws_calm.proofs.Told.{CheckInKeeps, keeps_before, checks_in_keeps, parent_apart}
 

@@ -1,42 +1,40 @@
 -- A tick in a world: what it keeps, and which leases it ends.
-use Rattle.std.proofs.Common.{◌≡◌, ℕ, ◌+◌, ◌-◌, ◌<◌, ◌≤◌, max, Bool, true, false, nat_le, if◌then◌else◌, Option, Some, None, List, [], ◌∷◌, ◌⊎◌, inl, inr, length, get_or, refl, ap, sym, subst, ◌∙◌, ⊎_elim, arith}
-use Rattle.std.proofs.lemmas.Bool.{cases_eq, false_from_ne_true, true≢false}
+use Rattle.std.proofs.Common.{◌≡◌, ℕ, ◌+◌, ◌-◌, ◌<◌, ◌≤◌, max, false, nat_le, Option, Some, None, ◌⊎◌, inl, inr, length, refl, ap, sym, subst, ◌∙◌, ⊎_elim, arith}
+use Rattle.std.proofs.lemmas.Bool.{cases_eq, false_from_ne_true}
 use Rattle.std.proofs.Common.{leb-true}
-use Rattle.oc_base.specs.declared.cert.Cert.{Cert}
 use Rattle.oc_model.specs.declared.event.Act.TheVariants as acts
 use Rattle.oc_model.specs.declared.input.Input.TheVariants as inputs
-use Rattle.oc_model.specs.Chains.{IsUp, IsJoined}
-use Rattle.oc_model.specs.ClaimsTree.{table_of, seq_of, KnowsNumber}
+use Rattle.oc_model.specs.Chains.{IsUp}
+use Rattle.oc_model.specs.ClaimsTree.{table_of}
 use Rattle.oc_base.specs.Groups.{shelf}
 use Rattle.oc_model.specs.Leases.{lease_time, is_over}
 use Rattle.oc_model.specs.Node.{Header, Control}
-use Rattle.oc_model.specs.Numbers.{IsAmong, at}
+use Rattle.oc_model.specs.Numbers.{at}
 use Rattle.oc_model.specs.Plan.{begun}
 use Rattle.oc_model.specs.Ready.{HoldsLease}
 use Rattle.oc_model.specs.Settle.{ticks}
 use Rattle.oc_model.specs.Step.{step}
-use Rattle.oc_model.specs.Table.{newest, lease_number, leased_by}
-use Rattle.oc_model.specs.World.{World, node, is_up, after_act}
+use Rattle.oc_model.specs.Table.{newest, leased_by}
+use Rattle.oc_model.specs.World.{World, node}
 use Rattle.oc_model.specs.WorldBounds.{clock_of}
 use Rattle.oc_laws_world.proofs.Lifts.{control_of}
 use Rattle.oc_laws_tree.specs.LeaseEnds.{LeaseEndsLieAhead}
-use Rattle.oc_laws_tree.proofs.GrantsKept.{GrantsHold, IsGranting, grants_law, grants_new, facts_granted}
-use Rattle.oc_laws_tree.proofs.LeaseEnds.{known_anywhere, lease_ends_after}
 use Rattle.oc_laws_tree.proofs.Known.{newest_among}
 use Rattle.oc_laws_tree.proofs.Rows.{lease_row}
-use Rattle.oc_laws_tree.proofs.SoundNodes.{AreSound, sound_after}
+use Rattle.oc_laws_tree.proofs.SoundNodes.{AreSound}
+use Rattle.oc_laws_calm.proofs.Points.{sound_after, lease_ends_after}
 use Rattle.oc_laws_step.proofs.Tables.{newest-subject}
 use Rattle.oc_laws_calm.proofs.CheckIns.{Goes, act_goes, me_is}
-use Rattle.oc_laws_calm.proofs.Core.{Core, core_of, HasChecked, tick_core, IsCounted}
+use Rattle.oc_laws_calm.proofs.Core.{core_of, HasChecked, tick_core}
 use Rattle.oc_laws_calm.proofs.Ends.{ends_within}
-use Rattle.oc_laws_calm.proofs.Held.{Stays, Steady, stays_same, stays_core, stays_checked, IsHeld, held_on, held_before, IsCurrent, current_stays}
+use Rattle.oc_laws_calm.proofs.Held.{Stays, Steady, stays_core, stays_checked, IsHeld, held_before, IsCurrent, current_stays}
 use Rattle.oc_laws_calm.proofs.Reached.{Reached, reached_act, of_reached}
 use Rattle.oc_laws_calm.proofs.Spans.{IsId, up_id, told_id, among_them}
 use Rattle.oc_laws_calm.proofs.Ticks.{HasTicked, has_ticked}
 
 -- lease ends lie ahead
 pub ends_ahead : (h : Header) (w : World) → Reached h w → LeaseEndsLieAhead w
-ends_ahead h w reached = of_reached LeaseEndsLieAhead (λ g events. lease_ends_after GrantsHold IsGranting grants_law (λ v holds. known_anywhere v (facts_granted v holds)) g (grants_new g) events) h w reached
+ends_ahead h w reached = of_reached LeaseEndsLieAhead lease_ends_after h w reached
 
 -- whoever has a lease is a node of the world
 pub leased_id : (h : Header) (w : World) (y z s : ℕ) → Reached h w → HoldsLease w y z s → IsId h z

@@ -1,19 +1,19 @@
 -- What a tick does to a node: leases that are over end, and no other; leased children without an end get one.
-use Rattle.std.proofs.Common.{◌≡◌, ℕ, zero, suc, ◌+◌, ◌-◌, ◌<◌, ◌≤◌, max, Bool, true, false, not, ◌&&◌, ◌==◌, nat_le, if◌then◌else◌, Option, Some, None, List, [], ◌∷◌, ◌⊎◌, inl, inr, map, filter, get_or, set, length, refl, ap, sym, subst, ◌∙◌, ⊎_elim, arith, eqb-true}
+use Rattle.std.proofs.Common.{◌≡◌, ℕ, zero, suc, ◌+◌, ◌-◌, ◌<◌, max, Bool, true, false, if◌then◌else◌, Option, Some, None, List, [], ◌∷◌, ◌⊎◌, inl, inr, get_or, set, length, refl, ap, sym, subst, ◌∙◌, ⊎_elim, arith}
 use Rattle.std.proofs.lemmas.Bool.{cases_eq, true≢false}
 use Rattle.oc_base.specs.declared.cert.Cert.{Cert}
 use Rattle.oc_base.specs.declared.shelf.Shelf.{Shelf}
-use Rattle.oc_model.specs.Checking.{at_time, starts_leases, merges, dies, ends_each, ends_leases, checks_if_due, tick}
+use Rattle.oc_model.specs.Checking.{at_time, starts_leases, dies, ends_each, ends_leases, checks_if_due, tick}
 use Rattle.oc_model.specs.Leases.{lease_time, renew, start_if, start_each, start_all, is_over, ended}
 use Rattle.oc_model.specs.Node.{Control}
 use Rattle.oc_model.specs.Numbers.{at}
 use Rattle.oc_model.specs.Plan.{Plan, begun}
-use Rattle.oc_model.specs.Table.{newest, put, is_news, merge, is_lease_of, lease_number, leased_by, leased_children}
+use Rattle.oc_model.specs.Table.{newest, put, is_news, merge, is_lease_of, leased_by, leased_children}
 use Rattle.oc_model.specs.WorldBounds.{IsOneOf}
 use Rattle.oc_model.proofs.Members.{of_filter}
 use Rattle.oc_laws_step.proofs.Tables.{newest-subject, newest-put_other}
 use Rattle.oc_laws_tree.proofs.LeaseRules.{OfPlan, stays_checks_if_due, stays_fetches_as}
-use Rattle.oc_laws_tree.proofs.LeaseTicks.{leased_among}
+use Rattle.oc_laws_calm.proofs.Points.{leased_among}
 use Rattle.oc_laws_tree.proofs.LeasesAhead.{leased_merge_other, leased_put_none, of_merges}
 
 -- Lease ends

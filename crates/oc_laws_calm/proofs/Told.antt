@@ -1,10 +1,8 @@
 -- What a check-in keeps of the whole world, and what it brings about: the parent knows its child's own number, and the lease is new.
-use Rattle.std.proofs.Common.{◌≡◌, ℕ, zero, suc, ◌+◌, ◌-◌, ◌<◌, ◌≤◌, Bool, true, false, if◌then◌else◌, Option, Some, None, List, [], ◌∷◌, ◌⊎◌, inl, inr, length, refl, ap, sym, subst, ◌∙◌, ⊎_elim, arith, eqb-true}
+use Rattle.std.proofs.Common.{◌≡◌, ℕ, ◌+◌, ◌-◌, ◌<◌, ◌≤◌, Bool, true, false, Option, Some, None, List, ◌∷◌, ◌⊎◌, inl, inr, length, refl, ap, sym, subst, ◌∙◌, ⊎_elim, arith, eqb-true}
 use Rattle.std.proofs.lemmas.Bool.{cases_eq, cases_order, true≢false}
 use Rattle.oc_base.specs.declared.cert.Cert.{Cert}
-use Rattle.oc_base.specs.Cert.{Outranks}
 use Rattle.oc_base.specs.declared.limits.TheConstants.{MAX_CHECK_IN_CERTS}
-use Rattle.oc_model.specs.declared.event.Act.{Act}
 use Rattle.oc_model.specs.declared.event.Act.TheVariants as acts
 use Rattle.oc_model.specs.declared.input.Input.TheVariants as inputs
 use Rattle.oc_model.specs.declared.message.Body.{Body}
@@ -22,7 +20,7 @@ use Rattle.oc_model.specs.Node.{Header, Control}
 use Rattle.oc_model.specs.Numbers.{IsAmong, at}
 use Rattle.oc_model.specs.Plan.{Plan, begun}
 use Rattle.oc_model.specs.Ready.{HoldsLease}
-use Rattle.oc_model.specs.Runs.{Run, rests, does, and_then, last_body, delivers_last}
+use Rattle.oc_model.specs.Runs.{last_body, delivers_last}
 use Rattle.oc_model.specs.Settle.{takes_ack, takes_any_ack, checks_in}
 use Rattle.oc_model.specs.Step.{plan, step}
 use Rattle.oc_model.specs.Table.{newest, is_news_to, leased_by, merge, merge_all}
@@ -34,10 +32,10 @@ use Rattle.oc_laws_step.proofs.CertOrder.{fact_outranks}
 use Rattle.oc_laws_step.proofs.Tables.{newest-subject}
 use Rattle.oc_laws_world.proofs.Lifts.{control_of}
 use Rattle.oc_laws_world.specs.Ranks.{own_rank, rank_of, ParentsPrecede}
-use Rattle.oc_laws_world.proofs.RanksKept.{ranks_always}
 use Rattle.oc_laws_tree.proofs.CountsKept.{own_numbers_below}
 use Rattle.oc_laws_tree.proofs.Decided.{IsDecided, lease_decided}
-use Rattle.oc_laws_tree.proofs.SoundNodes.{AreSound, sound_after}
+use Rattle.oc_laws_tree.proofs.SoundNodes.{AreSound}
+use Rattle.oc_laws_calm.proofs.Points.{sound_after, parents_after}
 use Rattle.oc_laws_step.proofs.RankOrder.{precedes_irreflexive}
 use Rattle.oc_laws_step.proofs.Tables.{merge_keeps}
 use Rattle.oc_base.specs.declared.rank.Rank.{Rank}
@@ -51,16 +49,15 @@ use Rattle.oc_laws_calm.proofs.Held.{Stays, stays_core}
 use Rattle.oc_laws_calm.proofs.Reached.{of_reached}
 use Rattle.oc_laws_tree.specs.Sessions.{log_of}
 use Rattle.oc_laws_tree.proofs.Known.{Knows}
-use Rattle.oc_laws_tree.proofs.LeasesAhead.{leased_merge_other}
 use Rattle.oc_laws_tree.proofs.Rising.{row_anywhere}
 use Rattle.oc_laws_tree.proofs.Rows.{IsLiveRow, lease_row}
 use Rattle.oc_laws_calm.proofs.Checks.{from_to, HasSameRest, check_in_refused}
-use Rattle.oc_laws_calm.proofs.CheckIns.{Goes, IsLast, last_goes, last_rests, last_body_is, goes_last, dry, dry_sends, me_is, lease_test, ChecksAt, checks_at, ChecksIn, checks_in_once, counted_joined}
-use Rattle.oc_laws_calm.proofs.Core.{Core, core_of, counted, IsCounted, is_counted, counted_once}
+use Rattle.oc_laws_calm.proofs.CheckIns.{Goes, IsLast, last_goes, last_rests, last_body_is, goes_last, dry, dry_sends, lease_test, ChecksAt, checks_at, ChecksIn, checks_in_once, counted_joined}
+use Rattle.oc_laws_calm.proofs.Core.{Core, core_of, counted, IsCounted, is_counted}
 use Rattle.oc_laws_calm.proofs.Held.{Steady, stays_same, IsHeld, held_on, held_before, all_hold, known_own, known_child}
 use Rattle.oc_laws_calm.proofs.Merging.{among_take, rows_kept, leases_only, life_kept, life_only, first_known}
 use Rattle.oc_laws_calm.proofs.Reached.{Reached, reached_act}
-use Rattle.oc_laws_calm.proofs.Spans.{IsId, up_id, told_id, among_them}
+use Rattle.oc_laws_calm.proofs.Spans.{IsId, up_id, among_them}
 use Rattle.oc_laws_calm.proofs.Ticks.{set_at, set_here}
 
 -- Runs
@@ -81,7 +78,7 @@ reached_checks_in h w x reached =
 -- nobody is its own parent
 pub parent_apart : (h : Header) (w : World) → Reached h w → (x p : ℕ) → IsJoined w x p → x ≡ p → ⊥
 parent_apart h w reached x p joins same =
-    let parents : ParentsPrecede w = of_reached ParentsPrecede (λ g events. (ranks_always g events).parents) h w reached in
+    let parents : ParentsPrecede w = of_reached ParentsPrecede parents_after h w reached in
     precedes_irreflexive (rank_of w x) (parents x x (subst (IsJoined w x) (sym same) joins)).1
 
 -- A check-in that is not acknowledged

@@ -1,13 +1,12 @@
-use Rattle.std.specs.Prelude.{◌≡◌, ℕ, ◌+◌, ◌*◌, ◌≤◌, not, nat_lt, Some, List, [], ◌∷◌, ◌++◌, filter, length}
+use Rattle.std.specs.Prelude.{◌≡◌, ℕ, ◌+◌, ◌*◌, ◌≤◌, not, nat_lt, List, [], ◌∷◌, ◌++◌, filter, length}
 use Rattle.oc_model.specs.declared.event.Event.TheVariants.{Heal}
 use Rattle.oc_model.specs.Chains.{IsUp, IsJoined, IsRoot}
 use Rattle.oc_model.specs.ClaimsTree.{seq_of, IsTold}
-use Rattle.oc_model.specs.Heal.{IsMember, up_members, up_others, leader, IsAble, IsPlaced, is_placed, comes_to_act, places, all_join}
+use Rattle.oc_model.specs.Heal.{IsMember, up_members, up_others, IsAble, IsPlaced, is_placed, comes_to_act, places, all_join}
 use Rattle.oc_model.specs.NextWorld.{next_world}
-use Rattle.oc_model.specs.Ready.{HoldsLease, IsReady, IsSettled}
+use Rattle.oc_model.specs.Ready.{HoldsLease, IsSettled}
 use Rattle.oc_model.specs.Settle.{first_five_steps}
 use Rattle.oc_model.specs.World.{World, up_ids}
-use Rattle.oc_laws_calm.specs.Settling.{acts_to_settle}
 
 -- What heal leaves, and what each of its steps does.
 

@@ -9,7 +9,7 @@ use Rattle.oc_model.specs.NextWorld.{next_world, word_of}
 use Rattle.oc_model.specs.Ready.{IsReadyUnder, IsReady, IsSettled}
 use Rattle.oc_model.specs.Records.{is_joined}
 use Rattle.oc_model.specs.Settle.{first_five_steps, deepest_first, tells_all}
-use Rattle.oc_model.specs.Table.{newest, table_line}
+use Rattle.oc_model.specs.Table.{newest}
 use Rattle.oc_model.specs.World.{World, node, mode_of, up_ids}
 use Rattle.oc_laws_tree.specs.Listing.{ListsExactly}
 

@@ -32,3 +32,5 @@ pub mod Turn
 pub mod TurnBelow
 pub mod Rising
 pub mod Low
+pub mod AllPlaced
+pub mod Heals

@@ -3,6 +3,7 @@ use Rattle.std.proofs.Common.{◌≡◌, List, [], ◌∷◌, ◌++◌, refl, ap
 use Rattle.oc_model.specs.declared.event.Act.{Act}
 use Rattle.oc_model.specs.declared.event.Event.{Event}
 use Rattle.oc_model.specs.declared.event.Event.TheVariants.{Do}
+use Rattle.oc_model.specs.Lawful.{IsHeader}
 use Rattle.oc_model.specs.NextWorld.{next_world, world_after}
 use Rattle.oc_model.specs.Node.{Header}
 use Rattle.oc_model.specs.World.{World, new_world, after_act}
@@ -33,3 +34,7 @@ of_reached Q holds h w reached = subst Q (sym reached.is) (holds h reached.event
 -- and what holds of a world that is reached holds after all events
 pub at_reached : (Q : World → Type 0) → ((h : Header) (w : World) → Reached h w → Q w) → (h : Header) (events : List Event) → Q (world_after (new_world h) events)
 at_reached Q holds h events = holds h (world_after (new_world h) events) (reached_after h events)
+
+-- the same within the limits of a header
+pub within_limits : (Q : World → Type 0) → ((h : Header) (w : World) → Reached h w → IsHeader h → Q w) → (h : Header) (events : List Event) → IsHeader h → Q (world_after (new_world h) events)
+within_limits Q holds h events header = holds h (world_after (new_world h) events) (reached_after h events) header

@@ -73,7 +73,8 @@ ready_stays h w v r stayed ready = record {
 
 -- Who is up, and who has a parent
 
-filter_same : (test other : ℕ → Bool) (xs : List ℕ) → ((x : ℕ) → test x ≡ other x) → filter test xs ≡ filter other xs
+-- tests that say the same leave the same
+pub filter_same : (test other : ℕ → Bool) (xs : List ℕ) → ((x : ℕ) → test x ≡ other x) → filter test xs ≡ filter other xs
 filter_same test other [] same = refl
 filter_same test other (x ∷ xs) same = by_test (test x) (other x) (same x) (filter_same test other xs same) where
   by_test : (a b : Bool) → a ≡ b → filter test xs ≡ filter other xs → (if a then x ∷ filter test xs else filter test xs) ≡ (if b then x ∷ filter other xs else filter other xs)

@@ -1,12 +1,14 @@
-use Rattle.std.specs.Prelude.{◌≡◌, ℕ, ◌+◌, ◌*◌, ◌≤◌, not, nat_lt, List, [], ◌∷◌, ◌++◌, filter, length}
+use Rattle.std.specs.Prelude.{◌≡◌, ℕ, ◌+◌, ◌*◌, ◌≤◌, not, nat_lt, Some, List, [], ◌∷◌, ◌++◌, filter, length}
 use Rattle.oc_model.specs.declared.event.Event.TheVariants.{Heal}
+use Rattle.oc_model.specs.declared.word.Word.TheVariants.{Healed}
 use Rattle.oc_model.specs.Chains.{IsUp, IsJoined, IsRoot}
 use Rattle.oc_model.specs.ClaimsTree.{seq_of, IsTold}
-use Rattle.oc_model.specs.Heal.{IsMember, up_members, up_others, IsAble, IsPlaced, is_placed, comes_to_act, places, all_join}
-use Rattle.oc_model.specs.NextWorld.{next_world}
-use Rattle.oc_model.specs.Ready.{HoldsLease, IsSettled}
-use Rattle.oc_model.specs.Settle.{first_five_steps}
+use Rattle.oc_model.specs.Heal.{IsMember, up_members, up_others, leader, IsAble, IsPlaced, is_placed, comes_to_act, places, all_join}
+use Rattle.oc_model.specs.NextWorld.{next_world, word_of}
+use Rattle.oc_model.specs.Ready.{HoldsLease, IsReadyUnder, IsSettled}
+use Rattle.oc_model.specs.Settle.{first_five_steps, settles}
 use Rattle.oc_model.specs.World.{World, up_ids}
+use Rattle.oc_laws_calm.specs.Settling.{acts_to_settle}
 
 -- What heal leaves, and what each of its steps does.
 
@@ -70,3 +72,20 @@ pub record DoesStepThree (w : World) (m : ℕ) : Type 0 where
   pub all : (x : ℕ) → IsUp (behind_three w m) x → IsPlaced (behind_three w m) m x
   pub asks : (x : ℕ) → seq_of (behind_three w m) x ≤ seq_of (behind_two w m) x + 2
   pub few : length (all_join m (behind_two w m)).acts ≤ 51 * length (unplaced (behind_two w m) m)
+
+-- behind the three the world is ready under m, so that step 4 settles it
+pub record DoesStepFour (w : World) (m : ℕ) : Type 0 where
+  pub ready : IsReadyUnder (behind_three w m) m
+  pub settles : next_world w Heal ≡ (settles (behind_three w m)).world
+
+-- heal tells the number of the acts of its four steps, of which the last takes what settle takes there
+abbrev pub acts_to_heal : World → ℕ → ℕ
+acts_to_heal w m =
+    length (comes_to_act m w).acts + length (first_five_steps (behind_one w m)).acts + length (all_join m (behind_two w m)).acts + acts_to_settle (behind_three w m)
+
+-- what is so of an able world and its leader
+abbrev pub WhereAble : (World → ℕ → Type 0) → World → Type 0
+WhereAble P w = (m : ℕ) → IsAble w → leader w ≡ Some m → P w m
+
+abbrev pub HealTakes : World → ℕ → Type 0
+HealTakes w m = word_of w Heal ≡ Healed (acts_to_heal w m)

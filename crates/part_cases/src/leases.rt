@@ -21,7 +21,7 @@ struct Parent {
     table: Table,
     leases: Leases,
     ghost nodes: { table.nodes ≡ 6 },
-    ghost ends: { length leases ≡ 6 },
+    ghost ends: { length leases.ends ≡ 6 },
 }
 
 /// The words of a row: what each step says. The first field has the certificates of the table.

@@ -1,7 +1,7 @@
 //! Tables of certificates: merges, entries and listings.
 
 ghost use Rattle.std.specs.Prelude.{◌≡◌, ◌≤◌, IsTrue, IfOk};
-ghost use Rattle.oc_cert.specs.TableView.{IsNode};
+ghost use Rattle.oc_base.specs.Lawful.{IsNode};
 
 use oc_base::{Cert, NodeId};
 use oc_cert::Table;
@@ -63,7 +63,12 @@ pub fn merge(table: &mut Table, cert: &Cert) -> Result<bool, Fault>
     ensures { table.new.nodes ≡ table.old.nodes }
 {
     let nodes = table.rows().len();
-    if is_node(nodes, cert.subject) && is_node(nodes, cert.parent) && cert.seq >= 1 {
+    if is_node(nodes, cert.subject)
+        && is_node(nodes, cert.parent)
+        && cert.seq >= 1
+        && cert.number < u64::MAX
+        && cert.clients < u64::MAX
+    {
         Ok(table.merge(cert))
     } else {
         Err(Fault::Field)

@@ -1,6 +1,6 @@
 use Rattle.std.proofs.Common.{◌∙◌, sym, ap}
 use Rattle.std.specs.List.{range_with_len}
-use Rattle.oc_model.specs.Groups.{shelf}
+use Rattle.oc_base.specs.Groups.{shelf}
 use Rattle.replay_cases.proofs.New.{holds_nothing}
 use Rattle.replay_cases.proofs.always_down.AlwaysDownStage.held.Goals as goal
 

@@ -1,0 +1,62 @@
+use Rattle.std.specs.Prelude.{◌≡◌, ℕ, ◌<◌, Some, List, [], ◌∷◌, ◌++◌, codes}
+use Rattle.oc_base.specs.declared.cert.Cert.{Cert}
+use Rattle.oc_model.specs.declared.event.Act.TheVariants.{Tick, Check, Pull, Publish, Client, Fail, Deliver}
+use Rattle.oc_model.specs.declared.event.Event.{Event}
+use Rattle.oc_model.specs.declared.event.Event.TheVariants.{Up, Crash, Do}
+use Rattle.oc_model.specs.Chains.{IsRoot, true_line}
+use Rattle.oc_model.specs.ClaimsTree.{table_of, HasMissingCause, HasWrongCause}
+use Rattle.oc_model.specs.ExampleRuns.{header, join}
+use Rattle.oc_model.specs.NextWorld.{world_after}
+use Rattle.oc_model.specs.Table.{newest, table_line}
+use Rattle.oc_model.specs.World.{World, new_world, node}
+
+-- Worlds in which the causes occur by which lines and counts are explained.
+
+-- A parent with three children fails, and they go beneath their grandparent. Before the world settles the root still lists the parent.
+
+abbrev failing : List Event
+failing =
+    (Up 1 ∷ Up 2 ∷ Up 3 ∷ Up 4 ∷ Up 5 ∷ Do (Tick 1 0) ∷ []) ++ join 2 1 1 ++ join 3 2 3 ++ join 4 2 5 ++ join 5 2 7
+    ++ (Crash 2 ∷ Do (Fail 3 2) ∷ Do (Fail 4 2) ∷ Do (Fail 5 2) ∷ Do (Deliver 9) ∷ Do (Deliver 10) ∷ Do (Deliver 11) ∷ Do (Deliver 12) ∷ Do (Deliver 13) ∷ Do (Deliver 14) ∷ [])
+
+abbrev failed : World
+failed = world_after (new_world (header 5 1 (0 ∷ 0 ∷ 0 ∷ 0 ∷ 0 ∷ []))) failing
+
+-- that line has its cause
+abbrev pub WrongCauseOccurs : Type 0
+WrongCauseOccurs = (table_line (table_of failed 1) 1 2 ≡ Some 1) × HasWrongCause failed 1 2
+
+-- A node two links below the root serves a client, and tells its parent.
+
+abbrev serving : List Event
+serving =
+    (Up 1 ∷ Up 2 ∷ Up 3 ∷ Do (Tick 1 0) ∷ []) ++ join 2 1 1 ++ join 3 2 3
+    ++ (Do (Check 2) ∷ Do (Deliver 5) ∷ Do (Deliver 6) ∷ Do (Publish 1 (codes "/a") []) ∷ Do (Pull 3 1) ∷ Do (Deliver 7) ∷ Do (Deliver 8) ∷ Do (Client 3 0 0 (codes "/a"))
+    ∷ Do (Check 3) ∷ [])
+
+-- it has counted the client
+abbrev counted : World
+counted = world_after (new_world (header 3 1 (0 ∷ 0 ∷ 0 ∷ []))) serving
+
+-- its parent knows it too
+abbrev told : World
+told = world_after counted (Do (Deliver 9) ∷ [])
+
+abbrev number_of : World → ℕ → ℕ
+number_of w x = (node w x).control.kept.number
+
+-- y has an old count of x
+abbrev HasOldCount : World → ℕ → ℕ → Type 0
+HasOldCount w y x = (e : Cert) × (newest (table_of w y) x ≡ Some e) × (e.number < number_of w x)
+
+-- the root's line of node 3 is right, and its count is old
+abbrev IsBehind : World → Type 0
+IsBehind w = IsRoot w 1 × (table_line (table_of w 1) 1 3 ≡ Some 2) × (true_line w 1 3 ≡ Some 2) × HasOldCount w 1 3
+
+-- for the parent was not told
+abbrev pub UntoldOccurs : Type 0
+UntoldOccurs = IsBehind counted × HasOldCount counted 2 3
+
+-- or a certificate waits at it
+abbrev pub WaitingOccurs : Type 0
+WaitingOccurs = IsBehind told × HasMissingCause told 1 3

@@ -14,8 +14,9 @@ use Rattle.oc_model.specs.World.{World, is_up}
 use Rattle.oc_model.specs.WorldBounds.{IsOneOf}
 use Rattle.oc_model.proofs.Members.{found_by, found_passes}
 use Rattle.oc_laws_step.specs.Sound.{IsTable}
+use Rattle.oc_laws_tree.proofs.LeaseTicks.{leased_among}
 use Rattle.oc_laws_tree.proofs.SoundNodes.{AreSound}
-use Rattle.oc_laws_calm.proofs.Points.{sound_after, leased_among}
+use Rattle.oc_laws_calm.proofs.Points.{sound_after}
 use Rattle.oc_laws_calm.proofs.Children.{found_one, child_leased, found_least}
 use Rattle.oc_laws_calm.proofs.Descending.{link_held}
 use Rattle.oc_laws_calm.proofs.Held.{Stays, IsHeld, IsCurrent}

@@ -12,8 +12,8 @@ use Rattle.oc_model.specs.Table.{newest, put, is_news, merge, is_lease_of, lease
 use Rattle.oc_model.specs.WorldBounds.{IsOneOf}
 use Rattle.oc_model.proofs.Members.{of_filter}
 use Rattle.oc_laws_step.proofs.Tables.{newest-subject, newest-put_other}
+use Rattle.oc_laws_tree.proofs.LeaseTicks.{leased_among}
 use Rattle.oc_laws_tree.proofs.LeaseRules.{OfPlan, stays_checks_if_due, stays_fetches_as}
-use Rattle.oc_laws_calm.proofs.Points.{leased_among}
 use Rattle.oc_laws_tree.proofs.LeasesAhead.{leased_merge_other, leased_put_none, of_merges}
 
 -- Lease ends

@@ -17,7 +17,7 @@ use Rattle.oc_laws_tree.proofs.LeaseRules.{OfPlan, stays_checks_if_due, stays_fe
 use Rattle.oc_laws_tree.proofs.LeasesAhead.{AreAhead, AreAheadBut, leased_merge_other, leased_put_none, of_merges}
 
 -- a leased child is among them
-leased_among : (t : List Cert) (y z s : ℕ) → leased_by t y z ≡ Some s → IsOneOf z (leased_children t y)
+pub leased_among : (t : List Cert) (y z s : ℕ) → leased_by t y z ≡ Some s → IsOneOf z (leased_children t y)
 leased_among [] y z s e = absurd cc
 leased_among (k ∷ ks) y z s e = by_tests (k.subject == z) (is_lease_of y k) (λ later. leased_among ks y z s later) refl refl e where
   by_tests : (a b : Bool) → (leased_by ks y z ≡ Some s → IsOneOf z (leased_children ks y)) → (k.subject == z) ≡ a → is_lease_of y k ≡ b → lease_number y (if a then Some k else newest ks z) ≡ Some s

@@ -8,8 +8,8 @@
 //! for the crates above.
 //!
 //! The laws of the tree are invariants of one fine machine (`proofs/Machine`), a transition system with
-//! some twenty small changes of one node: every step, start and stop is a sequence of them, whomever a
-//! node asks. `proofs/Laws` lifts what they keep to every list of events.
+//! some twenty small changes of one node: every step, start and stop is a sequence of them. `proofs/Laws`
+//! lifts what they keep to every list of events.
 #![tactic(auto)]
 
 mod content;

@@ -70,6 +70,11 @@ pub bind_ok : {A B F : Type 0} (r : Result A F) (f : A → Result B F) (y : B) �
 bind_ok (Ok x) f y e = (x, refl, e)
 bind_ok (Err fault) f y e = absurd cc
 
+-- what a test gives is what one of its branches gives
+pub tested : {A F : Type 0} (b : Bool) (x z : Result A F) (y : A) (Q : Type 0) → cond b x z ≡ Ok y → (b ≡ true → x ≡ Ok y → Q) → (z ≡ Ok y → Q) → Q
+tested true x z y Q e f g = f refl e
+tested false x z y Q e f g = g e
+
 abbrev pub done : {A : Type 0} → A → Result A FieldFault
 done x = Ok x
 

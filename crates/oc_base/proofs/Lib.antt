@@ -5,7 +5,7 @@ pub mod NameOrder
 pub mod Finding
 pub mod LineCuts
 pub mod Numerals
-pub mod Standing
+pub mod TextsAt
 pub mod FieldReads
 pub mod PairReads
 pub mod ListReads

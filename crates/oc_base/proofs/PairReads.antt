@@ -4,34 +4,31 @@ use Rattle.std.specs.Int.{w32}
 use Rattle.oc_base.specs.declared.cert.Cert.{Cert}
 use Rattle.oc_base.specs.declared.rank.Rank.{Rank}
 use Rattle.oc_base.specs.declared.limits.TheConstants.{MAX_DEPTH}
+use Rattle.oc_base.specs.Lawful.{IsRank, IsCert}
 use Rattle.oc_base.specs.Spelling.{four, eight, flag, rank_bytes, cert_bytes}
 use Rattle.oc_base.specs.Steps.{◌>>=◌}
 use Rattle.oc_base.specs.Reading.{Reading, one_field, two_fields, three_fields, four_fields, six_fields, within_at, id_at, count_at, long_at, flag_at, rank_at, cert_at}
-use Rattle.oc_base.proofs.Standing.{IsBytes, Takes, takes_both, takes_first, takes_second, bind_ok, ok_is, wide32}
+use Rattle.oc_base.proofs.TextsAt.{IsBytes, Takes, takes_both, takes_first, takes_second, bind_ok, ok_is, wide32}
 use Rattle.oc_base.proofs.FieldReads.{Reads, reads_within, reads_id, reads_count, reads_long, reads_flag}
-
--- the ranges of a certificate's fields
-abbrev pub IsCertOf : ℕ → Cert → Type 0
-IsCertOf nodes cert = ((1 ≤ cert.subject) × (cert.subject ≤ nodes)) × ((1 ≤ cert.seq) × (cert.seq < 2 ^ 64)) × ((1 ≤ cert.parent) × (cert.parent ≤ nodes)) × (cert.number < 2 ^ 64) × (cert.clients < 2 ^ 64)
 
 -- two readings one behind the other, as a reading of the pair
 abbrev pub pair_at : {A B : Type 0} → (ℕ → Reading A) → (ℕ → Reading B) → ℕ → Reading (A × B)
 pair_at first second at = two_fields first second (λ a b. (a, b)) at
 
-pub reads_pair : {A B : Type 0} {bytes : List ℕ} {first : ℕ → Reading A} {second : ℕ → Reading B} {ta : A → List ℕ} {tb : B → List ℕ} {P : A → Type 0} {Q : B → Type 0} → Reads bytes first ta P → Reads bytes second tb Q
-    → Reads bytes (pair_at first second) (λ x. ta x.0 ++ tb x.1) (λ x. P x.0 × Q x.1)
+pub reads_pair : {A B : Type 0} {nodes : ℕ} {bytes : List ℕ} {first : ℕ → Reading A} {second : ℕ → Reading B} {ta : A → List ℕ} {tb : B → List ℕ} {P : A → Type 0} {Q : B → Type 0} → Reads nodes bytes first ta P → Reads nodes bytes second tb Q
+    → Reads nodes bytes (pair_at first second) (λ x. ta x.0 ++ tb x.1) (λ x. P x.0 × Q x.1)
 reads_pair {A = A} {B = B} {bytes = bytes} {first = first} {second = second} {ta = ta} {tb = tb} {P = P} {Q = Q} r s = record {
-  takes = λ at x next e.
+  takes = λ fits at x next e.
       let a = bind_ok (first at) (λ a. second a.1 >>= λ b. Ok ((a.0, b.0), b.1)) (x, next) e in
       let b = bind_ok (second a.0.1) (λ b. Ok ((a.0.0, b.0), b.1)) (x, next) a.2 in
-      let t = r.takes at a.0.0 a.0.1 a.1 in
-      let u = s.takes a.0.1 b.0.0 b.0.1 b.1 in
+      let t = r.takes fits at a.0.0 a.0.1 a.1 in
+      let u = s.takes fits a.0.1 b.0.0 b.0.1 b.1 in
       let made : (A × B) × ℕ = ((a.0.0, b.0.0), b.0.1) in
       let whole = takes_both bytes at (ta a.0.0) a.0.1 (tb b.0.0) b.0.1 t.1 u.1 in
       subst (λ (y : (A × B) × ℕ). (P y.0.0 × Q y.0.1) × Takes bytes at (ta y.0.0 ++ tb y.0.1) y.1) (ok_is made (x, next) b.2) ((t.0, u.0), whole);
-  again = λ at x next h t.
-      let one = r.again at x.0 (at + length (ta x.0)) h.0 (takes_first bytes at (ta x.0) (tb x.1) next t) in
-      let two = s.again (at + length (ta x.0)) x.1 next h.1 (takes_second bytes at (ta x.0) (tb x.1) next t) in
+  again = λ few at x next h t.
+      let one = r.again few at x.0 (at + length (ta x.0)) h.0 (takes_first bytes at (ta x.0) (tb x.1) next t) in
+      let two = s.again few (at + length (ta x.0)) x.1 next h.1 (takes_second bytes at (ta x.0) (tb x.1) next t) in
       rw (one, two) refl;
 }
 
@@ -55,45 +52,45 @@ pub six_are : {A B C D E G Y : Type 0} (r : ℕ → Reading A) (s : ℕ → Read
 six_are r s t u v w make at = sym (simp bind_assoc)
 
 -- what was made has what was read
-pub made_takes : {A Y : Type 0} {bytes : List ℕ} {read : ℕ → Reading A} {text : A → List ℕ} {P : A → Type 0} → Reads bytes read text P → (make : A → Y) (Q : Y → ℕ → Type 0) (at : ℕ) (y : Y) (next : ℕ)
+pub made_takes : {A Y : Type 0} {nodes : ℕ} {bytes : List ℕ} {read : ℕ → Reading A} {text : A → List ℕ} {P : A → Type 0} → Reads nodes bytes read text P → (make : A → Y) (Q : Y → ℕ → Type 0) → IsBytes bytes → (at : ℕ) (y : Y) (next : ℕ)
     → ((x : A) (next : ℕ) → P x → Takes bytes at (text x) next → Q (make x) next) → one_field read make at ≡ Ok (y, next) → Q y next
-made_takes {A = A} {Y = Y} {read = read} r make Q at y next has e =
+made_takes {A = A} {Y = Y} {read = read} r make Q fits at y next has e =
     let a = bind_ok (read at) (λ a. Ok (make a.0, a.1)) (y, next) e in
-    let t = r.takes at a.0.0 a.0.1 a.1 in
+    let t = r.takes fits at a.0.0 a.0.1 a.1 in
     let made : Y × ℕ = (make a.0.0, a.0.1) in
     subst (λ (z : Y × ℕ). Q z.0 z.1) (ok_is made (y, next) a.2) (has a.0.0 a.0.1 t.0 t.1)
 
 -- what is there is read and made
-pub made_again : {A Y : Type 0} {bytes : List ℕ} {read : ℕ → Reading A} {text : A → List ℕ} {P : A → Type 0} → Reads bytes read text P → (make : A → Y) (at : ℕ) (x : A) (next : ℕ)
+pub made_again : {A Y : Type 0} {nodes : ℕ} {bytes : List ℕ} {read : ℕ → Reading A} {text : A → List ℕ} {P : A → Type 0} → Reads nodes bytes read text P → (make : A → Y) → nodes < 2 ^ 32 → (at : ℕ) (x : A) (next : ℕ)
     → P x → Takes bytes at (text x) next → one_field read make at ≡ Ok (make x, next)
-made_again r make at x next h t = rw (r.again at x next h t) refl
+made_again r make few at x next h t = rw (r.again few at x next h t) refl
 
 -- a rank
-pub reads_rank : (bytes : List ℕ) → IsBytes bytes → Reads bytes (rank_at bytes) rank_bytes (λ rank. (rank.epoch < 2 ^ 64) × (rank.depth ≤ MAX_DEPTH))
+pub reads_rank : (nodes : ℕ) (bytes : List ℕ) → Reads nodes bytes (rank_at bytes) rank_bytes IsRank
 unfolding rank_at
-reads_rank bytes fits =
-    let depth = reads_within w32 (2 ^ 32) wide32 0 MAX_DEPTH bytes fits (omega arith) in
-    let both = reads_pair (reads_long bytes fits) depth in
+reads_rank nodes bytes =
+    let depth = reads_within w32 (2 ^ 32) wide32 0 MAX_DEPTH nodes bytes (λ few. omega arith) in
+    let both = reads_pair (reads_long nodes bytes) depth in
     let make : ℕ × ℕ → Rank = λ x. record { epoch = x.0; depth = x.1 } in
-    let Q : ℕ → Rank → ℕ → Type 0 = λ at rank next. ((rank.epoch < 2 ^ 64) × (rank.depth ≤ MAX_DEPTH)) × Takes bytes at (rank_bytes rank) next in
+    let Q : ℕ → Rank → ℕ → Type 0 = λ at rank next. IsRank rank × Takes bytes at (rank_bytes rank) next in
     let are = two_are (long_at bytes) (within_at w32 0 MAX_DEPTH bytes) (λ epoch depth. make (epoch, depth)) in
     record {
-      takes = λ at rank next e. made_takes both make (Q at) at rank next (λ x next h t. ((h.0, h.1.1), t)) (sym (are at) ∙ e);
-      again = λ at rank next h t. are at ∙ made_again both make at (rank.epoch, rank.depth) next (h.0, (omega arith, h.1)) t;
+      takes = λ fits at rank next e. made_takes both make (Q at) fits at rank next (λ x next h t. ((h.0, h.1.1), t)) (sym (are at) ∙ e);
+      again = λ few at rank next h t. are at ∙ made_again both make few at (rank.epoch, rank.depth) next (h.0, (omega arith, h.1)) t;
     }
 
 -- a certificate
-pub reads_cert : (nodes : ℕ) (bytes : List ℕ) → IsBytes bytes → nodes < 2 ^ 32 → Reads bytes (cert_at nodes bytes) cert_bytes (IsCertOf nodes)
+pub reads_cert : (nodes : ℕ) (bytes : List ℕ) → Reads nodes bytes (cert_at nodes bytes) cert_bytes (IsCert nodes)
 unfolding cert_at
-reads_cert nodes bytes fits few =
-    let id = reads_id nodes bytes fits few in
-    let long = reads_long bytes fits in
-    let lease = reads_pair (reads_pair (reads_pair id (reads_count bytes fits)) id) (reads_flag bytes fits) in
+reads_cert nodes bytes =
+    let id = reads_id nodes bytes in
+    let long = reads_long nodes bytes in
+    let lease = reads_pair (reads_pair (reads_pair id (reads_count nodes bytes)) id) (reads_flag nodes bytes) in
     let all = reads_pair (reads_pair lease long) long in
     let make : (((((ℕ × ℕ) × ℕ) × Bool) × ℕ) × ℕ) → Cert = λ x. record { subject = x.0.0.0.0.0; seq = x.0.0.0.0.1; parent = x.0.0.0.1; dead = x.0.0.1; number = x.0.1; clients = x.1 } in
-    let Q : ℕ → Cert → ℕ → Type 0 = λ at cert next. IsCertOf nodes cert × Takes bytes at (cert_bytes cert) next in
+    let Q : ℕ → Cert → ℕ → Type 0 = λ at cert next. IsCert nodes cert × Takes bytes at (cert_bytes cert) next in
     let are = six_are (id_at nodes bytes) (count_at bytes) (id_at nodes bytes) (flag_at bytes) (long_at bytes) (long_at bytes) (λ subject seq parent dead number clients. make (((((subject, seq), parent), dead), number), clients)) in
     record {
-      takes = λ at cert next e. made_takes all make (Q at) at cert next (λ x next h t. ((h.0.0.0.0.0, h.0.0.0.0.1, h.0.0.0.1, h.0.1, h.1), t)) (sym (are at) ∙ e);
-      again = λ at cert next h t. are at ∙ made_again all make at (((((cert.subject, cert.seq), cert.parent), cert.dead), cert.number), cert.clients) next (((((h.0, h.1), h.2), tt), h.3), h.4) t;
+      takes = λ fits at cert next e. made_takes all make (Q at) fits at cert next (λ x next h t. (record { subject = h.0.0.0.0.0; seq = h.0.0.0.0.1; parent = h.0.0.0.1; number = h.0.1; clients = h.1 }, t)) (sym (are at) ∙ e);
+      again = λ few at cert next h t. are at ∙ made_again all make few at (((((cert.subject, cert.seq), cert.parent), cert.dead), cert.number), cert.clients) next (((((h.subject, h.seq), h.parent), tt), h.number), h.clients) t;
     }

@@ -15,7 +15,7 @@ abbrev pub or_short : {A : Type 0} → Result A Short → Result A FieldFault
 or_short (Ok x) = Ok x
 or_short (Err short) = Err faults.Short
 
--- What is read at a place is a value and the next place, or a fault.
+-- what is read at an index: a value and the next index, or a fault
 abbrev pub Reading : Type 0 → Type 0
 Reading A = Result (A × ℕ) FieldFault
 
@@ -39,7 +39,7 @@ long_at bytes at = or_short (number_at w64 bytes at)
 abbrev pub count_at : List ℕ → ℕ → Reading ℕ
 count_at bytes at = within_at w64 1 (2 ^ 64 - 1) bytes at
 
--- the id of one of these many nodes
+-- the id of one of the nodes, whose ids are 1 to their number
 abbrev pub id_at : ℕ → List ℕ → ℕ → Reading ℕ
 id_at nodes bytes at = within_at w32 1 nodes bytes at
 
@@ -57,19 +57,22 @@ flag_at bytes at = do
 unfoldable pub text_at : List ℕ → ℕ → ℕ → Reading (List ℕ)
 text_at bytes count at = if nat_lt (length bytes) (at + count) then Err faults.Short else Ok (take count (drop at bytes), at + count)
 
--- Fields one behind the other, and what they make
+-- Fields one behind the other, and what is made of them
 
+-- one field
 abbrev pub one_field : {A Y : Type 0} → (ℕ → Reading A) → (A → Y) → ℕ → Reading Y
 one_field first make at = do
   a ← first at
   Ok (make a.0, a.1)
 
+-- two fields
 abbrev pub two_fields : {A B Y : Type 0} → (ℕ → Reading A) → (ℕ → Reading B) → (A → B → Y) → ℕ → Reading Y
 two_fields first second make at = do
   a ← first at
   b ← second a.1
   Ok (make a.0 b.0, b.1)
 
+-- three fields
 abbrev pub three_fields : {A B C Y : Type 0} → (ℕ → Reading A) → (ℕ → Reading B) → (ℕ → Reading C) → (A → B → C → Y) → ℕ → Reading Y
 three_fields first second third make at = do
   a ← first at
@@ -77,6 +80,7 @@ three_fields first second third make at = do
   c ← third b.1
   Ok (make a.0 b.0 c.0, c.1)
 
+-- four fields
 abbrev pub four_fields : {A B C D Y : Type 0} → (ℕ → Reading A) → (ℕ → Reading B) → (ℕ → Reading C) → (ℕ → Reading D) → (A → B → C → D → Y) → ℕ → Reading Y
 four_fields first second third fourth make at = do
   a ← first at
@@ -85,6 +89,7 @@ four_fields first second third fourth make at = do
   d ← fourth c.1
   Ok (make a.0 b.0 c.0 d.0, d.1)
 
+-- six fields
 abbrev pub six_fields : {A B C D E G Y : Type 0} → (ℕ → Reading A) → (ℕ → Reading B) → (ℕ → Reading C) → (ℕ → Reading D) → (ℕ → Reading E) → (ℕ → Reading G) → (A → B → C → D → E → G → Y) → ℕ → Reading Y
 six_fields first second third fourth fifth sixth make at = do
   a ← first at
@@ -108,7 +113,7 @@ cert_at nodes bytes at =
 
 -- Lists
 
--- a count of items one behind the other; the range of an item may depend on the one before it, of which kept tells what matters
+-- a count of items one behind the other; the range of an item may depend on the item before it, of which kept is what matters
 unfoldable pub items_at : {A S : Type 0} → (S → ℕ → Reading A) → (A → S) → S → ℕ → ℕ → Reading (List A)
 items_at read kept before zero at = Ok ([], at)
 items_at read kept before (suc count) at = do

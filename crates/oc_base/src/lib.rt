@@ -5,6 +5,8 @@
 //! vector that contracts see as the list of its items, so a message, an event or a record that holds
 //! one *is* a value of the model. A [`NodeId`] is seen as its number, a [`GroupName`] as its bytes.
 //!
+//! [`reading`] and [`writing`] have the fields of which the binary formats are made.
+//!
 //! The contracts used above: `GroupName::parse` accepts exactly the names with `IsGroupName`, and its
 //! refusals are `name_fault`; `of` and `items` of each list type are that list. What [`words`] reads
 //! of a line is `words` of it, and a number is `number_in`, with the first cause where it is refused.

@@ -1,9 +1,6 @@
-pub mod Ids
-pub mod Standing
-pub mod FieldLaws
-pub mod KindsRead
-pub mod KindsAgain
+pub mod Lifts
+pub mod KindReads
+pub mod RecordReads
 pub mod ListLaws
 pub mod Runs
-pub mod Puts
 pub mod Leasts

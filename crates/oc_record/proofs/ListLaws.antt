@@ -1,107 +1,33 @@
 -- A list of lawful records and its spelling are one.
-use Rattle.std.proofs.Common.{◌≡◌, ℕ, zero, suc, ◌+◌, ◌-◌, ◌^◌, ◌<◌, ◌≤◌, ◌==◌, Bool, true, false, cond, ltb, List, [], ◌∷◌, ◌++◌, length, drop, Result, Ok, refl, sym, ap, subst, ◌∙◌, arith}
-use Rattle.std.specs.Int.{w8}
-use Rattle.std.proofs.lemmas.Bool.{lt-ltb, le-ltb, ltb-true, ltb-false, eqb-true}
+use Rattle.std.proofs.Common.{◌≡◌, ℕ, zero, suc, ◌+◌, ◌-◌, ◌^◌, ◌<◌, ◌≤◌, Bool, true, false, cond, ltb, List, [], ◌∷◌, ◌++◌, length, drop, Result, Ok, refl, sym, ap, subst, ◌∙◌, arith}
+use Rattle.std.proofs.lemmas.Bool.{lt-ltb, le-ltb, ltb-true, ltb-false}
 use Rattle.std.proofs.lemmas.List.{drop-drop, drop_at, length-append, length-drop, nil_from_length}
 use Rattle.std.proofs.lemmas.List.Concat.{flat_map-cons}
-use Rattle.oc_base.specs.Fields.{number_at}
+use Rattle.oc_base.specs.Steps.{◌>>=◌}
+use Rattle.oc_base.proofs.TextsAt.{IsBytes, Takes, bind_ok}
+use Rattle.oc_model.specs.Lawful.{IsRecord, AreRecords}
 use Rattle.oc_model.specs.declared.record.Record.{Record}
 use Rattle.oc_model.specs.declared.record.Record.TheVariants.{Ask, Joined, Lost, Acting, Ranked, OldEntry, Acked, Ancestors, Rate, Epoch, Base, Snapshot, Entry, Info}
-use Rattle.oc_record.specs.declared.fault.RecordFault.{RecordFault}
-use Rattle.oc_record.specs.Spelling.{code_of, fields_bytes, record_bytes, records_bytes, HasSpelling, HaveSpellings}
-use Rattle.oc_model.specs.Lawful.{IsRecord, AreRecords}
-use Rattle.oc_record.specs.Reading.{or_short, fields_at, record_at, records_at, decoded}
-use Rattle.oc_base.specs.Steps.{◌>>=◌}
-use Rattle.oc_record.proofs.Standing.{IsBytes, Takes, takes_both, takes_first, takes_second, takes_nothing, bind_ok, done, ok_is}
-use Rattle.oc_record.proofs.FieldLaws.{byte_takes, byte_again}
-use Rattle.oc_record.proofs.KindsRead.{IsTaken, ask_takes, joined_takes, ranked_takes, old_entry_takes, acked_takes, ancestors_takes, rate_takes, epoch_takes, base_takes, snapshot_takes, entry_takes, info_takes}
-use Rattle.oc_record.proofs.KindsAgain.{fields_again}
+use Rattle.oc_record.specs.Spelling.{record_bytes, records_bytes, HasSpelling, HaveSpellings}
+use Rattle.oc_record.specs.Reading.{record_at, records_at, decoded}
+use Rattle.oc_record.proofs.RecordReads.{given_is, record_takes, record_again}
 
--- one test of a code: it is this one, or a later one
-step : (nodes : ℕ) (bytes : List ℕ) (at : ℕ) (made : Record × ℕ) (code k : ℕ) (here later : Result (Record × ℕ) RecordFault) → cond (code == k) here later ≡ Ok made
-    → (here ≡ Ok made → IsTaken nodes k bytes at made) → (later ≡ Ok made → IsTaken nodes code bytes at made) → IsTaken nodes code bytes at made
-step nodes bytes at made code k here later e this rest = by_test (code == k) refl e
-  where
-    by_test : (b : Bool) → (code == k) ≡ b → cond b here later ≡ Ok made → IsTaken nodes code bytes at made
-    by_test true is e = subst (λ (c : ℕ). IsTaken nodes c bytes at made) (sym (eqb-true code k is)) (this e)
-    by_test false is e = rest e
-
-lost_takes : (nodes : ℕ) (bytes : List ℕ) (at : ℕ) (made : Record × ℕ) → done (Lost, at) ≡ done made → IsTaken nodes 3 bytes at made
-lost_takes nodes bytes at made e = subst (IsTaken nodes 3 bytes at) (ok_is (Lost, at) made e) (record { text = takes_nothing bytes at; lawful = tt; kind = refl })
-
-acting_takes : (nodes : ℕ) (bytes : List ℕ) (at : ℕ) (made : Record × ℕ) → done (Acting, at) ≡ done made → IsTaken nodes 4 bytes at made
-acting_takes nodes bytes at made e = subst (IsTaken nodes 4 bytes at) (ok_is (Acting, at) made e) (record { text = takes_nothing bytes at; lawful = tt; kind = refl })
-
--- the fields that are read for a code
-fields_takes : (code nodes : ℕ) (bytes : List ℕ) (at : ℕ) (made : Record × ℕ) → IsBytes bytes → fields_at code nodes bytes at ≡ Ok made → IsTaken nodes code bytes at made
-unfolding fields_at
-fields_takes code nodes bytes at made fits e =
-    step nodes bytes at made code 1 _ _ e (ask_takes nodes bytes at made fits) (λ e.
-    step nodes bytes at made code 2 _ _ e (joined_takes nodes bytes at made fits) (λ e.
-    step nodes bytes at made code 3 _ _ e (lost_takes nodes bytes at made) (λ e.
-    step nodes bytes at made code 4 _ _ e (acting_takes nodes bytes at made) (λ e.
-    step nodes bytes at made code 5 _ _ e (ranked_takes nodes bytes at made fits) (λ e.
-    step nodes bytes at made code 6 _ _ e (old_entry_takes nodes bytes at made fits) (λ e.
-    step nodes bytes at made code 7 _ _ e (acked_takes nodes bytes at made fits) (λ e.
-    step nodes bytes at made code 8 _ _ e (ancestors_takes nodes bytes at made fits) (λ e.
-    step nodes bytes at made code 9 _ _ e (rate_takes nodes bytes at made fits) (λ e.
-    step nodes bytes at made code 10 _ _ e (epoch_takes nodes bytes at made fits) (λ e.
-    step nodes bytes at made code 11 _ _ e (base_takes nodes bytes at made fits) (λ e.
-    step nodes bytes at made code 12 _ _ e (snapshot_takes nodes bytes at made fits) (λ e.
-    step nodes bytes at made code 13 _ _ e (entry_takes nodes bytes at made fits) (λ e.
-    step nodes bytes at made code 14 _ _ e (info_takes nodes bytes at made fits) (λ e. absurd cc))))))))))))))
-
--- a record that is read stands there, and is lawful
-pub record_takes : (nodes : ℕ) (bytes : List ℕ) (at : ℕ) (made : Record × ℕ) → IsBytes bytes → record_at nodes bytes at ≡ Ok made → Takes bytes at (record_bytes made.0) made.1 × IsRecord nodes made.0
-unfolding record_at
-record_takes nodes bytes at made fits e =
-    let a = bind_ok (or_short (number_at w8 bytes at)) (λ code. fields_at code.0 nodes bytes code.1) made e in
-    let s = byte_takes bytes at a.0.0 a.0.1 fits a.1 in
-    let t = fields_takes a.0.0 nodes bytes a.0.1 made fits a.2 in
-    let both : Takes bytes at (a.0.0 ∷ fields_bytes made.0) made.1 = takes_both bytes at (a.0.0 ∷ []) a.0.1 (fields_bytes made.0) made.1 s.0 t.text in
-    (subst (λ (code : ℕ). Takes bytes at (code ∷ fields_bytes made.0) made.1) (sym t.kind) both, t.lawful)
-
--- a code is a byte
-code_fits : (r : Record) → code_of r < 256
-code_fits (Ask seq peer) = omega arith
-code_fits (Joined peer rank) = omega arith
-code_fits Lost = omega arith
-code_fits Acting = omega arith
-code_fits (Ranked rank) = omega arith
-code_fits (OldEntry subject seq parent dead) = omega arith
-code_fits (Acked upto) = omega arith
-code_fits (Ancestors ids) = omega arith
-code_fits (Rate peer rate hops) = omega arith
-code_fits (Epoch epoch) = omega arith
-code_fits (Base acked) = omega arith
-code_fits (Snapshot generation) = omega arith
-code_fits (Entry cert) = omega arith
-code_fits (Info number clients) = omega arith
-
--- a lawful record that stands there is read
-pub record_again : (nodes : ℕ) (bytes : List ℕ) (at : ℕ) (r : Record) (next : ℕ) → nodes < 2 ^ 32 → IsRecord nodes r → Takes bytes at (record_bytes r) next → record_at nodes bytes at ≡ Ok (r, next)
-unfolding record_at
-record_again nodes bytes at r next few h t =
-    let first = byte_again bytes at (code_of r) (at + 1) (code_fits r) (takes_first bytes at (code_of r ∷ []) (fields_bytes r) next t) in
-    let second = fields_again nodes bytes (at + 1) r next few h (takes_second bytes at (code_of r ∷ []) (fields_bytes r) next t) in
-    rw (first, second) refl
-
--- where a text stands, and what is behind it
+-- from a text on the bytes are the text and what is behind it
 behind : (bytes : List ℕ) (at : ℕ) (text : List ℕ) (next : ℕ) → Takes bytes at text next → drop at bytes ≡ text ++ drop next bytes
 behind bytes at text next t =
-    let rest : drop next bytes ≡ t.stands.0 = ap (λ (k : ℕ). drop k bytes) t.moved ∙ sym (drop-drop (length text) at bytes) ∙ ap (drop (length text)) t.stands.1 ∙ drop_at text t.stands.0 (length text) refl in
-    t.stands.1 ∙ ap (λ (x : List ℕ). text ++ x) (sym rest)
+    let rest : drop next bytes ≡ t.there.0 = ap (λ (k : ℕ). drop k bytes) t.moved ∙ sym (drop-drop (length text) at bytes) ∙ ap (drop (length text)) t.there.1 ∙ drop_at text t.there.0 (length text) refl in
+    t.there.1 ∙ ap (λ (x : List ℕ). text ++ x) (sym rest)
 
 -- nothing is left
 pub none_left : (bytes : List ℕ) (at : ℕ) → length bytes ≤ at → drop at bytes ≡ []
 none_left bytes at le = nil_from_length (drop at bytes) (omega (arith, le, length-drop at bytes))
 
--- records that are read to the end stand there to the end, and are lawful
+-- records that are read to the end are there to the end, and are lawful
 pub records_take : (nodes most : ℕ) (bytes : List ℕ) (at : ℕ) (records : List Record) → IsBytes bytes → length bytes - at ≤ most → records_at nodes most bytes at ≡ Ok records → (drop at bytes ≡ records_bytes records) × AreRecords nodes records
 unfolding records_at
 records_take nodes zero bytes at records fits fuel e =
     let none : List Record = [] in
-    subst (λ (rs : List Record). (drop at bytes ≡ records_bytes rs) × AreRecords nodes rs) (ok_is none records e) (none_left bytes at (omega (arith, fuel)), tt)
+    subst (λ (rs : List Record). (drop at bytes ≡ records_bytes rs) × AreRecords nodes rs) (given_is none records e) (none_left bytes at (omega (arith, fuel)), tt)
 records_take nodes (suc most) bytes at records fits fuel e = by_test (λ next rest less read. records_take nodes most bytes next rest fits less read) (ltb at (length bytes)) refl e
   where
     by_test : ((next : ℕ) (rest : List Record) → length bytes - next ≤ most → records_at nodes most bytes next ≡ Ok rest → (drop next bytes ≡ records_bytes rest) × AreRecords nodes rest) → (b : Bool) → ltb at (length bytes) ≡ b → cond b (record_at nodes bytes at >>= λ first. records_at nodes most bytes first.1 >>= λ rest. Ok (first.0 ∷ rest)) (Ok []) ≡ Ok records → (drop at bytes ≡ records_bytes records) × AreRecords nodes records
@@ -112,12 +38,12 @@ records_take nodes (suc most) bytes at records fits fuel e = by_test (λ next re
         let t = record_takes nodes bytes at a.0 fits a.1 in
         let ih = later a.0.1 b.0 (omega (arith, fuel, lt, t.0.moved)) b.1 in
         let whole : drop at bytes ≡ record_bytes a.0.0 ++ records_bytes b.0 = behind bytes at (record_bytes a.0.0) a.0.1 t.0 ∙ ap (λ (x : List ℕ). record_bytes a.0.0 ++ x) ih.0 in
-        subst (λ (rs : List Record). (drop at bytes ≡ records_bytes rs) × AreRecords nodes rs) (ok_is (a.0.0 ∷ b.0) records b.2) (whole ∙ sym (flat_map-cons record_bytes a.0.0 b.0), (t.1, ih.1))
+        subst (λ (rs : List Record). (drop at bytes ≡ records_bytes rs) × AreRecords nodes rs) (given_is (a.0.0 ∷ b.0) records b.2) (whole ∙ sym (flat_map-cons record_bytes a.0.0 b.0), (t.1, ih.1))
     by_test later false is e =
         let none : List Record = [] in
-        subst (λ (rs : List Record). (drop at bytes ≡ records_bytes rs) × AreRecords nodes rs) (ok_is none records e) (none_left bytes at (ltb-false at (length bytes) is), tt)
+        subst (λ (rs : List Record). (drop at bytes ≡ records_bytes rs) × AreRecords nodes rs) (given_is none records e) (none_left bytes at (ltb-false at (length bytes) is), tt)
 
--- lawful records that stand there to the end are read
+-- lawful records that are there to the end are read
 pub records_again : (nodes most : ℕ) (bytes : List ℕ) (at : ℕ) (records : List Record) → nodes < 2 ^ 32 → length bytes - at ≤ most → AreRecords nodes records → drop at bytes ≡ records_bytes records → records_at nodes most bytes at ≡ Ok records
 unfolding records_at
 records_again nodes zero bytes at [] few fuel h e = refl
@@ -128,7 +54,7 @@ records_again nodes zero bytes at (r ∷ rs) few fuel h e =
 records_again nodes (suc most) bytes at (r ∷ rs) few fuel h e =
     let cut : drop at bytes ≡ record_bytes r ++ records_bytes rs = e ∙ flat_map-cons record_bytes r rs in
     let next = at + length (record_bytes r) in
-    let t : Takes bytes at (record_bytes r) next = record { stands = (records_bytes rs, cut); moved = refl } in
+    let t : Takes bytes at (record_bytes r) next = record { there = (records_bytes rs, cut); moved = refl } in
     let long : at < length bytes = omega (arith, length-drop at bytes, ap (λ (x : List ℕ). length x) cut, length-append (record_bytes r) (records_bytes rs)) in
     let rest : drop next bytes ≡ records_bytes rs = sym (drop-drop (length (record_bytes r)) at bytes) ∙ ap (drop (length (record_bytes r))) cut ∙ drop_at (record_bytes r) (records_bytes rs) (length (record_bytes r)) refl in
     rw (lt-ltb at (length bytes) long, record_again nodes bytes at r next few h.0 t, records_again nodes most bytes next rs few (omega (arith, fuel)) h.1 rest) refl
@@ -144,7 +70,7 @@ is_decoded nodes bytes records few h e = records_again nodes (length bytes) byte
 -- no two lists have one spelling
 pub one_spelling : (nodes : ℕ) (a b : List Record) → nodes < 2 ^ 32 → AreRecords nodes a → AreRecords nodes b → records_bytes a ≡ records_bytes b → a ≡ b
 one_spelling nodes a b few ha hb e =
-    ok_is a b (sym (is_decoded nodes (records_bytes b) a few ha (sym e)) ∙ is_decoded nodes (records_bytes b) b few hb refl)
+    given_is a b (sym (is_decoded nodes (records_bytes b) a few ha (sym e)) ∙ is_decoded nodes (records_bytes b) b few hb refl)
 
 -- a lawful record has a spelling
 has_spelling : (nodes : ℕ) (r : Record) → IsRecord nodes r → HasSpelling r
@@ -155,7 +81,7 @@ has_spelling nodes Acting h = tt
 has_spelling nodes (Ranked rank) h = tt
 has_spelling nodes (OldEntry subject seq parent dead) h = tt
 has_spelling nodes (Acked upto) h = tt
-has_spelling nodes (Ancestors ids) h = omega (arith, h.0)
+has_spelling nodes (Ancestors ids) h = omega (arith, h.1)
 has_spelling nodes (Rate peer rate hops) h = tt
 has_spelling nodes (Epoch epoch) h = tt
 has_spelling nodes (Base acked) h = tt

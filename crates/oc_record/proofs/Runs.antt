@@ -8,10 +8,11 @@ use Rattle.oc_record.specs.declared.fault.RecordFault.{RecordFault}
 use Rattle.oc_record.specs.declared.fault.RecordFault.TheVariants as faults
 use Rattle.oc_record.specs.Reading.{Gives, GivesList, record_at, records_at, decoded}
 use Rattle.oc_base.specs.Steps.{◌>>=◌}
-use Rattle.oc_record.proofs.Standing.{IsBytes}
+use Rattle.oc_base.proofs.TextsAt.{IsBytes}
 use Rattle.oc_record.specs.Spelling.{records_bytes}
 use Rattle.oc_model.specs.Lawful.{AreRecords}
-use Rattle.oc_record.proofs.ListLaws.{record_takes, is_spelled}
+use Rattle.oc_record.proofs.ListLaws.{is_spelled}
+use Rattle.oc_record.proofs.RecordReads.{record_takes}
 
 -- what was read before, and what is still read
 abbrev pub with_front : List Record → Result (List Record) RecordFault → Result (List Record) RecordFault

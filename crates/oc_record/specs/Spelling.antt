@@ -1,41 +1,9 @@
--- The one spelling of each list of control records, and which records are lawful. Numbers are big-endian.
-use Rattle.std.specs.Prelude.{ℕ, ◌^◌, ◌<◌, Bool, if◌then◌else◌, List, [], ◌∷◌, ◌++◌, length}
+-- The one spelling of each list of control records. Numbers are big-endian.
+use Rattle.std.specs.Prelude.{ℕ, ◌^◌, ◌<◌, List, [], ◌∷◌, ◌++◌, length}
 use Rattle.std.specs.List.{flat_map, AllByRecursion}
-use Rattle.std.specs.Int.{w16, w32, w64, to_be_bytes}
-use Rattle.oc_base.specs.declared.cert.Cert.{Cert}
-use Rattle.oc_base.specs.declared.rank.Rank.{Rank}
+use Rattle.oc_base.specs.Spelling.{four, eight, rank_bytes, lease_bytes, cert_bytes, ids_bytes}
 use Rattle.oc_model.specs.declared.record.Record.{Record}
 use Rattle.oc_model.specs.declared.record.Record.TheVariants.{Ask, Joined, Lost, Acting, Ranked, OldEntry, Acked, Ancestors, Rate, Epoch, Base, Snapshot, Entry, Info}
-
--- numbers of two, four and eight bytes
-abbrev pub two : ℕ → List ℕ
-two n = to_be_bytes w16 n
-
-abbrev pub four : ℕ → List ℕ
-four n = to_be_bytes w32 n
-
-abbrev pub eight : ℕ → List ℕ
-eight n = to_be_bytes w64 n
-
--- a byte that is 0 or 1
-abbrev pub flag : Bool → List ℕ
-flag b = (if b then 1 else 0) ∷ []
-
--- epoch and depth
-abbrev pub rank_bytes : Rank → List ℕ
-rank_bytes rank = eight rank.epoch ++ four rank.depth
-
--- subject, ask number, parent, and whether it is dead
-abbrev pub lease_bytes : ℕ → ℕ → ℕ → Bool → List ℕ
-lease_bytes subject seq parent dead = four subject ++ eight seq ++ four parent ++ flag dead
-
--- a lease, the own number and the clients
-abbrev pub cert_bytes : Cert → List ℕ
-cert_bytes cert = lease_bytes cert.subject cert.seq cert.parent cert.dead ++ eight cert.number ++ eight cert.clients
-
--- their number, and each of them
-abbrev pub ids_bytes : List ℕ → List ℕ
-ids_bytes ids = two (length ids) ++ flat_map four ids
 
 -- the code of a record's kind
 abbrev pub code_of : Record → ℕ

@@ -5,12 +5,12 @@ ghost use Rattle.oc_record.specs.Spelling.{records_bytes};
 ghost use Rattle.oc_model.specs.Lawful.{AreRecords};
 
 use crate::codes::CODES;
-use crate::fields::byte_at;
 use crate::kinds::{
-    acked_at, ancestors_at, ask_at, base_at, entry_at, epoch_at, info_at, joined_at, old_entry_at,
-    ranked_at, rate_at, snapshot_at,
+    acked_at, ancestors_record_at, ask_at, base_at, entry_at, epoch_at, info_at, joined_at,
+    old_entry_at, ranked_at, rate_record_at, snapshot_at,
 };
 use crate::{Record, RecordFault};
+use oc_base::reading::byte_at;
 use oc_base::row_of;
 use std::alloc::Global;
 
@@ -41,8 +41,8 @@ fn records_of(alloc: Global, nodes: u32, bytes: &[u8]) -> Result<Vec<Record>, Re
     Ok(list)
 }
 
-/// The record at a place, and the next place.
-#[tactic(auto, unfolding(crate::specs::Reading::record_at))]
+/// The record at an index, and the next index.
+#[tactic(auto, using(crate::proofs::Lifts::fault_given), unfolding(crate::specs::Reading::record_at))]
 fn record_at(
     alloc: Global,
     nodes: u32,
@@ -56,7 +56,7 @@ fn record_at(
 }
 
 /// The record of the kind with this code, by the row that the code has.
-#[tactic(auto, unfolding(crate::specs::Reading::fields_at))]
+#[tactic(auto, using(crate::proofs::Lifts::fault_given), unfolding(crate::specs::Reading::fields_at))]
 fn fields_at(
     alloc: Global,
     code: u8,
@@ -69,27 +69,27 @@ fn fields_at(
     macro_rules! by_row {
         ($row:expr; $($place:literal => $record:expr,)*) => {
             match $row {
-                $(Some($place) => $record,)*
+                $(Some($place) => Ok($record),)*
                 _ => Err(RecordFault::Kind(code)),
             }
         };
     }
     by_row! {
         row_with(code);
-        0 => ask_at(nodes, bytes, at),
-        1 => joined_at(nodes, bytes, at),
-        2 => Ok((Record::Lost, at)),
-        3 => Ok((Record::Acting, at)),
-        4 => ranked_at(bytes, at),
-        5 => old_entry_at(nodes, bytes, at),
-        6 => acked_at(bytes, at),
-        7 => ancestors_at(alloc, nodes, bytes, at),
-        8 => rate_at(nodes, bytes, at),
-        9 => epoch_at(bytes, at),
-        10 => base_at(bytes, at),
-        11 => snapshot_at(bytes, at),
-        12 => entry_at(nodes, bytes, at),
-        13 => info_at(bytes, at),
+        0 => ask_at(nodes, bytes, at)?,
+        1 => joined_at(nodes, bytes, at)?,
+        2 => (Record::Lost, at),
+        3 => (Record::Acting, at),
+        4 => ranked_at(bytes, at)?,
+        5 => old_entry_at(nodes, bytes, at)?,
+        6 => acked_at(bytes, at)?,
+        7 => ancestors_record_at(alloc, nodes, bytes, at)?,
+        8 => rate_record_at(nodes, bytes, at)?,
+        9 => epoch_at(bytes, at)?,
+        10 => base_at(bytes, at)?,
+        11 => snapshot_at(bytes, at)?,
+        12 => entry_at(nodes, bytes, at)?,
+        13 => info_at(bytes, at)?,
     }
 }
 

@@ -1,10 +1,10 @@
-ghost use Rattle.std.specs.Prelude.{◌≡◌, ◌<◌, ◌^◌, [], ◌∷◌, ◌++◌, length, OnOk, IfOk};
-ghost use Rattle.std.specs.List.{flat_map};
-ghost use Rattle.oc_record.specs.Spelling.{two, four, eight, flag, rank_bytes, cert_bytes, ids_bytes, record_bytes, records_bytes, HasSpelling, HaveSpellings};
+ghost use Rattle.std.specs.Prelude.{◌≡◌, ◌++◌, OnOk, IfOk};
+ghost use Rattle.oc_record.specs.Spelling.{record_bytes, records_bytes, HasSpelling, HaveSpellings};
 
 use crate::Record;
 use crate::codes::CODES;
-use oc_base::{Cert, IdList, Memory, NodeId, Rank};
+use oc_base::Memory;
+use oc_base::writing::{put_byte, put_cert, put_flag, put_id, put_ids, put_long, put_rank};
 use std::alloc::{AllocError, Global};
 
 /// The one spelling of the records.
@@ -49,61 +49,6 @@ fn put_record(out: &mut Vec<u8>, item: &Record) -> Result<(), AllocError>
         11 Snapshot { generation: put_long }
         12 Entry { cert: put_cert }
         13 Info { number: put_long, clients: put_long }
-    }
-    Ok(())
-}
-
-fn put_byte(out: &mut Vec<u8>, byte: &u8) -> Result<(), AllocError>
-    ensures { OnOk result (out.new.items ≡ out.old.items ++ byte.now ∷ []) }
-{
-    Ok(out.push(*byte)?)
-}
-
-fn put_flag(out: &mut Vec<u8>, is_set: &bool) -> Result<(), AllocError>
-    ensures { OnOk result (out.new.items ≡ out.old.items ++ flag is_set.now) }
-{
-    Ok(out.push(u8::from(*is_set))?)
-}
-
-fn put_long(out: &mut Vec<u8>, number: &u64) -> Result<(), AllocError>
-    ensures { OnOk result (out.new.items ≡ out.old.items ++ eight number.now) }
-{
-    out.extend_from_slice(&number.to_be_bytes())
-}
-
-fn put_id(out: &mut Vec<u8>, id: &NodeId) -> Result<(), AllocError>
-    ensures { OnOk result (out.new.items ≡ out.old.items ++ four id.now) }
-{
-    out.extend_from_slice(&id.0.to_be_bytes())
-}
-
-fn put_rank(out: &mut Vec<u8>, rank: &Rank) -> Result<(), AllocError>
-    ensures { OnOk result (out.new.items ≡ out.old.items ++ rank_bytes rank.now) }
-{
-    out.extend_from_slice(&rank.epoch.to_be_bytes())?;
-    out.extend_from_slice(&rank.depth.to_be_bytes())
-}
-
-fn put_cert(out: &mut Vec<u8>, cert: &Cert) -> Result<(), AllocError>
-    ensures { OnOk result (out.new.items ≡ out.old.items ++ cert_bytes cert.now) }
-{
-    put_id(out, &cert.subject)?;
-    put_long(out, &cert.seq)?;
-    put_id(out, &cert.parent)?;
-    put_flag(out, &cert.dead)?;
-    put_long(out, &cert.number)?;
-    put_long(out, &cert.clients)?;
-    Ok(())
-}
-
-fn put_ids(out: &mut Vec<u8>, ids: &IdList) -> Result<(), AllocError>
-    requires { length ids.now < 2 ^ 16 }
-    ensures { OnOk result (out.new.items ≡ out.old.items ++ ids_bytes ids.now) }
-{
-    let ids = ids.items();
-    out.extend_from_slice(&(ids.len() as u16).to_be_bytes())?;
-    for id in ids {
-        put_id(out, id)?;
     }
     Ok(())
 }

@@ -1,7 +1,8 @@
 ghost use Rattle.std.specs.Prelude.{◌≡◌};
-ghost use Rattle.oc_record.specs.declared.fault.RecordFault.TheVariants.{Memory as RecordMemory, Short as RecordShort};
+ghost use Rattle.oc_record.specs.declared.fault.RecordFault.TheVariants.{Memory as RecordMemory};
+ghost use Rattle.oc_record.specs.Faults.{fault_of};
 
-use oc_base::{Memory, Short};
+use oc_base::{FieldFault, Memory};
 use std::alloc::{AllocError, AllocFailed};
 use std::error::Error;
 use std::fmt;
@@ -32,11 +33,15 @@ impl fmt::Display for RecordFault {
 
 impl Error for RecordFault {}
 
-impl From<Short> for RecordFault {
-    ghost from_gives = { λ _ fault. fault ≡ RecordShort };
+impl From<FieldFault> for RecordFault {
+    ghost from_gives = { λ field fault. fault ≡ fault_of field };
 
-    fn from(_short: Short) -> RecordFault {
-        RecordFault::Short
+    fn from(fault: FieldFault) -> RecordFault {
+        match fault {
+            FieldFault::Short => RecordFault::Short,
+            FieldFault::Value => RecordFault::Value,
+            FieldFault::Memory => RecordFault::Memory,
+        }
     }
 }
 

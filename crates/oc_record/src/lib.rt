@@ -14,7 +14,6 @@ mod codes;
 mod decoding;
 mod encoding;
 mod fault;
-mod fields;
 mod kinds;
 mod law;
 

@@ -1,6 +1,6 @@
 use Rattle.std.proofs.Common.{[], ◌∷◌, ◌++◌}
-use Rattle.oc_record.specs.Spelling.{four, eight, flag, rank_bytes}
-use Rattle.oc_record.proofs.Puts.{more}
+use Rattle.oc_base.specs.Spelling.{four, eight, flag, rank_bytes}
+use Rattle.oc_base.proofs.Puts.{more}
 use Rattle.oc_record.proofs.encoding.put_record.Goals as goal
 
 pub returns-in_ok-put_id-in-Ask : goal.returns-in_ok-put_id-in-Ask

@@ -1,5 +1,6 @@
 use Rattle.std.proofs.Common.{refl}
-use Rattle.oc_record.specs.Reading.{within_at, flag_at, ask_at, ranked_at, rank_at, old_entry_at, fields_at, record_at, records_at}
+use Rattle.oc_base.specs.Reading.{within_at, flag_at, rank_at}
+use Rattle.oc_record.specs.Reading.{ask_at, ranked_at, old_entry_at, fields_at, record_at, records_at}
 use Rattle.oc_record.proofs.law.examples_are_read.Goals as goal
 
 pub returns-clause-ask : goal.returns-clause-ask

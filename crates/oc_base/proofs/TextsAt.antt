@@ -1,4 +1,4 @@
--- What it is that a text stands in bytes at a place, and numbers that do.
+-- Texts and numbers at an index of bytes.
 use Rattle.std.proofs.Common.{◌≡◌, ℕ, ◌+◌, ◌^◌, ◌<◌, ◌≤◌, Bool, true, false, cond, ltb, ◌||◌, List, [], ◌∷◌, ◌++◌, length, get_or, take, drop, Result, Ok, Err, refl, sym, ap, subst, ◌∙◌, append_assoc, arith, inl, inr}
 use Rattle.std.specs.Int.{Width, w8, w16, w32, w64, byte_len, from_be_bytes, to_be_bytes}
 use Rattle.std.proofs.lemmas.Bool.{cases_lt, ltb-false, le-ltb}
@@ -6,11 +6,12 @@ use Rattle.std.proofs.lemmas.List.{take_at, drop_at, drop-drop, take-append-drop
 use Rattle.std.proofs.lemmas.Nat.{be_bytes_2, be_bytes_4, be_bytes_8, from_be_bytes-to_be_bytes_2, from_be_bytes-to_be_bytes_4, from_be_bytes-to_be_bytes_8}
 use Rattle.oc_base.specs.declared.field.Short.{Short}
 use Rattle.oc_base.specs.Fields.{number_at}
-use Rattle.oc_record.specs.declared.fault.RecordFault.{RecordFault}
-use Rattle.oc_record.specs.declared.fault.RecordFault.TheVariants as faults
-use Rattle.oc_record.specs.Reading.{or_short, within_at}
+use Rattle.oc_base.specs.declared.field_fault.FieldFault.{FieldFault}
+use Rattle.oc_base.specs.declared.field_fault.FieldFault.TheVariants as faults
 use Rattle.oc_base.specs.Steps.{◌>>=◌}
+use Rattle.oc_base.specs.Reading.{or_short, within_at}
 
+-- each is a byte
 abbrev pub IsBytes : List ℕ → Type 0
 IsBytes bytes = (i : ℕ) → get_or bytes i 0 < 256
 
@@ -24,52 +25,57 @@ IsBytes-take n bytes h i =
       | inr le ↦ rw (get_or_past (take n bytes) i 0 (omega (arith, length-take n bytes))) (omega arith)
     ]
 
--- this text stands at a place
-abbrev pub Stands : List ℕ → ℕ → List ℕ → Type 0
-Stands bytes at text = (rest : List ℕ) × (drop at bytes ≡ text ++ rest)
+-- the text is at this index
+abbrev pub IsAt : List ℕ → ℕ → List ℕ → Type 0
+IsAt bytes at text = (rest : List ℕ) × (drop at bytes ≡ text ++ rest)
 
--- the front of what stands
-pub stands_first : (bytes : List ℕ) (at : ℕ) (a b : List ℕ) → Stands bytes at (a ++ b) → Stands bytes at a
-stands_first bytes at a b s = (b ++ s.0, s.1 ∙ append_assoc a b s.0)
+-- the front of a text is where the text is
+pub first_at : (bytes : List ℕ) (at : ℕ) (a b : List ℕ) → IsAt bytes at (a ++ b) → IsAt bytes at a
+first_at bytes at a b s = (b ++ s.0, s.1 ∙ append_assoc a b s.0)
 
--- and what is behind it
-pub stands_second : (bytes : List ℕ) (at : ℕ) (a b : List ℕ) → Stands bytes at (a ++ b) → Stands bytes (at + length a) b
-stands_second bytes at a b s =
+-- and what is behind the front is behind it there
+pub second_at : (bytes : List ℕ) (at : ℕ) (a b : List ℕ) → IsAt bytes at (a ++ b) → IsAt bytes (at + length a) b
+second_at bytes at a b s =
     (s.0, sym (drop-drop (length a) at bytes) ∙ ap (drop (length a)) (s.1 ∙ append_assoc a b s.0) ∙ drop_at a (b ++ s.0) (length a) refl)
 
--- one text behind another
-pub stands_both : (bytes : List ℕ) (at : ℕ) (a b : List ℕ) → Stands bytes at a → Stands bytes (at + length a) b → Stands bytes at (a ++ b)
-stands_both bytes at a b s t =
+-- two texts, one behind the other
+pub both_at : (bytes : List ℕ) (at : ℕ) (a b : List ℕ) → IsAt bytes at a → IsAt bytes (at + length a) b → IsAt bytes at (a ++ b)
+both_at bytes at a b s t =
     let behind : drop (at + length a) bytes ≡ s.0 = sym (drop-drop (length a) at bytes) ∙ ap (drop (length a)) s.1 ∙ drop_at a s.0 (length a) refl in
     (t.0, s.1 ∙ ap (λ (x : List ℕ). a ++ x) (sym behind ∙ t.1) ∙ sym (append_assoc a b t.0))
 
--- it stands there, and the next place is behind it
+-- the text is at this index, and the next index is behind it
 pub record Takes (bytes : List ℕ) (at : ℕ) (text : List ℕ) (next : ℕ) : Type 0 where
-  pub stands : Stands bytes at text
+  pub there : IsAt bytes at text
   pub moved : next ≡ at + length text
 
 pub takes_both : (bytes : List ℕ) (at : ℕ) (a : List ℕ) (mid : ℕ) (b : List ℕ) (next : ℕ) → Takes bytes at a mid → Takes bytes mid b next → Takes bytes at (a ++ b) next
 takes_both bytes at a mid b next s t = record {
-  stands = stands_both bytes at a b s.stands (subst (λ (k : ℕ). Stands bytes k b) s.moved t.stands);
+  there = both_at bytes at a b s.there (subst (λ (k : ℕ). IsAt bytes k b) s.moved t.there);
   moved = omega (arith, s.moved, t.moved, length-append a b);
 }
 
--- what stands behind one another is taken one by one
+-- of two texts one behind the other, the first and the second
 pub takes_first : (bytes : List ℕ) (at : ℕ) (a b : List ℕ) (next : ℕ) → Takes bytes at (a ++ b) next → Takes bytes at a (at + length a)
-takes_first bytes at a b next t = record { stands = stands_first bytes at a b t.stands; moved = refl }
+takes_first bytes at a b next t = record { there = first_at bytes at a b t.there; moved = refl }
 
 pub takes_second : (bytes : List ℕ) (at : ℕ) (a b : List ℕ) (next : ℕ) → Takes bytes at (a ++ b) next → Takes bytes (at + length a) b next
-takes_second bytes at a b next t = record { stands = stands_second bytes at a b t.stands; moved = omega (arith, t.moved, length-append a b) }
+takes_second bytes at a b next t = record { there = second_at bytes at a b t.there; moved = omega (arith, t.moved, length-append a b) }
 
 pub takes_nothing : (bytes : List ℕ) (at : ℕ) → Takes bytes at [] at
-takes_nothing bytes at = record { stands = (drop at bytes, refl); moved = omega arith }
+takes_nothing bytes at = record { there = (drop at bytes, refl); moved = omega arith }
 
 -- the value of a step that did not fail
-pub bind_ok : {A B : Type 0} (r : Result A RecordFault) (f : A → Result B RecordFault) (y : B) → (r >>= f) ≡ Ok y → (x : A) × (r ≡ Ok x) × (f x ≡ Ok y)
+pub bind_ok : {A B F : Type 0} (r : Result A F) (f : A → Result B F) (y : B) → (r >>= f) ≡ Ok y → (x : A) × (r ≡ Ok x) × (f x ≡ Ok y)
 bind_ok (Ok x) f y e = (x, refl, e)
 bind_ok (Err fault) f y e = absurd cc
 
-abbrev pub done : {A : Type 0} → A → Result A RecordFault
+-- what a test gives is what one of its branches gives
+pub tested : {A F : Type 0} (b : Bool) (x z : Result A F) (y : A) (Q : Type 0) → cond b x z ≡ Ok y → (b ≡ true → x ≡ Ok y → Q) → (z ≡ Ok y → Q) → Q
+tested true x z y Q e f g = f refl e
+tested false x z y Q e f g = g e
+
+abbrev pub done : {A : Type 0} → A → Result A FieldFault
 done x = Ok x
 
 pub ok_is : {A : Type 0} (x y : A) → done x ≡ done y → x ≡ y
@@ -88,9 +94,9 @@ not_short : {A : Type 0} (r : Result A Short) (x : A) → or_short r ≡ Ok x �
 not_short (Ok y) x e = cc
 not_short (Err short) x e = absurd cc
 
--- ---- numbers
+-- Numbers
 
--- what numbers of a width below a limit do
+-- a number of this width is below the limit, and is spelled in as many bytes as the width has, in one way
 pub record IsWide (w : Width) (limit : ℕ) : Type 0 where
   pub some : 0 < byte_len w
   pub len : (n : ℕ) → length (to_be_bytes w n) ≡ byte_len w
@@ -139,7 +145,7 @@ wide64 = record {
   below = λ bytes fits. omega (arith, fits 0, fits 1, fits 2, fits 3, fits 4, fits 5, fits 6, fits 7);
 }
 
--- a number that is read stands there
+-- a number that is read is there
 pub number_takes : (w : Width) (limit : ℕ) (wide : IsWide w limit) (bytes : List ℕ) (at n next : ℕ) → IsBytes bytes → or_short (number_at w bytes at) ≡ Ok (n, next) → Takes bytes at (to_be_bytes w n) next × (n < limit)
 number_takes w limit wide bytes at n next fits e =
     let g = guard_ok (ltb (length bytes) (at + byte_len w)) _ (from_be_bytes w (take (byte_len w) (drop at bytes)), at + byte_len w) (n, next) (not_short (number_at w bytes at) (n, next) e) in
@@ -149,22 +155,22 @@ number_takes w limit wide bytes at n next fits e =
     let front_fits : IsBytes (take (byte_len w) (drop at bytes)) = IsBytes-take (byte_len w) (drop at bytes) (IsBytes-drop at bytes fits) in
     let front : to_be_bytes w n ≡ take (byte_len w) (drop at bytes) = rw (← n-is) (wide.back (take (byte_len w) (drop at bytes)) (omega (arith, long, length-take (byte_len w) (drop at bytes), length-drop at bytes)) front_fits) in (
       record {
-        stands = (drop (byte_len w) (drop at bytes), rw front (sym (take-append-drop (byte_len w) (drop at bytes))));
+        there = (drop (byte_len w) (drop at bytes), rw front (sym (take-append-drop (byte_len w) (drop at bytes))));
         moved = sym next-is ∙ ap (λ (k : ℕ). at + k) (sym (wide.len n));
       },
       rw (← n-is) (wide.below (take (byte_len w) (drop at bytes)) front_fits),
     )
 
--- a number that stands there is read
+-- a number that is there is read
 pub number_again : (w : Width) (limit : ℕ) (wide : IsWide w limit) (bytes : List ℕ) (at n next : ℕ) → n < limit → Takes bytes at (to_be_bytes w n) next → or_short (number_at w bytes at) ≡ Ok (n, next)
 number_again w limit wide bytes at n next lt t =
-    let s = t.stands in
+    let s = t.there in
     let to : next ≡ at + byte_len w = t.moved ∙ ap (λ (k : ℕ). at + k) (wide.len n) in
     let len = wide.len n in
     let long : ltb (length bytes) (at + byte_len w) ≡ false = le-ltb _ _ (omega (arith, ap (λ (x : List ℕ). length x) s.1, length-append (to_be_bytes w n) s.0, length-drop at bytes, len, wide.some)) in
     rw (long, s.1, take_at (to_be_bytes w n) s.0 (byte_len w) len, wide.again n lt, to) refl
 
--- ---- numbers within a range
+-- Numbers within a range
 
 pub within_takes : (w : Width) (limit : ℕ) (wide : IsWide w limit) (least most : ℕ) (bytes : List ℕ) (at n next : ℕ) → IsBytes bytes → within_at w least most bytes at ≡ Ok (n, next) → Takes bytes at (to_be_bytes w n) next × (least ≤ n) × (n ≤ most)
 unfolding within_at

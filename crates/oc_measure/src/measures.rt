@@ -34,6 +34,13 @@ impl Measures {
         Ok(Measures { readings })
     }
 
+    /// Takes all readings out. Takes no memory.
+    pub fn clear(&mut self)
+        ensures { self.new ≡ replicate (length self.old) no_reading }
+    {
+        self.readings.fill(NOTHING);
+    }
+
     /// Puts a reading of the peer in the place of the one before: bytes per second and hops.
     pub fn put(&mut self, peer: NodeId, rate: u64, hops: u8)
         requires first { 1 ≤ peer }
@@ -46,11 +53,10 @@ impl Measures {
     /// The rate and the hops that were put last for the peer, and `(0, 0)` where none were, as for a
     /// number past the nodes. Rate 0 means that it was not measured.
     pub fn get(&self, peer: NodeId) -> (u64, u8)
-        requires { 1 ≤ peer }
         ensures rate { result.0 ≡ (reading_of self.now peer).rate }
         ensures hops { result.1 ≡ (reading_of self.now peer).hops }
     {
-        match self.readings.get(peer.index()) {
+        match self.readings.get((peer.0 as usize).saturating_sub(1)) {
             Some(reading) => (reading.rate, reading.hops),
             None => (0, 0),
         }

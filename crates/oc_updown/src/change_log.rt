@@ -105,7 +105,8 @@ impl ChangeLog {
 
     /// How many are acknowledged.
     pub fn acked(&self) -> u64
-        ensures { result ≡ self.now.log.acked }
+        ensures acked { result ≡ self.now.log.acked }
+        ensures below { result < 2 ^ 63 }
     {
         self.acked
     }

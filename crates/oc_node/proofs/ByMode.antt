@@ -1,0 +1,110 @@
+-- Rules that go by the mode and the search, as choices by tests.
+use Rattle.std.proofs.Common.{◌≡◌, ℕ, Bool, true, false, ◌&&◌, ◌==◌, if◌then◌else◌, nat_lt, Option, Some, None, refl, ap, sym, subst, ◌∙◌}
+use Rattle.std.proofs.lemmas.Bool.{and_parts}
+use Rattle.oc_base.specs.declared.cert.Cert.{Cert}
+use Rattle.oc_base.specs.declared.limits.TheConstants.{MAX_DEPTH}
+use Rattle.oc_base.specs.declared.rank.Rank.{Rank}
+use Rattle.oc_base.specs.Rank.{beneath_of}
+use Rattle.oc_model.specs.declared.mode.Mode.{Mode}
+use Rattle.oc_model.specs.declared.mode.Mode.TheVariants as modes
+use Rattle.oc_model.specs.declared.soft.Search.{Search}
+use Rattle.oc_model.specs.declared.soft.Search.TheVariants as searches
+use Rattle.oc_model.specs.Asking.{is_asking, lost, next_try, not_seen, not_reached, round, unreachable}
+use Rattle.oc_model.specs.declared.record.Record.TheVariants as records
+use Rattle.oc_model.specs.Adoption.{precedes, precedes_any, is_better, take_rank}
+use Rattle.oc_model.specs.Checking.{is_joined_to, dies, merges, takes_rank}
+use Rattle.oc_model.specs.Looking.{Stand, descends, reviews_place, keeps_line, sees_as, sees}
+use Rattle.oc_model.specs.Plan.{Plan, searching, ignored, write}
+use Rattle.oc_laws_step.proofs.RankOrder.{precedes_fact, precedes_irreflexive}
+use Rattle.oc_node.specs.Modes.{is_idle, is_descending, is_reviewing, better_rank}
+
+-- what is not so is not so, whatever else holds
+and_no : (b : Bool) → (b && false) ≡ false
+and_no true = refl
+and_no false = refl
+
+-- what is so leaves the rest
+and_so : (b : Bool) → (b && true) ≡ b
+and_so true = refl
+and_so false = refl
+
+-- Unreachable
+
+pub not_seen_is : (s : Option Search) (o : Plan) (p : ℕ) → not_seen s o p ≡ (if is_descending s p then next_try (searching o None) else ignored o)
+not_seen_is None o p = refl
+not_seen_is (Some (searches.Descend q)) o p = refl
+not_seen_is (Some searches.Review) o p = refl
+
+not_reached_is : (m : Mode) (o : Plan) (p : ℕ) → not_reached m o p ≡ (if is_joined_to m p then round (lost o) (Some p) else if is_asking m p then next_try (lost o) else not_seen o.node.soft.search o p)
+not_reached_is modes.Idle o p = refl
+not_reached_is (modes.Asking q) o p = refl
+not_reached_is (modes.Joined q) o p = refl
+not_reached_is modes.Acting o p = refl
+
+pub unreachable_is : (o : Plan) (p : ℕ) → unreachable o p ≡ (if is_joined_to o.node.kept.mode p then round (lost o) (Some p) else if is_asking o.node.kept.mode p then next_try (lost o) else not_seen o.node.soft.search o p)
+unreachable_is o p = not_reached_is o.node.kept.mode o p
+
+-- Look
+
+sees_as_is : (m : Mode) (s : Option Search) (o : Plan) (p : ℕ) (t : Stand) → sees_as m s o p t ≡ (if is_idle m && is_descending s p then descends o p t else if is_joined_to m p && is_reviewing s then reviews_place o p t else keeps_line o p t)
+sees_as_is modes.Idle None o p t = refl
+sees_as_is modes.Idle (Some (searches.Descend q)) o p t = refl
+sees_as_is modes.Idle (Some searches.Review) o p t = refl
+sees_as_is (modes.Asking q) s o p t = refl
+sees_as_is (modes.Joined q) None o p t = rw (and_no (q == p))
+sees_as_is (modes.Joined q) (Some (searches.Descend r)) o p t = rw (and_no (q == p))
+sees_as_is (modes.Joined q) (Some searches.Review) o p t = rw (and_so (q == p))
+sees_as_is modes.Acting s o p t = refl
+
+pub sees_is : (o : Plan) (p : ℕ) (t : Stand) → sees o p t ≡ (if is_idle o.node.kept.mode && is_descending o.node.soft.search p then descends o p t else if is_joined_to o.node.kept.mode p && is_reviewing o.node.soft.search then reviews_place o p t else keeps_line o p t)
+sees_is o p t = sees_as_is o.node.kept.mode o.node.soft.search o p t
+
+-- Ranks
+
+-- what a told rank leads to, by the better rank if there is one
+takes_rank_some : (own : Option Rank) (told : Rank) (o : Plan) (r : Rank) → better_rank own told ≡ Some r → (if is_better own told then write o (records.Ranked (beneath_of told)) else o) ≡ write o (records.Ranked r)
+takes_rank_some own told o r e = by_test (is_better own told) refl where
+  by_test : (b : Bool) → is_better own told ≡ b → (if is_better own told then write o (records.Ranked (beneath_of told)) else o) ≡ write o (records.Ranked r)
+  by_test true h = let some : better_rank own told ≡ Some (beneath_of told) = rw h in let same : beneath_of told ≡ r = cc in rw (h, same)
+  by_test false h = let none : better_rank own told ≡ None = rw h in absurd cc
+
+takes_rank_none : (own : Option Rank) (told : Rank) (o : Plan) → better_rank own told ≡ None → (if is_better own told then write o (records.Ranked (beneath_of told)) else o) ≡ o
+takes_rank_none own told o e = by_test (is_better own told) refl where
+  by_test : (b : Bool) → is_better own told ≡ b → (if is_better own told then write o (records.Ranked (beneath_of told)) else o) ≡ o
+  by_test true h = let some : better_rank own told ≡ Some (beneath_of told) = rw h in absurd cc
+  by_test false h = rw h
+
+pub rank_taken : (o : Plan) (told r : Rank) → better_rank o.node.kept.rank told ≡ Some r → takes_rank o told ≡ write o (records.Ranked r)
+rank_taken o told r e = takes_rank_some o.node.kept.rank told o r e
+
+pub rank_left : (o : Plan) (told : Rank) → better_rank o.node.kept.rank told ≡ None → takes_rank o told ≡ o
+rank_left o told e = takes_rank_none o.node.kept.rank told o e
+
+-- a better rank is another than the own
+better_is_other : (own : Option Rank) (told : Rank) → is_better own told ≡ true → Some (beneath_of told) ≡ own → ⊥
+better_is_other None told better same = cc
+better_is_other (Some r) told better same =
+    let own : beneath_of told ≡ r = cc in
+    let before : precedes (beneath_of told) r ≡ true = (and_parts (nat_lt told.depth MAX_DEPTH) (precedes (beneath_of told) r) better).1 in
+    precedes_irreflexive r (precedes_fact r r (subst (λ (q : Rank). precedes q r ≡ true) own before))
+
+-- the rank that is taken is the own, or a better one
+pub better_left : (own taken : Option Rank) (told : Rank) → taken ≡ take_rank own told → taken ≡ own → better_rank own told ≡ None
+better_left own taken told e same = by_test (is_better own told) refl where
+  by_test : (b : Bool) → is_better own told ≡ b → better_rank own told ≡ None
+  by_test true h = let some : take_rank own told ≡ Some (beneath_of told) = rw h in absurd (better_is_other own told h (sym some ∙ (sym e ∙ same)))
+  by_test false h = rw h
+
+pub better_found : (own taken : Option Rank) (told : Rank) → taken ≡ take_rank own told → (taken ≡ own → ⊥) → better_rank own told ≡ taken
+better_found own taken told e other = by_test (is_better own told) refl where
+  by_test : (b : Bool) → is_better own told ≡ b → better_rank own told ≡ taken
+  by_test true h = let some : take_rank own told ≡ Some (beneath_of told) = rw h in let found : better_rank own told ≡ Some (beneath_of told) = rw h in found ∙ sym (e ∙ some)
+  by_test false h = let none : take_rank own told ≡ own = rw h in absurd (other (e ∙ none))
+
+-- Deaths
+
+pub dies_by : (o : Plan) (was : Option Cert) (k : Cert) → was ≡ Some k → dies was o ≡ merges o (record k { dead = true })
+dies_by o was k e = rw e
+
+pub dies_not : (o : Plan) (was : Option Cert) → was ≡ None → dies was o ≡ o
+dies_not o was e = rw e

@@ -1,0 +1,117 @@
+-- A node as inputs and starts leave it.
+use Rattle.std.proofs.Common.{◌≡◌, ℕ, Bool, ◌+◌, ◌<◌, ◌≤◌, ◌^◌, Option, Some, None, ◌⊎◌, List, [], ◌∷◌, length, replicate, refl, ap, sym, subst, ◌∙◌, arith}
+use Rattle.std.specs.List.{AllByRecursion}
+use Rattle.std.proofs.lemmas.List.{length-replicate}
+use Rattle.oc_base.specs.Lawful.{IsNode}
+use Rattle.oc_base.specs.Shelves.{IsShelf}
+use Rattle.oc_base.specs.declared.limits.TheConstants.{MAX_BASE_ACKED, MAX_LOG_LENGTH, MAX_FRAME_RECORDS}
+use Rattle.oc_base.specs.declared.shelf.Shelf.{Shelf}
+use Rattle.oc_model.specs.declared.input.Input.{Input}
+use Rattle.oc_model.specs.declared.record.Record.{Record}
+use Rattle.oc_model.specs.Lawful.{IsHeader, IsInput, AreRecords}
+use Rattle.oc_base.specs.declared.group.Group.{Group}
+use Rattle.oc_base.specs.Groups.{shelf}
+use Rattle.oc_model.specs.Node.{Header, Control, Durable, Node, new_control, new_durable}
+use Rattle.oc_model.specs.Plan.{Plan}
+use Rattle.oc_model.specs.Records.{folded}
+use Rattle.oc_model.specs.Step.{plan, step}
+use Rattle.oc_laws_step.specs.Frames.{FitsFrame}
+use Rattle.oc_laws_step.specs.LawfulNode.{IsLawfulControl, IsLawfulNode}
+use Rattle.oc_laws_step.specs.Sound.{IsSound}
+use Rattle.oc_laws_step.proofs.LawfulSteps.{lawful_new, lawful_planned}
+use Rattle.oc_laws_step.proofs.Soundness.{sound_new, sound_planned}
+use Rattle.oc_node.specs.DurableView.{IsKept}
+use Rattle.oc_node.specs.Applying.{CanApply, durable_in}
+use Rattle.oc_node.specs.declared.volatile.Volatile.{Volatile}
+use Rattle.oc_node.specs.NodeView.{NodeView, IsReached, control_of}
+use Rattle.oc_node.specs.Planned.{PlanView, control_after, planned}
+use Rattle.oc_node.specs.Touched.{IsTouch}
+use Rattle.oc_node.specs.Volatile.{soft_of, new_volatile}
+
+-- a new node
+pub reached_new : (h : Header) (x : ℕ) → IsHeader h → IsNode h.nodes x → IsReached (new_control h x)
+reached_new h x header me = record { header = header; me = me; sound = sound_new h x; lawful = (lawful_new h x header me).control }
+
+-- the same of the parts that a new node is made of
+pub reached_made : (me nodes chain : ℕ) (areas : List ℕ) (kept : Durable) (v : Volatile) (tries : List ℕ) (leases : List (Option ℕ)) (rates counts : List ℕ) → IsHeader (record { nodes = nodes; chain = chain; areas = areas }) → IsNode nodes me → kept ≡ new_durable nodes → v ≡ new_volatile → tries ≡ [] → leases ≡ replicate nodes None → rates ≡ replicate nodes 0 → counts ≡ replicate nodes 0 → IsReached (control_of me nodes chain areas kept (soft_of v tries) leases rates counts)
+reached_made me nodes chain areas kept v tries leases rates counts header here k s t l r c =
+    let made : IsReached (control_of me nodes chain areas (new_durable nodes) (soft_of new_volatile []) (replicate nodes None) (replicate nodes 0) (replicate nodes 0)) = reached_new (record { nodes = nodes; chain = chain; areas = areas }) me header here in
+    rw (k, s, t, l, r, c) made
+
+-- what is durable of it is as it may be
+pub reached_kept : (n : Control) → IsReached n → IsKept n.nodes n.kept
+reached_kept n reached = record { few = reached.header.few; sound = reached.sound.kept; lawful = reached.lawful.kept }
+
+-- with something else durable that may be
+pub reached_with : (n : Control) (d : Durable) → IsReached n → IsKept n.nodes d → IsReached (record n { kept = d })
+reached_with n d reached kept = record {
+  header = reached.header;
+  me = reached.me;
+  sound = record { kept = kept.sound; leases = reached.sound.leases; rates = reached.sound.rates; counts = reached.sound.counts };
+  lawful = record { few = reached.lawful.few; among = reached.lawful.among; me = reached.lawful.me; chain = reached.lawful.chain; kept = kept.lawful; soft = reached.lawful.soft; rates = reached.lawful.rates };
+}
+
+-- after a step
+pub reached_step : (n : Control) (lines : List Shelf) (i : Input) (p : PlanView) → IsReached n → IsShelf lines → IsInput n.nodes n.me i → n.kept.log.length ≤ MAX_LOG_LENGTH → planned n p ≡ plan n lines i → IsReached (control_after n p)
+reached_step n lines i p reached shelf fair short made =
+    let same : control_after n p ≡ (plan n lines i).node = ap (λ (o : Plan). o.node) made in
+    record {
+      header = reached.header;
+      me = reached.me;
+      sound = subst (λ (m : Control). IsSound m) (sym same) (sound_planned n lines i reached.sound);
+      lawful = subst (λ (m : Control). IsLawfulControl n.nodes m) (sym same) (lawful_planned n.nodes n lines i fair shelf short reached.lawful).node;
+    }
+
+-- the records of a step are lawful
+pub records_lawful : (n : Control) (lines : List Shelf) (i : Input) (p : PlanView) → IsReached n → IsShelf lines → IsInput n.nodes n.me i → n.kept.log.length ≤ MAX_LOG_LENGTH → length p.records ≤ MAX_FRAME_RECORDS → planned n p ≡ plan n lines i → AreRecords n.nodes p.records
+records_lawful n lines i p reached shelf fair short few made =
+    let same : p.records ≡ (plan n lines i).records = ap (λ (o : Plan). o.records) made in
+    subst (λ (rs : List Record). AreRecords n.nodes rs) (sym same) ((lawful_planned n.nodes n lines i fair shelf short reached.lawful).records (subst (λ (rs : List Record). length rs ≤ MAX_FRAME_RECORDS) same few))
+
+-- A node with groups of these lengths, of which the laws of a step speak
+
+abbrev groups_of : List Shelf → List Group
+groups_of [] = []
+groups_of (l ∷ ls) = record { name = l.group; bytes = replicate l.held 0; sealed = l.sealed } ∷ groups_of ls
+
+abbrev line : List ℕ → ℕ → Bool → Shelf
+line g held sealed = record { group = g; held = held; sealed = sealed }
+
+shelf_again : (ls : List Shelf) → shelf (groups_of ls) ≡ ls
+shelf_again [] = refl
+shelf_again (l ∷ ls) = ap (λ (n : ℕ). line l.group n l.sealed ∷ shelf (groups_of ls)) (length-replicate l.held 0) ∙ ap (λ (ks : List Shelf). l ∷ ks) (shelf_again ls)
+
+abbrev node_of : Control → List Shelf → Node
+node_of n ls = record { control = n; groups = groups_of ls }
+
+-- the records fit a frame, since those of a step do
+pub frame_fits : ((nodes : ℕ) (n : Node) (i : Input) → IsInput nodes n.control.me i → IsLawfulNode nodes n → FitsFrame (step n i).records) → (n : Control) (lines : List Shelf) (i : Input) (p : PlanView) → IsReached n → IsShelf lines → IsInput n.nodes n.me i → planned n p ≡ plan n lines i → FitsFrame p.records
+frame_fits law n lines i p reached fair input made =
+    let lawful : IsLawfulNode n.nodes (node_of n lines) = record { control = reached.lawful; shelf = subst (λ (ls : List Shelf). IsShelf ls) (sym (shelf_again lines)) fair } in
+    let fits : FitsFrame (plan n (shelf (groups_of lines)) i).records = law n.nodes (node_of n lines) i input lawful in
+    let same : p.records ≡ (plan n lines i).records = ap (λ (o : Plan). o.records) made in
+    subst (λ (rs : List Record). FitsFrame rs) (ap (λ (ls : List Shelf). (plan n ls i).records) (shelf_again lines) ∙ sym same) fits
+
+-- and the plan writes records or keeps content, since a step does
+pub one_file : ((n : Node) (i : Input) → ((plan n.control (shelf n.groups) i).keeps ≡ None) ⊎ ((step n i).records ≡ [])) → (n : Control) (lines : List Shelf) (i : Input) (p : PlanView) → planned n p ≡ plan n lines i → (p.keeps ≡ None) ⊎ (p.records ≡ [])
+one_file law n lines i p made =
+    let either : ((plan n lines i).keeps ≡ None) ⊎ ((plan n lines i).records ≡ []) = subst (λ (ls : List Shelf). ((plan n ls i).keeps ≡ None) ⊎ ((plan n ls i).records ≡ [])) (shelf_again lines) (law (node_of n lines) i) in
+    subst (λ (o : Plan). (o.keeps ≡ None) ⊎ (o.records ≡ [])) (sym made) either
+
+-- the durable parts after it are those that its records give
+pub plan_folds : (n : Control) (lines : List Shelf) (i : Input) (p : PlanView) → planned n p ≡ plan n lines i → (plan n lines i).node.kept ≡ folded n.kept p.records
+plan_folds n lines i p made = sym (ap (λ (o : Plan). o.node.kept) made)
+
+-- a plan of a step can be applied, where there is room for all nodes and all its records
+pub plan_applies : (v w : NodeView) (lines : List Shelf) (i : Input) (p : PlanView) → IsReached v.control → IsShelf lines → IsInput v.control.nodes v.control.me i → planned v.control p ≡ plan v.control lines i → AllByRecursion (IsTouch v.control.nodes) p.touches → FitsFrame p.records → v.control.kept.log.length ≤ MAX_LOG_LENGTH → w.control ≡ v.control → length w.control.kept.log.waiting + (v.control.nodes + length p.records) ≤ w.room → CanApply w p
+plan_applies v w lines i p reached fair input made touches fits short same room = rw same (record {
+  reached = reached_step v.control lines i p reached fair input short made;
+  records = records_lawful v.control lines i p reached fair input short fits.records made;
+  touches = touches;
+  room = record {
+    waiting = omega (arith, rw same at room);
+    rows = omega (arith, rw same at room);
+    places = omega (arith, short, fits.records);
+    based = omega (arith, fits.records);
+  };
+})

@@ -1,0 +1,11 @@
+use Rattle.std.proofs.Common.{◌≡◌}
+use Rattle.std.specs.Prelude.{filter, nat_lt}
+use Rattle.oc_model.specs.Checking.{looks_at_each}
+use Rattle.oc_model.specs.Choice.{below}
+use Rattle.oc_node.proofs.Looks.{looks_go_on}
+use Rattle.oc_node.proofs.draft.Draft.look_at_earlier.Given as goal
+
+abbrev pub invariant-loop-earlier : goal.invariant-loop-earlier
+invariant-loop-earlier l =
+    (l.self.base ≡ l.initial.self.base)
+    × (looks_at_each (filter (λ x. nat_lt l.other x) (below l.earlier)) l.self.step ≡ looks_at_each (filter (λ x. nat_lt l.other x) (below l.initial.self.step.node.me)) l.initial.self.step)

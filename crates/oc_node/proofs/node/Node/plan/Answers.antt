@@ -1,0 +1,34 @@
+use Rattle.std.proofs.Common.{◌≡◌, ℕ, ◌+◌, ◌≤◌, List, length, ap, subst, ◌∙◌}
+use Rattle.oc_model.specs.declared.record.Record.{Record}
+use Rattle.oc_model.specs.Node.{Control, Durable}
+use Rattle.oc_laws_step.specs.Frames.{FitsFrame}
+use Rattle.oc_node.specs.NodeView.{NodeView, IsReached, control_of}
+use Rattle.oc_node.specs.Volatile.{soft_of}
+use Rattle.oc_node.proofs.Plans.{plan_wants}
+use Rattle.oc_node.proofs.Reaching.{frame_fits, one_file, plan_applies}
+use Rattle.oc_node.proofs.node.Node.plan.Goals as goal
+
+pub returns-clause-frame : goal.returns-clause-frame
+returns-clause-frame c =
+    let reached : IsReached c.args.self.now.control = subst (λ (v : NodeView). IsReached v.control) c.self.view_is c.self.invariant.1 in
+    frame_fits c.lawful_nodes_stay_lawful.ensures.frame c.args.self.now.control c.args.shelf.now c.args.input.now c.in_ok-plan.plan reached c.requires.shelf c.requires.input c.in_ok-plan.ensures.plan
+
+pub returns-clause-one_file : goal.returns-clause-one_file
+returns-clause-one_file c = one_file c.folding_is_stepping.ensures.one_file c.args.self.now.control c.args.shelf.now c.args.input.now c.in_ok-plan.plan c.in_ok-plan.ensures.plan
+
+pub returns-clause-wants : goal.returns-clause-wants
+returns-clause-wants c = plan_wants c.args.self.now.control c.args.shelf.now c.args.input.now c.in_ok-plan.plan c.in_ok-plan.ensures.plan c.in_ok-plan.ensures.room
+
+pub returns-clause-applies : goal.returns-clause-applies
+returns-clause-applies c =
+    let n = c.self.inside in
+    let p = c.in_ok-plan.plan in
+    let kept = c.reserve.new.self.kept in
+    let reached : IsReached c.args.self.now.control = subst (λ (v : NodeView). IsReached v.control) c.self.view_is c.self.invariant.1 in
+    let fits : FitsFrame p.records = frame_fits c.lawful_nodes_stay_lawful.ensures.frame c.args.self.now.control c.args.shelf.now c.args.input.now p reached c.requires.shelf c.requires.input c.in_ok-plan.ensures.plan in
+    let same : control_of n.id n.nodes n.chain n.areas.items kept (soft_of n.volatile n.tries) n.leases.ends n.rates.items n.counts.items ≡ c.args.self.now.control =
+    ap (λ (d : Durable). control_of n.id n.nodes n.chain n.areas.items d (soft_of n.volatile n.tries) n.leases.ends n.rates.items n.counts.items) c.reserve.ensures.kept ∙ ap (λ (v : NodeView). v.control) c.self.view_is in
+    let nodes : n.nodes ≡ c.args.self.now.control.nodes = ap (λ (v : NodeView). v.control.nodes) c.self.view_is in
+    let room : length kept.log.waiting + (n.nodes + length p.records) ≤ c.reserve.new.self.room = subst (λ (rs : List Record). length kept.log.waiting + (n.nodes + length rs) ≤ c.reserve.new.self.room) c.records.ensures c.in_ok-reserve.ensures.room in
+    plan_applies c.args.self.now _ c.args.shelf.now c.args.input.now p reached c.requires.shelf c.requires.input c.in_ok-plan.ensures.plan c.in_ok-plan.ensures.touches fits c.requires.log same
+    (subst (λ (k : ℕ). length kept.log.waiting + (k + length p.records) ≤ c.reserve.new.self.room) nodes room)

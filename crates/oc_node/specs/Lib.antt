@@ -1,0 +1,14 @@
+pub mod Standing
+pub mod DurableView
+pub mod Volatile
+pub mod Tries
+pub mod Touched
+pub mod Planned
+pub mod NodeView
+pub mod Modes
+pub mod Since
+pub mod Children
+pub mod DraftView
+pub mod OutcomeView
+pub mod Applying
+pub mod Snapshots

@@ -1,0 +1,34 @@
+-- What a contract sees of a node.
+use Rattle.std.specs.Prelude.{ℕ, Option, List}
+use Rattle.oc_model.specs.declared.soft.Soft.{Soft}
+use Rattle.oc_base.specs.Lawful.{IsNode}
+use Rattle.oc_model.specs.Lawful.{IsHeader}
+use Rattle.oc_model.specs.Node.{Control, Durable}
+use Rattle.oc_laws_step.specs.LawfulNode.{IsLawfulControl}
+use Rattle.oc_laws_step.specs.Sound.{IsSound}
+
+-- the control state, and how many certificates there is room for in its change log
+pub record NodeView : Type 0 where
+  pub control : Control
+  pub room : ℕ
+
+-- the control state of these parts
+abbrev pub control_of : ℕ → ℕ → ℕ → List ℕ → Durable → Soft → List (Option ℕ) → List ℕ → List ℕ → Control
+control_of me nodes chain areas kept soft leases rates counts = record {
+  me = me;
+  nodes = nodes;
+  chain = chain;
+  areas = areas;
+  kept = kept;
+  soft = soft;
+  leases = leases;
+  rates = rates;
+  counts = counts;
+}
+
+-- a node as every input and every start leaves it: sound, and its numbers within their ranges
+pub record IsReached (n : Control) : Type 0 where
+  pub header : IsHeader (record { nodes = n.nodes; chain = n.chain; areas = n.areas })
+  pub me : IsNode n.nodes n.me
+  pub sound : IsSound n
+  pub lawful : IsLawfulControl n.nodes n

@@ -1,0 +1,49 @@
+//! One node of the overlay, pure: what an input does to it, without a disk, a text or another node.
+//!
+//! [`Node::plan`] looks at an input and changes nothing: it takes all memory that the step needs and
+//! gives a [`Plan`], with the records of what is durable in the step, the messages and the answer.
+//! Once the records are safe, [`Node::apply`] folds those very records into the node, and takes no
+//! memory. A start folds all records of a node's file, by [`Node::recover`], and [`Node::snapshot`]
+//! gives few records that stand for all before them.
+//!
+//! The layer above rests on this: the plan is the control step of the model (`plan`), and with the bytes
+//! that it wants filled in (`Plan::fill`) applying it is the model's `step`: the node after it, the
+//! messages and the answer. The records fit one frame, and folding them gives what is durable after the
+//! step.
+//!
+//! The rules are those of the model, each in the file of its name and in the order of its definitions:
+//! `asking`, `adopting`, `checking`, `looking`, `content` and `serving`. A rule leads from one draft of
+//! the step to the next. A draft lends the node and holds what the step changes, so a step costs what its
+//! rules look at.
+#![tactic(auto)]
+
+mod adopting;
+mod asking;
+mod checking;
+mod children;
+mod content;
+mod draft;
+mod durable;
+mod looking;
+mod modes;
+mod next_certs;
+mod node;
+mod outcome;
+mod plan;
+mod ranks;
+mod serving;
+mod shelves;
+mod since;
+mod snapshot;
+mod stand;
+mod standing;
+mod step;
+mod touch;
+mod tries;
+mod volatile;
+
+pub use node::Node;
+pub use oc_base::Bytes;
+pub use oc_model::{Answer, Input, Mode, Want};
+pub use outcome::Outcome;
+pub use plan::Plan;

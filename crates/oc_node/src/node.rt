@@ -1,0 +1,370 @@
+ghost use Rattle.std.specs.Prelude.{◌≡◌, ◌+◌, ◌≤◌, ◌⊎◌, None, Some, [], length, IfOk, IfSome, OnOk, OnErr};
+ghost use Rattle.std.specs.List.{AllByRecursion};
+ghost use Rattle.oc_base.specs.Shelves.{IsShelf};
+ghost use Rattle.oc_laws_step.specs.Frames.{FitsFrame};
+ghost use Rattle.oc_model.specs.declared.input.Input.{Input};
+ghost use Rattle.oc_model.specs.declared.want.Want.{Want};
+ghost use Rattle.oc_model.specs.Lawful.{AreRecords, IsHeader, IsInput};
+ghost use Rattle.oc_model.specs.Records.{folded};
+ghost use Rattle.oc_model.specs.Snapshot.{snapshot};
+ghost use Rattle.oc_model.specs.Step.{plan, step};
+ghost use Rattle.oc_node.specs.Applying.{CanApply, IsStepOf};
+ghost use Rattle.oc_node.specs.Planned.{IsWanting, control_after, planned};
+ghost use Rattle.oc_node.specs.Touched.{IsTouch};
+ghost use Rattle.oc_base.specs.Lawful.{IsCount, IsNode};
+ghost use Rattle.oc_base.specs.declared.limits.TheConstants.{LAST_SECOND, MAX_BASE_ACKED, MAX_LOG_LENGTH};
+ghost use Rattle.oc_model.specs.Node.{new_control, new_durable, Durable as State, Node as Whole};
+ghost use Rattle.oc_model.specs.Leases.{next_ended};
+ghost use Rattle.oc_model.specs.Looking.{children, parent_of};
+ghost use Rattle.oc_model.specs.Selected.{selected};
+ghost use Rattle.oc_node.specs.NodeView.{IsReached};
+ghost use Rattle.oc_node.specs.Standing.{standing_of};
+ghost use Rattle.oc_node.specs.Volatile.{volatile_of};
+
+use crate::children::children;
+use crate::draft::Draft;
+use crate::durable::Durable;
+use crate::outcome::Outcome;
+use crate::plan::Plan;
+use crate::standing::Standing;
+use crate::touch::touch_all;
+use crate::tries::Tries;
+use crate::volatile::Volatile;
+use oc_base::{Child, Memory, NodeId, Rank, Shelf};
+use oc_cert::Table;
+use oc_laws_step::{folding_is_stepping, lawful_nodes_stay_lawful, snapshots_stand_for_all};
+use oc_measure::Measures;
+use oc_model::{Input, Mode, Record};
+use oc_redirect::select;
+use oc_updown::{ChangeLog, Leases};
+use std::alloc::Global;
+use std::marker::Model;
+
+/// One node, but for its content. Contracts see the model's control state, and how many certificates
+/// there is room for in the change log.
+#[derive(Drop)]
+pub struct Node {
+    id: NodeId,
+    nodes: u32,
+    chain: u32,
+    /// The area of each node, by its number.
+    areas: Vec<u8>,
+    durable: Durable,
+    volatile: Volatile,
+    tries: Tries,
+    leases: Leases,
+    /// The rate that each child told last, by its number.
+    rates: Vec<u64>,
+    /// How many clients each node was sent, by its number.
+    counts: Vec<u64>,
+    alloc: Global,
+}
+
+impl Model for Node {
+    ghost use Rattle.std.specs.Prelude.{◌≡◌};
+    ghost use Rattle.oc_model.specs.Node.{Control};
+    ghost use Rattle.oc_node.specs.NodeView.{NodeView, IsReached, control_of};
+    ghost use Rattle.oc_node.specs.Volatile.{soft_of};
+
+    ghost Value = { NodeView };
+
+    ghost view = { λ n. record {
+      control = control_of n.id n.nodes n.chain n.areas.items n.durable.kept (soft_of n.volatile n.tries) n.leases.ends n.rates.items n.counts.items;
+      room = n.durable.room;
+    } };
+
+    ghost invariant = { λ n. (n.durable.nodes ≡ n.nodes)
+        × IsReached (control_of n.id n.nodes n.chain n.areas.items n.durable.kept (soft_of n.volatile n.tries) n.leases.ends n.rates.items n.counts.items) };
+}
+
+impl Node {
+    /// A new node, which knows of no other: its id, the number of nodes, the length of the chain and the
+    /// area of each node, by its number.
+    #[tactic(auto, using(crate::proofs::Reaching::reached_new))]
+    pub fn new(
+        alloc: Global,
+        me: NodeId,
+        nodes: u32,
+        chain: u32,
+        areas: Vec<u8>,
+    ) -> Result<Node, Memory>
+        requires header { IsHeader (record { nodes = nodes; chain = chain; areas = areas.items }) }
+        requires me { IsNode nodes me }
+        ensures { IfOk result (λ made. made.control ≡ new_control (record { nodes = nodes; chain = chain; areas = areas.items }) me) }
+    {
+        Ok(Node {
+            id: me,
+            nodes,
+            chain,
+            areas,
+            durable: Durable::new(alloc, nodes)?,
+            volatile: Volatile::new(),
+            tries: Tries::none(alloc),
+            leases: Leases::new(alloc, nodes)?,
+            rates: vec![in alloc; 0; nodes as usize]?,
+            counts: vec![in alloc; 0; nodes as usize]?,
+            alloc,
+        })
+    }
+
+    /// Recovers a new node from its records, those of its control file in their order. Where memory is
+    /// wanted the node stays new.
+    #[tactic(auto, using(crate::proofs::Reaching::reached_kept, crate::proofs::Reaching::reached_with, crate::proofs::Folding::kept_all))]
+    pub fn recover(&mut self, list: &[Record]) -> Result<(), Memory>
+        requires new { self.old.control.kept ≡ new_durable self.old.control.nodes }
+        requires lawful { AreRecords self.old.control.nodes list.now }
+        ensures ok { OnOk result (self.new.control ≡ record self.old.control { kept = folded self.old.control.kept list.now }) }
+        ensures length { OnOk result (self.new.control.kept.log.length ≤ MAX_BASE_ACKED + length list.now) }
+        ensures err { OnErr result (self.new ≡ self.old) }
+    {
+        let mut durable = Durable::new(self.alloc, self.nodes)?;
+        durable.fold_list(list)?;
+        self.durable = durable;
+        Ok(())
+    }
+
+    /// The plan of the step that this input makes, with the shelf of the groups that the node holds. It
+    /// takes all memory of the step, and changes nothing but how much room there is.
+    ///
+    /// It is the control step of the model. What it writes fits one frame, and gives what is durable after
+    /// the step. It writes records or keeps content, never both.
+    pub fn plan(&mut self, input: &Input, shelf: &[Shelf]) -> Result<Plan, Memory>
+        requires input { IsInput self.old.control.nodes self.old.control.me input.now }
+        requires shelf { IsShelf shelf.now }
+        requires log { self.old.control.kept.log.length ≤ MAX_LOG_LENGTH }
+        ensures plan { IfOk result (λ made. planned self.old.control made ≡ plan self.old.control shelf.now input.now) }
+        ensures applies { IfOk result (λ made. CanApply self.new made) }
+        ensures folds { IfOk result (λ made. (plan self.old.control shelf.now input.now).node.kept ≡ folded self.old.control.kept made.records) }
+        ensures frame { IfOk result (λ made. FitsFrame made.records) }
+        ensures one_file { IfOk result (λ made. (made.keeps ≡ None) ⊎ (made.records ≡ [])) }
+        ensures wants { IfOk result (λ made. (w : Want) → made.wants ≡ Some w → IsWanting made w.count) }
+        ensures node { self.new.control ≡ self.old.control }
+    {
+        folding_is_stepping();
+        lawful_nodes_stay_lawful();
+        let plan = self.draft(input, shelf)?;
+        let more = self.nodes as usize + plan.records().len();
+        self.durable.reserve(more)?;
+        Ok(plan)
+    }
+
+    /// The plan, before there is room for it.
+    fn draft(&self, input: &Input, shelf: &[Shelf]) -> Result<Plan, Memory>
+        requires input { IsInput self.now.control.nodes self.now.control.me input.now }
+        requires shelf { IsShelf shelf.now }
+        ensures plan { IfOk result (λ made. planned self.now.control made ≡ plan self.now.control shelf.now input.now) }
+        ensures touches { IfOk result (λ made. AllByRecursion (IsTouch self.now.control.nodes) made.touches) }
+        ensures room { IfOk result (λ made. IfSome made.wants (λ w. w.count ≤ made.room)) }
+    {
+        let mut draft = Draft::of(self);
+        draft.take(shelf, input)?;
+        Ok(draft.done())
+    }
+
+    /// Does what a plan says, and gives its answer and its messages. The plan was made of this node as it
+    /// is. Takes no memory.
+    pub fn apply(&mut self, plan: Plan) -> Outcome
+        requires { CanApply self.old plan }
+        ensures control { self.new.control ≡ control_after self.old.control plan }
+        ensures outcome { result ≡ record { answer = plan.answer; sends = plan.sends } }
+        ensures step { (n : Whole) (i : Input) → n.control ≡ self.old.control → IsStepOf n i plan → (self.new.control ≡ (step n i).node.control) × (result ≡ record { answer = (step n i).answer; sends = (step n i).sends }) }
+    {
+        let Plan {
+            records,
+            volatile,
+            tries,
+            taken,
+            touches,
+            sends,
+            answer,
+            ..
+        } = plan;
+        touch_all(
+            &touches,
+            self.durable.table(),
+            self.id,
+            &mut self.leases,
+            &mut self.rates,
+            &mut self.counts,
+        );
+        self.durable.fold_all(records);
+        self.volatile = volatile;
+        self.tries.step(tries, taken);
+        Outcome { answer, sends }
+    }
+
+    /// The snapshot of what is durable under this running number: records that give it, whatever was
+    /// before them. They are lawful where the log is no longer than a base may be.
+    pub fn snapshot(&self, generation: u64) -> Result<Vec<Record>, Memory>
+        ensures snapshot { IfOk result (λ list. list.items ≡ snapshot generation self.now.control.kept) }
+        ensures stands { IfOk result (λ list. (any : State) → length any.measures ≡ self.now.control.nodes → folded any list.items ≡ self.now.control.kept) }
+        ensures lawful { IfOk result (λ list. IsCount generation → self.now.control.kept.log.length ≤ MAX_BASE_ACKED → AreRecords self.now.control.nodes list.items) }
+    {
+        snapshots_stand_for_all();
+        self.durable.snapshot(self.alloc, generation)
+    }
+
+    /// The node's own id.
+    pub fn id(&self) -> NodeId
+        ensures { result ≡ self.now.control.me }
+    {
+        self.id
+    }
+
+    /// The number of nodes.
+    pub fn nodes(&self) -> u32
+        ensures nodes { result ≡ self.now.control.nodes }
+        ensures reached { IsReached self.now.control }
+    {
+        self.nodes
+    }
+
+    /// The length of the chain: its members are the nodes from 1 to this one.
+    pub fn chain(&self) -> u32
+        ensures { result ≡ self.now.control.chain }
+    {
+        self.chain
+    }
+
+    /// What was measured of each peer.
+    pub fn measures(&self) -> &Measures
+        ensures { result.now ≡ self.now.control.kept.measures }
+    {
+        self.durable.measures()
+    }
+
+    /// The parent, where the node is joined.
+    pub fn parent(&self) -> Option<NodeId>
+        ensures { result ≡ parent_of self.now.control.kept.mode }
+    {
+        match self.mode() {
+            Mode::Joined(parent) => Some(parent),
+            _ => None,
+        }
+    }
+
+    /// Where the node stands in the tree.
+    pub fn mode(&self) -> Mode
+        ensures { result ≡ self.now.control.kept.mode }
+    {
+        self.standing().mode
+    }
+
+    /// The number of the last ask, 0 where there was none.
+    pub fn seq(&self) -> u64
+        ensures { result ≡ self.now.control.kept.seq }
+    {
+        self.standing().seq
+    }
+
+    /// The node's rank, if it was in the tree yet.
+    pub fn rank(&self) -> Option<Rank>
+        ensures { result ≡ self.now.control.kept.rank }
+    {
+        self.standing().rank
+    }
+
+    /// The node's own number.
+    pub fn number(&self) -> u64
+        ensures { result ≡ self.now.control.kept.number }
+    {
+        self.standing().number
+    }
+
+    /// The clients in the node's own count.
+    pub fn clients(&self) -> u64
+        ensures { result ≡ self.now.control.kept.clients }
+    {
+        self.standing().clients
+    }
+
+    /// The newest certificate of each node below, as far as the node knows.
+    pub fn table(&self) -> &Table
+        ensures nodes { result.now.nodes ≡ self.now.control.nodes }
+        ensures entries { result.now.entries ≡ self.now.control.kept.table }
+    {
+        self.durable.table()
+    }
+
+    /// The certificates for the parent.
+    pub fn log(&self) -> &ChangeLog
+        ensures nodes { result.now.nodes ≡ self.now.control.nodes }
+        ensures log { result.now.log ≡ self.now.control.kept.log }
+    {
+        self.durable.log()
+    }
+
+    /// The nodes above, nearest first, at most 1,000.
+    pub fn ancestors(&self) -> &[NodeId]
+        ensures { result.now ≡ self.now.control.kept.ancestors }
+    {
+        self.durable.ancestors()
+    }
+
+    /// The time in seconds, that of the last tick.
+    pub fn now(&self) -> u64
+        ensures { result ≡ self.now.control.soft.clock }
+    {
+        self.volatile.clock
+    }
+
+    /// The leased children, ascending, with the rates that they told last.
+    pub(crate) fn children(&self) -> Result<Vec<Child>, Memory>
+        ensures { IfOk result (λ made. made.items ≡ children self.now.control) }
+    {
+        children(
+            self.alloc,
+            self.durable.table().rows(),
+            self.id,
+            &self.rates,
+        )
+    }
+
+    /// The least leased child past a number whose lease has ended.
+    pub(crate) fn next_ended(&self, after: u32, now: u64) -> Option<NodeId>
+        ensures { result ≡ next_ended self.now.control.kept.table self.now.control.me self.now.control.leases after now }
+    {
+        self.leases
+            .next_ended(self.durable.table(), self.id, after, now)
+    }
+
+    /// The node to which a client of this area is sent, if there is one for it.
+    #[tactic(auto, using(crate::proofs::Servers::server_is_node))]
+    pub(crate) fn select(&self, area: u8) -> Option<NodeId>
+        ensures server { result ≡ selected self.now.control.kept.table self.now.control.me self.now.control.chain self.now.control.areas self.now.control.counts area }
+        ensures fits { IfSome result (λ node. IsNode self.now.control.nodes node) }
+    {
+        select(
+            self.durable.table(),
+            self.id,
+            self.chain,
+            &self.areas,
+            &self.counts,
+            area,
+        )
+    }
+
+    pub(crate) fn standing(&self) -> Standing
+        ensures standing { result ≡ standing_of self.now.control.kept }
+        ensures reached { IsReached self.now.control }
+    {
+        self.durable.standing()
+    }
+
+    pub(crate) fn volatile(&self) -> Volatile
+        ensures volatile { result ≡ volatile_of self.now.control.soft }
+        ensures clock { result.clock ≤ LAST_SECOND }
+    {
+        self.volatile
+    }
+
+    pub(crate) fn tries(&self) -> &Tries
+        ensures { result.now ≡ self.now.control.soft.tries }
+    {
+        &self.tries
+    }
+
+    pub(crate) fn alloc(&self) -> Global {
+        self.alloc
+    }
+}

@@ -1,0 +1,17 @@
+use oc_model::{Answer, Message};
+use std::marker::Model;
+
+/// What a step answers, and the messages that it sends. Contracts see them as a record with a list.
+#[derive(Debug, Drop)]
+pub struct Outcome {
+    pub answer: Answer,
+    pub sends: Vec<Message>,
+}
+
+impl Model for Outcome {
+    ghost use Rattle.oc_node.specs.OutcomeView.{OutcomeView};
+
+    ghost Value = { OutcomeView };
+
+    ghost view = { λ o. record { answer = o.answer; sends = o.sends.items } };
+}

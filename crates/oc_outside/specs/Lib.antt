@@ -8,3 +8,12 @@ pub mod Failing
 pub mod MemDiskView
 pub mod DiskLog
 pub mod DiskLogView
+pub mod Story
+pub mod Exchange
+pub mod LinkCalls
+pub mod LinkLoan
+pub mod ClockView
+pub mod Rows
+pub mod TalksView
+pub mod DialsView
+pub mod MemLinkView

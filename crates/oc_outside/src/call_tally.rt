@@ -1,4 +1,4 @@
-ghost use Rattle.std.specs.Prelude.{◌≡◌, OnOk, OnErr};
+ghost use Rattle.std.specs.Prelude.{◌≡◌, ◌⊎◌, true, false, OnOk, OnErr};
 ghost use Rattle.oc_outside.specs.Faults.{NoFall};
 ghost use Rattle.oc_outside.specs.Tally.{called, faulted, fresh, IsListed, Passes, Stops};
 
@@ -56,6 +56,15 @@ impl CallTally {
             return Err(Failed);
         }
         Ok(())
+    }
+
+    /// Counts a call, which fails where it is listed or cannot be done.
+    pub fn call_if(&mut self, can: bool) -> Result<(), Failed>
+        ensures passed { OnOk result ((can ≡ true) × ¬ IsListed self.old × (self.new ≡ called self.old)) }
+        ensures failed { OnErr result (((can ≡ false) ⊎ IsListed self.old) × (self.new ≡ faulted (called self.old))) }
+    {
+        self.call()?;
+        if can { Ok(()) } else { Err(self.fault()) }
     }
 
     /// Counts a fault of the call that was counted last.

@@ -27,26 +27,41 @@
 #![tactic(auto)]
 
 mod call_tally;
+mod clock;
+mod current;
+mod dials;
 mod disk;
 mod disk_log;
 mod failures;
 mod fault;
+mod fixed_clock;
 mod lent;
+mod link;
 mod mem_disk;
+mod mem_link;
 mod mem_sink;
 mod mem_source;
+mod outgoing;
 mod read_fault;
 mod reading;
+mod rows;
 mod sink;
 mod source;
+mod talks;
 mod writing;
 
+pub use clock::Clock;
+pub use current::Current;
 pub use disk::Disk;
 pub use fault::Failed;
+pub use fixed_clock::FixedClock;
 pub use lent::Lent;
+pub use link::{Arrival, Link};
 pub use mem_disk::MemDisk;
+pub use mem_link::MemLink;
 pub use mem_sink::MemSink;
 pub use mem_source::MemSource;
+pub use outgoing::Outgoing;
 pub use read_fault::ReadFault;
 pub use reading::read_all;
 pub use sink::Sink;

@@ -1,5 +1,5 @@
 -- What the groups of good frames are like, and what one more frame makes of them.
-use Rattle.std.proofs.Common.{◌≡◌, ℕ, suc, ◌+◌, ◌<◌, ◌≤◌, Bool, true, false, ◌&&◌, List, [], ◌∷◌, ◌++◌, length, Option, Some, None, Ordering, Less, Equal, Greater, nat_cmp, nat_lt, nat_le, is_some, fold, option_map, not, ◌||◌, ◌==◌, refl, sym, ap, subst, ◌∙◌, arith}
+use Rattle.std.proofs.Common.{◌≡◌, ℕ, suc, ◌+◌, ◌<◌, ◌≤◌, Bool, true, false, ◌&&◌, List, [], ◌∷◌, ◌++◌, length, take, drop, if◌then◌else◌, Option, Some, None, Ordering, Less, Equal, Greater, nat_cmp, nat_lt, nat_le, is_some, fold, option_map, not, ◌||◌, ◌==◌, refl, sym, ap, subst, ◌∙◌, arith}
 use Rattle.std.specs.Cmp.Lexicographic.{slice_cmp}
 use Rattle.std.specs.List.{AllByRecursion}
 use Rattle.std.proofs.lemmas.List.{length-append}
@@ -7,8 +7,10 @@ use Rattle.std.proofs.lemmas.Bool.{eqb-true, ltb-true, leb-true}
 use Rattle.oc_base.specs.declared.shelf.Shelf.{Shelf}
 use Rattle.oc_base.specs.declared.group.Group.{Group}
 use Rattle.oc_base.specs.Groups.{group_of, with_group, shelf, shelf_of}
-use Rattle.oc_base.specs.Shelves.{line_of, AreLinesAbove, AreLinesAscending}
-use Rattle.oc_content.specs.Entries.{Entry, entry_of}
+use Rattle.oc_base.specs.Shelves.{line_of, AreLines, AreLinesAbove, AreLinesAscending}
+use Rattle.oc_base.specs.Names.{IsGroupName, name_fault}
+use Rattle.oc_base.specs.declared.group_name.NameFault.{NameFault}
+use Rattle.oc_content.specs.Entries.{Entry, entry_of, fields, named}
 use Rattle.oc_content.specs.ContentFile.{fits, grown, with_entry, taken, more, content_of}
 use Rattle.oc_base.specs.declared.limits.TheConstants.{MAX_GROUPS, MAX_GROUP_BYTES}
 use Rattle.oc_content.proofs.Lists.{all_weaker}
@@ -87,8 +89,33 @@ length-with_group_same k (j ∷ js) up h = by_order (length-with_group_same k js
       let there : is_some (line_of k.name (shelf js)) ≡ true = rw e at h in
       rw e (ap suc (rest there))
 
--- what the groups of good frames are like: their names ascend, and they are within the limits
+-- what is said names a group, if anything is
+abbrev IsNamed : Option Entry → Type 0
+IsNamed None = Unit {0}
+IsNamed (Some e) = IsGroupName e.group
+
+-- a body names the group of what it says
+entry_of-named : (body : List ℕ) → IsNamed (entry_of body)
+entry_of-named [] = tt
+entry_of-named (b ∷ rest) = by_mark (b == 0) where
+  by_name : (seals : Bool) (name rest : List ℕ) (fault : Option NameFault) → name_fault name ≡ fault → IsNamed (named seals name rest)
+  by_name seals name rest None e = rw e e
+  by_name seals name rest (Some fault) e = rw e tt
+
+  by_fields : (seals : Bool) (text : List ℕ) → IsNamed (fields seals text)
+  by_fields seals [] = tt
+  by_fields seals (n ∷ text) = by_length (nat_lt (length text) (n + 8)) where
+    by_length : (short : Bool) → IsNamed (if short then None else named seals (take n text) (drop n text))
+    by_length true = tt
+    by_length false = by_name seals (take n text) (drop n text) (name_fault (take n text)) refl
+
+  by_mark : (sealed : Bool) → IsNamed (if sealed then fields true rest else fields false (b ∷ rest))
+  by_mark true = by_fields true rest
+  by_mark false = by_fields false (b ∷ rest)
+
+-- what the groups of good frames are like: they are named, their names ascend, and they are within the limits
 pub record IsGood (ks : List Group) : Type 0 where
+  pub named : AllByRecursion (λ s. IsGroupName s.group) (shelf ks)
   pub ascending : AreLinesAscending (shelf ks)
   pub few : length ks ≤ MAX_GROUPS
   pub short : AllByRecursion (λ s. s.held ≤ MAX_GROUP_BYTES) (shelf ks)
@@ -106,13 +133,14 @@ fits_held line groups start count seals h =
     (eqb-true start line.held some.0, leb-true (line.held + count) MAX_GROUP_BYTES some.2)
 
 -- what an entry leaves that fits
-pub with_entry-good : (e : Entry) (ks : List Group) → fits (line_of e.group (shelf ks)) (length ks) e.start (length e.bytes) e.seals ≡ true → IsGood ks → IsGood (with_entry e ks)
-with_entry-good e ks h good = by_found (group_of e.group ks) refl where
+pub with_entry-good : (e : Entry) (ks : List Group) → IsGroupName e.group → fits (line_of e.group (shelf ks)) (length ks) e.start (length e.bytes) e.seals ≡ true → IsGood ks → IsGood (with_entry e ks)
+with_entry-good e ks name h good = by_found (group_of e.group ks) refl where
   by_found : (found : Option Group) → group_of e.group ks ≡ found → IsGood (with_entry e ks)
   by_found None none =
       let absent : line_of e.group (shelf ks) ≡ None = line_of-shelf e.group ks ∙ ap (option_map shelf_of) none in
       let new = fits_new (length ks) e.start (length e.bytes) e.seals (rw absent at h) in
       rw none (record {
+        named = all-with_group (λ s. IsGroupName s.group) (fresh e) ks name good.named;
         ascending = ascending-with_group (fresh e) ks good.ascending;
         few = omega (arith, length-with_group (fresh e) ks, new.1);
         short = all-with_group (λ s. s.held ≤ MAX_GROUP_BYTES) (fresh e) ks new.2 good.short;
@@ -122,20 +150,21 @@ with_entry-good e ks h good = by_found (group_of e.group ks) refl where
       let held = fits_held (shelf_of k) (length ks) e.start (length e.bytes) e.seals (rw there at h) in
       let found : is_some (line_of e.group (shelf ks)) ≡ true = ap is_some there in
       rw some (record {
+        named = all-with_group (λ s. IsGroupName s.group) (grown e k) ks name good.named;
         ascending = ascending-with_group (grown e k) ks good.ascending;
         few = omega (arith, length-with_group_same (grown e k) ks good.ascending found, good.few);
         short = all-with_group (λ s. s.held ≤ MAX_GROUP_BYTES) (grown e k) ks (omega (arith, length-append k.bytes e.bytes, held.1)) good.short;
       })
 
 -- what a frame leaves that is taken
-taken-good : (said : Option Entry) (ks js : List Group) → taken ks said ≡ Some js → IsGood ks → IsGood js
-taken-good None ks js h good = absurd cc
-taken-good (Some e) ks js h good = by_test (fits (line_of e.group (shelf ks)) (length ks) e.start (length e.bytes) e.seals) refl where
+taken-good : (said : Option Entry) (ks js : List Group) → IsNamed said → taken ks said ≡ Some js → IsGood ks → IsGood js
+taken-good None ks js name h good = absurd cc
+taken-good (Some e) ks js name h good = by_test (fits (line_of e.group (shelf ks)) (length ks) e.start (length e.bytes) e.seals) refl where
   by_test : (b : Bool) → fits (line_of e.group (shelf ks)) (length ks) e.start (length e.bytes) e.seals ≡ b → IsGood js
   by_test true t =
       let some : Some (with_entry e ks) ≡ Some js = rw t at h in
       let same : with_entry e ks ≡ js = cc in
-      subst IsGood same (with_entry-good e ks t good)
+      subst IsGood same (with_entry-good e ks name t good)
   by_test false t =
       let none : None ≡ Some js = rw t at h in
       absurd cc
@@ -150,12 +179,19 @@ good_from [] ks js good h = let same : ks ≡ js = cc in subst IsGood same good
 good_from (b ∷ bodies) ks js good h = by_next (λ is g. good_from bodies is js g) (taken ks (entry_of b)) refl where
   by_next : ((is : List Group) → IsGood is → fold more (Some is) bodies ≡ Some js → IsGood js) → (next : Option (List Group)) → taken ks (entry_of b) ≡ next → IsGood js
   by_next rest None n = let none : None ≡ Some js = sym (fold-none bodies) ∙ rw n at h in absurd cc
-  by_next rest (Some is) n = rest is (taken-good (entry_of b) ks is n good) (rw n at h)
+  by_next rest (Some is) n = rest is (taken-good (entry_of b) ks is (entry_of-named b) n good) (rw n at h)
 
 -- the groups of good frames
 pub content_of-good : (bodies : List (List ℕ)) (groups : List Group) → content_of bodies ≡ Some groups → IsGood groups
 content_of-good bodies groups h =
-    good_from bodies [] groups (record { ascending = tt; few = omega arith; short = tt }) h
+    good_from bodies [] groups (record { named = tt; ascending = tt; few = omega arith; short = tt }) h
+
+-- their lines are those of a shelf
+pub lines_of_good : (ks : List Group) → IsGood ks → AreLines (shelf ks)
+lines_of_good ks good = by_lines (shelf ks) good.named good.short good.ascending where
+  by_lines : (ls : List Shelf) → AllByRecursion (λ s. IsGroupName s.group) ls → AllByRecursion (λ s. s.held ≤ MAX_GROUP_BYTES) ls → AreLinesAscending ls → AreLines ls
+  by_lines [] named short up = tt
+  by_lines (l ∷ ls) named short up = ((named.0, short.0), up.0, by_lines ls named.1 short.1 up.1)
 
 -- one frame more
 pub fold_push : {X Y : Type 0} (f : Y → X → Y) (a : Y) (xs : List X) (x : X) → fold f a (xs ++ x ∷ []) ≡ f (fold f a xs) x

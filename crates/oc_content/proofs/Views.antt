@@ -13,7 +13,7 @@ use Rattle.oc_content.specs.declared.index.Index.{Index}
 use Rattle.oc_content.specs.declared.track.Span.{Span}
 use Rattle.oc_content.specs.declared.track.Track.{Track}
 use Rattle.oc_content.specs.declared.spot.Spot.{Spot}
-use Rattle.oc_base.specs.Shelves.{IsLineAt, line_of, held_of, IsHeldAt}
+use Rattle.oc_base.specs.Shelves.{IsLineAt, line_of, held_of, IsHeldAt, IsShelf}
 use Rattle.oc_base.specs.declared.group.Group.{Group}
 use Rattle.oc_base.specs.Groups.{group_of, shelf, shelf_of, bytes_of, or_empty}
 use Rattle.oc_content.specs.Entries.{Entry, entry_of}
@@ -23,7 +23,7 @@ use Rattle.oc_content.specs.Founds.{IsRest, BeginsWithin, IsSpot}
 use Rattle.oc_content.specs.ContentView.{IsIndexed, IsOpened, parts}
 use Rattle.oc_content.proofs.Adding.{IsSized-good}
 use Rattle.oc_content.proofs.Lines.{line_of-shelf, length-shelf}
-use Rattle.oc_content.proofs.Meanings.{content_of-push}
+use Rattle.oc_content.proofs.Meanings.{content_of-good, content_of-push, lines_of_good}
 use Rattle.oc_content.specs.declared.errors.ReadError.{ReadError}
 use Rattle.oc_content.specs.declared.errors.ReadError.TheVariants.{NoGroup, Disk as ReadDisk}
 use Rattle.oc_content.proofs.Locating.{group_at, held_of-stands}
@@ -32,6 +32,12 @@ use Rattle.oc_content.proofs.Others.{with_entry-others}
 -- it is within the limits
 pub IsIndexed-sized : {D : Type 0} (view : D → DiskView) (j : JournalView D) (x : Index) → IsIndexed view j x → IsSized x
 IsIndexed-sized view j x is = IsSized-good is.bodies is.groups x (view j.disk).honest is.is
+
+-- its lines are a shelf
+pub IsIndexed-shelf : {D : Type 0} (view : D → DiskView) (j : JournalView D) (x : Index) → IsIndexed view j x → IsShelf x.shelves.items
+IsIndexed-shelf view j x is =
+    let good = content_of-good is.bodies is.groups is.is.content in
+    subst IsShelf (sym is.is.lines) (lines_of_good is.groups good, omega (arith, good.few, length-shelf is.groups))
 
 -- over an honest disk the frames are good, and the groups are these
 pub good_frames : {D : Type 0} (view : D → DiskView) (j : JournalView D) (x : Index) (is : IsIndexed view j x) → IsTrue (view j.disk).honest → content_of j.frames ≡ Some is.groups

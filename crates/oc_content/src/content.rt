@@ -1,6 +1,6 @@
 ghost use Rattle.std.specs.Prelude.{◌≡◌, ◌≢◌, ◌↔◌, ℕ, ◌+◌, ◌<◌, ◌≤◌, false, length, take, drop, All, None, Some, IsTrue, IsSome, IsOk, IsErrOf, IfNone, OnOk, IfOk, IfErr, IfSome};
 ghost use Rattle.oc_base.specs.Names.{IsGroupName};
-ghost use Rattle.oc_base.specs.Shelves.{held_of, IsHeldAt, AreLinesAscending};
+ghost use Rattle.oc_base.specs.Shelves.{held_of, IsHeldAt, IsShelf, AreLinesAscending};
 ghost use Rattle.oc_outside.specs.DiskView.{CannotFail, StaysAsItWas};
 ghost use Rattle.oc_outside.specs.MemDiskView.{disk_of};
 ghost use Rattle.oc_journal.specs.JournalFile.{frames_of, IsNoJournal};
@@ -69,6 +69,7 @@ impl<D: Disk> Content<D> {
     pub fn groups(&self) -> &[Shelf]
         ensures lines { result.now ≡ self.now.shelves }
         ensures ascending { AreLinesAscending self.now.shelves }
+        ensures shelf { IsShelf self.now.shelves }
         ensures few { length self.now.shelves ≤ MAX_GROUPS }
         ensures short { All (λ s. s.held ≤ MAX_GROUP_BYTES) self.now.shelves }
 

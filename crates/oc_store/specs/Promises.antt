@@ -4,6 +4,7 @@ use Rattle.oc_outside.specs.DiskView.{DiskView, Takes, Fails, FailsToRead, HasNo
 use Rattle.oc_journal.specs.JournalFile.{frames_of, IsNoJournal}
 use Rattle.oc_journal.specs.Promises.{LoadsSafely, OnlyReads, NoneFailed, Appends, ClosesByAppend}
 use Rattle.oc_model.specs.declared.record.Record.{Record}
+use Rattle.oc_model.specs.Lawful.{AreRecords}
 use Rattle.oc_store.specs.declared.errors.Side.TheVariants.{First, Second}
 use Rattle.oc_store.specs.declared.errors.SideError.{SideError}
 use Rattle.oc_store.specs.declared.errors.SideError.TheVariants as sides
@@ -40,8 +41,9 @@ pub record LoadBothSafely (a b a2 b2 : DiskView) : Type 0 where
   pub first : LoadsSafely a a2
   pub second : LoadsSafely b b2
 
--- the store of two disks and its records: those that what reads gave recovers, and every crash now leaves them
+-- the store of two disks and its records, all of them lawful: those that what reads gave recovers, and every crash now leaves them
 pub record IsStoreOf {D : Type 0} (view : D → DiskView) (nodes : ℕ) (first second : D) (store : StoreView D) (records : List Record) : Type 0 where
+  pub lawful : AreRecords nodes records
   pub records_are : IsTrue (view first).honest → IsTrue (view second).honest → records ≡ recovered nodes (view first).seen (view second).seen
   pub frames : IsTrue (view first).honest → IsTrue (view second).honest → store.current.frames ≡ recovered_frames (view first).seen (view second).seen
   pub side : IsTrue (view first).honest → IsTrue (view second).honest → store.side ≡ current_side (frames_of (view first).seen) (frames_of (view second).seen)

@@ -1,6 +1,7 @@
 ghost use Rattle.std.specs.Prelude.{◌≡◌, ℕ, ◌<◌, [], length, get_or, IsTrue, IsErr, IfOk, IfErr, OnOk};
 ghost use Rattle.oc_journal.specs.JournalFile.{frames_of};
 ghost use Rattle.oc_journal.specs.Promises.{IsLoaded, LoadsSafely, OnlyReads, NoneFailed, ClosesByRead};
+ghost use Rattle.oc_model.specs.Lawful.{AreRecords};
 ghost use Rattle.oc_record.specs.Reading.{decoded};
 ghost use Rattle.oc_store.specs.ControlFiles.{records_of, first_bad, generation_of};
 ghost use Rattle.oc_store.specs.Promises.{HasGood, RefusesFile};
@@ -37,6 +38,7 @@ pub fn load_file<D: Disk>(
     nodes: u32,
 ) -> Result<ControlFile<D>, (D, SideError)>
     ensures loaded { IfOk result (λ file. IsLoaded D.view disk file.journal) }
+    ensures lawful { IfOk result (λ file. AreRecords nodes file.contents.list.items) }
     ensures list { IfOk result (λ file. IsTrue (D.view disk).honest
         → file.contents.list.items ≡ records_of nodes (frames_of (D.view disk).seen)) }
     ensures generation { IfOk result (λ file. IsTrue (D.view disk).honest
@@ -59,6 +61,7 @@ pub fn load_file<D: Disk>(
 
 /// What the frames say.
 fn read<D: Disk>(alloc: Global, nodes: u32, journal: &mut Journal<D>) -> Result<Contents, SideError>
+    ensures lawful { IfOk result (λ contents. AreRecords nodes contents.list.items) }
     ensures list { IfOk result (λ contents. IsTrue (D.view journal.old.disk).honest
         → contents.list.items ≡ records_of nodes journal.old.frames) }
     ensures generation { IfOk result (λ contents. IsTrue (D.view journal.old.disk).honest
@@ -83,6 +86,7 @@ fn read_all<D: Disk>(
     nodes: u32,
     journal: &mut Journal<D>,
 ) -> Result<Vec<Record>, SideError>
+    ensures lawful { IfOk result (λ list. AreRecords nodes list.items) }
     ensures list { IfOk result (λ list. IsTrue (D.view journal.old.disk).honest
         → list.items ≡ records_of nodes journal.old.frames) }
     ensures good { OnOk result (IsTrue (D.view journal.old.disk).honest
@@ -110,6 +114,7 @@ fn read_frame<D: Disk>(
     number: u64,
 ) -> Result<Vec<Record>, SideError>
     requires { number < length journal.old.frames }
+    ensures lawful { IfOk result (λ list. AreRecords nodes list.items) }
     ensures list { IfOk result (λ list. IsTrue (D.view journal.old.disk).honest
         → decoded nodes (get_or journal.old.frames number []) ≡ Ok list.items) }
     ensures bad_frame { IfErr result (λ error. (bad : ℕ) → error ≡ SideBadFrame bad

@@ -1,6 +1,6 @@
-ghost use Rattle.std.specs.Prelude.{◌≡◌, ◌≢◌, ◌↔◌, ℕ, ◌+◌, ◌-◌, ◌^◌, ◌<◌, ◌≤◌, [], ◌∷◌, false, length, IsTrue, IsOk, IsErrOf, OnOk, IfOk, IfErr};
+ghost use Rattle.std.specs.Prelude.{◌≡◌, ◌≢◌, ◌↔◌, ℕ, List, ◌+◌, ◌-◌, ◌^◌, ◌<◌, ◌≤◌, [], ◌∷◌, false, length, IsTrue, IsOk, IsErrOf, OnOk, IfOk, IfErr};
 ghost use Rattle.oc_outside.specs.DiskView.{CannotFail};
-ghost use Rattle.oc_outside.specs.MemDiskView.{disk_of};
+ghost use Rattle.oc_outside.specs.MemDiskView.{disk_of, view_of};
 ghost use Rattle.oc_journal.specs.JournalView.{HasFrames};
 ghost use Rattle.oc_journal.specs.Promises.{HasRoom, IsFullFor};
 ghost use Rattle.oc_journal.specs.Stopped.{frames_after, CanStop};
@@ -103,6 +103,13 @@ impl<D: Disk> Store<D> {
         ensures { IsTrue result ↔ ((DUE_BYTES < self.now.current.end) × (self.now.generation < 2 ^ 64 - 1)) }
     {
         self.current.end() > DUE_BYTES && self.generation < u64::MAX
+    }
+
+    /// The offset in the current file where its frames end.
+    pub fn end(&self) -> u64
+        ensures { result ≡ self.now.current.end }
+    {
+        self.current.end()
     }
 
     /// Makes a frame of records, and reserves its room in the current file.
@@ -227,9 +234,12 @@ impl Store<MemDisk> {
         requires room { CanStop (length frame.now) self.current }
 
         // The frames of the current file are recovered, with the new one exactly after four calls, or after
-        // three with an image that opens the gate. All of that file is safe, and the other one is as it was.
+        // three with an image that opens the gate, and every crash leaves them. All of that file is safe, and
+        // the other one is as it was.
         ensures frames { recovered_frames result.0.bytes result.1.bytes
             ≡ frames_after calls image self.current.frames frame.now }
+        ensures kept { (a b : List ℕ) → (view_of result.0).may_leave a → (view_of result.1).may_leave b
+            → recovered_frames a b ≡ frames_after calls image self.current.frames frame.now }
         ensures current { at_side self.side result.0 result.1 ≡ disk_of (at_side self.side result.0 result.1).bytes }
         ensures other { at_side self.side result.1 result.0 ≡ self.other.disk }
     {

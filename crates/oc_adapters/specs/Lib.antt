@@ -1,0 +1,4 @@
+pub mod Counts
+pub mod Known
+pub mod Readers
+pub mod Writers

@@ -1,0 +1,8 @@
+/// What passed through an adapter. A count stays at its last value.
+#[derive(Clone, Copy, Debug, PartialEq, Eq)]
+pub struct Traffic {
+    /// How many bytes passed.
+    pub bytes: u64,
+    /// How many calls failed.
+    pub faults: u64,
+}

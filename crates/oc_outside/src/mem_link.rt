@@ -112,8 +112,9 @@ impl MemLink {
     /// Counts a fault on the current connection.
     fn talk_fails(&mut self) -> Failed
         ensures { self.new ≡ record self.old {
-            story = record self.old.story { current = option_map broken self.old.story.current };
-            faults = record self.old.faults { talking = counted self.old.faults.talking } } }
+          story = record self.old.story { current = option_map broken self.old.story.current };
+          faults = record self.old.faults { talking = counted self.old.faults.talking };
+        } }
     {
         self.arrivals.fail();
         self.talking = self.talking.saturating_add(1);
@@ -123,8 +124,9 @@ impl MemLink {
     /// Counts a fault on the outgoing connection.
     fn dial_call_fails(&mut self) -> Failed
         ensures { self.new ≡ record self.old {
-            story = record self.old.story { outgoing = option_map (through broken) self.old.story.outgoing };
-            faults = record self.old.faults { dialling = counted self.old.faults.dialling } } }
+          story = record self.old.story { outgoing = option_map (through broken) self.old.story.outgoing };
+          faults = record self.old.faults { dialling = counted self.old.faults.dialling };
+        } }
     {
         self.dials.fail();
         self.dialling = self.dialling.saturating_add(1);

@@ -52,7 +52,11 @@ impl Talks {
     /// written.
     pub fn new(alloc: Global, given: Vec<Vec<u8>>, room: usize) -> Result<Talks, AllocError>
         ensures { IfOk result (λ t. t ≡ record {
-            waiting = map (λ v. v.items) given.items; past = []; current = None; room = room }) }
+          waiting = map (λ v. v.items) given.items;
+          past = [];
+          current = None;
+          room = room;
+        }) }
     {
         let past = Vec::with_capacity(alloc, given.len())?;
         let written = Rows::new(alloc, room, given.len())?;
@@ -126,7 +130,9 @@ impl Talks {
         requires open { IsSome self.old.current }
         requires room { length bytes.now ≤ self.old.room }
         ensures { self.new ≡ record self.old {
-            current = option_map (wrote bytes.now) self.old.current; room = self.old.room - length bytes.now } }
+          current = option_map (wrote bytes.now) self.old.current;
+          room = self.old.room - length bytes.now;
+        } }
     {
         self.written.extend(bytes);
     }

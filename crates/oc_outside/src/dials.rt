@@ -2,7 +2,7 @@ ghost use Rattle.std.specs.Prelude.{◌≡◌, ◌+◌, ◌-◌, ◌^◌, ◌<�
 ghost use Rattle.std.specs.Option.{option_copied, option_map};
 ghost use Rattle.oc_outside.specs.DialsView.{DialsView, all_dials, over, with_failed};
 ghost use Rattle.oc_outside.specs.LinkCalls.{connection_of};
-ghost use Rattle.oc_outside.specs.Story.{Dial, broken, wrote, unused, through};
+ghost use Rattle.oc_outside.specs.Story.{broken, wrote, unused, through};
 ghost use Rattle.oc_outside.specs.TalksView.{further, left_of};
 ghost use Rattle.oc_outside.specs.Tally.{counted};
 

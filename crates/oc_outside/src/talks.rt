@@ -1,6 +1,6 @@
-ghost use Rattle.std.specs.Prelude.{◌≡◌, ℕ, ◌+◌, ◌-◌, ◌<◌, ◌≤◌, Option, None, Some, [], ◌++◌, not, ◌==◌, length, min, take, drop, map, IfOk, IfSome, IfNone, IsSome, is_some, slice_get, option_to_list};
+ghost use Rattle.std.specs.Prelude.{◌≡◌, ◌+◌, ◌-◌, ◌<◌, ◌≤◌, Option, None, Some, [], ◌++◌, not, ◌==◌, length, min, take, drop, map, IfOk, IsSome, is_some, slice_get, option_to_list};
 ghost use Rattle.std.specs.Option.{option_copied, option_map};
-ghost use Rattle.oc_outside.specs.Story.{broken, wrote, Connection};
+ghost use Rattle.oc_outside.specs.Story.{broken, wrote};
 ghost use Rattle.oc_outside.specs.TalksView.{TalksView, ended, begun, further, left_of};
 
 use crate::rows::Rows;
@@ -29,7 +29,7 @@ pub struct Talks {
 }
 
 impl Model for Talks {
-    ghost use Rattle.std.specs.Prelude.{◌≡◌, ◌≤◌, ◌+◌, length, map, drop, vec_len, vec_capacity};
+    ghost use Rattle.std.specs.Prelude.{◌≡◌, ◌≤◌, ◌+◌, length, map, drop, vec_capacity};
     ghost use Rattle.oc_outside.specs.TalksView.{TalksView, connections, count_of, current_of, IsWithinBytes, at};
 
     ghost Value = { TalksView };

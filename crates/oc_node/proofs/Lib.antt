@@ -13,6 +13,7 @@ pub mod ByMode
 pub mod Servers
 pub mod ShelfLines
 pub mod Plans
+pub mod Filling
 pub mod Folding
 pub mod Touching
 pub mod Snapshotting

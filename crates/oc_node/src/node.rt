@@ -8,7 +8,7 @@ ghost use Rattle.oc_model.specs.Lawful.{AreRecords, IsHeader, IsInput};
 ghost use Rattle.oc_model.specs.Records.{folded};
 ghost use Rattle.oc_model.specs.Snapshot.{snapshot};
 ghost use Rattle.oc_model.specs.Step.{plan, step};
-ghost use Rattle.oc_node.specs.Applying.{CanApply, IsStepOf};
+ghost use Rattle.oc_node.specs.Applying.{CanApply, HasParts, IsPlanOf, IsStepOf};
 ghost use Rattle.oc_node.specs.Planned.{IsWanting, control_after, planned};
 ghost use Rattle.oc_node.specs.Touched.{IsTouch};
 ghost use Rattle.oc_base.specs.Lawful.{IsCount, IsNode};
@@ -126,8 +126,9 @@ impl Node {
     /// The plan of the step that this input makes, with the shelf of the groups that the node holds. It
     /// takes all memory of the step, and changes nothing but how much room there is.
     ///
-    /// It is the control step of the model. What it writes fits one frame, and gives what is durable after
-    /// the step. It writes records or keeps content, never both.
+    /// It is the control step of the model, and once it has the bytes that it wants it is the whole step.
+    /// What it writes fits one frame, and gives what is durable after the step. It writes records or keeps
+    /// content, never both.
     pub fn plan(&mut self, input: &Input, shelf: &[Shelf]) -> Result<Plan, Memory>
         requires input { IsInput self.old.control.nodes self.old.control.me input.now }
         requires shelf { IsShelf shelf.now }
@@ -138,6 +139,8 @@ impl Node {
         ensures frame { IfOk result (λ made. FitsFrame made.records) }
         ensures one_file { IfOk result (λ made. (made.keeps ≡ None) ⊎ (made.records ≡ [])) }
         ensures wants { IfOk result (λ made. (w : Want) → made.wants ≡ Some w → IsWanting made w.count) }
+        ensures whole { IfOk result (λ made. (n : Whole) → HasParts n self.old.control shelf.now → IsPlanOf n input.now made) }
+        ensures step { IfOk result (λ made. (n : Whole) → HasParts n self.old.control shelf.now → made.wants ≡ None → IsStepOf n input.now made) }
         ensures node { self.new.control ≡ self.old.control }
     {
         folding_is_stepping();

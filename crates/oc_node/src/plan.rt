@@ -1,5 +1,9 @@
 ghost use Rattle.std.specs.Prelude.{◌≡◌, ◌≤◌, ◌+◌, ◌∷◌, ◌++◌, Some, [], length, OnOk, OnErr, IfSome, IfNone, drop, unwrap_or};
-ghost use Rattle.oc_model.specs.Step.{fill};
+ghost use Rattle.oc_model.specs.declared.input.Input.{Input};
+ghost use Rattle.oc_model.specs.declared.want.Want.{Want};
+ghost use Rattle.oc_model.specs.Node.{Node};
+ghost use Rattle.oc_model.specs.Step.{bytes_wanted, fill};
+ghost use Rattle.oc_node.specs.Applying.{IsPlanOf, IsStepOf};
 ghost use Rattle.oc_node.specs.Planned.{empty_plan, IsWanting, filled_with};
 ghost use Rattle.oc_node.specs.Tries.{first_of};
 
@@ -206,7 +210,8 @@ impl Plan {
     /// Puts the bytes that the step wants into its chunk. Takes no memory.
     pub fn fill(&mut self, bytes: &[u8])
         requires { IsWanting self.old (length bytes.now) }
-        ensures { self.new ≡ filled_with bytes.now self.old }
+        ensures fills { self.new ≡ filled_with bytes.now self.old }
+        ensures step { (n : Node) (i : Input) (w : Want) → IsPlanOf n i self.old → self.old.wants ≡ Some w → bytes.now ≡ bytes_wanted n.groups w → IsStepOf n i self.new }
     {
         let empty = Vec::new(*self.buffer.allocator());
         let mut buffer = mem::replace(&mut self.buffer, empty);

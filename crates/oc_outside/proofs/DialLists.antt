@@ -1,5 +1,5 @@
 -- Dials in memory, one behind another.
-use Rattle.std.proofs.Common.{◌≡◌, ℕ, ◌+◌, ◌-◌, ◌<◌, ◌≤◌, zero, suc, Option, None, Some, List, [], ◌∷◌, ◌++◌, length, take, drop, refl, sym, ap, subst, ◌∙◌, arith, length-append, get_or, replicate, add-one, length-drop}
+use Rattle.std.proofs.Common.{◌≡◌, ℕ, ◌+◌, ◌-◌, ◌<◌, ◌≤◌, zero, suc, Option, None, Some, List, [], ◌∷◌, ◌++◌, length, drop, refl, sym, ap, ◌∙◌, arith, length-append, replicate, add-one, length-drop}
 use Rattle.std.proofs.lemmas.List.{append-nil, append_assoc, length-replicate}
 use Rattle.std.proofs.lemmas.Option.{slice_get_past}
 use Rattle.std.specs.List.{slice_get}
@@ -7,7 +7,7 @@ use Rattle.std.specs.Option.{option_map, option_to_list}
 use Rattle.oc_outside.specs.DialsView.{DialsView, dials_of, nowhere, outgoing_of, all_dials, over}
 use Rattle.oc_outside.specs.LinkCalls.{connection_of}
 use Rattle.oc_outside.specs.Rows.{grown}
-use Rattle.oc_outside.specs.Story.{Connection, Dial, unused, broken, wrote, through}
+use Rattle.oc_outside.specs.Story.{Connection, Dial, unused, wrote, through}
 use Rattle.oc_outside.specs.TalksView.{TalksView, at, ended, begun, further}
 use Rattle.oc_outside.proofs.TalkLists.{at-grown, at-push, length-grown}
 
@@ -56,8 +56,8 @@ over-past past (Some c) rows (suc refused) full none = absurd (omega (arith, non
 pub over_view : (talks next : TalksView) (rows : List (List ℕ)) (refused room : ℕ) (old : DialsView) → next ≡ ended talks → length rows ≡ length talks.past + length (option_to_list talks.current) → (0 < refused → length talks.waiting + length (option_to_list talks.current) ≡ 0) → view talks rows refused room ≡ old → view next rows refused room ≡ over old
 over_view talks next rows refused room old is full none same =
     let now : view (ended talks) rows refused room ≡ over (view talks rows refused room) =
-        ap (λ (past : List Dial). record { replies = talks.waiting; past = past; outgoing = None; refused = refused; room = room })
-        (over-past talks.past talks.current rows refused full (λ some. omega (arith, none some))) in
+    ap (λ (past : List Dial). record { replies = talks.waiting; past = past; outgoing = None; refused = refused; room = room })
+    (over-past talks.past talks.current rows refused full (λ some. omega (arith, none some))) in
     ap (λ (t : TalksView). view t rows refused room) is ∙ now ∙ ap over same
 
 -- the address of a new dial
@@ -77,7 +77,7 @@ begin_view talks rows refused room kept other address bytes old full none same =
     let past = talks.past ++ option_to_list talks.current in
     let as_many : length rows ≡ length (talks.past ++ option_to_list talks.current) = omega (arith, length-append talks.past (option_to_list talks.current), full) in
     let now : view (begun_with talks bytes other) (grown (rows ++ [] ∷ []) address) refused (room - kept) ≡ record (over (view talks rows refused room)) { replies = drop 1 talks.waiting; outgoing = Some (record { address = address; connection = wrote bytes (unused (at talks.waiting 0)) }); room = room - kept } =
-        rw (old-dials (talks.past ++ option_to_list talks.current) rows address as_many, new-address rows (length (talks.past ++ option_to_list talks.current)) address as_many, over-past talks.past talks.current rows refused full (λ some. omega (arith, none some))) refl in
+    rw (old-dials (talks.past ++ option_to_list talks.current) rows address as_many, new-address rows (length (talks.past ++ option_to_list talks.current)) address as_many, over-past talks.past talks.current rows refused full (λ some. omega (arith, none some))) refl in
     now ∙ ap (λ (v : DialsView). record (over v) { replies = drop 1 v.replies; outgoing = Some (record { address = address; connection = wrote bytes (unused (at v.replies 0)) }); room = v.room - kept }) same
 
 -- one refused dial more

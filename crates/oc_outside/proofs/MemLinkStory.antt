@@ -7,7 +7,7 @@ use Rattle.oc_outside.specs.DialsView.{cut_dial}
 use Rattle.oc_outside.specs.Exchange.{Hears, SaysFrontThenBreaks, Says-nothing}
 use Rattle.oc_outside.specs.LinkCalls.{Told, OnCurrent, OnOutgoing, TakesNext, DialsTo, DialFails, connection_of, address_of}
 use Rattle.oc_outside.specs.MemLinkView.{MemLinkView, CountsDials, told, took_next, after_read, after_dial, after_dial_read, dial_failed, dial_call_failed}
-use Rattle.oc_outside.specs.Story.{Connection, Dial, Story, unused, broken, through}
+use Rattle.oc_outside.specs.Story.{Connection, Dial, Story, broken, through}
 use Rattle.oc_outside.specs.TalksView.{at, further, left_of}
 
 -- from a story that is told to one that is told
@@ -88,6 +88,7 @@ dial_more_breaks bytes v w is grows =
   where
     nothing_said : (o : Option Connection) → SaysFrontThenBreaks bytes o (option_map broken o)
     nothing_said o = ([], bytes, refl, (o, Says-nothing o, refl))
+
     broke : (s : Story) → OnOutgoing (SaysFrontThenBreaks bytes) s (record s { outgoing = option_map (through broken) s.outgoing })
     broke s = record {
       outgoing = rw (through-connection broken s.outgoing) (nothing_said (connection_of s.outgoing));

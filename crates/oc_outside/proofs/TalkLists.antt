@@ -1,12 +1,11 @@
 -- Connections in memory, one behind another.
-use Rattle.std.proofs.Common.{◌≡◌, ℕ, ◌+◌, ◌-◌, ◌<◌, ◌≤◌, zero, suc, Option, None, Some, List, [], ◌∷◌, ◌++◌, length, take, drop, refl, sym, ap, subst, ◌∙◌, arith, length-append, get_or, Bool, true, false}
+use Rattle.std.proofs.Common.{◌≡◌, ℕ, ◌+◌, ◌-◌, ◌<◌, ◌≤◌, zero, suc, Option, None, Some, List, [], ◌∷◌, ◌++◌, length, drop, refl, sym, ap, subst, ◌∙◌, arith, length-append, false}
 use Rattle.std.proofs.Math.Seq.{take-add}
 use Rattle.std.proofs.lemmas.List.{drop-drop, get_or-drop}
-use native.Mathlib.Numerals.{unary_clauses}
 use Rattle.std.specs.List.{slice_get}
 use Rattle.std.specs.Option.{option_map, option_to_list, IsSome}
 use Rattle.oc_outside.specs.Rows.{grown}
-use Rattle.oc_outside.specs.Story.{Connection, unused, broken, wrote}
+use Rattle.oc_outside.specs.Story.{Connection, unused, wrote}
 use Rattle.oc_outside.specs.TalksView.{TalksView, connection_of, connections, count_of, at, current_of, ended, begun, further}
 use Rattle.oc_outside.specs.declared.talks.Talk.{Talk}
 
@@ -68,7 +67,7 @@ pub ended_view : (given : List (List ℕ)) (past next : List Talk) (current : Op
 ended_view given past next current rows talk room old some_given some_rows is there same =
     let one : length (past ++ talk ∷ []) + 0 ≡ length past + 1 = omega (arith, length-append past (talk ∷ [])) in
     let now : view given (past ++ talk ∷ []) None rows room ≡ ended (view given past (Some talk) rows room) =
-        rw (one, connections-push past given rows talk some_given some_rows) refl in
+    rw (one, connections-push past given rows talk some_given some_rows) refl in
     ap (λ (xs : List Talk). view given xs None rows room) is ∙ now ∙ ap (λ (o : Option Talk). ended (view given past o rows room)) (sym there) ∙ ap ended same
 
 fresh_talk : (bytes row : List ℕ) → row ≡ [] → connection_of bytes (record { read = 0; failed = false }) row ≡ unused bytes
@@ -80,11 +79,11 @@ begun_view given past (Some talk) rows next room mid old is full same grows = le
 begun_view given past None rows next room mid old is full same grows =
     let before = same ∙ is in
     let first : connection_of (at given (length past)) (record { read = 0; failed = false }) (at (rows ++ [] ∷ []) (length past)) ≡ unused (at given (length past)) =
-        fresh_talk (at given (length past)) (at (rows ++ [] ∷ []) (length past)) (at-push rows (length past) (omega (arith, full))) in
+    fresh_talk (at given (length past)) (at (rows ++ [] ∷ []) (length past)) (at-push rows (length past) (omega (arith, full))) in
     let one : length past + 0 + 1 ≡ length past + 1 = omega arith in
     let none : length past + 0 + 0 ≡ length past = omega arith in
     let now : view given past (Some (record { read = 0; failed = false })) (rows ++ [] ∷ []) room ≡ record (view given past None rows room) { waiting = drop 1 (drop (length past + 0) given); current = Some (unused (at (drop (length past + 0) given) 0)) } =
-        rw (drop-drop 1 (length past + 0) given, get_or-drop (length past + 0) given 0 [], one, none, connections-more past given rows ([] ∷ []) (omega (arith, full)), first) refl in
+    rw (drop-drop 1 (length past + 0) given, get_or-drop (length past + 0) given 0 [], one, none, connections-more past given rows ([] ∷ []) (omega (arith, full)), first) refl in
     ap (λ (r : List (List ℕ)). view given past (Some (record { read = 0; failed = false })) r room) grows
     ∙ now ∙ ap (λ (v : TalksView). record v { waiting = drop 1 v.waiting; current = Some (unused (at v.waiting 0)) }) before
 
@@ -97,7 +96,7 @@ pub written_view : (given : List (List ℕ)) (past : List Talk) (current : Optio
 written_view given past None rows room more old full there same = let none = subst (λ (v : TalksView). IsSome v.current) (sym same) there in absurd (cc none)
 written_view given past (Some talk) rows room more old full there same =
     let now : view given past (Some talk) (grown rows more) (room - length more) ≡ record (view given past (Some talk) rows room) { current = Some (wrote more (connection_of (at given (length past)) talk (at rows (length past)))); room = room - length more } =
-        rw (connections-grown past given rows more (omega (arith, full)), at-grown rows (length past) more full) refl in
+    rw (connections-grown past given rows more (omega (arith, full)), at-grown rows (length past) more full) refl in
     now ∙ ap (λ (v : TalksView). record v { current = option_map (wrote more) v.current; room = v.room - length more }) same
 
 pub length-grown : (rows : List (List ℕ)) (more : List ℕ) → length (grown rows more) ≡ length rows

@@ -1,7 +1,7 @@
 -- Dials in memory, one behind another, of which one may be outgoing.
-use Rattle.std.specs.Prelude.{ℕ, ◌+◌, Option, None, Some, option_to_list, List, [], ◌∷◌, ◌++◌, length, drop, replicate}
+use Rattle.std.specs.Prelude.{ℕ, Option, None, option_to_list, List, [], ◌∷◌, ◌++◌, drop}
 use Rattle.std.specs.Option.{option_map}
-use Rattle.oc_outside.specs.Story.{Connection, Dial, unused, broken, wrote}
+use Rattle.oc_outside.specs.Story.{Connection, Dial, unused, broken}
 use Rattle.oc_outside.specs.TalksView.{at}
 
 -- the replies of the dials to come, the dials that ended, the outgoing one, how many were refused since no reply was left, and the bytes that can still be written

@@ -1,10 +1,9 @@
 -- A link that is lent: what a view of one of its connections does to it.
-use Rattle.std.specs.Prelude.{◌≡◌, ℕ, ◌≤◌, Option, None, Some, List, [], ◌++◌, refl}
-use Rattle.std.specs.Option.{option_map}
+use Rattle.std.specs.Prelude.{◌≡◌, ℕ, Option, None, Some, List, [], ◌++◌, refl}
 use Rattle.std.proofs.Common.{◌∙◌, ap, arith}
 use Rattle.oc_outside.specs.Exchange.{Hears, HearsThenBreaks, Says, SaysThenBreaks, Hears-nothing, Hears-then, Hears-breaks, Says-nothing, Says-then, Says-breaks}
-use Rattle.oc_outside.specs.LinkCalls.{LinkFaults, CountsTalking, CountsDialling, Told, OnCurrent, OnOutgoing, connection_of, address_of}
-use Rattle.oc_outside.specs.Story.{Connection, Dial, Story}
+use Rattle.oc_outside.specs.LinkCalls.{LinkFaults, CountsTalking, CountsDialling, Told, OnCurrent, OnOutgoing, connection_of}
+use Rattle.oc_outside.specs.Story.{Connection, Story}
 
 -- a lent link: the name of the loan, and what is known of the link
 pub record LoanView : Type 0 where

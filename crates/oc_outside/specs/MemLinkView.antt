@@ -1,5 +1,5 @@
 -- A link in memory: its story, the replies of the dials to come, its room and its calls.
-use Rattle.std.specs.Prelude.{◌≡◌, ℕ, ◌+◌, ◌-◌, ◌^◌, ◌<◌, nat_lt, if◌then◌else◌, Option, None, Some, Result, Ok, Err, List, [], ◌∷◌, ◌++◌, length, take, drop}
+use Rattle.std.specs.Prelude.{ℕ, ◌+◌, ◌-◌, ◌^◌, ◌<◌, nat_lt, if◌then◌else◌, Option, None, Some, List, [], ◌∷◌, ◌++◌, length, drop}
 use Rattle.std.specs.Option.{option_map}
 use Rattle.oc_outside.specs.DialsView.{cut_dial}
 use Rattle.oc_outside.specs.LinkCalls.{LinkFaults}

@@ -1,5 +1,5 @@
 -- Byte strings one behind another in one buffer.
-use Rattle.std.specs.Prelude.{ℕ, ◌+◌, ◌-◌, ◌≤◌, List, [], ◌∷◌, ◌++◌, length, take, drop}
+use Rattle.std.specs.Prelude.{ℕ, ◌≤◌, List, [], ◌∷◌, ◌++◌, take, drop}
 
 -- the strings, the bytes and the strings for which there is room
 pub record RowsView : Type 0 where

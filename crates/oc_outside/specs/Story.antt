@@ -1,5 +1,5 @@
 -- What goes through a link: the connections that wait, those that were taken, and the dials.
-use Rattle.std.specs.Prelude.{◌≡◌, ℕ, Bool, true, false, Option, None, Some, option_to_list, List, [], ◌∷◌, ◌++◌, IfSome}
+use Rattle.std.specs.Prelude.{◌≡◌, ℕ, Bool, true, false, Option, None, option_to_list, List, [], ◌++◌, IfSome}
 
 -- a connection
 pub record Connection : Type 0 where

@@ -1,7 +1,7 @@
 -- Connections in memory, one behind another, of which one may be current.
-use Rattle.std.specs.Prelude.{ℕ, ◌+◌, ◌≤◌, Bool, true, false, Option, None, Some, option_to_list, List, [], ◌∷◌, ◌++◌, length, take, drop, map, slice_index_or}
+use Rattle.std.specs.Prelude.{ℕ, ◌≤◌, Option, None, Some, option_to_list, List, [], ◌∷◌, ◌++◌, length, take, drop, slice_index_or}
 use Rattle.std.specs.Option.{option_map}
-use Rattle.oc_outside.specs.Story.{Connection, unused, broken, wrote}
+use Rattle.oc_outside.specs.Story.{Connection, unused}
 use Rattle.oc_outside.specs.declared.talks.Talk.{Talk}
 
 -- the bytes of the connections that wait, the connections that ended, the current one, and the bytes that can still be written

@@ -1,7 +1,7 @@
 ghost use Rattle.std.specs.Prelude.{◌≡◌};
 ghost use Rattle.oc_outside.specs.Exchange.{Hears, HearsThenBreaks, Says, SaysThenBreaks};
 ghost use Rattle.oc_outside.specs.LinkCalls.{IfTold};
-ghost use Rattle.oc_outside.specs.LinkLoan.{LoanView, Talks, Talks-hears-nothing, Talks-hears-then, Talks-hears-fails, Talks-says-nothing, Talks-says-then, Talks-says-fails};
+ghost use Rattle.oc_outside.specs.LinkLoan.{Talks, Talks-hears-nothing, Talks-hears-then, Talks-hears-fails, Talks-says-nothing, Talks-says-then, Talks-says-fails};
 ghost use Rattle.oc_outside.specs.Story.{IsReadOut};
 
 use crate::fault::Failed;

@@ -2,7 +2,7 @@ ghost use Rattle.std.specs.Prelude.{◌≡◌, ◌+◌, ◌-◌, ◌^◌, ◌<�
 ghost use Rattle.std.specs.Option.{option_copied, option_map};
 ghost use Rattle.oc_outside.specs.DialsView.{DialsView, all_dials, over, with_failed};
 ghost use Rattle.oc_outside.specs.LinkCalls.{connection_of};
-ghost use Rattle.oc_outside.specs.Story.{Dial, broken, wrote, unused, through};
+ghost use Rattle.oc_outside.specs.Story.{broken, wrote, unused, through};
 ghost use Rattle.oc_outside.specs.TalksView.{further, left_of};
 ghost use Rattle.oc_outside.specs.Tally.{counted};
 
@@ -48,7 +48,12 @@ impl Dials {
     /// No dial yet, these replies, and room for this many bytes.
     pub fn new(alloc: Global, replies: Vec<Vec<u8>>, room: usize) -> Result<Dials, AllocError>
         ensures { IfOk result (λ d. d ≡ record {
-            replies = map (λ v. v.items) replies.items; past = []; outgoing = None; refused = 0; room = room }) }
+          replies = map (λ v. v.items) replies.items;
+          past = [];
+          outgoing = None;
+          refused = 0;
+          room = room;
+        }) }
     {
         let addresses = Rows::new(alloc, room, replies.len())?;
         let talks = Talks::new(alloc, replies, room)?;
@@ -86,10 +91,13 @@ impl Dials {
         requires reply { 0 < length self.old.replies }
         requires room { length address.now + length bytes.now ≤ self.old.room }
         ensures { self.new ≡ record (over self.old) {
-            replies = drop 1 self.old.replies;
-            outgoing = Some (record { address = address.now;
-                connection = wrote bytes.now (unused (slice_index_or self.old.replies 0 [])) });
-            room = self.old.room - (length address.now + length bytes.now) } }
+          replies = drop 1 self.old.replies;
+          outgoing = Some (record {
+            address = address.now;
+            connection = wrote bytes.now (unused (slice_index_or self.old.replies 0 []));
+          });
+          room = self.old.room - (length address.now + length bytes.now);
+        } }
     {
         self.talks.next();
         self.addresses.begin();
@@ -131,7 +139,9 @@ impl Dials {
         requires open { IsSome self.old.outgoing }
         requires room { length bytes.now ≤ self.old.room }
         ensures { self.new ≡ record self.old {
-            outgoing = option_map (through (wrote bytes.now)) self.old.outgoing; room = self.old.room - length bytes.now } }
+          outgoing = option_map (through (wrote bytes.now)) self.old.outgoing;
+          room = self.old.room - length bytes.now;
+        } }
     {
         self.talks.write(bytes);
         self.room -= bytes.len();

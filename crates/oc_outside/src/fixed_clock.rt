@@ -67,13 +67,13 @@ struct Numbers {
 }
 
 impl Model for Numbers {
-    ghost use Rattle.std.specs.Prelude.{ℕ, ◌<◌, List, Option, drop, vec_len};
+    ghost use Rattle.std.specs.Prelude.{ℕ, ◌≤◌, List, Option, drop, vec_len};
 
     ghost Value = { List ℕ × Option ℕ };
 
     ghost view = { λ s. (drop s.at s.all.items, s.last) };
 
-    ghost invariant = { λ s. 0 < vec_len s.all → s.at < vec_len s.all };
+    ghost invariant = { λ s. s.at ≤ vec_len s.all };
 }
 
 impl Numbers {

@@ -1,10 +1,10 @@
-ghost use Rattle.std.specs.Prelude.{◌≡◌, ℕ, ◌+◌, ◌-◌, ◌<◌, ◌≤◌, ◌⊎◌, ◌↔◌, [], Option, None, Some, Ok, length, min, take, map, IfOk, OnOk, OnErr, IsTrue, IsErrOf, slice_get};
+ghost use Rattle.std.specs.Prelude.{◌≡◌, ◌+◌, ◌-◌, ◌<◌, ◌≤◌, ◌⊎◌, ◌↔◌, [], Option, None, Ok, length, min, take, map, IfOk, OnOk, OnErr, IsTrue, slice_get};
 ghost use Rattle.std.specs.Option.{option_copied, option_map};
 ghost use Rattle.oc_outside.specs.Exchange.{Hears, Says, Breaks, SaysFrontThenBreaks};
 ghost use Rattle.oc_outside.specs.Faults.{Rose};
 ghost use Rattle.oc_outside.specs.LinkCalls.{CountsListening, CountsTalking, CountsDialling, Told, IfTold, NextGives, OnCurrent, OnOutgoing, DialsTo, DialFails, connection_of};
 ghost use Rattle.oc_outside.specs.MemLinkView.{MemLinkView, CountsDials, link_of, told, passed, listen_failed, talk_failed, dial_call_failed, dial_failed, took_next, after_read, after_write, after_dial, after_dial_more, after_dial_read};
-ghost use Rattle.oc_outside.specs.Story.{Story, broken, through, closed, hung_up, taken, dials, IsReadOut, IsHeardOut};
+ghost use Rattle.oc_outside.specs.Story.{broken, through, closed, hung_up, taken, dials, IsReadOut, IsHeardOut};
 ghost use Rattle.oc_outside.specs.TalksView.{left_of};
 ghost use Rattle.oc_outside.specs.Tally.{counted, IsListed};
 ghost use Rattle.oc_outside.specs.declared.link.Arrival.TheVariants.{Conn, Quiet};
@@ -112,8 +112,9 @@ impl MemLink {
     /// Counts a fault on the current connection.
     fn talk_fails(&mut self) -> Failed
         ensures { self.new ≡ record self.old {
-            story = record self.old.story { current = option_map broken self.old.story.current };
-            faults = record self.old.faults { talking = counted self.old.faults.talking } } }
+          story = record self.old.story { current = option_map broken self.old.story.current };
+          faults = record self.old.faults { talking = counted self.old.faults.talking };
+        } }
     {
         self.arrivals.fail();
         self.talking = self.talking.saturating_add(1);
@@ -123,8 +124,9 @@ impl MemLink {
     /// Counts a fault on the outgoing connection.
     fn dial_call_fails(&mut self) -> Failed
         ensures { self.new ≡ record self.old {
-            story = record self.old.story { outgoing = option_map (through broken) self.old.story.outgoing };
-            faults = record self.old.faults { dialling = counted self.old.faults.dialling } } }
+          story = record self.old.story { outgoing = option_map (through broken) self.old.story.outgoing };
+          faults = record self.old.faults { dialling = counted self.old.faults.dialling };
+        } }
     {
         self.dials.fail();
         self.dialling = self.dialling.saturating_add(1);

@@ -1,7 +1,7 @@
 ghost use Rattle.std.specs.Prelude.{◌≡◌};
 ghost use Rattle.oc_outside.specs.Exchange.{Hears, HearsThenBreaks};
 ghost use Rattle.oc_outside.specs.LinkCalls.{IfTold};
-ghost use Rattle.oc_outside.specs.LinkLoan.{LoanView, Dials, Dials-hears-nothing, Dials-hears-then, Dials-hears-fails};
+ghost use Rattle.oc_outside.specs.LinkLoan.{Dials, Dials-hears-nothing, Dials-hears-then, Dials-hears-fails};
 ghost use Rattle.oc_outside.specs.Story.{IsHeardOut};
 
 use crate::fault::Failed;

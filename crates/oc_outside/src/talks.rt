@@ -1,6 +1,6 @@
-ghost use Rattle.std.specs.Prelude.{◌≡◌, ℕ, ◌+◌, ◌-◌, ◌<◌, ◌≤◌, Option, None, Some, [], ◌++◌, not, ◌==◌, length, min, take, drop, map, IfOk, IfSome, IfNone, IsSome, is_some, slice_get, option_to_list};
+ghost use Rattle.std.specs.Prelude.{◌≡◌, ◌+◌, ◌-◌, ◌<◌, ◌≤◌, Option, None, Some, [], ◌++◌, not, ◌==◌, length, min, take, drop, map, IfOk, IsSome, is_some, slice_get, option_to_list};
 ghost use Rattle.std.specs.Option.{option_copied, option_map};
-ghost use Rattle.oc_outside.specs.Story.{broken, wrote, Connection};
+ghost use Rattle.oc_outside.specs.Story.{broken, wrote};
 ghost use Rattle.oc_outside.specs.TalksView.{TalksView, ended, begun, further, left_of};
 
 use crate::rows::Rows;
@@ -29,7 +29,7 @@ pub struct Talks {
 }
 
 impl Model for Talks {
-    ghost use Rattle.std.specs.Prelude.{◌≡◌, ◌≤◌, ◌+◌, length, map, drop, vec_len, vec_capacity};
+    ghost use Rattle.std.specs.Prelude.{◌≡◌, ◌≤◌, ◌+◌, length, map, drop, vec_capacity};
     ghost use Rattle.oc_outside.specs.TalksView.{TalksView, connections, count_of, current_of, IsWithinBytes, at};
 
     ghost Value = { TalksView };
@@ -52,7 +52,11 @@ impl Talks {
     /// written.
     pub fn new(alloc: Global, given: Vec<Vec<u8>>, room: usize) -> Result<Talks, AllocError>
         ensures { IfOk result (λ t. t ≡ record {
-            waiting = map (λ v. v.items) given.items; past = []; current = None; room = room }) }
+          waiting = map (λ v. v.items) given.items;
+          past = [];
+          current = None;
+          room = room;
+        }) }
     {
         let past = Vec::with_capacity(alloc, given.len())?;
         let written = Rows::new(alloc, room, given.len())?;
@@ -126,7 +130,9 @@ impl Talks {
         requires open { IsSome self.old.current }
         requires room { length bytes.now ≤ self.old.room }
         ensures { self.new ≡ record self.old {
-            current = option_map (wrote bytes.now) self.old.current; room = self.old.room - length bytes.now } }
+          current = option_map (wrote bytes.now) self.old.current;
+          room = self.old.room - length bytes.now;
+        } }
     {
         self.written.extend(bytes);
     }

@@ -7,10 +7,11 @@ use Rattle.std.proofs.lemmas.List.Concat.{flat_map-cons}
 use Rattle.std.proofs.lemmas.Nat.{from_be_bytes-to_be_bytes_8}
 use Rattle.oc_model.specs.declared.record.Record.{Record}
 use Rattle.oc_model.specs.declared.record.Record.TheVariants.{Snapshot}
-use Rattle.oc_record.specs.Spelling.{eight, record_bytes, records_bytes}
+use Rattle.oc_base.specs.Spelling.{eight}
+use Rattle.oc_record.specs.Spelling.{record_bytes, records_bytes}
 use Rattle.oc_model.specs.Lawful.{AreRecords}
 use Rattle.oc_record.specs.Reading.{decoded}
-use Rattle.oc_record.proofs.Standing.{IsBytes}
+use Rattle.oc_base.proofs.TextsAt.{IsBytes}
 use Rattle.oc_record.proofs.ListLaws.{is_spelled}
 use Rattle.oc_store.specs.ControlFiles.{generation_in, begun_generation}
 use Rattle.oc_store.specs.StoreView.{BeginsAbove}

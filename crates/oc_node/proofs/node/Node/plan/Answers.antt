@@ -4,6 +4,7 @@ use Rattle.oc_model.specs.Node.{Control, Durable}
 use Rattle.oc_laws_step.specs.Frames.{FitsFrame}
 use Rattle.oc_node.specs.NodeView.{NodeView, IsReached, control_of}
 use Rattle.oc_node.specs.Volatile.{soft_of}
+use Rattle.oc_node.proofs.Filling.{plan_of_whole, step_of_none}
 use Rattle.oc_node.proofs.Plans.{plan_wants}
 use Rattle.oc_node.proofs.Reaching.{frame_fits, one_file, plan_applies}
 use Rattle.oc_node.proofs.node.Node.plan.Goals as goal
@@ -15,6 +16,12 @@ returns-clause-frame c =
 
 pub returns-clause-one_file : goal.returns-clause-one_file
 returns-clause-one_file c = one_file c.folding_is_stepping.ensures.one_file c.args.self.now.control c.args.shelf.now c.args.input.now c.in_ok-plan.plan c.in_ok-plan.ensures.plan
+
+pub returns-clause-whole : goal.returns-clause-whole
+returns-clause-whole c = λ n. plan_of_whole n c.args.self.now.control c.args.shelf.now c.args.input.now c.in_ok-plan.plan c.in_ok-plan.ensures.plan
+
+pub returns-clause-step : goal.returns-clause-step
+returns-clause-step c = λ n parts. step_of_none n c.args.input.now c.in_ok-plan.plan (plan_of_whole n c.args.self.now.control c.args.shelf.now c.args.input.now c.in_ok-plan.plan c.in_ok-plan.ensures.plan parts)
 
 pub returns-clause-wants : goal.returns-clause-wants
 returns-clause-wants c = plan_wants c.args.self.now.control c.args.shelf.now c.args.input.now c.in_ok-plan.plan c.in_ok-plan.ensures.plan c.in_ok-plan.ensures.room

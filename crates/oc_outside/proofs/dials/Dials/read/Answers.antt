@@ -1,5 +1,3 @@
-use Rattle.std.proofs.Common.{ap, sym, ◌∙◌, length, min}
-use Rattle.oc_outside.specs.TalksView.{left_of}
 use Rattle.oc_outside.proofs.DialLists.{heard_view, same-connection}
 use Rattle.oc_outside.proofs.dials.Dials.read.Goals as goal
 

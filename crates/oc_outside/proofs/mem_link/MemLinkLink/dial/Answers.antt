@@ -1,4 +1,4 @@
-use Rattle.std.proofs.Common.{◌≡◌, ◌+◌, ◌-◌, length, rules}
+use Rattle.std.proofs.Common.{◌+◌, ◌-◌, length, rules}
 use Rattle.oc_outside.specs.contracts.mem_link.MemLink.{the_view}
 use Rattle.oc_outside.proofs.MemLinkStory.{dials_to, dial_fails}
 use Rattle.oc_outside.proofs.mem_link.MemLinkLink.dial.Goals as goal

@@ -1,4 +1,4 @@
-use Rattle.std.proofs.Common.{◌≡◌, ◌+◌, ◌-◌, length, rules}
+use Rattle.std.proofs.Common.{rules}
 use Rattle.oc_outside.proofs.MemLinkStory.{dial_more_breaks}
 use Rattle.oc_outside.proofs.mem_link.MemLinkLink.dial_more.Goals as goal
 

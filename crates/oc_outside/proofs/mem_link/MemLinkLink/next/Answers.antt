@@ -1,5 +1,4 @@
-use Rattle.std.proofs.Common.{◌≡◌, ◌+◌, ◌-◌, length, rules}
-use Rattle.oc_outside.specs.MemLinkView.{took_next}
+use Rattle.std.proofs.Common.{rules}
 use Rattle.oc_outside.specs.contracts.mem_link.MemLink.{the_view}
 use Rattle.oc_outside.proofs.MemLinkStory.{took}
 use Rattle.oc_outside.proofs.mem_link.MemLinkLink.next.Goals as goal

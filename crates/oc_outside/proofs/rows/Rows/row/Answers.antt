@@ -1,6 +1,6 @@
-use Rattle.std.proofs.Common.{◌≡◌, ◌≤◌, ◌∙◌, sym, ap, length, ℕ, List, refl, subst}
+use Rattle.std.proofs.Common.{◌≤◌, ◌∙◌, sym, ap, length, refl}
 use Rattle.std.specs.List.{slice_get}
-use Rattle.oc_outside.specs.Rows.{RowsView, rows_in, AreStarts}
+use Rattle.oc_outside.specs.Rows.{RowsView}
 use Rattle.oc_outside.proofs.RowsIn.{rows_in-past, rows_at, starts_at}
 use Rattle.oc_outside.proofs.rows.Rows.row.Goals as goal
 

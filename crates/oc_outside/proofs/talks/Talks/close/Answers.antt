@@ -1,4 +1,4 @@
-use Rattle.std.proofs.Common.{◌≡◌, ◌∷◌, ◌++◌, [], map, Some, arith}
+use Rattle.std.proofs.Common.{◌≡◌, ◌∷◌, ◌++◌, [], map, arith}
 use Rattle.std.proofs.lemmas.List.{length-map}
 use Rattle.oc_outside.proofs.TalkLists.{ended_view}
 use Rattle.oc_outside.proofs.talks.Talks.close.Goals as goal

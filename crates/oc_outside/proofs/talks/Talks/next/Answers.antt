@@ -1,5 +1,4 @@
 use Rattle.std.proofs.Common.{map, refl}
-use Rattle.oc_outside.specs.Rows.{RowsView}
 use Rattle.oc_outside.proofs.TalkLists.{begun_view}
 use Rattle.oc_outside.proofs.talks.Talks.next.Goals as goal
 

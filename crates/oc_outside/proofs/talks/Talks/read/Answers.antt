@@ -1,7 +1,7 @@
 use Rattle.std.proofs.Common.{Option, map, ap, sym, ◌∙◌}
 use Rattle.std.specs.Option.{option_map}
 use Rattle.oc_outside.specs.Story.{Connection}
-use Rattle.oc_outside.specs.TalksView.{TalksView, further}
+use Rattle.oc_outside.specs.TalksView.{further}
 use Rattle.oc_outside.proofs.TalkLists.{read_view}
 use Rattle.oc_outside.proofs.talks.Talks.read.Goals as goal
 

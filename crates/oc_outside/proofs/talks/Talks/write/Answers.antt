@@ -1,5 +1,4 @@
-use Rattle.std.proofs.Common.{map, ap, refl, length, arith, ◌∙◌}
-use Rattle.oc_outside.specs.Rows.{RowsView}
+use Rattle.std.proofs.Common.{map}
 use Rattle.oc_outside.proofs.TalkLists.{written_view, length-grown}
 use Rattle.oc_outside.proofs.talks.Talks.write.Goals as goal
 

@@ -1,4 +1,4 @@
-use Rattle.std.proofs.Common.{map, ap, refl, ◌≤◌, ◌++◌, length, List, ℕ, arith, ◌∙◌}
+use Rattle.std.proofs.Common.{map, ap, ◌≤◌, ◌++◌, length, arith, ◌∙◌}
 use Rattle.std.proofs.lemmas.List.{length-map}
 use Rattle.std.specs.List.{slice_get}
 use Rattle.std.specs.Option.{option_map, option_to_list}

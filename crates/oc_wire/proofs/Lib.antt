@@ -1,0 +1,13 @@
+pub mod Lifts
+pub mod FieldReads
+pub mod NameReads
+pub mod Ascending
+pub mod ListReads
+pub mod KindReads
+pub mod BodyReads
+pub mod MessageReads
+pub mod Leasts
+pub mod RequestReads
+pub mod OneAnswer
+pub mod Sizes
+pub mod Puts

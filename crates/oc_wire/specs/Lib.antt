@@ -1,0 +1,7 @@
+pub mod Faults
+pub mod Spelling
+pub mod Reading
+pub mod Messages
+pub mod Requests
+pub mod Rows
+pub mod Examples

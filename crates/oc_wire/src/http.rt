@@ -1,0 +1,76 @@
+//! Messages as requests between nodes.
+
+ghost use Rattle.std.specs.Prelude.{◌≡◌, ℕ, ◌≤◌, List, IfOk};
+ghost use Rattle.oc_base.specs.declared.limits.TheConstants.{MAX_NODES};
+ghost use Rattle.oc_http.specs.Writing.{IsHost, request_text};
+ghost use Rattle.oc_model.specs.Lawful.{IsMessage};
+ghost use Rattle.oc_model.specs.declared.message.Message.{Message};
+ghost use Rattle.oc_wire.specs.Requests.{is_route, IsRequestOrFault, AnswersRequest, IsGiven};
+ghost use Rattle.oc_wire.specs.Spelling.{spelling, HasSpelling};
+
+use crate::law::requests_have_one_answer;
+use crate::{HttpWireFault, decode, encode};
+use oc_base::Memory;
+use oc_http::{
+    Head, HttpFault, Verb, a_written_request_is_read, read_body, read_head, write_request,
+};
+use oc_model::Message;
+use oc_outside::MemSource;
+use std::alloc::Global;
+
+/// The path of a message's request.
+const PATH: &str = "/!overcast";
+
+/// The request that brings the message to `host`: a POST with the message's bytes as its body.
+pub fn to_http(alloc: Global, message: &Message, host: &str) -> Result<Vec<u8>, Memory>
+    requires body { HasSpelling message.now.body }
+    requires host { IsHost host.now }
+    ensures { IfOk result (λ text. text.items ≡ request_text host.now (spelling message.now)) }
+{
+    let body = encode(alloc, message)?;
+    write_request(alloc, host, &body)
+}
+
+/// The message between `nodes` nodes that a request brings. What is behind the request's body is not
+/// looked at.
+pub fn from_http(alloc: Global, bytes: &[u8], nodes: u32) -> Result<Message, HttpWireFault>
+    ensures exact { AnswersRequest nodes bytes.now result }
+
+    // What `to_http` wrote is read as the same message.
+    ensures again { (host : List ℕ) (message : Message) → nodes ≤ MAX_NODES → IsHost host → IsMessage nodes message
+        → bytes.now ≡ request_text host (spelling message) → IsGiven result message }
+{
+    requests_have_one_answer();
+    a_written_request_is_read();
+    message_in(alloc, bytes, nodes)
+}
+
+/// The message of a request, or the first fault.
+fn message_in(alloc: Global, bytes: &[u8], nodes: u32) -> Result<Message, HttpWireFault>
+    ensures { AnswersRequest nodes bytes.now result }
+{
+    let (head, body) = request_in(alloc, bytes)?;
+    if !is_route(&head) {
+        return Err(HttpWireFault::Route);
+    }
+    Ok(decode(alloc, &body, nodes)?)
+}
+
+/// The head and the body of a request.
+fn request_in(alloc: Global, bytes: &[u8]) -> Result<(Head, Vec<u8>), HttpFault>
+    ensures { IsRequestOrFault bytes.now result }
+{
+    let mut source = MemSource::new(bytes.to_vec(alloc)?, Vec::new(alloc));
+    let head = read_head(alloc, &mut source)?;
+    let body = read_body(alloc, &mut source, &head)?;
+    Ok((head, body))
+}
+
+/// Whether a request is a POST to the path of messages without a query.
+fn is_route(head: &Head) -> bool
+    ensures { result ≡ is_route head.now }
+{
+    head.method == Verb::Post
+        && head.path.items() == PATH.as_bytes()
+        && head.query.items().is_empty()
+}

@@ -1,5 +1,5 @@
 -- Rules that go by the mode and the search, as choices by tests.
-use Rattle.std.proofs.Common.{◌≡◌, ℕ, Bool, true, false, ◌&&◌, ◌==◌, if◌then◌else◌, nat_lt, Option, Some, None, refl, ap, sym, subst, ◌∙◌}
+use Rattle.std.proofs.Common.{◌≡◌, ℕ, Bool, true, false, ◌&&◌, ◌==◌, if◌then◌else◌, nat_lt, Option, Some, None, refl, sym, subst, ◌∙◌}
 use Rattle.std.proofs.lemmas.Bool.{and_parts}
 use Rattle.oc_base.specs.declared.cert.Cert.{Cert}
 use Rattle.oc_base.specs.declared.limits.TheConstants.{MAX_DEPTH}
@@ -11,7 +11,7 @@ use Rattle.oc_model.specs.declared.soft.Search.{Search}
 use Rattle.oc_model.specs.declared.soft.Search.TheVariants as searches
 use Rattle.oc_model.specs.Asking.{is_asking, lost, next_try, not_seen, not_reached, round, unreachable}
 use Rattle.oc_model.specs.declared.record.Record.TheVariants as records
-use Rattle.oc_model.specs.Adoption.{precedes, precedes_any, is_better, take_rank}
+use Rattle.oc_model.specs.Adoption.{precedes, is_better, take_rank}
 use Rattle.oc_model.specs.Checking.{is_joined_to, dies, merges, takes_rank}
 use Rattle.oc_model.specs.Looking.{Stand, descends, reviews_place, keeps_line, sees_as, sees}
 use Rattle.oc_model.specs.Plan.{Plan, searching, ignored, write}

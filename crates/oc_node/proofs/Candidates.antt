@@ -1,5 +1,5 @@
 -- The children that were told, one after another.
-use Rattle.std.proofs.Common.{◌≡◌, ℕ, ◌+◌, ◌<◌, Bool, true, false, not, ◌==◌, List, [], ◌∷◌, ◌++◌, length, drop, get_or, refl, ap, sym, ◌∙◌, append_assoc, arith}
+use Rattle.std.proofs.Common.{◌≡◌, ℕ, ◌+◌, ◌<◌, Bool, true, false, not, ◌==◌, List, [], ◌∷◌, ◌++◌, length, drop, get_or, refl, ap, sym, ◌∙◌, append_assoc}
 use Rattle.oc_base.specs.declared.cert.Child.{Child}
 use Rattle.oc_model.specs.declared.place.Candidate.{Candidate}
 use Rattle.oc_model.specs.Looking.{candidates}

@@ -1,5 +1,5 @@
 -- The children of a node by the rows of its table, one row after another.
-use Rattle.std.proofs.Common.{◌≡◌, ℕ, zero, suc, ◌+◌, ◌<◌, ◌≤◌, Bool, true, false, not, ◌&&◌, ◌==◌, nat_le, if◌then◌else◌, Option, Some, None, List, [], ◌∷◌, ◌++◌, length, drop, get_or, map, min, ◌⊎◌, inl, inr, refl, ap, sym, subst, ◌∙◌, append_assoc, arith}
+use Rattle.std.proofs.Common.{◌≡◌, ℕ, ◌+◌, ◌<◌, ◌≤◌, Bool, true, false, not, ◌&&◌, ◌==◌, nat_le, Option, Some, None, List, [], ◌∷◌, ◌++◌, length, drop, get_or, min, ◌⊎◌, inl, inr, refl, ap, sym, subst, ◌∙◌, append_assoc, arith}
 use Rattle.std.proofs.lemmas.Bool.{le-leb, lt-leb, cases_lt}
 use Rattle.std.proofs.Math.ListN.{drop_of_length-le}
 use Rattle.oc_base.specs.declared.cert.Cert.{Cert}
@@ -8,7 +8,7 @@ use Rattle.oc_model.specs.Adoption.{chain_child}
 use Rattle.oc_model.specs.Table.{is_lease_of}
 use Rattle.oc_cert.specs.TableView.{AreRowsFrom, entries_of}
 use Rattle.oc_cert.proofs.Lines.{rows_at}
-use Rattle.oc_node.specs.Children.{child_of_row, other_child_of_row, told_of_row, told_children}
+use Rattle.oc_node.specs.Children.{other_child_of_row, told_of_row, told_children}
 
 -- what is not so is not so, whatever else holds
 and_no : (b : Bool) → (b && false) ≡ false

@@ -1,5 +1,5 @@
 -- Leases that have ended, one child after another.
-use Rattle.std.proofs.Common.{◌≡◌, ◌≢◌, ℕ, zero, suc, ◌+◌, ◌-◌, ◌<◌, ◌≤◌, ◌⊎◌, inl, inr, Bool, true, false, nat_lt, nat_le, if◌then◌else◌, Option, Some, None, List, [], ◌∷◌, length, get_or, set, map, refl, ap, sym, subst, ◌∙◌, arith, ltb-true, ltb-false, length-set}
+use Rattle.std.proofs.Common.{◌≡◌, ◌≢◌, ℕ, zero, suc, ◌+◌, ◌-◌, ◌<◌, ◌≤◌, ◌⊎◌, inl, inr, Bool, true, false, nat_lt, nat_le, if◌then◌else◌, Option, Some, None, List, [], ◌∷◌, length, get_or, set, map, refl, ap, sym, subst, ◌∙◌, arith, ltb-true, ltb-false}
 use Rattle.std.specs.Prelude.{filter, find}
 use Rattle.std.specs.List.{AllByRecursion}
 use Rattle.std.proofs.lemmas.Bool.{lt-ltb, le-ltb, lt-leb, cases_lt}
@@ -7,7 +7,7 @@ use Rattle.std.proofs.lemmas.List.{get_or-set_same, get_or-set_other}
 use Rattle.oc_base.specs.Lawful.{IsNode, AreNodes}
 use Rattle.oc_base.specs.declared.cert.Cert.{Cert}
 use Rattle.oc_model.specs.Checking.{dies, ends_each, ends_leases}
-use Rattle.oc_model.specs.Leases.{renew, start_if, start_each, start_all, is_over, ended, next_ended, lease_time}
+use Rattle.oc_model.specs.Leases.{start_if, start_each, start_all, is_over, ended, next_ended, lease_time}
 use Rattle.oc_model.specs.Node.{Control}
 use Rattle.oc_model.specs.Numbers.{at}
 use Rattle.oc_model.specs.Plan.{Plan}

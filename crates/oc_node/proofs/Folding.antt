@@ -1,22 +1,21 @@
 -- What is durable, one record after another.
-use Rattle.std.proofs.Common.{◌≡◌, ℕ, zero, suc, ◌+◌, ◌*◌, ◌-◌, ◌<◌, ◌≤◌, ◌^◌, ◌⊎◌, inl, inr, Bool, true, false, ◌==◌, nat_lt, nat_le, if◌then◌else◌, Option, Some, None, List, [], ◌∷◌, ◌++◌, length, drop, get_or, replicate, refl, ap, sym, subst, ◌∙◌, arith, length-append, length-drop}
+use Rattle.std.proofs.Common.{◌≡◌, ℕ, suc, ◌+◌, ◌-◌, ◌<◌, ◌≤◌, ◌^◌, ◌⊎◌, inl, inr, true, ◌==◌, Some, List, [], ◌∷◌, ◌++◌, length, drop, get_or, refl, ap, sym, subst, ◌∙◌, arith, length-append, length-drop}
 use Rattle.std.specs.List.{AllByRecursion}
 use Rattle.std.proofs.lemmas.Bool.{cond_both}
 use Rattle.std.proofs.lemmas.List.{length-replicate}
 use Rattle.std.proofs.Math.ListN.{drop_of_length-le}
-use Rattle.oc_base.specs.Lawful.{IsNode, IsCert, AreCerts}
+use Rattle.oc_base.specs.Lawful.{AreCerts}
 use Rattle.oc_base.specs.declared.cert.Cert.{Cert}
-use Rattle.oc_base.specs.declared.limits.TheConstants.{MAX_NODES, MAX_BASE_ACKED, MAX_ANCESTORS}
+use Rattle.oc_base.specs.declared.limits.TheConstants.{MAX_NODES, MAX_BASE_ACKED}
 use Rattle.oc_model.specs.declared.mode.Mode.{Mode}
 use Rattle.oc_model.specs.declared.mode.Mode.TheVariants as modes
 use Rattle.oc_model.specs.declared.record.Record.{Record}
 use Rattle.oc_model.specs.declared.record.Record.TheVariants as records
-use Rattle.oc_model.specs.ChangeLog.{note, ack, is_ahead, acked_whole, begun_with}
+use Rattle.oc_model.specs.ChangeLog.{ack, is_ahead, acked_whole, begun_with}
 use Rattle.oc_model.specs.Lawful.{IsRecord}
 use Rattle.oc_model.specs.Node.{Durable, Log, new_durable, empty_log, no_reading}
 use Rattle.oc_model.specs.Records.{fold_one, folded, noted, is_joined}
-use Rattle.oc_laws_step.specs.LawfulNode.{IsLawfulDurable}
-use Rattle.oc_laws_step.specs.Sound.{IsTable, AreAbove, IsSoundAs, IsSoundDurable, IsSoundRecord}
+use Rattle.oc_laws_step.specs.Sound.{AreAbove, IsSoundAs, IsSoundDurable}
 use Rattle.oc_laws_step.proofs.Folds.{sound_fold_one}
 use Rattle.oc_laws_step.proofs.LawfulFolds.{lawful_fold_one, lawful_new_durable}
 use Rattle.oc_laws_step.proofs.Ranges.{few_rows}

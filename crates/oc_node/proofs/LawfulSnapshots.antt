@@ -1,8 +1,8 @@
 -- The records of a snapshot are lawful.
-use Rattle.std.proofs.Common.{◌≡◌, ℕ, ◌+◌, ◌<◌, ◌≤◌, ◌^◌, Bool, true, false, ◌==◌, if◌then◌else◌, Option, Some, None, Result, Ok, Err, IfOk, List, [], ◌∷◌, ◌++◌, length, map, arith, sym, subst, ap, ◌∙◌}
+use Rattle.std.proofs.Common.{◌≡◌, ℕ, ◌+◌, ◌≤◌, ◌==◌, Option, Some, None, List, [], ◌∷◌, ◌++◌, length, arith, sym, subst}
 use Rattle.std.specs.List.{AllByRecursion}
 use Rattle.std.proofs.lemmas.Bool.{cond_both, eqb-false}
-use Rattle.oc_base.specs.Lawful.{IsNode, IsLong, IsCount, IsRank, IsRankOrNone, AreCerts, AreAncestors}
+use Rattle.oc_base.specs.Lawful.{IsNode, IsLong, IsCount, IsRankOrNone, AreCerts, AreAncestors}
 use Rattle.oc_base.specs.declared.cert.Cert.{Cert}
 use Rattle.oc_base.specs.declared.limits.TheConstants.{MAX_BASE_ACKED}
 use Rattle.oc_base.specs.declared.rank.Rank.{Rank}

@@ -3,7 +3,6 @@ use Rattle.std.proofs.Common.{◌≡◌, ℕ, ◌+◌, ◌<◌, ◌≤◌, zero,
 use Rattle.std.proofs.Math.ListN.{drop_of_length-le}
 use Rattle.oc_base.specs.declared.cert.Cert.{Cert}
 use Rattle.oc_model.specs.declared.record.Record.{Record}
-use Rattle.oc_model.specs.declared.record.Record.TheVariants as records
 use Rattle.oc_node.specs.Since.{certs_of, certs_in}
 use Rattle.oc_node.proofs.Lists.{drop_at, take_again, take_all}
 

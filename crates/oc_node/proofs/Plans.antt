@@ -1,5 +1,5 @@
 -- What a plan wants.
-use Rattle.std.proofs.Common.{◌≡◌, ℕ, ◌≤◌, Option, Some, None, IfSome, List, [], ◌∷◌, ◌⊎◌, inl, inr, Bool, true, false, if◌then◌else◌, ◌==◌, nat_lt, ◌&&◌, ◌+◌, length, refl, ap, sym, ◌∙◌, arith}
+use Rattle.std.proofs.Common.{◌≡◌, ℕ, ◌≤◌, Option, Some, None, IfSome, List, [], ◌∷◌, Bool, true, false, if◌then◌else◌, ◌==◌, nat_lt, ◌&&◌, ◌+◌, length, refl, ap, sym, ◌∙◌, arith}
 use Rattle.oc_base.specs.declared.shelf.Shelf.{Shelf}
 use Rattle.oc_base.specs.Shelves.{line_of}
 use Rattle.oc_model.specs.declared.answer.Answer.{Answer}
@@ -12,7 +12,7 @@ use Rattle.oc_model.specs.declared.message.Message.{Message}
 use Rattle.oc_model.specs.declared.mode.Mode.{Mode}
 use Rattle.oc_model.specs.declared.mode.Mode.TheVariants as modes
 use Rattle.oc_model.specs.declared.want.Want.{Want}
-use Rattle.oc_model.specs.Content.{unless, grows, keeps, publish_to, published, seal_line, sealed_at, answers_fetch, fetched, adds, adds_seal, grown_line, asks_on, keeps_chunk, chunk_to, took_chunk}
+use Rattle.oc_model.specs.Content.{unless, grows, keeps, publish_to, published, seal_line, sealed_at, answers_fetch, adds, adds_seal, grown_line, asks_on, keeps_chunk, chunk_to, took_chunk}
 use Rattle.oc_model.specs.Node.{Control}
 use Rattle.oc_model.specs.Plan.{Plan, begun, answers, ignored, send}
 use Rattle.oc_model.specs.Shelves.{line_at, limit, first_behind, with_line}

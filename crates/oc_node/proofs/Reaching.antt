@@ -1,10 +1,10 @@
 -- A node as inputs and starts leave it.
-use Rattle.std.proofs.Common.{◌≡◌, ℕ, Bool, ◌+◌, ◌<◌, ◌≤◌, ◌^◌, Option, Some, None, ◌⊎◌, List, [], ◌∷◌, length, replicate, refl, ap, sym, subst, ◌∙◌, arith}
+use Rattle.std.proofs.Common.{◌≡◌, ℕ, Bool, ◌+◌, ◌≤◌, Option, None, ◌⊎◌, List, [], ◌∷◌, length, replicate, refl, ap, sym, subst, ◌∙◌, arith}
 use Rattle.std.specs.List.{AllByRecursion}
 use Rattle.std.proofs.lemmas.List.{length-replicate}
 use Rattle.oc_base.specs.Lawful.{IsNode}
 use Rattle.oc_base.specs.Shelves.{IsShelf}
-use Rattle.oc_base.specs.declared.limits.TheConstants.{MAX_BASE_ACKED, MAX_LOG_LENGTH, MAX_FRAME_RECORDS}
+use Rattle.oc_base.specs.declared.limits.TheConstants.{MAX_LOG_LENGTH, MAX_FRAME_RECORDS}
 use Rattle.oc_base.specs.declared.shelf.Shelf.{Shelf}
 use Rattle.oc_model.specs.declared.input.Input.{Input}
 use Rattle.oc_model.specs.declared.record.Record.{Record}
@@ -21,7 +21,7 @@ use Rattle.oc_laws_step.specs.Sound.{IsSound}
 use Rattle.oc_laws_step.proofs.LawfulSteps.{lawful_new, lawful_planned}
 use Rattle.oc_laws_step.proofs.Soundness.{sound_new, sound_planned}
 use Rattle.oc_node.specs.DurableView.{IsKept}
-use Rattle.oc_node.specs.Applying.{CanApply, durable_in}
+use Rattle.oc_node.specs.Applying.{CanApply}
 use Rattle.oc_node.specs.declared.volatile.Volatile.{Volatile}
 use Rattle.oc_node.specs.NodeView.{NodeView, IsReached, control_of}
 use Rattle.oc_node.specs.Planned.{PlanView, control_after, planned}

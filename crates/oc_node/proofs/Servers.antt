@@ -1,9 +1,9 @@
 -- A server is a node.
-use Rattle.std.proofs.Common.{◌≡◌, ℕ, Option, Some, None, IfSome, List, ◌∷◌, [], refl, sym, ◌∙◌, subst}
+use Rattle.std.proofs.Common.{◌≡◌, ℕ, Option, Some, None, IfSome, List, ◌∷◌, [], refl, sym, subst}
 use Rattle.oc_base.specs.Lawful.{IsNode, IsCert, AreCerts}
 use Rattle.oc_base.specs.declared.cert.Cert.{Cert}
 use Rattle.oc_model.specs.Selected.{selected}
-use Rattle.oc_model.specs.Table.{newest, parent_in, live_parent, IsWay}
+use Rattle.oc_model.specs.Table.{newest, parent_in, IsWay}
 use Rattle.oc_laws_step.proofs.Ranges.{IfFound, cert_found}
 use Rattle.oc_laws_step.proofs.Tables.{newest-subject}
 use Rattle.oc_redirect.proofs.Server.{selected_best}

@@ -1,16 +1,13 @@
 -- Lines of a shelf, one after another.
-use Rattle.std.proofs.Common.{◌≡◌, ℕ, zero, suc, ◌+◌, ◌<◌, ◌≤◌, Bool, true, false, if◌then◌else◌, Option, Some, None, is_some, List, [], ◌∷◌, length, drop, get_or, set, refl, ap, sym, ◌∙◌, arith}
+use Rattle.std.proofs.Common.{◌≡◌, ℕ, zero, suc, ◌+◌, ◌<◌, ◌≤◌, Bool, true, false, if◌then◌else◌, Option, Some, List, [], ◌∷◌, length, drop, get_or, set, refl, ap, sym, ◌∙◌, arith}
 use Rattle.std.specs.Prelude.{insert}
-use Rattle.std.specs.List.{AllByRecursion}
 use Rattle.std.specs.declared.cmp.Ordering.{Ordering}
 use Rattle.std.specs.declared.cmp.Ordering.TheVariants.{Less, Equal, Greater}
 use Rattle.std.specs.Ordering.{nat_cmp, is_eq}
 use Rattle.std.specs.Cmp.Lexicographic.{slice_cmp}
 use Rattle.oc_base.specs.declared.limits.TheConstants.{MAX_GROUP_BYTES}
-use Rattle.oc_base.specs.declared.place.Place.{Place}
-use Rattle.oc_base.specs.declared.place.Place.TheVariants.{Found, Free}
 use Rattle.oc_base.specs.declared.shelf.Shelf.{Shelf}
-use Rattle.oc_base.specs.Named.{same_name, AreAbove, AreAscending, IsFoundAt, IsFreeAt, IsPlace}
+use Rattle.oc_base.specs.Named.{same_name, AreAscending, IsFoundAt, IsFreeAt}
 use Rattle.oc_base.specs.Shelves.{line_of, IsShelf, AreLines}
 use Rattle.oc_base.proofs.NameOrder.{same_name-itself}
 use Rattle.oc_model.specs.Shelves.{line_at, with_line, is_behind, first_behind}

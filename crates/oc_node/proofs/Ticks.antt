@@ -1,18 +1,14 @@
 -- What a tick has done before its check.
-use Rattle.std.proofs.Common.{◌≡◌, ℕ, ◌≤◌, max, Bool, true, false, if◌then◌else◌, Option, Some, None, List, [], ◌∷◌, refl, ◌∙◌, arith}
+use Rattle.std.proofs.Common.{◌≡◌, ℕ, true, Option, Some, None, List, [], ◌∷◌, refl}
 use Rattle.oc_base.specs.declared.cert.Cert.{Cert}
-use Rattle.oc_base.specs.declared.limits.TheConstants.{LAST_SECOND}
 use Rattle.oc_model.specs.declared.soft.Soft.{Soft}
-use Rattle.oc_model.specs.declared.record.Record.{Record}
 use Rattle.oc_model.specs.declared.record.Record.TheVariants as records
 use Rattle.oc_model.specs.Checking.{merges, dies, ends_each, ends_leases}
 use Rattle.oc_model.specs.Leases.{ended}
-use Rattle.oc_model.specs.Node.{Control}
 use Rattle.oc_model.specs.Plan.{Plan, write}
 use Rattle.oc_model.specs.Table.{newest, is_news}
 use Rattle.oc_model.proofs.Lists.{all_append}
 use Rattle.oc_laws_step.proofs.Goes.{either}
-use Rattle.oc_node.specs.NodeView.{IsReached}
 use Rattle.oc_node.specs.Since.{IsTold, AreTold}
 
 -- it told certificates alone, and left what a start clears

@@ -1,6 +1,5 @@
 -- What records say of one part of a node is what folding them makes of it.
-use Rattle.std.proofs.Common.{◌≡◌, ℕ, Bool, true, false, ◌&&◌, ◌==◌, if◌then◌else◌, Option, Some, None, List, [], ◌∷◌, ◌++◌, refl, sym, ◌∙◌, ap, eqb-true, append_assoc, append-nil, true≢false}
-use Rattle.std.specs.List.{AllByRecursion}
+use Rattle.std.proofs.Common.{◌≡◌, ℕ, Bool, true, false, ◌==◌, if◌then◌else◌, Option, Some, List, [], ◌∷◌, ◌++◌, refl, sym, ◌∙◌, ap, eqb-true, append_assoc, append-nil, true≢false}
 use Rattle.std.proofs.lemmas.Bool.{eqb-false}
 use Rattle.oc_base.specs.declared.cert.Cert.{Cert}
 use Rattle.oc_model.specs.declared.record.Record.{Record}
@@ -9,9 +8,9 @@ use Rattle.oc_model.specs.declared.mode.Mode.{Mode}
 use Rattle.oc_model.specs.declared.mode.Mode.TheVariants as modes
 use Rattle.oc_model.specs.Node.{Durable, Log}
 use Rattle.oc_model.specs.Records.{fold_one, folded, is_joined, noted}
-use Rattle.oc_model.specs.Table.{newest, is_news, is_news_to, put, merge}
+use Rattle.oc_model.specs.Table.{newest, is_news, is_news_to, merge}
 use Rattle.oc_laws_step.proofs.Tables.{newest-put_same, newest-put_other, newest-subject}
-use Rattle.oc_node.specs.Since.{ancestors_by, ancestors_over, entry_with, entry_by, entry_over, AreTold, certs_of, certs_in}
+use Rattle.oc_node.specs.Since.{ancestors_by, ancestors_over, entry_with, entry_by, entry_over, AreTold, certs_in}
 
 -- a choice of two states with these ancestors
 either_ancestors : (b : Bool) (d e : Durable) (xs : List ℕ) → d.ancestors ≡ xs → e.ancestors ≡ xs → (if b then d else e).ancestors ≡ xs

@@ -1,7 +1,6 @@
 use Rattle.std.proofs.Common.{◌≡◌, ◌++◌, drop}
 use Rattle.oc_cert.specs.TableView.{entries_of}
 use Rattle.oc_node.specs.Children.{told_children}
-use Rattle.oc_node.proofs.ChildRows.{told_go_on}
 use Rattle.oc_node.proofs.children.children.Given as goal
 
 abbrev pub invariant-loop-row : goal.invariant-loop-row

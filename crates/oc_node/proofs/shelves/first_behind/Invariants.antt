@@ -1,6 +1,5 @@
 use Rattle.std.proofs.Common.{◌≡◌, drop}
 use Rattle.oc_model.specs.Shelves.{first_behind}
-use Rattle.oc_node.proofs.ShelfLines.{behind_goes_on}
 use Rattle.oc_node.proofs.shelves.first_behind.Given as goal
 
 abbrev pub invariant-loop-line : goal.invariant-loop-line

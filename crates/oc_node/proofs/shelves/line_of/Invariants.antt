@@ -1,6 +1,5 @@
 use Rattle.std.proofs.Common.{◌≡◌, drop}
 use Rattle.oc_base.specs.Shelves.{line_of}
-use Rattle.oc_node.proofs.ShelfLines.{line_goes_on}
 use Rattle.oc_node.proofs.shelves.line_of.Given as goal
 
 abbrev pub invariant-loop-line : goal.invariant-loop-line

@@ -1,6 +1,5 @@
 use Rattle.std.proofs.Common.{◌≡◌, ◌++◌, drop}
 use Rattle.oc_model.specs.Snapshot.{entries}
-use Rattle.oc_node.proofs.Snapshotting.{entries_go_on}
 use Rattle.oc_node.proofs.snapshot.push_entries.Given as goal
 
 abbrev pub invariant-loop-cert : goal.invariant-loop-cert

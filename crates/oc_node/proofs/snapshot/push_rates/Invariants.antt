@@ -1,6 +1,5 @@
 use Rattle.std.proofs.Common.{◌≡◌, ◌+◌, ◌++◌, drop}
 use Rattle.oc_model.specs.Snapshot.{rates_from}
-use Rattle.oc_node.proofs.Snapshotting.{rates_go_on}
 use Rattle.oc_node.proofs.snapshot.push_rates.Given as goal
 
 abbrev pub invariant-loop-before : goal.invariant-loop-before

@@ -1,7 +1,6 @@
 use Rattle.std.proofs.Common.{◌≡◌, ◌++◌, drop}
 use Rattle.oc_model.specs.Snapshot.{entries}
 use Rattle.oc_cert.specs.TableView.{entries_of}
-use Rattle.oc_node.proofs.Snapshotting.{rows_go_on}
 use Rattle.oc_node.proofs.snapshot.push_rows.Given as goal
 
 abbrev pub invariant-loop-row : goal.invariant-loop-row

@@ -1,7 +1,6 @@
 use Rattle.std.proofs.Common.{◌≡◌, length, drop}
 use Rattle.std.specs.List.{AllByRecursion}
 use Rattle.oc_node.specs.Touched.{IsTouch, leases_after, rates_after, counts_after}
-use Rattle.oc_node.proofs.Touching.{touch_here}
 use Rattle.oc_node.proofs.touch.touch_all.Given as goal
 
 abbrev pub invariant-loop-touch : goal.invariant-loop-touch

@@ -1,6 +1,5 @@
 use Rattle.std.proofs.Common.{◌≡◌, ◌++◌, drop}
 use Rattle.oc_model.specs.Looking.{candidates}
-use Rattle.oc_node.proofs.Candidates.{candidates_go_on}
 use Rattle.oc_node.proofs.draft.Draft.candidates.Given as goal
 
 abbrev pub invariant-loop-child : goal.invariant-loop-child

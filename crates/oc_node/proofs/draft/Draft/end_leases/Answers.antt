@@ -1,4 +1,4 @@
-use Rattle.std.proofs.Common.{◌≡◌, ◌<◌, ℕ, Some, None, length, refl, ap, sym, subst, ◌∙◌}
+use Rattle.std.proofs.Common.{◌≡◌, ℕ, Some, None, refl, ap, sym, subst, ◌∙◌}
 use Rattle.oc_model.specs.Checking.{ends_leases}
 use Rattle.oc_model.specs.Leases.{start_all, next_ended}
 use Rattle.oc_model.specs.Node.{Control}

@@ -1,5 +1,4 @@
-use Rattle.std.proofs.Common.{◌≡◌, ap, ◌∙◌}
-use Rattle.oc_model.specs.Plan.{Plan}
+use Rattle.std.proofs.Common.{ap, ◌∙◌}
 use Rattle.oc_node.specs.DraftView.{DraftView}
 use Rattle.oc_node.proofs.Looks.{looks_go_on}
 use Rattle.oc_node.proofs.draft.Draft.look_at_earlier.Goals as goal

@@ -2,7 +2,6 @@ use Rattle.std.proofs.Common.{◌≡◌}
 use Rattle.std.specs.Prelude.{filter, nat_lt}
 use Rattle.oc_model.specs.Checking.{looks_at_each}
 use Rattle.oc_model.specs.Choice.{below}
-use Rattle.oc_node.proofs.Looks.{looks_go_on}
 use Rattle.oc_node.proofs.draft.Draft.look_at_earlier.Given as goal
 
 abbrev pub invariant-loop-earlier : goal.invariant-loop-earlier

@@ -1,6 +1,5 @@
 use Rattle.std.proofs.Common.{◌≡◌, drop}
 use Rattle.oc_model.specs.Checking.{merges_all}
-use Rattle.oc_node.proofs.MergeAll.{merges_go_on}
 use Rattle.oc_node.proofs.draft.Draft.merge_all.Given as goal
 
 abbrev pub invariant-loop-cert : goal.invariant-loop-cert

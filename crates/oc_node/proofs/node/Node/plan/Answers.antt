@@ -1,6 +1,6 @@
 use Rattle.std.proofs.Common.{◌≡◌, ℕ, ◌+◌, ◌≤◌, List, length, ap, subst, ◌∙◌}
 use Rattle.oc_model.specs.declared.record.Record.{Record}
-use Rattle.oc_model.specs.Node.{Control, Durable}
+use Rattle.oc_model.specs.Node.{Durable}
 use Rattle.oc_laws_step.specs.Frames.{FitsFrame}
 use Rattle.oc_node.specs.NodeView.{NodeView, IsReached, control_of}
 use Rattle.oc_node.specs.Volatile.{soft_of}

@@ -8,7 +8,8 @@ use Rattle.oc_replay.specs.declared.end.ReplayEnd.{ReplayEnd}
 use Rattle.oc_replay.specs.declared.end.ReplayEnd.TheVariants.{Done, Text, Limit, Unsupported, Source, Sink, Memory}
 use Rattle.oc_schedule.specs.Script.{Script}
 use Rattle.oc_schedule.specs.declared.fault.ScheduleFault.TheVariants as faults
-use Rattle.oc_program.specs.Run.{Outside, HappenedAtReplay, HeadlineHolds}
+use Rattle.oc_program.specs.AtReplay.{HappenedAtReplay, HeadlineHolds}
+use Rattle.oc_program.specs.Outside.{Input, Output, OnStage}
 
 -- both of two facts at Source
 pub both_on_source : (A B : Type 0) (end : ReplayEnd) → OnSource end A → OnSource end B → OnSource end (A × B)
@@ -32,21 +33,22 @@ cut_on_sink says report fails stage cause Source a b = tt
 cut_on_sink says report fails stage cause Sink a b = let (s, said, front, at) = a in (s, said, (front.0, (front.1, b)), at)
 cut_on_sink says report fails stage cause Memory a b = tt
 
-pub happened_at : (o : Outside) (end : ReplayEnd) → ((s : Script) → HeadlineHolds s)
-    → OnDone end ((s : Script) × o.input_says (Ok s) × (first_unsupported s ≡ None) × o.written (o.report s) × o.played s s.events)
-    → IfText end (λ line why. o.input_says (Err (faults.Line line why)))
-    → IfLimit end (λ what. o.input_passes what)
-    → IfUnsupported end (λ event. (s : Script) × o.input_says (Ok s) × (first_unsupported s ≡ Some event))
-    → OnSource end o.input_failed
-    → OnRefusal end (o.written [])
-    → OnRefusal end o.unplayed
-    → OnSink end ((s : Script) × o.input_says (Ok s) × SomeFront (o.report s) o.cut_off × SomeFront s.events (o.played s))
-    → OnMemory end ((o.input_came × o.written [] × o.unplayed) ⊎ ((s : Script) × o.input_says (Ok s) × SomeFront (o.report s) o.written))
-    → HappenedAtReplay o end
-happened_at o Done sound done text limit unsupported source unwritten unplayed sink memory = let (s, says, all, report, played) = done in (s, says, all, report, played, sound s)
-happened_at o (Text line why) sound done text limit unsupported source unwritten unplayed sink memory = (text, unwritten, unplayed)
-happened_at o (Limit what) sound done text limit unsupported source unwritten unplayed sink memory = (limit, unwritten, unplayed)
-happened_at o (Unsupported event) sound done text limit unsupported source unwritten unplayed sink memory = (unsupported, unwritten, unplayed)
-happened_at o Source sound done text limit unsupported source unwritten unplayed sink memory = (source, unwritten, unplayed)
-happened_at o Sink sound done text limit unsupported source unwritten unplayed sink memory = sink
-happened_at o Memory sound done text limit unsupported source unwritten unplayed sink memory = memory
+-- at each end, what a replay itself says of it
+pub happened_at : (input : Input) (output : Output) (stage : OnStage) (end : ReplayEnd) → ((s : Script) → HeadlineHolds s)
+    → OnDone end ((s : Script) × input.says (Ok s) × (first_unsupported s ≡ None) × output.written (stage.report s) × stage.played s s.events)
+    → IfText end (λ line why. input.says (Err (faults.Line line why)))
+    → IfLimit end (λ what. input.passes what)
+    → IfUnsupported end (λ event. (s : Script) × input.says (Ok s) × (first_unsupported s ≡ Some event))
+    → OnSource end input.failed
+    → OnRefusal end (output.written [])
+    → OnRefusal end stage.unplayed
+    → OnSink end ((s : Script) × input.says (Ok s) × SomeFront (stage.report s) output.cut_off × SomeFront s.events (stage.played s))
+    → OnMemory end ((input.came × output.written [] × stage.unplayed) ⊎ ((s : Script) × input.says (Ok s) × SomeFront (stage.report s) output.written))
+    → HappenedAtReplay input output stage end
+happened_at input output stage Done sound done text limit unsupported source unwritten unplayed sink memory = let (s, says, all, report, played) = done in (s, says, all, report, played, sound s)
+happened_at input output stage (Text line why) sound done text limit unsupported source unwritten unplayed sink memory = (text, unwritten, unplayed)
+happened_at input output stage (Limit what) sound done text limit unsupported source unwritten unplayed sink memory = (limit, unwritten, unplayed)
+happened_at input output stage (Unsupported event) sound done text limit unsupported source unwritten unplayed sink memory = (unsupported, unwritten, unplayed)
+happened_at input output stage Source sound done text limit unsupported source unwritten unplayed sink memory = (source, unwritten, unplayed)
+happened_at input output stage Sink sound done text limit unsupported source unwritten unplayed sink memory = sink
+happened_at input output stage Memory sound done text limit unsupported source unwritten unplayed sink memory = memory

@@ -1,4 +1,8 @@
 mod PureKinds
 mod WordLemmas
+mod PlainWords
 mod Parts
 mod Happenings
+mod Told
+mod Passed
+mod Statuses

@@ -1,7 +1,8 @@
 -- The command by which `clap` reads the words, as a term: what its builders make.
-use Rattle.std.specs.Prelude.{◌≡◌, true, false, codes}
-use Rattle.clap.specs.Words.{App, Shape, new_app, shape_of, with_subcommand}
+use Rattle.std.specs.Prelude.{◌≡◌, [], ◌∷◌, true, false, codes}
+use Rattle.clap.specs.Words.{App, Rule, Shape, Text, new_app, new_rule, rule_of, shape_of, with_subcommand}
 use Rattle.clap.specs.Simple.{new_shape, on_top}
+use Rattle.clap.specs.declared.builder.arg.Arg.{Arg}
 use Rattle.clap.specs.declared.builder.command.Command.{Command}
 use Rattle.clap.specs.declared.builder.command.Command.TheViews.{out-Command as fields_of}
 
@@ -14,13 +15,28 @@ bare_command = on_top (λ s. record s {
   subcommand_required = true;
 }) (new_app (codes "overcast"))
 
+-- an argument that has to be given, by one word in its place
+abbrev pub required_rule : Text → Rule
+required_rule id = record (new_rule id) { required = true }
+
 -- `replay`, which takes no further word
 abbrev pub replay_shape : Shape
 replay_shape = new_shape (codes "replay")
 
+-- `gen SEED NODES EVENTS`
+abbrev pub gen_shape : Shape
+gen_shape = record (new_shape (codes "gen")) {
+  rules = required_rule (codes "SEED") ∷ required_rule (codes "NODES") ∷ required_rule (codes "EVENTS") ∷ [];
+}
+
 -- the command with each of its subcommands
 unfoldable pub command : App
-command = with_subcommand bare_command replay_shape
+command = with_subcommand (with_subcommand bare_command replay_shape) gen_shape
+
+-- a is an argument of this rule, and reaches no subcommand
+pub record IsArgument (rule : Rule) (a : Arg) : Type 0 where
+  pub reads : rule_of a ≡ rule
+  pub is_local : a.global ≡ false
 
 -- c is a subcommand of this shape, and no argument of it reaches past it
 pub record IsSubcommand (shape : Shape) (c : Command) : Type 0 where

@@ -1,4 +1,10 @@
+pub mod Arguments
 pub mod Command
 pub mod Status
+pub mod Sample
 pub mod Words
+pub mod Outside
+pub mod AtReplay
+pub mod AtGen
 pub mod Run
+pub mod Streams

@@ -1,11 +1,19 @@
--- What the words of the program ask for: what `clap` makes of them by one command.
-use Rattle.std.specs.Prelude.{◌≡◌, ◌⊎◌, ⊤, List, [], ◌∷◌, map, codes, Result, Ok, Err, String, string_bytes}
-use Rattle.clap.specs.Words.{Kinds, Text, fault_of}
+-- What the words of the program ask for: what `clap` makes of them by one command, and what the
+-- arguments of the subcommand say.
+use Rattle.std.specs.Prelude.{◌≡◌, ◌⊎◌, List, [], ◌∷◌, map, codes, Option, Some, None, Result, Ok, Err, ok_or, String, string_bytes, if◌then◌else◌}
+use Rattle.std.specs.Result.{result_ok}
+use Rattle.std.specs.Str.{bytes_eq}
+use Rattle.clap.specs.Words.{Kinds, Row, Text, fault_of, subcommand_of}
 use Rattle.clap.specs.declared.error.kind.ErrorKind.{ErrorKind}
 use Rattle.clap.specs.declared.error.kind.ErrorKind.TheVariants.{DisplayHelp}
+use Rattle.oc_base.specs.Steps.{◌>>=◌}
+use Rattle.oc_base.specs.declared.why.Why.{Why}
+use Rattle.oc_base.specs.declared.why.Why.TheVariants.{Count}
 use Rattle.oc_program.specs.Command.{command}
+use Rattle.oc_program.specs.Sample.{IsSample, sample_in, sample_of}
+use Rattle.oc_program.specs.declared.generating.Sample.{Sample}
 use Rattle.oc_program.specs.declared.words.Request.{Request}
-use Rattle.oc_program.specs.declared.words.Request.TheVariants.{Replay, Help}
+use Rattle.oc_program.specs.declared.words.Request.TheVariants.{Replay, Gen, Help}
 use Rattle.oc_program.specs.declared.words.WordsFault.{WordsFault}
 use Rattle.oc_program.specs.declared.words.WordsFault.TheVariants.{Usage, Memory}
 
@@ -32,9 +40,41 @@ verdict_among (kind ∷ _) = verdict_by kind
 unfoldable pub verdict_of : List Text → Verdict
 verdict_of words = verdict_among (fault_of command words)
 
--- the words stand as in a row of the table of commands
-abbrev pub IsPlain : List Text → Type 0
-IsPlain words = words ≡ codes "replay" ∷ []
+-- ---- what they ask for
+
+-- a schedule of this sample
+abbrev pub gen_of : Result Sample Why → Result Request Why
+gen_of sample = do
+  s ← sample
+  Ok (Gen s)
+
+-- what a subcommand of this name asks for, by what its arguments were given
+abbrev pub request_by : Text → List Row → Result Request Why
+request_by name rows =
+    if bytes_eq name (codes "replay") then Ok Replay
+    else if bytes_eq name (codes "gen") then gen_of (sample_of rows)
+    else Err Count
+
+-- the same, of the subcommand that `clap` found, if any
+abbrev pub request_of : Option (Text × List Row) → Result Request Why
+request_of None = Err Count
+request_of (Some named) = request_by named.0 named.1
+
+-- words that `clap` accepts ask for what their subcommand does, if its arguments are as they have to be
+abbrev pub asked_by : Verdict → Option (Text × List Row) → Option Request
+asked_by accepted named = result_ok (request_of named)
+asked_by helped named = Some Help
+asked_by refused named = None
+
+-- what these words ask for: nothing where `clap` refuses them or a number is misspelled or out of its range
+unfoldable pub asked : List Text → Option Request
+asked words = asked_by (verdict_of words) (subcommand_of command words)
+
+-- the words stand as in a row of the table of commands, with their numbers in range
+pub data IsPlain (words : List Text) : Type 0 where
+  plain_replay : words ≡ codes "replay" ∷ [] → IsPlain words
+  plain_gen : (seed nodes events : Text) (sample : Sample) → words ≡ codes "gen" ∷ seed ∷ nodes ∷ events ∷ []
+      → sample_in seed nodes events ≡ Ok sample → IsPlain words
 
 module _ {Z : Type 0} where
   -- the texts of the words
@@ -43,14 +83,11 @@ module _ {Z : Type 0} where
 
 -- ---- what the program answers
 
--- the answer is that of the verdict, or memory is wanting
-abbrev pub Gives : Verdict → Result Request WordsFault → Type 0
-Gives v (Ok Replay) = v ≡ accepted
-Gives v (Ok Help) = v ≡ helped
-Gives v (Err Usage) = v ≡ refused
-Gives v (Err Memory) = ⊤
+-- the answer is what the words ask for, or that they ask for nothing; or memory is wanting
+abbrev pub Answers : Option Request → Result Request WordsFault → Type 0
+Answers request result = (result ≡ ok_or request Usage) ⊎ (result ≡ Err Memory)
 
--- the answer comes only where p holds, and where p holds it comes, or memory is wanting
-pub record ExactlyWhere (result answer : Result Request WordsFault) (p : Type 0) : Type 0 where
-  pub only : result ≡ answer → p
-  pub wherever : p → (result ≡ answer) ⊎ (result ≡ Err Memory)
+-- the numbers of a request are within their ranges
+abbrev pub IsRequest : Request → Type 0
+IsRequest (Gen sample) = IsSample sample
+IsRequest request = Unit {0}

@@ -1,11 +1,21 @@
 //! The program as a call: words, an input, an output, an error output and a stage in; a status out.
 //!
 //! [`run`] is the contract that everything leads up to: how it ended, with which status and which
-//! line, and what had then happened outside. `read_words` says what the words ask for, exactly as
-//! `clap` reads them.
+//! line, and what had then happened outside. `Outside` in `specs/` is all that it speaks of, and
+//! `Happened` says for each end what then holds. [`run_in_memory`] and [`run_on_streams`] are `run` at
+//! readers and writers, where the same clause is about bytes and about counts of bytes; `main` calls
+//! the second.
+//!
+//! [`read_words`] gives what the words ask for, exactly as `clap` reads them. Each command is a file:
+//! `replaying` and `generating` have its subcommand, its arguments and what it does.
 #![tactic(auto)]
 
+mod arguments;
 mod command;
+mod ending;
+mod generating;
+mod helping;
+mod replaying;
 mod running;
 mod status;
 mod streams;
@@ -13,9 +23,13 @@ mod telling;
 mod texts;
 mod words;
 
-pub use running::{End, run, world_reports_as_the_model};
+pub use ending::End;
+pub use generating::{GenEnd, Sample};
+pub use oc_adapters::{ReaderSource, Traffic, WriterSink};
+pub use replaying::world_reports_as_the_model;
+pub use running::run;
 pub use status::Status;
-pub use streams::{ReaderSource, WriterSink};
+pub use streams::{MemoryRun, StreamsRun, run_in_memory, run_on_streams};
 pub use telling::tell;
 pub use texts::{help, usage};
-pub use words::{Request, WordsFault, read_words};
+pub use words::{Request, WordsFault, read_words, rows_ask};

@@ -1,102 +1,111 @@
-//! Any reader as a source and any writer as a sink. Of their bytes nothing is said: the laws hold
-//! because the relations hold of everything. What is said is which calls failed.
+//! The program over readers and writers, through the adapters of `oc_adapters`: over bytes in memory,
+//! and over the standard streams.
 
-ghost use Rattle.std.specs.Prelude.{◌≡◌, ℕ, ◌<◌, ◌≤◌, ⊤, length, IfOk, OnErr};
-ghost use Rattle.oc_outside.specs.Faults.{NoFall, Rose};
+ghost use Rattle.std.specs.Prelude.{◌≡◌, ℕ, ◌⊎◌, List, Some};
+ghost use Rattle.oc_program.specs.AtReplay.{status_for};
+ghost use Rattle.oc_program.specs.Outside.{at_stage};
+ghost use Rattle.oc_program.specs.Run.{Happened, line_of, status_of};
+ghost use Rattle.oc_program.specs.Status.{number_of};
+ghost use Rattle.oc_program.specs.Streams.{IsCountOfLineOrFront, IsLineOrFront, at_bytes, at_input, at_output, at_text};
+ghost use Rattle.oc_program.specs.Words.{asked, texts_of};
+ghost use Rattle.oc_program.specs.declared.ending.End.{End};
+ghost use Rattle.oc_schedule.specs.Schedule.{schedule_of};
 
-use oc_outside::{Failed, Sink, Source};
-use std::io::{ErrorKind, Read, Write};
+use crate::running::run;
+use crate::words::Request;
+use oc_adapters::{ReaderSource, Traffic, WriterSink};
+use oc_world::Stage;
+use std::alloc::Global;
+use std::io::{Stderr, Stdin, Stdout};
 
-/// How often a call is made at most, as long as it is interrupted.
-const MOST_TRIES: u32 = 1_000_000;
-
-/// A reader as a source.
-#[derive(Drop)]
-pub struct ReaderSource<R> {
-    reader: R,
-    faults: u64,
+/// What a run over bytes in memory left.
+#[derive(Debug, Drop)]
+pub struct MemoryRun {
+    /// The status.
+    pub status: u8,
+    /// How many bytes of the input were read.
+    pub read: u64,
+    /// The output.
+    pub output: Vec<u8>,
+    /// The error output.
+    pub error: Vec<u8>,
 }
 
-impl<R> ReaderSource<R> {
-    /// A source of what the reader gives from here on.
-    pub fn new(reader: R) -> ReaderSource<R>
-        ensures { result.faults ≡ 0 }
-    {
-        ReaderSource { reader, faults: 0 }
+/// [`run`] over the bytes of an input, into memory.
+pub fn run_in_memory<T: Stage>(
+    alloc: Global,
+    words: &[String],
+    input: &[u8],
+    stage: &mut T,
+) -> MemoryRun
+    ensures ended { (end : End) × (usage : List ℕ)
+        × (result.status ≡ number_of (status_of end))
+        × IsLineOrFront result.error.items (line_of end usage)
+        × Happened (record {
+          asked = asked (texts_of words.now);
+          input = at_bytes input.now result.read;
+          output = at_text result.output.items;
+          stage = at_stage T.first T.after T.word T.world stage.old stage.new;
+        }) end }
+
+    // The status of a replay is that of what these bytes say, or the output failed, or memory is wanting.
+    ensures replayed { asked (texts_of words.now) ≡ Some Request.Replay
+        → (result.status ≡ status_for (schedule_of input.now)) ⊎ (result.status ≡ 1) ⊎ (result.status ≡ 4) }
+{
+    let mut source = ReaderSource::new(input);
+    let mut out = WriterSink::new(Vec::new(alloc));
+    let mut err = WriterSink::new(Vec::new(alloc));
+    let status = run(alloc, words, &mut source, &mut out, &mut err, stage);
+    MemoryRun {
+        status,
+        read: source.traffic().bytes,
+        output: out.into_writer(),
+        error: err.into_writer(),
     }
 }
 
-impl<R: Read> Source for ReaderSource<R> {
-    ghost gives = { λ old bytes new. ⊤ };
-
-    ghost fails = { λ old bytes new. ⊤ };
-
-    ghost ended = { λ source. ⊤ };
-
-    ghost calls = { λ source. 0 };
-
-    ghost faults = { λ source. source.faults };
-
-    ghost gives_nothing = { λ source. tt };
-
-    ghost gives_then = { λ a b c x y first then. tt };
-
-    ghost gives_fails = { λ a b c x y first then. tt };
-
-    fn read(&mut self, buf: &mut [u8]) -> Result<usize, Failed> {
-        for _ in 0..MOST_TRIES {
-            match self.reader.read(buf) {
-                Ok(count) => return Ok(count),
-                Err(error) if error.kind() == ErrorKind::Interrupted => {}
-                Err(_) => break,
-            }
-        }
-        self.faults = self.faults.saturating_add(1);
-        Err(Failed)
-    }
+/// What a run over the standard streams left.
+#[derive(Clone, Copy, Debug, PartialEq, Eq)]
+pub struct StreamsRun {
+    /// The status.
+    pub status: u8,
+    /// What was read on standard input.
+    pub input: Traffic,
+    /// What was written on standard output.
+    pub output: Traffic,
+    /// What was written on standard error.
+    pub error: Traffic,
 }
 
-/// A writer as a sink.
-#[derive(Drop)]
-pub struct WriterSink<W> {
-    writer: W,
-    faults: u64,
-}
-
-impl<W> WriterSink<W> {
-    /// A sink that has the writer take what it takes.
-    pub fn new(writer: W) -> WriterSink<W>
-        ensures { result.faults ≡ 0 }
-    {
-        WriterSink { writer, faults: 0 }
-    }
-}
-
-impl<W: Write> Sink for WriterSink<W> {
-    ghost takes = { λ old bytes new. ⊤ };
-
-    ghost fails = { λ old bytes new. ⊤ };
-
-    ghost calls = { λ sink. 0 };
-
-    ghost faults = { λ sink. sink.faults };
-
-    ghost takes_nothing = { λ sink. tt };
-
-    ghost takes_then = { λ a b c x y first then. tt };
-
-    ghost takes_fails = { λ a b c x y first then. tt };
-
-    fn write(&mut self, bytes: &[u8]) -> Result<usize, Failed> {
-        for _ in 0..MOST_TRIES {
-            match self.writer.write(bytes) {
-                Ok(0) if !bytes.is_empty() => break,
-                Ok(count) => return Ok(count),
-                Err(error) if error.kind() == ErrorKind::Interrupted => {}
-                Err(_) => break,
-            }
-        }
-        self.faults = self.faults.saturating_add(1);
-        Err(Failed)
+/// [`run`] over the standard streams. Which bytes pass there no contract can say; how many, this one
+/// does: as many were read as some text has that says what the end tells, and exactly as many were
+/// written as the text has that had to be written.
+pub fn run_on_streams<T: Stage>(
+    alloc: Global,
+    words: &[String],
+    input: Stdin,
+    output: Stdout,
+    error: Stderr,
+    stage: &mut T,
+) -> StreamsRun
+    ensures ended { (end : End) × (usage : List ℕ)
+        × (result.status ≡ number_of (status_of end))
+        × IsCountOfLineOrFront result.error (line_of end usage)
+        × Happened (record {
+          asked = asked (texts_of words.now);
+          input = at_input result.input;
+          output = at_output result.output;
+          stage = at_stage T.first T.after T.word T.world stage.old stage.new;
+        }) end }
+{
+    let mut stdin = ReaderSource::new(input);
+    let mut stdout = WriterSink::new(output);
+    let mut stderr = WriterSink::new(error);
+    let status = run(alloc, words, &mut stdin, &mut stdout, &mut stderr, stage);
+    StreamsRun {
+        status,
+        input: stdin.traffic(),
+        output: stdout.traffic(),
+        error: stderr.traffic(),
     }
 }

@@ -3,9 +3,10 @@
 
 ghost use Rattle.std.specs.Prelude.{◌≡◌, ℕ, List, OnOk};
 ghost use Rattle.oc_outside.specs.Faults.{NoFall};
-ghost use Rattle.oc_program.specs.Run.{IsWrittenOrCut, joined, line_of, line_of_replay};
+ghost use Rattle.oc_program.specs.Run.{IsWrittenOrCut, joined, line_of, line_of_gen, line_of_replay};
 
-use crate::running::End;
+use crate::ending::End;
+use crate::generating::GenEnd;
 use crate::texts::usage;
 use itoa::Buffer;
 use oc_base::Why;
@@ -36,6 +37,7 @@ pub fn tell<E: Sink>(err: &mut E, end: End)
         End::Misused => write_parts(err, &[b"overcast: usage\n", usage().as_bytes()]),
         End::NoMemory => write_all(err, b"overcast: out of memory\n"),
         End::Replayed(end) => tell_replay(err, end),
+        End::Generated(end) => tell_gen(err, end),
     };
 }
 
@@ -51,6 +53,17 @@ fn tell_replay<E: Sink>(err: &mut E, end: ReplayEnd) -> Result<(), Failed>
         ReplayEnd::Source => write_all(err, b"overcast: input failed\n"),
         ReplayEnd::Sink => write_all(err, b"overcast: output failed\n"),
         ReplayEnd::Memory => write_all(err, b"overcast: out of memory\n"),
+    }
+}
+
+fn tell_gen<E: Sink>(err: &mut E, end: GenEnd) -> Result<(), Failed>
+    ensures told { IsWrittenOrCut E.takes E.fails E.faults err.old err.new (line_of_gen end) }
+    ensures count { NoFall (E.faults err.old) (E.faults err.new) }
+{
+    match end {
+        GenEnd::Done => Ok(()),
+        GenEnd::Sink => write_all(err, b"overcast: output failed\n"),
+        GenEnd::Memory => write_all(err, b"overcast: out of memory\n"),
     }
 }
 

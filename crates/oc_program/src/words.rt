@@ -1,10 +1,17 @@
 //! Reads the words behind the program's name.
-ghost use Rattle.std.specs.Prelude.{◌≡◌, ◌≢◌, ◌⊎◌};
-ghost use Rattle.oc_program.specs.Words.{ExactlyWhere, Gives, IsPlain, accepted, helped, refused};
-ghost use Rattle.oc_program.specs.Words.{texts_of, verdict_by, verdict_of};
+ghost use Rattle.std.specs.Prelude.{◌≡◌, ◌≢◌, ◌∷◌, [], List, Some, None, IfOk, codes, ok_or};
+ghost use Rattle.std.specs.Result.{result_ok};
+ghost use Rattle.clap.specs.Words.{Text, found_of, rows_of, subcommand_rows_of};
+ghost use Rattle.oc_program.specs.Arguments.{IsNoFlag};
+ghost use Rattle.oc_program.specs.Sample.{sample_in};
+ghost use Rattle.oc_program.specs.Words.{Answers, IsPlain, IsRequest, asked, asked_by, gen_of};
+ghost use Rattle.oc_program.specs.Words.{request_by, request_of, texts_of, verdict_by};
 
 use crate::command::command;
+use crate::generating::{Sample, sample_of};
+use clap::ArgMatches;
 use clap::error::ErrorKind;
+use oc_base::Why;
 use std::alloc::{AllocError, AllocFailed, Global};
 
 /// What the words ask for.
@@ -12,6 +19,8 @@ use std::alloc::{AllocError, AllocFailed, Global};
 pub enum Request {
     /// To play the schedule on the input.
     Replay,
+    /// To write the schedule that follows from a seed.
+    Gen(Sample),
     /// To print the help.
     Help,
 }
@@ -45,31 +54,61 @@ impl From<AllocError> for WordsFault {
     }
 }
 
+impl From<Why> for WordsFault {
+    ghost use Rattle.oc_program.specs.declared.words.WordsFault.TheVariants.{Usage};
+
+    ghost from_gives = { λ _ e. e ≡ Usage };
+
+    fn from(_why: Why) -> WordsFault {
+        WordsFault::Usage
+    }
+}
+
 /// Reads the words, of which the first is behind the program's name.
 ///
-/// `Replay` comes where `clap` accepts them, `Help` where it answers by help, and `Usage` where it
-/// refuses them for another cause than memory.
+/// `Usage` comes exactly where `clap` refuses them for another cause than memory and does not answer
+/// by help, or where a number is not spelled as one or is out of its range.
 pub fn read_words(alloc: Global, words: &[String]) -> Result<Request, WordsFault>
-    ensures replay { ExactlyWhere result (Ok Request.Replay)
-        (verdict_of (texts_of words.now) ≡ accepted) }
-    ensures help { ExactlyWhere result (Ok Request.Help)
-        (verdict_of (texts_of words.now) ≡ helped) }
-    ensures usage { ExactlyWhere result (Err WordsFault.Usage)
-        (verdict_of (texts_of words.now) ≡ refused) }
-    ensures plain { IsPlain (texts_of words.now)
-        → (result ≡ Ok Request.Replay) ⊎ (result ≡ Err WordsFault.Memory) }
+    ensures answers { Answers (asked (texts_of words.now)) result }
+    ensures range { IfOk result IsRequest }
 {
     let command = command(alloc)?;
     match command.try_get_matches_from(words) {
-        Ok(_) => Ok(Request::Replay),
+        Ok(matches) => Ok(request_of(&matches)?),
         Err(error) => answer_to(error.kind()),
+    }
+}
+
+/// What words ask for that `clap` accepts.
+fn request_of(matches: &ArgMatches<'_>) -> Result<Request, Why>
+    ensures said { result ≡ request_of (subcommand_rows_of matches.now) }
+    ensures range { IfOk result IsRequest }
+{
+    match matches.subcommand() {
+        Some((name, arguments)) => request_by(name, arguments),
+        None => Err(Why::Count),
+    }
+}
+
+/// What a subcommand of this name asks for.
+fn request_by(name: &str, arguments: &ArgMatches<'_>) -> Result<Request, Why>
+    ensures said { result ≡ request_by name.now (rows_of (found_of arguments.now)) }
+    ensures range { IfOk result IsRequest }
+{
+    if name == "replay" {
+        Ok(Request::Replay)
+    } else if name == "gen" {
+        Ok(Request::Gen(sample_of(arguments)?))
+    } else {
+        Err(Why::Count)
     }
 }
 
 /// The answer to an error of `clap`.
 fn answer_to(kind: ErrorKind) -> Result<Request, WordsFault>
     ensures memory { kind ≡ ErrorKind.OutOfMemory → result ≡ Err WordsFault.Memory }
-    ensures other { kind ≢ ErrorKind.OutOfMemory → Gives (verdict_by kind) result }
+    ensures other { kind ≢ ErrorKind.OutOfMemory → result ≡ ok_or (asked_by (verdict_by kind) None) WordsFault.Usage }
+    ensures no_numbers { IfOk result (λ request. request ≡ Request.Help) }
 {
     match kind {
         ErrorKind::OutOfMemory => Err(WordsFault::Memory),
@@ -77,3 +116,13 @@ fn answer_to(kind: ErrorKind) -> Result<Request, WordsFault>
         _ => Err(WordsFault::Usage),
     }
 }
+
+/// What the words of each row of the table of commands ask for.
+pub fn rows_ask()
+    ensures replaying { asked (codes "replay" ∷ []) ≡ Some Request.Replay }
+    // Three words behind `gen` that are no flags ask for the sample that they say, if they say one.
+    ensures generating { (seed nodes events : Text) → IsNoFlag seed → IsNoFlag nodes → IsNoFlag events
+        → asked (codes "gen" ∷ seed ∷ nodes ∷ events ∷ [])
+        ≡ result_ok (gen_of (sample_in seed nodes events)) }
+    ensures plain { (words : List Text) → IsPlain words → asked words ≢ None }
+{}

@@ -1,28 +1,27 @@
-use Rattle.std.proofs.Common.{subst}
-use Rattle.clap.specs.Words.{app_of}
+use Rattle.std.proofs.Common.{◌≡◌, ◌∙◌, Err, ap, inl, rules, subst, sym}
+use Rattle.std.specs.Prelude.{ok_or}
+use Rattle.std.specs.Result.{result_ok}
+use Rattle.clap.specs.Words.{app_of, subcommand_rows_of}
 use Rattle.oc_program.specs.Words.{texts_of}
-use Rattle.oc_program.proofs.WordLemmas.{AnswersKind, exactly_help, exactly_replay, exactly_usage, failed, passed, plainly}
+use Rattle.oc_program.specs.declared.words.WordsFault.TheVariants.{Usage}
+use Rattle.oc_program.proofs.WordLemmas.{AnswersKind, failed, passed}
 use Rattle.oc_program.proofs.words.read_words.Goals as goal
 
-pub returns-in-Ok : goal.returns-in-Ok
-returns-in-Ok c =
+pub returns-in_err-request_of-in-Ok-clause-answers : goal.returns-in_err-request_of-in-Ok-clause-answers
+returns-in_err-request_of-in-Ok-clause-answers c =
     let words = texts_of c.args.words.now in
-    let given = passed (app_of c.in_ok-command.command) c.in_ok-command.ensures words c.in-Ok.ensures.kinds in
-    record {
-      replay = exactly_replay _ _ given;
-      help = exactly_help _ _ given;
-      usage = exactly_usage _ _ given;
-      plain = plainly words _ given;
-    }
+    let asks = passed (app_of c.in_ok-command.command) c.in_ok-command.ensures words (subcommand_rows_of c.in-Ok.matches) c.in-Ok.ensures.kinds (λ simple. (c.in-Ok.ensures.matches simple).1) in
+    let misused : c.from_residual-in_err-request_of-in-Ok.result ≡ Err Usage = search rules in
+    inl (misused ∙ sym (ap (λ o. ok_or o Usage) (asks ∙ ap result_ok (sym c.in_err-request_of-in-Ok.ensures.said))))
 
-pub returns : goal.returns
-returns c =
+pub returns-in_ok-request_of-in-Ok-clause-answers : goal.returns-in_ok-request_of-in-Ok-clause-answers
+returns-in_ok-request_of-in-Ok-clause-answers c =
+    let words = texts_of c.args.words.now in
+    let asks = passed (app_of c.in_ok-command.command) c.in_ok-command.ensures words (subcommand_rows_of c.in-Ok.matches) c.in-Ok.ensures.kinds (λ simple. (c.in-Ok.ensures.matches simple).1) in
+    inl (sym (ap (λ o. ok_or o Usage) (asks ∙ ap result_ok (sym c.in_ok-request_of-in-Ok.ensures.said))))
+
+pub returns-in-Err-clause-answers : goal.returns-in-Err-clause-answers
+returns-in-Err-clause-answers c =
     let words = texts_of c.args.words.now in
     let answer = subst (λ k. AnswersKind k c.answer_to.result) c.kind.ensures (c.answer_to.ensures.memory, c.answer_to.ensures.other) in
-    let given = failed (app_of c.in_ok-command.command) c.in_ok-command.ensures words c.in-Err.error _ c.in-Err.ensures.kinds answer in
-    record {
-      replay = exactly_replay _ _ given;
-      help = exactly_help _ _ given;
-      usage = exactly_usage _ _ given;
-      plain = plainly words _ given;
-    }
+    failed (app_of c.in_ok-command.command) c.in_ok-command.ensures words c.in-Err.error _ c.in-Err.ensures.kinds answer

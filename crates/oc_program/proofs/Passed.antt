@@ -1,0 +1,152 @@
+-- What passed through the adapters, over bytes in memory and over streams of which the counts are known.
+use Rattle.std.proofs.Common.{◌≡◌, ◌∙◌, ℕ, ◌+◌, ◌-◌, ◌^◌, ◌<◌, ◌≤◌, min, cond, List, [], ◌++◌, length, Option, Some, None, Result, Err, ap, sym, subst, inl, inr, arith, append-nil, length-append}
+use Rattle.std.proofs.lemmas.Bool.{lt-ltb}
+use Rattle.std.specs.Str.Lines.{lines}
+use Rattle.oc_adapters.specs.Counts.{Rises}
+use Rattle.oc_adapters.specs.Readers as readers
+use Rattle.oc_adapters.specs.Writers as writers
+use Rattle.oc_adapters.specs.declared.reader_source.ReaderSource.{ReaderSource}
+use Rattle.oc_adapters.specs.declared.traffic.Traffic.{Traffic}
+use Rattle.oc_adapters.specs.declared.writer_sink.WriterSink.{WriterSink}
+use Rattle.oc_base.specs.declared.limits.TheConstants.{MAX_SCHEDULE_BYTES}
+use Rattle.oc_outside.specs.Faults.{Rose}
+use Rattle.oc_replay.specs.Replay.{IsInput, PassesLimit}
+use Rattle.oc_schedule.specs.Schedule.{read_lines, schedule_of}
+use Rattle.oc_schedule.specs.Script.{Script}
+use Rattle.oc_schedule.specs.declared.fault.ScheduleFault.{ScheduleFault}
+use Rattle.oc_schedule.specs.declared.fault.ScheduleFault.TheVariants.{Limit}
+use Rattle.oc_schedule.specs.declared.fault.What.{What}
+use Rattle.oc_schedule.specs.declared.fault.What.TheVariants as limits
+use Rattle.oc_program.specs.Outside.{at_sink, at_source}
+use Rattle.oc_program.specs.Run.{IsWrittenOrCut}
+use Rattle.oc_program.specs.Streams.{HasFailed, IsCountOf, IsCountOfLineOrFront, IsLineOrFront, at_bytes, at_input, at_output, at_text}
+use Rattle.oc_program.proofs.Told.{TellsInput, TellsOutput}
+
+-- a counter that began at 0 and is a u64 is the number of the bytes, where a u64 has it
+count_is : (a n b : ℕ) → a ≡ 0 → b ≤ 2 ^ 64 - 1 → Rises a n b → b ≡ min n (2 ^ 64 - 1)
+count_is a n b began fits (inl e) = omega (arith, began, fits, e)
+count_is a n b began fits (inr h) = omega (arith, began, fits, h.0, h.1)
+
+-- where a count rose from 0 a call failed
+failed_since : (a b : ℕ) → a ≡ 0 → Rose a b → 0 < b
+failed_since a b began (inl more) = omega (arith, began, more)
+failed_since a b began (inr last) = omega (arith, last)
+
+-- a text of too many bytes is refused for them
+pub long_refused : (bytes : List ℕ) → MAX_SCHEDULE_BYTES < length bytes → schedule_of bytes ≡ Err (Limit limits.Bytes)
+long_refused bytes more = ap (λ b. cond b (Err (Limit limits.Bytes)) (read_lines 1 None (lines bytes))) (lt-ltb MAX_SCHEDULE_BYTES (length bytes) more)
+
+-- what passes a limit says so
+passing : {S : Type 0} (gives : S → List ℕ → S → Type 0) (ended : S → Type 0) (old new : S) (what : What) → PassesLimit gives ended old new what
+    → (bytes : List ℕ) × gives old bytes new × (schedule_of bytes ≡ Err (Limit what))
+passing gives ended old new limits.Bytes h = let (bytes, came, more) = h in (bytes, came, long_refused bytes more)
+passing gives ended old new limits.Lines h = (h.bytes, h.came, h.read)
+passing gives ended old new limits.Published h = (h.bytes, h.came, h.read)
+passing gives ended old new limits.Settles h = (h.bytes, h.came, h.read)
+
+-- ---- from bytes in memory
+
+module _ {R : Type 0} (old new : ReaderSource R) (left : R → List ℕ) (began : old.passed ≡ 0) (bytes : List ℕ) (bytes_are : left old.reader ≡ bytes) (few : length bytes ≤ 2 ^ 64 - 1)
+    (read : ℕ) (read_is : read ≡ new.passed) (fits : read ≤ 2 ^ 64 - 1) where
+  abbrev left_of : R → Option (List ℕ)
+  left_of r = Some (left r)
+
+  abbrev gives : ReaderSource R → List ℕ → ReaderSource R → Type 0
+  gives = readers.Came left_of
+
+  abbrev fails : ReaderSource R → List ℕ → ReaderSource R → Type 0
+  fails = readers.CameAndFailed left_of
+
+  abbrev ended : ReaderSource R → Type 0
+  ended = readers.HasEnded left_of
+
+  -- what came is no more than there was, and was counted
+  is_counted : (front : List ℕ) → readers.Passed left_of old front new → (read ≡ length front) × (length front ≤ length bytes)
+  is_counted front p =
+      let sum : length bytes ≡ length front + length (left new.reader) = ap length (sym bytes_are ∙ p.known) ∙ length-append front (left new.reader) in
+      let count = count_is old.passed (length front) read began fits (subst (λ n. Rises old.passed (length front) n) (sym read_is) p.counts) in
+      (omega (arith, sum, few, count), omega (arith, sum))
+
+  -- where nothing is left, all came
+  is_whole : (front : List ℕ) → readers.Passed left_of old front new → ended new → bytes ≡ front
+  is_whole front p end = sym bytes_are ∙ (p.known ∙ (ap (λ rest. front ++ rest) end.known ∙ append-nil front))
+
+  says_it : (r : Result Script ScheduleFault) → IsInput gives ended old new r → (schedule_of bytes ≡ r) × (read ≡ length bytes)
+  says_it r h =
+      let whole = is_whole h.bytes h.came.passed h.whole in
+      (ap schedule_of whole ∙ h.read, (is_counted h.bytes h.came.passed).0 ∙ ap length (sym whole))
+
+  passes_it : (what : What) → PassesLimit gives ended old new what → (schedule_of bytes ≡ Err (Limit what)) × (read ≤ length bytes)
+  passes_it limits.Bytes h =
+      let (front, came, more) = h in
+      let counted = is_counted front came.passed in
+      (long_refused bytes (omega (arith, more, counted.1)), omega (arith, counted.0, counted.1))
+  passes_it limits.Lines h = let (refused, all) = says_it _ h in (refused, omega (arith, all))
+  passes_it limits.Published h = let (refused, all) = says_it _ h in (refused, omega (arith, all))
+  passes_it limits.Settles h = let (refused, all) = says_it _ h in (refused, omega (arith, all))
+
+  -- what came is no more than there was
+  came_it : (front : List ℕ) → readers.Passed left_of old front new → read ≤ length bytes
+  came_it front p = let counted = is_counted front p in omega (arith, counted.0, counted.1)
+
+  pub bytes_told : TellsInput (at_source gives fails ended (λ s. s.faults) old new) (at_bytes bytes read)
+  bytes_told = record {
+    says = says_it;
+    passes = passes_it;
+    failed = λ h. came_it h.0.0 h.0.1.passed;
+    came = λ h. came_it h.0 h.1.passed;
+    unread = λ same. read_is ∙ (ap (λ s. s.passed) same ∙ began);
+  }
+
+-- ---- into memory
+
+module _ {W : Type 0} (old new : WriterSink W) (held : W → List ℕ) (began : held old.writer ≡ []) (output : List ℕ) (output_is : output ≡ held new.writer) where
+  abbrev held_by : W → Option (List ℕ)
+  held_by w = Some (held w)
+
+  is_held : (text : List ℕ) → writers.Passed held_by old text new → output ≡ text
+  is_held text p = output_is ∙ (p.known ∙ ap (λ front. front ++ text) began)
+
+  pub text_told : TellsOutput (at_sink (writers.Went held_by) (writers.WentAndFailed held_by) (λ s. s.faults) old new) (at_text output)
+  text_told = record {
+    written = λ text h. is_held text h.passed;
+    cut_off = λ text h. is_held text h.0.passed;
+  }
+
+  pub line_told : (line : List ℕ) → IsWrittenOrCut (writers.Went held_by) (writers.WentAndFailed held_by) (λ s. s.faults) old new line → IsLineOrFront output line
+  line_told line (inl h) = inl (is_held line h.passed)
+  line_told line (inr h) = inr (h.0.0, is_held _ h.0.1.passed)
+
+-- ---- at streams
+
+module _ {R : Type 0} (old new : ReaderSource R) (remaining : R → Option (List ℕ)) (began : old.passed ≡ 0) (sound : old.faults ≡ 0)
+    (traffic : Traffic) (bytes_are : traffic.bytes ≡ new.passed) (faults_are : traffic.faults ≡ new.faults) (fits : traffic.bytes ≤ 2 ^ 64 - 1) where
+  was_read : (bytes : List ℕ) → readers.Passed remaining old bytes new → IsCountOf traffic bytes
+  was_read bytes p = count_is old.passed (length bytes) traffic.bytes began fits (subst (λ n. Rises old.passed (length bytes) n) (sym bytes_are) p.counts)
+
+  pub input_told : TellsInput (at_source (readers.Came remaining) (readers.CameAndFailed remaining) (readers.HasEnded remaining) (λ s. s.faults) old new) (at_input traffic)
+  input_told = record {
+    says = λ r h. (h.bytes, was_read h.bytes h.came.passed, h.read);
+    passes = λ what h. let (bytes, came, refused) = passing _ _ old new what h in (bytes, was_read bytes came.passed, refused);
+    failed = λ h. subst (λ n. 0 < n) (sym faults_are) (failed_since old.faults new.faults sound h.1);
+    came = λ h. (h.0, was_read h.0 h.1.passed);
+    unread = λ same. (bytes_are ∙ ap (λ s. s.passed) same ∙ began, faults_are ∙ ap (λ s. s.faults) same ∙ sound);
+  }
+
+module _ {W : Type 0} (old new : WriterSink W) (contents : W → Option (List ℕ)) (began : old.passed ≡ 0) (sound : old.faults ≡ 0)
+    (traffic : Traffic) (bytes_are : traffic.bytes ≡ new.passed) (faults_are : traffic.faults ≡ new.faults) (fits : traffic.bytes ≤ 2 ^ 64 - 1) where
+  was_written : (text : List ℕ) → writers.Passed contents old text new → IsCountOf traffic text
+  was_written text p = count_is old.passed (length text) traffic.bytes began fits (subst (λ n. Rises old.passed (length text) n) (sym bytes_are) p.counts)
+
+  has_failed : Rose old.faults new.faults → HasFailed traffic
+  has_failed rose = subst (λ n. 0 < n) (sym faults_are) (failed_since old.faults new.faults sound rose)
+
+  pub output_told : TellsOutput (at_sink (writers.Went contents) (writers.WentAndFailed contents) (λ s. s.faults) old new) (at_output traffic)
+  output_told = record {
+    written = λ text h. was_written text h.passed;
+    cut_off = λ text h. (was_written text h.0.passed, has_failed h.1);
+  }
+
+  pub count_told : (line : List ℕ) → IsWrittenOrCut (writers.Went contents) (writers.WentAndFailed contents) (λ s. s.faults) old new line → IsCountOfLineOrFront traffic line
+  count_told line (inl h) = inl (was_written line h.passed)
+  count_told line (inr h) = inr ((h.0.0, was_written _ h.0.1.passed), has_failed h.1)

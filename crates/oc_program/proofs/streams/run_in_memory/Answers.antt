@@ -1,0 +1,28 @@
+use Rattle.std.proofs.Common.{◌≡◌, ◌∙◌, ◌⊎◌, ◌≤◌, ◌^◌, ◌-◌, length, ap, rules, sym, subst}
+use Rattle.oc_schedule.specs.Schedule.{schedule_of}
+use Rattle.oc_program.specs.AtReplay.{status_for}
+use Rattle.oc_program.specs.Outside.{at_stage}
+use Rattle.oc_program.specs.Words.{asked, texts_of}
+use Rattle.oc_program.proofs.Passed.{bytes_told, line_told, text_told}
+use Rattle.oc_program.proofs.Statuses.{replayed_of}
+use Rattle.oc_program.proofs.Told.{happened_told}
+use Rattle.oc_program.proofs.streams.run_in_memory.Goals as goal
+
+pub returns : goal.returns
+returns g c =
+    let (end, usage, is, line, happened) = c.run-status.ensures.ended in
+    let words = asked (texts_of c.args.words.now) in
+    let stage = at_stage g.T.Stage.first g.T.Stage.after g.T.Stage.word g.T.Stage.world c.args.stage.now c.run-status.new.stage in
+    let few : length c.args.input.now ≤ 2 ^ 64 - 1 = search rules in
+    let fits : c.traffic.result.bytes ≤ 2 ^ 64 - 1 = search rules in
+    let input = bytes_told c.new-source.result c.run-status.new.input (λ r. r.now) c.new-source.ensures.passed
+    c.args.input.now (ap (λ r. r.now) c.new-source.ensures.reader) few c.traffic.result.bytes c.traffic.ensures.bytes fits in
+    let output = text_told c.new-out.result c.run-status.new.out (λ v. v.items) (ap (λ v. v.items) c.new-out.ensures.writer ∙ c.new.ensures.items)
+    c.into_writer.result.items (ap (λ v. v.items) c.into_writer.ensures) in
+    let written = line_told c.new-err.result c.run-status.new.err (λ v. v.items) (ap (λ v. v.items) c.new-err.ensures.writer ∙ c.new-2.ensures.items)
+    c.into_writer-2.result.items (ap (λ v. v.items) c.into_writer-2.ensures) _ line in
+    let told = happened_told _ _ _ _ stage input output words end happened in
+    record {
+      ended = (end, usage, is, written, told);
+      replayed = λ asks. subst (λ n. (n ≡ status_for (schedule_of c.args.input.now)) ⊎ (n ≡ 1) ⊎ (n ≡ 4)) (sym is) (replayed_of c.args.input.now c.traffic.result.bytes _ stage words end asks told);
+    }

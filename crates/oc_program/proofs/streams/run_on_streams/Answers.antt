@@ -1,0 +1,22 @@
+use Rattle.std.proofs.Common.{◌≤◌, ◌^◌, ◌-◌, None, rules}
+use Rattle.oc_program.specs.Outside.{at_stage}
+use Rattle.oc_program.specs.Words.{asked, texts_of}
+use Rattle.oc_program.proofs.Passed.{count_told, input_told, output_told}
+use Rattle.oc_program.proofs.Told.{happened_told}
+use Rattle.oc_program.proofs.streams.run_on_streams.Goals as goal
+
+pub returns : goal.returns
+returns g c =
+    let (end, usage, is, line, happened) = c.run-status.ensures.ended in
+    let words = asked (texts_of c.args.words.now) in
+    let stage = at_stage g.T.Stage.first g.T.Stage.after g.T.Stage.word g.T.Stage.world c.args.stage.now c.run-status.new.stage in
+    let read : c.traffic.result.bytes ≤ 2 ^ 64 - 1 = search rules in
+    let written : c.traffic-2.result.bytes ≤ 2 ^ 64 - 1 = search rules in
+    let told : c.traffic-3.result.bytes ≤ 2 ^ 64 - 1 = search rules in
+    let input = input_told c.new-stdin.result c.run-status.new.input (λ r. None) c.new-stdin.ensures.passed c.new-stdin.ensures.faults
+    c.traffic.result c.traffic.ensures.bytes c.traffic.ensures.faults read in
+    let output = output_told c.new-stdout.result c.run-status.new.out (λ w. None) c.new-stdout.ensures.passed c.new-stdout.ensures.faults
+    c.traffic-2.result c.traffic-2.ensures.bytes c.traffic-2.ensures.faults written in
+    let line_is = count_told c.new-stderr.result c.run-status.new.err (λ w. None) c.new-stderr.ensures.passed c.new-stderr.ensures.faults
+    c.traffic-3.result c.traffic-3.ensures.bytes c.traffic-3.ensures.faults told _ line in
+    record { ended = (end, usage, is, line_is, happened_told _ _ _ _ stage input output words end happened) }

@@ -1,0 +1,58 @@
+-- A run over bytes in memory, and a run over streams of which it is known how many bytes passed.
+use Rattle.std.specs.Prelude.{◌≡◌, ℕ, ◌<◌, ◌≤◌, ◌^◌, ◌-◌, ◌⊎◌, List, length, min, Err}
+use Rattle.oc_adapters.specs.declared.traffic.Traffic.{Traffic}
+use Rattle.oc_replay.specs.Report.{SomeFront}
+use Rattle.oc_schedule.specs.Schedule.{schedule_of}
+use Rattle.oc_schedule.specs.declared.fault.ScheduleFault.TheVariants.{Limit}
+use Rattle.oc_program.specs.Outside.{Input, Output}
+
+-- ---- in memory
+
+-- of the bytes of the input this many were read
+abbrev pub at_bytes : List ℕ → ℕ → Input
+at_bytes bytes read = record {
+  says = λ says. (schedule_of bytes ≡ says) × (read ≡ length bytes);
+  passes = λ what. (schedule_of bytes ≡ Err (Limit what)) × (read ≤ length bytes);
+  failed = read ≤ length bytes;
+  came = read ≤ length bytes;
+  unread = read ≡ 0;
+}
+
+-- the output is this text
+abbrev pub at_text : List ℕ → Output
+at_text output = record { written = λ text. output ≡ text; cut_off = λ text. output ≡ text }
+
+-- the error output is this line, or a front of it
+abbrev pub IsLineOrFront : List ℕ → List ℕ → Type 0
+IsLineOrFront output line = (output ≡ line) ⊎ SomeFront line (λ front. output ≡ front)
+
+-- ---- at streams
+
+-- as many bytes passed as these are, where a u64 has their number
+abbrev pub IsCountOf : Traffic → List ℕ → Type 0
+IsCountOf traffic bytes = traffic.bytes ≡ min (length bytes) (2 ^ 64 - 1)
+
+-- a call failed
+abbrev pub HasFailed : Traffic → Type 0
+HasFailed traffic = 0 < traffic.faults
+
+-- as many bytes were read as some text has that says this
+abbrev pub at_input : Traffic → Input
+at_input traffic = record {
+  says = λ says. (bytes : List ℕ) × IsCountOf traffic bytes × (schedule_of bytes ≡ says);
+  passes = λ what. (bytes : List ℕ) × IsCountOf traffic bytes × (schedule_of bytes ≡ Err (Limit what));
+  failed = HasFailed traffic;
+  came = (bytes : List ℕ) × IsCountOf traffic bytes;
+  unread = (traffic.bytes ≡ 0) × (traffic.faults ≡ 0);
+}
+
+-- as many bytes were written as this text has
+abbrev pub at_output : Traffic → Output
+at_output traffic = record {
+  written = λ text. IsCountOf traffic text;
+  cut_off = λ text. IsCountOf traffic text × HasFailed traffic;
+}
+
+-- as many bytes were written as the line has, or as a front of it, and then a call failed
+abbrev pub IsCountOfLineOrFront : Traffic → List ℕ → Type 0
+IsCountOfLineOrFront traffic line = IsCountOf traffic line ⊎ (SomeFront line (IsCountOf traffic) × HasFailed traffic)

@@ -1,0 +1,14 @@
+pub mod LineEnds
+pub mod Forms
+pub mod Steps
+pub mod SizeSteps
+pub mod ChunkSteps
+pub mod ClosingSteps
+pub mod FieldCounts
+pub mod LineAnswers
+pub mod Fronts
+pub mod Collected
+pub mod Bodies
+pub mod OneWay
+pub mod Whole
+pub mod Written

@@ -1,0 +1,6 @@
+pub mod Chunked
+pub mod Unfinished
+pub mod Stages
+pub mod Taken
+pub mod Views
+pub mod Texts

@@ -1,0 +1,24 @@
+-- Bytes of which something is still to be read, and bytes of which it cannot be read.
+use Rattle.std.specs.Prelude.{◌≡◌, ℕ, List, [], ◌∷◌, ◌++◌}
+use Rattle.httparse.specs.Ascii.{line_feed}
+use Rattle.httparse.specs.Grammar.{Field, LineEnd, ReadsSection}
+
+-- bytes can follow that make these a whole one
+abbrev pub CanBecome : {T : Type 0} → (List ℕ → T → List ℕ → Type 0) → List ℕ → Type 0
+CanBecome {T} Reads bytes = (more : List ℕ) × (tree : T) × Reads (bytes ++ more) tree []
+
+-- the bytes begin with no whole one, and at the end of each line they could still become one
+pub record IsUnfinished {T : Type 0} (Reads : List ℕ → T → List ℕ → Type 0) (bytes : List ℕ) : Type 0 where
+  pub no_tree : (tree : T) (rest : List ℕ) → ¬ (Reads bytes tree rest)
+  pub goes_on : (line rest : List ℕ) → bytes ≡ line ++ line_feed ∷ rest → CanBecome Reads (line ++ line_feed ∷ [])
+
+-- since the end of the last line no bytes can follow with which there is one
+pub record IsHopeless {T : Type 0} (Reads : List ℕ → T → List ℕ → Type 0) (bytes : List ℕ) : Type 0 where
+  pub before : List ℕ
+  pub ends : bytes ≡ before ++ line_feed ∷ []
+  pub unfinished : IsUnfinished Reads before
+  pub never : (more : List ℕ) (tree : T) (rest : List ℕ) → ¬ (Reads (bytes ++ more) tree rest)
+
+-- the bytes are fields with their empty line, and then the rest
+abbrev pub ReadsFields : List ℕ → List Field × LineEnd → List ℕ → Type 0
+ReadsFields bytes fields rest = ReadsSection bytes fields.0 fields.1 rest

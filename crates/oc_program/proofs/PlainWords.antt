@@ -171,11 +171,17 @@ no_flags seed nodes events sample is =
     let (c, third, last) = both_gave (number_in b MAX_GENERATED_EVENTS events) _ sample more in
     (no_flag _ _ seed a first, no_flag _ _ nodes b second, no_flag _ _ events c third)
 
+-- three words that say a sample ask for it
+pub asked_by_sample : (seed nodes events : Text) (sample : Sample) → sample_in seed nodes events ≡ Ok sample
+    → asked (codes "gen" ∷ seed ∷ nodes ∷ events ∷ []) ≡ Some (Gen sample)
+asked_by_sample seed nodes events sample said =
+    let plain = no_flags seed nodes events sample said in
+    asked_by_gen seed nodes events plain.0 plain.1 plain.2 ∙ ap (λ s. result_ok (gen_of s)) said
+
 pub plain_asks : (words : List Text) → IsPlain words → asked words ≢ None
 plain_asks words (plain_replay is) = λ none.
     let asks : asked words ≡ Some Replay = ap asked is ∙ asked_by_replay in
     cc
 plain_asks words (plain_gen seed nodes events sample is said) = λ none.
-    let plain = no_flags seed nodes events sample said in
-    let asks : asked words ≡ Some (Gen sample) = ap asked is ∙ asked_by_gen seed nodes events plain.0 plain.1 plain.2 ∙ ap (λ s. result_ok (gen_of s)) said in
+    let asks : asked words ≡ Some (Gen sample) = ap asked is ∙ asked_by_sample seed nodes events sample said in
     cc

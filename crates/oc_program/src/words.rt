@@ -1,5 +1,5 @@
 //! Reads the words behind the program's name.
-ghost use Rattle.std.specs.Prelude.{◌≡◌, ◌≢◌, ◌∷◌, [], List, Some, None, IfOk, codes, ok_or};
+ghost use Rattle.std.specs.Prelude.{◌≡◌, ◌≢◌, ◌∷◌, [], List, Some, None, Ok, IfOk, codes, ok_or};
 ghost use Rattle.std.specs.Result.{result_ok};
 ghost use Rattle.clap.specs.Words.{Text, found_of, rows_of, subcommand_rows_of};
 ghost use Rattle.oc_program.specs.Arguments.{IsNoFlag};
@@ -120,9 +120,17 @@ fn answer_to(kind: ErrorKind) -> Result<Request, WordsFault>
 /// What the words of each row of the table of commands ask for.
 pub fn rows_ask()
     ensures replaying { asked (codes "replay" ∷ []) ≡ Some Request.Replay }
-    // Three words behind `gen` that are no flags ask for the sample that they say, if they say one.
-    ensures generating { (seed nodes events : Text) → IsNoFlag seed → IsNoFlag nodes → IsNoFlag events
+
+    // Three words behind `gen` ask for the sample that they say.
+    ensures generating { (seed nodes events : Text) (sample : Sample)
+        → sample_in seed nodes events ≡ Ok sample
+        → asked (codes "gen" ∷ seed ∷ nodes ∷ events ∷ []) ≡ Some (Request.Gen sample) }
+
+    // Where none of them begins with `-`, they ask for nothing else.
+    ensures generating_only { (seed nodes events : Text)
+        → IsNoFlag seed → IsNoFlag nodes → IsNoFlag events
         → asked (codes "gen" ∷ seed ∷ nodes ∷ events ∷ [])
         ≡ result_ok (gen_of (sample_in seed nodes events)) }
+
     ensures plain { (words : List Text) → IsPlain words → asked words ≢ None }
 {}

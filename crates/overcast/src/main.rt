@@ -1,30 +1,29 @@
-//! The program `overcast`: [`run`] over the words, the standard streams and a world in memory.
+//! The program `overcast`: [`run_on_streams`] over the words, the standard streams and a world in memory.
 #![tactic(auto)]
 
-use oc_program::{End, ReaderSource, WriterSink, run, tell};
+use oc_program::{End, WriterSink, run_on_streams, tell};
 use oc_world::World;
 use std::process::ExitCode;
 use std::rt::Env;
 use std::{env, io};
 
 fn main(rt: HostRuntime) -> ExitCode {
-    let mut err = WriterSink::new(rt.stderr());
     let words = match given_words(&rt) {
         Ok(words) => words,
         Err(end) => {
-            tell(&mut err, end);
+            tell(&mut WriterSink::new(rt.stderr()), end);
             return ExitCode::from(end.status().number());
         }
     };
-    let status = run(
+    let ran = run_on_streams(
         rt.alloc(),
         words.as_slice(),
-        &mut ReaderSource::new(rt.stdin()),
-        &mut WriterSink::new(rt.stdout()),
-        &mut err,
+        rt.stdin(),
+        rt.stdout(),
+        rt.stderr(),
         &mut World::empty(rt.alloc()),
     );
-    ExitCode::from(status)
+    ExitCode::from(ran.status)
 }
 
 // The words behind the program's name. A word that is not text is no word of the program.

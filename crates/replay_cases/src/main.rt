@@ -3,17 +3,21 @@
 //!
 //! What the program does not play yet is named in `data/not_yet.txt`. Such a case is played too, and its
 //! line says that it is not yet as expected, or that it now is and has to leave that list.
+//!
+//! Behind them come the rows of `data/generated.txt`, runs of `gen` with a long output.
 #![tactic(auto)]
 
 mod always_down;
 mod case;
 mod expected;
+mod generated;
 mod outcome;
 mod verdict;
 
 use case::Case;
 use std::rt::Files;
 use std::{fs, io};
+use test_tools::play;
 
 fn main(rt: HostRuntime) -> io::Result<()> {
     let table = fs::read_to_string(&rt, "cases.txt")?;
@@ -30,7 +34,7 @@ fn main(rt: HostRuntime) -> io::Result<()> {
             }
         }
     }
-    Ok(())
+    play::<generated::Rows, _>(&rt, "generated")
 }
 
 /// Whether one of the lines is this name.

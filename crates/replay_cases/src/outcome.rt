@@ -71,7 +71,8 @@ impl Outcome {
     }
 }
 
-fn words_of(alloc: Global, column: &str) -> Result<Vec<String>, AllocError> {
+/// The words of a column, which stand with commas between them; `-` is no word.
+pub fn words_of(alloc: Global, column: &str) -> Result<Vec<String>, AllocError> {
     let mut words = Vec::new(alloc);
     if column != "-" {
         for word in column.split(',') {

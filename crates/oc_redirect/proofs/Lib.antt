@@ -4,3 +4,5 @@ pub mod Lists
 pub mod Rows
 pub mod Server
 pub mod Steps
+pub mod Names
+pub mod Locations

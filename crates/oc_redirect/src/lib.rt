@@ -8,11 +8,15 @@
 //! [`the_freest_listed_is_selected`] says what that is: a node past the chain that is listed, in the
 //! client's area if any such is, and of those the one that was sent the fewest clients, then the one
 //! with the least id.
+//!
+//! [`location`] and [`follow_location`] are the texts by which the client is told.
 #![tactic(auto)]
 
 mod law;
+mod locating;
 mod preference;
 mod selecting;
 
 pub use law::the_freest_listed_is_selected;
+pub use locating::{follow_location, location};
 pub use selecting::select;

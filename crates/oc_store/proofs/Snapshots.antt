@@ -38,7 +38,7 @@ begins_above generation records frame above is = rw is (by_list records above)
     by_list (r ∷ rs) h = absurd h
 
 -- lawful records have the generation of the snapshot that begins them
-generation_spelled : (nodes : ℕ) (records : List Record) → AreRecords nodes records → generation_in (records_bytes records) ≡ begun_generation records
+pub generation_spelled : (nodes : ℕ) (records : List Record) → AreRecords nodes records → generation_in (records_bytes records) ≡ begun_generation records
 generation_spelled nodes [] lawful = refl
 generation_spelled nodes (Snapshot generation ∷ records) lawful = snapshot_first generation records lawful.0.1
 generation_spelled nodes (r ∷ records) lawful = ap generation_in (flat_map-cons record_bytes r records)

@@ -1,5 +1,5 @@
 -- What the calls of a store promise.
-use Rattle.std.specs.Prelude.{◌≡◌, ◌⊎◌, ℕ, ◌+◌, ◌<◌, false, true, IsTrue, List, [], ◌∷◌, ◌++◌, length}
+use Rattle.std.specs.Prelude.{◌≡◌, ◌⊎◌, ℕ, ◌+◌, ◌<◌, ◌≤◌, false, true, IsTrue, List, [], ◌∷◌, ◌++◌, length}
 use Rattle.oc_outside.specs.DiskView.{DiskView, Takes, Fails, FailsToRead, HasNoFault}
 use Rattle.oc_journal.specs.JournalFile.{frames_of, IsNoJournal}
 use Rattle.oc_journal.specs.Promises.{LoadsSafely, OnlyReads, NoneFailed, Appends, ClosesByAppend}
@@ -90,6 +90,7 @@ pub record Commits {D : Type 0} (view : D → DiskView) (body : List ℕ) (old n
 -- a commit to an open store: at every moment the old frames are recovered, or those and the new one; the other file is not touched
 pub record CommitsSafely {D : Type 0} (view : D → DiskView) (body : List ℕ) (old new : StoreView D) : Type 0 where
   pub any_moment : old.closed ≡ false → AreHonest view old → RecoversEither view old new old.current.frames (old.current.frames ++ body ∷ [])
+  pub later : old.closed ≡ false → IsTrue (view old.current.disk).honest → (view old.current.disk).moment ≤ (view new.current.disk).moment
   pub takes : Takes (length body + 6) 4 (view old.current.disk) (view new.current.disk)
   pub other : new.other ≡ old.other
   pub side : new.side ≡ old.side
@@ -108,6 +109,7 @@ pub record TurnsOver {D : Type 0} (view : D → DiskView) (snapshot : List ℕ) 
   pub kept : AreHonest view old → Recovers view new (snapshot ∷ [])
   pub end : new.current.end ≡ 13 + length snapshot
   pub spare : new.current.spare + 1 ≡ old.other.spare + length old.other.frames
+  pub later : IsTrue (view old.other.disk).honest → (view old.other.disk).moment ≤ (view new.current.disk).moment
   pub takes : Takes (length snapshot + 7) 6 (view old.other.disk) (view new.current.disk)
   pub no_fault : HasNoFault (view old.other.disk) (view new.current.disk)
   pub other : new.other ≡ old.current
@@ -119,6 +121,7 @@ pub record TurnsOver {D : Type 0} (view : D → DiskView) (snapshot : List ℕ) 
 -- a turning over that failed, which closes the store and keeps what is current
 pub record ClosesByTurn {D : Type 0} (view : D → DiskView) (snapshot : List ℕ) (old new : StoreView D) : Type 0 where
   pub fails : Fails (length snapshot + 7) 6 (view old.other.disk) (view new.other.disk)
+  pub later : IsTrue (view old.other.disk).honest → (view old.other.disk).moment ≤ (view new.other.disk).moment
   pub takes : Takes (length snapshot + 7) 6 (view old.other.disk) (view new.other.disk)
   pub current : new.current ≡ old.current
   pub side : new.side ≡ old.side

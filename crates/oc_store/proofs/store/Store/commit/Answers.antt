@@ -24,6 +24,7 @@ returns-in-Ok-clause-safely g c =
     let i = c.self.invariant in
     rw (← c.self.view_is) (record {
       any_moment = λ is_open honest. commit_moments g.D.Disk.view s.side s.current.disk c.append.new.self.disk s.other.disk s.current.frames s.other.frames c.args.frame.now (g.met.D.Disk.consistent s.other.disk honest.1) (i.kept_other is_open honest.1) (i.ordered is_open honest.0 honest.1) (c.append.ensures.safely.any_moment (i.open_current is_open) honest.0);
+      later = λ is_open honest. (c.append.ensures.safely.any_moment (i.open_current is_open) honest).later;
       takes = search rules;
       other = search rules;
       side = search rules;
@@ -35,6 +36,7 @@ returns-in-Err-Disk-clause-safely g c =
     let i = c.self.invariant in
     rw (← c.self.view_is) (record {
       any_moment = λ is_open honest. commit_moments g.D.Disk.view s.side s.current.disk c.append.new.self.disk s.other.disk s.current.frames s.other.frames c.args.frame.now (g.met.D.Disk.consistent s.other.disk honest.1) (i.kept_other is_open honest.1) (i.ordered is_open honest.0 honest.1) (c.append.ensures.safely.any_moment (i.open_current is_open) honest.0);
+      later = λ is_open honest. (c.append.ensures.safely.any_moment (i.open_current is_open) honest).later;
       takes = search rules;
       other = search rules;
       side = search rules;
@@ -46,6 +48,7 @@ returns-in-Err-Full-clause-safely g c =
     let i = c.self.invariant in
     rw (← c.self.view_is) (record {
       any_moment = λ is_open honest. commit_moments g.D.Disk.view s.side s.current.disk c.append.new.self.disk s.other.disk s.current.frames s.other.frames c.args.frame.now (g.met.D.Disk.consistent s.other.disk honest.1) (i.kept_other is_open honest.1) (i.ordered is_open honest.0 honest.1) (c.append.ensures.safely.any_moment (i.open_current is_open) honest.0);
+      later = λ is_open honest. (c.append.ensures.safely.any_moment (i.open_current is_open) honest).later;
       takes = search rules;
       other = search rules;
       side = search rules;

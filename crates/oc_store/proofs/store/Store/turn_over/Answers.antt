@@ -27,6 +27,7 @@ returns-clause-turns g c =
           kept_recovers g.D.Disk.view (opposite s.side) c.put_in_place.new.journal.disk s.current.disk (c.args.snapshot.now ∷ []) s.current.frames kept (i.kept_current c.if-self.false honest.0) (current_other s.side s.current.frames c.args.snapshot.now above);
       end = search rules;
       spare = search rules;
+      later = λ honest. (c.in-Ok.ensures.any_moment honest).later;
       takes = search rules;
       no_fault = search rules;
       other = search rules;

@@ -1,0 +1,2 @@
+pub mod Quash
+pub mod Calm

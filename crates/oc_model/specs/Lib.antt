@@ -1,6 +1,5 @@
 pub mod Node
 pub mod Lawful
-pub mod Playable
 pub mod Numbers
 pub mod Certificates
 pub mod Table

@@ -1,0 +1,12 @@
+pub mod Limits
+pub mod Wants
+pub mod Sizes
+pub mod Sides
+pub mod Stays
+pub mod Growth
+pub mod Committing
+pub mod Steps
+pub mod Loads
+pub mod Replacing
+pub mod Stops
+pub mod Runs

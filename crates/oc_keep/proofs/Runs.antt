@@ -1,0 +1,197 @@
+-- Taking inputs one after another.
+use Rattle.std.proofs.Common.{◌≡◌, inl, inr, ℕ, ◌+◌, ◌<◌, false, true, IsTrue, List, [], ◌∷◌, ◌++◌, length, reverse, take, refl, sym, ap, subst, ◌∙◌, arith, append_assoc}
+use Rattle.std.specs.List.{AllByRecursion}
+use Rattle.std.proofs.lemmas.List.{append-nil, length-append, reverse-append}
+use Rattle.oc_model.specs.declared.input.Input.{Input}
+use Rattle.oc_model.specs.Lawful.{IsInput}
+use Rattle.oc_model.specs.Node.{Header, Node}
+use Rattle.oc_model.specs.Step.{step}
+use Rattle.oc_outside.specs.DiskView.{DiskView}
+use Rattle.oc_outside.proofs.Counts.{Rose-after}
+use Rattle.oc_outside.proofs.DiskMoments.{GoesOn-then, still_reliable}
+use Rattle.oc_keep.specs.declared.errors.KeepError.{KeepError}
+use Rattle.oc_keep.specs.declared.errors.KeepError.TheVariants as keeps
+use Rattle.oc_keep.specs.Files.{Disks, AllGoOn, AreHonest, AreReliable, Leaves, OneRose, SameAsEither, SameDurable, Survives}
+use Rattle.oc_keep.specs.KeptView.{AtAnyMoment, IsHonest, KeptView, NodeSurvives, disks_of, header_of, node_of}
+use Rattle.oc_keep.specs.Promises.{ChangesNothing, Closes, IsSameNode}
+use Rattle.oc_keep.specs.Trials.{HasTakeCause, LeavesTaken, after_inputs}
+use Rattle.oc_keep.proofs.Stays.{AllStay, Law, all_honest, leaves_now, nothing_stays}
+
+-- Lists of inputs
+
+-- one input more
+after_push : (n : Node) (t : List Input) (i : Input) → after_inputs n (t ++ i ∷ []) ≡ (step (after_inputs n t) i).node
+after_push n [] i = refl
+after_push n (x ∷ t) i = after_push (step n x).node t i
+
+-- the front of two lists in a row
+take_front : (t rest : List Input) → take (length t) (t ++ rest) ≡ t
+take_front [] rest = refl
+take_front (x ∷ t) rest = ap (λ (xs : List Input). x ∷ xs) (take_front t rest)
+
+-- Disks
+
+pub all_go_on_then : {D : Type 0} (view : D → DiskView) (a b c : Disks D) → AllGoOn view a b → AllGoOn view b c → AllGoOn view a c
+all_go_on_then view a b c first second = record {
+  control = GoesOn-then (view a.control) (view b.control) (view c.control) first.control second.control;
+  alternate = GoesOn-then (view a.alternate) (view b.alternate) (view c.alternate) first.alternate second.alternate;
+  content = GoesOn-then (view a.content) (view b.content) (view c.content) first.content second.content;
+}
+
+pub all_reliable : {D : Type 0} (view : D → DiskView) (a b : Disks D) → AllGoOn view a b → AreReliable view a → AreReliable view b
+all_reliable view a b on sure = record {
+  control = still_reliable (view a.control) (view b.control) on.control sure.control;
+  alternate = still_reliable (view a.alternate) (view b.alternate) on.alternate sure.alternate;
+  content = still_reliable (view a.content) (view b.content) on.content sure.content;
+}
+
+-- a count that rose behind others
+pub one_rose_after : {D : Type 0} (view : D → DiskView) (a b c : Disks D) → AllGoOn view a b → OneRose view b c → OneRose view a c
+one_rose_after view a b c on (inl rose) = inl (Rose-after _ _ _ on.control.count rose)
+one_rose_after view a b c on (inr (inl rose)) = inr (inl (Rose-after _ _ _ on.alternate.count rose))
+one_rose_after view a b c on (inr (inr rose)) = inr (inr (Rose-after _ _ _ on.content.count rose))
+
+-- nothing was written, so every crash leaves what it left
+leaves_stays : {D : Type 0} (view : D → DiskView) (h : Header) (me : ℕ) (old new : Disks D) (P : Node → Type 0) → AreHonest view old → AllStay view old new → Leaves view h me old P → Leaves view h me new P
+leaves_stays view h me old new P honest stay leaves = record {
+  each = λ a b c left. leaves.each a b c (record {
+    control = stay.control.images honest.control a left.control;
+    alternate = stay.alternate.images honest.alternate b left.alternate;
+    content = stay.content.images honest.content c left.content;
+  });
+}
+
+-- A run
+
+-- these inputs were taken, and these are left
+pub record IsSoFar {D : Type 0} (view : D → DiskView) (first now : KeptView D) (all rest : List Input) (done : ℕ) : Type 0 where
+  pub taken : List Input
+  pub split : all ≡ taken ++ rest
+  pub count : done ≡ length taken
+  pub is_open : now.closed ≡ false
+  pub same : IsSameNode first.node.control now.node.control
+  pub on : AllGoOn view (disks_of first) (disks_of now)
+  pub node : IsHonest view first → node_of now ≡ after_inputs (node_of first) taken
+  pub survives : IsHonest view first → NodeSurvives view now (node_of now)
+  pub lawful : AllByRecursion (IsInput first.node.control.nodes first.node.control.me) rest
+
+module _ {D : Type 0} (view : D → DiskView) (law : Law view) (first : KeptView D) (all : List Input) where
+  -- before the first
+  pub so_far_none : first.closed ≡ false → (IsHonest view first → NodeSurvives view first (node_of first)) → AllByRecursion (IsInput first.node.control.nodes first.node.control.me) all → IsSoFar view first first all all 0
+  so_far_none is_open survives lawful = record {
+    taken = [];
+    split = refl;
+    count = refl;
+    is_open = is_open;
+    same = record { me = refl; header = refl };
+    on = go_on_same;
+    node = λ _. refl;
+    survives = survives;
+    lawful = lawful;
+  }
+    where
+      go_on_same : AllGoOn view (disks_of first) (disks_of first)
+      go_on_same = record {
+        control = record { honest = refl; reliable = refl; name = refl; listed = refl; count = omega arith };
+        alternate = record { honest = refl; reliable = refl; name = refl; listed = refl; count = omega arith };
+        content = record { honest = refl; reliable = refl; name = refl; listed = refl; count = omega arith };
+      }
+
+  -- the last of the list is the next
+  pub popped : (now : KeptView D) (inputs rest : List Input) (i : Input) (done : ℕ) → inputs ≡ rest ++ i ∷ [] → IsSoFar view first now all (reverse inputs) done → IsSoFar view first now all (i ∷ reverse rest) done
+  popped now inputs rest i done is so = subst (λ (left : List Input). IsSoFar view first now all left done) (ap reverse is ∙ reverse-append rest (i ∷ [])) so
+
+  -- the next input is one of this node
+  pub next_lawful : (now : KeptView D) (i : Input) (rest : List Input) (done : ℕ) → IsSoFar view first now all (i ∷ rest) done → IsInput now.node.control.nodes now.node.control.me i
+  next_lawful now i rest done so =
+      subst (λ (me : ℕ). IsInput now.node.control.nodes me i) (sym so.same.me)
+      (subst (λ (h : Header). IsInput h.nodes first.node.control.me i) (sym so.same.header) so.lawful.0)
+
+  -- it was taken
+  pub so_far_on : (now new : KeptView D) (i : Input) (rest : List Input) (done : ℕ) → IsSoFar view first now all (i ∷ rest) done
+      → new.closed ≡ now.closed → IsSameNode now.node.control new.node.control → AllGoOn view (disks_of now) (disks_of new)
+      → (IsHonest view now → node_of new ≡ (step (node_of now) i).node) → (IsHonest view now → NodeSurvives view new (node_of new))
+      → IsSoFar view first new all rest (done + 1)
+  so_far_on now new i rest done so still same on node survives = record {
+    taken = so.taken ++ i ∷ [];
+    split = so.split ∙ sym (append_assoc so.taken (i ∷ []) rest);
+    count = omega (arith, so.count, length-append so.taken (i ∷ []));
+    is_open = still ∙ so.is_open;
+    same = record { me = same.me ∙ so.same.me; header = same.header ∙ so.same.header };
+    on = all_go_on_then view (disks_of first) (disks_of now) (disks_of new) so.on on;
+    node = λ honest. node (later honest) ∙ ap (λ (n : Node). (step n i).node) (so.node honest) ∙ sym (after_push (node_of first) so.taken i);
+    survives = λ honest. survives (later honest);
+    lawful = so.lawful.1;
+  }
+    where
+      later : IsHonest view first → IsHonest view now
+      later honest = all_honest view (disks_of first) (disks_of now) so.on honest
+
+  -- all were taken
+  pub so_far_all : (now : KeptView D) (done : ℕ) → IsSoFar view first now all [] done → (done ≡ length all) × (IsHonest view first → Survives view (header_of first.node.control) first.node.control.me (disks_of now) (after_inputs (node_of first) all))
+  so_far_all now done so =
+      let whole : all ≡ so.taken = so.split ∙ append-nil so.taken in (
+        so.count ∙ ap length (sym whole),
+        λ honest.
+            subst (λ (is : List Input). Survives view (header_of first.node.control) first.node.control.me (disks_of now) (after_inputs (node_of first) is)) (sym whole)
+            (named now so.same (λ h me. Survives view h me (disks_of now) (after_inputs (node_of first) so.taken))
+            (subst (λ (n : Node). NodeSurvives view now n) (so.node honest) (so.survives honest))),
+      )
+    where
+      named : (now : KeptView D) → IsSameNode first.node.control now.node.control → (P : Header → ℕ → Type 0) → P (header_of now.node.control) now.node.control.me → P (header_of first.node.control) first.node.control.me
+      named now same P p = subst (λ (me : ℕ). P (header_of first.node.control) me) same.me (subst (λ (h : Header). P h now.node.control.me) same.header p)
+
+  -- the next was refused
+  pub refused_count : (now : KeptView D) (i : Input) (rest : List Input) (done : ℕ) → IsSoFar view first now all (i ∷ rest) done → done < length all
+  refused_count now i rest done so = omega (arith, so.count, ap length so.split, length-append so.taken (i ∷ rest))
+
+  pub refused_cause : (now new : KeptView D) (i : Input) (rest : List Input) (done : ℕ) (error : KeepError) → IsSoFar view first now all (i ∷ rest) done
+      → (error ≡ keeps.Closed → IsTrue now.closed) → (error ≡ keeps.Disk → Closes view now new) → HasTakeCause view (disks_of first) (disks_of new) error
+  refused_cause now new i rest done keeps.Closed so closed disk = let no : now.closed ≡ true = closed refl in let yes = so.is_open in absurd cc
+  refused_cause now new i rest done keeps.Memory so closed disk = tt
+  refused_cause now new i rest done keeps.Full so closed disk = tt
+  refused_cause now new i rest done keeps.Disk so closed disk = one_rose_after view (disks_of first) (disks_of now) (disks_of new) so.on (disk refl).rose
+
+  pub refused_leaves : (now new : KeptView D) (i : Input) (rest : List Input) (done : ℕ) (error : KeepError) → IsSoFar view first now all (i ∷ rest) done → AllGoOn view (disks_of now) (disks_of new)
+      → ((error ≡ keeps.Disk → ⊥) → ChangesNothing view now new)
+      → (IsHonest view now → AtAnyMoment view now new (SameAsEither (node_of now) (step (node_of now) i).node))
+      → IsHonest view first → LeavesTaken view (header_of first.node.control) first.node.control.me (node_of first) all (disks_of new) done error
+  refused_leaves now new i rest done error so on unchanged moments honest = by_error error unchanged where
+    later : IsHonest view now
+    later = all_honest view (disks_of first) (disks_of now) so.on honest
+
+    front : take done all ≡ so.taken
+    front = ap (λ (n : ℕ). take n all) so.count ∙ ap (take (length so.taken)) so.split ∙ take_front so.taken (i ∷ rest)
+
+    more : take (done + 1) all ≡ so.taken ++ i ∷ []
+    more =
+        let long : done + 1 ≡ length (so.taken ++ i ∷ []) = omega (arith, so.count, length-append so.taken (i ∷ [])) in
+        ap (λ (n : ℕ). take n all) long ∙ ap (take (length (so.taken ++ i ∷ []))) (so.split ∙ sym (append_assoc so.taken (i ∷ []) rest)) ∙ take_front (so.taken ++ i ∷ []) rest
+
+    before : node_of now ≡ after_inputs (node_of first) (take done all)
+    before = so.node honest ∙ ap (after_inputs (node_of first)) (sym front)
+
+    after : (step (node_of now) i).node ≡ after_inputs (node_of first) (take (done + 1) all)
+    after = ap (λ (n : Node). (step n i).node) (so.node honest) ∙ sym (after_push (node_of first) so.taken i) ∙ ap (after_inputs (node_of first)) (sym more)
+
+    named : (P : Header → ℕ → Type 0) → P (header_of now.node.control) now.node.control.me → P (header_of first.node.control) first.node.control.me
+    named P p = subst (λ (me : ℕ). P (header_of first.node.control) me) so.same.me (subst (λ (h : Header). P h now.node.control.me) so.same.header p)
+
+    failed : Leaves view (header_of first.node.control) first.node.control.me (disks_of new) (SameAsEither (after_inputs (node_of first) (take done all)) (after_inputs (node_of first) (take (done + 1) all)))
+    failed =
+        subst (λ (n : Node). Leaves view (header_of first.node.control) first.node.control.me (disks_of new) (SameAsEither (after_inputs (node_of first) (take done all)) n)) after
+        (subst (λ (n : Node). Leaves view (header_of first.node.control) first.node.control.me (disks_of new) (SameAsEither n (step (node_of now) i).node)) before
+        (named (λ h me. Leaves view h me (disks_of new) (SameAsEither (node_of now) (step (node_of now) i).node))
+        (leaves_now view (header_of now.node.control) now.node.control.me (disks_of now) (disks_of new) (SameAsEither (node_of now) (step (node_of now) i).node) law (all_honest view (disks_of now) (disks_of new) on later) (moments later))))
+
+    kept : ChangesNothing view now new → Survives view (header_of first.node.control) first.node.control.me (disks_of new) (after_inputs (node_of first) (take done all))
+    kept nothing =
+        subst (λ (n : Node). Survives view (header_of first.node.control) first.node.control.me (disks_of new) n) before
+        (named (λ h me. Survives view h me (disks_of new) (node_of now))
+        (leaves_stays view (header_of now.node.control) now.node.control.me (disks_of now) (disks_of new) (SameDurable (node_of now)) later (nothing_stays view now new nothing) (so.survives honest)))
+
+    by_error : (e : KeepError) → ((e ≡ keeps.Disk → ⊥) → ChangesNothing view now new) → LeavesTaken view (header_of first.node.control) first.node.control.me (node_of first) all (disks_of new) done e
+    by_error keeps.Closed unchanged = kept (unchanged (λ e. absurd cc))
+    by_error keeps.Memory unchanged = kept (unchanged (λ e. absurd cc))
+    by_error keeps.Full unchanged = kept (unchanged (λ e. absurd cc))
+    by_error keeps.Disk unchanged = failed

@@ -1,0 +1,134 @@
+-- What a step wants to send of the content is there.
+use Rattle.std.proofs.Common.{◌≡◌, ℕ, ◌+◌, ◌<◌, Bool, true, false, ◌==◌, nat_lt, if◌then◌else◌, Option, Some, None, List, [], ◌∷◌, length, Less, nat_cmp, refl, arith}
+use Rattle.std.specs.Cmp.Lexicographic.{slice_cmp}
+use Rattle.std.proofs.lemmas.Bool.Decides.{nat_tests}
+use Rattle.oc_base.specs.declared.shelf.Shelf.{Shelf}
+use Rattle.oc_base.specs.Named.{same_name}
+use Rattle.oc_base.specs.Shelves.{line_of, AreLines, AreLinesAbove, IsShelf}
+use Rattle.oc_base.proofs.NameOrder.{same_name-itself, names_apart}
+use Rattle.oc_model.specs.declared.answer.Answer.TheVariants as words
+use Rattle.oc_model.specs.declared.input.Input.{Input}
+use Rattle.oc_model.specs.declared.input.Input.TheVariants as inputs
+use Rattle.oc_model.specs.declared.message.Body.{Body}
+use Rattle.oc_model.specs.declared.message.Body.TheVariants as bodies
+use Rattle.oc_model.specs.declared.mode.Mode.{Mode}
+use Rattle.oc_model.specs.declared.mode.Mode.TheVariants as modes
+use Rattle.oc_model.specs.declared.answer.Answer.{Answer}
+use Rattle.oc_model.specs.Content.{unless, keeps, grows, publish_to, seal_line, count_from, wanted, answers_fetch, adds_seal, adds, grown_line, asks_on, chunk_to}
+use Rattle.oc_model.specs.Node.{Control}
+use Rattle.oc_model.specs.Plan.{Plan, answers, begun, ignored}
+use Rattle.oc_model.specs.Shelves.{line_at, with_line, limit, is_behind, first_behind}
+use Rattle.oc_model.specs.Step.{plan, received}
+use Rattle.oc_laws_step.proofs.Adopts.{goes_asked}
+use Rattle.oc_laws_step.proofs.Asks.{goes_took_yes, goes_took_no, goes_unreachable, goes_relocate}
+use Rattle.oc_laws_step.proofs.Checks.{goes_checks, goes_tick, goes_checked_in, goes_took_ack, goes_took_rejoin}
+use Rattle.oc_laws_step.proofs.Goes.{Goes, either}
+use Rattle.oc_laws_step.proofs.Looks.{goes_looked, goes_sees}
+use Rattle.oc_laws_step.proofs.Serves.{goes_client, goes_measured}
+use Rattle.oc_laws_step.proofs.Steps.{goes_pulled}
+use Rattle.oc_keep.specs.Puts.{CanWant}
+
+-- The line that is sent of
+
+-- a line that is found among these is the one of its name, and above what is below them
+record IsAmong (ls : List Shelf) (l : Shelf) : Type 0 where
+  its : line_of l.group ls ≡ Some l
+  above : (g : List ℕ) → AreLinesAbove g ls → slice_cmp nat_cmp g l.group ≡ Less
+
+abbrev IfAmong : List Shelf → Option Shelf → Type 0
+IfAmong ls None = Unit {0}
+IfAmong ls (Some l) = IsAmong ls l
+
+-- one line before it
+among_more : (k : Shelf) (ls : List Shelf) (l : Option Shelf) → AreLinesAbove k.group ls → IfAmong ls l → IfAmong (k ∷ ls) l
+among_more k ls None up h = tt
+among_more k ls (Some l) up h =
+    let other : same_name l.group k.group ≡ false = names_apart k.group l.group (h.above k.group up) in
+    record { its = rw other h.its; above = λ g all. h.above g all.1 }
+
+behind_among : (have ls : List Shelf) → AreLines ls → IfAmong ls (first_behind have ls)
+behind_among have [] all = tt
+behind_among have (k ∷ ks) all = by_test (behind_among have ks all.2) (is_behind (line_of k.group have) k) where
+  by_test : IfAmong ks (first_behind have ks) → (b : Bool) → IfAmong (k ∷ ks) (if b then Some k else first_behind have ks)
+  by_test rest true = record { its = rw (same_name-itself k.group) refl; above = λ g above. above.0 }
+  by_test rest false = among_more k ks (first_behind have ks) all.1 rest
+
+-- what is wanted of a line is within it
+want_held : (ls : List Shelf) (l : Shelf) (start : ℕ) → IsAmong ls l → CanWant ls (wanted l start (count_from l start))
+want_held ls l start among = by_test (count_from l start == 0) refl where
+  by_test : (b : Bool) → (count_from l start == 0) ≡ b → CanWant ls (if b then None else Some (record { group = l.group; start = start; count = count_from l start }))
+  by_test true e = tt
+  by_test false e =
+      let some : 0 < count_from l start = grind (arith, nat_tests) in
+      record { line = l; there = among.its; within = omega (arith, some); few = omega arith }
+
+fetch_wants : (ls have : List Shelf) (n : Control) (p : ℕ) (l : Option Shelf) → IfAmong ls l → CanWant ls (answers_fetch (begun n) p have l).wants
+fetch_wants ls have n p None among = tt
+fetch_wants ls have n p (Some l) among = want_held ls l (line_at l.group have).held among
+
+-- The rules
+
+-- every other rule wants nothing
+nothing_wanted : (ls : List Shelf) (e k : ℕ) (n : Control) (q : Plan) → Goes e k (begun n) q → CanWant ls q.wants
+nothing_wanted ls e k n q h = rw h.by.wants tt
+
+-- the rules that keep content want none
+module _ (ls : List Shelf) where
+  abbrev Wants : Plan → Type 0
+  Wants q = CanWant ls q.wants
+
+  unless_wants : (a : Option Answer) (o q : Plan) → Wants o → Wants q → Wants (unless a o q)
+  unless_wants None o q h k = k
+  unless_wants (Some a) o q h k = h
+
+  publish_wants : (o : Plan) (l : Shelf) (count : ℕ) → Wants o → Wants (publish_to o ls l count)
+  publish_wants o l count h =
+      either l.sealed Wants (answers o words.Sealed) _ h
+      (unless_wants (limit ls l.group (l.held + count)) o _ h (either (grows ls l.group count) Wants (keeps o l.held false) o h h))
+
+  seal_wants : (o : Plan) (l : Option Shelf) → Wants o → Wants (seal_line o l)
+  seal_wants o None h = h
+  seal_wants o (Some l) h = either l.sealed Wants (ignored o) (keeps o l.held true) h h
+
+  asks_wants : (m : Mode) (p : ℕ) (shelf : List Shelf) (q : Plan) → Wants q → Wants (asks_on m p shelf q)
+  asks_wants modes.Idle p shelf q h = h
+  asks_wants (modes.Asking r) p shelf q h = h
+  asks_wants (modes.Joined r) p shelf q h = either (r == p) Wants _ q h h
+  asks_wants modes.Acting p shelf q h = h
+
+  chunk_wants : (o : Plan) (p : ℕ) (l : Shelf) (start end : ℕ) (last : Bool) → Wants o → Wants (chunk_to o ls p l start end last)
+  chunk_wants o p l start end last h =
+      either (nat_lt l.held start) Wants (answers o words.Gap) _ h
+      (either _ Wants (answers o words.Sealed) _ h
+      (unless_wants (limit ls l.group end) o _ h
+      (either (adds ls l end last) Wants _ (ignored o) (asks_wants o.node.kept.mode p (with_line (grown_line l end last) ls) (keeps o start (adds_seal l end last)) h) h)))
+
+received_wants : (n : Control) (ls : List Shelf) (p : ℕ) (b : Body) → AreLines ls → CanWant ls (received (begun n) ls p b).wants
+received_wants n ls p bodies.Look ok = nothing_wanted ls 0 0 n _ (goes_looked (begun n) p)
+received_wants n ls p (bodies.LookIs is_in parent rate children) ok = nothing_wanted ls 0 2 n _ (goes_sees (begun n) p (record { in_tree = is_in; parent = parent; rate = rate; children = children }))
+received_wants n ls p (bodies.Ask seq rank) ok = nothing_wanted ls 1 1 n _ (goes_asked (begun n) p seq rank)
+received_wants n ls p (bodies.Yes seq rank ancestors) ok = nothing_wanted ls 0 2 n _ (goes_took_yes (begun n) p seq rank ancestors)
+received_wants n ls p (bodies.No seq why) ok = nothing_wanted ls 0 3 n _ (goes_took_no (begun n) p seq why)
+received_wants n ls p (bodies.CheckIn seq upto rate number clients certs) ok = nothing_wanted ls (length certs + 1) 0 n _ (goes_checked_in (begun n) p seq upto rate number clients certs)
+received_wants n ls p (bodies.CheckAck seq upto rank ancestors) ok = nothing_wanted ls 0 3 n _ (goes_took_ack (begun n) p seq upto rank ancestors)
+received_wants n ls p (bodies.Rejoin seq) ok = nothing_wanted ls 0 1 n _ (goes_took_rejoin (begun n) p seq)
+received_wants n ls p (bodies.Fetch have) ok = fetch_wants ls have n p (first_behind have ls) (behind_among have ls ok)
+received_wants n ls p (bodies.Chunk g start bytes last) ok =
+    either (n.me == 1) (Wants ls) (ignored (begun n)) (chunk_to (begun n) ls p (line_at g ls) start (start + length bytes) last)
+    tt (chunk_wants ls (begun n) p (line_at g ls) start (start + length bytes) last tt)
+
+-- what a step wants is held
+pub wants_held : (n : Control) (ls : List Shelf) (i : Input) → IsShelf ls → CanWant ls (plan n ls i).wants
+wants_held n ls (inputs.Tick t) ok = nothing_wanted ls (length n.kept.table) 2 n _ (goes_tick (begun n) ls t)
+wants_held n ls inputs.CheckNow ok = nothing_wanted ls 0 2 n _ (goes_checks (begun n))
+wants_held n ls (inputs.Relocate p) ok = nothing_wanted ls 0 1 n _ (goes_relocate (begun n) p)
+wants_held n ls (inputs.Unreachable p) ok = nothing_wanted ls 0 3 n _ (goes_unreachable (begun n) p)
+wants_held n ls (inputs.Pull p) ok = nothing_wanted ls 0 0 n _ (goes_pulled (begun n) ls p)
+wants_held n ls (inputs.Measured p rate hops) ok = nothing_wanted ls 0 1 n _ (goes_measured (begun n) p rate hops)
+wants_held n ls (inputs.Publish g bytes) ok =
+    either (n.me == 1) (Wants ls) (publish_to (begun n) ls (line_at g ls) (length bytes)) (answers (begun n) words.NotSource)
+    (publish_wants ls (begun n) (line_at g ls) (length bytes) tt) tt
+wants_held n ls (inputs.Seal g) ok =
+    either (n.me == 1) (Wants ls) (seal_line (begun n) (line_of g ls)) (answers (begun n) words.NotSource) (seal_wants ls (begun n) (line_of g ls) tt) tt
+wants_held n ls (inputs.Client area start g) ok = nothing_wanted ls 0 0 n _ (goes_client (begun n) ls area start g)
+wants_held n ls (inputs.Delivered m) ok = received_wants n ls m.from m.body ok.0

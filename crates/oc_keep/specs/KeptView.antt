@@ -1,0 +1,99 @@
+-- A node on its files, as a contract sees it.
+use Rattle.std.specs.Prelude.{◌≡◌, ℕ, ◌+◌, ◌-◌, ◌^◌, ◌<◌, ◌≤◌, Bool, false, IsTrue, List, [], ◌∷◌, length, Option, Some, None}
+use Rattle.oc_base.specs.declared.limits.TheConstants.{DUE_BYTES, MAX_BASE_ACKED, MAX_FRAME_RECORDS, MAX_LOG_LENGTH}
+use Rattle.oc_content.specs.ContentFile.{IsShelved, groups_in}
+use Rattle.oc_content.specs.ContentView.{ContentView}
+use Rattle.oc_content.specs.Entries.{written}
+use Rattle.oc_journal.specs.JournalView.{HasFrames}
+use Rattle.oc_journal.specs.Promises.{IsFullFor}
+use Rattle.oc_model.specs.declared.input.Input.{Input}
+use Rattle.oc_model.specs.declared.record.Record.{Record}
+use Rattle.oc_model.specs.Node.{Control, Header, Node, new_durable}
+use Rattle.oc_model.specs.Plan.{Plan}
+use Rattle.oc_model.specs.Records.{folded}
+use Rattle.oc_model.specs.Snapshot.{snapshot}
+use Rattle.oc_model.specs.Step.{piece_of, plan}
+use Rattle.oc_node.specs.NodeView.{IsReached, NodeView}
+use Rattle.oc_outside.specs.DiskView.{DiskView}
+use Rattle.oc_record.specs.Spelling.{records_bytes}
+use Rattle.oc_store.specs.ControlFiles.{records_of}
+use Rattle.oc_store.specs.StoreView.{StoreView, first_disk, second_disk, Recovers}
+use Rattle.oc_keep.specs.Files.{Disks, AreHonest, AlwaysLeaves, Survives}
+use Rattle.oc_keep.specs.Puts.{entry_for}
+
+-- the node, its control files, its content file, and whether a disk failed
+pub record KeptView (D : Type 0) : Type 0 where
+  pub node : NodeView
+  pub store : StoreView D
+  pub content : ContentView D
+  pub closed : Bool
+
+-- among so many nodes, with a chain of this length and these areas
+abbrev pub header : ℕ → ℕ → List ℕ → Header
+header nodes chain areas = record { nodes = nodes; chain = chain; areas = areas }
+
+-- one of these parts
+abbrev pub kept_of : {D : Type 0} → NodeView → StoreView D → ContentView D → Bool → KeptView D
+kept_of node store content closed = record { node = node; store = store; content = content; closed = closed }
+
+-- among which nodes a node is
+abbrev pub header_of : Control → Header
+header_of n = record { nodes = n.nodes; chain = n.chain; areas = n.areas }
+
+-- the disks of its files
+abbrev pub disks_of : {D : Type 0} → KeptView D → Disks D
+disks_of k = record { control = first_disk k.store; alternate = second_disk k.store; content = k.content.journal.disk }
+
+-- the node of the model: its groups are those of its content file
+abbrev pub node_of : {D : Type 0} → KeptView D → Node
+node_of k = record { control = k.node.control; groups = groups_in k.content.journal.frames }
+
+-- the disks keep the disk model
+abbrev pub IsHonest : {D : Type 0} → (D → DiskView) → KeptView D → Type 0
+IsHonest view k = AreHonest view (disks_of k)
+
+-- every crash now leaves the durable parts of this node
+abbrev pub NodeSurvives : {D : Type 0} → (D → DiskView) → KeptView D → Node → Type 0
+NodeSurvives view k n = Survives view (header_of k.node.control) k.node.control.me (disks_of k) n
+
+-- every crash at any moment since the old disks leaves a node with P
+abbrev pub AtAnyMoment : {D : Type 0} → (D → DiskView) → KeptView D → KeptView D → (Node → Type 0) → Type 0
+AtAnyMoment view old new P = AlwaysLeaves view (header_of old.node.control) old.node.control.me (disks_of old) (disks_of new) P
+
+-- While no disk failed: what is durable is the fold of the current control file, and every crash of honest disks leaves what is on them.
+-- The change log is within its limit, since a certificate that is noted behind a base has its own record in the file.
+pub record IsKept {D : Type 0} (view : D → DiskView) (k : KeptView D) : Type 0 where
+  pub reached : IsReached k.node.control
+  pub open_store : k.closed ≡ false → k.store.closed ≡ false
+  pub open_content : k.closed ≡ false → k.content.journal.closed ≡ false
+  pub folds : k.closed ≡ false → IsHonest view k
+      → k.node.control.kept ≡ folded (new_durable k.node.control.nodes) (records_of k.node.control.nodes k.store.current.frames)
+  pub control_files : k.closed ≡ false → IsHonest view k → Recovers view k.store k.store.current.frames
+  pub content_file : k.closed ≡ false → IsHonest view k → HasFrames (view k.content.journal.disk) k.content.journal.frames
+  pub shelved : IsTrue (view k.content.journal.disk).honest → IsShelved k.content.journal.frames k.content.shelves
+  pub log : k.closed ≡ false → k.node.control.kept.log.length ≤ MAX_BASE_ACKED + k.store.current.end
+  pub short : k.node.control.kept.log.length ≤ MAX_LOG_LENGTH
+
+-- Full files
+
+-- with the frame of these records, or else of this piece, its file would pass its limit
+abbrev pub IsFullWith : {D : Type 0} → KeptView D → Input → List Record → Option ℕ → Bool → Type 0
+IsFullWith k i (r ∷ rs) keeps closes = IsFullFor (length (records_bytes (r ∷ rs))) k.store.current
+IsFullWith k i [] (Some at) closes = IsFullFor (length (written (entry_for k.content.shelves (piece_of i) at closes))) k.content.journal
+IsFullWith k i [] None closes = ⊥
+
+abbrev pub IsFullByPlan : {D : Type 0} → KeptView D → Input → Plan → Type 0
+IsFullByPlan k i o = IsFullWith k i o.records o.keeps o.seals
+
+-- with what this input writes, its file would pass its limit
+abbrev pub IsFullAt : {D : Type 0} → KeptView D → Input → Type 0
+IsFullAt k i = IsFullByPlan k i (plan k.node.control k.content.shelves i)
+
+-- Turning over
+
+-- the control files can be turned over: the current one is long, the snapshot fits a frame, and its log a base
+pub record IsRipe {D : Type 0} (k : KeptView D) : Type 0 where
+  pub long : DUE_BYTES < k.store.current.end
+  pub next : k.store.generation < 2 ^ 64 - 1
+  pub few : length (snapshot (k.store.generation + 1) k.node.control.kept) ≤ MAX_FRAME_RECORDS
+  pub based : k.node.control.kept.log.length ≤ MAX_BASE_ACKED

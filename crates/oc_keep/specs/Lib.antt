@@ -1,0 +1,9 @@
+pub mod Puts
+pub mod Files
+pub mod Errors
+pub mod KeptView
+pub mod Writing
+pub mod ReadyView
+pub mod Turning
+pub mod Promises
+pub mod Trials

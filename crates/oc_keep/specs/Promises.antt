@@ -1,0 +1,93 @@
+-- What the calls of a node on its files promise.
+use Rattle.std.specs.Prelude.{◌≡◌, ◌⊎◌, ℕ, ◌+◌, true, false, IsTrue, IsSome, List, [], ◌∷◌}
+use Rattle.oc_content.specs.ContentFile.{content_of, IsBadAt as IsBadContentAt}
+use Rattle.oc_content.specs.Promises.{PutsNothing}
+use Rattle.oc_journal.specs.JournalFile.{frames_of, IsNoJournal}
+use Rattle.oc_model.specs.Node.{Control, Header}
+use Rattle.oc_model.specs.Snapshot.{snapshot}
+use Rattle.oc_record.specs.Spelling.{records_bytes}
+use Rattle.oc_store.specs.Sides.{opposite}
+use Rattle.oc_outside.specs.DiskView.{DiskView, FailsToRead}
+use Rattle.oc_store.specs.ControlFiles.{IsGood, IsBadAt}
+use Rattle.oc_store.specs.Promises.{HasGood}
+use Rattle.oc_keep.specs.declared.errors.KeepLoad.{KeepLoad}
+use Rattle.oc_keep.specs.declared.errors.KeepLoad.TheVariants as loads
+use Rattle.oc_keep.specs.declared.errors.Which.TheVariants.{Control as ControlFile, Alternate, Content}
+use Rattle.oc_keep.specs.Files.{Disks, AreHonest, AllGoOn, AlwaysLeaves, IsLeft, OneRose, Survives, recovered}
+use Rattle.oc_keep.specs.KeptView.{KeptView, disks_of, header_of, node_of}
+use Rattle.oc_keep.specs.Writing.{KeepsStore}
+
+-- Loading
+
+-- a content file whose frames are all good
+abbrev pub IsContentFile : List ℕ → Type 0
+IsContentFile file = (¬ IsNoJournal file) × IsSome (content_of (frames_of file))
+
+-- the files of a node: in each, every frame belongs there
+pub record AreFiles (nodes : ℕ) (a b c : List ℕ) : Type 0 where
+  pub control : IsGood nodes a
+  pub alternate : IsGood nodes b
+  pub content : IsContentFile c
+
+-- what reads of three disks give are the files of a node
+abbrev pub HoldFiles : {D : Type 0} → (D → DiskView) → ℕ → Disks D → Type 0
+HoldFiles view nodes d = AreFiles nodes (view d.control).seen (view d.alternate).seen (view d.content).seen
+
+-- the node that the disks give back, started, which every crash now leaves
+pub record IsNodeOf {D : Type 0} (view : D → DiskView) (h : Header) (me : ℕ) (d : Disks D) (k : KeptView D) : Type 0 where
+  pub header : header_of k.node.control ≡ h
+  pub id : k.node.control.me ≡ me
+  pub node : AreHonest view d → node_of k ≡ recovered h me (view d.control).seen (view d.alternate).seen (view d.content).seen
+  pub survives : AreHonest view d → Survives view h me (disks_of k) (node_of k)
+  pub files : AreHonest view d → HoldFiles view h.nodes d
+  pub unclosed : k.closed ≡ false
+
+-- a load: every crash at any moment of it leaves what some crash at its start would have left
+pub record LoadsSafely {D : Type 0} (view : D → DiskView) (h : Header) (me : ℕ) (old new : Disks D) : Type 0 where
+  pub goes_on : AllGoOn view old new
+  pub any_moment : AreHonest view old → AlwaysLeaves view h me old new (IsLeft view h me old)
+
+-- why a node was not loaded: what is said of a file comes only where those before it are good
+abbrev pub RefusesNode : {D : Type 0} → (D → DiskView) → ℕ → Disks D → Disks D → KeepLoad → Type 0
+RefusesNode view nodes d e loads.Disk =
+    FailsToRead (view d.control) (view e.control)
+    ⊎ (HasGood nodes (view d.control) × FailsToRead (view d.alternate) (view e.alternate))
+    ⊎ (HasGood nodes (view d.control) × HasGood nodes (view d.alternate) × FailsToRead (view d.content) (view e.content))
+RefusesNode view nodes d e (loads.NotJournal ControlFile) = IsTrue (view d.control).honest → IsNoJournal (view d.control).seen
+RefusesNode view nodes d e (loads.NotJournal Alternate) =
+    HasGood nodes (view d.control) × (IsTrue (view d.alternate).honest → IsNoJournal (view d.alternate).seen)
+RefusesNode view nodes d e (loads.NotJournal Content) =
+    HasGood nodes (view d.control) × HasGood nodes (view d.alternate) × (IsTrue (view d.content).honest → IsNoJournal (view d.content).seen)
+RefusesNode view nodes d e (loads.BadFrame ControlFile i) = IsTrue (view d.control).honest → IsBadAt nodes i (view d.control).seen
+RefusesNode view nodes d e (loads.BadFrame Alternate i) =
+    HasGood nodes (view d.control) × (IsTrue (view d.alternate).honest → IsBadAt nodes i (view d.alternate).seen)
+RefusesNode view nodes d e (loads.BadFrame Content i) =
+    HasGood nodes (view d.control) × HasGood nodes (view d.alternate) × (IsTrue (view d.content).honest → IsBadContentAt (view d.content).seen i)
+RefusesNode view nodes d e loads.Memory = Unit {0}
+
+-- Changing
+
+-- who the node is stays
+pub record IsSameNode (old new : Control) : Type 0 where
+  pub me : new.me ≡ old.me
+  pub header : header_of new ≡ header_of old
+
+-- a call that wrote nothing: the node is as it was, and so is what is on its disks; all room is still there
+pub record ChangesNothing {D : Type 0} (view : D → DiskView) (old new : KeptView D) : Type 0 where
+  pub control : new.node.control ≡ old.node.control
+  pub store : KeepsStore view old.store new.store
+  pub content : PutsNothing view old.content new.content
+
+-- a call in which a disk failed, which closes the node
+pub record Closes {D : Type 0} (view : D → DiskView) (old new : KeptView D) : Type 0 where
+  pub rose : OneRose view (disks_of old) (disks_of new)
+  pub closes : new.closed ≡ true
+
+-- Turning over
+
+-- the other control file has one frame, a snapshot of the node under the next generation, and is current now
+pub record IsTurnedOver {D : Type 0} (view : D → DiskView) (old new : KeptView D) : Type 0 where
+  pub side : new.store.side ≡ opposite old.store.side
+  pub generation : new.store.generation ≡ old.store.generation + 1
+  pub frames : AreHonest view (disks_of old)
+      → new.store.current.frames ≡ records_bytes (snapshot (old.store.generation + 1) old.node.control.kept) ∷ []

@@ -1,0 +1,44 @@
+-- What a step keeps of its input's bytes, as the content log puts it.
+use Rattle.std.specs.Prelude.{◌≡◌, ℕ, ◌+◌, ◌≤◌, Bool, true, not, ◌||◌, nat_lt, Option, Some, None, is_some, List, length}
+use Rattle.oc_base.specs.declared.limits.TheConstants.{MAX_CHUNK_BYTES, MAX_GROUP_BYTES, MAX_PUBLISH_BYTES}
+use Rattle.oc_base.specs.declared.shelf.Shelf.{Shelf}
+use Rattle.oc_base.specs.Names.{IsGroupName}
+use Rattle.oc_base.specs.Shelves.{line_of}
+use Rattle.oc_content.specs.Entries.{Entry}
+use Rattle.oc_content.specs.Putting.{standing_in, fault_of, put_entry}
+use Rattle.oc_model.specs.declared.want.Want.{Want}
+use Rattle.oc_model.specs.Step.{Piece}
+
+-- the entry of a piece that begins at this place of its group, and perhaps closes it
+abbrev pub entry_for : List Shelf → Piece → ℕ → Bool → Entry
+entry_for shelf p at closes = put_entry (standing_in shelf p.group) p.group at p.bytes closes
+
+-- whether an entry adds anything: its group is new, or it has bytes or a seal
+abbrev pub adds_to : List Shelf → Entry → Bool
+adds_to shelf e = not (is_some (line_of e.group shelf)) || nat_lt 0 (length e.bytes) || e.seals
+
+-- a piece can be put: nothing refuses it, it adds something, and it closes its group exactly where it is to
+pub record CanPut (shelf : List Shelf) (p : Piece) (at : ℕ) (closes : Bool) : Type 0 where
+  pub named : IsGroupName p.group
+  pub few : length p.bytes ≤ MAX_PUBLISH_BYTES
+  pub short : (standing_in shelf p.group).held ≤ MAX_GROUP_BYTES
+  pub free : fault_of (standing_in shelf p.group) at (length p.bytes) ≡ None
+  pub adds : adds_to shelf (entry_for shelf p at closes) ≡ true
+  pub seals : (entry_for shelf p at closes).seals ≡ closes
+
+-- the same of what a step keeps, if it keeps anything
+abbrev pub CanKeep : List Shelf → Piece → Option ℕ → Bool → Type 0
+CanKeep shelf p None closes = Unit {0}
+CanKeep shelf p (Some at) closes = CanPut shelf p at closes
+
+-- bytes that a step wants are held, and are no more than a chunk has
+pub record IsHeldWant (shelf : List Shelf) (w : Want) : Type 0 where
+  pub line : Shelf
+  pub there : line_of w.group shelf ≡ Some line
+  pub within : w.start + w.count ≤ line.held
+  pub few : w.count ≤ MAX_CHUNK_BYTES
+
+-- the same of what a step wants, if it wants anything
+abbrev pub CanWant : List Shelf → Option Want → Type 0
+CanWant shelf None = Unit {0}
+CanWant shelf (Some w) = IsHeldWant shelf w

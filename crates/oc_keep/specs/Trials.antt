@@ -1,0 +1,76 @@
+-- What a trial leaves.
+use Rattle.std.specs.Prelude.{◌≡◌, ℕ, ◌+◌, ◌<◌, List, [], ◌∷◌, length, take}
+use Rattle.oc_model.specs.declared.input.Input.{Input}
+use Rattle.oc_model.specs.Node.{Header, Node}
+use Rattle.oc_model.specs.Step.{step}
+use Rattle.oc_outside.specs.DiskView.{DiskView}
+use Rattle.oc_keep.specs.declared.errors.KeepError.{KeepError}
+use Rattle.oc_keep.specs.declared.errors.KeepError.TheVariants as keeps
+use Rattle.oc_keep.specs.declared.errors.KeepLoad.TheVariants as loads
+use Rattle.oc_keep.specs.declared.ended.Trial.{Trial}
+use Rattle.oc_keep.specs.declared.ended.TrialEnd.{TrialEnd}
+use Rattle.oc_keep.specs.declared.ended.TrialEnd.TheVariants.{All, Load, Take}
+use Rattle.oc_keep.specs.Files.{Disks, IsLeft, Leaves, OneRose, SameAsEither, Survives, recovered}
+use Rattle.oc_keep.specs.KeptView.{KeptView, disks_of, header_of, node_of}
+use Rattle.oc_keep.specs.Promises.{RefusesNode}
+
+-- the node after these inputs, one after another
+abbrev pub after_inputs : Node → List Input → Node
+after_inputs n [] = n
+after_inputs n (i ∷ is) = after_inputs (step n i).node is
+
+-- the node that reads of three disks recover
+abbrev pub first_node : {D : Type 0} → (D → DiskView) → Header → ℕ → Disks D → Node
+first_node view h me d = recovered h me (view d.control).seen (view d.alternate).seen (view d.content).seen
+
+-- what every crash leaves of a node that took the first of these inputs, and then met this refusal: where a disk failed, one more may be taken
+abbrev pub LeavesTaken : {D : Type 0} → (D → DiskView) → Header → ℕ → Node → List Input → Disks D → ℕ → KeepError → Type 0
+LeavesTaken view h me n is d done keeps.Disk = Leaves view h me d (SameAsEither (after_inputs n (take done is)) (after_inputs n (take (done + 1) is)))
+LeavesTaken view h me n is d done error = Survives view h me d (after_inputs n (take done is))
+
+-- what every crash leaves after a trial that loaded this node
+abbrev pub LeavesEnd : {D : Type 0} → (D → DiskView) → Header → ℕ → Node → List Input → Disks D → ℕ → TrialEnd → Type 0
+LeavesEnd view h me n is d done All = Survives view h me d (after_inputs n is)
+LeavesEnd view h me n is d done (Load error) = ⊥
+LeavesEnd view h me n is d done (Take error) = LeavesTaken view h me n is d done error
+
+abbrev pub RunLeaves : {D : Type 0} → (D → DiskView) → KeptView D → List Input → KeptView D → Trial → Type 0
+RunLeaves view old is new t = LeavesEnd view (header_of old.node.control) old.node.control.me (node_of old) is (disks_of new) t.done t.end
+
+-- and after a trial: where the node was not loaded, what some crash at its start would have left
+abbrev pub LeavesBy : {D : Type 0} → (D → DiskView) → Header → ℕ → Disks D → List Input → Disks D → ℕ → TrialEnd → Type 0
+LeavesBy view h me old is new done (Load error) = Leaves view h me new (IsLeft view h me old)
+LeavesBy view h me old is new done end = LeavesEnd view h me (first_node view h me old) is new done end
+
+abbrev pub LeavesAfter : {D : Type 0} → (D → DiskView) → Header → ℕ → Disks D → List Input → Disks D → Trial → Type 0
+LeavesAfter view h me old is new t = LeavesBy view h me old is new t.done t.end
+
+-- how many inputs were taken: all, none, or fewer than all
+abbrev pub IsCount : List Input → ℕ → TrialEnd → Type 0
+IsCount is done All = done ≡ length is
+IsCount is done (Load error) = done ≡ 0
+IsCount is done (Take error) = done < length is
+
+abbrev pub IsCounted : List Input → Trial → Type 0
+IsCounted is t = IsCount is t.done t.end
+
+-- why a trial ended: a node was not loaded, or an input was not taken, for one of its causes; a node that is loaded is not closed
+abbrev pub HasTakeCause : {D : Type 0} → (D → DiskView) → Disks D → Disks D → KeepError → Type 0
+HasTakeCause view old new keeps.Closed = ⊥
+HasTakeCause view old new keeps.Disk = OneRose view old new
+HasTakeCause view old new error = Unit {0}
+
+abbrev pub HasRunCause : {D : Type 0} → (D → DiskView) → Disks D → Disks D → TrialEnd → Type 0
+HasRunCause view old new All = Unit {0}
+HasRunCause view old new (Load error) = ⊥
+HasRunCause view old new (Take error) = HasTakeCause view old new error
+
+abbrev pub HasCause : {D : Type 0} → (D → DiskView) → ℕ → Disks D → Disks D → TrialEnd → Type 0
+HasCause view nodes old new (Load error) = RefusesNode view nodes old new error
+HasCause view nodes old new end = HasRunCause view old new end
+
+-- all were taken, or memory ran out
+abbrev pub EndsSurely : TrialEnd → Type 0
+EndsSurely All = Unit {0}
+EndsSurely (Load error) = error ≡ loads.Memory
+EndsSurely (Take error) = error ≡ keeps.Memory

@@ -1,0 +1,430 @@
+ghost use Rattle.std.specs.Prelude.{◌≡◌, ◌≢◌, ◌↔◌, ◌&&◌, if◌then◌else◌, ℕ, ◌+◌, ◌-◌, ◌<◌, ◌≤◌, ◌^◌, false, true, length, take, drop, None, IsTrue, IsOk, IsErrOf, OnOk, OnErr, IfOk, IfErr};
+ghost use Rattle.oc_base.specs.Groups.{bytes_of, shelf};
+ghost use Rattle.oc_base.specs.Lawful.{IsNode};
+ghost use Rattle.oc_base.specs.Shelves.{held_of};
+ghost use Rattle.oc_base.specs.Stops.{is_kept_new};
+ghost use Rattle.oc_base.specs.declared.limits.TheConstants.{DUE_BYTES, MAX_LOG_LENGTH};
+ghost use Rattle.oc_keep.specs.Files.{AllGoOn, AreReliable, SameAsEither, SameDurable, Survives, disks};
+ghost use Rattle.oc_keep.specs.KeptView.{AtAnyMoment, IsFullAt, IsHonest, IsRipe, NodeSurvives, disks_of, header, header_of, node_of};
+ghost use Rattle.oc_keep.specs.Promises.{ChangesNothing, Closes, HoldFiles, IsNodeOf, IsSameNode, IsTurnedOver, LoadsSafely, RefusesNode};
+ghost use Rattle.oc_keep.specs.ReadyView.{AreLeftAs, CanCommit, CanStopWrite, IsFullToWrite, is_written, outcome_of, told_of};
+ghost use Rattle.oc_laws_step.specs.LawfulNode.{IsLawfulNode};
+ghost use Rattle.oc_model.specs.Lawful.{IsHeader, IsInput};
+ghost use Rattle.oc_model.specs.NextWorld.{writes};
+ghost use Rattle.oc_model.specs.Step.{step};
+ghost use Rattle.oc_outside.specs.MemDiskView.{view_of};
+
+use crate::errors::{CommitError, KeepError, KeepLoad, KeptRead, ReadyError, TidyError};
+use crate::ready::{Ready, Write};
+use crate::readying::make_ready;
+use crate::starting::start;
+use crate::turning::replace;
+use crate::writing::put;
+use oc_base::{GroupName, Memory, NodeId, Shelf};
+use oc_content::{Content, ReadError};
+use oc_laws_step::snapshots_stand_for_all;
+use oc_model::Input;
+use oc_node::{Node, Outcome};
+use oc_outside::{Disk, MemDisk};
+use oc_store::{Store, frames_add_their_records};
+use std::alloc::Global;
+use std::marker::Model;
+
+/// A node on its three files. A contract sees the node, its control files, its content file, and
+/// whether it is closed since a disk failed.
+#[derive(Drop)]
+pub struct Kept<D: Disk> {
+    alloc: Global,
+    node: Node,
+    store: Store<D>,
+    content: Content<D>,
+    closed: bool,
+}
+
+impl<D: Disk> Model for Kept<D> {
+    ghost use Rattle.oc_keep.specs.KeptView.{IsKept, KeptView, kept_of};
+
+    ghost Value = { KeptView D };
+
+    ghost view = { λ k. kept_of k.node k.store k.content k.closed };
+
+    ghost invariant = { λ k. IsKept D.view (kept_of k.node k.store k.content k.closed) };
+}
+
+impl<D: Disk> Kept<D> {
+    /// Loads a node from its three files, and starts it. The files are read in order, each whole before
+    /// the next; one of at most 9 bytes is new, and its header is written. On a refusal the disks come
+    /// back.
+    #[allow(clippy::too_many_arguments)]
+    pub fn load(
+        alloc: Global,
+        control: D,
+        alternate: D,
+        content: D,
+        me: NodeId,
+        nodes: u32,
+        chain: u32,
+        areas: Vec<u8>,
+    ) -> Result<Kept<D>, (D, D, D, KeepLoad)>
+        requires header { IsHeader (header nodes chain areas.items) }
+        requires me { IsNode nodes me }
+
+        // The node is the one that the files recover, and every crash now leaves it.
+        ensures loaded { IfOk result (λ kept.
+            IsNodeOf D.view (header nodes chain areas.items) me (disks control alternate content) kept) }
+
+        // At every moment a crash leaves what one at the start would have left.
+        ensures safely { IfOk result (λ kept. LoadsSafely D.view (header nodes chain areas.items) me
+            (disks control alternate content) (disks_of kept)) }
+        ensures safely_err { IfErr result (λ refused. LoadsSafely D.view (header nodes chain areas.items) me
+            (disks control alternate content) (disks refused.0 refused.1 refused.2)) }
+
+        // When it refuses.
+        ensures refuses { IfErr result (λ refused. RefusesNode D.view nodes
+            (disks control alternate content) (disks refused.0 refused.1 refused.2) refused.3) }
+
+        // The files of a node on reliable disks are loaded.
+        ensures works { IfErr result (λ refused. AreReliable D.view (disks control alternate content)
+            → HoldFiles D.view nodes (disks control alternate content) → refused.3 ≡ KeepLoad.Memory) }
+    {
+        let (store, list) = match Store::load(alloc, control, alternate, nodes) {
+            Ok(loaded) => loaded,
+            Err((control, alternate, error)) => {
+                return Err((control, alternate, content, KeepLoad::from(error)));
+            }
+        };
+        let content = match Content::load(alloc, content) {
+            Ok(content) => content,
+            Err((content, error)) => {
+                let (control, alternate) = store.into_disks();
+                return Err((control, alternate, content, KeepLoad::from(error)));
+            }
+        };
+        match start(alloc, me, nodes, chain, areas, &list, store.end()) {
+            Ok(node) => Ok(Kept {
+                alloc,
+                node,
+                store,
+                content,
+                closed: false,
+            }),
+            Err(Memory) => {
+                let (control, alternate) = store.into_disks();
+                Err((control, alternate, content.into_disk(), KeepLoad::Memory))
+            }
+        }
+    }
+
+    /// Takes an input: makes it ready, and commits it. The messages are handed out only once what is
+    /// durable of the step is safe. After `Disk` the node is closed.
+    pub fn take(&mut self, input: Input) -> Result<Outcome, KeepError>
+        requires { IsInput self.old.node.control.nodes self.old.node.control.me input }
+
+        // The outcome and the node are those of the step, and every crash now leaves the node.
+        ensures outcome { IfOk result (λ outcome. IsHonest D.view self.old
+            → outcome ≡ told_of (step (node_of self.old) input)) }
+        ensures node { OnOk result (IsHonest D.view self.old
+            → node_of self.new ≡ (step (node_of self.old) input).node) }
+        ensures survives { OnOk result (IsHonest D.view self.old
+            → NodeSurvives D.view self.new (node_of self.new)) }
+
+        // At every moment a crash leaves the node before the input or after it.
+        ensures any_moment { self.old.closed ≡ false → IsHonest D.view self.old
+            → AtAnyMoment D.view self.old self.new
+            (SameAsEither (node_of self.old) (step (node_of self.old) input).node) }
+
+        // When it refuses, and what it leaves then.
+        ensures closed { IsErrOf result KeepError.Closed ↔ IsTrue self.old.closed }
+        ensures full { IsErrOf result KeepError.Full → IsFullAt self.old input }
+        ensures fits { OnOk result (¬ IsFullAt self.old input) }
+        ensures unchanged { IfErr result (λ error. error ≢ KeepError.Disk
+            → ChangesNothing D.view self.old self.new) }
+        ensures node_err { OnErr result (IsHonest D.view self.old → node_of self.new ≡ node_of self.old) }
+        ensures disk { IsErrOf result KeepError.Disk → Closes D.view self.old self.new }
+        ensures stays_open { ¬ IsErrOf result KeepError.Disk → self.new.closed ≡ self.old.closed }
+        ensures same { IsSameNode self.old.node.control self.new.node.control }
+        ensures goes_on { AllGoOn D.view (disks_of self.old) (disks_of self.new) }
+
+        // An open node on reliable disks takes it, if there is the memory.
+        ensures works { self.old.closed ≡ false → AreReliable D.view (disks_of self.old)
+            → IfErr result (λ error. error ≡ KeepError.Memory) }
+    {
+        let ready = self.ready(input)?;
+        Ok(self.commit(ready)?)
+    }
+
+    /// Makes an input ready: takes all memory for its step, reads what the step sends, and changes
+    /// nothing. After `Disk` the node is closed.
+    pub fn ready(&mut self, input: Input) -> Result<Ready, ReadyError>
+        requires { IsInput self.old.node.control.nodes self.old.node.control.me input }
+
+        // What it will do is the step, and it can be committed.
+        ensures step { IfOk result (λ ready. IsHonest D.view self.old
+            → outcome_of (node_of self.old) ready ≡ step (node_of self.old) input) }
+        ensures writes { IfOk result (λ ready. IsHonest D.view self.old
+            → is_written ready.write ≡ writes (node_of self.old) input) }
+        ensures full { IfOk result (λ ready. IsFullToWrite self.new ready.write ↔ IsFullAt self.old input) }
+        ensures commits { IfOk result (λ ready. CanCommit D.view self.new ready) }
+        ensures fits { IfOk result (λ ready. AreReliable D.view (disks_of self.new) → ¬ IsFullToWrite self.new ready.write) }
+
+        // Nothing changes, and every crash leaves the same node.
+        ensures same { ChangesNothing D.view self.old self.new }
+        ensures node { IsHonest D.view self.old → node_of self.new ≡ node_of self.old }
+        ensures any_moment { self.old.closed ≡ false → IsHonest D.view self.old
+            → AtAnyMoment D.view self.old self.new (SameDurable (node_of self.old)) }
+
+        // When it refuses.
+        ensures closed { IsErrOf result ReadyError.Closed ↔ IsTrue self.old.closed }
+        ensures disk { IsErrOf result ReadyError.Disk → Closes D.view self.old self.new }
+        ensures stays_open { ¬ IsErrOf result ReadyError.Disk → self.new.closed ≡ self.old.closed }
+        ensures goes_on { AllGoOn D.view (disks_of self.old) (disks_of self.new) }
+
+        // On reliable disks it is made ready, if there is the memory.
+        ensures works { self.old.closed ≡ false → AreReliable D.view (disks_of self.old)
+            → IfErr result (λ error. error ≡ ReadyError.Memory) }
+    {
+        if self.closed {
+            return Err(ReadyError::Closed);
+        }
+        match make_ready(
+            self.alloc,
+            &mut self.node,
+            &mut self.store,
+            &mut self.content,
+            &input,
+        ) {
+            Ok(ready) => Ok(ready),
+            Err(ReadyError::Disk) => {
+                self.closed = true;
+                Err(ReadyError::Disk)
+            }
+            Err(ReadyError::Memory) => Err(ReadyError::Memory),
+            Err(ReadyError::Closed) => unreachable!(),
+        }
+    }
+
+    /// Takes an input that was made ready since the last change: writes what is durable of its step,
+    /// then changes the node, and hands out its messages. It takes no memory. After `Disk` the node is
+    /// closed.
+    pub fn commit(&mut self, ready: Ready) -> Result<Outcome, CommitError>
+        requires open { self.old.closed ≡ false }
+        requires ready { CanCommit D.view self.old ready }
+
+        // What was made ready is done, and every crash now leaves the node.
+        ensures outcome { IfOk result (λ outcome. outcome ≡ told_of (outcome_of (node_of self.old) ready)) }
+        ensures node { OnOk result (IsHonest D.view self.old
+            → node_of self.new ≡ (outcome_of (node_of self.old) ready).node) }
+        ensures survives { OnOk result (IsHonest D.view self.old
+            → NodeSurvives D.view self.new (node_of self.new)) }
+
+        // At every moment a crash leaves the node before the input or after it.
+        ensures any_moment { IsHonest D.view self.old → AtAnyMoment D.view self.old self.new
+            (SameAsEither (node_of self.old) (outcome_of (node_of self.old) ready).node) }
+
+        // When it refuses, and what it leaves then.
+        ensures full { IsErrOf result CommitError.Full ↔ IsFullToWrite self.old ready.write }
+        ensures unchanged { IsErrOf result CommitError.Full → self.new ≡ self.old }
+        ensures node_err { OnErr result (IsHonest D.view self.old → node_of self.new ≡ node_of self.old) }
+        ensures disk { IsErrOf result CommitError.Disk → Closes D.view self.old self.new }
+        ensures stays_open { ¬ IsErrOf result CommitError.Disk → self.new.closed ≡ false }
+        ensures same { IsSameNode self.old.node.control self.new.node.control }
+        ensures goes_on { AllGoOn D.view (disks_of self.old) (disks_of self.new) }
+
+        // On reliable disks it is taken.
+        ensures works { AreReliable D.view (disks_of self.old) → IsOk result }
+    {
+        frames_add_their_records();
+        let Ready { plan, write } = ready;
+        match put(&mut self.store, &mut self.content, write) {
+            Ok(()) => Ok(self.node.apply(plan)),
+            Err(CommitError::Full) => Err(CommitError::Full),
+            Err(CommitError::Disk) => {
+                self.closed = true;
+                Err(CommitError::Disk)
+            }
+        }
+    }
+
+    /// Turns the control files over, if they are ripe: writes a snapshot of the node to the control file
+    /// that is not current, which makes it current. It answers whether it did. After `Disk` the node is
+    /// closed.
+    pub fn tidy(&mut self) -> Result<bool, TidyError>
+        ensures ripe { IfOk result (λ turned. IsTrue turned ↔ IsRipe self.old) }
+        ensures turned { IfOk result (λ turned. IsTrue turned → IsTurnedOver D.view self.old self.new) }
+
+        // The node is as it was, and at every moment a crash leaves it.
+        ensures control { self.new.node.control ≡ self.old.node.control }
+        ensures content { self.new.content ≡ self.old.content }
+        ensures any_moment { self.old.closed ≡ false → IsHonest D.view self.old
+            → AtAnyMoment D.view self.old self.new (SameDurable (node_of self.old)) }
+
+        // When it refuses, and what it leaves then.
+        ensures stays { IfOk result (λ turned. turned ≡ false → self.new ≡ self.old) }
+        ensures unchanged { IfErr result (λ error. error ≢ TidyError.Disk → ChangesNothing D.view self.old self.new) }
+        ensures closed { IsErrOf result TidyError.Closed ↔ IsTrue self.old.closed }
+        ensures disk { IsErrOf result TidyError.Disk → Closes D.view self.old self.new }
+        ensures stays_open { ¬ IsErrOf result TidyError.Disk → self.new.closed ≡ self.old.closed }
+        ensures goes_on { AllGoOn D.view (disks_of self.old) (disks_of self.new) }
+
+        // On reliable disks the files of an open node are turned over, if there is the memory.
+        ensures works { self.old.closed ≡ false → AreReliable D.view (disks_of self.old)
+            → IfErr result (λ error. error ≡ TidyError.Memory) }
+    {
+        frames_add_their_records();
+        snapshots_stand_for_all();
+        if self.closed {
+            return Err(TidyError::Closed);
+        }
+        if !self.store.due() {
+            return Ok(false);
+        }
+        match replace(&self.node, &mut self.store) {
+            Ok(true) => Ok(true),
+            Ok(false) => Ok(false),
+            Err(TidyError::Disk) => {
+                self.closed = true;
+                Err(TidyError::Disk)
+            }
+            Err(TidyError::Memory) => Err(TidyError::Memory),
+            Err(TidyError::Closed) => unreachable!(),
+        }
+    }
+
+    /// Reads the bytes of a group from an offset on, as many as fit, and answers how many. After `Disk`
+    /// the node is closed.
+    pub fn read(&mut self, group: &GroupName, start: u64, buf: &mut [u8]) -> Result<usize, KeptRead>
+        ensures within { IfOk result (λ n. n ≤ length buf.old) }
+        ensures bytes { IfOk result (λ n. IsHonest D.view self.old
+            → take n buf.new ≡ take (length buf.old) (drop start (bytes_of group.now (node_of self.old).groups))) }
+
+        // Nothing changes, and every crash leaves the same node.
+        ensures same { ChangesNothing D.view self.old self.new }
+        ensures any_moment { self.old.closed ≡ false → IsHonest D.view self.old
+            → AtAnyMoment D.view self.old self.new (SameDurable (node_of self.old)) }
+
+        // When it refuses.
+        ensures closed { IsErrOf result KeptRead.Closed ↔ IsTrue self.old.closed }
+        ensures no_group { IsErrOf result KeptRead.NoGroup
+            ↔ ((self.old.closed ≡ false) × (held_of group.now self.old.content.shelves ≡ None)) }
+        ensures disk { IsErrOf result KeptRead.Disk → Closes D.view self.old self.new }
+        ensures stays_open { ¬ IsErrOf result KeptRead.Disk → self.new.closed ≡ self.old.closed }
+        ensures goes_on { AllGoOn D.view (disks_of self.old) (disks_of self.new) }
+
+        // On reliable disks a group that is held is read.
+        ensures works { self.old.closed ≡ false → AreReliable D.view (disks_of self.old)
+            → IfErr result (λ error. error ≡ KeptRead.NoGroup) }
+    {
+        if self.closed {
+            return Err(KeptRead::Closed);
+        }
+        match self.content.read(group, start, buf) {
+            Ok(count) => Ok(count),
+            Err(ReadError::NoGroup) => Err(KeptRead::NoGroup),
+            Err(ReadError::Disk) => {
+                self.closed = true;
+                Err(KeptRead::Disk)
+            }
+        }
+    }
+
+    /// Whether the current control file is long, and a greater generation is left.
+    pub fn is_due(&self) -> bool
+        ensures { IsTrue result ↔ ((DUE_BYTES < self.now.store.current.end) × (self.now.store.generation < 2 ^ 64 - 1)) }
+    {
+        self.store.due()
+    }
+
+    /// The generation of the current control file, 0 where it has no frame.
+    pub fn generation(&self) -> u64
+        ensures { result ≡ self.now.store.generation }
+    {
+        self.store.generation()
+    }
+
+    /// Whether a disk failed in an earlier call.
+    pub fn is_closed(&self) -> bool
+        ensures { result ≡ self.now.closed }
+    {
+        self.closed
+    }
+
+    /// The node.
+    pub fn node(&self) -> &Node
+        ensures node { result.now ≡ self.now.node }
+
+        // Its numbers are within their ranges, and its change log within its limit.
+        ensures lawful { IsHonest D.view self.now → IsLawfulNode self.now.node.control.nodes (node_of self.now) }
+        ensures short { self.now.node.control.kept.log.length ≤ MAX_LOG_LENGTH }
+
+        // While no disk failed, every crash leaves what is durable of it.
+        ensures survives { self.now.closed ≡ false → IsHonest D.view self.now
+            → NodeSurvives D.view self.now (node_of self.now) }
+    {
+        let _shelf = self.content.groups();
+        &self.node
+    }
+
+    /// The groups that are held, ascending by name, with their lengths and seals.
+    pub fn shelf(&self) -> &[Shelf]
+        ensures shelf { result.now ≡ self.now.content.shelves }
+        ensures groups { IsHonest D.view self.now → result.now ≡ shelf (node_of self.now).groups }
+    {
+        self.content.groups()
+    }
+
+    /// The disks, those of the control files before that of the content.
+    pub fn into_disks(self) -> (D, D, D)
+        ensures { disks result.0 result.1 result.2 ≡ disks_of self }
+    {
+        let (control, alternate) = self.store.into_disks();
+        (control, alternate, self.content.into_disk())
+    }
+}
+
+impl Kept<MemDisk> {
+    /// Takes an input that was made ready as `commit` does, with a stop after `calls` of the four calls
+    /// that write its frame, if it writes one, and hands back what a crash leaves then; `image` is the
+    /// byte that stands wherever something was written and not synced. It takes no memory.
+    pub fn commit_stopped(self, ready: Ready, calls: u8, image: u8) -> (MemDisk, MemDisk, MemDisk)
+        requires open { self.closed ≡ false }
+        requires ready { CanCommit view_of self ready }
+        requires calls { calls ≤ 4 }
+        requires stops { CanStopWrite self ready.write }
+
+        // Every crash of the disks leaves the node after the input where a frame is written and kept, and
+        // else the node before it.
+        ensures survives { Survives view_of (header_of self.node.control) self.node.control.me (disks result.0 result.1 result.2)
+            (if is_written ready.write && is_kept_new calls image then (outcome_of (node_of self) ready).node else node_of self) }
+
+        // The disk that is written is left new, without a stop or a fault, and the others as they are.
+        ensures disks { AreLeftAs (disks_of self) (disks result.0 result.1 result.2) }
+    {
+        frames_add_their_records();
+        let Ready { plan: _, write } = ready;
+        let Kept {
+            alloc: _,
+            node: _,
+            store,
+            content,
+            closed: _,
+        } = self;
+        match write {
+            Write::Nothing => {
+                let (control, alternate) = store.into_disks();
+                (control, alternate, content.into_disk())
+            }
+            Write::Records(frame) => {
+                let (control, alternate) = store.commit_stopped(&frame, calls, image);
+                (control, alternate, content.into_disk())
+            }
+            Write::Content(piece) => {
+                let (control, alternate) = store.into_disks();
+                (
+                    control,
+                    alternate,
+                    content.commit_stopped(piece, calls, image),
+                )
+            }
+        }
+    }
+}

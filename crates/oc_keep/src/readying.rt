@@ -1,0 +1,93 @@
+//! An input made ready: its plan, what it writes, and the bytes that it sends.
+
+ghost use Rattle.std.specs.Prelude.{◌≡◌, ◌≢◌, ◌↔◌, ◌⊎◌, ◌≤◌, false, IsTrue, IsErrOf, Some, IfOk, IfErr, OnOk, OnErr};
+ghost use Rattle.oc_base.specs.declared.limits.TheConstants.{MAX_LOG_LENGTH};
+ghost use Rattle.oc_content.specs.ContentFile.{IsShelved, groups_in};
+ghost use Rattle.oc_content.specs.Promises.{PutsNothing};
+ghost use Rattle.oc_journal.specs.Promises.{ClosesByRead, NoneFailed};
+ghost use Rattle.oc_keep.specs.KeptView.{IsFullAt, kept_of, node_of};
+ghost use Rattle.oc_keep.specs.Puts.{CanWant};
+ghost use Rattle.oc_keep.specs.ReadyView.{CanCommit, IsFullToWrite, is_written, outcome_of};
+ghost use Rattle.oc_keep.specs.Writing.{KeepsStore, fetched};
+ghost use Rattle.oc_model.specs.declared.want.Want.{Want};
+ghost use Rattle.oc_model.specs.Lawful.{IsInput};
+ghost use Rattle.oc_model.specs.NextWorld.{has_change};
+ghost use Rattle.oc_model.specs.Step.{plan, step};
+ghost use Rattle.oc_node.specs.Planned.{IsWanting};
+
+use crate::errors::ReadyError;
+use crate::law::prepare_refuses_nothing_that_is_kept;
+use crate::ready::Ready;
+use crate::writing::writing;
+use oc_content::{Content, ReadError};
+use oc_laws_step::folding_is_stepping;
+use oc_model::Input;
+use oc_node::{Node, Plan};
+use oc_outside::Disk;
+use oc_record::spellings_are_read;
+use oc_store::Store;
+use std::alloc::Global;
+
+/// Makes an input ready for a node on open files: takes all memory, and reads what the step sends.
+pub fn make_ready<D: Disk>(
+    alloc: Global,
+    node: &mut Node,
+    store: &mut Store<D>,
+    content: &mut Content<D>,
+    input: &Input,
+) -> Result<Ready, ReadyError>
+    requires input { IsInput node.old.control.nodes node.old.control.me input.now }
+    requires log { node.old.control.kept.log.length ≤ MAX_LOG_LENGTH }
+    ensures step { IfOk result (λ ready. IsTrue (D.view content.old.journal.disk).honest
+        → outcome_of (node_of (kept_of node.old store.old content.old false)) ready ≡ step (node_of (kept_of node.old store.old content.old false)) input.now) }
+    ensures commits { IfOk result (λ ready. CanCommit D.view (kept_of node.new store.new content.new false) ready) }
+    ensures writes { IfOk result (λ ready. is_written ready.write ≡ has_change (plan node.old.control content.old.shelves input.now)) }
+    ensures full { IfOk result (λ ready. IsFullToWrite (kept_of node.new store.new content.new false) ready.write
+        ↔ IsFullAt (kept_of node.old store.old content.old false) input.now) }
+    ensures node { node.new.control ≡ node.old.control }
+    ensures store { KeepsStore D.view store.old store.new }
+    ensures content { PutsNothing D.view content.old content.new }
+    ensures none_failed { IsErrOf result ReadyError.Disk ⊎ NoneFailed D.view content.old.journal content.new.journal }
+    ensures disk { IsErrOf result ReadyError.Disk → ClosesByRead D.view content.old.journal content.new.journal }
+    ensures open { IfErr result (λ error. error ≢ ReadyError.Closed) }
+{
+    prepare_refuses_nothing_that_is_kept();
+    spellings_are_read();
+    let mut plan = node.plan(input, content.groups())?;
+    let write = writing(alloc, store, content, &plan, input)?;
+    fetch(alloc, content, &mut plan)?;
+    Ok(Ready { plan, write })
+}
+
+/// Reads the bytes that a plan wants, and puts them into its chunk.
+fn fetch<D: Disk>(
+    alloc: Global,
+    content: &mut Content<D>,
+    plan: &mut Plan,
+) -> Result<(), ReadyError>
+    requires held { CanWant content.old.shelves plan.old.wants }
+    requires wanting { (w : Want) → plan.old.wants ≡ Some w → IsWanting plan.old w.count }
+    requires shelved { IsTrue (D.view content.old.journal.disk).honest
+        → IsShelved content.old.journal.frames content.old.shelves }
+    ensures fetched { OnOk result (IsTrue (D.view content.old.journal.disk).honest
+        → plan.new ≡ fetched (groups_in content.old.journal.frames) plan.old.wants plan.old) }
+    ensures rest { plan.new ≡ record plan.old { sends = plan.new.sends; room = plan.new.room } }
+    ensures content { PutsNothing D.view content.old content.new }
+    ensures disk { IsErrOf result ReadyError.Disk → ClosesByRead D.view content.old.journal content.new.journal }
+    ensures none_failed { IsErrOf result ReadyError.Disk ⊎ NoneFailed D.view content.old.journal content.new.journal }
+    ensures open { IfErr result (λ error. error ≢ ReadyError.Closed) }
+{
+    let Some(want) = plan.wants() else {
+        return Ok(());
+    };
+    let mut bytes = vec![in alloc; 0; want.count as usize]?;
+    match content.read(&want.group, want.start, &mut bytes) {
+        Ok(_) => {
+            plan.fill(&bytes);
+            Ok(())
+        }
+        Err(ReadError::Disk) => Err(ReadyError::Disk),
+        // What is wanted is of a group that is held.
+        Err(ReadError::NoGroup) => unreachable!(),
+    }
+}

@@ -1,0 +1,164 @@
+-- What the runs of heal are made of.
+use Rattle.std.proofs.Common.{◌≡◌, ℕ, zero, suc, ◌*◌, Bool, true, false, ◌==◌, ◌&&◌, Option, Some, None, is_some, List, refl, ap, sym, subst, ◌∙◌, eq-eqb, ne_eqb}
+use Rattle.std.specs.List.{list_all}
+use Rattle.oc_model.specs.declared.event.Act.TheVariants as acts
+use Rattle.oc_model.specs.declared.mode.Mode.{Mode}
+use Rattle.oc_model.specs.declared.mode.Mode.TheVariants.{Idle, Asking, Joined, Acting}
+use Rattle.oc_model.specs.Adopting.{is_acting}
+use Rattle.oc_model.specs.Heal.{leader, has_room, is_able, rises, rises_in, places_at, places_if}
+use Rattle.oc_model.specs.NextWorld.{heal_acts, heal_acts_if}
+use Rattle.oc_model.specs.Runs.{Run, rests, and_then, for_each}
+use Rattle.oc_model.specs.World.{World, mode_of, up_ids}
+use Rattle.oc_model.proofs.Ready.{acts_true}
+use Rattle.oc_calm.specs.Cluster.{IsRoll}
+use Rattle.oc_calm.specs.Played.{act_run, ask_run, check_in_run, delivery_run, five_run, heal_run, is_placed_under, join_by_run, join_run, joiners, leader_of, member_below, nodes_below, place_run, places_run, rank_run, rise_left, rise_once_run, rise_run, room_of, settle_run}
+use Rattle.oc_calm.specs.Timely.{AreTimely}
+use Rattle.oc_calm.proofs.Each.{timely_front}
+
+-- The leader rises
+
+-- at first it may act twice as often as its id says
+pub rise_starts : (m n : ℕ) (w : World) → n ≡ 2 * m → rise_run m w ≡ rise_left n m w
+unfolding rise_run rise_left
+rise_starts m n w e = ap (λ (k : ℕ). rises_in k m w) (sym e)
+
+-- while it may act it does, and goes on
+pub rise_goes : (k n m : ℕ) (w : World) → k ≡ suc n → rise_left k m w ≡ and_then (rise_once_run m w) (rise_left n m)
+unfolding rise_left rise_once_run
+rise_goes k n m w e = ap (λ (j : ℕ). rises_in j m w) e
+
+-- once it acted that often it rests
+pub rise_over : (n m : ℕ) (w : World) → n ≡ 0 → rise_left n m w ≡ rests w
+unfolding rise_left
+rise_over n m w e = ap (λ (j : ℕ). rises_in j m w) e
+
+-- once it acts it rests
+pub rise_rests : (n m : ℕ) (w : World) → is_acting (mode_of w m) ≡ true → rise_left n m w ≡ rests w
+unfolding rise_left
+rise_rests zero m w acts = refl
+rise_rests (suc n) m w acts =
+    let mode : mode_of w m ≡ Acting = acts_true (mode_of w m) acts in
+    ap (λ (f : Mode). and_then (rises f m w) (rises_in n m)) mode ∙ rise_rests n m w acts
+
+-- where it is idle it checks
+pub idle_rises : (m : ℕ) (w : World) → mode_of w m ≡ Idle → act_run (acts.Check m) w ≡ rise_once_run m w
+unfolding act_run rise_once_run
+idle_rises m w e = ap (λ (f : Mode). rises f m w) (sym e)
+
+-- where it asks, its peer is unreachable
+pub asking_rises : (m p : ℕ) (w : World) → mode_of w m ≡ Asking p → act_run (acts.Fail m p) w ≡ rise_once_run m w
+unfolding act_run rise_once_run
+asking_rises m p w e = ap (λ (f : Mode). rises f m w) (sym e)
+
+-- and so where it is joined
+pub joined_rises : (m p : ℕ) (w : World) → mode_of w m ≡ Joined p → act_run (acts.Fail m p) w ≡ rise_once_run m w
+unfolding act_run rise_once_run
+joined_rises m p w e = ap (λ (f : Mode). rises f m w) (sym e)
+
+-- where it acts it rests
+pub acting_rests : (m : ℕ) (w : World) → mode_of w m ≡ Acting → rests w ≡ rise_once_run m w
+unfolding rise_once_run
+acting_rests m w e = ap (λ (f : Mode). rises f m w) (sym e)
+
+-- Nodes join
+
+-- an ask
+pub ask_is : (p x : ℕ) (w : World) → and_then (act_run (acts.Move x p) w) delivery_run ≡ ask_run p x w
+unfolding act_run delivery_run ask_run
+ask_is p x w = refl
+
+-- an ask and its answer
+pub join_is : (p x : ℕ) (w : World) → and_then (ask_run p x w) delivery_run ≡ join_run p x w
+unfolding ask_run delivery_run join_run
+join_is p x w = refl
+
+-- the nodes below the leader check in
+pub down_run : ℕ → ℕ → World → Run
+down_run m p v = for_each (nodes_below m p v) check_in_run v
+
+-- they are those that were found
+pub down_is : (m p : ℕ) (v : World) (xs : List ℕ) → xs ≡ nodes_below m p v → for_each xs check_in_run v ≡ down_run m p v
+unfolding down_run
+down_is m p v xs e = ap (λ (ys : List ℕ). for_each ys check_in_run v) e
+
+-- the leader checks first
+pub rank_is : (m p : ℕ) (w : World) → and_then (act_run (acts.Check m) w) (down_run m p) ≡ rank_run m p w
+unfolding act_run down_run nodes_below check_in_run rank_run
+rank_is m p w = refl
+
+-- by way of the leader
+pub join_by_is : (m p x : ℕ) (w : World) → and_then (and_then (ask_run m x w) (rank_run m p)) (join_run p x) ≡ join_by_run m p x w
+unfolding ask_run rank_run join_run join_by_run
+join_by_is m p x w = refl
+
+-- a node that is placed rests
+pub place_rests : (m x : ℕ) (w : World) → is_placed_under w m x ≡ true → rests w ≡ place_run m x w
+unfolding is_placed_under place_run
+place_rests m x w e = ap (λ (b : Bool). places_if b m x w) (sym e)
+
+-- another joins the leader, if that is the member before it
+pub place_joins : (m p x : ℕ) (w : World) → is_placed_under w m x ≡ false → p ≡ member_below w m x → p ≡ m → join_run m x w ≡ place_run m x w
+unfolding is_placed_under member_below join_run place_run
+place_joins m p x w e member same =
+    let here : (p == m) ≡ true = eq-eqb p m same in
+    ap (λ (b : Bool). places_at b m p x w) (sym here) ∙ (ap (λ (q : ℕ). places_at (q == m) m q x w) member ∙ ap (λ (b : Bool). places_if b m x w) (sym e))
+
+-- and else that member by way of the leader
+pub place_joins_by : (m p x : ℕ) (w : World) → is_placed_under w m x ≡ false → p ≡ member_below w m x → (p ≡ m → ⊥) → join_by_run m p x w ≡ place_run m x w
+unfolding is_placed_under member_below join_by_run place_run
+place_joins_by m p x w e member other =
+    let here : (p == m) ≡ false = ne_eqb p m other in
+    ap (λ (b : Bool). places_at b m p x w) (sym here) ∙ (ap (λ (q : ℕ). places_at (q == m) m q x w) member ∙ ap (λ (b : Bool). places_if b m x w) (sym e))
+
+-- all who join
+pub places_are : (m : ℕ) (w : World) (xs : List ℕ) → xs ≡ joiners m w → places_run m w ≡ for_each xs (place_run m) w
+unfolding places_run place_run joiners
+places_are m w xs e = ap (λ (ys : List ℕ). for_each ys (place_run m) w) (sym e)
+
+-- All of heal
+
+-- the first two steps
+abbrev pub heal_two : ℕ → World → Run
+heal_two m w = and_then (rise_run m w) five_run
+
+-- the first three
+abbrev pub heal_three : ℕ → World → Run
+heal_three m w = and_then (heal_two m w) (places_run m)
+
+-- and settle behind them
+pub heal_is : (m : ℕ) (w : World) → and_then (heal_three m w) settle_run ≡ heal_run m w
+unfolding rise_run five_run places_run settle_run heal_run
+heal_is m w = refl
+
+-- its ticks
+pub last_timely : (m : ℕ) (w : World) → AreTimely (heal_run m w).acts → AreTimely (and_then (heal_three m w) settle_run).acts
+last_timely m w all = subst (λ (r : Run). AreTimely r.acts) (sym (heal_is m w)) all
+
+-- those of the first two steps
+pub first_timely : (m : ℕ) (w : World) → AreTimely (heal_run m w).acts → AreTimely (and_then (rise_run m w) five_run).acts
+first_timely m w all = timely_front (heal_two m w) (places_run m) (timely_front (heal_three m w) settle_run (last_timely m w all))
+
+-- Its acts
+
+-- in a world that is able
+pub able_acts : (w : World) (m : ℕ) (xs : List ℕ) → IsRoll w xs → Some m ≡ leader_of w → list_all (room_of w) xs ≡ true → heal_acts w ≡ Some (heal_run m w).acts
+unfolding leader_of room_of heal_run
+able_acts w m xs roll leads room =
+    let all : list_all (has_room w) (up_ids w) ≡ true = ap (list_all (has_room w)) (sym roll.up) ∙ room in
+    let able : is_able w ≡ true = ap (λ (o : Option ℕ). is_some o && list_all (has_room w) (up_ids w)) (sym leads) ∙ all in
+    ap (λ (b : Bool). heal_acts_if b (leader w) w) able ∙ ap (λ (o : Option ℕ). heal_acts_if true o w) (sym leads)
+
+-- in one without a leader
+pub leaderless : (w : World) → None ≡ leader_of w → heal_acts w ≡ None
+unfolding leader_of
+leaderless w none =
+    let unable : is_able w ≡ false = ap (λ (o : Option ℕ). is_some o && list_all (has_room w) (up_ids w)) (sym none) in
+    ap (λ (b : Bool). heal_acts_if b (leader w) w) unable
+
+-- and in one where some number is near its end
+pub roomless : (w : World) (m : ℕ) (xs : List ℕ) → IsRoll w xs → Some m ≡ leader_of w → list_all (room_of w) xs ≡ false → heal_acts w ≡ None
+unfolding leader_of room_of
+roomless w m xs roll leads room =
+    let some : list_all (has_room w) (up_ids w) ≡ false = ap (list_all (has_room w)) (sym roll.up) ∙ room in
+    let unable : is_able w ≡ false = ap (λ (o : Option ℕ). is_some o && list_all (has_room w) (up_ids w)) (sym leads) ∙ some in
+    ap (λ (b : Bool). heal_acts_if b (leader w) w) unable

@@ -1,0 +1,6 @@
+-- What was put, and what the rest of the nodes will add, is all.
+use Rattle.std.proofs.Common.{◌≡◌, ◌++◌, filter, drop, nat_lt}
+use Rattle.oc_calm.proofs.joining.past.Given as goal
+
+abbrev pub invariant-loop-node : goal.invariant-loop-node
+invariant-loop-node l = l.past.items ++ filter (nat_lt l.number) (drop l.node-index l.nodes) ≡ filter (nat_lt l.number) l.nodes

@@ -1,0 +1,12 @@
+-- What was put, and what the rest of the nodes will add, is all of that length.
+use Rattle.std.proofs.Common.{◌≡◌, ◌++◌, filter, length, drop}
+use Rattle.std.specs.List.{AllByRecursion}
+use Rattle.oc_base.specs.Lawful.{IsNode}
+use Rattle.oc_calm.specs.Tree.{has_found}
+use Rattle.oc_calm.proofs.settling.push_of_length.Given as goal
+
+abbrev pub invariant-loop-node : goal.invariant-loop-node
+invariant-loop-node l = record {
+  put : l.sorted.items ++ filter (has_found l.lengths l.wanted) (drop l.node-index l.nodes) ≡ l.fn.sorted.items ++ filter (has_found l.lengths l.wanted) l.nodes;
+  nodes : AllByRecursion (IsNode (length l.lengths)) (drop l.node-index l.nodes);
+}

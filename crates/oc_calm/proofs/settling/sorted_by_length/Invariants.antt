@@ -1,0 +1,10 @@
+-- What was sorted, and what the shorter lengths will add, is all.
+use Rattle.std.proofs.Common.{◌≡◌, ◌++◌, length}
+use Rattle.oc_calm.specs.Tree.{longest_first}
+use Rattle.oc_calm.proofs.settling.sorted_by_length.Given as goal
+
+abbrev pub invariant-levels : goal.invariant-levels
+invariant-levels l = l.sorted.items ++ longest_first l.lengths l.nodes l.length ≡ longest_first l.lengths l.nodes (length l.lengths)
+
+abbrev pub decreases-levels : goal.decreases-levels
+decreases-levels l = l.length

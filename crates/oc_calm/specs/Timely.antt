@@ -1,0 +1,14 @@
+-- Acts whose ticks go no further than a clock does.
+use Rattle.std.specs.Prelude.{◌≤◌, List}
+use Rattle.std.specs.List.{AllByRecursion}
+use Rattle.oc_base.specs.declared.limits.TheConstants.{LAST_SECOND}
+use Rattle.oc_model.specs.declared.event.Act.{Act}
+use Rattle.oc_model.specs.declared.event.Act.TheVariants as acts
+
+-- a tick up to the last second of a clock, or another act
+abbrev pub IsTimely : Act → Type 0
+IsTimely (acts.Tick x t) = t ≤ LAST_SECOND
+IsTimely a = Unit {0}
+
+abbrev pub AreTimely : List Act → Type 0
+AreTimely as' = AllByRecursion IsTimely as'

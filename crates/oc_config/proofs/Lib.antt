@@ -1,0 +1,9 @@
+pub mod Results
+pub mod Faults
+pub mod Documents
+pub mod Lists
+pub mod Tables
+pub mod Places
+pub mod Said
+pub mod Settled
+pub mod Lawful

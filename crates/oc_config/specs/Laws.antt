@@ -1,0 +1,14 @@
+-- What a configuration says of each node.
+use Rattle.std.specs.Prelude.{◌≡◌, ℕ, ◌-◌, Some, Ok, slice_get}
+use Rattle.toml.specs.Data.{Members}
+use Rattle.oc_config.specs.Nodes.{id_in, entry_in}
+use Rattle.oc_config.specs.Settings.{Place, Settings}
+
+-- the settings say of the node with this table's id, one of so many nodes, what the table says
+pub record IsSaid (s : Settings) (nodes : ℕ) (table : Members) : Type 0 where
+  pub id : ℕ
+  pub place : Place
+  pub id_is : id_in nodes table ≡ Ok id
+  pub place_is : entry_in table ≡ Ok place
+  pub address : slice_get s.addresses (id - 1) ≡ Some place.address
+  pub area : slice_get s.areas (id - 1) ≡ Some place.area

@@ -1,0 +1,17 @@
+-- What a configuration says.
+use Rattle.std.specs.Prelude.{ℕ, List}
+use Rattle.oc_measure.specs.declared.lines.Measure.{Measure}
+use Rattle.oc_policy.specs.declared.rule.Rule.{Rule}
+
+-- what is said of a node
+pub record Place : Type 0 where
+  pub address : List ℕ
+  pub area : ℕ
+
+-- the chain members, the address and the area of each node by its id, what was measured, and the rules
+pub record Settings : Type 0 where
+  pub chain : ℕ
+  pub addresses : List (List ℕ)
+  pub areas : List ℕ
+  pub measures : List Measure
+  pub rules : List Rule

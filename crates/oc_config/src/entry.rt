@@ -1,0 +1,17 @@
+use std::marker::Model;
+
+/// What the table of a node says of it, apart from its id.
+#[derive(Drop)]
+pub(crate) struct Entry {
+    pub(crate) address: String,
+    pub(crate) area: u8,
+}
+
+impl Model for Entry {
+    ghost use Rattle.std.specs.Prelude.{string_bytes};
+    ghost use Rattle.oc_config.specs.Settings.{Place};
+
+    ghost Value = { Place };
+
+    ghost view = { λ e. record { address = string_bytes e.address; area = e.area } };
+}

@@ -1,0 +1,82 @@
+ghost use Rattle.std.specs.Prelude.{◌≡◌};
+ghost use Rattle.oc_config.specs.Values.{fault_of};
+
+use crate::key::Key;
+use oc_base::{Memory, Why};
+use oc_measure::MeasureFault;
+use std::alloc::{AllocError, AllocFailed};
+use std::error::Error;
+use std::fmt;
+
+/// Why a text is no configuration.
+#[derive(Clone, Copy, Debug, PartialEq, Eq)]
+pub enum ConfigFault {
+    /// It is no TOML.
+    Toml,
+    /// A table lacks this key.
+    Missing(Key),
+    /// This key has a value that it may not have.
+    Value(Key),
+    /// Two nodes have this id.
+    Repeat(u32),
+    /// This line of the measures, counted from 1, is refused for this cause.
+    Measure { line: u32, why: Why },
+    /// Memory ran out.
+    Memory,
+}
+
+impl fmt::Display for ConfigFault {
+    fn fmt<W: fmt::Write>(&self, f: &mut fmt::Formatter<W>) -> fmt::Result {
+        match self {
+            ConfigFault::Toml => write!(f, "toml"),
+            ConfigFault::Missing(key) => write!(f, "missing {key}"),
+            ConfigFault::Value(key) => write!(f, "value {key}"),
+            ConfigFault::Repeat(id) => write!(f, "repeat {id}"),
+            ConfigFault::Measure { line, why } => write!(f, "measure {line}: {why}"),
+            ConfigFault::Memory => write!(f, "out of memory"),
+        }
+    }
+}
+
+impl Error for ConfigFault {}
+
+impl From<AllocError> for ConfigFault {
+    ghost use Rattle.oc_config.specs.declared.fault.ConfigFault.TheVariants.{Memory};
+
+    ghost from_gives = { λ _ fault. fault ≡ Memory };
+
+    fn from(_error: AllocError) -> ConfigFault {
+        ConfigFault::Memory
+    }
+}
+
+impl<T: Drop> From<AllocFailed<T>> for ConfigFault {
+    ghost use Rattle.oc_config.specs.declared.fault.ConfigFault.TheVariants.{Memory};
+
+    ghost from_gives = { λ _ fault. fault ≡ Memory };
+
+    fn from(_error: AllocFailed<T>) -> ConfigFault {
+        ConfigFault::Memory
+    }
+}
+
+impl From<Memory> for ConfigFault {
+    ghost use Rattle.oc_config.specs.declared.fault.ConfigFault.TheVariants.{Memory};
+
+    ghost from_gives = { λ _ fault. fault ≡ Memory };
+
+    fn from(_error: Memory) -> ConfigFault {
+        ConfigFault::Memory
+    }
+}
+
+impl From<MeasureFault> for ConfigFault {
+    ghost from_gives = { λ error fault. fault ≡ fault_of error };
+
+    fn from(error: MeasureFault) -> ConfigFault {
+        match error {
+            MeasureFault::Line { line, why } => ConfigFault::Measure { line, why },
+            MeasureFault::Memory => ConfigFault::Memory,
+        }
+    }
+}

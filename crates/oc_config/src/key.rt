@@ -1,0 +1,47 @@
+ghost use Rattle.std.specs.Prelude.{◌≡◌};
+ghost use Rattle.oc_config.specs.Keys.{key_text};
+
+use std::fmt;
+
+/// A key of a configuration.
+#[derive(Clone, Copy, Debug, PartialEq, Eq, Hash)]
+pub enum Key {
+    Chain,
+    Node,
+    Id,
+    Address,
+    /// Of a node or of a rule.
+    Area,
+    Measures,
+    Rule,
+    Allow,
+    Prefix,
+    Method,
+}
+
+impl Key {
+    /// The key as it stands in the text.
+    pub fn word(self) -> &'static str
+        ensures { result.now ≡ key_text self }
+    {
+        match self {
+            Key::Chain => "chain",
+            Key::Node => "node",
+            Key::Id => "id",
+            Key::Address => "address",
+            Key::Area => "area",
+            Key::Measures => "measures",
+            Key::Rule => "rule",
+            Key::Allow => "allow",
+            Key::Prefix => "prefix",
+            Key::Method => "method",
+        }
+    }
+}
+
+impl fmt::Display for Key {
+    fn fmt<W: fmt::Write>(&self, f: &mut fmt::Formatter<W>) -> fmt::Result {
+        let word = self.word();
+        write!(f, "{word}")
+    }
+}

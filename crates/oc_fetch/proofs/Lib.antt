@@ -1,0 +1,12 @@
+mod Parts
+mod Moving
+mod ChunkSteps
+mod Heard
+mod Spoken
+mod Exchanged
+mod Made
+mod Talked
+mod OneHead
+mod Completing
+mod Dialling
+mod Fetched

@@ -1,0 +1,32 @@
+-- How a chunked text goes from a source through a reader of chunks.
+use Rattle.std.specs.Prelude.{◌≡◌, ◌⊎◌, ℕ, Bool, true, List, [], ◌++◌, ⊤}
+use Rattle.oc_fetch.specs.Passing.{Came}
+use Rattle.oc_fetch.specs.declared.end.GetEnd.{GetEnd}
+use Rattle.oc_fetch.specs.declared.end.GetEnd.TheVariants.{Reply, Link, Memory}
+use Rattle.oc_stream.specs.Stages.{Stage, refused}
+use Rattle.oc_stream.specs.Taken.{Takes}
+use Rattle.oc_stream.specs.declared.fault.ChunkFault.{ChunkFault}
+
+-- a piece came, and led from stage to stage with this content
+pub record TakesPiece {S : Type 0} (gives : S → List ℕ → S → Type 0) (old new : S) (before after : Stage) (content : List ℕ) : Type 0 where
+  pub bytes : List ℕ
+  pub came : gives old bytes new
+  pub takes : Takes before bytes content after
+
+-- why no piece was taken: the text ended early, or the piece was refused
+abbrev pub StopsAt : Stage → List ℕ → List ℕ → Bool → GetEnd → Type 0
+StopsAt stage front rest over Reply =
+    ((front ++ rest ≡ []) × (over ≡ true))
+    ⊎ ((fault : ChunkFault) × (content : List ℕ) × Takes stage front content (refused fault))
+StopsAt stage front rest over Link = front ++ rest ≡ []
+StopsAt stage front rest over Memory = ⊤
+StopsAt stage front rest over end = ⊥
+
+-- a piece came that was not taken
+pub record StopsPiece {S : Type 0} (gives fails : S → List ℕ → S → Type 0) (ended : S → Type 0) (old new : S) (stage : Stage) (end : GetEnd) : Type 0 where
+  pub front : List ℕ
+  pub rest : List ℕ
+  pub over : Bool
+  pub came : Came gives fails old (front ++ rest) new end
+  pub is_over : over ≡ true → ended new
+  pub cause : StopsAt stage front rest over end

@@ -1,0 +1,44 @@
+-- When a download can end only with its content, or where a call or memory failed.
+use Rattle.std.specs.Prelude.{◌≡◌, ◌⊎◌, ℕ, ◌≤◌, List, [], ◌∷◌, ◌++◌, length, map, ⊤}
+use Rattle.oc_fetch.specs.Conversations.{Replied, Serves, Redirects}
+use Rattle.oc_fetch.specs.Downloads.{first_place}
+use Rattle.oc_fetch.specs.Replies.{extent_of}
+use Rattle.oc_fetch.specs.Wishes.{whole}
+use Rattle.oc_fetch.specs.declared.end.GetEnd.{GetEnd}
+use Rattle.oc_fetch.specs.declared.end.GetEnd.TheVariants.{Done, Link, Sink, Memory}
+use Rattle.oc_fetch.specs.declared.extent.Extent.{Extent}
+use Rattle.oc_fetch.specs.declared.extent.Extent.TheVariants.{Counted, Chunked, ToTheEnd}
+use Rattle.oc_fetch.specs.declared.extent.TheConstants.{MAX_OPEN_BYTES}
+use Rattle.oc_fetch.specs.declared.place.Place.{Place}
+use Rattle.oc_outside.specs.Story.{Dial, Story, dials}
+use Rattle.url.specs.Parts.{Parts}
+
+-- all bytes that a dial gave or would have given
+abbrev pub text_of : Dial → List ℕ
+text_of dial = dial.connection.read ++ dial.connection.left
+
+-- the bytes behind a head hold a whole content, which has no chunks
+abbrev pub HoldsWhole : Extent → List ℕ → Type 0
+HoldsWhole (Counted count) behind = count ≤ length behind
+HoldsWhole Chunked behind = ⊥
+HoldsWhole ToTheEnd behind = length behind ≤ MAX_OPEN_BYTES
+
+-- replies of which each leads on to the next, up to a 200 with a whole content
+abbrev pub LeadToContent : Place → List (List ℕ) → Type 0
+LeadToContent place [] = ⊤
+LeadToContent place (text ∷ texts) =
+    Replied text (λ head behind. Serves whole head × HoldsWhole (extent_of head) behind)
+    ⊎ ((next : Place) × Replied text (λ head behind. Redirects place head next) × LeadToContent next texts)
+
+-- nothing that came was refused
+abbrev pub IsUnrefused : GetEnd → Type 0
+IsUnrefused Done = ⊤
+IsUnrefused Link = ⊤
+IsUnrefused Sink = ⊤
+IsUnrefused Memory = ⊤
+IsUnrefused end = ⊥
+
+-- where the dials that were made gave such replies, nothing was refused
+abbrev pub Completes : Parts → GetEnd → Story → Story → Type 0
+Completes url end old new =
+    (made : List Dial) → dials new ≡ dials old ++ made → LeadToContent (first_place url 1) (map text_of made) → IsUnrefused end

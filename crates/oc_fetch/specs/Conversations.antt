@@ -1,0 +1,147 @@
+-- How a client talks with servers: where each reply leads, and how it ends.
+use Rattle.std.specs.Prelude.{◌≡◌, ◌≢◌, ◌⊎◌, ℕ, ◌+◌, ◌-◌, ◌^◌, ◌<◌, min, Bool, Option, Some, None, option_to_list, List, [], ◌∷◌, ◌++◌, length}
+use Rattle.oc_fetch.specs.Redirecting.{IsLost, Points, Follows}
+use Rattle.oc_fetch.specs.Replies.{Says, IsHeadless, extent_of, IsWhole, Begins, IsBodiless}
+use Rattle.oc_fetch.specs.Turns.{Turn, IsCut}
+use Rattle.oc_fetch.specs.Wishes.{Wish, Asks, Takes, keeps, dialled_at, request_of}
+use Rattle.oc_fetch.specs.declared.end.GetEnd.{GetEnd}
+use Rattle.oc_fetch.specs.declared.end.GetEnd.TheVariants.{Done, Refused, Reply, Link, Sink, Memory}
+use Rattle.oc_fetch.specs.declared.end.GetEnd.TheVariants as ends
+use Rattle.oc_fetch.specs.declared.place.Place.{Place}
+use Rattle.oc_http.specs.declared.reply.ReplyHead.{ReplyHead}
+use Rattle.oc_outside.specs.LinkCalls.{IsFront}
+use Rattle.url.specs.Parts.{Parts}
+
+-- a reply of a head, and of bytes behind it, of which this holds
+pub record Replied (reply : List ℕ) (P : ReplyHead → List ℕ → Type 0) : Type 0 where
+  pub head : ReplyHead
+  pub behind : List ℕ
+  pub says : Says reply head behind
+  pub so : P head behind
+
+-- the reply sends the client to this URL
+pub record SendsTo (place : Place) (head : ReplyHead) (url : Parts) : Type 0 where
+  pub status : head.status ≡ 302
+  pub points : Points place head.location url
+
+-- the reply sends the client to no good URL
+pub record SendsNowhere (place : Place) (head : ReplyHead) : Type 0 where
+  pub status : head.status ≡ 302
+  pub lost : IsLost place.target head.location
+
+-- the reply sends the client on to this place
+pub record Redirects (place : Place) (head : ReplyHead) (next : Place) : Type 0 where
+  pub status : head.status ≡ 302
+  pub follows : Follows place head.location next
+
+-- the reply brings a content that the client takes
+pub record Serves (wish : Wish) (head : ReplyHead) : Type 0 where
+  pub status : head.status ≡ 200
+  pub taken : Takes wish head
+
+-- how many replies are wanted behind one: none where it tells its length
+abbrev pub wanted_behind : Option ℕ → ℕ → ℕ
+wanted_behind (Some count) replies = 0
+wanted_behind None replies = replies - 1
+
+-- the place behind a content
+abbrev pub behind_content : ReplyHead → List ℕ → Place → Place
+behind_content head content place = record place {
+  start = min (place.start + length content) (2 ^ 64 - 1);
+  kept = keeps head;
+  replies = wanted_behind head.length place.replies;
+}
+
+-- the reply is a whole content, behind which the client is at this place
+pub record Brings (wish : Wish) (place : Place) (head : ReplyHead) (body : List ℕ) (over : Bool) (content : List ℕ) (next : Place) : Type 0 where
+  pub serves : Serves wish head
+  pub whole : IsWhole (extent_of head) body content over
+  pub next_is : next ≡ behind_content head content place
+
+-- a whole reply from which the client goes on at this place, and its content
+abbrev pub LeadsOn : Wish → Place → List ℕ → Bool → List ℕ → Place → Type 0
+LeadsOn wish place reply over content next =
+    Replied reply (λ head behind. (Redirects place head next × (content ≡ [])) ⊎ Brings wish place head behind over content next)
+
+-- this was written of a content of which some bytes came
+pub record Passes (wish : Wish) (head : ReplyHead) (body written : List ℕ) : Type 0 where
+  pub content : List ℕ
+  pub serves : Serves wish head
+  pub begins : Begins (extent_of head) body content
+  pub front : IsFront written content
+
+-- the content is not whole and never will be
+pub record CutsOff (wish : Wish) (head : ReplyHead) (body : List ℕ) (over : Bool) (written : List ℕ) : Type 0 where
+  pub passes : Passes wish head body written
+  pub bodiless : IsBodiless (extent_of head) body over
+
+-- the reply brings a content that the client does not take
+pub record IsUntaken (wish : Wish) (head : ReplyHead) : Type 0 where
+  pub status : head.status ≡ 200
+  pub untaken : ¬ (Takes wish head)
+
+-- behind the head of a 200 bytes came, of which this was written, and the conversation ends so
+abbrev pub StopsContent : Wish → ReplyHead → List ℕ → Bool → List ℕ → GetEnd → Type 0
+StopsContent wish head body over written Reply = (IsUntaken wish head × (written ≡ [])) ⊎ CutsOff wish head body over written
+StopsContent wish head body over written Link = Passes wish head body written
+StopsContent wish head body over written Sink = Passes wish head body written
+StopsContent wish head body over written Memory = Passes wish head body written
+StopsContent wish head body over written end = ⊥
+
+-- some of a reply came, and nothing was written but content
+abbrev pub IsPartial : Wish → List ℕ → List ℕ → Type 0
+IsPartial wish reply written = (written ≡ []) ⊎ Replied reply (λ head body. Passes wish head body written)
+
+-- a reply that is none, or that leads nowhere
+abbrev pub IsBad : Wish → Place → List ℕ → Bool → List ℕ → Type 0
+IsBad wish place reply over written =
+    (IsHeadless reply over × (written ≡ []))
+    ⊎ Replied reply (λ head behind. (SendsNowhere place head × (written ≡ [])) ⊎ StopsContent wish head behind over written Reply)
+
+-- with a reply, of which this was written, the conversation ends so
+abbrev pub EndsWith : Wish → Place → List ℕ → Bool → List ℕ → GetEnd → Type 0
+EndsWith wish place reply over written (Refused status) =
+    (written ≡ []) × Replied reply (λ head behind. (head.status ≡ status) × (status ≢ 200) × (status ≢ 302))
+EndsWith wish place reply over written ends.Redirects =
+    (written ≡ []) × (place.redirections ≡ 0) × Replied reply (λ head behind. (url : Parts) × SendsTo place head url)
+EndsWith wish place reply over written Reply = IsBad wish place reply over written
+EndsWith wish place reply over written Link = IsPartial wish reply written
+EndsWith wish place reply over written Sink = Replied reply (λ head body. Passes wish head body written)
+EndsWith wish place reply over written Memory = IsPartial wish reply written
+EndsWith wish place reply over written end = ⊥
+
+-- a turn from which the client goes on at this place, and the content that came
+pub record GoesOn (wish : Wish) (place : Place) (turn : Turn) (content : List ℕ) (next : Place) : Type 0 where
+  pub asks : Asks wish place turn
+  pub leads : LeadsOn wish place turn.reply turn.over content next
+
+-- in a turn, of whose reply this was written, the conversation ends so
+abbrev pub EndsIn : Wish → Place → Turn → List ℕ → GetEnd → Type 0
+EndsIn wish place turn written end =
+    (Asks wish place turn × EndsWith wish place turn.reply turn.over written end)
+    ⊎ (IsCut (dialled_at place.kept place) (request_of wish place) turn × (written ≡ []) × (end ≡ Link))
+
+-- turns that lead from a place to a place, and the content that came
+abbrev pub Leads : Wish → Place → List Turn → List ℕ → Place → Type 0
+Leads wish place [] content reached = (content ≡ []) × (reached ≡ place)
+Leads wish place (turn ∷ turns) content reached =
+    (0 < place.replies) × ((next : Place) × (first : List ℕ) × (rest : List ℕ) × GoesOn wish place turn first next × (content ≡ first ++ rest) × Leads wish next turns rest reached)
+
+-- at a place, with or without a last turn, the conversation ends so
+abbrev pub EndsAt : Wish → Place → Option Turn → List ℕ → GetEnd → Type 0
+EndsAt wish place None written Done = (place.replies ≡ 0) × (written ≡ [])
+EndsAt wish place None written Memory = written ≡ []
+EndsAt wish place None written end = ⊥
+EndsAt wish place (Some turn) written end = (0 < place.replies) × EndsIn wish place turn written end
+
+-- a conversation from a place on: its turns, what was written, and how it ended
+pub record Converses (wish : Wish) (place : Place) (turns : List Turn) (written : List ℕ) (end : GetEnd) : Type 0 where
+  pub through : List Turn
+  pub content : List ℕ
+  pub reached : Place
+  pub last : Option Turn
+  pub rest : List ℕ
+  pub leads : Leads wish place through content reached
+  pub ends : EndsAt wish reached last rest end
+  pub turns_are : turns ≡ through ++ option_to_list last
+  pub written_is : written ≡ content ++ rest

@@ -1,0 +1,41 @@
+-- What a download of an address does.
+use Rattle.std.specs.Prelude.{◌≡◌, ◌⊎◌, ℕ, false, List, [], ⊤}
+use Rattle.oc_fetch.specs.Addresses.{IsAddressOf, IsBadAddress}
+use Rattle.oc_fetch.specs.Conversations.{Converses}
+use Rattle.oc_fetch.specs.Queries.{start_of, area_of}
+use Rattle.oc_fetch.specs.Turns.{Turn}
+use Rattle.oc_fetch.specs.Wishes.{Wish, whole, news}
+use Rattle.oc_fetch.specs.declared.end.GetEnd.{GetEnd}
+use Rattle.oc_fetch.specs.declared.end.GetEnd.TheVariants.{BadUrl, Memory}
+use Rattle.oc_fetch.specs.declared.place.Place.{Place}
+use Rattle.url.specs.Parts.{Parts}
+
+-- where a client begins that wants so many replies
+abbrev pub first_place : Parts → ℕ → Place
+first_place url times = record {
+  target = url;
+  start = start_of url.query;
+  kept = false;
+  redirections = 2;
+  replies = times;
+}
+
+-- how it ends where nothing is asked
+abbrev pub IsUnasked : List ℕ → GetEnd → Type 0
+IsUnasked address BadUrl = IsBadAddress address
+IsUnasked address Memory = ⊤
+IsUnasked address end = ⊥
+
+-- a download of an address: a conversation from its URL on, or nothing
+abbrev pub Downloads : (Parts → Wish) → List ℕ → ℕ → List Turn → List ℕ → GetEnd → Type 0
+Downloads wish_for address times turns written end =
+    (IsUnasked address end × (turns ≡ []) × (written ≡ []))
+    ⊎ ((url : Parts) × IsAddressOf address url × Converses (wish_for url) (first_place url times) turns written end)
+
+-- the content of a URL
+abbrev pub content_of : Parts → Wish
+content_of url = whole
+
+-- what is new of a group, for the area that the URL says
+abbrev pub news_of : Parts → Wish
+news_of url = news (area_of url.query)

@@ -1,0 +1,12 @@
+pub mod Addresses
+pub mod Queries
+pub mod Turns
+pub mod Wishes
+pub mod Replies
+pub mod Ends
+pub mod Passing
+pub mod Chunks
+pub mod Redirecting
+pub mod Conversations
+pub mod Downloads
+pub mod Completeness

@@ -1,0 +1,52 @@
+-- What the query of a URL says to a client that follows a group.
+use Rattle.std.specs.Prelude.{ℕ, ◌==◌, if◌then◌else◌, Option, Some, None, unwrap_or, Result, Ok, Err, List, [], ◌∷◌, codes}
+use Rattle.std.specs.List.{slice_split}
+use Rattle.std.specs.Str.{byte}
+use Rattle.oc_base.specs.declared.limits.TheConstants.{MAX_START}
+use Rattle.oc_base.specs.declared.why.Why.{Why}
+use Rattle.oc_base.specs.Words.{number_in}
+
+-- what stands behind a prefix, where the bytes begin with it
+abbrev pub behind : List ℕ → List ℕ → Option (List ℕ)
+behind [] bytes = Some bytes
+behind (p ∷ prefix) [] = None
+behind (p ∷ prefix) (b ∷ bytes) = if b == p then behind prefix bytes else None
+
+-- the parts of a query, which stand between `&`
+abbrev pub parts : List ℕ → List (List ℕ)
+parts query = slice_split (λ b. b == byte "&") query
+
+-- the first, or else the second
+abbrev pub or_else : {A : Type 0} → Option A → Option A → Option A
+or_else (Some first) second = Some first
+or_else None second = second
+
+-- the first value of a name with its `=`
+abbrev pub first_value : List ℕ → List (List ℕ) → Option (List ℕ)
+first_value name [] = None
+first_value name (part ∷ more) = or_else (behind name part) (first_value name more)
+
+-- a start that a value spells, of at most 2^40
+abbrev pub start_spelled : Result ℕ Why → Option ℕ
+start_spelled (Ok start) = Some start
+start_spelled (Err why) = None
+
+-- the start that a part says
+abbrev pub start_said : Option (List ℕ) → Option ℕ
+start_said None = None
+start_said (Some value) = start_spelled (number_in 0 MAX_START value)
+
+-- the first start that some part says
+abbrev pub first_start : List (List ℕ) → Option ℕ
+first_start [] = None
+first_start (part ∷ more) = or_else (start_said (behind (codes "start=") part)) (first_start more)
+
+-- the start of a URL, and 0 where it says none
+abbrev pub start_of : Option (List ℕ) → ℕ
+start_of None = 0
+start_of (Some query) = unwrap_or (first_start (parts query)) 0
+
+-- the area of a URL, as it stands there
+abbrev pub area_of : Option (List ℕ) → Option (List ℕ)
+area_of None = None
+area_of (Some query) = first_value (codes "area=") (parts query)

@@ -1,0 +1,60 @@
+//! A request, on a new connection or on one that was kept.
+
+ghost use Rattle.std.specs.Prelude.{◌≡◌, None, Some, IfErr, OnOk, IsErrOf};
+ghost use Rattle.oc_fetch.specs.Turns.{Turn, Speaks, SpeaksLast, asking, IsCut};
+ghost use Rattle.oc_fetch.specs.Wishes.{dialled_at};
+ghost use Rattle.oc_outside.specs.Faults.{Rose};
+ghost use Rattle.oc_outside.specs.LinkCalls.{Told, CountsDialling};
+
+use crate::end::GetEnd;
+use crate::place::Place;
+use oc_outside::Link;
+
+/// Writes a request where it belongs.
+pub(crate) fn ask<L: Link>(place: &Place, request: &[u8], link: &mut L) -> Result<(), GetEnd>
+    ensures asked { OnOk result
+        (Told (Speaks (asking (dialled_at place.now.kept place.now) request.now)) (L.story link.old) (L.story link.new)) }
+    ensures cut { IfErr result (λ end. (end ≡ GetEnd.Link) × ((turn : Turn)
+        × IsCut (dialled_at place.now.kept place.now) request.now turn
+        × Told (SpeaksLast turn) (L.story link.old) (L.story link.new))) }
+    ensures count { CountsDialling (L.faults link.old) (L.faults link.new) }
+    ensures cause { IsErrOf result GetEnd.Link → Rose (L.faults link.old).dialling (L.faults link.new).dialling }
+{
+    if place.kept {
+        ask_again(request, link)
+    } else {
+        ask_at(place.target.address(), request, link)
+    }
+}
+
+/// Writes a request on a new connection to this address.
+fn ask_at<L: Link>(address: &str, request: &[u8], link: &mut L) -> Result<(), GetEnd>
+    ensures asked { OnOk result
+        (Told (Speaks (asking (Some address.now) request.now)) (L.story link.old) (L.story link.new)) }
+    ensures cut { IfErr result (λ end. (end ≡ GetEnd.Link) × ((turn : Turn)
+        × IsCut (Some address.now) request.now turn
+        × Told (SpeaksLast turn) (L.story link.old) (L.story link.new))) }
+    ensures count { CountsDialling (L.faults link.old) (L.faults link.new) }
+    ensures cause { IsErrOf result GetEnd.Link → Rose (L.faults link.old).dialling (L.faults link.new).dialling }
+{
+    match link.dial(address, request) {
+        Ok(()) => Ok(()),
+        Err(_) => Err(GetEnd::Link),
+    }
+}
+
+/// Writes a request on the connection of the one before.
+fn ask_again<L: Link>(request: &[u8], link: &mut L) -> Result<(), GetEnd>
+    ensures asked { OnOk result
+        (Told (Speaks (asking None request.now)) (L.story link.old) (L.story link.new)) }
+    ensures cut { IfErr result (λ end. (end ≡ GetEnd.Link) × ((turn : Turn)
+        × IsCut None request.now turn
+        × Told (SpeaksLast turn) (L.story link.old) (L.story link.new))) }
+    ensures count { CountsDialling (L.faults link.old) (L.faults link.new) }
+    ensures cause { IsErrOf result GetEnd.Link → Rose (L.faults link.old).dialling (L.faults link.new).dialling }
+{
+    match link.dial_more(request) {
+        Ok(()) => Ok(()),
+        Err(_) => Err(GetEnd::Link),
+    }
+}

@@ -1,0 +1,136 @@
+//! Downloads of a URL.
+
+ghost use Rattle.std.specs.Prelude.{◌≡◌, IfOk};
+ghost use Rattle.oc_fetch.specs.Addresses.{IsAddressOf, IsBadAddress};
+ghost use Rattle.oc_fetch.specs.Completeness.{Completes};
+ghost use Rattle.oc_fetch.specs.Conversations.{Converses};
+ghost use Rattle.oc_fetch.specs.Downloads.{Downloads, IsUnasked, first_place, content_of, news_of};
+ghost use Rattle.oc_fetch.specs.Ends.{end_of_url};
+ghost use Rattle.oc_fetch.specs.Passing.{IsTalked};
+ghost use Rattle.oc_fetch.specs.Wishes.{wish_of};
+ghost use Rattle.oc_outside.specs.Faults.{NoFall, Rose};
+ghost use Rattle.oc_outside.specs.LinkCalls.{Told, CountsDialling};
+ghost use Rattle.url.specs.Parts.{Parts};
+
+use crate::address::{UrlFault, read_address};
+use crate::conversation::converse;
+use crate::end::GetEnd;
+use crate::place::Place;
+use crate::query;
+use crate::target::Target;
+use crate::wish::Wish;
+use oc_base::Memory;
+use oc_http::a_response_head_has_one_answer;
+use oc_outside::{Link, Sink};
+use std::alloc::Global;
+use url::Url;
+
+/// How many redirections a download follows.
+pub const MAX_REDIRECTIONS: u8 = 2;
+
+/// Downloads the content of a URL onto a sink, in pieces of at most 64 KiB as they come (RFC 9110, section
+/// 9.3.1). The address is an `http` URL with a host, without a user and a password. Each Location of a 302
+/// is followed, at most `MAX_REDIRECTIONS` of them. A chunked reply is `Reply`. With another end than `Done`
+/// a front of the content was written, and nothing where no 200 came.
+pub fn get<L: Link, K: Sink>(alloc: Global, address: &str, link: &mut L, sink: &mut K) -> GetEnd
+    ensures talked { IsTalked K.takes K.fails (Downloads content_of address.now 1)
+        (L.story link.old) (L.story link.new) sink.old sink.new result }
+    ensures bad { IsBadAddress address.now → IsUnasked address.now result }
+
+    // Where the replies lead to a whole content, they are not refused.
+    ensures complete { (url : Parts) → IsAddressOf address.now url
+        → Told (Completes url result) (L.story link.old) (L.story link.new) }
+
+    ensures link_count { CountsDialling (L.faults link.old) (L.faults link.new) }
+    ensures sink_count { NoFall (K.faults sink.old) (K.faults sink.new) }
+    ensures link_cause { result ≡ GetEnd.Link → Rose (L.faults link.old).dialling (L.faults link.new).dialling }
+    ensures sink_cause { result ≡ GetEnd.Sink → Rose (K.faults sink.old) (K.faults sink.new) }
+{
+    a_response_head_has_one_answer();
+    match read_address(alloc, address) {
+        Ok(url) => download(alloc, &Wish::Whole, url, 1, link, sink),
+        Err(fault) => unasked(fault),
+    }
+}
+
+/// Downloads what is new of a group onto a sink, again and again: until a reply tells the length of its
+/// content, or until so many replies of 200 have come. Each request asks from the byte behind what was
+/// written, at first from the `start` of the URL's query, on the connection of the one before where that is
+/// kept (RFC 9112, section 9.3). A reply may be chunked. Redirections are counted over the whole call. It
+/// ends as `get` does.
+pub fn follow<L: Link, K: Sink>(
+    alloc: Global,
+    address: &str,
+    times: u64,
+    link: &mut L,
+    sink: &mut K,
+) -> GetEnd
+    ensures talked { IsTalked K.takes K.fails (Downloads news_of address.now times)
+        (L.story link.old) (L.story link.new) sink.old sink.new result }
+    ensures bad { IsBadAddress address.now → IsUnasked address.now result }
+
+    ensures link_count { CountsDialling (L.faults link.old) (L.faults link.new) }
+    ensures sink_count { NoFall (K.faults sink.old) (K.faults sink.new) }
+    ensures link_cause { result ≡ GetEnd.Link → Rose (L.faults link.old).dialling (L.faults link.new).dialling }
+    ensures sink_cause { result ≡ GetEnd.Sink → Rose (K.faults sink.old) (K.faults sink.new) }
+{
+    match read_address(alloc, address) {
+        Ok(url) => match news(alloc, &url) {
+            Ok(wish) => download(alloc, &wish, url, times, link, sink),
+            Err(Memory) => GetEnd::Memory,
+        },
+        Err(fault) => unasked(fault),
+    }
+}
+
+/// How a download ends where nothing is asked.
+fn unasked(fault: UrlFault) -> GetEnd
+    ensures { result ≡ end_of_url fault }
+{
+    match fault {
+        UrlFault::Bad => GetEnd::BadUrl,
+        UrlFault::Memory => GetEnd::Memory,
+    }
+}
+
+/// What a client wishes for that follows the group of a URL.
+fn news(alloc: Global, url: &Url) -> Result<Wish, Memory>
+    ensures { IfOk result (λ wish. wish_of wish ≡ news_of url.now) }
+{
+    match query::area(url.query()) {
+        Some(area) => Ok(Wish::News(Some(String::from_str(alloc, area)?))),
+        None => Ok(Wish::News(None)),
+    }
+}
+
+/// Talks with servers, from a URL on, until so many replies have come.
+fn download<L: Link, K: Sink>(
+    alloc: Global,
+    wish: &Wish,
+    url: Url,
+    times: u64,
+    link: &mut L,
+    sink: &mut K,
+) -> GetEnd
+    ensures talked { IsTalked K.takes K.fails (Converses (wish_of wish.now) (first_place url times))
+        (L.story link.old) (L.story link.new) sink.old sink.new result }
+    ensures link_count { CountsDialling (L.faults link.old) (L.faults link.new) }
+    ensures sink_count { NoFall (K.faults sink.old) (K.faults sink.new) }
+    ensures link_cause { result ≡ GetEnd.Link → Rose (L.faults link.old).dialling (L.faults link.new).dialling }
+    ensures sink_cause { result ≡ GetEnd.Sink → Rose (K.faults sink.old) (K.faults sink.new) }
+{
+    let start = query::start(url.query());
+    match Target::new(alloc, url) {
+        Ok(target) => {
+            let place = Place {
+                target,
+                start,
+                kept: false,
+                redirections: MAX_REDIRECTIONS,
+                replies: times,
+            };
+            converse(alloc, wish, place, link, sink)
+        }
+        Err(Memory) => GetEnd::Memory,
+    }
+}

@@ -1,0 +1,74 @@
+//! One request and its reply.
+
+ghost use Rattle.std.specs.Prelude.{◌≡◌, ◌<◌, IfErr, OnOk, IsErrOf};
+ghost use Rattle.oc_fetch.specs.Conversations.{LeadsOn, EndsWith, GoesOn, EndsAt};
+ghost use Rattle.oc_fetch.specs.Passing.{IsHeard, IsLastHeard, IsExchanged, IsLastExchanged};
+ghost use Rattle.oc_fetch.specs.Wishes.{wish_of};
+ghost use Rattle.oc_outside.specs.Exchange.{Hears, HearsThenBreaks};
+ghost use Rattle.oc_outside.specs.Faults.{NoFall, Rose};
+ghost use Rattle.oc_outside.specs.LinkCalls.{Told, IfTold, OnOutgoing, CountsDialling};
+ghost use Rattle.oc_outside.specs.Story.{IsHeardOut};
+
+use crate::asking::ask;
+use crate::end::GetEnd;
+use crate::hearing::hear;
+use crate::place::Place;
+use crate::room::Room;
+use crate::wish::{Wish, write_request};
+use oc_outside::{Link, Outgoing, Sink};
+use std::alloc::Global;
+
+/// Makes the request of a client at a place, passes on what comes of content, and goes to the place to
+/// which the reply leads.
+pub(crate) fn exchange<L: Link, K: Sink>(
+    alloc: Global,
+    wish: &Wish,
+    place: &mut Place,
+    room: &mut Room,
+    link: &mut L,
+    sink: &mut K,
+) -> Result<(), GetEnd>
+    requires { 0 < place.old.replies }
+    ensures goes_on { OnOk result (IsExchanged K.takes
+        (λ turn content. GoesOn (wish_of wish.now) place.old turn content place.new)
+        (L.story link.old) (L.story link.new) sink.old sink.new) }
+    ensures ends { IfErr result (λ end. IsLastExchanged K.takes K.fails
+        (EndsAt (wish_of wish.now) place.old)
+        (L.story link.old) (L.story link.new) sink.old sink.new end) }
+    ensures link_count { CountsDialling (L.faults link.old) (L.faults link.new) }
+    ensures sink_count { NoFall (K.faults sink.old) (K.faults sink.new) }
+    ensures link_cause { IsErrOf result GetEnd.Link → Rose (L.faults link.old).dialling (L.faults link.new).dialling }
+    ensures sink_cause { IsErrOf result GetEnd.Sink → Rose (K.faults sink.old) (K.faults sink.new) }
+{
+    let request = write_request(alloc, wish, place)?;
+    ask(place, &request, link)?;
+    hear_outgoing(alloc, wish, place, room, link, sink)
+}
+
+/// Takes a reply from the outgoing connection.
+fn hear_outgoing<L: Link, K: Sink>(
+    alloc: Global,
+    wish: &Wish,
+    place: &mut Place,
+    room: &mut Room,
+    link: &mut L,
+    sink: &mut K,
+) -> Result<(), GetEnd>
+    ensures heard { OnOk result (IsHeard
+        (λ old bytes new. Told (OnOutgoing (Hears bytes)) (L.story old) (L.story new))
+        (λ l. IfTold (L.story l) IsHeardOut) K.takes
+        (λ reply over content. LeadsOn (wish_of wish.now) place.old reply over content place.new)
+        link.old link.new sink.old sink.new) }
+    ensures last { IfErr result (λ end. IsLastHeard
+        (λ old bytes new. Told (OnOutgoing (Hears bytes)) (L.story old) (L.story new))
+        (λ old bytes new. Told (OnOutgoing (HearsThenBreaks bytes)) (L.story old) (L.story new))
+        (λ l. IfTold (L.story l) IsHeardOut) K.takes K.fails
+        (EndsWith (wish_of wish.now) place.old)
+        link.old link.new sink.old sink.new end) }
+    ensures link_count { CountsDialling (L.faults link.old) (L.faults link.new) }
+    ensures sink_count { NoFall (K.faults sink.old) (K.faults sink.new) }
+    ensures link_cause { IsErrOf result GetEnd.Link → Rose (L.faults link.old).dialling (L.faults link.new).dialling }
+    ensures sink_cause { IsErrOf result GetEnd.Sink → Rose (K.faults sink.old) (K.faults sink.new) }
+{
+    hear(alloc, wish, place, room, &mut Outgoing::new(link), sink)
+}

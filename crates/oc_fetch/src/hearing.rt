@@ -1,0 +1,118 @@
+//! What a reply says, and where it leads.
+
+ghost use Rattle.std.specs.Prelude.{◌≡◌, ◌↔◌, IfErr, OnOk, IsErrOf, IsTrue};
+ghost use Rattle.oc_fetch.specs.Conversations.{LeadsOn, EndsWith, Brings, StopsContent, wanted_behind};
+ghost use Rattle.oc_fetch.specs.Passing.{IsHeard, IsLastHeard};
+ghost use Rattle.oc_fetch.specs.Wishes.{wish_of, Takes, keeps};
+ghost use Rattle.oc_fetch.specs.Replies.{extent_of};
+ghost use Rattle.oc_outside.specs.Faults.{NoFall, Rose};
+
+use crate::content::pass_content;
+use crate::end::GetEnd;
+use crate::extent::Extent;
+use crate::place::Place;
+use crate::redirection::redirect;
+use crate::room::Room;
+use crate::wish::Wish;
+use oc_http::ReplyHead;
+use oc_outside::{Sink, Source};
+use std::alloc::Global;
+
+/// Takes a reply from a source, passes its content on to a sink, and goes to the place to which it
+/// leads.
+pub(crate) fn hear<S: Source, K: Sink>(
+    alloc: Global,
+    wish: &Wish,
+    place: &mut Place,
+    room: &mut Room,
+    source: &mut S,
+    sink: &mut K,
+) -> Result<(), GetEnd>
+    ensures heard { OnOk result (IsHeard S.gives S.ended K.takes
+        (λ reply over content. LeadsOn (wish_of wish.now) place.old reply over content place.new)
+        source.old source.new sink.old sink.new) }
+    ensures last { IfErr result (λ end. IsLastHeard S.gives S.fails S.ended K.takes K.fails
+        (EndsWith (wish_of wish.now) place.old) source.old source.new sink.old sink.new end) }
+    ensures source_count { NoFall (S.faults source.old) (S.faults source.new) }
+    ensures sink_count { NoFall (K.faults sink.old) (K.faults sink.new) }
+    ensures source_cause { IsErrOf result GetEnd.Link → Rose (S.faults source.old) (S.faults source.new) }
+    ensures sink_cause { IsErrOf result GetEnd.Sink → Rose (K.faults sink.old) (K.faults sink.new) }
+{
+    let head = room.heads.read_response_head(source)?;
+    match head.status {
+        200 => take_content(alloc, wish, &head, place, room, source, sink),
+        302 => redirect(alloc, place, head.location),
+        status => Err(GetEnd::Refused(status)),
+    }
+}
+
+/// Passes the content of a reply of 200 on, and goes to the place behind it.
+fn take_content<S: Source, K: Sink>(
+    alloc: Global,
+    wish: &Wish,
+    head: &ReplyHead,
+    place: &mut Place,
+    room: &mut Room,
+    source: &mut S,
+    sink: &mut K,
+) -> Result<(), GetEnd>
+    requires { head.now.status ≡ 200 }
+    ensures brought { OnOk result (IsHeard S.gives S.ended K.takes
+        (λ body over content. Brings (wish_of wish.now) place.old head.now body over content place.new)
+        source.old source.new sink.old sink.new) }
+    ensures last { IfErr result (λ end. IsLastHeard S.gives S.fails S.ended K.takes K.fails
+        (StopsContent (wish_of wish.now) head.now) source.old source.new sink.old sink.new end) }
+    ensures source_count { NoFall (S.faults source.old) (S.faults source.new) }
+    ensures sink_count { NoFall (K.faults sink.old) (K.faults sink.new) }
+    ensures source_cause { IsErrOf result GetEnd.Link → Rose (S.faults source.old) (S.faults source.new) }
+    ensures sink_cause { IsErrOf result GetEnd.Sink → Rose (K.faults sink.old) (K.faults sink.new) }
+{
+    if !takes(wish, head) {
+        return Err(GetEnd::Reply);
+    }
+    let count = pass_content(alloc, extent_of(head), source, sink, room)?;
+    place.start = place.start.saturating_add(count);
+    place.kept = keeps(head);
+    place.replies = wanted_behind(head.length, place.replies);
+    Ok(())
+}
+
+/// Whether the client takes the content of such a reply.
+fn takes(wish: &Wish, head: &ReplyHead) -> bool
+    ensures { IsTrue result ↔ Takes (wish_of wish.now) head.now }
+{
+    match wish {
+        Wish::Whole => !head.chunked,
+        Wish::News(_) => true,
+    }
+}
+
+/// Where the content of a reply ends.
+fn extent_of(head: &ReplyHead) -> Extent
+    ensures { result ≡ extent_of head.now }
+{
+    if head.chunked {
+        return Extent::Chunked;
+    }
+    match head.length {
+        Some(count) => Extent::Counted(count),
+        None => Extent::ToTheEnd,
+    }
+}
+
+/// Whether the connection is kept behind a reply.
+fn keeps(head: &ReplyHead) -> bool
+    ensures { result ≡ keeps head.now }
+{
+    !head.closes && head.chunked
+}
+
+/// How many replies are wanted behind one of this length.
+fn wanted_behind(length: Option<u64>, replies: u64) -> u64
+    ensures { result ≡ wanted_behind length replies }
+{
+    match length {
+        Some(_) => 0,
+        None => replies.saturating_sub(1),
+    }
+}

@@ -1,0 +1,33 @@
+ghost use Rattle.std.specs.Prelude.{◌<◌, vec_len};
+
+use oc_base::Memory;
+use oc_http::HeadReader;
+use std::alloc::Global;
+
+/// How many bytes of a content are passed on at once.
+const PIECE_BYTES: usize = 65_536;
+
+/// The memory of a conversation, which is taken before its first request.
+#[derive(Drop)]
+pub(crate) struct Room {
+    pub(crate) heads: HeadReader,
+    /// What came of a reply.
+    pub(crate) buffer: Vec<u8>,
+    /// What it brings of content, where that is chunked.
+    pub(crate) content: Vec<u8>,
+    ghost some: { 0 < vec_len buffer },
+}
+
+impl Room {
+    pub(crate) fn new(alloc: Global) -> Result<Room, Memory> {
+        let heads = HeadReader::new(alloc)?;
+        let buffer = vec![in alloc; 0; PIECE_BYTES]?;
+        let mut content = Vec::new(alloc);
+        content.reserve(PIECE_BYTES)?;
+        Ok(Room {
+            heads,
+            buffer,
+            content,
+        })
+    }
+}

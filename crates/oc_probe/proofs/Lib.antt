@@ -1,0 +1,3 @@
+pub mod Medians
+pub mod Asking
+pub mod Peers

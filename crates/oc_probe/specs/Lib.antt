@@ -1,0 +1,4 @@
+pub mod Rates
+pub mod Turns
+pub mod Faults
+pub mod Probes

@@ -1,0 +1,61 @@
+ghost use Rattle.std.specs.Prelude.{◌≡◌};
+ghost use Rattle.oc_probe.specs.Faults.{fault_of_http};
+ghost use Rattle.oc_probe.specs.declared.fault.ProbeFault.TheVariants.{Link as LinkFault, Memory as MemoryFault};
+
+use oc_base::Memory;
+use oc_http::HttpFault;
+use oc_outside::Failed;
+use std::error::Error;
+use std::fmt;
+
+/// Why a probe gave no rate.
+#[derive(Clone, Copy, Debug, PartialEq, Eq)]
+pub enum ProbeFault {
+    /// A call of the dial failed.
+    Link,
+    /// What came is no response of status 200 with a body of `PROBE_BYTES` bytes.
+    Reply,
+    /// Memory ran out.
+    Memory,
+}
+
+impl fmt::Display for ProbeFault {
+    fn fmt<W: fmt::Write>(&self, f: &mut fmt::Formatter<W>) -> fmt::Result {
+        let text = match self {
+            ProbeFault::Link => "the dial failed",
+            ProbeFault::Reply => "what came is no answer to a probe",
+            ProbeFault::Memory => "out of memory",
+        };
+        write!(f, "{text}")
+    }
+}
+
+impl Error for ProbeFault {}
+
+impl From<Failed> for ProbeFault {
+    ghost from_gives = { λ _ fault. fault ≡ LinkFault };
+
+    fn from(_failed: Failed) -> ProbeFault {
+        ProbeFault::Link
+    }
+}
+
+impl From<Memory> for ProbeFault {
+    ghost from_gives = { λ _ fault. fault ≡ MemoryFault };
+
+    fn from(_memory: Memory) -> ProbeFault {
+        ProbeFault::Memory
+    }
+}
+
+impl From<HttpFault> for ProbeFault {
+    ghost from_gives = { λ http fault. fault ≡ fault_of_http http };
+
+    fn from(fault: HttpFault) -> ProbeFault {
+        match fault {
+            HttpFault::Source => ProbeFault::Link,
+            HttpFault::Memory => ProbeFault::Memory,
+            _ => ProbeFault::Reply,
+        }
+    }
+}

@@ -1,0 +1,25 @@
+//! Rates to other nodes, measured by timed downloads.
+//!
+//! [`probe`] downloads [`PROBE_BYTES`] bytes and gives bytes per second: `rate_of` the two readings of
+//! the clock, just before the dial and just after the last byte. It says of the link that one dial was
+//! made, with which bytes it was written and read, and that nothing else happened there. A [`Gauge`]
+//! keeps the last five rates of each peer and gives their median (`IsMedian`), and a [`Rotation`] gives
+//! the peers in turn, for ever. Only `probe` and the two constructors take memory.
+#![tactic(auto)]
+
+mod answer;
+mod fault;
+mod gauge;
+mod law;
+mod probing;
+mod rate;
+mod recent;
+mod rotation;
+
+pub use fault::ProbeFault;
+pub use gauge::Gauge;
+pub use law::rates_have_one_median;
+pub use oc_base::{Memory, NodeId};
+pub use probing::{Probing, probe};
+pub use rate::{PROBE_BYTES, rate_of};
+pub use rotation::Rotation;

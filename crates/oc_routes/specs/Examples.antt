@@ -1,0 +1,139 @@
+-- Worked examples: what requests ask, and what they are answered.
+use Rattle.std.specs.Prelude.{◌≡◌, ℕ, true, false, Bool, Some, None, Result, Ok, Err, List, [], ◌∷◌, ◌++◌, codes}
+use Rattle.oc_http.specs.declared.framing.Connection.TheVariants.{Close, Keep}
+use Rattle.oc_http.specs.declared.head.Head.{Head}
+use Rattle.oc_http.specs.declared.head.Verb.{Verb}
+use Rattle.oc_http.specs.declared.head.Verb.TheVariants as verbs
+use Rattle.oc_model.specs.declared.answer.Answer.{Answer}
+use Rattle.oc_model.specs.declared.answer.Answer.TheVariants as answers
+use Rattle.oc_model.specs.declared.input.Input.TheVariants as inputs
+use Rattle.oc_model.specs.declared.message.Body.TheVariants as bodies
+use Rattle.oc_model.specs.declared.message.Message.{Message}
+use Rattle.oc_policy.specs.declared.rule.Action.TheVariants.{Get, Post}
+use Rattle.oc_policy.specs.declared.rule.Rule.{Rule}
+use Rattle.oc_routes.specs.Connections.{is_last, awaits_continue}
+use Rattle.oc_routes.specs.Inputs.{input_asked, input_line}
+use Rattle.oc_routes.specs.Refusals.{refusal_line, refusal_text}
+use Rattle.oc_routes.specs.Replies.{others, reply_to}
+use Rattle.oc_routes.specs.Responses.{response_to}
+use Rattle.oc_routes.specs.Routes.{asked}
+use Rattle.oc_routes.specs.declared.asks.Asks.{Asks}
+use Rattle.oc_routes.specs.declared.asks.Asks.TheVariants as asks
+use Rattle.oc_routes.specs.declared.asks.Manner.TheVariants.{HeadAlone, Once, Follow}
+use Rattle.oc_routes.specs.declared.refused.Refused.{Refused}
+use Rattle.oc_routes.specs.declared.refused.Refused.TheVariants as refusals
+use Rattle.oc_routes.specs.declared.response.Response.{Response}
+
+-- the head of a request of version 1.1 with no body
+abbrev head : Verb → List ℕ → List ℕ → Head
+head method path query = record { method = method; path = path; query = query; length = 0; expects = false; minor = 1; closes = false }
+
+-- what a request without access rules asks
+abbrev asks_for : Verb → List ℕ → List ℕ → Asks → Type 0
+asks_for method path query wanted = asked (head method path query) [] ≡ Ok wanted
+
+abbrev refuses : Verb → List ℕ → List ℕ → Refused → Type 0
+refuses method path query refused = asked (head method path query) [] ≡ Err refused
+
+-- three rules: nobody in area 4 reads the news, everybody else does everything, and the last rule decides nothing
+abbrev rules : List Rule
+rules = record { allow = false; action = Some Get; prefix = codes "/news"; area = Some 4 }
+    ∷ record { allow = true; action = None; prefix = codes "/"; area = None }
+    ∷ record { allow = false; action = Some Post; prefix = codes "/news/a"; area = None } ∷ []
+
+abbrev under_rules : Verb → List ℕ → List ℕ → Result Asks Refused → Type 0
+under_rules method path query wanted = asked (head method path query) rules ≡ wanted
+
+pub record AreRouted : Type 0 where
+  pub client : asks_for verbs.Get (codes "/news/a") (codes "start=2") (asks.Client (codes "/news/a") 0 2 Once)
+  pub head_alone : asks_for verbs.Head (codes "/a") (codes "follow") (asks.Client (codes "/a") 0 0 HeadAlone)
+  pub follows : asks_for verbs.Get (codes "/a") (codes "start=0&follow") (asks.Client (codes "/a") 0 0 Follow)
+  pub version_1_0_follows_nothing : asked (record (head verbs.Get (codes "/a") (codes "follow")) { minor = 0 }) [] ≡ Ok (asks.Client (codes "/a") 0 0 Once)
+  pub nearly_follow : asks_for verbs.Get (codes "/a") (codes "follow=1&Follow") (asks.Client (codes "/a") 0 0 Once)
+  pub first_start : asks_for verbs.Get (codes "/a") (codes "x&start=1&start=y&area=255") (asks.Client (codes "/a") 255 1 Once)
+  pub publish : asks_for verbs.Post (codes "/a") (codes "follow") (asks.Publish (codes "/a"))
+  pub seal : asks_for verbs.Post (codes "/a") (codes "x=1&seal") (asks.Seal (codes "/a"))
+  pub seal_of_a_get : asks_for verbs.Get (codes "/a") (codes "seal") (asks.Client (codes "/a") 0 0 Once)
+  pub message : asks_for verbs.Post (codes "/!overcast") [] asks.Message
+  pub probe : asks_for verbs.Get (codes "/!probe") (codes "follow") (asks.Probe Follow)
+  pub put : refuses verbs.Other (codes "/%") (codes "start=x") refusals.Method
+  pub percent : refuses verbs.Get (codes "/a%20") (codes "start=x") refusals.Path
+  pub message_is_not_read : refuses verbs.Get (codes "/!overcast") [] refusals.Path
+  pub probe_is_not_posted : refuses verbs.Post (codes "/!probe") [] refusals.Path
+  pub no_number : refuses verbs.Get (codes "/a") (codes "start=x") refusals.Query
+  pub leading_zero : refuses verbs.Get (codes "/a") (codes "start=01") refusals.Query
+  pub first_start_counts : refuses verbs.Get (codes "/a") (codes "start=&start=1") refusals.Query
+  pub start_too_great : refuses verbs.Get (codes "/a") (codes "start=1099511627777") refusals.Query
+  pub area_too_great : refuses verbs.Post (codes "/a") (codes "area=256") refusals.Query
+  pub denied : under_rules verbs.Get (codes "/news/a") (codes "area=4") (Err (refusals.Denied 1))
+  pub head_is_denied : under_rules verbs.Head (codes "/news") (codes "area=4&area=5") (Err (refusals.Denied 1))
+  pub query_before_rules : under_rules verbs.Get (codes "/news") (codes "area=4&start=x") (Err refusals.Query)
+  pub newsroom : under_rules verbs.Get (codes "/newsroom") (codes "area=4") (Ok (asks.Client (codes "/newsroom") 4 0 Once))
+  pub news : under_rules verbs.Get (codes "/news/a") [] (Ok (asks.Client (codes "/news/a") 0 0 Once))
+  pub post_news : under_rules verbs.Post (codes "/news/a") [] (Ok (asks.Publish (codes "/news/a")))
+
+-- to node 1 from node 2: a rejoin of ask 7
+abbrev rejoin : Message
+rejoin = record { from = 2; to = 1; body = bodies.Rejoin 7 }
+
+abbrev rejoin_bytes : List ℕ
+rejoin_bytes = 0 ∷ 0 ∷ 0 ∷ 2 ∷ 0 ∷ 0 ∷ 0 ∷ 1 ∷ 8 ∷ 0 ∷ 0 ∷ 0 ∷ 0 ∷ 0 ∷ 0 ∷ 0 ∷ 7 ∷ []
+
+abbrev look_at : ℕ → Message
+look_at peer = record { from = 1; to = peer; body = bodies.Look }
+
+-- the head of a reply with these lines
+abbrev lines : List (List ℕ) → List ℕ
+lines [] = codes "\r\n"
+lines (line ∷ more) = line ++ codes "\r\n" ++ lines more
+
+abbrev closes : List ℕ
+closes = codes "Connection: close"
+
+abbrev octets : List ℕ
+octets = codes "Content-Type: application/octet-stream"
+
+-- what a client of group `/a` is answered
+abbrev answered : Asks → Answer → Bool → Bool → Response → Type 0
+answered wanted answer sealed last response = response_to wanted answer None sealed (codes "h:1" ∷ codes "h:2" ∷ []) last ≡ response
+
+pub record AreAnswered : Type 0 where
+  pub message : input_asked 3 1 asks.Message rejoin_bytes ≡ Ok (Some (inputs.Delivered rejoin))
+  pub message_to_another : input_asked 3 2 asks.Message rejoin_bytes ≡ Err refusals.Message
+  pub no_message : input_asked 3 1 asks.Message (0 ∷ 0 ∷ 0 ∷ []) ≡ Err refusals.Message
+  pub seal_with_a_body : input_asked 3 1 (asks.Seal (codes "/a")) (0 ∷ []) ≡ Err refusals.Body
+  pub recv_line : input_line 1 (inputs.Delivered rejoin) ≡ codes "recv 1 0000000200000001080000000000000007\n"
+  pub publish_line : input_line 1 (inputs.Publish (codes "/a") []) ≡ codes "publish 1 /a -\n"
+  pub client_line : input_line 1 (inputs.Client 4 2 (codes "/a")) ≡ codes "client 1 4 2 /a\n"
+  pub denied_line : refusal_line (refusals.Denied 12) ≡ codes "! denied 12\n"
+  pub denied_reply : refusal_text (refusals.Denied 1)
+      ≡ Some (lines (codes "HTTP/1.1 403 Forbidden" ∷ codes "Overcast-Rule: 1" ∷ codes "Content-Length: 0" ∷ closes ∷ []))
+  pub method_reply : refusal_text refusals.Method
+      ≡ Some (lines (codes "HTTP/1.1 405 Method Not Allowed" ∷ codes "Allow: GET, HEAD, POST" ∷ codes "Content-Length: 0" ∷ closes ∷ []))
+  pub no_reply : refusal_text refusals.Ended ≡ None
+  pub reply : reply_to (look_at 3 ∷ rejoin ∷ look_at 2 ∷ look_at 2 ∷ []) 2 ≡ Some (look_at 2)
+  pub others : others (look_at 3 ∷ rejoin ∷ look_at 2 ∷ look_at 2 ∷ []) 2 ≡ look_at 3 ∷ rejoin ∷ look_at 2 ∷ []
+  pub redirected : answered (asks.Client (codes "/a") 0 2 Once) (answers.Redirect 2) false false
+      (record { text = lines (codes "HTTP/1.1 302 Found" ∷ codes "Location: http://h:2/a?start=2" ∷ codes "Content-Length: 0" ∷ closes ∷ []); content = None; connection = Close })
+  pub follower_redirected : answered (asks.Client (codes "/a") 0 0 Follow) (answers.Redirect 1) false false
+      (record { text = lines (codes "HTTP/1.1 302 Found" ∷ codes "Location: http://h:1/a?follow" ∷ codes "Content-Length: 0" ∷ closes ∷ []); content = None; connection = Close })
+  pub served : answered (asks.Client (codes "/a") 0 2 Once) (answers.Serve 3) false false
+      (record { text = lines (codes "HTTP/1.1 200 OK" ∷ octets ∷ codes "Content-Length: 3" ∷ closes ∷ []); content = Some (record { start = 2; count = 3; chunked = false }); connection = Close })
+  pub head_alone : answered (asks.Client (codes "/a") 0 2 HeadAlone) (answers.Serve 3) false false
+      (record { text = lines (codes "HTTP/1.1 200 OK" ∷ octets ∷ codes "Content-Length: 3" ∷ closes ∷ []); content = None; connection = Close })
+  pub followed : answered (asks.Client (codes "/a") 0 0 Follow) (answers.Serve 2) false false
+      (record { text = lines (codes "HTTP/1.1 200 OK" ∷ octets ∷ codes "Transfer-Encoding: chunked" ∷ []); content = Some (record { start = 0; count = 2; chunked = true }); connection = Keep })
+  pub sealed : answered (asks.Client (codes "/a") 0 2 Follow) (answers.Serve 0) true false
+      (record { text = lines (codes "HTTP/1.1 200 OK" ∷ octets ∷ codes "Content-Length: 0" ∷ []); content = Some (record { start = 2; count = 0; chunked = false }); connection = Keep })
+  pub last_of_its_connection : answered (asks.Client (codes "/a") 0 0 Follow) (answers.Serve 2) false true
+      (record { text = lines (codes "HTTP/1.1 200 OK" ∷ octets ∷ codes "Transfer-Encoding: chunked" ∷ closes ∷ []); content = Some (record { start = 0; count = 2; chunked = true }); connection = Close })
+  pub not_held : answered (asks.Client (codes "/b") 0 0 Follow) answers.NoGroup false false
+      (record { text = lines (codes "HTTP/1.1 404 Not Found" ∷ codes "Content-Length: 0" ∷ closes ∷ []); content = None; connection = Close })
+  pub nothing_back : answered asks.Message answers.Ok false false
+      (record { text = lines (codes "HTTP/1.1 204 No Content" ∷ closes ∷ []); content = None; connection = Close })
+  pub probe_head : answered (asks.Probe HeadAlone) answers.Ok false false
+      (record { text = lines (codes "HTTP/1.1 200 OK" ∷ octets ∷ codes "Content-Length: 10240" ∷ closes ∷ []); content = None; connection = Close })
+  pub fifteenth : is_last (head verbs.Get (codes "/a") []) 15 ≡ false
+  pub sixteenth : is_last (head verbs.Get (codes "/a") []) 16 ≡ true
+  pub closing : is_last (record (head verbs.Get (codes "/a") []) { closes = true }) 1 ≡ true
+  pub nothing_to_continue : awaits_continue (record (head verbs.Post (codes "/a") []) { expects = true }) ≡ false

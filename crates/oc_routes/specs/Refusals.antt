@@ -1,0 +1,76 @@
+-- What a refused request is answered, and its line.
+use Rattle.std.specs.Prelude.{ℕ, false, if◌then◌else◌, Option, Some, None, option_map, List, [], ◌++◌, codes, decimal}
+use Rattle.oc_http.specs.Writing.{response_text}
+use Rattle.oc_http.specs.declared.fault.HttpFault.{HttpFault}
+use Rattle.oc_http.specs.declared.fault.HttpFault.TheVariants as http
+use Rattle.oc_http.specs.declared.reply.Reply.{Reply}
+use Rattle.oc_routes.specs.declared.fault.RouteFault.{RouteFault}
+use Rattle.oc_routes.specs.declared.fault.RouteFault.TheVariants as faults
+use Rattle.oc_routes.specs.declared.refused.Refused.{Refused}
+use Rattle.oc_routes.specs.declared.refused.Refused.TheVariants.{Source, Ended, Head, HeadLong, Fields, Host, Coding, Length, BodyLong, Method, Path, Query, Denied, Message, Body}
+
+-- a fault of a head or a body refuses its request by the same name; want of memory doesn't
+abbrev pub fault_of_http : HttpFault → RouteFault
+fault_of_http http.Source = faults.Refused Source
+fault_of_http http.Ended = faults.Refused Ended
+fault_of_http http.Head = faults.Refused Head
+fault_of_http http.HeadLong = faults.Refused HeadLong
+fault_of_http http.Fields = faults.Refused Fields
+fault_of_http http.Host = faults.Refused Host
+fault_of_http (http.Coding both) = faults.Refused (Coding both)
+fault_of_http (http.Length missing) = faults.Refused (Length missing)
+fault_of_http http.BodyLong = faults.Refused BodyLong
+fault_of_http http.Memory = faults.Memory
+
+-- the status of the reply; a connection that failed or ended gets none
+abbrev pub status_of : Refused → Option ℕ
+status_of Source = None
+status_of Ended = None
+status_of Head = Some 400
+status_of HeadLong = Some 431
+status_of Fields = Some 431
+status_of Host = Some 400
+status_of (Coding both) = Some (if both then 400 else 501)
+status_of (Length missing) = Some (if missing then 411 else 400)
+status_of BodyLong = Some 413
+status_of Method = Some 405
+status_of Path = Some 404
+status_of Query = Some 400
+status_of (Denied rule) = Some 403
+status_of Message = Some 400
+status_of Body = Some 400
+
+-- the rule that the reply names
+abbrev pub rule_of : Refused → Option ℕ
+rule_of (Denied rule) = Some rule
+rule_of refused = None
+
+-- a reply without a body
+abbrev pub bare : ℕ → Option ℕ → Reply
+bare status rule = record { status = status; location = None; content_type = false; body = []; rule = rule }
+
+-- the reply to a refused request, which ends the connection
+abbrev pub refusal_text : Refused → Option (List ℕ)
+refusal_text refused = option_map (λ status. response_text (bare status (rule_of refused))) (status_of refused)
+
+-- what the line of a refused request says
+abbrev pub why_text : Refused → List ℕ
+why_text Source = codes "source"
+why_text Ended = codes "ended"
+why_text Head = codes "head"
+why_text HeadLong = codes "headlong"
+why_text Fields = codes "fields"
+why_text Host = codes "host"
+why_text (Coding both) = codes "coding"
+why_text (Length missing) = codes "length"
+why_text BodyLong = codes "bodylong"
+why_text Method = codes "method"
+why_text Path = codes "path"
+why_text Query = codes "query"
+why_text (Denied rule) = codes "denied " ++ decimal rule
+why_text Message = codes "message"
+why_text Body = codes "body"
+
+-- `! WHY`
+abbrev pub refusal_line : Refused → List ℕ
+refusal_line refused = codes "! " ++ why_text refused ++ codes "\n"

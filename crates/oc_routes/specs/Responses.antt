@@ -1,0 +1,131 @@
+-- What a request is answered for the answer of its step.
+use Rattle.std.specs.Prelude.{ℕ, ◌-◌, Bool, true, false, not, Option, Some, None, List, [], ◌++◌, replicate, slice_get, unwrap_or}
+use Rattle.std.specs.Str.{byte}
+use Rattle.oc_http.specs.Writing.{head_text, response_text}
+use Rattle.oc_http.specs.declared.framing.Connection.{Connection}
+use Rattle.oc_http.specs.declared.framing.Connection.TheVariants.{Close, Keep}
+use Rattle.oc_http.specs.declared.framing.Framing.{Framing}
+use Rattle.oc_http.specs.declared.framing.Framing.TheVariants as framings
+use Rattle.oc_http.specs.declared.reply.Reply.{Reply}
+use Rattle.oc_model.specs.declared.answer.Answer.{Answer}
+use Rattle.oc_model.specs.declared.answer.Answer.TheVariants as answers
+use Rattle.oc_model.specs.declared.message.Message.{Message}
+use Rattle.oc_probe.specs.declared.rate.TheConstants.{PROBE_BYTES}
+use Rattle.oc_redirect.specs.Locations.{location_text, follow_location_text}
+use Rattle.oc_wire.specs.Spelling.{spelling}
+use Rattle.oc_routes.specs.Refusals.{bare}
+use Rattle.oc_routes.specs.declared.asks.Asks.{Asks}
+use Rattle.oc_routes.specs.declared.asks.Asks.TheVariants as asks
+use Rattle.oc_routes.specs.declared.asks.Manner.{Manner}
+use Rattle.oc_routes.specs.declared.asks.Manner.TheVariants.{HeadAlone, Follow}
+use Rattle.oc_routes.specs.declared.response.Content.{Content}
+use Rattle.oc_routes.specs.declared.response.Response.{Response}
+
+-- a whole reply, which ends the connection
+abbrev pub whole : Reply → Response
+whole reply = record { text = response_text reply; content = None; connection = Close }
+
+-- a status alone
+abbrev pub status_alone : ℕ → Response
+status_alone status = whole (bare status None)
+
+-- a 200 whose content has a type
+abbrev pub typed : List ℕ → Reply
+typed body = record { status = 200; location = None; content_type = true; body = body; rule = None }
+
+-- to a message: the reply to its sender, or nothing
+abbrev pub message_response : Option Message → Response
+message_response None = status_alone 204
+message_response (Some message) = whole (typed (spelling message))
+
+-- to a publish, which is answered `Ok`, `NotSource`, `Sealed`, `Groups` or `TooLong`
+abbrev pub publish_status : Answer → ℕ
+publish_status answers.Ok = 200
+publish_status answers.TooLong = 413
+publish_status refusal = 403
+
+-- to a seal, which is answered `Ok`, `Ignored`, `NotSource` or `NoGroup`
+abbrev pub seal_status : Answer → ℕ
+seal_status answers.Ok = 200
+seal_status answers.Ignored = 200
+seal_status answers.NoGroup = 404
+seal_status refusal = 403
+
+-- the connection is kept for a client that follows a group, unless its request is the last
+abbrev pub connection_for : Manner → Bool → Connection
+connection_for Follow false = Keep
+connection_for manner last = Close
+
+-- whether a content is sent in chunks: to a client that follows a group which may still grow
+abbrev pub is_chunked : Manner → Bool → Bool
+is_chunked Follow sealed = not sealed
+is_chunked manner sealed = false
+
+-- where the content ends
+abbrev pub framing_for : Bool → ℕ → Framing
+framing_for true count = framings.Chunked
+framing_for false count = framings.Length count
+
+-- a HEAD gets no content
+abbrev pub content_for : Manner → Content → Option Content
+content_for HeadAlone content = None
+content_for manner content = Some content
+
+-- so many bytes of a group from a byte on
+abbrev pub served : Manner → Bool → Bool → ℕ → ℕ → Response
+served manner sealed last start count = record {
+  text = head_text (typed []) (framing_for (is_chunked manner sealed) count) (connection_for manner last);
+  content = content_for manner (record { start = start; count = count; chunked = is_chunked manner sealed });
+  connection = connection_for manner last;
+}
+
+-- the address of a node by its id
+abbrev pub address_of : List (List ℕ) → ℕ → List ℕ
+address_of addresses node = unwrap_or (slice_get addresses (node - 1)) []
+
+-- the URL to which a client is sent
+abbrev pub location_for : Manner → List ℕ → List ℕ → ℕ → List ℕ
+location_for Follow address group start = follow_location_text address group start
+location_for manner address group start = location_text address group start
+
+-- a client is sent to a node
+abbrev pub redirection : List ℕ → Reply
+redirection location = record { status = 302; location = Some location; content_type = false; body = []; rule = None }
+
+-- to a client, which is answered `Redirect`, `Serve` or `NoGroup`
+abbrev pub client_response : List ℕ → ℕ → Manner → Answer → Bool → List (List ℕ) → Bool → Response
+client_response group start manner (answers.Redirect node) sealed addresses last =
+    whole (redirection (location_for manner (address_of addresses node) group start))
+client_response group start manner (answers.Serve count) sealed addresses last = served manner sealed last start count
+client_response group start manner refusal sealed addresses last = status_alone 404
+
+-- a byte so many times
+unfoldable pub copies : ℕ → ℕ → List ℕ
+copies count b = replicate count b
+
+-- the content by which rates are measured
+abbrev pub probe_content : List ℕ
+probe_content = copies PROBE_BYTES (byte "x")
+
+-- the same, save of a HEAD
+abbrev pub probe_body : Manner → List ℕ
+probe_body HeadAlone = []
+probe_body manner = probe_content
+
+-- to a probe
+abbrev pub probe_response : Manner → Bool → Response
+probe_response manner last = record {
+  text = head_text (typed []) (framings.Length PROBE_BYTES) (connection_for manner last) ++ probe_body manner;
+  content = None;
+  connection = connection_for manner last;
+}
+
+-- What is answered to what was asked: for this answer of the step, this message that goes back to the sender, and
+-- whether the group is sealed; last says that the request is the last of its connection whatever it asks.
+abbrev pub response_to : Asks → Answer → Option Message → Bool → List (List ℕ) → Bool → Response
+response_to asks.Message answer reply sealed addresses last = message_response reply
+response_to (asks.Publish group) answer reply sealed addresses last = status_alone (publish_status answer)
+response_to (asks.Seal group) answer reply sealed addresses last = status_alone (seal_status answer)
+response_to (asks.Client group area start manner) answer reply sealed addresses last =
+    client_response group start manner answer sealed addresses last
+response_to (asks.Probe manner) answer reply sealed addresses last = probe_response manner last

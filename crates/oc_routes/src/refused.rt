@@ -1,0 +1,41 @@
+/// Why a request becomes no input. Of the faults that a request has at once, the first in this order
+/// counts; `Source` and `Ended` come where the head is read and where the body is.
+#[derive(Clone, Copy, Debug, PartialEq, Eq)]
+pub enum Refused {
+    /// A call on the connection failed.
+    Source,
+    /// The connection ended before the request was whole.
+    Ended,
+    /// The bytes are no head.
+    Head,
+    /// The head is too long.
+    HeadLong,
+    /// The head has too many fields.
+    Fields,
+    /// There is not one Host field.
+    Host,
+    /// The body has a transfer coding.
+    Coding {
+        /// There is a Content-Length too.
+        both: bool,
+    },
+    /// The Content-Length is unusable, or missing where it is wanted.
+    Length {
+        /// The field is missing, and is not just unusable.
+        missing: bool,
+    },
+    /// The body is too long.
+    BodyLong,
+    /// The method is none of GET, HEAD and POST.
+    Method,
+    /// The path has no route for the method.
+    Path,
+    /// A start or an area of the query is no number, or out of range.
+    Query,
+    /// The access rule with this number, counted from 1, denies it.
+    Denied(u32),
+    /// The body is no message to this node.
+    Message,
+    /// The group is to be sealed, and there is a body.
+    Body,
+}

@@ -1,0 +1,24 @@
+use oc_base::Text;
+use oc_http::Connection;
+
+/// What a request is answered.
+#[derive(Debug, Drop)]
+pub struct Response {
+    /// What is written first: the head, and the body where it is not the content of a group.
+    pub text: Text,
+    /// The content that is written behind it, where there is one.
+    pub content: Option<Content>,
+    /// What becomes of the connection behind it.
+    pub connection: Connection,
+}
+
+/// The content of a group that is sent.
+#[derive(Clone, Copy, Debug, PartialEq, Eq)]
+pub struct Content {
+    /// The offset of its first byte in the group.
+    pub start: u64,
+    /// The number of its bytes; there are none where the start is at or past the group's end.
+    pub count: u64,
+    /// It is sent as chunks (RFC 9112, section 7.1).
+    pub chunked: bool,
+}

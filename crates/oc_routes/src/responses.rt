@@ -1,0 +1,280 @@
+//! What is answered for the answer of a step.
+
+ghost use Rattle.std.specs.Prelude.{◌≡◌, ◌++◌, [], IfOk, OnOk, map, option_map, string_bytes};
+ghost use Rattle.std.specs.Option.{ForSome};
+ghost use Rattle.oc_base.specs.Names.{IsGroupName};
+ghost use Rattle.oc_http.specs.Writing.{HasPhrase, head_text};
+ghost use Rattle.oc_routes.specs.Lawful.{IsAsked};
+ghost use Rattle.oc_routes.specs.Responses.{client_response, connection_for, content_for, copies, framing_for, is_chunked, location_for, message_response, probe_body, probe_response, publish_status, redirection, response_to, seal_status, served, status_alone, typed, whole};
+ghost use Rattle.oc_wire.specs.Spelling.{HasSpelling};
+
+use crate::addresses::address_of;
+use crate::asks::{Asks, Manner};
+use crate::refusals::bare_reply;
+use crate::response::{Content, Response};
+use oc_base::{Bytes, GroupName, Memory, NodeId, Text};
+use oc_http::{Connection, Framing, Reply, write_reply_head, write_response};
+use oc_model::{Answer, Message};
+use oc_probe::PROBE_BYTES;
+use oc_redirect::{follow_location, location};
+use oc_wire::encode;
+use std::alloc::Global;
+
+/// What is answered to what was asked.
+///
+/// `answer` is that of the step; of a probe it is not looked at. `reply` is the message that goes back to
+/// the sender of a message, `sealed` tells whether the group is sealed that a client gets, `addresses` are
+/// those of the nodes by their ids, and `last` says that the request is the last of its connection
+/// whatever it asks.
+pub fn respond(
+    alloc: Global,
+    asks: &Asks,
+    answer: Answer,
+    reply: Option<&Message>,
+    sealed: bool,
+    addresses: &[String],
+    last: bool,
+) -> Result<Response, Memory>
+    requires asks { IsAsked asks.now }
+    requires reply { ForSome (option_map (λ m. m.now) reply) (λ m. HasSpelling m.body) }
+    ensures { IfOk result (λ response. response
+        ≡ response_to asks.now answer (option_map (λ m. m.now) reply.entry) sealed (map string_bytes addresses.now) last) }
+{
+    match asks {
+        Asks::Message => to_message(alloc, reply),
+        Asks::Publish { .. } => status_alone(alloc, publish_status(answer)),
+        Asks::Seal { .. } => status_alone(alloc, seal_status(answer)),
+        Asks::Client {
+            group,
+            start,
+            manner,
+            ..
+        } => match answer {
+            Answer::Redirect(node) => {
+                redirected(alloc, *manner, address_of(addresses, node), group, *start)
+            }
+            Answer::Serve(count) => served(alloc, *manner, sealed, last, *start, count),
+            _ => status_alone(alloc, 404),
+        },
+        Asks::Probe { manner } => to_probe(alloc, *manner, last),
+    }
+}
+
+/// To a message: the reply to its sender, or nothing.
+fn to_message(alloc: Global, reply: Option<&Message>) -> Result<Response, Memory>
+    requires { ForSome (option_map (λ m. m.now) reply) (λ m. HasSpelling m.body) }
+    ensures { IfOk result (λ response. response ≡ message_response (option_map (λ m. m.now) reply.entry)) }
+{
+    let Some(message) = reply else {
+        return status_alone(alloc, 204);
+    };
+    let reply = Reply {
+        status: 200,
+        location: None,
+        content_type: true,
+        body: Bytes::of(encode(alloc, message)?),
+        rule: None,
+    };
+    whole(alloc, &reply)
+}
+
+/// A whole reply, which ends the connection.
+fn whole(alloc: Global, reply: &Reply) -> Result<Response, Memory>
+    requires { HasPhrase reply.now.status }
+    ensures { IfOk result (λ response. response ≡ whole reply.now) }
+{
+    Ok(Response {
+        text: Text::of(write_response(alloc, reply)?),
+        content: None,
+        connection: Connection::Close,
+    })
+}
+
+/// A status alone.
+fn status_alone(alloc: Global, status: u16) -> Result<Response, Memory>
+    requires { HasPhrase status }
+    ensures { IfOk result (λ response. response ≡ status_alone status) }
+{
+    Ok(Response {
+        text: Text::of(bare_reply(alloc, status, None)?),
+        content: None,
+        connection: Connection::Close,
+    })
+}
+
+/// The status of a reply to a publish.
+fn publish_status(answer: Answer) -> u16
+    ensures status { result ≡ publish_status answer }
+    ensures phrase { HasPhrase result }
+{
+    match answer {
+        Answer::Ok => 200,
+        Answer::TooLong => 413,
+        _ => 403,
+    }
+}
+
+/// The status of a reply to a seal.
+fn seal_status(answer: Answer) -> u16
+    ensures status { result ≡ seal_status answer }
+    ensures phrase { HasPhrase result }
+{
+    match answer {
+        Answer::Ok | Answer::Ignored => 200,
+        Answer::NoGroup => 404,
+        _ => 403,
+    }
+}
+
+/// Sends a client to the node at an address.
+fn redirected(
+    alloc: Global,
+    manner: Manner,
+    address: &str,
+    group: &GroupName,
+    start: u64,
+) -> Result<Response, Memory>
+    requires { IsGroupName group.now }
+    ensures { IfOk result (λ response. response ≡ whole (redirection (location_for manner address.now group.now start))) }
+{
+    let location = location_for(alloc, manner, address, group, start)?;
+    let reply = Reply {
+        status: 302,
+        location: Some(Text::of(location.into_bytes())),
+        content_type: false,
+        body: Bytes::of(Vec::new(alloc)),
+        rule: None,
+    };
+    whole(alloc, &reply)
+}
+
+/// The URL to which a client is sent.
+fn location_for(
+    alloc: Global,
+    manner: Manner,
+    address: &str,
+    group: &GroupName,
+    start: u64,
+) -> Result<String, Memory>
+    requires { IsGroupName group.now }
+    ensures { IfOk result (λ url. string_bytes url ≡ location_for manner address.now group.now start) }
+{
+    match manner {
+        Manner::Follow => follow_location(alloc, address, group, start),
+        Manner::HeadAlone | Manner::Once => location(alloc, address, group, start),
+    }
+}
+
+/// Gives a client so many bytes of a group from a byte on.
+fn served(
+    alloc: Global,
+    manner: Manner,
+    sealed: bool,
+    last: bool,
+    start: u64,
+    count: u64,
+) -> Result<Response, Memory>
+    ensures { IfOk result (λ response. response ≡ served manner sealed last start count) }
+{
+    let chunked = is_chunked(manner, sealed);
+    let connection = connection_for(manner, last);
+    let head = typed_head(alloc, framing_for(chunked, count), connection)?;
+    Ok(Response {
+        text: Text::of(head),
+        content: content_for(
+            manner,
+            Content {
+                start,
+                count,
+                chunked,
+            },
+        ),
+        connection,
+    })
+}
+
+/// Gives the content by which rates are measured.
+fn to_probe(alloc: Global, manner: Manner, last: bool) -> Result<Response, Memory>
+    ensures { IfOk result (λ response. response ≡ probe_response manner last) }
+{
+    let connection = connection_for(manner, last);
+    let mut text = typed_head(alloc, Framing::Length(PROBE_BYTES), connection)?;
+    put_probe_body(&mut text, manner)?;
+    Ok(Response {
+        text: Text::of(text),
+        content: None,
+        connection,
+    })
+}
+
+/// Puts the content by which rates are measured, save for a HEAD.
+fn put_probe_body(text: &mut Vec<u8>, manner: Manner) -> Result<(), Memory>
+    ensures { OnOk result (text.new.items ≡ text.old.items ++ probe_body manner) }
+{
+    match manner {
+        Manner::HeadAlone => Ok(()),
+        Manner::Once | Manner::Follow => put_copies(text, PROBE_BYTES as usize, b'x'),
+    }
+}
+
+/// Puts a byte so many times.
+#[tactic(auto, unfolding(crate::specs::Responses::copies))]
+fn put_copies(text: &mut Vec<u8>, count: usize, byte: u8) -> Result<(), Memory>
+    ensures { OnOk result (text.new.items ≡ text.old.items ++ copies count byte) }
+{
+    let end = text.len().checked_add(count).ok_or(Memory)?;
+    text.resize(end, byte)?;
+    Ok(())
+}
+
+/// The head of a 200 whose content has a type.
+fn typed_head(alloc: Global, framing: Framing, connection: Connection) -> Result<Vec<u8>, Memory>
+    ensures { IfOk result (λ text. text.items ≡ head_text (typed []) framing connection) }
+{
+    let reply = Reply {
+        status: 200,
+        location: None,
+        content_type: true,
+        body: Bytes::of(Vec::new(alloc)),
+        rule: None,
+    };
+    write_reply_head(alloc, &reply, framing, connection)
+}
+
+/// Whether a content is sent in chunks.
+fn is_chunked(manner: Manner, sealed: bool) -> bool
+    ensures { result ≡ is_chunked manner sealed }
+{
+    manner == Manner::Follow && !sealed
+}
+
+/// Where a content ends.
+fn framing_for(chunked: bool, count: u64) -> Framing
+    ensures { result ≡ framing_for chunked count }
+{
+    if chunked {
+        Framing::Chunked
+    } else {
+        Framing::Length(count)
+    }
+}
+
+/// What becomes of the connection.
+fn connection_for(manner: Manner, last: bool) -> Connection
+    ensures { result ≡ connection_for manner last }
+{
+    match manner {
+        Manner::Follow if !last => Connection::Keep,
+        _ => Connection::Close,
+    }
+}
+
+/// The content, save for a HEAD.
+fn content_for(manner: Manner, content: Content) -> Option<Content>
+    ensures { result ≡ content_for manner content }
+{
+    match manner {
+        Manner::HeadAlone => None,
+        Manner::Once | Manner::Follow => Some(content),
+    }
+}

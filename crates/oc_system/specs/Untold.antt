@@ -1,0 +1,25 @@
+-- What is known of a real disk and a real clock: sizes and counts, and nothing of what they hold.
+use Rattle.std.specs.Prelude.{ℕ, ◌^◌, false, None, []}
+use Rattle.oc_outside.specs.ClockView.{Series}
+use Rattle.oc_outside.specs.DiskView.{DiskView}
+
+-- a clock that tells no number
+abbrev pub untold_series : Series
+untold_series = record { last = None; coming = None }
+
+-- a file of this size of which so many calls failed: nothing is claimed of its bytes or of a crash, and its spare room has no limit of its own
+abbrev pub file_view : ℕ → ℕ → DiskView
+file_view size faults = record {
+  seen = [];
+  may_leave = λ c. Unit {0};
+  moment = 0;
+  since = λ t c. Unit {0};
+  honest = false;
+  size = size;
+  room = 2 ^ 64;
+  calls = 16;
+  faults = faults;
+  reliable = false;
+  name = [];
+  listed = [];
+}

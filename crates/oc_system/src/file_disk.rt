@@ -1,0 +1,163 @@
+ghost use Rattle.std.specs.Prelude.{◌≡◌, ◌-◌, ◌≤◌, min};
+ghost use Rattle.oc_outside.specs.Faults.{Rose};
+
+use oc_outside::{Disk, Failed};
+use std::alloc::AllocError;
+use std::fs::{File, OpenOptions};
+use std::io;
+use std::os::unix::fs::FileExt;
+use std::rt::Files;
+
+/// A file as a disk.
+///
+/// The file is opened at the first call, and made where there is none; then the folder is synced, so that the
+/// file is still there after a crash. It is locked as long as it is open, so that two programs never write to
+/// one file. A call that cannot open or lock it fails, and the next one tries again.
+#[derive(Drop)]
+pub struct FileDisk<'a, R> {
+    rt: &'a R,
+    path: &'a str,
+    file: Option<File>,
+    size: u64,
+    faults: u64,
+}
+
+impl<'a, R: Files<File = File>> FileDisk<'a, R> {
+    /// The disk of the file with this name in the folder that the program runs in.
+    pub fn new(rt: &'a R, path: &'a str) -> FileDisk<'a, R> {
+        FileDisk {
+            rt,
+            path,
+            file: None,
+            size: 0,
+            faults: 0,
+        }
+    }
+
+    /// Counts a failure.
+    fn fault(&mut self) -> Failed
+        ensures count { Rose self.old.faults self.new.faults }
+        ensures faults { self.old.faults ≤ self.new.faults }
+        ensures size { self.new.size ≡ self.old.size }
+    {
+        self.faults = self.faults.saturating_add(1);
+        Failed
+    }
+}
+
+/// The file, opened and locked if it was not open yet.
+fn opened<'f, R: Files<File = File>>(
+    rt: &R,
+    path: &str,
+    file: &'f mut Option<File>,
+) -> io::Result<&'f File> {
+    if file.is_none() {
+        *file = Some(open_locked(rt, path)?);
+    }
+    match file {
+        Some(file) => Ok(file),
+        None => Err(io::Error::from(io::ErrorKind::NotFound)),
+    }
+}
+
+/// Opens the file and takes its lock; makes it where there is none. The folder is synced each time: an
+/// earlier program may have made the file and been stopped before it had done so.
+fn open_locked<R: Files<File = File>>(rt: &R, path: &str) -> io::Result<File> {
+    let mut how = OpenOptions::new();
+    how.read(true).write(true).create(true);
+    let file = how.open(rt, path)?;
+    file.try_lock()?;
+    File::open(rt, ".")?.sync_all()?;
+    Ok(file)
+}
+
+impl<R: Files<File = File>> Disk for FileDisk<'_, R> {
+    ghost use Rattle.std.proofs.lemmas.Bool.{false≢true};
+    ghost use Rattle.oc_system.specs.Untold.{file_view};
+
+    ghost view = { λ disk. file_view disk.size disk.faults };
+
+    ghost consistent = { λ disk honest. absurd (false≢true honest) };
+
+    ghost reliable_keeps = { λ disk reliable. absurd (false≢true reliable) };
+
+    fn size(&mut self) -> Result<u64, Failed> {
+        match size_of(self.rt, self.path, &mut self.file) {
+            Ok(size) => {
+                self.size = size;
+                Ok(size)
+            }
+            Err(_) => Err(self.fault()),
+        }
+    }
+
+    fn read_at(&mut self, at: u64, buf: &mut [u8]) -> Result<usize, Failed> {
+        let count = within(at, self.size, buf.len());
+        match read_whole(self.rt, self.path, &mut self.file, at, &mut buf[..count]) {
+            Ok(()) => Ok(count),
+            Err(_) => Err(self.fault()),
+        }
+    }
+
+    fn reserve(&mut self, _bytes: u64) -> Result<(), AllocError> {
+        Ok(())
+    }
+
+    fn write_at(&mut self, at: u64, bytes: &[u8]) -> Result<(), Failed> {
+        let Some(end) = at.checked_add(bytes.len() as u64) else {
+            return Err(self.fault());
+        };
+        match write_whole(self.rt, self.path, &mut self.file, at, bytes) {
+            Ok(()) => {
+                self.size = self.size.max(end);
+                Ok(())
+            }
+            Err(_) => Err(self.fault()),
+        }
+    }
+
+    fn sync(&mut self) -> Result<(), Failed> {
+        match sync_data(self.rt, self.path, &mut self.file) {
+            Ok(()) => Ok(()),
+            Err(_) => Err(self.fault()),
+        }
+    }
+}
+
+/// How many of so many bytes from this offset on are within the size.
+fn within(at: u64, size: u64, most: usize) -> usize
+    ensures { result ≡ min most (size - at) }
+{
+    usize::try_from(size.saturating_sub(at)).map_or(most, |left| left.min(most))
+}
+
+fn size_of<R: Files<File = File>>(rt: &R, path: &str, file: &mut Option<File>) -> io::Result<u64> {
+    Ok(opened(rt, path, file)?.metadata()?.len())
+}
+
+fn read_whole<R: Files<File = File>>(
+    rt: &R,
+    path: &str,
+    file: &mut Option<File>,
+    at: u64,
+    buf: &mut [u8],
+) -> io::Result<()> {
+    if buf.is_empty() {
+        return Ok(());
+    }
+    opened(rt, path, file)?.read_exact_at(buf, at)
+}
+
+fn write_whole<R: Files<File = File>>(
+    rt: &R,
+    path: &str,
+    file: &mut Option<File>,
+    at: u64,
+    bytes: &[u8],
+) -> io::Result<()> {
+    opened(rt, path, file)?.write_all_at(bytes, at)
+}
+
+fn sync_data<R: Files<File = File>>(rt: &R, path: &str, file: &mut Option<File>) -> io::Result<()> {
+    opened(rt, path, file)?.sync_data()
+}

@@ -1,0 +1,143 @@
+ghost use Rattle.std.specs.Prelude.{◌≡◌, ◌≤◌, length, IfOk};
+
+use crate::sockets::millis;
+use std::alloc::{AllocError, Global};
+use std::io::{self, ErrorKind, Read, Write};
+use std::net::{Net, TcpStream, ToSocketAddrs};
+use std::rt::Clock;
+use std::time::Duration;
+
+/// How long a call waits at most where no time is set, in milliseconds.
+const CALL_MILLIS: u64 = 10_000;
+
+/// How often a call is made at most, as long as it is interrupted or its bytes are not all written.
+const MOST_TRIES: u32 = 1_000_000;
+
+/// How much is read from the system at a time, in bytes.
+const PIECE: usize = 65_536;
+
+/// A connection that was made, whose calls wait for no longer than they may. What it reads comes in large
+/// pieces, however small those are that are asked for.
+#[derive(Drop)]
+pub(crate) struct Outgoing {
+    stream: TcpStream,
+    piece: Vec<u8>,
+    /// The bytes of the piece that came and were not given yet are those from `given` to `came`.
+    given: usize,
+    came: usize,
+}
+
+impl Outgoing {
+    /// Connects to the address, a host or an IP address and a port, until that time. Each of its addresses is
+    /// tried in turn.
+    pub(crate) fn reach<R: Net<Stream = TcpStream> + Clock>(
+        rt: &R,
+        alloc: Global,
+        address: &str,
+        until: Option<u64>,
+    ) -> io::Result<Outgoing> {
+        let mut last = io::Error::from(ErrorKind::AddrNotAvailable);
+        for each in address.to_socket_addrs(rt)? {
+            match TcpStream::connect_timeout(rt, &each, time_left(rt, until)?) {
+                Ok(stream) => {
+                    stream.set_nodelay(true)?;
+                    return match Outgoing::over(alloc, stream) {
+                        Ok(outgoing) => Ok(outgoing),
+                        Err(_) => Err(io::Error::from(ErrorKind::OutOfMemory)),
+                    };
+                }
+                Err(error) => last = error,
+            }
+        }
+        Err(last)
+    }
+
+    fn over(alloc: Global, stream: TcpStream) -> Result<Outgoing, AllocError> {
+        Ok(Outgoing {
+            stream,
+            piece: Vec::from_elem(alloc, 0u8, PIECE)?,
+            given: 0,
+            came: 0,
+        })
+    }
+
+    /// Writes all these bytes, until that time.
+    pub(crate) fn write_all<R: Clock>(
+        &mut self,
+        rt: &R,
+        bytes: &[u8],
+        until: Option<u64>,
+    ) -> io::Result<()> {
+        let mut written = 0usize;
+        for _ in 0..MOST_TRIES {
+            let rest = bytes.get(written..).unwrap_or(&[]);
+            if rest.is_empty() {
+                return Ok(());
+            }
+            self.stream.set_write_timeout(Some(time_left(rt, until)?))?;
+            match self.stream.write(rest) {
+                Err(error) if error.kind() == ErrorKind::Interrupted => {}
+                Err(error) => return Err(error),
+                Ok(0) => break,
+                Ok(count) => written = written.saturating_add(count),
+            }
+        }
+        Err(io::Error::from(ErrorKind::WriteZero))
+    }
+
+    /// Gives what came and was not given yet; nothing where there is none.
+    pub(crate) fn give(&mut self, buf: &mut [u8]) -> usize
+        ensures within { result ≤ length buf.old }
+    {
+        let waiting = self.piece.get(self.given..self.came).unwrap_or(&[]);
+        let count = copy_front(waiting, buf);
+        self.given = self.given.saturating_add(count);
+        count
+    }
+
+    /// Reads a further piece from the system, until that time. Answers its length, and 0 at the end.
+    pub(crate) fn fill<R: Clock>(&mut self, rt: &R, until: Option<u64>) -> io::Result<usize> {
+        self.given = 0;
+        self.came = 0;
+        for _ in 0..MOST_TRIES {
+            self.stream.set_read_timeout(Some(time_left(rt, until)?))?;
+            match self.stream.read(&mut self.piece) {
+                Err(error) if error.kind() == ErrorKind::Interrupted => {}
+                Err(error) => return Err(error),
+                Ok(count) => {
+                    self.came = count;
+                    return Ok(count);
+                }
+            }
+        }
+        Err(io::Error::from(ErrorKind::Interrupted))
+    }
+
+    /// What came and was not given yet.
+    pub(crate) fn waiting(&self) -> &[u8] {
+        self.piece.get(self.given..self.came).unwrap_or(&[])
+    }
+}
+
+/// How long a call may wait until that time in milliseconds, or at all where none is set. A call that has no
+/// time left fails.
+fn time_left<R: Clock>(rt: &R, until: Option<u64>) -> io::Result<Duration> {
+    let left = match until {
+        Some(until) => until.saturating_sub(millis(rt)),
+        None => CALL_MILLIS,
+    };
+    if left == 0 {
+        return Err(io::Error::from(ErrorKind::TimedOut));
+    }
+    Ok(Duration::from_millis(left))
+}
+
+/// Puts a front of the bytes at the front of the buffer, as many as fit.
+pub(crate) fn copy_front(bytes: &[u8], buf: &mut [u8]) -> usize
+    ensures within { result ≤ length buf.old }
+    ensures length { length buf.new ≡ length buf.old }
+{
+    let count = bytes.len().min(buf.len());
+    buf[..count].copy_from_slice(&bytes[..count]);
+    count
+}

@@ -1,0 +1,307 @@
+ghost use Rattle.std.specs.Prelude.{◌≡◌, ◌<◌, ◌≤◌, length, IfOk};
+
+use crate::outgoing::Outgoing;
+use crate::sockets::{Sockets, millis};
+use oc_outside::{Arrival, Failed, Link};
+use std::alloc::Global;
+use std::io;
+use std::net::{Net, TcpStream};
+use std::rt::Clock;
+
+/// How long a connection that was made may take at least and at most where something listens here, in
+/// milliseconds: of two nodes that dial each other at once, one then gives up first and serves the other.
+const SHORT_DIAL: u64 = 500;
+
+const LONG_DIAL: u64 = 2_000;
+
+/// Sockets as a link.
+#[derive(Drop)]
+pub struct SocketLink<'a, R> {
+    rt: &'a R,
+    alloc: Global,
+    sockets: Option<Sockets>,
+    outgoing: Option<Outgoing>,
+    /// Whether the reply to a message is still to come on the outgoing connection.
+    awaits_reply: bool,
+    /// When the outgoing connection is given up, in milliseconds; none where each call has its own time.
+    until: Option<u64>,
+    came: u64,
+    went: u64,
+    listening: u64,
+    talking: u64,
+    dialling: u64,
+}
+
+impl<'a, R: Net<Stream = TcpStream> + Clock> SocketLink<'a, R> {
+    /// A link over the sockets of this runtime.
+    pub fn new(rt: &'a R, alloc: Global) -> SocketLink<'a, R>
+        ensures listening { result.listening ≡ 0 }
+        ensures talking { result.talking ≡ 0 }
+        ensures dialling { result.dialling ≡ 0 }
+    {
+        SocketLink {
+            rt,
+            alloc,
+            sockets: None,
+            outgoing: None,
+            awaits_reply: false,
+            until: None,
+            came: 0,
+            went: 0,
+            listening: 0,
+            talking: 0,
+            dialling: 0,
+        }
+    }
+
+    /// Sends on what replies have still to go out, for as long as any makes progress.
+    pub fn finish(&mut self) {
+        if let Some(sockets) = &mut self.sockets {
+            sockets.finish(self.rt);
+        }
+    }
+
+    /// How many bytes came in and went out so far, over all connections.
+    pub fn passed(&self) -> (u64, u64) {
+        let (came, went) = match &self.sockets {
+            Some(sockets) => sockets.passed(),
+            None => (0, 0),
+        };
+        (
+            self.came.saturating_add(came),
+            self.went.saturating_add(went),
+        )
+    }
+}
+
+impl<R: Net<Stream = TcpStream> + Clock> SocketLink<'_, R> {
+    /// Listens at the address, in the place of the one before.
+    fn begin(&mut self, address: &str) -> io::Result<()>
+        ensures listening { self.new.listening ≡ self.old.listening }
+        ensures talking { self.new.talking ≡ self.old.talking }
+        ensures dialling { self.new.dialling ≡ self.old.dialling }
+    {
+        self.sockets = Some(Sockets::listen(self.rt, self.alloc, address)?);
+        Ok(())
+    }
+
+    /// The next connection, if one came.
+    fn take(&mut self) -> io::Result<Arrival>
+        ensures listening { self.new.listening ≡ self.old.listening }
+        ensures talking { self.new.talking ≡ self.old.talking }
+        ensures dialling { self.new.dialling ≡ self.old.dialling }
+    {
+        let Some(sockets) = &mut self.sockets else {
+            return Ok(Arrival::Quiet);
+        };
+        if sockets.next(self.rt)? {
+            Ok(Arrival::Conn)
+        } else {
+            Ok(Arrival::Quiet)
+        }
+    }
+
+    /// Connects, and writes what is to be said first.
+    fn reach(&mut self, address: &str, bytes: &[u8]) -> io::Result<()>
+        ensures listening { self.new.listening ≡ self.old.listening }
+        ensures talking { self.new.talking ≡ self.old.talking }
+        ensures dialling { self.new.dialling ≡ self.old.dialling }
+    {
+        self.outgoing = None;
+        self.awaits_reply = bytes.starts_with(b"POST");
+        self.until = self.patience();
+        self.outgoing = Some(Outgoing::reach(self.rt, self.alloc, address, self.until)?);
+        self.say(bytes)
+    }
+
+    /// Until when the next dial may last, in milliseconds; none where nothing listens here, and each call has
+    /// its own time. The clock's finest digits are as good as drawn.
+    fn patience(&self) -> Option<u64> {
+        self.sockets.as_ref()?;
+        let drawn = match self.rt.monotonic() {
+            Ok(time) => u64::from(time.subsec_nanos()) / 64,
+            Err(_) => 0,
+        };
+        let more = drawn % LONG_DIAL.saturating_sub(SHORT_DIAL).max(1);
+        Some(
+            millis(self.rt)
+                .saturating_add(SHORT_DIAL)
+                .saturating_add(more),
+        )
+    }
+
+    /// Writes all these bytes on the outgoing connection.
+    fn say(&mut self, bytes: &[u8]) -> io::Result<()>
+        ensures listening { self.new.listening ≡ self.old.listening }
+        ensures talking { self.new.talking ≡ self.old.talking }
+        ensures dialling { self.new.dialling ≡ self.old.dialling }
+    {
+        let Some(outgoing) = &mut self.outgoing else {
+            return Err(io::Error::from(io::ErrorKind::NotConnected));
+        };
+        outgoing.write_all(self.rt, bytes, self.until)?;
+        self.went = self.went.saturating_add(bytes.len() as u64);
+        Ok(())
+    }
+
+    /// Reads from the outgoing connection.
+    fn hear(&mut self, buf: &mut [u8]) -> io::Result<usize>
+        ensures within { IfOk result (λ n. n ≤ length buf.old) }
+        ensures listening { self.new.listening ≡ self.old.listening }
+        ensures talking { self.new.talking ≡ self.old.talking }
+        ensures dialling { self.new.dialling ≡ self.old.dialling }
+    {
+        let Some(outgoing) = &mut self.outgoing else {
+            return Ok(0);
+        };
+        let count = outgoing.give(buf);
+        if count > 0 || buf.is_empty() {
+            return Ok(count);
+        }
+        self.refill()?;
+        match &mut self.outgoing {
+            Some(outgoing) => Ok(outgoing.give(buf)),
+            None => Ok(0),
+        }
+    }
+
+    /// Reads a further piece from the outgoing connection. A reply that is more than an acknowledgement is
+    /// work: there may be more of it, so the next wait for a connection is none.
+    fn refill(&mut self) -> io::Result<()>
+        ensures listening { self.new.listening ≡ self.old.listening }
+        ensures talking { self.new.talking ≡ self.old.talking }
+        ensures dialling { self.new.dialling ≡ self.old.dialling }
+    {
+        let Some(outgoing) = &mut self.outgoing else {
+            return Ok(());
+        };
+        let count = outgoing.fill(self.rt, self.until)?;
+        self.came = self.came.saturating_add(count as u64);
+        let is_work = self.awaits_reply
+            && count > 0
+            && !outgoing.waiting().starts_with(b"HTTP/1.1 204");
+        self.awaits_reply = false;
+        if let Some(sockets) = &mut self.sockets {
+            if is_work {
+                sockets.hurry();
+            }
+        }
+        Ok(())
+    }
+
+    /// Reads from the current connection.
+    fn listen_to(&mut self, buf: &mut [u8]) -> io::Result<usize>
+        ensures within { IfOk result (λ n. n ≤ length buf.old) }
+        ensures listening { self.new.listening ≡ self.old.listening }
+        ensures talking { self.new.talking ≡ self.old.talking }
+        ensures dialling { self.new.dialling ≡ self.old.dialling }
+    {
+        match &mut self.sockets {
+            Some(sockets) => sockets.read(self.rt, buf),
+            None => Ok(0),
+        }
+    }
+
+    /// Writes on the current connection.
+    fn answer(&mut self, bytes: &[u8]) -> io::Result<usize>
+        ensures within { IfOk result (λ n. n ≤ length bytes.now) }
+        ensures some { IfOk result (λ n. 0 < length bytes.now → 0 < n) }
+        ensures listening { self.new.listening ≡ self.old.listening }
+        ensures talking { self.new.talking ≡ self.old.talking }
+        ensures dialling { self.new.dialling ≡ self.old.dialling }
+    {
+        match &mut self.sockets {
+            Some(sockets) => sockets.write(self.rt, bytes),
+            None => Err(io::Error::from(io::ErrorKind::NotConnected)),
+        }
+    }
+}
+
+impl<R: Net<Stream = TcpStream> + Clock> Link for SocketLink<'_, R> {
+    ghost use Rattle.std.specs.Prelude.{None};
+
+    ghost story = { λ link. None };
+
+    ghost faults = { λ link. record { listening = link.listening; talking = link.talking; dialling = link.dialling } };
+
+    fn listen(&mut self, address: &str) -> Result<(), Failed> {
+        match self.begin(address) {
+            Ok(()) => Ok(()),
+            Err(_) => {
+                self.listening = self.listening.saturating_add(1);
+                Err(Failed)
+            }
+        }
+    }
+
+    fn next(&mut self) -> Result<Arrival, Failed> {
+        match self.take() {
+            Ok(arrival) => Ok(arrival),
+            Err(_) => {
+                self.listening = self.listening.saturating_add(1);
+                Err(Failed)
+            }
+        }
+    }
+
+    fn read(&mut self, buf: &mut [u8]) -> Result<usize, Failed> {
+        match self.listen_to(buf) {
+            Ok(count) => Ok(count),
+            Err(_) => {
+                self.talking = self.talking.saturating_add(1);
+                Err(Failed)
+            }
+        }
+    }
+
+    fn write(&mut self, bytes: &[u8]) -> Result<usize, Failed> {
+        match self.answer(bytes) {
+            Ok(count) => Ok(count),
+            Err(_) => {
+                self.talking = self.talking.saturating_add(1);
+                Err(Failed)
+            }
+        }
+    }
+
+    fn close(&mut self) {
+        if let Some(sockets) = &mut self.sockets {
+            sockets.close(self.rt);
+        }
+    }
+
+    fn dial(&mut self, address: &str, bytes: &[u8]) -> Result<(), Failed> {
+        match self.reach(address, bytes) {
+            Ok(()) => Ok(()),
+            Err(_) => {
+                self.outgoing = None;
+                self.dialling = self.dialling.saturating_add(1);
+                Err(Failed)
+            }
+        }
+    }
+
+    fn dial_more(&mut self, bytes: &[u8]) -> Result<(), Failed> {
+        match self.say(bytes) {
+            Ok(()) => Ok(()),
+            Err(_) => {
+                self.dialling = self.dialling.saturating_add(1);
+                Err(Failed)
+            }
+        }
+    }
+
+    fn dial_read(&mut self, buf: &mut [u8]) -> Result<usize, Failed> {
+        match self.hear(buf) {
+            Ok(count) => Ok(count),
+            Err(_) => {
+                self.dialling = self.dialling.saturating_add(1);
+                Err(Failed)
+            }
+        }
+    }
+
+    fn hang_up(&mut self) {
+        self.outgoing = None;
+    }
+}

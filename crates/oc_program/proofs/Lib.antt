@@ -2,7 +2,7 @@ mod PureKinds
 mod WordLemmas
 mod PlainWords
 mod Parts
-mod Happenings
 mod Told
 mod Passed
+mod CalmEvents
 mod Statuses

@@ -21,7 +21,7 @@ use Rattle.oc_schedule.specs.declared.generating.TheConstants.{MAX_GENERATED_EVE
 use Rattle.oc_program.specs.Arguments.{IsNoFlag}
 use Rattle.oc_program.specs.Command.{bare_command, command, gen_shape}
 use Rattle.oc_program.specs.Sample.{sample_in}
-use Rattle.oc_program.specs.Words.{IsPlain, plain_replay, plain_gen, asked, asked_by, gen_of, verdict_among, verdict_of}
+use Rattle.oc_program.specs.Words.{IsPlain, plain_replay, plain_summary, plain_gen, asked, asked_by, gen_of, verdict_among, verdict_of}
 use Rattle.oc_program.specs.declared.generating.Sample.{Sample}
 use Rattle.oc_program.specs.declared.words.Request.TheVariants.{Replay, Gen}
 
@@ -138,9 +138,13 @@ pub asked_by_gen : (seed nodes events : Text) → IsNoFlag seed → IsNoFlag nod
 asked_by_gen seed nodes events s n e =
     gen_asked seed nodes events (plain_word seed s) (plain_word nodes n) (plain_word events e)
 
-pub asked_by_replay : asked (codes "replay" ∷ []) ≡ Some Replay
+pub asked_by_replay : asked (codes "replay" ∷ []) ≡ Some (Replay false)
 unfolding asked verdict_of command clap_on_literals
 asked_by_replay = refl
+
+pub asked_by_summary : asked (codes "replay" ∷ codes "--summary" ∷ []) ≡ Some (Replay true)
+unfolding asked verdict_of command clap_on_literals
+asked_by_summary = refl
 
 -- ---- plain words ask for something
 
@@ -180,7 +184,10 @@ asked_by_sample seed nodes events sample said =
 
 pub plain_asks : (words : List Text) → IsPlain words → asked words ≢ None
 plain_asks words (plain_replay is) = λ none.
-    let asks : asked words ≡ Some Replay = ap asked is ∙ asked_by_replay in
+    let asks : asked words ≡ Some (Replay false) = ap asked is ∙ asked_by_replay in
+    cc
+plain_asks words (plain_summary is) = λ none.
+    let asks : asked words ≡ Some (Replay true) = ap asked is ∙ asked_by_summary in
     cc
 plain_asks words (plain_gen seed nodes events sample is said) = λ none.
     let asks : asked words ≡ Some (Gen sample) = ap asked is ∙ asked_by_sample seed nodes events sample said in

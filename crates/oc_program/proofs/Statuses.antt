@@ -1,9 +1,9 @@
 -- What the end of a run tells of its status.
-use Rattle.std.proofs.Common.{◌≡◌, ◌∙◌, ℕ, ◌⊎◌, List, Option, Some, None, ap, sym, refl, inl, inr, arith}
+use Rattle.std.proofs.Common.{◌≡◌, ℕ, Bool, ◌⊎◌, List, Option, Some, None, ap, sym, refl, inl, inr, arith}
 use Rattle.oc_replay.specs.declared.end.ReplayEnd.{ReplayEnd}
 use Rattle.oc_replay.specs.declared.end.ReplayEnd.TheVariants as replays
 use Rattle.oc_schedule.specs.Schedule.{schedule_of}
-use Rattle.oc_program.specs.AtReplay.{HappenedAtReplay, status_for, status_unless}
+use Rattle.oc_program.specs.AtReplay.{HappenedAtReplay, status_for}
 use Rattle.oc_program.specs.Outside.{OnStage, Outside, Output}
 use Rattle.oc_program.specs.Run.{Happened, status_of, status_of_gen, status_of_replay}
 use Rattle.oc_program.specs.Status.{number_of}
@@ -20,7 +20,6 @@ replay_is_other : (end : ReplayEnd) → number_of (status_of_replay end) ≡ 2 �
 replay_is_other replays.Done is = absurd (omega (arith, is))
 replay_is_other (replays.Text line why) is = absurd (omega (arith, is))
 replay_is_other (replays.Limit what) is = absurd (omega (arith, is))
-replay_is_other (replays.Unsupported event) is = absurd (omega (arith, is))
 replay_is_other replays.Source is = absurd (omega (arith, is))
 replay_is_other replays.Sink is = absurd (omega (arith, is))
 replay_is_other replays.Memory is = absurd (omega (arith, is))
@@ -48,21 +47,20 @@ module _ (bytes : List ℕ) (read : ℕ) (output : Output) (stage : OnStage) whe
   abbrev IsRightOf : ℕ → Type 0
   IsRightOf status = (status ≡ status_for (schedule_of bytes)) ⊎ (status ≡ 1) ⊎ (status ≡ 4)
 
-  replay_is_right_of : (end : ReplayEnd) → HappenedAtReplay (at_bytes bytes read) output stage end → IsRightOf (number_of (status_of_replay end))
-  replay_is_right_of replays.Done h = let (s, says, all, written, played, holds) = h in inl (sym (ap status_for says.0 ∙ ap status_unless all))
-  replay_is_right_of (replays.Text line why) h = inl (sym (ap status_for h.0.0))
-  replay_is_right_of (replays.Limit what) h = inl (sym (ap status_for h.0.0))
-  replay_is_right_of (replays.Unsupported event) h = let (s, says, first) = h.0 in inl (sym (ap status_for says.0 ∙ ap status_unless first))
-  replay_is_right_of replays.Source h = inr (inl refl)
-  replay_is_right_of replays.Sink h = inr (inl refl)
-  replay_is_right_of replays.Memory h = inr (inr refl)
+  replay_is_right_of : (summary : Bool) (end : ReplayEnd) → HappenedAtReplay (at_bytes bytes read) output stage summary end → IsRightOf (number_of (status_of_replay end))
+  replay_is_right_of summary replays.Done h = let (s, says, lawful, written, played, holds) = h in inl (sym (ap status_for says.0))
+  replay_is_right_of summary (replays.Text line why) h = inl (sym (ap status_for h.0.0))
+  replay_is_right_of summary (replays.Limit what) h = inl (sym (ap status_for h.0.0))
+  replay_is_right_of summary replays.Source h = inr (inl refl)
+  replay_is_right_of summary replays.Sink h = inr (inl refl)
+  replay_is_right_of summary replays.Memory h = inr (inr refl)
 
-  pub replayed_of : (asked : Option Request) (end : End) → asked ≡ Some Replay
+  pub replayed_of : (summary : Bool) (asked : Option Request) (end : End) → asked ≡ Some (Replay summary)
       → Happened (record { asked = asked; input = at_bytes bytes read; output = output; stage = stage }) end
       → IsRightOf (number_of (status_of end))
-  replayed_of asked Helped is h = let asks = h.0 in cc
-  replayed_of asked HelpFailed is h = let asks = h.0 in cc
-  replayed_of asked Misused is h = let asks = h.0 in cc
-  replayed_of asked NoMemory is h = inr (inr refl)
-  replayed_of asked (Replayed end) is h = replay_is_right_of end h.1
-  replayed_of asked (Generated end) is h = let asks = h.0.1 in cc
+  replayed_of summary asked Helped is h = let asks = h.0 in cc
+  replayed_of summary asked HelpFailed is h = let asks = h.0 in cc
+  replayed_of summary asked Misused is h = let asks = h.0 in cc
+  replayed_of summary asked NoMemory is h = inr (inr refl)
+  replayed_of summary asked (Replayed end) is h = replay_is_right_of h.0 end h.2
+  replayed_of summary asked (Generated end) is h = let asks = h.0.1 in cc

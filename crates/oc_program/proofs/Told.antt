@@ -1,5 +1,5 @@
 -- What had happened, told of the outside in other words that follow.
-use Rattle.std.proofs.Common.{ℕ, List, Option, Result, inl, inr}
+use Rattle.std.proofs.Common.{ℕ, Bool, List, Option, Result, inl, inr}
 use Rattle.oc_replay.specs.declared.end.ReplayEnd.{ReplayEnd}
 use Rattle.oc_replay.specs.declared.end.ReplayEnd.TheVariants as replays
 use Rattle.oc_schedule.specs.Script.{Script}
@@ -31,15 +31,14 @@ pub record TellsOutput (o p : Output) : Type 0 where
 
 module _ (i j : Input) (o p : Output) (stage : OnStage) (input : TellsInput i j) (output : TellsOutput o p) where
   -- at the end of a replay
-  replay_told : (end : ReplayEnd) → HappenedAtReplay i o stage end → HappenedAtReplay j p stage end
-  replay_told replays.Done h = let (s, says, all, written, played, holds) = h in (s, input.says _ says, all, output.written _ written, played, holds)
-  replay_told (replays.Text line why) h = (input.says _ h.0, output.written _ h.1, h.2)
-  replay_told (replays.Limit what) h = (input.passes _ h.0, output.written _ h.1, h.2)
-  replay_told (replays.Unsupported event) h = let (s, says, first) = h.0 in ((s, input.says _ says, first), output.written _ h.1, h.2)
-  replay_told replays.Source h = (input.failed h.0, output.written _ h.1, h.2)
-  replay_told replays.Sink h = let (s, says, cut, played) = h in (s, input.says _ says, (cut.0, output.cut_off _ cut.1), played)
-  replay_told replays.Memory (inl h) = inl (input.came h.0, output.written _ h.1, h.2)
-  replay_told replays.Memory (inr h) = let (s, says, front) = h in inr (s, input.says _ says, (front.0, output.written _ front.1))
+  replay_told : (summary : Bool) (end : ReplayEnd) → HappenedAtReplay i o stage summary end → HappenedAtReplay j p stage summary end
+  replay_told summary replays.Done h = let (s, says, lawful, written, played, holds) = h in (s, input.says _ says, lawful, output.written _ written, played, holds)
+  replay_told summary (replays.Text line why) h = (input.says _ h.0, output.written _ h.1, h.2)
+  replay_told summary (replays.Limit what) h = (input.passes _ h.0, output.written _ h.1, h.2)
+  replay_told summary replays.Source h = (input.failed h.0, output.written _ h.1, h.2)
+  replay_told summary replays.Sink h = let (s, says, cut, played) = h in (s, input.says _ says, (cut.0, output.cut_off _ cut.1), played)
+  replay_told summary replays.Memory (inl h) = inl (input.came h.0, output.written _ h.1, h.2)
+  replay_told summary replays.Memory (inr h) = let (s, says, front) = h in inr (s, input.says _ says, (front.0, output.written _ front.1))
 
   -- at the end of `gen`
   gen_told : (sample : Sample) (end : GenEnd) → HappenedAtGen o sample end → HappenedAtGen p sample end
@@ -55,5 +54,5 @@ module _ (i j : Input) (o p : Output) (stage : OnStage) (input : TellsInput i j)
   happened_told asked HelpFailed h = let (a, (text, cut), u) = h in (a, (text, output.cut_off _ cut), (input.unread u.0, u.1))
   happened_told asked Misused h = let (a, written, u) = h in (a, output.written _ written, (input.unread u.0, u.1))
   happened_told asked NoMemory h = let (written, u) = h in (output.written _ written, (input.unread u.0, u.1))
-  happened_told asked (Replayed end) h = (h.0, replay_told end h.1)
+  happened_told asked (Replayed end) h = (h.0, h.1, replay_told h.0 end h.2)
   happened_told asked (Generated end) h = let ((sample, a, at), u) = h in ((sample, a, gen_told sample end at), (input.unread u.0, u.1))

@@ -1,7 +1,8 @@
 -- The command by which `clap` reads the words, as a term: what its builders make.
-use Rattle.std.specs.Prelude.{◌≡◌, [], ◌∷◌, true, false, codes}
+use Rattle.std.specs.Prelude.{◌≡◌, [], ◌∷◌, Some, true, false, codes}
 use Rattle.clap.specs.Words.{App, Rule, Shape, Text, new_app, new_rule, rule_of, shape_of, with_subcommand}
 use Rattle.clap.specs.Simple.{new_shape, on_top}
+use Rattle.clap.specs.declared.builder.action.ArgAction.TheVariants.{SetTrue}
 use Rattle.clap.specs.declared.builder.arg.Arg.{Arg}
 use Rattle.clap.specs.declared.builder.command.Command.{Command}
 use Rattle.clap.specs.declared.builder.command.Command.TheViews.{out-Command as fields_of}
@@ -19,9 +20,13 @@ bare_command = on_top (λ s. record s {
 abbrev pub required_rule : Text → Rule
 required_rule id = record (new_rule id) { required = true }
 
--- `replay`, which takes no further word
+-- a flag, which is given by two hyphens and its id
+abbrev pub flag_rule : Text → Rule
+flag_rule id = record (new_rule id) { long = Some id; action = Some SetTrue }
+
+-- `replay`, with the flag `--summary`
 abbrev pub replay_shape : Shape
-replay_shape = new_shape (codes "replay")
+replay_shape = record (new_shape (codes "replay")) { rules = flag_rule (codes "summary") ∷ [] }
 
 -- `gen SEED NODES EVENTS`
 abbrev pub gen_shape : Shape

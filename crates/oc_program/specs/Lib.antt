@@ -4,6 +4,8 @@ pub mod Status
 pub mod Sample
 pub mod Words
 pub mod Outside
+pub mod Calm
+pub mod Headline
 pub mod AtReplay
 pub mod AtGen
 pub mod Run

@@ -1,12 +1,12 @@
 -- What can be said of the outside once a run has ended: of the words, of the input, of the output
 -- and of the stage.
-use Rattle.std.specs.Prelude.{◌≡◌, ℕ, Option, Result, List}
+use Rattle.std.specs.Prelude.{◌≡◌, ℕ, Bool, Option, Result, List}
 use Rattle.oc_model.specs.Node.{Header}
 use Rattle.oc_model.specs.World.{World}
 use Rattle.oc_model.specs.declared.event.Event.{Event}
 use Rattle.oc_model.specs.declared.word.Word.{Word}
 use Rattle.oc_outside.specs.Faults.{Rose}
-use Rattle.oc_replay.specs.Replay.{IsInput, PassesLimit, told_text, world_at}
+use Rattle.oc_replay.specs.Replay.{IsInput, PassesLimit, output_text, world_at}
 use Rattle.oc_schedule.specs.Script.{Script}
 use Rattle.oc_schedule.specs.declared.fault.ScheduleFault.{ScheduleFault}
 use Rattle.oc_schedule.specs.declared.fault.What.{What}
@@ -34,8 +34,8 @@ pub record Output : Type 1 where
 
 -- of the stage
 pub record OnStage : Type 1 where
-  -- the report of a schedule over it
-  pub report : Script → List ℕ
+  -- what is written of a schedule over it: the summary where it is asked for, and else the report
+  pub text : Bool → Script → List ℕ
   -- it is where these events of a schedule lead
   pub played : Script → List Event → Type 0
   -- it is as it was
@@ -70,7 +70,7 @@ module _ {K : Type 0} (takes fails : K → List ℕ → K → Type 0) (faults : 
 module _ {T : Type 0} (first : Header → World) (after : World → Event → World) (word : World → Event → Word) (world : T → World) where
   abbrev pub at_stage : T → T → OnStage
   at_stage old new = record {
-    report = told_text first after word;
+    text = λ summary. output_text first after summary word;
     played = λ s events. world new ≡ world_at first after s events;
     unplayed = new ≡ old;
   }

@@ -1,5 +1,5 @@
 -- How a run ends: its status, its line on the error output, and what had happened outside.
-use Rattle.std.specs.Prelude.{◌≡◌, ℕ, ◌<◌, ◌⊎◌, List, [], ◌∷◌, ◌++◌, length, codes, decimal, Some, None}
+use Rattle.std.specs.Prelude.{◌≡◌, ℕ, ◌<◌, ◌⊎◌, Bool, List, [], ◌∷◌, ◌++◌, length, codes, decimal, Some, None}
 use Rattle.std.specs.Borrow.{Bor}
 use Rattle.oc_base.specs.Why.{why_text}
 use Rattle.oc_outside.specs.Faults.{Rose}
@@ -25,7 +25,6 @@ abbrev pub status_of_replay : ReplayEnd → Status
 status_of_replay replays.Done = statuses.Done
 status_of_replay (replays.Text line why) = statuses.BadText
 status_of_replay (replays.Limit what) = statuses.Limit
-status_of_replay (replays.Unsupported event) = statuses.BadText
 status_of_replay replays.Source = statuses.Failed
 status_of_replay replays.Sink = statuses.Failed
 status_of_replay replays.Memory = statuses.Memory
@@ -60,7 +59,6 @@ abbrev pub line_of_replay : ReplayEnd → List ℕ
 line_of_replay replays.Done = []
 line_of_replay (replays.Text line why) = codes "overcast: line " ++ decimal line ++ codes ": " ++ why_text why ++ newline
 line_of_replay (replays.Limit what) = codes "overcast: limit " ++ what_text what ++ codes " " ++ decimal (most_of what) ++ newline
-line_of_replay (replays.Unsupported event) = codes "overcast: event " ++ decimal event ++ codes ": " ++ codes "not played yet" ++ newline
 line_of_replay replays.Source = codes "overcast: input failed" ++ newline
 line_of_replay replays.Sink = output_failed
 line_of_replay replays.Memory = out_of_memory
@@ -100,5 +98,5 @@ Happened o Helped = (o.asked ≡ Some Help) × ((text : List ℕ) × (0 < length
 Happened o HelpFailed = (o.asked ≡ Some Help) × ((text : List ℕ) × o.output.cut_off text) × IsUntouched o
 Happened o Misused = (o.asked ≡ None) × o.output.written [] × IsUntouched o
 Happened o NoMemory = o.output.written [] × IsUntouched o
-Happened o (Replayed end) = (o.asked ≡ Some Replay) × HappenedAtReplay o.input o.output o.stage end
+Happened o (Replayed end) = (summary : Bool) × (o.asked ≡ Some (Replay summary)) × HappenedAtReplay o.input o.output o.stage summary end
 Happened o (Generated end) = ((sample : Sample) × (o.asked ≡ Some (Gen sample)) × HappenedAtGen o.output sample end) × IsUntouched o

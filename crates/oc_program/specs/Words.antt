@@ -9,6 +9,7 @@ use Rattle.clap.specs.declared.error.kind.ErrorKind.TheVariants.{DisplayHelp}
 use Rattle.oc_base.specs.Steps.{◌>>=◌}
 use Rattle.oc_base.specs.declared.why.Why.{Why}
 use Rattle.oc_base.specs.declared.why.Why.TheVariants.{Count}
+use Rattle.oc_program.specs.Arguments.{is_flagged}
 use Rattle.oc_program.specs.Command.{command}
 use Rattle.oc_program.specs.Sample.{IsSample, sample_in, sample_of}
 use Rattle.oc_program.specs.declared.generating.Sample.{Sample}
@@ -51,7 +52,7 @@ gen_of sample = do
 -- what a subcommand of this name asks for, by what its arguments were given
 abbrev pub request_by : Text → List Row → Result Request Why
 request_by name rows =
-    if bytes_eq name (codes "replay") then Ok Replay
+    if bytes_eq name (codes "replay") then Ok (Replay (is_flagged (codes "summary") rows))
     else if bytes_eq name (codes "gen") then gen_of (sample_of rows)
     else Err Count
 
@@ -73,6 +74,7 @@ asked words = asked_by (verdict_of words) (subcommand_of command words)
 -- the words stand as in a row of the table of commands, with their numbers in range
 pub data IsPlain (words : List Text) : Type 0 where
   plain_replay : words ≡ codes "replay" ∷ [] → IsPlain words
+  plain_summary : words ≡ codes "replay" ∷ codes "--summary" ∷ [] → IsPlain words
   plain_gen : (seed nodes events : Text) (sample : Sample) → words ≡ codes "gen" ∷ seed ∷ nodes ∷ events ∷ []
       → sample_in seed nodes events ≡ Ok sample → IsPlain words
 

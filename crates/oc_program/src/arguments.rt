@@ -2,10 +2,10 @@
 ghost use Rattle.std.specs.Prelude.{◌≡◌};
 ghost use Rattle.clap.specs.Words.{found_of, rows_of};
 ghost use Rattle.oc_base.specs.Words.{GivesFields};
-ghost use Rattle.oc_program.specs.Arguments.{word_of};
-ghost use Rattle.oc_program.specs.Command.{IsArgument, required_rule};
+ghost use Rattle.oc_program.specs.Arguments.{is_flagged, word_of};
+ghost use Rattle.oc_program.specs.Command.{IsArgument, flag_rule, required_rule};
 
-use clap::{Arg, ArgMatches};
+use clap::{Arg, ArgAction, ArgMatches};
 use oc_base::Why;
 use std::alloc::Global;
 
@@ -14,6 +14,23 @@ pub(crate) fn required<'a>(alloc: Global, id: &'a str) -> Arg<'a>
     ensures { IsArgument (required_rule id.entry.now) result }
 {
     Arg::new(alloc, id).required(true)
+}
+
+/// A flag, which is given by two hyphens and its id, or not.
+pub(crate) fn flag<'a>(alloc: Global, id: &'a str) -> Arg<'a>
+    ensures { IsArgument (flag_rule id.entry.now) result }
+{
+    Arg::new(alloc, id).long(id).action(ArgAction::SetTrue)
+}
+
+/// Whether a flag was given.
+pub(crate) fn is_flagged(matches: &ArgMatches<'_>, id: &str) -> bool
+    ensures { result ≡ is_flagged id.now (rows_of (found_of matches.now)) }
+{
+    match matches.get_str(id) {
+        Some(word) => word == "true",
+        None => false,
+    }
 }
 
 /// The word of an argument.

@@ -14,7 +14,7 @@ pub fn command<'a>(alloc: Global) -> Result<Command<'a>, AllocError>
     ensures { IfOk result (λ c. app_of c ≡ command) }
 {
     bare_command(alloc)
-        .subcommand(replay_command(alloc))?
+        .subcommand(replay_command(alloc)?)?
         .subcommand(gen_command(alloc)?)
 }
 

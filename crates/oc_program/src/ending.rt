@@ -44,7 +44,7 @@ fn replay_status(end: ReplayEnd) -> Status
 {
     match end {
         ReplayEnd::Done => Status::Done,
-        ReplayEnd::Text { .. } | ReplayEnd::Unsupported { .. } => Status::BadText,
+        ReplayEnd::Text { .. } => Status::BadText,
         ReplayEnd::Limit(_) => Status::Limit,
         ReplayEnd::Source | ReplayEnd::Sink => Status::Failed,
         ReplayEnd::Memory => Status::Memory,

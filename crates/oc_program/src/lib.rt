@@ -6,6 +6,9 @@
 //! readers and writers, where the same clause is about bytes and about counts of bytes; `main` calls
 //! the second.
 //!
+//! Where a replay ends with status 0, [`headline_holds`] is part of that clause: what is so of every world
+//! of the schedule, inside of settle and heal too, and what settle and heal leave and tell.
+//!
 //! [`read_words`] gives what the words ask for, exactly as `clap` reads them. Each command is a file:
 //! `replaying` and `generating` have its subcommand, its arguments and what it does.
 #![tactic(auto)]
@@ -14,6 +17,7 @@ mod arguments;
 mod command;
 mod ending;
 mod generating;
+mod headline;
 mod helping;
 mod replaying;
 mod running;
@@ -25,8 +29,8 @@ mod words;
 
 pub use ending::End;
 pub use generating::{GenEnd, Sample};
+pub use headline::headline_holds;
 pub use oc_adapters::{ReaderSource, Traffic, WriterSink};
-pub use replaying::world_reports_as_the_model;
 pub use running::run;
 pub use status::Status;
 pub use streams::{MemoryRun, StreamsRun, run_in_memory, run_on_streams};

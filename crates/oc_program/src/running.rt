@@ -1,6 +1,6 @@
 //! The top call.
 
-ghost use Rattle.std.specs.Prelude.{◌≡◌, ◌≢◌, ℕ, ◌⊎◌, List, Some, None};
+ghost use Rattle.std.specs.Prelude.{◌≡◌, ◌≢◌, ℕ, Bool, ◌⊎◌, List, Some, None};
 ghost use Rattle.oc_outside.specs.Faults.{NoFall, Rose};
 ghost use Rattle.oc_program.specs.AtReplay.{HasStatus};
 ghost use Rattle.oc_program.specs.Outside.{at_sink, at_source, at_stage};
@@ -16,7 +16,7 @@ use crate::replaying::replay_input;
 use crate::telling::tell;
 use crate::words::{Request, WordsFault, read_words};
 use oc_outside::{Sink, Source};
-use oc_world::Stage;
+use oc_stage::Stage;
 use std::alloc::Global;
 
 /// Runs the program: what the words ask for, from the input to the output, over the stage.
@@ -58,7 +58,7 @@ pub fn run<S: Source, K: Sink, E: Sink, T: Stage>(
 
     // Where neither input nor output fails, the status of a replay is that of what its input says, or
     // memory is wanting.
-    ensures replayed { asked (texts_of words.now) ≡ Some Request.Replay
+    ensures replayed { (summary : Bool) → asked (texts_of words.now) ≡ Some (Request.Replay summary)
         → (Rose (S.faults input.old) (S.faults input.new) → ⊥)
         → (Rose (K.faults out.old) (K.faults out.new) → ⊥)
         → HasStatus S.gives S.ended input.old input.new result ⊎ (result ≡ 4) }
@@ -91,7 +91,9 @@ fn perform<S: Source, K: Sink, T: Stage>(
     ensures output_count { NoFall (K.faults out.old) (K.faults out.new) }
 {
     match read_words(alloc, words) {
-        Ok(Request::Replay) => End::Replayed(replay_input(alloc, input, out, stage)),
+        Ok(Request::Replay { summary }) => {
+            End::Replayed(replay_input(alloc, input, out, stage, summary))
+        }
         Ok(Request::Gen(sample)) => End::Generated(write_sample(alloc, sample, out)),
         Ok(Request::Help) => write_help(out),
         Err(WordsFault::Usage) => End::Misused,

@@ -1,7 +1,7 @@
 //! The program over readers and writers, through the adapters of `oc_adapters`: over bytes in memory,
 //! and over the standard streams.
 
-ghost use Rattle.std.specs.Prelude.{◌≡◌, ℕ, ◌⊎◌, List, Some};
+ghost use Rattle.std.specs.Prelude.{◌≡◌, ℕ, Bool, ◌⊎◌, List, Some};
 ghost use Rattle.oc_program.specs.AtReplay.{status_for};
 ghost use Rattle.oc_program.specs.Outside.{at_stage};
 ghost use Rattle.oc_program.specs.Run.{Happened, line_of, status_of};
@@ -14,7 +14,7 @@ ghost use Rattle.oc_schedule.specs.Schedule.{schedule_of};
 use crate::running::run;
 use crate::words::Request;
 use oc_adapters::{ReaderSource, Traffic, WriterSink};
-use oc_world::Stage;
+use oc_stage::Stage;
 use std::alloc::Global;
 use std::io::{Stderr, Stdin, Stdout};
 
@@ -49,7 +49,7 @@ pub fn run_in_memory<T: Stage>(
         }) end }
 
     // The status of a replay is that of what these bytes say, or the output failed, or memory is wanting.
-    ensures replayed { asked (texts_of words.now) ≡ Some Request.Replay
+    ensures replayed { (summary : Bool) → asked (texts_of words.now) ≡ Some (Request.Replay summary)
         → (result.status ≡ status_for (schedule_of input.now)) ⊎ (result.status ≡ 1) ⊎ (result.status ≡ 4) }
 {
     let mut source = ReaderSource::new(input);

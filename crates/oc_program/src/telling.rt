@@ -49,7 +49,6 @@ fn tell_replay<E: Sink>(err: &mut E, end: ReplayEnd) -> Result<(), Failed>
         ReplayEnd::Done => Ok(()),
         ReplayEnd::Text { line, why } => tell_line(err, line, why),
         ReplayEnd::Limit(what) => tell_limit(err, what),
-        ReplayEnd::Unsupported { event } => tell_unsupported(err, event),
         ReplayEnd::Source => write_all(err, b"overcast: input failed\n"),
         ReplayEnd::Sink => write_all(err, b"overcast: output failed\n"),
         ReplayEnd::Memory => write_all(err, b"overcast: out of memory\n"),
@@ -100,17 +99,5 @@ fn tell_limit<E: Sink>(err: &mut E, what: What) -> Result<(), Failed>
             number,
             b"\n",
         ],
-    )
-}
-
-fn tell_unsupported<E: Sink>(err: &mut E, event: u64) -> Result<(), Failed>
-    ensures told { IsWrittenOrCut E.takes E.fails E.faults err.old err.new (line_of_replay (ReplayEnd.Unsupported event)) }
-    ensures count { NoFall (E.faults err.old) (E.faults err.new) }
-{
-    let mut digits = Buffer::new();
-    let number = digits.format(event).as_bytes();
-    write_parts(
-        err,
-        &[b"overcast: event ", number, b": ", b"not played yet", b"\n"],
     )
 }

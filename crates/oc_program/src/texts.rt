@@ -9,7 +9,7 @@ pub fn help() -> &'static str
     "\
 overcast: multicast from one source over nodes that keep what they get
 
-Usage: overcast replay < SCHEDULE > REPORT
+Usage: overcast replay [--summary] < SCHEDULE > REPORT
        overcast gen SEED NODES EVENTS > SCHEDULE
        overcast --help
 
@@ -21,6 +21,10 @@ Commands:
           schedule on standard input, and writes the report on standard output:
           what came of each event, and each message sent. It ends with any of
           the statuses below.
+            --summary  writes six lines on the last world in place of the
+                       report: the events, the messages, the nodes that are up,
+                       those of them that are joined, those that act as root,
+                       and the bytes that all nodes hold
   gen     writes a schedule on standard output that follows from a seed: the
           same numbers give the same text. It reads no input. First all nodes
           start; then come ticks, deliveries, publishes, crashes and starts. It
@@ -74,8 +78,7 @@ Exit status:
   0  the work was done
   1  the input or the output failed
   2  the words are not as under Usage, or a number is not in its range
-  3  the schedule has a fault, in the line that is named, or an event that is
-     not played yet
+  3  the schedule has a fault, in the line that is named
   4  out of memory
   5  the schedule passes a limit on its lines, bytes, published bytes or settles
 
@@ -86,7 +89,7 @@ With each status but 0, one line on standard error says why.
 /// The text behind the line `overcast: usage`, which says what the words may be.
 pub fn usage() -> &'static str {
     "\
-Usage: overcast replay < SCHEDULE > REPORT
+Usage: overcast replay [--summary] < SCHEDULE > REPORT
        overcast gen SEED NODES EVENTS > SCHEDULE
        overcast --help
 "

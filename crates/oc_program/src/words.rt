@@ -1,5 +1,5 @@
 //! Reads the words behind the program's name.
-ghost use Rattle.std.specs.Prelude.{◌≡◌, ◌≢◌, ◌∷◌, [], List, Some, None, Ok, IfOk, codes, ok_or};
+ghost use Rattle.std.specs.Prelude.{◌≡◌, ◌≢◌, ◌∷◌, [], List, Some, None, Ok, IfOk, codes, ok_or, true, false};
 ghost use Rattle.std.specs.Result.{result_ok};
 ghost use Rattle.clap.specs.Words.{Text, found_of, rows_of, subcommand_rows_of};
 ghost use Rattle.oc_program.specs.Arguments.{IsNoFlag};
@@ -9,6 +9,7 @@ ghost use Rattle.oc_program.specs.Words.{request_by, request_of, texts_of, verdi
 
 use crate::command::command;
 use crate::generating::{Sample, sample_of};
+use crate::replaying::wants_summary;
 use clap::ArgMatches;
 use clap::error::ErrorKind;
 use oc_base::Why;
@@ -17,8 +18,8 @@ use std::alloc::{AllocError, AllocFailed, Global};
 /// What the words ask for.
 #[derive(Clone, Copy, Debug, PartialEq, Eq)]
 pub enum Request {
-    /// To play the schedule on the input.
-    Replay,
+    /// To play the schedule on the input, and write its report or its summary.
+    Replay { summary: bool },
     /// To write the schedule that follows from a seed.
     Gen(Sample),
     /// To print the help.
@@ -96,7 +97,9 @@ fn request_by(name: &str, arguments: &ArgMatches<'_>) -> Result<Request, Why>
     ensures range { IfOk result IsRequest }
 {
     if name == "replay" {
-        Ok(Request::Replay)
+        Ok(Request::Replay {
+            summary: wants_summary(arguments),
+        })
     } else if name == "gen" {
         Ok(Request::Gen(sample_of(arguments)?))
     } else {
@@ -119,7 +122,8 @@ fn answer_to(kind: ErrorKind) -> Result<Request, WordsFault>
 
 /// What the words of each row of the table of commands ask for.
 pub fn rows_ask()
-    ensures replaying { asked (codes "replay" ∷ []) ≡ Some Request.Replay }
+    ensures replaying { asked (codes "replay" ∷ []) ≡ Some (Request.Replay false) }
+    ensures summing { asked (codes "replay" ∷ codes "--summary" ∷ []) ≡ Some (Request.Replay true) }
 
     // Three words behind `gen` ask for the sample that they say.
     ensures generating { (seed nodes events : Text) (sample : Sample)

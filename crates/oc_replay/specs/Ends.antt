@@ -7,7 +7,7 @@ use Rattle.oc_schedule.specs.declared.fault.ScheduleFault.TheVariants as schedul
 use Rattle.oc_schedule.specs.declared.fault.What.{What}
 use Rattle.oc_schedule.specs.declared.fault.What.TheVariants.{Bytes}
 use Rattle.oc_replay.specs.declared.end.ReplayEnd.{ReplayEnd}
-use Rattle.oc_replay.specs.declared.end.ReplayEnd.TheVariants.{Done, Text, Limit, Unsupported, Source, Sink, Memory}
+use Rattle.oc_replay.specs.declared.end.ReplayEnd.TheVariants.{Done, Text, Limit, Source, Sink, Memory}
 
 -- What holds at each end of a replay.
 
@@ -25,11 +25,6 @@ IfText end P = Unit {0}
 abbrev pub IfLimit : ReplayEnd → (What → Type 0) → Type 0
 IfLimit (Limit what) P = P what
 IfLimit end P = Unit {0}
-
--- at Unsupported, of the number of its event
-abbrev pub IfUnsupported : ReplayEnd → (ℕ → Type 0) → Type 0
-IfUnsupported (Unsupported event) P = P event
-IfUnsupported end P = Unit {0}
 
 -- at Source
 abbrev pub OnSource : ReplayEnd → Type 0 → Type 0
@@ -50,7 +45,6 @@ OnMemory end P = Unit {0}
 abbrev pub OnRefusal : ReplayEnd → Type 0 → Type 0
 OnRefusal (Text line why) P = P
 OnRefusal (Limit what) P = P
-OnRefusal (Unsupported event) P = P
 OnRefusal Source P = P
 OnRefusal end P = Unit {0}
 

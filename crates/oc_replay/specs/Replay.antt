@@ -1,5 +1,4 @@
-use Rattle.std.specs.Prelude.{◌≡◌, ℕ, ◌<◌, not, Option, Result, Err, List, length, fold, position, option_map, suc}
-use Rattle.oc_model.specs.Playable.{is_playable}
+use Rattle.std.specs.Prelude.{◌≡◌, ℕ, ◌<◌, Bool, true, false, Result, Err, List, length, fold}
 use Rattle.oc_model.specs.declared.event.Event.{Event}
 use Rattle.oc_model.specs.declared.word.Word.{Word}
 use Rattle.oc_model.specs.Node.{Header}
@@ -12,6 +11,7 @@ use Rattle.oc_base.specs.declared.limits.TheConstants.{MAX_SCHEDULE_BYTES}
 use Rattle.oc_schedule.specs.Schedule.{schedule_of}
 use Rattle.oc_schedule.specs.Script.{Script}
 use Rattle.oc_replay.specs.Report.{run_text}
+use Rattle.oc_replay.specs.Summary.{run_summary}
 
 -- What a replay does with its input.
 
@@ -27,9 +27,10 @@ abbrev pub PassesLimit : {S : Type 0} → (S → List ℕ → S → Type 0) → 
 PassesLimit gives ended old new Bytes = (bytes : List ℕ) × gives old bytes new × (MAX_SCHEDULE_BYTES < length bytes)
 PassesLimit gives ended old new what = IsInput gives ended old new (Err (Limit what))
 
--- the number, from 1, of the first event that the program does not play yet
-abbrev pub first_unsupported : Script → Option ℕ
-first_unsupported s = option_map suc (position (λ e. not (is_playable e)) s.events)
+-- what is written of a run: its summary where that is asked for, and else its report
+abbrev pub run_output : Bool → (World → Event → World) → (World → Event → Word) → World → List Event → List ℕ
+run_output true after word w es = run_summary after w es
+run_output false after word w es = run_text after word w es
 
 -- a stage says which world a header opens, which world an event leads to, and in which word
 module _ (first : Header → World) (after : World → Event → World) where
@@ -40,3 +41,11 @@ module _ (first : Header → World) (after : World → Event → World) where
   -- the world after these events of a schedule
   abbrev pub world_at : Script → List Event → World
   world_at s played = fold after (first s.header) played
+
+  -- the summary of a schedule, over the last of its worlds
+  abbrev pub brief_text : Script → List ℕ
+  brief_text s = run_summary after (first s.header) s.events
+
+  -- what a replay writes
+  abbrev pub output_text : Bool → (World → Event → Word) → Script → List ℕ
+  output_text summary word s = run_output summary after word (first s.header) s.events

@@ -1,28 +1,41 @@
-use Rattle.std.specs.Prelude.{◌≡◌, ℕ, ◌+◌, Option, Some, None, List, [], ◌∷◌, ◌++◌, length, take, drop}
+use Rattle.std.specs.Prelude.{◌≡◌, ℕ, ◌+◌, ◌-◌, Option, Some, None, List, [], ◌∷◌, ◌++◌, length, take, drop}
 use Rattle.oc_model.specs.declared.event.Event.{Event}
-use Rattle.oc_model.specs.declared.event.Event.TheVariants.{Held}
+use Rattle.oc_model.specs.declared.event.Event.TheVariants.{Held, Show, Settle, Heal}
 use Rattle.oc_model.specs.declared.message.Message.{Message}
 use Rattle.oc_model.specs.declared.word.Word.{Word}
 use Rattle.oc_base.specs.Groups.{shelf}
 use Rattle.oc_model.specs.World.{World, node}
+use Rattle.oc_stage.specs.Sight.{sight_in}
 use Rattle.oc_replay.specs.Lines.{event_line, message_line, messages_text, held_text, end_line}
+use Rattle.oc_replay.specs.Shows.{show_text}
 
 -- What a report tells of a run.
 
 -- the block of an event, in the world after it
 abbrev pub block_text : World → Event → List ℕ
 block_text w (Held x) = held_text (shelf (node w x).groups)
+block_text w (Show x) = show_text x (sight_in w x)
 block_text w e = []
+
+-- the lines of the messages from this number on
+abbrev pub sent_from : ℕ → World → List ℕ
+sent_from k w = messages_text k (drop (k - 1) w.net)
+
+-- those that are told of an event; what settle and heal send is numbered, and not told
+abbrev pub sent_text : ℕ → World → Event → List ℕ
+sent_text k w Settle = []
+sent_text k w Heal = []
+sent_text k w e = sent_from k w
 
 -- the line of the message of this number, if there is one
 abbrev pub message_text : ℕ → Option Message → List ℕ
 message_text k None = []
 message_text k (Some m) = message_line k m
 
--- the i-th event, with this word, from one world to the next: the word, the messages by which the net grew, the block
+-- the i-th event, with this word, from one world to the next: the word, the messages that it sent, the block
 abbrev pub event_text : ℕ → Word → World → World → Event → List ℕ
 event_text i word old new e =
-    event_line i word ++ messages_text (length old.net + 1) (drop (length old.net) new.net) ++ block_text new e
+    event_line i word ++ sent_text (length old.net + 1) new e ++ block_text new e
 
 -- a stage says which world an event leads to, and in which word
 module _ (after : World → Event → World) (word : World → Event → Word) where

@@ -100,6 +100,13 @@ fn put_ask(out: &mut Vec<u8>, seq: u64, rank: Option<Rank>) -> Result<(), Memory
 {
     put_with_number(out, b"ask ", seq)?;
     put(out, b" ")?;
+    put_rank_or_dash(out, rank)
+}
+
+/// Puts a rank, and `-` where there is none.
+pub(crate) fn put_rank_or_dash(out: &mut Vec<u8>, rank: Option<Rank>) -> Result<(), Memory>
+    ensures { OnOk result (out.new.items ≡ out.old.items ++ rank_or_dash rank) }
+{
     match rank {
         None => put(out, b"-"),
         Some(rank) => put_rank(out, rank),

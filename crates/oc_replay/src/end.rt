@@ -5,14 +5,12 @@ use oc_schedule::{ScheduleFault, What};
 /// How a replay ends.
 #[derive(Clone, Copy, Debug, PartialEq, Eq)]
 pub enum ReplayEnd {
-    /// The whole report was written.
+    /// The whole report, or the whole summary, was written.
     Done,
     /// A line of the schedule, counted from 1, is refused for this cause.
     Text { line: u32, why: Why },
     /// The schedule passes a limit.
     Limit(What),
-    /// The event of this number, counted from 1, is not played yet.
-    Unsupported { event: u64 },
     /// A call on the source failed.
     Source,
     /// A call on the sink failed.

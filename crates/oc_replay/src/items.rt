@@ -2,9 +2,10 @@
 
 ghost use Rattle.std.specs.Prelude.{◌≡◌, ℕ, List, [], ◌++◌, OnOk, decimal};
 ghost use Rattle.oc_replay.specs.Bodies.{cert_text, child_text, count_text, list_text, pair_text, sign_text, spaced};
+ghost use Rattle.oc_replay.specs.Shows.{listed_text};
 
 use crate::texts::put_mark;
-use oc_base::{Cert, Child, Memory, NodeId, Shelf, put, put_number, put_with_number};
+use oc_base::{Cert, Child, Line, Memory, NodeId, Shelf, put, put_number, put_with_number};
 
 /// What stands in a list.
 pub(crate) trait Item {
@@ -76,6 +77,15 @@ impl Item for Cert {
         put_with_number(out, b"/", u64::from(self.parent.0))?;
         put(out, sign(self.dead).as_bytes())?;
         put_count(out, "", self.number, self.clients)
+    }
+}
+
+impl Item for Line {
+    ghost text = { listed_text };
+
+    fn put(&self, out: &mut Vec<u8>) -> Result<(), Memory> {
+        put_number(out, u64::from(self.node.0))?;
+        put_with_number(out, b"<", u64::from(self.parent.0))
     }
 }
 

@@ -1,16 +1,17 @@
-//! A schedule of events, played on a stage and told in a report.
+//! A schedule of events, played on a stage and told in a report or summed up in a summary.
 //!
 //! The layer above uses [`replay`]. Over a stage of any type, and over any source and sink, it ends
 //! with `Done` only where all input came and is a schedule s, the bytes that the sink took are
-//! exactly `told_text` of s, and the stage is at the last world that its type states for s. With
-//! `Text` and `Limit` it names the first fault of the text, with `Source` and `Sink` that count of
-//! faults rose, and where there is no schedule nothing is written and the stage is as it was.
+//! exactly `told_text` of s, or with `summary` its `brief_text`, and the stage is at the last world
+//! that its type states for s. With `Text` and `Limit` it names the first fault of the text, with
+//! `Source` and `Sink` that count of faults rose, and where there is no schedule nothing is written and
+//! the stage is as it was.
 //!
-//! `specs/Lines` has the lines of a report and `specs/Bodies` what messages say, `specs/Report` what
-//! is told of a run, `specs/Replay` what is told of a schedule. `told_text` takes its words and worlds
-//! from the functions of the stage's type, so a body that doesn't give the stage the events can't know
-//! it. The text is gathered in one buffer, which is written and used again whenever it has reached
-//! 64 KiB.
+//! `specs/Lines` has the lines of a report, `specs/Bodies` what messages say and `specs/Shows` how a
+//! node stands; `specs/Report` has what is told of a run, `specs/Summary` what is counted of a world,
+//! `specs/Replay` what is told of a schedule. `told_text` takes its words and worlds from the functions
+//! of the stage's type, so a body that doesn't give the stage the events can't know it. The text is
+//! gathered in one buffer, which is written and used again whenever it has reached 64 KiB.
 #![tactic(auto)]
 
 mod bodies;
@@ -20,6 +21,8 @@ mod law;
 mod lines;
 mod replaying;
 mod reporting;
+mod show;
+mod summing;
 mod texts;
 
 pub use end::ReplayEnd;
@@ -28,3 +31,4 @@ pub use lines::held_text;
 pub use oc_base::{Shelf, Why};
 pub use oc_schedule::What;
 pub use replaying::replay;
+pub use show::show_text;

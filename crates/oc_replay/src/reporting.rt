@@ -1,19 +1,20 @@
 //! A run of events on a stage, told while it happens.
 
-ghost use Rattle.std.specs.Prelude.{◌≡◌, ℕ, ◌+◌, ◌-◌, ◌^◌, ◌<◌, [], ◌++◌, length, drop, take, fold, OnOk, IfOk, OnErr, IsErrOf};
-ghost use Rattle.std.specs.List.{AllByRecursion};
-ghost use Rattle.oc_model.specs.Playable.{IsPlayable};
+ghost use Rattle.std.specs.Prelude.{◌≡◌, ℕ, ◌+◌, ◌-◌, ◌^◌, ◌<◌, ◌++◌, length, take, fold, OnOk, IfOk, OnErr, IsErrOf};
+ghost use Rattle.oc_model.specs.Lawful.{IsEvent};
 ghost use Rattle.oc_model.specs.World.{ids, message_at};
 ghost use Rattle.oc_outside.specs.Faults.{NoFall, Rose};
-ghost use Rattle.oc_replay.specs.Lines.{messages_text};
-ghost use Rattle.oc_replay.specs.Report.{block_text, event_text, message_text, run_text, PassesOn, SomeFront};
+ghost use Rattle.oc_replay.specs.Opening.{IsOpening};
+ghost use Rattle.oc_replay.specs.Report.{block_text, event_text, message_text, run_text, sent_from, sent_text, PassesOn, SomeFront};
+ghost use Rattle.oc_stage.specs.Stage.{HasTimeFor};
 ghost use Rattle.oc_replay.specs.declared.reporting.ReportFault.TheVariants.{Sink as SinkFailed, Memory as NoMemory};
 
 use crate::lines::{put_end, put_event, put_held, put_message};
+use crate::show::put_show;
 use oc_base::Memory;
 use oc_model::Event;
 use oc_outside::{Failed, Sink, write_all};
-use oc_world::{Said, Stage};
+use oc_stage::{Said, Stage};
 use std::alloc::Global;
 
 /// As many bytes are gathered before they are written.
@@ -52,8 +53,7 @@ pub(crate) fn report<K: Sink, T: Stage>(
     stage: &mut T,
     events: &[Event],
 ) -> Result<(), ReportFault>
-    requires opened { (T.world stage.old).net ≡ [] }
-    requires lawful { AllByRecursion (IsPlayable (length (ids (T.world stage.old)))) events.now }
+    requires { IsOpening (T.world stage.old) events.now }
 
     // The whole report was taken, and the stage is at the last world.
     ensures told { OnOk result
@@ -95,7 +95,8 @@ fn tell<T: Stage>(
     number: u64,
     event: &Event,
 ) -> Result<u64, Memory>
-    requires { IsPlayable (length (ids (T.world stage.old))) event.now }
+    requires event { IsEvent (length (ids (T.world stage.old))) event.now }
+    requires time { HasTimeFor (T.world stage.old) event.now }
     ensures text { OnOk result (out.new.items ≡ out.old.items
         ++ event_text number (T.word (T.world stage.old) event.now) (T.world stage.old) (T.world stage.new) event.now) }
     ensures world { OnOk result (T.world stage.new ≡ T.after (T.world stage.old) event.now) }
@@ -103,9 +104,22 @@ fn tell<T: Stage>(
 {
     let said = stage.event(event)?;
     put_event(out, number, &said.word)?;
-    put_sent(out, stage, said)?;
+    put_told(out, stage, event, said)?;
     put_block(out, stage, event)?;
     Ok(said.first + said.count - 1)
+}
+
+/// Puts the messages that are told of an event. Settle and heal may send very many, which are not told.
+fn put_told<T: Stage>(out: &mut Vec<u8>, stage: &T, event: &Event, said: Said) -> Result<(), Memory>
+    requires first { 0 < said.first }
+    requires all { said.first + said.count ≡ length (T.world stage.now).net + 1 }
+    requires few { said.first + said.count < 2 ^ 64 }
+    ensures { OnOk result (out.new.items ≡ out.old.items ++ sent_text said.first (T.world stage.now) event.now) }
+{
+    match event {
+        Event::Settle | Event::Heal => Ok(()),
+        _ => put_sent(out, stage, said),
+    }
 }
 
 /// Puts a line for each message from the first one that was sent on.
@@ -113,8 +127,7 @@ fn put_sent<T: Stage>(out: &mut Vec<u8>, stage: &T, said: Said) -> Result<(), Me
     requires first { 0 < said.first }
     requires all { said.first + said.count ≡ length (T.world stage.now).net + 1 }
     requires few { said.first + said.count < 2 ^ 64 }
-    ensures { OnOk result (out.new.items ≡ out.old.items
-        ++ messages_text said.first (drop (said.first - 1) (T.world stage.now).net)) }
+    ensures { OnOk result (out.new.items ≡ out.old.items ++ sent_from said.first (T.world stage.now)) }
 {
     for number in said.first..said.first + said.count {
         put_one(out, stage, number)?;
@@ -135,11 +148,12 @@ fn put_one<T: Stage>(out: &mut Vec<u8>, stage: &T, number: u64) -> Result<(), Me
 
 /// Puts the block of an event.
 fn put_block<T: Stage>(out: &mut Vec<u8>, stage: &T, event: &Event) -> Result<(), Memory>
-    requires { IsPlayable (length (ids (T.world stage.now))) event.now }
+    requires { IsEvent (length (ids (T.world stage.now))) event.now }
     ensures { OnOk result (out.new.items ≡ out.old.items ++ block_text (T.world stage.now) event.now) }
 {
     match event {
         Event::Held(node) => put_held(out, &stage.held(*node)?),
+        Event::Show(node) => put_show(out, *node, &stage.sight(*node)?),
         _ => Ok(()),
     }
 }

@@ -1,182 +1,236 @@
-//! A node in memory, and whether it is up.
+//! A node, and whether it is up.
 
-ghost use Rattle.std.specs.Prelude.{◌≡◌, ◌==◌, ℕ, true, [], ◌∷◌, IfOk, OnErr};
-ghost use Rattle.std.specs.Option.{option_to_list};
+ghost use Rattle.std.specs.Prelude.{◌≡◌, ◌++◌, ◌≤◌, true, false, if◌then◌else◌, IfOk, OnOk, OnErr};
 ghost use Rattle.oc_base.specs.Groups.{shelf};
-ghost use Rattle.oc_world.specs.Spread.{published, sealed_at, pulled, fetched, took_chunk, received};
-ghost use Rattle.oc_world.specs.SpreadWorld.{down};
-ghost use Rattle.oc_world.specs.Groups.{pull_answer};
+ghost use Rattle.oc_base.specs.Lawful.{IsNode};
+ghost use Rattle.oc_keep.specs.KeptView.{header, header_of, node_of};
+ghost use Rattle.oc_keep.specs.Promises.{IsSameNode};
+ghost use Rattle.oc_laws_step.specs.LawfulNode.{IsLawfulControl};
+ghost use Rattle.oc_model.specs.Lawful.{IsHeader, IsInput};
+ghost use Rattle.oc_model.specs.NextWorld.{keeps_write, stopped};
+ghost use Rattle.oc_model.specs.Node.{new_node, restarted};
+ghost use Rattle.oc_model.specs.Step.{step};
+ghost use Rattle.oc_model.specs.World.{down};
+ghost use Rattle.oc_stage.specs.Sight.{sight_of};
+ghost use Rattle.oc_world.specs.Standing.{IsRunning, is_running};
 
-use crate::groups;
-use oc_base::{Group, GroupName, Memory, NodeId, Shelf, ShelfList};
-use oc_model::{Answer, Body, Message};
+use crate::net::Net;
+use crate::sight::sight_of;
+use crate::standing::{Files, Standing};
+use crate::{Sight, acting, starting, stopping};
+use oc_base::{Memory, NodeId, Shelf};
+use oc_keep::{Kept, Node};
+use oc_model::{Answer, Input};
+use oc_outside::MemDisk;
 use std::alloc::Global;
 use std::marker::Model;
+use std::mem;
 
-/// A node in memory. Its groups stay when it goes down.
+/// A node on its files, which stay when it goes down. Contracts see the model's process: where the node
+/// is down, the node that its files recover. Every crash leaves what is durable of it.
 #[derive(Drop)]
-pub struct Process {
+pub(crate) struct Process {
+    alloc: Global,
     id: NodeId,
-    up: bool,
-    groups: Vec<Group>,
+    nodes: u32,
+    chain: u32,
+    /// The area of each node, by its number.
+    areas: Vec<u8>,
+    standing: Standing,
 }
 
 impl Model for Process {
-    ghost use Rattle.oc_world.specs.SpreadWorld.{Process as ProcessState};
-    ghost use Rattle.oc_base.specs.Groups.{IsAscending};
-    ghost use Rattle.oc_world.specs.Groups.{idle_node};
+    ghost use Rattle.oc_model.specs.World.{Process as ProcessState};
+    ghost use Rattle.oc_base.specs.Lawful.{IsNode};
+    ghost use Rattle.oc_keep.specs.KeptView.{header};
+    ghost use Rattle.oc_model.specs.Lawful.{IsHeader};
+    ghost use Rattle.oc_world.specs.Standing.{Stands, process_of};
 
     ghost Value = { ProcessState };
 
-    ghost view = { λ p. record { node = idle_node p.id p.groups.items; up = p.up } };
+    ghost view = { λ p. process_of (header p.nodes p.chain p.areas.items) p.id p.standing };
 
-    ghost invariant = { λ p. IsAscending p.groups.items };
-}
-
-/// Whether this is node 1, which alone publishes and seals.
-fn is_source(id: NodeId) -> bool
-    ensures { result ≡ (id == 1) }
-{
-    id.0 == 1
+    ghost invariant = { λ p. IsHeader (header p.nodes p.chain p.areas.items) × IsNode p.nodes p.id
+        × Stands (header p.nodes p.chain p.areas.items) p.id p.standing };
 }
 
 impl Process {
-    /// A new node that is down.
-    pub fn new(alloc: Global, id: NodeId) -> Process
-        ensures { result ≡ down id }
+    /// A new node that is down, on empty files.
+    pub(crate) fn new(
+        alloc: Global,
+        id: NodeId,
+        nodes: u32,
+        chain: u32,
+        areas: &[u8],
+    ) -> Result<Process, Memory>
+        requires header { IsHeader (header nodes chain areas.now) }
+        requires id { IsNode nodes id }
+        ensures { IfOk result (λ process. process ≡ down (new_node (header nodes chain areas.now) id)) }
     {
-        Process {
+        let areas = areas.to_vec(alloc)?;
+        Ok(Process {
+            alloc,
             id,
-            up: false,
-            groups: Vec::new(alloc),
-        }
+            nodes,
+            chain,
+            areas,
+            standing: Standing::Stopped(Files::empty(alloc)),
+        })
     }
 
-    pub fn is_up(&self) -> bool
+    /// Whether the node is up.
+    pub(crate) fn is_up(&self) -> bool
         ensures { result ≡ self.now.up }
     {
-        self.up
+        matches!(self.standing, Standing::Running(_))
     }
 
-    /// A start: what was held is held, and nothing else is left.
-    pub fn start(&mut self)
-        ensures { self.new ≡ record { node = self.old.node; up = true } }
+    /// The node on its files, where it is up.
+    fn kept(&self) -> &Kept<MemDisk>
+        requires { self.now.up ≡ true }
+        ensures { node_of result.now ≡ self.now.node }
     {
-        self.up = true;
+        match &self.standing {
+            Standing::Running(kept) => kept,
+            Standing::Stopped(_) => unreachable!(),
+        }
     }
 
-    /// All groups with their lengths and seals.
-    pub fn shelf(&self, alloc: Global) -> Result<Vec<Shelf>, Memory>
+    /// The node, where it is up.
+    pub(crate) fn node(&self) -> &Node
+        requires { self.now.up ≡ true }
+        ensures control { result.now.control ≡ self.now.node.control }
+        ensures lawful { IsLawfulControl self.now.node.control.nodes self.now.node.control }
+    {
+        let node = self.kept().node();
+        let _nodes = node.nodes();
+        node
+    }
+
+    /// A start of a node that is down. Where memory is wanted, the node stays as it is.
+    pub(crate) fn start(&mut self) -> Result<(), Memory>
+        requires { self.old.up ≡ false }
+        ensures ok { OnOk result (self.new ≡ record { node = restarted self.old.node; up = true }) }
+        ensures err { OnErr result (self.new ≡ self.old) }
+    {
+        let kept = self.load()?;
+        self.standing = Standing::Running(kept);
+        Ok(())
+    }
+
+    /// The node that the files of one that is down recover, on copies of them.
+    fn load(&self) -> Result<Kept<MemDisk>, Memory>
+        requires { self.now.up ≡ false }
+        ensures running { IfOk result (λ kept. IsRunning (header_of self.now.node.control) self.now.node.control.me kept) }
+        ensures node { IfOk result (λ kept. node_of kept ≡ self.now.node) }
+    {
+        match &self.standing {
+            Standing::Running(_) => unreachable!(),
+            Standing::Stopped(files) => starting::load(
+                self.alloc,
+                files,
+                self.id,
+                self.nodes,
+                self.chain,
+                &self.areas,
+            ),
+        }
+    }
+
+    /// A crash of a node that is up.
+    pub(crate) fn crash(&mut self)
+        requires { self.old.up ≡ true }
+        ensures { self.new ≡ stopped self.old.node }
+    {
+        let empty = Standing::Stopped(Files::empty(self.alloc));
+        let kept = running(mem::replace(&mut self.standing, empty));
+        let files = stopping::crash(kept);
+        self.standing = Standing::Stopped(files);
+    }
+
+    /// An input comes to a node that is up. Where memory is wanted, the node and the net stay as they are.
+    pub(crate) fn act(&mut self, net: &mut Net, input: Input) -> Result<Answer, Memory>
+        requires up { self.old.up ≡ true }
+        requires input { IsInput self.old.node.control.nodes self.old.node.control.me input }
+        requires nodes { net.old.nodes ≡ self.old.node.control.nodes }
+        ensures process { OnOk result (self.new ≡ record { node = (step self.old.node input).node; up = true }) }
+        ensures messages { OnOk result (net.new.messages ≡ net.old.messages ++ (step self.old.node input).sends) }
+        ensures answer { IfOk result (λ answer. answer ≡ (step self.old.node input).answer) }
+        ensures same { IsSameNode self.old.node.control self.new.node.control }
+        ensures nodes { net.new.nodes ≡ net.old.nodes }
+        ensures process_err { OnErr result (self.new ≡ self.old) }
+        ensures messages_err { OnErr result (net.new.messages ≡ net.old.messages) }
+    {
+        match &mut self.standing {
+            Standing::Running(kept) => {
+                let answer = acting::act(self.alloc, kept, net, input);
+                let _node = kept.node();
+                answer
+            }
+            Standing::Stopped(_) => unreachable!(),
+        }
+    }
+
+    /// A stop of a node that is up in the midst of an input, as `stopping::stop` does it. Where memory is
+    /// wanted, the node stays as it is.
+    pub(crate) fn stop(&mut self, input: Input, calls: u8, image: u8) -> Result<bool, Memory>
+        requires up { self.old.up ≡ true }
+        requires input { IsInput self.old.node.control.nodes self.old.node.control.me input }
+        requires calls { calls ≤ 4 }
+        ensures kept_new { IfOk result (λ kept_new. kept_new ≡ keeps_write calls image self.old.node input) }
+        ensures process { OnOk result (self.new ≡ stopped
+            (if keeps_write calls image self.old.node input then (step self.old.node input).node else self.old.node)) }
+        ensures same { IsSameNode self.old.node.control self.new.node.control }
+        ensures process_err { OnErr result (self.new ≡ self.old) }
+    {
+        let empty = Standing::Stopped(Files::empty(self.alloc));
+        let kept = running(mem::replace(&mut self.standing, empty));
+        match stopping::stop(kept, input, calls, image) {
+            Ok(left) => {
+                let (files, kept_new) = left;
+                self.standing = Standing::Stopped(files);
+                Ok(kept_new)
+            }
+            Err(back) => {
+                let (kept, Memory) = back;
+                let _node = kept.node();
+                self.standing = Standing::Running(kept);
+                Err(Memory)
+            }
+        }
+    }
+
+    /// The groups of the node with their lengths and seals, ascending by name.
+    pub(crate) fn held(&self) -> Result<Vec<Shelf>, Memory>
         ensures { IfOk result (λ lines. lines.items ≡ shelf self.now.node.groups) }
     {
-        groups::shelf_of(alloc, &self.groups)
-    }
-
-    /// Takes a publish.
-    pub fn publish(
-        &mut self,
-        alloc: Global,
-        name: &GroupName,
-        bytes: &[u8],
-    ) -> Result<Answer, Memory>
-        ensures ok { IfOk result (λ answer. published self.old.node name.now bytes.now
-            ≡ record { node = self.new.node; sends = []; answer = answer }) }
-        ensures up { self.new.up ≡ self.old.up }
-        ensures err { OnErr result (self.new ≡ self.old) }
-    {
-        if !is_source(self.id) {
-            return Ok(Answer::NotSource);
+        if self.is_up() {
+            return Ok(self.kept().shelf().to_vec(self.alloc)?);
         }
-        groups::publish(alloc, &mut self.groups, name, bytes)
+        let kept = self.load()?;
+        Ok(kept.shelf().to_vec(self.alloc)?)
     }
 
-    /// Takes a seal.
-    pub fn seal(&mut self, name: &GroupName) -> Answer
-        ensures outcome { sealed_at self.old.node name.now
-            ≡ record { node = self.new.node; sends = []; answer = result } }
-        ensures up { self.new.up ≡ self.old.up }
+    /// How the node stands.
+    pub(crate) fn sight(&self) -> Result<Sight, Memory>
+        ensures { IfOk result (λ sight. sight ≡ sight_of self.now.node.control self.now.up) }
     {
-        if !is_source(self.id) {
-            return Answer::NotSource;
+        if self.is_up() {
+            return sight_of(self.kept(), true);
         }
-        groups::seal(&mut self.groups, name)
-    }
-
-    /// Takes a chunk.
-    pub fn take_chunk(
-        &mut self,
-        alloc: Global,
-        name: &GroupName,
-        start: u64,
-        bytes: &[u8],
-        last: bool,
-    ) -> Result<Answer, Memory>
-        ensures ok { IfOk result (λ answer. (from : ℕ) → took_chunk self.old.node from name.now start bytes.now last
-            ≡ record { node = self.new.node; sends = []; answer = answer }) }
-        ensures up { self.new.up ≡ self.old.up }
-        ensures err { OnErr result (self.new ≡ self.old) }
-    {
-        if is_source(self.id) {
-            return Ok(Answer::Ignored);
-        }
-        groups::take_chunk(alloc, &mut self.groups, name, start, bytes, last)
-    }
-
-    /// The chunk that answers a fetch from `to`, if that node is behind in any group.
-    pub fn answer_fetch(
-        &self,
-        alloc: Global,
-        to: NodeId,
-        have: &[Shelf],
-    ) -> Result<Option<Message>, Memory>
-        ensures { IfOk result (λ reply. fetched self.now.node to have.now
-            ≡ record { node = self.now.node; sends = option_to_list reply; answer = Answer.Ok }) }
-    {
-        groups::answer_fetch(alloc, self.id, &self.groups, to, have)
-    }
-
-    /// The fetch by which this node asks `peer` for more; none to itself.
-    pub fn pull(&self, alloc: Global, peer: NodeId) -> Result<Option<Message>, Memory>
-        ensures { IfOk result (λ sent. pulled self.now.node peer
-            ≡ record { node = self.now.node; sends = option_to_list sent; answer = pull_answer sent }) }
-    {
-        if peer == self.id {
-            return Ok(None);
-        }
-        let have = ShelfList::of(groups::shelf_of(alloc, &self.groups)?);
-        Ok(Some(Message {
-            from: self.id,
-            to: peer,
-            body: Body::Fetch { have },
-        }))
+        let kept = self.load()?;
+        let sight = sight_of(&kept, false)?;
+        Ok(sight)
     }
 }
 
-/// What a process does with a message that arrived: the message that it sends, if any, and its answer.
-pub fn receive(
-    alloc: Global,
-    process: &mut Process,
-    message: &Message,
-) -> Result<(Option<Message>, Answer), Memory>
-    ensures ok { IfOk result (λ done. received process.old.node message.now.from message.now.body
-        ≡ record { node = process.new.node; sends = option_to_list done.0; answer = done.1 }) }
-    ensures up { process.new.up ≡ process.old.up }
-    ensures err { OnErr result (process.new ≡ process.old) }
+/// The node of a standing that runs.
+fn running(standing: Standing) -> Kept<MemDisk>
+    requires { is_running standing ≡ true }
+    ensures { standing ≡ Standing.Running result }
 {
-    match &message.body {
-        Body::Fetch { have } => {
-            let reply = process.answer_fetch(alloc, message.from, have.items())?;
-            Ok((reply, Answer::Ok))
-        }
-        Body::Chunk {
-            group,
-            start,
-            bytes,
-            last,
-        } => {
-            let answer = process.take_chunk(alloc, group, *start, bytes.items(), *last)?;
-            Ok((None, answer))
-        }
-        _ => Ok((None, Answer::Ignored)),
+    match standing {
+        Standing::Running(kept) => kept,
+        Standing::Stopped(_) => unreachable!(),
     }
 }

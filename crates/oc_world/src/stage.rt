@@ -1,81 +1,59 @@
-ghost use Rattle.std.specs.Prelude.{◌≡◌, ℕ, ◌<◌, List, [], length, OnOk, IfOk};
-ghost use Rattle.std.specs.List.{range_with_len};
-ghost use Rattle.oc_model.specs.declared.event.Event.{Event as ModelEvent};
-ghost use Rattle.oc_model.specs.declared.word.Word.{Word as ModelWord};
-ghost use Rattle.oc_base.specs.Groups.{shelf};
+//! A world is a stage: its three functions are those of the model.
+
+ghost use Rattle.std.specs.Prelude.{◌≡◌, OnOk, OnErr};
 ghost use Rattle.oc_model.specs.Lawful.{IsHeader};
-ghost use Rattle.oc_base.specs.Lawful.{IsNode};
-ghost use Rattle.oc_model.specs.Playable.{IsPlayable};
-ghost use Rattle.oc_model.specs.Node.{Header};
-ghost use Rattle.oc_model.specs.WorldBounds.{IsLater};
-ghost use Rattle.oc_model.specs.World.{World as WorldState, ids, node as node_in, message_at};
-ghost use Rattle.oc_world.specs.Stage.{IsSaid, IsBlank, KeepsTime, KeepsLimits};
+ghost use Rattle.oc_model.specs.World.{new_world as opened_world};
 
+use crate::{Said, Sight, Stage, World};
 use oc_base::{Memory, NodeId, Shelf};
-use oc_model::{Event, Message, Word};
+use oc_model::{Event, Message};
 
-/// What is said of an event: its word, and the messages that it sent.
-#[derive(Clone, Copy, Debug, PartialEq, Eq)]
-pub struct Said {
-    pub word: Word,
-    /// The number of the first message that the event sent, or of the next to come where it sent none.
-    pub first: u64,
-    /// How many messages it sent.
-    pub count: u64,
-}
+impl Stage for World {
+    ghost use Rattle.oc_model.specs.NextWorld.{next_world, word_of};
+    ghost use Rattle.oc_model.specs.World.{new_world};
+    ghost use Rattle.oc_stage.specs.WorldLaws.{world_ids, world_keeps_limits, world_keeps_time, world_later, world_opens};
 
-/// What a replay plays on. It shows a world of the model.
-///
-/// Each stage type says which world a header opens, which world an event leads to, and in which
-/// word. So whoever writes a report over a stage of any type knows a word only from the stage. The
-/// laws below the calls hold of every stage: what a caller may know of a world whatever its type.
-pub trait Stage {
-    /// The world that it shows.
-    ghost world: { Self → WorldState };
+    ghost world = { λ w. w };
 
-    /// The world that a header opens.
-    ghost first: { Header → WorldState };
+    ghost first = { new_world };
 
-    /// The world after an event.
-    ghost after: { WorldState → ModelEvent → WorldState };
+    ghost after = { next_world };
 
-    /// The word of an event.
-    ghost word: { WorldState → ModelEvent → ModelWord };
+    ghost word = { word_of };
 
-    /// Opens the world of a header: 1 to 1,024 nodes, a chain of 1 to 16 and no more than the nodes,
-    /// and the area of each node, ascending by id. Nothing is said of the stage after want of memory.
+    /// Where memory is wanted, the world stays as it was.
     fn open(&mut self, nodes: u32, chain: u32, areas: &[u8]) -> Result<(), Memory>
         requires { IsHeader (record { nodes = nodes; chain = chain; areas = areas.now }) }
-        ensures { OnOk result (world self.new ≡ first (record { nodes = nodes; chain = chain; areas = areas.now })) };
+        ensures opened { OnOk result (self.new ≡ opened_world (record { nodes = nodes; chain = chain; areas = areas.now })) }
+        ensures err { OnErr result (self.new ≡ self.old) }
+    {
+        *self = World::new(self.alloc, nodes, chain, areas)?;
+        Ok(())
+    }
 
-    /// Does what an event does, one that the program plays, within its ranges. Nothing is said of the
-    /// stage after want of memory.
-    fn event(&mut self, event: &Event) -> Result<Said, Memory>
-        requires { IsPlayable (length (ids (world self.old))) event.now }
-        ensures world { OnOk result (world self.new ≡ after (world self.old) event.now) }
-        ensures said { IfOk result (λ said. IsSaid (word (world self.old) event.now) (world self.old) (world self.new) said) };
+    fn event(&mut self, event: &Event) -> Result<Said, Memory> {
+        self.event(event)
+    }
 
-    /// The message of this number, counted from 1 over all that were sent; none where there is none.
-    fn message(&self, number: u64) -> Result<Option<Message>, Memory>
-        ensures { IfOk result (λ found. found ≡ message_at (world self.now).net number) };
+    fn message(&self, number: u64) -> Result<Option<Message>, Memory> {
+        self.message(number)
+    }
 
-    /// The groups of a node with their lengths and seals, ascending by name.
-    fn held(&self, node: NodeId) -> Result<Vec<Shelf>, Memory>
-        requires { IsNode (length (ids (world self.now))) node }
-        ensures { IfOk result (λ lines. lines.items ≡ shelf (node_in (world self.now) node).groups) };
+    fn held(&self, node: NodeId) -> Result<Vec<Shelf>, Memory> {
+        self.held(node)
+    }
 
-    /// The world of a header has its nodes; nothing was sent, nothing is held, and no clock is past 2^40.
-    ghost opens: { (h : Header) → IsHeader h → IsBlank h (first h) };
+    fn sight(&self, node: NodeId) -> Result<Sight, Memory> {
+        self.sight(node)
+    }
 
-    /// An event changes no id.
-    ghost keeps_ids: { (w : WorldState) (e : ModelEvent) → IsPlayable (length (ids w)) e → ids (after w e) ≡ ids w };
+    ghost opens = { world_opens };
 
-    /// All that was sent stays sent.
-    ghost keeps_net: { (w : WorldState) (e : ModelEvent) → IsPlayable (length (ids w)) e → IsLater w (after w e) };
+    ghost keeps_ids = { world_ids };
 
-    /// An event takes no clock past the latest one, or past 2^40, by more than 60 seconds.
-    ghost keeps_time: { (w : WorldState) (e : ModelEvent) → IsPlayable (length (ids w)) e → KeepsTime w (after w e) };
+    ghost keeps_net = { world_later };
 
-    /// Where each node's groups ascend by name and are within the limits, they are so after an event.
-    ghost keeps_limits: { (w : WorldState) (e : ModelEvent) → IsPlayable (length (ids w)) e → KeepsLimits w (after w e) };
+    ghost keeps_time = { world_keeps_time };
+
+    ghost keeps_limits = { world_keeps_limits };
 }

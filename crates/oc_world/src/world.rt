@@ -1,41 +1,56 @@
-ghost use Rattle.std.specs.Prelude.{◌≡◌, ℕ, [], length, IfOk, OnOk, OnErr};
+ghost use Rattle.std.specs.Prelude.{◌≡◌, ◌↔◌, ◌≤◌, [], length, option_map, if◌then◌else◌, IsTrue, IfOk, OnOk, OnErr};
 ghost use Rattle.oc_base.specs.Groups.{shelf};
-ghost use Rattle.oc_model.specs.Lawful.{IsHeader};
 ghost use Rattle.oc_base.specs.Lawful.{IsNode};
-ghost use Rattle.oc_model.specs.Playable.{IsPlayable};
-ghost use Rattle.oc_model.specs.NextWorld.{next_world, word_of};
-ghost use Rattle.oc_model.specs.World.{ids, node as node_in, message_at, new_world};
-ghost use Rattle.oc_world.specs.Stage.{IsSaid};
+ghost use Rattle.std.specs.List.{range_with_len};
+ghost use Rattle.oc_base.specs.declared.limits.TheConstants.{MAX_NODES};
+ghost use Rattle.oc_calm.specs.Cluster.{HasChain, IsStepOf, IsUpNode, is_ack};
+ghost use Rattle.oc_keep.specs.KeptView.{header};
+ghost use Rattle.oc_laws_step.specs.LawfulNode.{IsLawfulControl};
+ghost use Rattle.oc_model.specs.Lawful.{IsEvent, IsHeader, IsInput};
+ghost use Rattle.oc_model.specs.NextWorld.{crashed, next_world, started, stopped_at, word_of, word_of_act, word_of_stop};
+ghost use Rattle.oc_model.specs.Ready.{IsSettled};
+ghost use Rattle.oc_model.specs.Runs.{last_body};
+ghost use Rattle.oc_model.specs.World.{acted, after_act, aimed, ids, is_up, message_at, new_world, node as node_in, process};
+ghost use Rattle.oc_model.specs.declared.event.Event.TheVariants.{Crash, Do, Stop, Up};
+ghost use Rattle.oc_stage.specs.Sight.{sight_in};
+ghost use Rattle.oc_stage.specs.Stage.{HasTimeFor, IsSaid};
+ghost use Rattle.oc_world.specs.Inside.{IsLeftBy};
+ghost use Rattle.oc_world.specs.Net.{IsTextOf};
 
-use crate::network::Network;
-use crate::{Said, Stage};
+use crate::aims::{Aim, aim_of, message_place};
+use crate::net::Net;
+use crate::process::Process;
+use crate::{Said, Sight};
 use oc_base::{Memory, NodeId, Shelf};
-use oc_model::{Event, Message};
+use oc_calm::{heal, is_settled, settle};
+use oc_keep::Node;
+use oc_laws_world::tests_decide;
+use oc_model::{Act, Answer, Event, Input, Message, Word};
 use std::alloc::Global;
 use std::marker::Model;
 
-/// A world in memory: the network, and the header that opened it.
+/// All nodes of a network on their files, and every message between them.
 ///
-/// It is seen as a world of the model whose source is what node 1 holds. As a [`Stage`] its three
-/// functions are the model's: `new_world`, `next_world` and `word_of`. It plays the events that
-/// build no tree, so the control state of each node is that of a new one.
+/// It is seen as a world of the model: a node that is down is what its files recover, and the source is
+/// what node 1 holds. Every crash leaves what is durable of each node.
 #[derive(Drop)]
 pub struct World {
-    nodes: u32,
+    pub(crate) alloc: Global,
     chain: u32,
-    areas: Vec<u8>,
-    network: Network,
+    /// The nodes, in the order of their numbers.
+    processes: Vec<Process>,
+    net: Net,
 }
 
 impl Model for World {
     ghost use Rattle.oc_model.specs.World.{World as WorldState};
-    ghost use Rattle.oc_world.specs.Lifts.{lifted_world, IsSpread};
+    ghost use Rattle.oc_world.specs.World.{IsNetwork, world_of};
 
     ghost Value = { WorldState };
 
-    ghost view = { λ w. lifted_world (record { nodes = w.nodes; chain = w.chain; areas = w.areas.items }) w.network };
+    ghost view = { λ w. world_of w.processes.items w.net.messages };
 
-    ghost invariant = { λ w. IsSpread w.network };
+    ghost invariant = { λ w. IsNetwork w.chain w.processes.items w.net.nodes };
 }
 
 impl World {
@@ -44,96 +59,299 @@ impl World {
         ensures { result ≡ record { processes = []; net = []; source = [] } }
     {
         World {
-            nodes: 0,
+            alloc,
             chain: 0,
-            areas: Vec::new(alloc),
-            network: Network::empty(alloc),
+            processes: Vec::new(alloc),
+            net: Net::new(alloc, 0),
         }
     }
 
-    /// The world of a header, where all nodes are down and new, and nothing was sent. There are 1 to
-    /// 1,024 nodes, a chain of 1 to 16 and no more than the nodes, and an area for each node.
+    /// The world of a header, where all nodes are down on empty files, and nothing was sent. There are 1
+    /// to 1,024 nodes, a chain of 1 to 16 and no more than the nodes, and an area for each node.
     pub fn new(alloc: Global, nodes: u32, chain: u32, areas: &[u8]) -> Result<World, Memory>
-        requires { IsHeader (record { nodes = nodes; chain = chain; areas = areas.now }) }
-        ensures { IfOk result (λ world. world ≡ new_world (record { nodes = nodes; chain = chain; areas = areas.now })) }
+        requires { IsHeader (header nodes chain areas.now) }
+        ensures { IfOk result (λ world. world ≡ new_world (header nodes chain areas.now)) }
     {
         Ok(World {
-            nodes,
+            alloc,
             chain,
-            areas: Vec::from_slice(alloc, areas)?,
-            network: Network::new(alloc, nodes)?,
+            processes: new_processes(alloc, nodes, chain, areas)?,
+            net: Net::new(alloc, nodes),
         })
     }
 
-    /// Does what an event does. Where memory is wanted, the world stays as it was. It is wanted, too,
+    /// Does what an event does. Settle and heal are given only where no clock of a node that is up is
+    /// past the second 2^41 - 60.
+    ///
+    /// Where memory is wanted, the world stays as it was, or for settle and heal as it was before one of
+    /// the acts that they are made of; the files of a node may have been turned over. It is wanted, too,
     /// once 2^63 - 2 messages were sent.
     pub fn event(&mut self, event: &Event) -> Result<Said, Memory>
-        requires { IsPlayable (length (ids self.old)) event.now }
+        requires event { IsEvent (length (ids self.old)) event.now }
+        requires time { HasTimeFor self.old event.now }
         ensures world { OnOk result (self.new ≡ next_world self.old event.now) }
         ensures said { IfOk result (λ said. IsSaid (word_of self.old event.now) self.old self.new said) }
-        ensures err { OnErr result (self.new ≡ self.old) }
+        ensures err { OnErr result (IsLeftBy event.now self.old self.new) }
     {
-        self.network.event(event)
+        let sent = self.net.len();
+        let word = self.happen(event)?;
+        Ok(Said {
+            word,
+            first: sent as u64 + 1,
+            count: (self.net.len() - sent) as u64,
+        })
     }
 
-    /// The message of this number, counted from 1 over all that were sent; none where there is none.
+    /// Does what an event does, and answers its word.
+    fn happen(&mut self, event: &Event) -> Result<Word, Memory>
+        requires event { IsEvent (length (ids self.old)) event.now }
+        requires time { HasTimeFor self.old event.now }
+        ensures world { OnOk result (self.new ≡ next_world self.old event.now) }
+        ensures word { IfOk result (λ word. word ≡ word_of self.old event.now) }
+        ensures err { OnErr result (IsLeftBy event.now self.old self.new) }
+    {
+        match event {
+            Event::Up(node) => self.start(*node),
+            Event::Crash(node) => Ok(self.crash(*node)),
+            Event::Stop { calls, image, act } => self.stop(act, *calls, *image),
+            Event::Do(act) => self.take(act),
+            Event::Held(_) | Event::Show(_) => Ok(Word::Node(Answer::Ok)),
+            Event::Settle => settle(self.alloc, self),
+            Event::Heal => heal(self.alloc, self),
+        }
+    }
+
+    /// The node starts from its files.
+    fn start(&mut self, node: NodeId) -> Result<Word, Memory>
+        requires { IsNode (length (ids self.old)) node }
+        ensures world { OnOk result (self.new ≡ started self.old (process self.old node)) }
+        ensures word { IfOk result (λ word. word ≡ word_of self.old (Up node)) }
+        ensures err { OnErr result (self.new ≡ self.old) }
+    {
+        let at = node.index();
+        if self.processes[at].is_up() {
+            return Ok(Word::Up);
+        }
+        let process = &mut self.processes[at];
+        process.start()?;
+        Ok(Word::Node(Answer::Ok))
+    }
+
+    /// The node stops between two inputs.
+    fn crash(&mut self, node: NodeId) -> Word
+        requires { IsNode (length (ids self.old)) node }
+        ensures world { self.new ≡ crashed self.old (process self.old node) }
+        ensures word { result ≡ word_of self.old (Crash node) }
+    {
+        let at = node.index();
+        if !self.processes[at].is_up() {
+            return Word::Down;
+        }
+        let process = &mut self.processes[at];
+        process.crash();
+        Word::Node(Answer::Ok)
+    }
+
+    /// An act, and the word of its node.
+    pub(crate) fn take(&mut self, act: &Act) -> Result<Word, Memory>
+        requires { IsStepOf self.old act.now }
+        ensures world { OnOk result (self.new ≡ after_act self.old act.now) }
+        ensures word { IfOk result (λ word. word ≡ word_of_act self.old (aimed self.old act.now)) }
+        ensures err { OnErr result (self.new ≡ self.old) }
+    {
+        match aim_of(&self.net, act)? {
+            None => Ok(Word::NoMessage),
+            Some(Aim { node, input }) => self.act_at(node, input),
+        }
+    }
+
+    /// Does what an act does.
+    pub(crate) fn play(&mut self, act: &Act) -> Result<(), Memory>
+        requires { IsStepOf self.old act.now }
+        ensures world { OnOk result (self.new ≡ after_act self.old act.now) }
+        ensures err { OnErr result (self.new ≡ self.old) }
+    {
+        match self.take(act) {
+            Ok(_) => Ok(()),
+            Err(Memory) => Err(Memory),
+        }
+    }
+
+    /// An input comes to a node.
+    fn act_at(&mut self, node: NodeId, input: Input) -> Result<Word, Memory>
+        requires node { IsNode (length (ids self.old)) node }
+        requires input { IsInput (length (ids self.old)) node input }
+        ensures world { OnOk result (self.new ≡ acted self.old (Some (record { at = node; input = input }))) }
+        ensures word { IfOk result (λ word. word ≡ word_of_act self.old (Some (record { at = node; input = input }))) }
+        ensures err { OnErr result (self.new ≡ self.old) }
+    {
+        let at = node.index();
+        if !self.processes[at].is_up() {
+            return Ok(Word::Down);
+        }
+        let process = &mut self.processes[at];
+        let answer = process.act(&mut self.net, input)?;
+        Ok(Word::Node(answer))
+    }
+
+    /// An act, in which the node stops once so many calls on its disk have worked.
+    fn stop(&mut self, act: &Act, calls: u8, image: u8) -> Result<Word, Memory>
+        requires act { IsStepOf self.old act.now }
+        requires calls { calls ≤ 4 }
+        ensures world { OnOk result (self.new ≡ stopped_at self.old calls image (aimed self.old act.now)) }
+        ensures word { IfOk result (λ word. word ≡ word_of_stop self.old calls image (aimed self.old act.now)) }
+        ensures err { OnErr result (self.new ≡ self.old) }
+    {
+        match aim_of(&self.net, act)? {
+            None => Ok(Word::NoMessage),
+            Some(Aim { node, input }) => self.stop_at(node, input, calls, image),
+        }
+    }
+
+    /// An input comes to a node, which stops in it.
+    fn stop_at(&mut self, node: NodeId, input: Input, calls: u8, image: u8) -> Result<Word, Memory>
+        requires node { IsNode (length (ids self.old)) node }
+        requires input { IsInput (length (ids self.old)) node input }
+        requires calls { calls ≤ 4 }
+        ensures world { OnOk result (self.new ≡ stopped_at self.old calls image (Some (record { at = node; input = input }))) }
+        ensures word { IfOk result (λ word. word ≡ word_of_stop self.old calls image (Some (record { at = node; input = input }))) }
+        ensures err { OnErr result (self.new ≡ self.old) }
+    {
+        let at = node.index();
+        if !self.processes[at].is_up() {
+            return Ok(Word::Down);
+        }
+        let process = &mut self.processes[at];
+        let kept_new = process.stop(input, calls, image)?;
+        Ok(stop_word(kept_new))
+    }
+
+    /// The message of this number, counted from 1 over all that were sent; none where there is none. It is
+    /// read from its text.
     pub fn message(&self, number: u64) -> Result<Option<Message>, Memory>
         ensures { IfOk result (λ found. found ≡ message_at self.now.net number) }
     {
-        self.network.message(number)
+        match message_place(number, self.net.len()) {
+            None => Ok(None),
+            Some(at) => Ok(Some(self.net.message(at)?)),
+        }
     }
 
-    /// The groups of a node with their lengths and seals, ascending by name.
+    /// The text of the message of this number, the request that brings it to its receiver; none where
+    /// there is no such message.
+    pub fn text(&self, number: u64) -> Option<&[u8]>
+        ensures { IsTextOf (message_at self.now.net number) (option_map (λ t. t.now) result) }
+    {
+        let at = message_place(number, self.net.len())?;
+        Some(self.net.text(at))
+    }
+
+    /// The groups of a node with their lengths and seals, ascending by name; those that the files recover,
+    /// where the node is down.
     pub fn held(&self, node: NodeId) -> Result<Vec<Shelf>, Memory>
         requires { IsNode (length (ids self.now)) node }
         ensures { IfOk result (λ lines. lines.items ≡ shelf (node_in self.now node).groups) }
     {
-        self.network.held(node)
+        let at = node.index();
+        let process = &self.processes[at];
+        let lines = process.held()?;
+        Ok(lines)
+    }
+
+    /// How a node stands; what its files recover, where it is down.
+    pub fn sight(&self, node: NodeId) -> Result<Sight, Memory>
+        requires { IsNode (length (ids self.now)) node }
+        ensures { IfOk result (λ sight. sight ≡ sight_in self.now node) }
+    {
+        let at = node.index();
+        let process = &self.processes[at];
+        let sight = process.sight()?;
+        Ok(sight)
+    }
+
+    /// Whether the world is settled: one node that is up acts as root, every other one that is up has a true
+    /// chain to it and its lease, no other lease stands, and nothing waits to be told. It takes no memory.
+    pub fn settled(&self) -> bool
+        ensures { IsTrue result ↔ IsSettled self.now }
+    {
+        tests_decide();
+        is_settled(self)
+    }
+
+    /// A node that is up.
+    pub(crate) fn node(&self, node: NodeId) -> &Node
+        requires { IsUpNode self.now node }
+        ensures control { result.now.control ≡ (node_in self.now node).control }
+        ensures lawful { IsLawfulControl (length (ids self.now)) (node_in self.now node).control }
+    {
+        let at = node.index();
+        let process = &self.processes[at];
+        process.node()
+    }
+
+    /// Whether a node is up.
+    pub(crate) fn runs(&self, node: NodeId) -> bool
+        requires { IsNode (length (ids self.now)) node }
+        ensures { result ≡ is_up self.now node }
+    {
+        let at = node.index();
+        self.processes[at].is_up()
+    }
+
+    /// How many nodes there are.
+    pub(crate) fn count(&self) -> u32
+        ensures ids { ids self.now ≡ range_with_len 1 result }
+        ensures few { result ≤ MAX_NODES }
+    {
+        self.processes.len() as u32
+    }
+
+    /// How many messages were ever sent.
+    pub(crate) fn sent_count(&self) -> u64
+        ensures { result ≡ length self.now.net }
+    {
+        self.net.len() as u64
+    }
+
+    /// Whether the message that was sent last acknowledges a check-in.
+    pub(crate) fn ends_with_ack(&self) -> bool
+        ensures { result ≡ is_ack (last_body self.now) }
+    {
+        self.net.ends_with_ack()
+    }
+
+    /// The length of the chain.
+    pub(crate) fn chain_length(&self) -> u32
+        ensures { HasChain self.now result }
+    {
+        self.chain
     }
 }
 
-impl Stage for World {
-    ghost use Rattle.oc_model.specs.NextWorld.{next_world, word_of};
-    ghost use Rattle.oc_model.specs.World.{new_world};
-    ghost use Rattle.oc_world.specs.WorldLaws.{world_opens, world_ids, world_later, world_keeps_time, world_keeps_limits};
-
-    ghost world = { λ w. w };
-
-    ghost first = { new_world };
-
-    ghost after = { next_world };
-
-    ghost word = { word_of };
-
-    /// Where memory is wanted, the world stays as it was.
-    fn open(&mut self, nodes: u32, chain: u32, areas: &[u8]) -> Result<(), Memory>
-        requires { IsHeader (record { nodes = nodes; chain = chain; areas = areas.now }) }
-        ensures opened { OnOk result (self.new ≡ new_world (record { nodes = nodes; chain = chain; areas = areas.now })) }
-        ensures err { OnErr result (self.new ≡ self.old) }
-    {
-        *self = World::new(self.network.alloc(), nodes, chain, areas)?;
-        Ok(())
+/// The word of a stop, by whether what was about to be written was kept.
+fn stop_word(kept_new: bool) -> Word
+    ensures { result ≡ (if kept_new then Word.StoppedNew else Word.StoppedOld) }
+{
+    if kept_new {
+        Word::StoppedNew
+    } else {
+        Word::StoppedOld
     }
+}
 
-    fn event(&mut self, event: &Event) -> Result<Said, Memory> {
-        self.event(event)
+/// The processes of a new world.
+fn new_processes(
+    alloc: Global,
+    nodes: u32,
+    chain: u32,
+    areas: &[u8],
+) -> Result<Vec<Process>, Memory>
+    requires { IsHeader (header nodes chain areas.now) }
+    ensures { IfOk result (λ processes. processes.items ≡ (new_world (header nodes chain areas.now)).processes) }
+{
+    let mut processes = Vec::with_capacity(alloc, nodes as usize)?;
+    for before in 0..nodes {
+        processes.push(Process::new(alloc, NodeId(before + 1), nodes, chain, areas)?)?;
     }
-
-    fn message(&self, number: u64) -> Result<Option<Message>, Memory> {
-        self.message(number)
-    }
-
-    fn held(&self, node: NodeId) -> Result<Vec<Shelf>, Memory> {
-        self.held(node)
-    }
-
-    ghost opens = { world_opens };
-
-    ghost keeps_ids = { world_ids };
-
-    ghost keeps_net = { world_later };
-
-    ghost keeps_time = { world_keeps_time };
-
-    ghost keeps_limits = { world_keeps_limits };
+    Ok(processes)
 }

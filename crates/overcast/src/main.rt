@@ -1,6 +1,9 @@
 //! The program `overcast`: [`run_on_streams`] over the words, the standard streams and a world in memory.
 #![tactic(auto)]
 
+mod law;
+
+use law::world_reports_as_the_model;
 use oc_program::{End, WriterSink, run_on_streams, tell};
 use oc_world::World;
 use std::process::ExitCode;
@@ -15,6 +18,7 @@ fn main(rt: HostRuntime) -> ExitCode {
             return ExitCode::from(end.status().number());
         }
     };
+    world_reports_as_the_model();
     let ran = run_on_streams(
         rt.alloc(),
         words.as_slice(),

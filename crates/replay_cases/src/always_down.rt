@@ -1,12 +1,8 @@
 //! A stage on which nothing happens: the word of each event is `down`.
 
-ghost use Rattle.std.specs.Prelude.{◌≡◌};
-ghost use Rattle.oc_model.specs.Node.{Header};
-ghost use Rattle.oc_model.specs.World.{new_world};
-
-use oc_base::{Memory, NodeId, Shelf};
-use oc_model::{Event, Message, Word};
-use oc_world::{Said, Stage};
+use oc_base::{CertList, IdList, LineList, Memory, NodeId, Shelf};
+use oc_model::{Event, Message, Mode, Word};
+use oc_stage::{Said, Sight, Stage};
 use std::alloc::Global;
 
 /// Whatever the event, the node is down. Its world is the new one of the last header.
@@ -33,7 +29,7 @@ impl Stage for AlwaysDown {
     ghost use Rattle.std.specs.Prelude.{refl};
     ghost use Rattle.oc_model.specs.declared.word.Word.TheVariants.{Down};
     ghost use Rattle.oc_model.specs.World.{new_world};
-    ghost use Rattle.oc_world.specs.WorldLaws.{world_opens, same_net, same_time, same_limits};
+    ghost use Rattle.oc_stage.specs.WorldLaws.{world_opens, same_net, same_time, same_limits};
 
     ghost world = { λ s. new_world (record { nodes = s.nodes; chain = s.chain; areas = s.areas.items }) };
 
@@ -66,13 +62,27 @@ impl Stage for AlwaysDown {
         Ok(Vec::new(self.alloc))
     }
 
+    fn sight(&self, _node: NodeId) -> Result<Sight, Memory> {
+        Ok(Sight {
+            up: false,
+            mode: Mode::Idle,
+            seq: 0,
+            rank: None,
+            acked: 0,
+            length: 0,
+            ancestors: IdList::of(Vec::new(self.alloc)),
+            table: CertList::of(Vec::new(self.alloc)),
+            listed: LineList::of(Vec::new(self.alloc)),
+        })
+    }
+
     ghost opens = { world_opens };
 
     ghost keeps_ids = { λ w e _. refl };
 
     ghost keeps_net = { λ w e _. same_net w };
 
-    ghost keeps_time = { λ w e _. same_time w };
+    ghost keeps_time = { λ w e _ _. same_time w };
 
     ghost keeps_limits = { λ w e _. same_limits w };
 }

@@ -2,7 +2,7 @@
 
 use oc_outside::{MemSink, MemSource};
 use oc_program::run;
-use oc_world::Stage;
+use oc_stage::Stage;
 use std::alloc::{AllocError, Global};
 
 /// The bytes that an output keeps.

@@ -15,16 +15,6 @@ pub enum Verdict {
     Error(usize),
 }
 
-impl Verdict {
-    /// The words of a case that the program does not play yet.
-    pub fn not_yet(self) -> &'static str {
-        match self {
-            Verdict::Same => "is as expected: take it off the list",
-            _ => "not yet",
-        }
-    }
-}
-
 impl fmt::Display for Verdict {
     fn fmt<W: fmt::Write>(&self, f: &mut fmt::Formatter<W>) -> fmt::Result {
         match self {

@@ -24,5 +24,5 @@ returns g c =
     let told = happened_told _ _ _ _ stage input output words end happened in
     record {
       ended = (end, usage, is, written, told);
-      replayed = λ asks. subst (λ n. (n ≡ status_for (schedule_of c.args.input.now)) ⊎ (n ≡ 1) ⊎ (n ≡ 4)) (sym is) (replayed_of c.args.input.now c.traffic.result.bytes _ stage words end asks told);
+      replayed = λ summary asks. subst (λ n. (n ≡ status_for (schedule_of c.args.input.now)) ⊎ (n ≡ 1) ⊎ (n ≡ 4)) (sym is) (replayed_of c.args.input.now c.traffic.result.bytes _ stage summary words end asks told);
     }

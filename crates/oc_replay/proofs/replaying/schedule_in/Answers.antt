@@ -3,7 +3,7 @@ use Rattle.std.proofs.lemmas.Result.{err_from_is_err_and}
 use Rattle.oc_replay.proofs.Limits.{limit-at}
 use Rattle.oc_replay.specs.Ends.{OnMemory, end_of_schedule}
 use Rattle.oc_replay.specs.declared.end.ReplayEnd.{ReplayEnd}
-use Rattle.oc_replay.specs.declared.end.ReplayEnd.TheVariants.{Done, Text, Limit, Unsupported, Source, Sink, Memory}
+use Rattle.oc_replay.specs.declared.end.ReplayEnd.TheVariants.{Done, Text, Limit, Source, Sink, Memory}
 use Rattle.oc_replay.proofs.replaying.schedule_in.Goals as goal
 
 -- the fault of a text that came whole
@@ -18,7 +18,6 @@ on_memory : (P : Type 0) (end : ReplayEnd) → P → OnMemory end P
 on_memory P Done p = tt
 on_memory P (Text line why) p = tt
 on_memory P (Limit what) p = tt
-on_memory P (Unsupported event) p = tt
 on_memory P Source p = tt
 on_memory P Sink p = tt
 on_memory P Memory p = p

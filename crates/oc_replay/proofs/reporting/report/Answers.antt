@@ -1,11 +1,15 @@
-use Rattle.std.proofs.Common.{ℕ, ◌+◌, List, [], length, take, drop, sym, ap, ◌∙◌, subst, arith}
-use Rattle.std.specs.List.{AllByRecursion}
-use Rattle.oc_model.specs.Playable.{IsPlayable}
-use Rattle.oc_model.specs.World.{ids}
+use Rattle.std.proofs.Common.{ℕ, ◌+◌, List, [], take, drop, subst, arith}
 use Rattle.oc_replay.specs.Report.{told_from, run_text}
-use Rattle.oc_replay.proofs.Runs.{All-drop, written-next, written-end, fold-take}
+use Rattle.oc_replay.proofs.Running.{goes_on, next_given}
+use Rattle.oc_replay.proofs.Runs.{written-next, written-end, fold-take}
 use Rattle.oc_replay.proofs.Written.{passes, stops, fails_on}
 use Rattle.oc_replay.proofs.reporting.report.Goals as goal
+
+-- the event leaves the clocks their time
+pub tell-requires-clause-time : goal.tell-requires-clause-time
+tell-requires-clause-time g c =
+    let stage = g.T.Stage in
+    (next_given stage.after (stage.world c.args.stage.now) c.args.events.now c.requires (stage.world c.loop-place.stage) c.index-events-place.result c.loop-place.place (omega arith) c.index-events-place.is c.loop-place.invariant.way).time
 
 -- one event more is gathered, and a front of what is gathered is passed on
 pub loop-place-preserved : goal.loop-place-preserved
@@ -20,11 +24,9 @@ loop-place-preserved g c =
     let next = stage.world c.tell.new.stage in
     let text = run_text stage.after stage.word opened events in
     let written = written-next stage.after stage.word takes c.args.sink.now c.loop-place.sink c.loop-place.out.items c.tell.new.out.items text place world next events event (omega arith) c.index-events-place.is c.in_ok-sent.ensures.world c.in_ok-sent.ensures.text c.loop-place.invariant.written in
-    let lawful = All-drop (IsPlayable (length (ids world))) events place event (omega arith) c.index-events-place.is c.loop-place.invariant.lawful in
     record {
       written = passes takes g.met.K.Sink.takes_then c.args.sink.now c.loop-place.sink c.pass_on.new.sink c.tell.new.out.items c.pass_on.new.out.items (told_from stage.after stage.word (place + 1) next (drop (place + 1) events)) text c.in_ok-pass_on.ensures.passed written;
-      played = fold-take stage.after stage.word place opened world next events event (omega arith) c.index-events-place.is c.in_ok-sent.ensures.world c.loop-place.invariant.played;
-      lawful = subst (λ (xs : List ℕ). AllByRecursion (IsPlayable (length xs)) (drop (place + 1) events)) (sym (ap ids c.in_ok-sent.ensures.world ∙ g.met.T.Stage.keeps_ids world event lawful.0)) lawful.1;
+      way = goes_on stage.after opened events c.requires stage.word g.met.T.Stage.keeps_ids g.met.T.Stage.keeps_time g.met.T.Stage.keeps_limits world next event place (omega arith) c.index-events-place.is c.in_ok-sent.ensures.world c.loop-place.invariant.way;
       sent = c.in_ok-sent.ensures.sent;
       count = omega (arith, c.in_ok-pass_on.ensures.count);
     }
@@ -53,7 +55,7 @@ pub returns-in_err-pass_on-clause-stopped : goal.returns-in_err-pass_on-clause-s
 returns-in_err-pass_on-clause-stopped g c = λ _.
     let stage = g.T.Stage in
     let events = c.args.events.now in
-    (c.loop-place.place + 1, fold-take stage.after stage.word c.loop-place.place (stage.world c.args.stage.now) (stage.world c.loop-place.stage) (stage.world c.tell.new.stage) events c.index-events-place.result (omega arith) c.index-events-place.is c.in_ok-sent.ensures.world c.loop-place.invariant.played)
+    (c.loop-place.place + 1, fold-take stage.after stage.word c.loop-place.place (stage.world c.args.stage.now) (stage.world c.loop-place.stage) (stage.world c.tell.new.stage) events c.index-events-place.result (omega arith) c.index-events-place.is c.in_ok-sent.ensures.world c.loop-place.invariant.way.played)
 
 pub returns-in_err-write_all-clause-failed : goal.returns-in_err-write_all-clause-failed
 returns-in_err-write_all-clause-failed g c = λ _.

@@ -1,9 +1,7 @@
-use Rattle.std.proofs.Common.{◌≡◌, length, take, drop, fold}
-use Rattle.std.specs.List.{AllByRecursion}
-use Rattle.oc_model.specs.Playable.{IsPlayable}
-use Rattle.oc_model.specs.World.{ids}
+use Rattle.std.proofs.Common.{◌≡◌, length, drop}
 use Rattle.oc_outside.specs.Faults.{NoFall}
 use Rattle.oc_replay.specs.Report.{told_from, run_text}
+use Rattle.oc_replay.proofs.Running.{IsOnTheWay}
 use Rattle.oc_replay.proofs.Written.{IsWritten}
 use Rattle.oc_replay.proofs.reporting.report.Given as goal
 
@@ -16,8 +14,7 @@ invariant-loop-place g l =
     let world = g.T.Stage.world l.stage in
     record {
       written : IsWritten g.K.Sink.takes l.fn.sink l.sink l.out.items (told_from after word l.place world (drop l.place l.events)) (run_text after word opened l.events);
-      played : world ≡ fold after opened (take l.place l.events);
-      lawful : AllByRecursion (IsPlayable (length (ids world))) (drop l.place l.events);
+      way : IsOnTheWay after opened world l.events l.place;
       sent : l.sent ≡ length world.net;
       count : NoFall (g.K.Sink.faults l.fn.sink) (g.K.Sink.faults l.sink);
     }

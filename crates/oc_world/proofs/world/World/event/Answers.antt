@@ -1,18 +1,31 @@
-use Rattle.std.proofs.Common.{length}
-use Rattle.oc_model.specs.Node.{Header}
-use Rattle.oc_model.specs.World.{ids}
-use Rattle.oc_world.proofs.LiftedWorlds.{spread_after, world_after_event, said_of_event}
+use Rattle.std.proofs.Common.{length, ap, arith}
+use Rattle.oc_model.specs.NextWorld.{next_world}
+use Rattle.oc_model.specs.World.{World}
+use Rattle.oc_model.proofs.GoesOn.{net-next_world}
+use Rattle.oc_world.proofs.Turns.{later_length}
 use Rattle.oc_world.proofs.world.World.event.Goals as goal
 
-pub invariant_of-self : goal.invariant_of-self
-invariant_of-self c = spread_after c.event.result c.self.inside.network c.event.new.self c.args.event.now c.self.invariant c.event.ensures.network c.event.ensures.err
-
-pub returns-clause-world : goal.returns-clause-world
-returns-clause-world c =
-    let h : Header = record { nodes = c.self.inside.nodes; chain = c.self.inside.chain; areas = c.self.inside.areas.items } in
-    world_after_event c.event.result h c.self.inside.network c.event.new.self c.args.self.now (length (ids c.args.self.now)) c.args.event.now c.requires c.self.invariant c.self.view_is c.event.ensures.network
+pub overflow_sub-result : goal.overflow_sub-result
+overflow_sub-result c =
+    let w = c.args.self.now in
+    let e = c.args.event.now in
+    let later = later_length w (next_world w e) (net-next_world w e) in
+    let before = ap (λ (v : World). length v.net) c.self.view_is in
+    let after = ap (λ (v : World). length v.net) c.self-2.view_is in
+    let next = ap (λ (v : World). length v.net) c.in_ok-word.ensures.world in
+    omega (arith, later, before, after, next, c.len-sent.ensures.length, c.len.ensures.length)
 
 pub returns-clause-said : goal.returns-clause-said
 returns-clause-said c =
-    let h : Header = record { nodes = c.self.inside.nodes; chain = c.self.inside.chain; areas = c.self.inside.areas.items } in
-    said_of_event c.event.result h c.self.inside.network c.event.new.self c.args.self.now (length (ids c.args.self.now)) c.args.event.now c.requires c.self.invariant c.self.view_is c.event.ensures.said
+    let w = c.args.self.now in
+    let e = c.args.event.now in
+    let later = later_length w (next_world w e) (net-next_world w e) in
+    let before = ap (λ (v : World). length v.net) c.self.view_is in
+    let after = ap (λ (v : World). length v.net) c.self-2.view_is in
+    let next = ap (λ (v : World). length v.net) c.in_ok-word.ensures.world in
+    record {
+      word = c.in_ok-word.ensures.word;
+      first = omega (arith, before, c.len-sent.ensures.length);
+      count = omega (arith, later, before, after, next, c.len-sent.ensures.length, c.len.ensures.length);
+      few = omega (arith, after, c.len.ensures.length, c.len.ensures.few);
+    }

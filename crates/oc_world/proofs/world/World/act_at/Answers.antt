@@ -1,0 +1,101 @@
+use Rattle.std.proofs.Common.{◌≡◌, ℕ, true, false, Some, List, slice_set, sym, ap, subst, ◌∙◌}
+use Rattle.oc_model.specs.declared.answer.Answer.{Answer}
+use Rattle.oc_model.specs.declared.message.Message.{Message}
+use Rattle.oc_model.specs.declared.word.Word.TheVariants as words
+use Rattle.oc_model.specs.NextWorld.{word_of_act}
+use Rattle.oc_model.specs.Step.{step}
+use Rattle.oc_model.specs.World.{Process, World, acted}
+use Rattle.oc_world.specs.World.{IsNetwork, world_of}
+use Rattle.oc_world.proofs.Turns.{among_at, input_here, network_acted, read_twice, turn_acted, turn_idle, up_here, within_of, word_acted, word_idle}
+use Rattle.oc_world.proofs.world.World.act_at.Goals as goal
+
+pub returns-then-not-is_up-clause-world : goal.returns-then-not-is_up-clause-world
+returns-then-not-is_up-clause-world c =
+    let s = c.self.inside in
+    let ps = s.processes.items in
+    let net = s.net.messages in
+    let x = c.args.node in
+    let i = c.index-at.result in
+    let at = c.index-at.ensures.next in
+    let is = c.self.invariant in
+    let node = within_of ps net x (rw (← c.self.view_is) at c.requires.node) in
+    let off = up_here ps x i c.index.result.now false is.numbered at node.1 c.index.ensures (sym c.is_up.ensures ∙ c.if-not-is_up.true) in
+    subst (λ (w : World). w ≡ acted w (Some (record { at = x; input = c.args.input }))) c.self.view_is (turn_idle ps net x c.args.input off)
+
+pub returns-then-not-is_up-clause-word : goal.returns-then-not-is_up-clause-word
+returns-then-not-is_up-clause-word c =
+    let s = c.self.inside in
+    let ps = s.processes.items in
+    let net = s.net.messages in
+    let x = c.args.node in
+    let i = c.index-at.result in
+    let at = c.index-at.ensures.next in
+    let is = c.self.invariant in
+    let node = within_of ps net x (rw (← c.self.view_is) at c.requires.node) in
+    let off = up_here ps x i c.index.result.now false is.numbered at node.1 c.index.ensures (sym c.is_up.ensures ∙ c.if-not-is_up.true) in
+    subst (λ (w : World). words.Down ≡ word_of_act w (Some (record { at = x; input = c.args.input }))) c.self.view_is (word_idle ps net x c.args.input off)
+
+pub act-requires-clause-input : goal.act-requires-clause-input
+act-requires-clause-input c =
+    let s = c.self.inside in
+    let ps = s.processes.items in
+    let net = s.net.messages in
+    let x = c.args.node in
+    let i = c.index-at.result in
+    let at = c.index-at.ensures.next in
+    let is = c.self.invariant in
+    let node = within_of ps net x (rw (← c.self.view_is) at c.requires.node) in
+    input_here s.chain s.net.nodes ps net x i c.index_mut-process.result.now c.args.input is at node.1 c.index_mut-process.ensures.value (rw (← c.self.view_is) at c.requires.input)
+
+pub invariant_of-self-2 : goal.invariant_of-self-2
+invariant_of-self-2 c =
+    let s = c.self.inside in
+    let ps = s.processes.items in
+    let net = s.net.messages in
+    let x = c.args.node in
+    let i = c.index-at.result in
+    let at = c.index-at.ensures.next in
+    let is = c.self.invariant in
+    let node = within_of ps net x (rw (← c.self.view_is) at c.requires.node) in
+    let p = c.index_mut-process.result.now in
+    let done = c.in_ok-answer.ensures in
+    subst (λ (n : ℕ). IsNetwork s.chain (slice_set ps i c.act.new.self) n) (sym done.nodes)
+    (network_acted s.chain s.net.nodes ps x i p c.act.new.self c.args.input is at node.1 c.index_mut-process.ensures.value done.same (ap (λ (r : Process). r.node.groups) done.process))
+
+pub returns-clause-world : goal.returns-clause-world
+returns-clause-world c =
+    let s = c.self.inside in
+    let ps = s.processes.items in
+    let net = s.net.messages in
+    let x = c.args.node in
+    let i = c.index-at.result in
+    let at = c.index-at.ensures.next in
+    let is = c.self.invariant in
+    let node = within_of ps net x (rw (← c.self.view_is) at c.requires.node) in
+    let p = c.index_mut-process.result.now in
+    let here = c.index_mut-process.ensures.value in
+    let on : p.up ≡ true = ap (λ (r : Process). r.up) (read_twice ps x i p c.index.result.now is.numbered at node.1 here c.index.ensures) ∙ (sym c.is_up.ensures ∙ c.if-not-is_up.false) in
+    let done = c.in_ok-answer.ensures in
+    let was = among_at s.chain s.net.nodes ps x i p is at node.1 here in
+    let q : Process = record { node = (step p.node c.args.input).node; up = true } in
+    let turned : world_of (slice_set ps i c.act.new.self) c.act.new.net.messages ≡ acted (world_of ps net) (Some (record { at = x; input = c.args.input })) =
+    ap (λ (r : Process). world_of (slice_set ps i r) c.act.new.net.messages) done.process
+    ∙ (ap (λ (ms : List Message). world_of (slice_set ps i q) ms) done.messages ∙ turn_acted ps net x i p c.args.input is.numbered at node.1 here on was.limits.0) in
+    subst (λ (w : World). world_of (slice_set ps i c.act.new.self) c.act.new.net.messages ≡ acted w (Some (record { at = x; input = c.args.input }))) c.self.view_is turned
+
+pub returns-clause-word : goal.returns-clause-word
+returns-clause-word c =
+    let s = c.self.inside in
+    let ps = s.processes.items in
+    let net = s.net.messages in
+    let x = c.args.node in
+    let i = c.index-at.result in
+    let at = c.index-at.ensures.next in
+    let is = c.self.invariant in
+    let node = within_of ps net x (rw (← c.self.view_is) at c.requires.node) in
+    let p = c.index_mut-process.result.now in
+    let here = c.index_mut-process.ensures.value in
+    let on : p.up ≡ true = ap (λ (r : Process). r.up) (read_twice ps x i p c.index.result.now is.numbered at node.1 here c.index.ensures) ∙ (sym c.is_up.ensures ∙ c.if-not-is_up.false) in
+    let said : words.Node c.in_ok-answer.answer ≡ word_of_act (world_of ps net) (Some (record { at = x; input = c.args.input })) =
+    ap (λ (a : Answer). words.Node a) c.in_ok-answer.ensures.answer ∙ word_acted ps net x i p c.args.input is.numbered at node.1 here on in
+    subst (λ (w : World). words.Node c.in_ok-answer.answer ≡ word_of_act w (Some (record { at = x; input = c.args.input }))) c.self.view_is said

@@ -1,0 +1,9 @@
+use Rattle.std.proofs.Common.{◌≡◌, subst, ◌∙◌}
+use Rattle.oc_calm.specs.Cluster.{is_ack}
+use Rattle.oc_model.specs.Runs.{last_body}
+use Rattle.oc_model.specs.World.{World}
+use Rattle.oc_world.proofs.Leases.{acks_end}
+use Rattle.oc_world.proofs.world.World.ends_with_ack.Goals as goal
+
+pub returns : goal.returns
+returns c = subst (λ (w : World). c.ends_with_ack.result ≡ is_ack (last_body w)) c.self.view_is (c.ends_with_ack.ensures ∙ acks_end c.self.inside.net.messages)

@@ -1,0 +1,52 @@
+-- A node that runs on its files, or whose files are all that is left of it.
+use Rattle.std.specs.Prelude.{◌≡◌, ℕ, Bool, true, false}
+use Rattle.oc_keep.specs.Files.{AreReliable, Disks, Survives, disks, recovered}
+use Rattle.oc_keep.specs.KeptView.{KeptView, NodeSurvives, disks_of, header_of, node_of}
+use Rattle.oc_model.specs.Node.{Control, Header, Node, restarted}
+use Rattle.oc_model.specs.World.{Process, down}
+use Rattle.oc_outside.specs.MemDiskView.{MemDiskView, view_of}
+use Rattle.oc_world.specs.declared.standing.Files.{Files}
+use Rattle.oc_world.specs.declared.standing.Standing.{Standing}
+use Rattle.oc_world.specs.declared.standing.Standing.TheVariants.{Running, Stopped}
+
+-- the disks of files
+abbrev pub disks_in : Files → Disks MemDiskView
+disks_in f = disks f.control f.alternate f.content
+
+-- the node that files recover
+abbrev pub left_in : Header → ℕ → Files → Node
+left_in h x f = recovered h x f.control.bytes f.alternate.bytes f.content.bytes
+
+abbrev pub is_running : Standing → Bool
+is_running (Running k) = true
+is_running (Stopped f) = false
+
+-- the process of x: a node that runs is up; one that does not is what its files recover
+abbrev pub process_of : Header → ℕ → Standing → Process
+process_of h x (Running k) = record { node = node_of k; up = true }
+process_of h x (Stopped f) = down (left_in h x f)
+
+-- a node runs on disks that do not fail
+pub record IsOpen (k : KeptView MemDiskView) : Type 0 where
+  pub unclosed : k.closed ≡ false
+  pub reliable : AreReliable view_of (disks_of k)
+
+-- x runs on disks that do not fail, and every crash now leaves what is durable of it
+pub record IsRunning (h : Header) (x : ℕ) (k : KeptView MemDiskView) : Type 0 where
+  pub header : header_of k.node.control ≡ h
+  pub me : k.node.control.me ≡ x
+  pub unfailing : IsOpen k
+  pub survives : NodeSurvives view_of k (node_of k)
+
+-- every crash of the files now leaves what is durable of x
+pub record IsStopped (h : Header) (x : ℕ) (f : Files) : Type 0 where
+  pub survives : Survives view_of h x (disks_in f) (left_in h x f)
+
+-- the files are those of a node with this control state, and recover what is durable of n
+pub record IsLeft (c : Control) (n : Node) (f : Files) : Type 0 where
+  pub stopped : IsStopped (header_of c) c.me f
+  pub node : left_in (header_of c) c.me f ≡ restarted n
+
+abbrev pub Stands : Header → ℕ → Standing → Type 0
+Stands h x (Running k) = IsRunning h x k
+Stands h x (Stopped f) = IsStopped h x f

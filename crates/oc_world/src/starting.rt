@@ -1,0 +1,41 @@
+//! A node that is down is read from its files.
+
+ghost use Rattle.std.specs.Prelude.{◌≡◌, IfOk};
+ghost use Rattle.oc_base.specs.Lawful.{IsNode};
+ghost use Rattle.oc_keep.specs.KeptView.{header, node_of};
+ghost use Rattle.oc_model.specs.Lawful.{IsHeader};
+ghost use Rattle.oc_world.specs.Standing.{IsRunning, left_in};
+
+use crate::standing::Files;
+use oc_base::{Memory, NodeId};
+use oc_keep::Kept;
+use oc_outside::MemDisk;
+use std::alloc::Global;
+
+/// The node that the files recover, on copies of them: so want of memory leaves the files as they are.
+///
+/// That no frame of the files is bad is not shown here, so every refusal is taken for want of memory.
+pub(crate) fn load(
+    alloc: Global,
+    files: &Files,
+    id: NodeId,
+    nodes: u32,
+    chain: u32,
+    areas: &[u8],
+) -> Result<Kept<MemDisk>, Memory>
+    requires header { IsHeader (header nodes chain areas.now) }
+    requires id { IsNode nodes id }
+    ensures running { IfOk result (λ kept. IsRunning (header nodes chain areas.now) id kept) }
+    ensures node { IfOk result (λ kept. node_of kept ≡ left_in (header nodes chain areas.now) id files.now) }
+{
+    let areas = areas.to_vec(alloc)?;
+    let Files {
+        control,
+        alternate,
+        content,
+    } = files.copy()?;
+    match Kept::load(alloc, control, alternate, content, id, nodes, chain, areas) {
+        Ok(kept) => Ok(kept),
+        Err(_) => Err(Memory),
+    }
+}

@@ -1,0 +1,84 @@
+//! Probes over a link and a clock in memory.
+
+ghost use Rattle.oc_http.specs.Writing.{HasPhrase};
+
+use crate::lists::numbers_in;
+use oc_base::Bytes;
+use oc_http::{Reply, write_response};
+use oc_outside::{FixedClock, MemLink};
+use oc_probe::probe;
+use std::alloc::Global;
+use test_tools::{Cases, Fault, Fields};
+
+/// The bytes that the link keeps.
+const ROOM: usize = 1_024;
+
+/// The address that is dialled.
+const ADDRESS: &str = "node2:8080";
+
+/// The words of a row: the rate or the fault, and what was dialled.
+pub struct Rows;
+
+impl Cases for Rows {
+    fn answer(alloc: Global, given: &str) -> Result<String, Fault> {
+        let mut fields = Fields::of(given, ' ');
+        let millis = numbers_in(alloc, fields.text())?;
+        let fails = numbers_in(alloc, fields.text())?;
+        let cut = fields.small()? as usize;
+        let replies = replies_in(alloc, &mut fields)?;
+        if cut < 1 {
+            return Err(Fault::Field);
+        }
+        let mut link = MemLink::new(alloc, Vec::new(alloc), replies, ROOM, cut, fails)?;
+        let mut clock = FixedClock::new(Vec::new(alloc), millis);
+        let mut said = String::new(alloc);
+        match probe(alloc, ADDRESS, &mut link, &mut clock) {
+            Ok(rate) => write!(said, "{rate}")?,
+            Err(fault) => write!(said, "{fault:?}")?,
+        }
+        match link.dialled(0) {
+            Some(request) => put_lines(&mut said, request)?,
+            None => said.push_str(" no dial")?,
+        }
+        Ok(said)
+    }
+}
+
+/// The one reply of a row, or none: a status and the length of a body, or bytes in hexadecimal.
+fn replies_in(alloc: Global, fields: &mut Fields<'_>) -> Result<Vec<Vec<u8>>, Fault> {
+    let mut replies = Vec::new(alloc);
+    match fields.text() {
+        "none" => {}
+        "bytes" => replies.push(fields.bytes(alloc)?)?,
+        "200" => replies.push(reply_of(alloc, 200, fields.small()? as usize)?)?,
+        "404" => replies.push(reply_of(alloc, 404, fields.small()? as usize)?)?,
+        _ => return Err(Fault::Field),
+    }
+    Ok(replies)
+}
+
+/// A reply of this status, one of those with a phrase, and a body of as many bytes `x`.
+fn reply_of(alloc: Global, status: u16, length: usize) -> Result<Vec<u8>, Fault>
+    requires { HasPhrase status }
+{
+    let body = vec![in alloc; b'x'; length]?;
+    let reply = Reply {
+        status,
+        location: None,
+        content_type: true,
+        body: Bytes::of(body),
+        rule: None,
+    };
+    Ok(write_response(alloc, &reply)?)
+}
+
+/// Puts the lines of a text, each in brackets.
+fn put_lines(said: &mut String, text: &[u8]) -> Result<(), Fault> {
+    let Ok(text) = str::from_utf8(text) else {
+        return Err(Fault::Field);
+    };
+    for line in text.lines() {
+        write!(said, " [{line}]")?;
+    }
+    Ok(())
+}

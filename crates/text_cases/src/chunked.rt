@@ -1,0 +1,187 @@
+//! Chunked texts, written, and read however they are cut.
+
+use oc_stream::{ChunkFault, Unchunker, chunk_text};
+use std::alloc::Global;
+use test_tools::{Cases, Fault, Fields, put_hex};
+
+/// The words of a row: what was written, or what came of the text.
+pub struct Rows;
+
+impl Cases for Rows {
+    fn answer(alloc: Global, given: &str) -> Result<String, Fault> {
+        let mut fields = Fields::of(given, ' ');
+        let kind = fields.text();
+        let text = bytes_in(alloc, fields.list())?;
+        let mut said = String::new(alloc);
+        match kind {
+            "write" => put_hex(&mut said, &chunk_text(alloc, &text)?)?,
+            "size" => put_size(&mut said, &chunk_text(alloc, &text)?)?,
+            "whole" => put_fed(&mut said, &fed_in_pieces(alloc, &text, text.len())?)?,
+            "bytes" => put_fed(&mut said, &fed_in_pieces(alloc, &text, 1)?)?,
+            "every" => put_every(&mut said, alloc, &text)?,
+            "back" => put_fed(
+                &mut said,
+                &fed_in_pieces(alloc, &chunk_text(alloc, &text)?, 7)?,
+            )?,
+            "again" => put_again(&mut said, alloc, &text)?,
+            _ => return Err(Fault::Field),
+        }
+        Ok(said)
+    }
+}
+
+/// The bytes of the fields, each in hexadecimal, with `N*` before it where it stands N times.
+fn bytes_in(alloc: Global, fields: Fields<'_>) -> Result<Vec<u8>, Fault> {
+    let mut fields = fields;
+    let mut bytes = Vec::new(alloc);
+    for _ in 0..100u8 {
+        if fields.is_empty() {
+            break;
+        }
+        let field = fields.text();
+        let (times, part) = field.split_once('*').unwrap_or(("1", field));
+        let times = Fields::of(times, ' ').small()?;
+        let part = Fields::of(part, ' ').bytes(alloc)?;
+        for _ in 0..times {
+            bytes.extend_from_slice(&part)?;
+        }
+    }
+    Ok(bytes)
+}
+
+/// What came of a text: how many bytes were taken, their content, and whether the text ended, or the fault.
+#[derive(Drop)]
+struct Fed {
+    taken: usize,
+    content: Vec<u8>,
+    end: End,
+}
+
+#[derive(Clone, Copy, PartialEq)]
+enum End {
+    Open,
+    Ended,
+    Bad,
+    Long,
+}
+
+/// Feeds a text in pieces of this size, up to its end or its fault.
+fn fed_in_pieces(alloc: Global, text: &[u8], size: usize) -> Result<Fed, Fault> {
+    let mut reader = Unchunker::new(alloc)?;
+    let mut content = Vec::new(alloc);
+    let mut taken: usize = 0;
+    let mut end = End::Open;
+    for piece in text.chunks(size.max(1)) {
+        match feed(&mut reader, piece, &mut content)? {
+            Ok(count) => taken = taken.saturating_add(count),
+            Err(fault) => {
+                end = fault;
+                break;
+            }
+        }
+        if reader.ended() {
+            end = End::Ended;
+        }
+    }
+    Ok(Fed {
+        taken,
+        content,
+        end,
+    })
+}
+
+/// Feeds a piece: how many bytes were taken, or the fault of the text.
+fn feed(
+    reader: &mut Unchunker,
+    piece: &[u8],
+    content: &mut Vec<u8>,
+) -> Result<Result<usize, End>, Fault> {
+    match reader.feed(piece, content) {
+        Ok(count) => Ok(Ok(count)),
+        Err(ChunkFault::Bad) => Ok(Err(End::Bad)),
+        Err(ChunkFault::Long) => Ok(Err(End::Long)),
+        Err(ChunkFault::Memory) => Err(Fault::Memory),
+    }
+}
+
+/// Puts what came of a text.
+fn put_fed(said: &mut String, fed: &Fed) -> Result<(), Fault> {
+    match fed.end {
+        End::Open => put_taken(said, fed),
+        End::Ended => {
+            put_taken(said, fed)?;
+            Ok(said.push_str(" ended")?)
+        }
+        End::Bad => Ok(said.push_str("bad")?),
+        End::Long => Ok(said.push_str("long")?),
+    }
+}
+
+/// Puts how many bytes were taken, and their content, or how long it is.
+fn put_taken(said: &mut String, fed: &Fed) -> Result<(), Fault> {
+    let taken = fed.taken;
+    write!(said, "{taken} ")?;
+    if fed.content.len() <= 32 {
+        return put_hex(said, &fed.content);
+    }
+    let count = fed.content.len();
+    Ok(write!(said, "{count} bytes")?)
+}
+
+/// Puts how long a text is, and its first and last bytes.
+fn put_size(said: &mut String, text: &[u8]) -> Result<(), Fault> {
+    let count = text.len();
+    write!(said, "{count} ")?;
+    put_hex(said, &text[..count.min(8)])?;
+    said.push_str(" ")?;
+    put_hex(said, &text[count.saturating_sub(8)..])
+}
+
+/// Puts what comes of a text that is fed in two pieces, cut at each of its places, where that is always the
+/// same as what comes of it whole.
+fn put_every(said: &mut String, alloc: Global, text: &[u8]) -> Result<(), Fault> {
+    let whole = fed_in_pieces(alloc, text, text.len())?;
+    for at in 0..text.len() {
+        let (front, rest) = text.split_at(at);
+        if !comes_to(alloc, front, rest, &whole)? {
+            return Ok(write!(said, "another when it is cut at {at}")?);
+        }
+    }
+    put_fed(said, &whole)
+}
+
+/// Whether a text in two pieces comes to what is wanted. Of a text that is refused the content is left
+/// out, since the pieces before the refused one have given theirs.
+fn comes_to(alloc: Global, front: &[u8], rest: &[u8], wanted: &Fed) -> Result<bool, Fault> {
+    let mut reader = Unchunker::new(alloc)?;
+    let mut content = Vec::new(alloc);
+    let mut taken: usize = 0;
+    for piece in [front, rest] {
+        match feed(&mut reader, piece, &mut content)? {
+            Ok(count) => taken = taken.saturating_add(count),
+            Err(fault) => return Ok(fault == wanted.end),
+        }
+    }
+    let end = if reader.ended() {
+        End::Ended
+    } else {
+        End::Open
+    };
+    Ok(end == wanted.end && taken == wanted.taken && content == wanted.content)
+}
+
+/// Puts what comes of a text that is refused, and of the end of a good one behind it.
+fn put_again(said: &mut String, alloc: Global, text: &[u8]) -> Result<(), Fault> {
+    let mut reader = Unchunker::new(alloc)?;
+    let mut content = Vec::new(alloc);
+    for piece in [text, b"0\r\n\r\n".as_slice(), b"".as_slice()] {
+        let end = match feed(&mut reader, piece, &mut content)? {
+            Ok(_) => "taken ",
+            Err(End::Bad) => "bad ",
+            Err(End::Long) => "long ",
+            Err(_) => "refused ",
+        };
+        said.push_str(end)?;
+    }
+    Ok(())
+}

@@ -1,0 +1,144 @@
+//! Bytes as printable text: what is no printable character is spelled by a `\`, as `\r`, `\n`, `\t`, `\\`,
+//! `\xHH` in hexadecimal, and `\{N:BYTES}` for N times these bytes.
+
+use std::alloc::Global;
+use test_tools::Fault;
+
+/// A byte that comes more often than this, and alone, is spelled once.
+const LONG: usize = 64;
+
+/// What the next character of a spelled text is.
+#[derive(Clone, Copy)]
+enum State {
+    /// A byte, or the start of an escape.
+    Plain,
+    /// What a `\` stands before.
+    Escape,
+    /// The first digit of a byte.
+    High,
+    /// The second digit of a byte, behind this value of the first.
+    Low(u8),
+    /// A digit of how often bytes come, behind the digits of this value.
+    Count(usize),
+}
+
+/// Bytes that are being read from a spelled text.
+#[derive(Drop)]
+struct Reading {
+    bytes: Vec<u8>,
+    state: State,
+    /// Where the bytes begin that come several times, and how often they do.
+    repeated: Option<(usize, usize)>,
+}
+
+/// The bytes that a text spells.
+pub fn spelled_in(alloc: Global, text: &str) -> Result<Vec<u8>, Fault> {
+    let mut reading = Reading {
+        bytes: Vec::new(alloc),
+        state: State::Plain,
+        repeated: None,
+    };
+    for byte in text.as_bytes() {
+        take(alloc, &mut reading, *byte)?;
+    }
+    Ok(reading.bytes)
+}
+
+/// Takes the next byte of the text.
+fn take(alloc: Global, reading: &mut Reading, byte: u8) -> Result<(), Fault> {
+    match reading.state {
+        State::Plain => take_plain(alloc, reading, byte)?,
+        State::Escape => take_escape(reading, byte)?,
+        State::High => reading.state = State::Low(digit_in(byte)?),
+        State::Low(high) => {
+            reading.bytes.push(high.wrapping_mul(16) | digit_in(byte)?)?;
+            reading.state = State::Plain;
+        }
+        State::Count(count) if byte == b':' => {
+            reading.repeated = Some((reading.bytes.len(), count));
+            reading.state = State::Plain;
+        }
+        State::Count(count) => {
+            let digit = usize::from(digit_in(byte)?);
+            reading.state = State::Count(count.saturating_mul(10).saturating_add(digit));
+        }
+    }
+    Ok(())
+}
+
+fn take_plain(alloc: Global, reading: &mut Reading, byte: u8) -> Result<(), Fault> {
+    match (byte, reading.repeated) {
+        (b'\\', _) => reading.state = State::Escape,
+        (b'}', Some((start, count))) => {
+            reading.repeated = None;
+            repeat(alloc, &mut reading.bytes, start, count)?;
+        }
+        _ => reading.bytes.push(byte)?,
+    }
+    Ok(())
+}
+
+fn take_escape(reading: &mut Reading, byte: u8) -> Result<(), Fault> {
+    reading.state = State::Plain;
+    match byte {
+        b'r' => reading.bytes.push(b'\r')?,
+        b'n' => reading.bytes.push(b'\n')?,
+        b't' => reading.bytes.push(b'\t')?,
+        b'\\' => reading.bytes.push(b'\\')?,
+        b'x' => reading.state = State::High,
+        b'{' => reading.state = State::Count(0),
+        _ => return Err(Fault::Field),
+    }
+    Ok(())
+}
+
+/// Has the bytes from `start` on come `count` times.
+fn repeat(alloc: Global, bytes: &mut Vec<u8>, start: usize, count: usize) -> Result<(), Fault> {
+    let Some(piece) = bytes.get(start..) else {
+        return Err(Fault::Field);
+    };
+    let piece = piece.to_vec(alloc)?;
+    for _ in 1..count {
+        bytes.extend_from_slice(&piece)?;
+    }
+    Ok(())
+}
+
+/// The value of a hexadecimal digit.
+fn digit_in(byte: u8) -> Result<u8, Fault> {
+    match byte {
+        b'0'..=b'9' => Ok(byte - b'0'),
+        b'a'..=b'f' => Ok(byte - b'a' + 10),
+        _ => Err(Fault::Field),
+    }
+}
+
+/// Puts bytes as they are spelled.
+pub fn put_spelled(out: &mut String, bytes: &[u8]) -> Result<(), Fault> {
+    match bytes {
+        [first, ..] if bytes.len() > LONG && bytes.iter().all(|byte| *byte == *first) => {
+            let count = bytes.len();
+            write!(out, "\\{{{count}:")?;
+            put_byte(out, *first)?;
+            Ok(out.push('}')?)
+        }
+        _ => {
+            for byte in bytes {
+                put_byte(out, *byte)?;
+            }
+            Ok(())
+        }
+    }
+}
+
+fn put_byte(out: &mut String, byte: u8) -> Result<(), Fault> {
+    match byte {
+        b'\r' => out.push_str("\\r")?,
+        b'\n' => out.push_str("\\n")?,
+        b'\t' => out.push_str("\\t")?,
+        b'\\' => out.push_str("\\\\")?,
+        b' '..=b'~' => out.push(char::from(byte))?,
+        _ => write!(out, "\\x{byte:02x}")?,
+    }
+    Ok(())
+}

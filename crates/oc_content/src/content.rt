@@ -4,6 +4,7 @@ ghost use Rattle.oc_base.specs.Shelves.{held_of, IsHeldAt, IsShelf, AreLinesAsce
 ghost use Rattle.oc_outside.specs.DiskView.{CannotFail, StaysAsItWas};
 ghost use Rattle.oc_outside.specs.MemDiskView.{disk_of};
 ghost use Rattle.oc_journal.specs.JournalFile.{frames_of, IsNoJournal};
+ghost use Rattle.oc_journal.specs.JournalView.{HoldsJournal};
 ghost use Rattle.oc_journal.specs.Promises.{LoadsSafely, NoneFailed, ClosesByRead, IsFullFor, AppendsSafely};
 ghost use Rattle.oc_journal.specs.Stopped.{frames_after, CanStop};
 ghost use Rattle.oc_content.specs.ContentFile.{IsShelved, groups_in, bytes_in, content_of, groups_after};
@@ -190,7 +191,11 @@ impl<D: Disk> Content<D> {
 
     /// The disk.
     pub fn into_disk(self) -> D
-        ensures { result ≡ self.journal.disk }
+        ensures disk { result ≡ self.journal.disk }
+
+        // While no call failed, every crash leaves a journal with these frames.
+        ensures holds { self.journal.closed ≡ false → IsTrue (D.view self.journal.disk).honest
+            → HoldsJournal D.view self.journal }
     {
         self.journal.into_disk()
     }
@@ -224,6 +229,7 @@ impl Content<MemDisk> {
         ensures content { content_of (frames_of result.bytes)
             ≡ Some (groups_after calls image (groups_in self.journal.frames) piece.entry) }
         ensures frames { frames_of result.bytes ≡ frames_after calls image self.journal.frames piece.body }
+        ensures journal { ¬ IsNoJournal result.bytes }
         ensures fresh { result ≡ disk_of result.bytes }
     {
         let Content { journal, index: _ } = self;

@@ -5,7 +5,7 @@ use Rattle.std.proofs.lemmas.Bool.{cases_lt, lt-ltb, le-ltb, false≢true}
 use Rattle.std.proofs.lemmas.Bool.Decides.{nat_tests}
 use Rattle.std.proofs.lemmas.Nat.{from_be_bytes-to_be_bytes_4}
 use Rattle.std.specs.Int.{w32, to_be_bytes}
-use Rattle.oc_journal.specs.JournalFile.{magic, length_in, is_whole, body_in, next_gate, frames_within, frames_of, is_broken_within, blocks, AreShort, EndsAt, IsNoJournal}
+use Rattle.oc_journal.specs.JournalFile.{magic, length_in, is_whole, body_in, next_gate, frames_within, frames_of, is_broken_within, blocks, AreShort, EndsAt, IsJournalOf, IsNoJournal}
 
 -- a number that was written is read
 pub length_in-number : (n : ℕ) (rest : List ℕ) → n < 2 ^ 32 → length_in (to_be_bytes w32 n ++ rest) ≡ n
@@ -159,6 +159,10 @@ journal_ended file bodies offset e bad =
     (λ other. other (ap (take 8) e.parts))
     (λ broken. false≢true (sym no_more ∙ sym (ap (λ (f : List ℕ). is_broken_within (length f) (drop 8 f)) e.parts) ∙ broken))
     bad.1
+
+-- with these frames
+pub journal_of : (file : List ℕ) (bodies : List (List ℕ)) (offset : ℕ) → EndsAt file bodies offset → IsJournalOf bodies file
+journal_of file bodies offset e = record { journal = journal_ended file bodies offset e; frames = frames_of-ended file bodies offset e }
 
 -- frames, an open gate, and no whole frame behind it
 pub broken_file : (bodies : List (List ℕ)) (rest : List ℕ) → AreShort bodies → is_whole rest ≡ false → 9 < length ((magic ++ blocks bodies) ++ (1 ∷ rest)) → IsNoJournal ((magic ++ blocks bodies) ++ (1 ∷ rest))

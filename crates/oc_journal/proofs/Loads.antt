@@ -2,12 +2,12 @@
 use Rattle.std.proofs.Common.{◌≡◌, ℕ, Bool, false, IsTrue, List, sym, ◌∙◌, ap, subst, arith}
 use Rattle.oc_outside.specs.DiskView.{DiskView, IsSafe, StaysAsItWas, LeavesOnly, IsConsistent}
 use Rattle.oc_outside.proofs.DiskMoments.{LeavesOnly-then, LeavesOnly-weaker, LeavesOnly-now, GoesOn-then, still_honest}
-use Rattle.oc_journal.specs.JournalFile.{frames_of, EndsAt, IsNoJournal}
+use Rattle.oc_journal.specs.JournalFile.{frames_of, end_of, EndsAt, IsJournalOf, IsNoJournal}
 use Rattle.oc_journal.specs.JournalView.{at_spots, IsIndexed, IsLikeAnImage}
 use Rattle.oc_journal.specs.Promises.{LoadsSafely}
 use Rattle.oc_journal.specs.Scanning.{IsFound}
 use Rattle.oc_journal.specs.declared.spot.Spot.{Spot}
-use Rattle.oc_journal.proofs.Blocks.{frames_of-ended, journal_ended}
+use Rattle.oc_journal.proofs.Blocks.{frames_of-ended, journal_ended, journal_of}
 use Rattle.oc_journal.proofs.Writes.{IsSettled-from}
 
 -- like an image of a disk whose images are like those of an earlier one
@@ -55,3 +55,14 @@ module _ (v w : DiskView) (spots : List Spot) (offset : ℕ) (found : IsFound v 
 
   pub found-journal : IsTrue v.honest → ¬ IsNoJournal v.seen
   found-journal h = journal_ended v.seen (at_spots v.seen spots) offset (found.ends h)
+
+-- An index while no call failed: every crash leaves a journal with the bodies at its spots, and they end where it says.
+module _ (v : DiskView) (spots : List Spot) (offset : ℕ) (closed : Bool) (is : IsIndexed v spots offset closed) (is_open : closed ≡ false) (honest : IsTrue v.honest) where
+  pub indexed-images : (c : List ℕ) → v.may_leave c → IsJournalOf (at_spots v.seen spots) c
+  indexed-images c left =
+      let settled = is.settled is_open honest in
+      subst (IsJournalOf (at_spots v.seen spots)) (sym (settled.safe c left))
+      (subst (λ (bodies : List (List ℕ)). IsJournalOf bodies v.seen) (sym (is.frames is_open honest)) (journal_of v.seen (frames_of v.seen) offset settled.ends))
+
+  pub indexed-end : offset ≡ end_of (at_spots v.seen spots)
+  indexed-end = (is.settled is_open honest).ends.end ∙ ap end_of (sym (is.frames is_open honest))

@@ -76,6 +76,11 @@ pub record EndsAt (file : List ℕ) (bodies : List (List ℕ)) (offset : ℕ) : 
   pub end : offset ≡ end_of bodies
   pub short : AreShort bodies
 
+-- the file is a journal with these frames
+pub record IsJournalOf (bodies : List (List ℕ)) (file : List ℕ) : Type 0 where
+  pub journal : ¬ IsNoJournal file
+  pub frames : frames_of file ≡ bodies
+
 -- the file has the frames, with one more or without it
 abbrev pub IsBeforeOrAfter : List (List ℕ) → List ℕ → List ℕ → Type 0
 IsBeforeOrAfter frames body file = (frames_of file ≡ frames) ⊎ (frames_of file ≡ frames ++ body ∷ [])

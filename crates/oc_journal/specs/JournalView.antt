@@ -2,7 +2,7 @@
 use Rattle.std.specs.Prelude.{◌≡◌, ℕ, ◌+◌, ◌<◌, ◌≤◌, Bool, false, IsTrue, List, [], take, drop, map}
 use Rattle.std.specs.List.{All}
 use Rattle.oc_outside.specs.DiskView.{DiskView, IsSafe}
-use Rattle.oc_journal.specs.JournalFile.{frames_of, EndsAt}
+use Rattle.oc_journal.specs.JournalFile.{frames_of, end_of, EndsAt, IsJournalOf}
 use Rattle.oc_journal.specs.declared.spot.Spot.{Spot}
 
 -- the disk, the bodies of the frames, the offset where they end, how many more frames the index has memory for, and whether the disk failed
@@ -39,6 +39,11 @@ pub record IsIndexed (v : DiskView) (spots : List Spot) (end : ℕ) (closed : Bo
 -- every crash leaves these frames
 abbrev pub HasFrames : DiskView → List (List ℕ) → Type 0
 HasFrames v frames = (c : List ℕ) → v.may_leave c → frames_of c ≡ frames
+
+-- every crash leaves a journal with these frames, and they end where they end in the file
+pub record HoldsJournal {D : Type 0} (view : D → DiskView) (journal : JournalView D) : Type 0 where
+  pub images : (c : List ℕ) → (view journal.disk).may_leave c → IsJournalOf journal.frames c
+  pub end : journal.end ≡ end_of journal.frames
 
 -- a file with the frames of what a crash may leave
 abbrev pub IsLikeAnImage : DiskView → List ℕ → Type 0

@@ -1,5 +1,5 @@
 -- What is left of a frame when the calls that append it are stopped.
-use Rattle.std.specs.Prelude.{◌≡◌, ℕ, ◌+◌, ◌≤◌, Bool, ◌==◌, ◌&&◌, ◌||◌, List, [], ◌∷◌, ◌++◌, Option, None, Some, if◌then◌else◌}
+use Rattle.std.specs.Prelude.{◌≡◌, ℕ, ◌+◌, ◌≤◌, List, [], ◌∷◌, ◌++◌, Option, None, Some, if◌then◌else◌}
 use Rattle.oc_base.specs.declared.limits.TheConstants.{MAX_JOURNAL_BYTES}
 use Rattle.oc_base.specs.Stops.{is_kept_new}
 use Rattle.oc_outside.specs.MemDiskView.{MemDiskView, refused, wrote}

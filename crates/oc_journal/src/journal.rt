@@ -2,7 +2,7 @@ ghost use Rattle.std.specs.Prelude.{◌≡◌, ◌≢◌, ◌↔◌, ℕ, ◌+�
 ghost use Rattle.oc_outside.specs.DiskView.{StaysAsItWas, CannotFail, FailsToRead, HasNoFault};
 ghost use Rattle.oc_outside.specs.MemDiskView.{disk_of};
 ghost use Rattle.oc_journal.specs.JournalFile.{frames_of, end_of, IsNoJournal};
-ghost use Rattle.oc_journal.specs.JournalView.{HasFrames};
+ghost use Rattle.oc_journal.specs.JournalView.{HasFrames, HoldsJournal};
 ghost use Rattle.oc_journal.specs.Promises.{IsLoaded, LoadsSafely, RefusesLoad, OnlyReads, NoneFailed, ClosesByRead, HasRoom, IsFullFor, Appends, AppendsSafely, ClosesByAppend, Restarts, RestartsSafely, ClosesByRestart};
 ghost use Rattle.oc_journal.specs.Stopped.{frames_after, CanStop};
 
@@ -90,7 +90,11 @@ impl<D: Disk> Journal<D> {
 
     /// The disk.
     pub fn into_disk(self) -> D
-        ensures { result ≡ self.disk }
+        ensures disk { result ≡ self.disk }
+
+        // While no call failed, every crash leaves a journal with these frames.
+        ensures holds { self.closed ≡ false → IsTrue (D.view self.disk).honest
+            → HoldsJournal D.view self }
     {
         self.disk
     }
@@ -248,6 +252,7 @@ impl Journal<MemDisk> {
         // The old frames, and the new one exactly after four calls, or after three with an image
         // that opens the gate. All of it is safe, and nothing is set on the disk.
         ensures frames { frames_of result.bytes ≡ frames_after calls image self.frames frame.now }
+        ensures journal { ¬ IsNoJournal result.bytes }
         ensures fresh { result ≡ disk_of result.bytes }
     {
         let Journal {

@@ -1,6 +1,6 @@
 ghost use Rattle.std.specs.Prelude.{◌≡◌, ℕ, ◌+◌, ◌^◌, ◌<◌, ◌≤◌, [], ◌∷◌, false, length, IsSome, OnOk, OnErr};
 ghost use Rattle.oc_outside.specs.MemDiskView.{disk_of, view_of, wrote, synced};
-ghost use Rattle.oc_journal.specs.JournalFile.{frames_of};
+ghost use Rattle.oc_journal.specs.JournalFile.{frames_of, IsJournalOf};
 ghost use Rattle.oc_journal.specs.JournalView.{IsSettled};
 ghost use Rattle.oc_journal.specs.Stopped.{IsCut, frames_after, left_of, image_of};
 
@@ -19,8 +19,8 @@ pub fn write_until_stop(mut disk: MemDisk, end: u64, frame: &Frame) -> MemDisk
     requires room { length frame.now + 6 ≤ disk.room }
     requires calls { 4 ≤ disk.calls }
     ensures fresh { result ≡ disk_of result.bytes }
-    ensures frames { frames_of result.bytes
-        ≡ frames_after (left_of disk.failing.stop) (image_of disk.failing.stop) (frames_of disk.bytes) frame.now }
+    ensures left { IsJournalOf (frames_after (left_of disk.failing.stop) (image_of disk.failing.stop) (frames_of disk.bytes) frame.now)
+        result.bytes }
 {
     let Ok(()) = write_and_sync(&mut disk, end + 1, frame.bytes()) else {
         return disk.crash();

@@ -12,7 +12,7 @@ use Rattle.oc_content.specs.Promises.{Commits as CommitsPiece}
 use Rattle.oc_content.proofs.Lines.{length-shelf}
 use Rattle.oc_content.proofs.Meanings.{content_of-push}
 use Rattle.oc_journal.specs.JournalFile.{frames_of}
-use Rattle.oc_journal.specs.JournalView.{HasFrames}
+use Rattle.oc_journal.specs.JournalView.{HasFrames, JournalView}
 use Rattle.oc_journal.specs.Promises.{IsFullFor}
 use Rattle.oc_laws_step.proofs.Goes.{folded-append}
 use Rattle.oc_model.specs.declared.record.Record.{Record}
@@ -26,12 +26,13 @@ use Rattle.oc_node.proofs.Reaching.{reached_kept}
 use Rattle.oc_outside.specs.DiskView.{DiskView, GoesOn}
 use Rattle.oc_outside.proofs.DiskMoments.{StaysAsItWas-none}
 use Rattle.oc_record.specs.Spelling.{records_bytes}
-use Rattle.oc_store.specs.ControlFiles.{at_side, records_in, records_of, recovered_frames}
+use Rattle.oc_store.specs.ControlFiles.{at_side, begun_generation, first_bad, generation_in, records_in, records_of, recovered_frames}
 use Rattle.oc_store.specs.declared.errors.Side.{Side}
 use Rattle.oc_store.specs.Promises.{Commits}
-use Rattle.oc_store.specs.StoreView.{StoreView, first_disk, second_disk, Recovers}
+use Rattle.oc_store.specs.StoreView.{StoreView, first_disk, second_disk, AreGood, Recovers}
 use Rattle.oc_store.specs.StoreView as stores
-use Rattle.oc_store.proofs.FrameReads.{one_frame_more}
+use Rattle.oc_store.proofs.FrameReads.{good_more, one_frame_more}
+use Rattle.oc_store.proofs.Snapshots.{generation_spelled}
 use Rattle.oc_keep.specs.declared.ready.Write.{Write}
 use Rattle.oc_keep.specs.declared.ready.Write.TheVariants as writes
 use Rattle.oc_keep.specs.Files.{AllGoOn, AreLater, HadLeft, SameAsEither, SameDurable, recovered}
@@ -46,6 +47,10 @@ use Rattle.oc_keep.proofs.Stays.{Law, all_stay, all_go_on, all_were_honest}
 -- lawful records are read of the frame that they are written to
 abbrev pub Reads : Type 0
 Reads = (nodes : ℕ) (list : List Record) → nodes < 2 ^ 32 → AreRecords nodes list → records_in nodes (records_bytes list) ≡ list
+
+-- and no frame of them is bad
+abbrev pub Goods : Type 0
+Goods = (nodes : ℕ) (list : List Record) → nodes < 2 ^ 32 → AreRecords nodes list → first_bad nodes (records_bytes list ∷ []) ≡ None
 
 -- Going on
 
@@ -113,6 +118,7 @@ record After {D : Type 0} (view : D → DiskView) (k k2 : KeptView D) (rs : List
   open_content : k2.content.journal.closed ≡ false
   folds : IsHonest view k → folded (new_durable k.node.control.nodes) (records_of k.node.control.nodes k2.store.current.frames) ≡ folded k.node.control.kept rs
   control_files : IsHonest view k → Recovers view k2.store k2.store.current.frames
+  good : IsHonest view k → AreGood k.node.control.nodes k2.store
   content_file : IsHonest view k → HasFrames (view k2.content.journal.disk) k2.content.journal.frames
   log : (folded k.node.control.kept rs).log.length ≤ MAX_BASE_ACKED + k2.store.current.end
   short : (folded k.node.control.kept rs).log.length ≤ MAX_LOG_LENGTH
@@ -141,14 +147,15 @@ module _ {D : Type 0} (view : D → DiskView) (reads : Reads) (k : KeptView D) (
     open_content = ap (λ c. c.journal.closed) content ∙ is.open_content was_open;
     folds = λ honest. ap (λ s. folded (new_durable n.nodes) (records_of n.nodes s.current.frames)) store ∙ folds_now honest;
     control_files = λ honest. subst (λ s. Recovers view s s.current.frames) (sym store) (is.control_files was_open honest);
+    good = λ honest. subst (AreGood n.nodes) (sym store) (is.good was_open honest);
     content_file = λ honest. subst (λ c. HasFrames (view c.journal.disk) c.journal.frames) (sym content) (is.content_file was_open honest);
     log = omega (arith, is.log was_open, ap (λ s. s.current.end) store);
     short = is.short;
   })
 
   -- a frame of records was written
-  after_records : (k2 : KeptView D) (rs : List Record) (frame : List ℕ) → AreRecords n.nodes rs → frame ≡ records_bytes rs → Commits view frame k.store k2.store → k2.content ≡ k.content → ¬ IsFullFor (length frame) k.store.current → After view k k2 rs
-  after_records k2 rs frame lawful spells wrote content fits =
+  after_records : (goods : Goods) (k2 : KeptView D) (rs : List Record) (frame : List ℕ) → AreRecords n.nodes rs → frame ≡ records_bytes rs → Commits view frame k.store k2.store → k2.store.other ≡ k.store.other → k2.content ≡ k.content → ¬ IsFullFor (length frame) k.store.current → After view k k2 rs
+  after_records goods k2 rs frame lawful spells wrote other content fits =
       let grows = log_grows n.nodes n.kept rs (MAX_BASE_ACKED + k.store.current.end) lawful (reached_kept n is.reached) (omega arith) (is.log was_open) in
       let fewer = records_fewer rs in
       let long : length frame ≡ length (records_bytes rs) = ap length spells in
@@ -160,6 +167,13 @@ module _ {D : Type 0} (view : D → DiskView) (reads : Reads) (k : KeptView D) (
             ap (λ (bodies : List (List ℕ)). folded (new_durable n.nodes) (records_of n.nodes bodies)) (wrote.appends.frames (current_honest honest).0)
             ∙ records_more reads n rs k.store.current.frames frame few_nodes lawful spells (is.folds was_open honest);
         control_files = λ honest. subst (λ (bodies : List (List ℕ)). Recovers view k2.store bodies) (sym (wrote.appends.frames (current_honest honest).0)) (wrote.kept (current_honest honest));
+        good = λ honest.
+            let before = is.good was_open honest in
+            let one = ap (λ (body : List ℕ). first_bad n.nodes (body ∷ [])) spells ∙ goods n.nodes rs few_nodes lawful in
+            record {
+              current = ap (first_bad n.nodes) (wrote.appends.frames (current_honest honest).0) ∙ good_more n.nodes k.store.current.frames frame before.current one;
+              other = ap (λ (j : JournalView D). first_bad n.nodes j.frames) other ∙ before.other;
+            };
         content_file = λ honest. subst (λ c. HasFrames (view c.journal.disk) c.journal.frames) (sym content) (is.content_file was_open honest);
         log = omega (arith, grows, fewer, long, wrote.appends.end);
         short = omega (arith, grows, fewer, long, within);
@@ -172,22 +186,23 @@ module _ {D : Type 0} (view : D → DiskView) (reads : Reads) (k : KeptView D) (
     open_content = wrote.appends.unclosed;
     folds = λ honest. ap (λ s. folded (new_durable n.nodes) (records_of n.nodes s.current.frames)) store ∙ folds_now honest;
     control_files = λ honest. subst (λ s. Recovers view s s.current.frames) (sym store) (is.control_files was_open honest);
+    good = λ honest. subst (AreGood n.nodes) (sym store) (is.good was_open honest);
     content_file = λ honest. wrote.appends.kept honest.content;
     log = omega (arith, is.log was_open, ap (λ s. s.current.end) store);
     short = is.short;
   })
 
-  after : (k2 : KeptView D) (p : PlanView) (w : Write) → AreRecords n.nodes p.records → CanWrite view k p w → Writes view w k.store k.content k2.store k2.content → WritesSafely view w k.store k.content k2.store k2.content → ¬ IsTooLong k.store k.content w → After view k k2 p.records
-  after k2 p writes.Nothing lawful can wrote safe fits = after_nothing k2 p.records can safe.0 safe.1
-  after k2 p (writes.Records frame) lawful can wrote safe fits = after_records k2 p.records frame lawful can.0 wrote safe.1 fits
-  after k2 p (writes.Content piece) lawful can wrote safe fits = after_piece k2 p.records piece wrote.0 can.0 wrote.1 safe.1
+  after : (goods : Goods) (k2 : KeptView D) (p : PlanView) (w : Write) → AreRecords n.nodes p.records → CanWrite view k p w → Writes view w k.store k.content k2.store k2.content → WritesSafely view w k.store k.content k2.store k2.content → ¬ IsTooLong k.store k.content w → After view k k2 p.records
+  after goods k2 p writes.Nothing lawful can wrote safe fits = after_nothing k2 p.records can safe.0 safe.1
+  after goods k2 p (writes.Records frame) lawful can wrote safe fits = after_records goods k2 p.records frame lawful can.0 wrote safe.0.other safe.1 fits
+  after goods k2 p (writes.Content piece) lawful can wrote safe fits = after_piece k2 p.records piece wrote.0 can.0 wrote.1 safe.1
 
   -- the node is kept
-  pub commit_kept : (k2 : KeptView D) (p : PlanView) (w : Write) → CanApply k.node p → CanWrite view k p w → Writes view w k.store k.content k2.store k2.content → WritesSafely view w k.store k.content k2.store k2.content → ¬ IsTooLong k.store k.content w
+  pub commit_kept : (goods : Goods) (k2 : KeptView D) (p : PlanView) (w : Write) → CanApply k.node p → CanWrite view k p w → Writes view w k.store k.content k2.store k2.content → WritesSafely view w k.store k.content k2.store k2.content → ¬ IsTooLong k.store k.content w
       → k2.node.control ≡ control_after n p → ((IsTrue (view k.content.journal.disk).honest → IsShelved k.content.journal.frames k.content.shelves) → IsTrue (view k2.content.journal.disk).honest → IsShelved k2.content.journal.frames k2.content.shelves)
       → IsKept view k2
-  commit_kept k2 p w applies can wrote safe fits control lines =
-      let so = after k2 p w applies.records can wrote safe fits in
+  commit_kept goods k2 p w applies can wrote safe fits control lines =
+      let so = after goods k2 p w applies.records can wrote safe fits in
       let kept : k2.node.control.kept ≡ folded n.kept p.records = ap (λ (m : Control). m.kept) control in
       let nodes : k2.node.control.nodes ≡ n.nodes = ap (λ (m : Control). m.nodes) control in
       let on = write_goes_on view k k2 w safe in
@@ -197,11 +212,22 @@ module _ {D : Type 0} (view : D → DiskView) (reads : Reads) (k : KeptView D) (
         open_content = λ _. so.open_content;
         folds = λ _ honest. kept ∙ sym (so.folds (all_were_honest view (disks_of k) (disks_of k2) on honest)) ∙ ap (λ (m : ℕ). folded (new_durable m) (records_of m k2.store.current.frames)) (sym nodes);
         control_files = λ _ honest. so.control_files (all_were_honest view (disks_of k) (disks_of k2) on honest);
+        good = λ _ honest. subst (λ (m : ℕ). AreGood m k2.store) (sym nodes) (so.good (all_were_honest view (disks_of k) (disks_of k2) on honest));
         content_file = λ _ honest. so.content_file (all_were_honest view (disks_of k) (disks_of k2) on honest);
         shelved = lines is.shelved;
         log = λ _. omega (arith, so.log, ap (λ (d : Durable). d.log.length) kept);
         short = omega (arith, so.short, ap (λ (d : Durable). d.log.length) kept);
       }
+
+  -- the generation of its control files stays
+  pub commit_generation : (k2 : KeptView D) (p : PlanView) (w : Write) → AreRecords n.nodes p.records → begun_generation p.records ≡ 0 → CanWrite view k p w → Writes view w k.store k.content k2.store k2.content → WritesSafely view w k.store k.content k2.store k2.content
+      → IsHonest view k → k2.store.generation ≡ k.store.generation
+  commit_generation k2 p writes.Nothing lawful plain can wrote safe honest = ap (λ s. s.generation) safe.0
+  commit_generation k2 p (writes.Content piece) lawful plain can wrote safe honest = ap (λ s. s.generation) safe.1
+  commit_generation k2 p (writes.Records frame) lawful plain can wrote safe honest = by_frames k.store.current.frames refl where
+    by_frames : (bodies : List (List ℕ)) → k.store.current.frames ≡ bodies → k2.store.generation ≡ k.store.generation
+    by_frames [] none = wrote.generation_first none ∙ ap generation_in can.0 ∙ generation_spelled n.nodes p.records lawful ∙ plain ∙ sym (wrote.generation_none (current_honest honest).0 none)
+    by_frames (body ∷ bodies) some = wrote.generation (omega (arith, ap length some))
 
   -- its groups are those of the step
   pub commit_node : (k2 : KeptView D) (p : PlanView) (w : Write) → Writes view w k.store k.content k2.store k2.content → WritesSafely view w k.store k.content k2.store k2.content
@@ -295,6 +321,7 @@ failed_kept view k k2 w is node closes failed safe = record {
   open_content = λ is_open. absurd (cc);
   folds = λ is_open. absurd (cc);
   control_files = λ is_open. absurd (cc);
+  good = λ is_open. absurd (cc);
   content_file = λ is_open. absurd (cc);
   shelved = failed_lines view k k2 w is failed safe;
   log = λ is_open. absurd (cc);

@@ -10,3 +10,4 @@ pub mod Loads
 pub mod Replacing
 pub mod Stops
 pub mod Runs
+pub mod Leaving

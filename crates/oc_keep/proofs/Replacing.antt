@@ -18,7 +18,7 @@ use Rattle.oc_outside.specs.DiskView.{DiskView, GoesOn, StaysAsItWas}
 use Rattle.oc_outside.specs.Faults.{Rose}
 use Rattle.oc_outside.proofs.DiskMoments.{GoesOn-then, StaysAsItWas-none, still_honest}
 use Rattle.oc_record.specs.Spelling.{records_bytes}
-use Rattle.oc_store.specs.ControlFiles.{at_side, generation_in, records_of}
+use Rattle.oc_store.specs.ControlFiles.{at_side, first_bad, generation_in, records_of}
 use Rattle.oc_store.specs.declared.errors.Side.{Side}
 use Rattle.oc_store.specs.declared.errors.Side.TheVariants.{First, Second}
 use Rattle.oc_store.specs.Promises.{ClosesByTurn, ReservesOther, TurnsOver}
@@ -30,7 +30,7 @@ use Rattle.oc_store.proofs.Snapshots.{generation_spelled}
 use Rattle.oc_keep.specs.Files.{AllGoOn, SameDurable}
 use Rattle.oc_keep.specs.KeptView.{AtAnyMoment, IsHonest, IsKept, KeptView, disks_of, node_of}
 use Rattle.oc_keep.specs.Turning.{ClosesByTurning, Replaces, StoreGoesOn, StoreIsLater}
-use Rattle.oc_keep.proofs.Committing.{Reads}
+use Rattle.oc_keep.proofs.Committing.{Goods, Reads}
 use Rattle.oc_keep.proofs.Sides.{honest_store, related_sides}
 use Rattle.oc_keep.proofs.Stays.{Law, all_were_honest}
 
@@ -76,6 +76,7 @@ pub replaces_made : {D : Type 0} (view : D → DiskView) (s m s2 : StoreView D) 
 replaces_made view s m s2 rs frame reserves turns moments spells generation = record {
   frames = λ honest. turns.frames (store_honest view s m reserves honest).1 ∙ ap (λ (body : List ℕ). body ∷ []) spells;
   kept = λ honest. subst (λ (body : List ℕ). Recovers view s2 (body ∷ [])) spells (turns.kept (store_honest view s m reserves honest));
+  other = turns.other ∙ reserves.current;
   side = turns.side ∙ ap opposite reserves.side;
   generation = turns.generation ∙ generation;
   unclosed = turns.unclosed;
@@ -160,10 +161,14 @@ snapshot_generation nodes generation d frame lawful spells = ap generation_in sp
 abbrev pub Stands : Type 0
 Stands = (nodes generation : ℕ) (state any : Durable) → IsSoundDurable nodes state → length any.measures ≡ nodes → folded any (snapshot generation state) ≡ state
 
+-- a node's snapshot is lawful
+snapshot_lawful : (n : Control) (generation : ℕ) → IsReached n → IsCount generation → n.kept.log.length ≤ MAX_BASE_ACKED → AreRecords n.nodes (snapshot generation n.kept)
+snapshot_lawful n generation reached count based = lawful_snapshot n.nodes generation n.kept reached.header.some count reached.sound.kept.measures based reached.lawful.kept
+
 -- what is recovered of the frame of a node's snapshot
 frame_stands : Reads → Stands → (n : Control) (generation : ℕ) → IsReached n → IsCount generation → n.kept.log.length ≤ MAX_BASE_ACKED → folded (new_durable n.nodes) (records_of n.nodes (records_bytes (snapshot generation n.kept) ∷ [])) ≡ n.kept
 frame_stands reads stands n generation reached count based =
-    let lawful : AreRecords n.nodes (snapshot generation n.kept) = lawful_snapshot n.nodes generation n.kept reached.header.some count reached.sound.kept.measures based reached.lawful.kept in
+    let lawful = snapshot_lawful n generation reached count based in
     ap (folded (new_durable n.nodes)) (one_frame n.nodes (records_bytes (snapshot generation n.kept)) ∙ reads n.nodes (snapshot generation n.kept) (omega (arith, reached.header.few)) lawful)
     ∙ stands n.nodes generation n.kept (new_durable n.nodes) reached.sound.kept (length-replicate n.nodes no_reading)
 
@@ -178,13 +183,19 @@ module _ {D : Type 0} (view : D → DiskView) (reads : Reads) (stands : Stands) 
   turned_goes_on s2 closed on = record { control = on.first; alternate = on.second; content = (StaysAsItWas-none (view k.content.journal.disk)).goes_on }
 
   -- the node is kept
-  pub turned_kept : (s2 : StoreView D) (closed : Bool) → Replaces view rs k.store s2 → IsKept view (record k { store = s2; closed = closed })
-  turned_kept s2 closed turns = record {
+  pub turned_kept : (goods : Goods) (s2 : StoreView D) (closed : Bool) → Replaces view rs k.store s2 → IsKept view (record k { store = s2; closed = closed })
+  turned_kept goods s2 closed turns = record {
     reached = is.reached;
     open_store = λ _. turns.unclosed;
     open_content = λ _. is.open_content was_open;
     folds = λ _ honest. sym (ap (λ (bodies : List (List ℕ)). folded (new_durable k.node.control.nodes) (records_of k.node.control.nodes bodies)) (turns.frames (before honest)) ∙ turned_stands);
     control_files = λ _ honest. subst (λ (bodies : List (List ℕ)). Recovers view s2 bodies) (sym (turns.frames (before honest))) (turns.kept (before honest));
+    good = λ _ honest.
+        let n = k.node.control in
+        record {
+          current = ap (first_bad n.nodes) (turns.frames (before honest)) ∙ goods n.nodes rs (omega (arith, is.reached.header.few)) (snapshot_lawful n (k.store.generation + 1) is.reached count based);
+          other = ap (λ (j : JournalView D). first_bad n.nodes j.frames) turns.other ∙ (is.good was_open (was honest)).current;
+        };
     content_file = λ _ honest. is.content_file was_open (was honest);
     shelved = is.shelved;
     log = λ _. omega (arith, based);

@@ -1,21 +1,22 @@
 -- Taking inputs one after another.
-use Rattle.std.proofs.Common.{◌≡◌, inl, inr, ℕ, ◌+◌, ◌<◌, false, true, IsTrue, List, [], ◌∷◌, ◌++◌, length, reverse, take, refl, sym, ap, subst, ◌∙◌, arith, append_assoc}
+use Rattle.std.proofs.Common.{◌≡◌, inl, inr, ℕ, ◌+◌, ◌<◌, false, true, IsTrue, List, [], ◌∷◌, ◌++◌, length, reverse, take, drop, refl, sym, ap, subst, ◌∙◌, arith, append_assoc}
 use Rattle.std.specs.List.{AllByRecursion}
-use Rattle.std.proofs.lemmas.List.{append-nil, length-append, reverse-append}
+use Rattle.std.proofs.lemmas.List.{append-nil, drop_at, length-append, reverse-append}
+use Rattle.oc_base.specs.declared.shelf.Shelf.{Shelf}
 use Rattle.oc_model.specs.declared.input.Input.{Input}
 use Rattle.oc_model.specs.Lawful.{IsInput}
-use Rattle.oc_model.specs.Node.{Header, Node}
-use Rattle.oc_model.specs.Step.{step}
+use Rattle.oc_model.specs.Node.{Control, Header, Node}
+use Rattle.oc_model.specs.Step.{plan, step}
 use Rattle.oc_outside.specs.DiskView.{DiskView}
 use Rattle.oc_outside.proofs.Counts.{Rose-after}
 use Rattle.oc_outside.proofs.DiskMoments.{GoesOn-then, still_reliable}
 use Rattle.oc_keep.specs.declared.errors.KeepError.{KeepError}
 use Rattle.oc_keep.specs.declared.errors.KeepError.TheVariants as keeps
 use Rattle.oc_keep.specs.Files.{Disks, AllGoOn, AreHonest, AreReliable, Leaves, OneRose, SameAsEither, SameDurable, Survives}
-use Rattle.oc_keep.specs.KeptView.{AtAnyMoment, IsHonest, KeptView, NodeSurvives, disks_of, header_of, node_of}
+use Rattle.oc_keep.specs.KeptView.{AtAnyMoment, IsFullAt, IsFullByPlan, IsFullOn, IsHonest, KeptView, NodeSurvives, disks_of, header_of, node_of}
 use Rattle.oc_keep.specs.Promises.{ChangesNothing, Closes, IsSameNode}
-use Rattle.oc_keep.specs.Trials.{HasTakeCause, LeavesTaken, after_inputs}
-use Rattle.oc_keep.proofs.Stays.{AllStay, Law, all_honest, leaves_now, nothing_stays}
+use Rattle.oc_keep.specs.Trials.{BeginsWith, EndsFull, HasTakeCause, LeavesTaken, after_inputs}
+use Rattle.oc_keep.proofs.Stays.{AllStay, Law, all_honest, leaves_now, nothing_node, nothing_stays}
 
 -- Lists of inputs
 
@@ -60,6 +61,27 @@ leaves_stays view h me old new P honest stay leaves = record {
     content = stay.content.images honest.content c left.content;
   });
 }
+
+-- where nothing was changed a file is as full as it was
+stays_full : {D : Type 0} (view : D → DiskView) (k k2 : KeptView D) (i : Input) → ChangesNothing view k k2 → IsFullAt k i → IsFullAt k2 i
+stays_full view k k2 i same full =
+    subst (λ (n : Control). IsFullByPlan k2.store.current.end k2.content.journal.end k2.content.shelves i (plan n k2.content.shelves i)) (sym same.control)
+    (subst (λ (ls : List Shelf). IsFullByPlan k2.store.current.end k2.content.journal.end ls i (plan k.node.control ls i)) (sym same.content.shelves)
+    (subst (λ (n : ℕ). IsFullByPlan k2.store.current.end n k.content.shelves i (plan k.node.control k.content.shelves i)) (sym same.content.journal.end)
+    (subst (λ (n : ℕ). IsFullByPlan n k.content.journal.end k.content.shelves i (plan k.node.control k.content.shelves i)) (sym same.store.current.end) full)))
+
+-- what begins with one with P begins with one with Q
+pub begins_with : (P Q : Input → Type 0) (is : List Input) → ((i : Input) → P i → Q i) → BeginsWith P is → BeginsWith Q is
+begins_with P Q [] f h = h
+begins_with P Q (i ∷ is) f h = f i h
+
+-- what a run that ended so says of the disks that are handed back
+pub full_on : {D : Type 0} (view : D → DiskView) (first : Node) (k : KeptView D) (d : Disks D) (is : List Input) (done : ℕ) (old : KeptView D) → EndsFull old is k done → node_of old ≡ first → d ≡ disks_of k
+    → ((i : Input) → IsFullAt k i → IsFullOn view (disks_of k) (node_of k) i) → BeginsWith (IsFullOn view d (after_inputs first (take done is))) (drop done is)
+full_on view first k d is done old ends node same full =
+    begins_with (IsFullAt k) (IsFullOn view d (after_inputs first (take done is))) (drop done is)
+    (λ i h. subst (λ (e : Disks _). IsFullOn view e (after_inputs first (take done is)) i) (sym same)
+    (subst (λ (m : Node). IsFullOn view (disks_of k) m i) (ends.node ∙ ap (λ (m : Node). after_inputs m (take done is)) node) (full i h))) ends.next
 
 -- A run
 
@@ -195,3 +217,17 @@ module _ {D : Type 0} (view : D → DiskView) (law : Law view) (first : KeptView
     by_error keeps.Memory unchanged = kept (unchanged (λ e. absurd cc))
     by_error keeps.Full unchanged = kept (unchanged (λ e. absurd cc))
     by_error keeps.Disk unchanged = failed
+
+  -- since its file is full
+  pub refused_full : (now new : KeptView D) (i : Input) (rest : List Input) (done : ℕ) → IsSoFar view first now all (i ∷ rest) done → IsFullAt now i → ChangesNothing view now new → new.closed ≡ now.closed → IsHonest view first → EndsFull first all new done
+  refused_full now new i rest done so full same still honest = record {
+    unclosed = still ∙ so.is_open;
+    node = nothing_node view now new same (all_honest view (disks_of first) (disks_of now) so.on honest).content ∙ so.node honest ∙ ap (after_inputs (node_of first)) (sym front);
+    next = subst (BeginsWith (IsFullAt new)) (sym back) (stays_full view now new i same full);
+  }
+    where
+      front : take done all ≡ so.taken
+      front = ap (λ (n : ℕ). take n all) so.count ∙ ap (take (length so.taken)) so.split ∙ take_front so.taken (i ∷ rest)
+
+      back : drop done all ≡ i ∷ rest
+      back = ap (λ (n : ℕ). drop n all) so.count ∙ ap (drop (length so.taken)) so.split ∙ drop_at so.taken (i ∷ rest) (length so.taken) refl

@@ -10,7 +10,7 @@ use Rattle.oc_content.specs.ContentView.{ContentView}
 use Rattle.oc_content.specs.Promises.{PutsNothing}
 use Rattle.oc_model.specs.Node.{Control, Header, Node, new_durable}
 use Rattle.oc_model.specs.Records.{folded}
-use Rattle.oc_store.specs.ControlFiles.{at_side, records_of}
+use Rattle.oc_store.specs.ControlFiles.{at_side, first_bad, records_of}
 use Rattle.oc_store.specs.declared.errors.Side.{Side}
 use Rattle.oc_store.specs.Promises.{ReservesCurrent, ReservesOther}
 use Rattle.oc_store.specs.StoreView.{StoreView, first_disk, second_disk}
@@ -166,6 +166,14 @@ nothing_kept view k k2 is same still = record {
       let before = was honest in
       is.control_files (still is_open).0 before a b (stay.control.images before.control a left) (stay.alternate.images before.alternate b left_b)
       ∙ sym (same.store.current.frames (current_honest before));
+  good = λ is_open honest.
+      let before = was honest in
+      let nodes = ap (λ (n : Control). n.nodes) same.control in
+      let good = is.good (still is_open).0 before in
+      record {
+        current = ap (λ (n : ℕ). first_bad n k2.store.current.frames) nodes ∙ ap (first_bad k.node.control.nodes) (same.store.current.frames (current_honest before)) ∙ good.current;
+        other = ap (λ (n : ℕ). first_bad n k2.store.other.frames) nodes ∙ ap (first_bad k.node.control.nodes) (same.store.other.frames (other_honest before)) ∙ good.other;
+      };
   content_file = λ is_open honest.
       let before = was honest in
       HasFrames-reads view k.content.journal k2.content.journal same.content.journal before.content (is.content_file (still is_open).0 before);
@@ -185,3 +193,6 @@ nothing_kept view k k2 is same still = record {
 
     current_honest : IsHonest view k → IsTrue (view k.store.current.disk).honest
     current_honest honest = (honest_store view k.store honest.control honest.alternate).0
+
+    other_honest : IsHonest view k → IsTrue (view k.store.other.disk).honest
+    other_honest honest = (honest_store view k.store honest.control honest.alternate).1

@@ -1,5 +1,6 @@
 -- An input made ready is its step.
 use Rattle.std.proofs.Common.{◌≡◌, ◌↔◌, ℕ, zero, suc, ◌+◌, ◌≤◌, ◌<◌, ◌^◌, Bool, true, false, not, IsTrue, List, [], ◌∷◌, ◌++◌, length, take, drop, get_or, Option, Some, None, is_some, option_map, unwrap_or, refl, sym, ap, subst, ◌∙◌, arith}
+use Rattle.std.specs.List.{AllByRecursion}
 use Rattle.std.proofs.lemmas.List.{append-nil, length-take, length-drop, nil_from_length, take_all}
 use Rattle.oc_base.specs.declared.group.Group.{Group}
 use Rattle.oc_base.specs.declared.place.Place.{Place}
@@ -21,7 +22,10 @@ use Rattle.oc_journal.specs.JournalView.{JournalView}
 use Rattle.oc_journal.specs.Promises.{HasRoom, IsFullFor}
 use Rattle.oc_journal.proofs.ReadRuns.{OnlyReads-then}
 use Rattle.oc_model.specs.declared.input.Input.{Input}
+use Rattle.oc_laws_step.specs.Sound.{IsSoundRecord}
+use Rattle.oc_laws_step.proofs.Steps.{writes as plan_writes}
 use Rattle.oc_model.specs.declared.record.Record.{Record}
+use Rattle.oc_model.specs.declared.record.Record.TheVariants as records
 use Rattle.oc_model.specs.declared.want.Want.{Want}
 use Rattle.oc_model.specs.NextWorld.{has_change, is_empty}
 use Rattle.oc_model.specs.Node.{Control}
@@ -32,15 +36,17 @@ use Rattle.oc_node.specs.NodeView.{NodeView}
 use Rattle.oc_node.specs.Planned.{PlanView, control_after, planned}
 use Rattle.oc_outside.specs.DiskView.{DiskView, IsReliable}
 use Rattle.oc_record.specs.Spelling.{records_bytes}
+use Rattle.oc_store.specs.ControlFiles.{begun_generation}
 use Rattle.oc_store.specs.StoreView.{StoreView}
 use Rattle.oc_keep.specs.declared.ready.Write.{Write}
 use Rattle.oc_keep.specs.declared.ready.Write.TheVariants as writes
-use Rattle.oc_keep.specs.KeptView.{IsFullAt, IsFullByPlan, IsFullWith, kept_of}
+use Rattle.oc_keep.specs.KeptView.{IsFullAt, IsFullByPlan, IsFullWith, KeptView, kept_of}
 use Rattle.oc_keep.specs.Puts.{CanKeep, CanPut, CanWant, entry_for}
 use Rattle.oc_keep.specs.ReadyView.{CanCommit, CanWrite, IsFullToWrite, groups_with, is_written, outcome_of}
 use Rattle.oc_keep.specs.Writing.{IsPutAs, IsRoomFor, IsWriteOf, KeepsStore, fetched}
 use Rattle.oc_keep.proofs.Limits.{kept_is}
 use Rattle.oc_keep.proofs.Stays.{Law}
+use Rattle.oc_keep.proofs.Wants.{wants_alone}
 
 -- Pieces
 
@@ -159,12 +165,22 @@ made_writes view s c n lines i p w made is = by_write w is ∙ ap has_change mad
   by_write (writes.Records frame) is = rw (empty_is p.records is.some) refl
   by_write (writes.Content piece) is = rw (is.none, is.keeps) refl
 
+-- what a step writes begins with no snapshot
+no_snapshot : (rs : List Record) → AllByRecursion IsSoundRecord rs → begun_generation rs ≡ 0
+no_snapshot [] sound = refl
+no_snapshot (records.Snapshot g ∷ rs) sound = absurd sound.0
+no_snapshot (r ∷ rs) sound = refl
+
+pub made_plain : (n : Control) (lines : List Shelf) (i : Input) (p : PlanView) → planned n p ≡ plan n lines i → begun_generation p.records ≡ 0
+made_plain n lines i p made = ap (λ (o : Plan). begun_generation o.records) made ∙ no_snapshot (plan n lines i).records (plan_writes n lines i).sound
+
 -- Committing it later
 
 pub made_commits : {D : Type 0} (view : D → DiskView) (v : NodeView) (s : StoreView D) (c c2 : ContentView D) (lines : List Shelf) (p q : PlanView) (of : Piece) (w : Write)
-    → CanApply v p → q ≡ record p { sends = q.sends; room = q.room } → PutsNothing view c c2 → IsWriteOf view s lines c p of w → CanCommit view (kept_of v s c2 false) (record { plan = q; write = w })
-made_commits view v s c c2 lines p q of w applies rest same is = record {
+    → CanApply v p → begun_generation p.records ≡ 0 → q ≡ record p { sends = q.sends; room = q.room } → PutsNothing view c c2 → IsWriteOf view s lines c p of w → CanCommit view (kept_of v s c2 false) (record { plan = q; write = w })
+made_commits view v s c c2 lines p q of w applies plain rest same is = record {
   applies = subst (CanApply v) (sym rest) (record { reached = applies.reached; records = applies.records; touches = applies.touches; room = applies.room });
+  plain = ap begun_generation records ∙ plain;
   writes = by_write w is;
 }
   where
@@ -204,19 +220,35 @@ made_commits view v s c c2 lines p q of w applies rest same is = record {
 pub made_full : {D : Type 0} (view : D → DiskView) (v v2 : NodeView) (s s2 : StoreView D) (c c2 c3 : ContentView D) (i : Input) (p : PlanView) (w : Write)
     → planned v.control p ≡ plan v.control c.shelves i → KeepsStore view s s2 → c3.journal.end ≡ c.journal.end → IsWriteOf view s2 c.shelves c2 p (piece_of i) w
     → IsFullToWrite (kept_of v2 s2 c3 false) w ↔ IsFullAt (kept_of v s c false) i
-made_full view v v2 s s2 c c2 c3 i p w made keeps end is = subst (λ (o : Plan). IsFullToWrite (kept_of v2 s2 c3 false) w ↔ IsFullByPlan (kept_of v s c false) i o) made (by_write w is) where
-  by_records : (rs : List Record) (frame : List ℕ) → 0 < length rs → frame ≡ records_bytes rs → IsFullFor (length frame) s2.current ↔ IsFullWith (kept_of v s c false) i rs p.keeps p.seals
+made_full view v v2 s s2 c c2 c3 i p w made keeps end is = subst (λ (o : Plan). IsFullToWrite (kept_of v2 s2 c3 false) w ↔ IsFullByPlan s.current.end c.journal.end c.shelves i o) made (by_write w is) where
+  by_records : (rs : List Record) (frame : List ℕ) → 0 < length rs → frame ≡ records_bytes rs → IsFullFor (length frame) s2.current ↔ IsFullWith s.current.end c.journal.end c.shelves i rs p.keeps p.seals
   by_records [] frame some spells = absurd (omega (arith, some))
   by_records (r ∷ rs) frame some spells =
       let long : length frame ≡ length (records_bytes (r ∷ rs)) = ap length spells in
       (λ h. omega (arith, h, long, keeps.current.end), λ h. omega (arith, h, long, keeps.current.end))
 
-  by_write : (w : Write) → IsWriteOf view s2 c.shelves c2 p (piece_of i) w → IsFullToWrite (kept_of v2 s2 c3 false) w ↔ IsFullByPlan (kept_of v s c false) i (planned v.control p)
+  by_write : (w : Write) → IsWriteOf view s2 c.shelves c2 p (piece_of i) w → IsFullToWrite (kept_of v2 s2 c3 false) w ↔ IsFullByPlan s.current.end c.journal.end c.shelves i (planned v.control p)
   by_write writes.Nothing is = rw (is.0, is.1) (λ h. h, λ h. h)
   by_write (writes.Records frame) is = by_records p.records frame is.some is.spells
   by_write (writes.Content piece) is =
       let long : length piece.body ≡ length (written (entry_for c.shelves (piece_of i) is.at p.seals)) = ap length (is.put.body ∙ ap written is.put.entry) in
       rw (is.none, is.keeps) (λ h. omega (arith, h, long, end), λ h. omega (arith, h, long, end))
+
+-- where nothing is written no file is full
+nothing_fits : (control content : ℕ) (lines : List Shelf) (i : Input) (rs : List Record) (keeps : Option ℕ) (closes : Bool) → rs ≡ [] → keeps ≡ None → IsFullWith control content lines i rs keeps closes → ⊥
+nothing_fits control content lines i [] None closes none nowhere full = full
+nothing_fits control content lines i [] (Some at) closes none nowhere full = absurd cc
+nothing_fits control content lines i (r ∷ rs) keeps closes none nowhere full = absurd cc
+
+-- so none is at a step that wants bytes
+pub wanting_fits : {D : Type 0} (k : KeptView D) (i : Input) (p : PlanView) → planned k.node.control p ≡ plan k.node.control k.content.shelves i → (p.wants ≡ None → ⊥) → IsFullAt k i → ⊥
+wanting_fits k i p made wanting full = by_want p.wants refl where
+  by_want : (w : Option Want) → p.wants ≡ w → ⊥
+  by_want None none = wanting none
+  by_want (Some w) some =
+      let o = plan k.node.control k.content.shelves i in
+      let alone = wants_alone k.node.control k.content.shelves i w (ap (λ (q : Plan). q.wants) (sym made) ∙ some) in
+      nothing_fits k.store.current.end k.content.journal.end k.content.shelves i o.records o.keeps o.seals alone.0 alone.1 full
 
 -- Calls one after another
 

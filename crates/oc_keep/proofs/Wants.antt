@@ -1,5 +1,5 @@
 -- What a step wants to send of the content is there.
-use Rattle.std.proofs.Common.{◌≡◌, ℕ, ◌+◌, ◌<◌, Bool, true, false, ◌==◌, nat_lt, if◌then◌else◌, Option, Some, None, List, [], ◌∷◌, length, Less, nat_cmp, refl, arith}
+use Rattle.std.proofs.Common.{◌≡◌, ◌⊎◌, inl, inr, ⊎_elim, ℕ, ◌+◌, ◌<◌, Bool, true, false, ◌==◌, nat_lt, if◌then◌else◌, Option, Some, None, List, [], ◌∷◌, length, Less, nat_cmp, refl, sym, subst, ◌∙◌, arith}
 use Rattle.std.specs.Cmp.Lexicographic.{slice_cmp}
 use Rattle.std.proofs.lemmas.Bool.Decides.{nat_tests}
 use Rattle.oc_base.specs.declared.shelf.Shelf.{Shelf}
@@ -13,6 +13,7 @@ use Rattle.oc_model.specs.declared.message.Body.{Body}
 use Rattle.oc_model.specs.declared.message.Body.TheVariants as bodies
 use Rattle.oc_model.specs.declared.mode.Mode.{Mode}
 use Rattle.oc_model.specs.declared.mode.Mode.TheVariants as modes
+use Rattle.oc_model.specs.declared.want.Want.{Want}
 use Rattle.oc_model.specs.declared.answer.Answer.{Answer}
 use Rattle.oc_model.specs.Content.{unless, keeps, grows, publish_to, seal_line, count_from, wanted, answers_fetch, adds_seal, adds, grown_line, asks_on, chunk_to}
 use Rattle.oc_model.specs.Node.{Control}
@@ -62,73 +63,104 @@ want_held ls l start among = by_test (count_from l start == 0) refl where
       let some : 0 < count_from l start = grind (arith, nat_tests) in
       record { line = l; there = among.its; within = omega (arith, some); few = omega arith }
 
+-- a step that answers a fetch from a node that has these
+record AnswersFetch (ls : List Shelf) (n : Control) (q : Plan) : Type 0 where
+  to : ℕ
+  have : List Shelf
+  is : q ≡ answers_fetch (begun n) to have (first_behind have ls)
+
 fetch_wants : (ls have : List Shelf) (n : Control) (p : ℕ) (l : Option Shelf) → IfAmong ls l → CanWant ls (answers_fetch (begun n) p have l).wants
 fetch_wants ls have n p None among = tt
 fetch_wants ls have n p (Some l) among = want_held ls l (line_at l.group have).held among
 
+-- it writes nothing
+fetch_alone : (have : List Shelf) (n : Control) (p : ℕ) (l : Option Shelf) → ((answers_fetch (begun n) p have l).records ≡ []) × ((answers_fetch (begun n) p have l).keeps ≡ None)
+fetch_alone have n p None = (refl, refl)
+fetch_alone have n p (Some l) = (refl, refl)
+
 -- The rules
 
 -- every other rule wants nothing
-nothing_wanted : (ls : List Shelf) (e k : ℕ) (n : Control) (q : Plan) → Goes e k (begun n) q → CanWant ls q.wants
-nothing_wanted ls e k n q h = rw h.by.wants tt
+nothing_wanted : (ls : List Shelf) (e k : ℕ) (n : Control) (q : Plan) → Goes e k (begun n) q → (q.wants ≡ None) ⊎ AnswersFetch ls n q
+nothing_wanted ls e k n q h = inl h.by.wants
+
+-- it wants nothing
+abbrev WantsNone : Plan → Type 0
+WantsNone q = q.wants ≡ None
 
 -- the rules that keep content want none
 module _ (ls : List Shelf) where
-  abbrev Wants : Plan → Type 0
-  Wants q = CanWant ls q.wants
-
-  unless_wants : (a : Option Answer) (o q : Plan) → Wants o → Wants q → Wants (unless a o q)
+  unless_wants : (a : Option Answer) (o q : Plan) → WantsNone o → WantsNone q → WantsNone (unless a o q)
   unless_wants None o q h k = k
   unless_wants (Some a) o q h k = h
 
-  publish_wants : (o : Plan) (l : Shelf) (count : ℕ) → Wants o → Wants (publish_to o ls l count)
+  publish_wants : (o : Plan) (l : Shelf) (count : ℕ) → WantsNone o → WantsNone (publish_to o ls l count)
   publish_wants o l count h =
-      either l.sealed Wants (answers o words.Sealed) _ h
-      (unless_wants (limit ls l.group (l.held + count)) o _ h (either (grows ls l.group count) Wants (keeps o l.held false) o h h))
+      either l.sealed WantsNone (answers o words.Sealed) _ h
+      (unless_wants (limit ls l.group (l.held + count)) o _ h (either (grows ls l.group count) WantsNone (keeps o l.held false) o h h))
 
-  seal_wants : (o : Plan) (l : Option Shelf) → Wants o → Wants (seal_line o l)
+  seal_wants : (o : Plan) (l : Option Shelf) → WantsNone o → WantsNone (seal_line o l)
   seal_wants o None h = h
-  seal_wants o (Some l) h = either l.sealed Wants (ignored o) (keeps o l.held true) h h
+  seal_wants o (Some l) h = either l.sealed WantsNone (ignored o) (keeps o l.held true) h h
 
-  asks_wants : (m : Mode) (p : ℕ) (shelf : List Shelf) (q : Plan) → Wants q → Wants (asks_on m p shelf q)
+  asks_wants : (m : Mode) (p : ℕ) (shelf : List Shelf) (q : Plan) → WantsNone q → WantsNone (asks_on m p shelf q)
   asks_wants modes.Idle p shelf q h = h
   asks_wants (modes.Asking r) p shelf q h = h
-  asks_wants (modes.Joined r) p shelf q h = either (r == p) Wants _ q h h
+  asks_wants (modes.Joined r) p shelf q h = either (r == p) WantsNone _ q h h
   asks_wants modes.Acting p shelf q h = h
 
-  chunk_wants : (o : Plan) (p : ℕ) (l : Shelf) (start end : ℕ) (last : Bool) → Wants o → Wants (chunk_to o ls p l start end last)
+  chunk_wants : (o : Plan) (p : ℕ) (l : Shelf) (start end : ℕ) (last : Bool) → WantsNone o → WantsNone (chunk_to o ls p l start end last)
   chunk_wants o p l start end last h =
-      either (nat_lt l.held start) Wants (answers o words.Gap) _ h
-      (either _ Wants (answers o words.Sealed) _ h
+      either (nat_lt l.held start) WantsNone (answers o words.Gap) _ h
+      (either _ WantsNone (answers o words.Sealed) _ h
       (unless_wants (limit ls l.group end) o _ h
-      (either (adds ls l end last) Wants _ (ignored o) (asks_wants o.node.kept.mode p (with_line (grown_line l end last) ls) (keeps o start (adds_seal l end last)) h) h)))
+      (either (adds ls l end last) WantsNone _ (ignored o) (asks_wants o.node.kept.mode p (with_line (grown_line l end last) ls) (keeps o start (adds_seal l end last)) h) h)))
 
-received_wants : (n : Control) (ls : List Shelf) (p : ℕ) (b : Body) → AreLines ls → CanWant ls (received (begun n) ls p b).wants
-received_wants n ls p bodies.Look ok = nothing_wanted ls 0 0 n _ (goes_looked (begun n) p)
-received_wants n ls p (bodies.LookIs is_in parent rate children) ok = nothing_wanted ls 0 2 n _ (goes_sees (begun n) p (record { in_tree = is_in; parent = parent; rate = rate; children = children }))
-received_wants n ls p (bodies.Ask seq rank) ok = nothing_wanted ls 1 1 n _ (goes_asked (begun n) p seq rank)
-received_wants n ls p (bodies.Yes seq rank ancestors) ok = nothing_wanted ls 0 2 n _ (goes_took_yes (begun n) p seq rank ancestors)
-received_wants n ls p (bodies.No seq why) ok = nothing_wanted ls 0 3 n _ (goes_took_no (begun n) p seq why)
-received_wants n ls p (bodies.CheckIn seq upto rate number clients certs) ok = nothing_wanted ls (length certs + 1) 0 n _ (goes_checked_in (begun n) p seq upto rate number clients certs)
-received_wants n ls p (bodies.CheckAck seq upto rank ancestors) ok = nothing_wanted ls 0 3 n _ (goes_took_ack (begun n) p seq upto rank ancestors)
-received_wants n ls p (bodies.Rejoin seq) ok = nothing_wanted ls 0 1 n _ (goes_took_rejoin (begun n) p seq)
-received_wants n ls p (bodies.Fetch have) ok = fetch_wants ls have n p (first_behind have ls) (behind_among have ls ok)
-received_wants n ls p (bodies.Chunk g start bytes last) ok =
-    either (n.me == 1) (Wants ls) (ignored (begun n)) (chunk_to (begun n) ls p (line_at g ls) start (start + length bytes) last)
-    tt (chunk_wants ls (begun n) p (line_at g ls) start (start + length bytes) last tt)
+-- a message wants nothing, or is a fetch
+received_wants : (n : Control) (ls : List Shelf) (p : ℕ) (b : Body) → ((received (begun n) ls p b).wants ≡ None) ⊎ AnswersFetch ls n (received (begun n) ls p b)
+received_wants n ls p bodies.Look = nothing_wanted ls 0 0 n _ (goes_looked (begun n) p)
+received_wants n ls p (bodies.LookIs is_in parent rate children) = nothing_wanted ls 0 2 n _ (goes_sees (begun n) p (record { in_tree = is_in; parent = parent; rate = rate; children = children }))
+received_wants n ls p (bodies.Ask seq rank) = nothing_wanted ls 1 1 n _ (goes_asked (begun n) p seq rank)
+received_wants n ls p (bodies.Yes seq rank ancestors) = nothing_wanted ls 0 2 n _ (goes_took_yes (begun n) p seq rank ancestors)
+received_wants n ls p (bodies.No seq why) = nothing_wanted ls 0 3 n _ (goes_took_no (begun n) p seq why)
+received_wants n ls p (bodies.CheckIn seq upto rate number clients certs) = nothing_wanted ls (length certs + 1) 0 n _ (goes_checked_in (begun n) p seq upto rate number clients certs)
+received_wants n ls p (bodies.CheckAck seq upto rank ancestors) = nothing_wanted ls 0 3 n _ (goes_took_ack (begun n) p seq upto rank ancestors)
+received_wants n ls p (bodies.Rejoin seq) = nothing_wanted ls 0 1 n _ (goes_took_rejoin (begun n) p seq)
+received_wants n ls p (bodies.Fetch have) = inr (record { to = p; have = have; is = refl })
+received_wants n ls p (bodies.Chunk g start bytes last) =
+    inl (either (n.me == 1) WantsNone (ignored (begun n)) (chunk_to (begun n) ls p (line_at g ls) start (start + length bytes) last)
+    refl (chunk_wants ls (begun n) p (line_at g ls) start (start + length bytes) last refl))
+
+-- a step wants nothing, or answers a fetch
+step_wants : (n : Control) (ls : List Shelf) (i : Input) → ((plan n ls i).wants ≡ None) ⊎ AnswersFetch ls n (plan n ls i)
+step_wants n ls (inputs.Tick t) = nothing_wanted ls (length n.kept.table) 2 n _ (goes_tick (begun n) ls t)
+step_wants n ls inputs.CheckNow = nothing_wanted ls 0 2 n _ (goes_checks (begun n))
+step_wants n ls (inputs.Relocate p) = nothing_wanted ls 0 1 n _ (goes_relocate (begun n) p)
+step_wants n ls (inputs.Unreachable p) = nothing_wanted ls 0 3 n _ (goes_unreachable (begun n) p)
+step_wants n ls (inputs.Pull p) = nothing_wanted ls 0 0 n _ (goes_pulled (begun n) ls p)
+step_wants n ls (inputs.Measured p rate hops) = nothing_wanted ls 0 1 n _ (goes_measured (begun n) p rate hops)
+step_wants n ls (inputs.Publish g bytes) =
+    inl (either (n.me == 1) WantsNone (publish_to (begun n) ls (line_at g ls) (length bytes)) (answers (begun n) words.NotSource)
+    (publish_wants ls (begun n) (line_at g ls) (length bytes) refl) refl)
+step_wants n ls (inputs.Seal g) =
+    inl (either (n.me == 1) WantsNone (seal_line (begun n) (line_of g ls)) (answers (begun n) words.NotSource) (seal_wants ls (begun n) (line_of g ls) refl) refl)
+step_wants n ls (inputs.Client area start g) = nothing_wanted ls 0 0 n _ (goes_client (begun n) ls area start g)
+step_wants n ls (inputs.Delivered m) = received_wants n ls m.from m.body
 
 -- what a step wants is held
 pub wants_held : (n : Control) (ls : List Shelf) (i : Input) → IsShelf ls → CanWant ls (plan n ls i).wants
-wants_held n ls (inputs.Tick t) ok = nothing_wanted ls (length n.kept.table) 2 n _ (goes_tick (begun n) ls t)
-wants_held n ls inputs.CheckNow ok = nothing_wanted ls 0 2 n _ (goes_checks (begun n))
-wants_held n ls (inputs.Relocate p) ok = nothing_wanted ls 0 1 n _ (goes_relocate (begun n) p)
-wants_held n ls (inputs.Unreachable p) ok = nothing_wanted ls 0 3 n _ (goes_unreachable (begun n) p)
-wants_held n ls (inputs.Pull p) ok = nothing_wanted ls 0 0 n _ (goes_pulled (begun n) ls p)
-wants_held n ls (inputs.Measured p rate hops) ok = nothing_wanted ls 0 1 n _ (goes_measured (begun n) p rate hops)
-wants_held n ls (inputs.Publish g bytes) ok =
-    either (n.me == 1) (Wants ls) (publish_to (begun n) ls (line_at g ls) (length bytes)) (answers (begun n) words.NotSource)
-    (publish_wants ls (begun n) (line_at g ls) (length bytes) tt) tt
-wants_held n ls (inputs.Seal g) ok =
-    either (n.me == 1) (Wants ls) (seal_line (begun n) (line_of g ls)) (answers (begun n) words.NotSource) (seal_wants ls (begun n) (line_of g ls) tt) tt
-wants_held n ls (inputs.Client area start g) ok = nothing_wanted ls 0 0 n _ (goes_client (begun n) ls area start g)
-wants_held n ls (inputs.Delivered m) ok = received_wants n ls m.from m.body ok.0
+wants_held n ls i ok = ⊎_elim none fetch (step_wants n ls i) where
+  none : (plan n ls i).wants ≡ None → CanWant ls (plan n ls i).wants
+  none h = subst (λ (w : Option Want). CanWant ls w) (sym h) tt
+
+  fetch : AnswersFetch ls n (plan n ls i) → CanWant ls (plan n ls i).wants
+  fetch f = subst (λ (q : Plan). CanWant ls q.wants) (sym f.is) (fetch_wants ls f.have n f.to (first_behind f.have ls) (behind_among f.have ls ok.0))
+
+-- and a step that wants anything writes nothing
+pub wants_alone : (n : Control) (ls : List Shelf) (i : Input) (w : Want) → (plan n ls i).wants ≡ Some w → ((plan n ls i).records ≡ []) × ((plan n ls i).keeps ≡ None)
+wants_alone n ls i w wants = ⊎_elim none fetch (step_wants n ls i) where
+  none : (plan n ls i).wants ≡ None → ((plan n ls i).records ≡ []) × ((plan n ls i).keeps ≡ None)
+  none h = let no : None ≡ Some w = sym h ∙ wants in absurd cc
+
+  fetch : AnswersFetch ls n (plan n ls i) → ((plan n ls i).records ≡ []) × ((plan n ls i).keeps ≡ None)
+  fetch f = subst (λ (q : Plan). (q.records ≡ []) × (q.keeps ≡ None)) (sym f.is) (fetch_alone f.have n f.to (first_behind f.have ls))

@@ -1,11 +1,13 @@
 -- A node on its files, as a contract sees it.
 use Rattle.std.specs.Prelude.{◌≡◌, ℕ, ◌+◌, ◌-◌, ◌^◌, ◌<◌, ◌≤◌, Bool, false, IsTrue, List, [], ◌∷◌, length, Option, Some, None}
-use Rattle.oc_base.specs.declared.limits.TheConstants.{DUE_BYTES, MAX_BASE_ACKED, MAX_FRAME_RECORDS, MAX_LOG_LENGTH}
+use Rattle.oc_base.specs.declared.limits.TheConstants.{DUE_BYTES, MAX_BASE_ACKED, MAX_FRAME_RECORDS, MAX_JOURNAL_BYTES, MAX_LOG_LENGTH}
+use Rattle.oc_base.specs.declared.shelf.Shelf.{Shelf}
+use Rattle.oc_base.specs.Groups.{shelf}
 use Rattle.oc_content.specs.ContentFile.{IsShelved, groups_in}
 use Rattle.oc_content.specs.ContentView.{ContentView}
 use Rattle.oc_content.specs.Entries.{written}
+use Rattle.oc_journal.specs.JournalFile.{end_of, frames_of}
 use Rattle.oc_journal.specs.JournalView.{HasFrames}
-use Rattle.oc_journal.specs.Promises.{IsFullFor}
 use Rattle.oc_model.specs.declared.input.Input.{Input}
 use Rattle.oc_model.specs.declared.record.Record.{Record}
 use Rattle.oc_model.specs.Node.{Control, Header, Node, new_durable}
@@ -16,9 +18,9 @@ use Rattle.oc_model.specs.Step.{piece_of, plan}
 use Rattle.oc_node.specs.NodeView.{IsReached, NodeView}
 use Rattle.oc_outside.specs.DiskView.{DiskView}
 use Rattle.oc_record.specs.Spelling.{records_bytes}
-use Rattle.oc_store.specs.ControlFiles.{records_of}
-use Rattle.oc_store.specs.StoreView.{StoreView, first_disk, second_disk, Recovers}
-use Rattle.oc_keep.specs.Files.{Disks, AreHonest, AlwaysLeaves, Survives}
+use Rattle.oc_store.specs.ControlFiles.{records_of, recovered_frames}
+use Rattle.oc_store.specs.StoreView.{StoreView, first_disk, second_disk, AreGood, Recovers}
+use Rattle.oc_keep.specs.Files.{Disks, AreHonest, AlwaysLeaves, MayLeave, Survives}
 use Rattle.oc_keep.specs.Puts.{entry_for}
 
 -- the node, its control files, its content file, and whether a disk failed
@@ -60,7 +62,8 @@ NodeSurvives view k n = Survives view (header_of k.node.control) k.node.control.
 abbrev pub AtAnyMoment : {D : Type 0} → (D → DiskView) → KeptView D → KeptView D → (Node → Type 0) → Type 0
 AtAnyMoment view old new P = AlwaysLeaves view (header_of old.node.control) old.node.control.me (disks_of old) (disks_of new) P
 
--- While no disk failed: what is durable is the fold of the current control file, and every crash of honest disks leaves what is on them.
+-- While no disk failed: what is durable is the fold of the current control file, all frames of both are lists of records, and every crash
+-- of honest disks leaves what is on them.
 -- The change log is within its limit, since a certificate that is noted behind a base has its own record in the file.
 pub record IsKept {D : Type 0} (view : D → DiskView) (k : KeptView D) : Type 0 where
   pub reached : IsReached k.node.control
@@ -69,6 +72,7 @@ pub record IsKept {D : Type 0} (view : D → DiskView) (k : KeptView D) : Type 0
   pub folds : k.closed ≡ false → IsHonest view k
       → k.node.control.kept ≡ folded (new_durable k.node.control.nodes) (records_of k.node.control.nodes k.store.current.frames)
   pub control_files : k.closed ≡ false → IsHonest view k → Recovers view k.store k.store.current.frames
+  pub good : k.closed ≡ false → IsHonest view k → AreGood k.node.control.nodes k.store
   pub content_file : k.closed ≡ false → IsHonest view k → HasFrames (view k.content.journal.disk) k.content.journal.frames
   pub shelved : IsTrue (view k.content.journal.disk).honest → IsShelved k.content.journal.frames k.content.shelves
   pub log : k.closed ≡ false → k.node.control.kept.log.length ≤ MAX_BASE_ACKED + k.store.current.end
@@ -76,18 +80,29 @@ pub record IsKept {D : Type 0} (view : D → DiskView) (k : KeptView D) : Type 0
 
 -- Full files
 
--- with the frame of these records, or else of this piece, its file would pass its limit
-abbrev pub IsFullWith : {D : Type 0} → KeptView D → Input → List Record → Option ℕ → Bool → Type 0
-IsFullWith k i (r ∷ rs) keeps closes = IsFullFor (length (records_bytes (r ∷ rs))) k.store.current
-IsFullWith k i [] (Some at) closes = IsFullFor (length (written (entry_for k.content.shelves (piece_of i) at closes))) k.content.journal
-IsFullWith k i [] None closes = ⊥
+-- Where the frames of the current control file and of the content file end at these offsets: with the frame of these records, or else of
+-- this piece, its file would pass its limit.
+abbrev pub IsFullWith : ℕ → ℕ → List Shelf → Input → List Record → Option ℕ → Bool → Type 0
+IsFullWith control content lines i (r ∷ rs) keeps closes = MAX_JOURNAL_BYTES < control + 6 + length (records_bytes (r ∷ rs))
+IsFullWith control content lines i [] (Some at) closes = MAX_JOURNAL_BYTES < content + 6 + length (written (entry_for lines (piece_of i) at closes))
+IsFullWith control content lines i [] None closes = ⊥
 
-abbrev pub IsFullByPlan : {D : Type 0} → KeptView D → Input → Plan → Type 0
-IsFullByPlan k i o = IsFullWith k i o.records o.keeps o.seals
+-- with what a plan writes
+abbrev pub IsFullByPlan : ℕ → ℕ → List Shelf → Input → Plan → Type 0
+IsFullByPlan control content lines i o = IsFullWith control content lines i o.records o.keeps o.seals
 
 -- with what this input writes, its file would pass its limit
 abbrev pub IsFullAt : {D : Type 0} → KeptView D → Input → Type 0
-IsFullAt k i = IsFullByPlan k i (plan k.node.control k.content.shelves i)
+IsFullAt k i = IsFullByPlan k.store.current.end k.content.journal.end k.content.shelves i (plan k.node.control k.content.shelves i)
+
+-- the same of three files and the node that is kept in them
+abbrev pub IsFullIn : List ℕ → List ℕ → List ℕ → Node → Input → Type 0
+IsFullIn control alternate content n i =
+    IsFullByPlan (end_of (recovered_frames control alternate)) (end_of (frames_of content)) (shelf n.groups) i (plan n.control (shelf n.groups) i)
+
+-- and of the files that any crash now leaves
+abbrev pub IsFullOn : {D : Type 0} → (D → DiskView) → Disks D → Node → Input → Type 0
+IsFullOn view d n i = (a b c : List ℕ) → MayLeave view d a b c → IsFullIn a b c n i
 
 -- Turning over
 

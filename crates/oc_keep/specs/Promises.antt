@@ -13,7 +13,7 @@ use Rattle.oc_store.specs.Promises.{HasGood}
 use Rattle.oc_keep.specs.declared.errors.KeepLoad.{KeepLoad}
 use Rattle.oc_keep.specs.declared.errors.KeepLoad.TheVariants as loads
 use Rattle.oc_keep.specs.declared.errors.Which.TheVariants.{Control as ControlFile, Alternate, Content}
-use Rattle.oc_keep.specs.Files.{Disks, AreHonest, AllGoOn, AlwaysLeaves, IsLeft, OneRose, Survives, recovered}
+use Rattle.oc_keep.specs.Files.{Disks, AreHonest, AllGoOn, AlwaysLeaves, IsLeft, MayLeave, OneRose, Survives, recovered}
 use Rattle.oc_keep.specs.KeptView.{KeptView, disks_of, header_of, node_of}
 use Rattle.oc_keep.specs.Writing.{KeepsStore}
 
@@ -32,6 +32,10 @@ pub record AreFiles (nodes : ℕ) (a b c : List ℕ) : Type 0 where
 -- what reads of three disks give are the files of a node
 abbrev pub HoldFiles : {D : Type 0} → (D → DiskView) → ℕ → Disks D → Type 0
 HoldFiles view nodes d = AreFiles nodes (view d.control).seen (view d.alternate).seen (view d.content).seen
+
+-- every crash now leaves the files of a node
+abbrev pub LeavesFiles : {D : Type 0} → (D → DiskView) → ℕ → Disks D → Type 0
+LeavesFiles view nodes d = (a b c : List ℕ) → MayLeave view d a b c → AreFiles nodes a b c
 
 -- the node that the disks give back, started, which every crash now leaves
 pub record IsNodeOf {D : Type 0} (view : D → DiskView) (h : Header) (me : ℕ) (d : Disks D) (k : KeptView D) : Type 0 where

@@ -10,6 +10,7 @@ use Rattle.oc_node.specs.Planned.{PlanView, control_after}
 use Rattle.oc_outside.specs.DiskView.{DiskView}
 use Rattle.oc_outside.specs.MemDiskView.{MemDiskView, disk_of}
 use Rattle.oc_record.specs.Spelling.{records_bytes}
+use Rattle.oc_store.specs.ControlFiles.{begun_generation}
 use Rattle.oc_keep.specs.declared.ready.Write.{Write}
 use Rattle.oc_keep.specs.declared.ready.Write.TheVariants as writes
 use Rattle.oc_keep.specs.Files.{Disks}
@@ -53,9 +54,10 @@ CanWrite view k p (writes.Records frame) =
 CanWrite view k p (writes.Content piece) =
     (p.records ≡ []) × CanPutPiece view k.content piece
 
--- it was made ready by this node on its files since the last change of them
+-- it was made ready by this node on its files since the last change of them; its records begin with no snapshot
 pub record CanCommit {D : Type 0} (view : D → DiskView) (k : KeptView D) (r : ReadyView) : Type 0 where
   pub applies : CanApply k.node r.plan
+  pub plain : begun_generation r.plan.records ≡ 0
   pub writes : CanWrite view k r.plan r.write
 
 -- with what is written, its file would pass its limit

@@ -1,5 +1,5 @@
 -- What a trial leaves.
-use Rattle.std.specs.Prelude.{◌≡◌, ℕ, ◌+◌, ◌<◌, List, [], ◌∷◌, length, take}
+use Rattle.std.specs.Prelude.{◌≡◌, ℕ, ◌+◌, ◌<◌, false, List, [], ◌∷◌, length, take, drop}
 use Rattle.oc_model.specs.declared.input.Input.{Input}
 use Rattle.oc_model.specs.Node.{Header, Node}
 use Rattle.oc_model.specs.Step.{step}
@@ -11,7 +11,7 @@ use Rattle.oc_keep.specs.declared.ended.Trial.{Trial}
 use Rattle.oc_keep.specs.declared.ended.TrialEnd.{TrialEnd}
 use Rattle.oc_keep.specs.declared.ended.TrialEnd.TheVariants.{All, Load, Take}
 use Rattle.oc_keep.specs.Files.{Disks, IsLeft, Leaves, OneRose, SameAsEither, Survives, recovered}
-use Rattle.oc_keep.specs.KeptView.{KeptView, disks_of, header_of, node_of}
+use Rattle.oc_keep.specs.KeptView.{IsFullAt, KeptView, disks_of, header_of, node_of}
 use Rattle.oc_keep.specs.Promises.{RefusesNode}
 
 -- the node after these inputs, one after another
@@ -68,6 +68,17 @@ HasRunCause view old new (Take error) = HasTakeCause view old new error
 abbrev pub HasCause : {D : Type 0} → (D → DiskView) → ℕ → Disks D → Disks D → TrialEnd → Type 0
 HasCause view nodes old new (Load error) = RefusesNode view nodes old new error
 HasCause view nodes old new end = HasRunCause view old new end
+
+-- the first of these inputs is one with P
+abbrev pub BeginsWith : (Input → Type 0) → List Input → Type 0
+BeginsWith P [] = ⊥
+BeginsWith P (i ∷ is) = P i
+
+-- a run that came to an input for which a file is full, and did nothing of it
+pub record EndsFull {D : Type 0} (old : KeptView D) (is : List Input) (new : KeptView D) (done : ℕ) : Type 0 where
+  pub unclosed : new.closed ≡ false
+  pub node : node_of new ≡ after_inputs (node_of old) (take done is)
+  pub next : BeginsWith (IsFullAt new) (drop done is)
 
 -- all were taken, or memory ran out
 abbrev pub EndsSurely : TrialEnd → Type 0

@@ -29,6 +29,7 @@ pub record StoreIsLater {D : Type 0} (view : D → DiskView) (old new : StoreVie
 pub record Replaces {D : Type 0} (view : D → DiskView) (rs : List Record) (old new : StoreView D) : Type 0 where
   pub frames : AreHonest view old → new.current.frames ≡ records_bytes rs ∷ []
   pub kept : AreHonest view old → Recovers view new (records_bytes rs ∷ [])
+  pub other : new.other ≡ old.current
   pub side : new.side ≡ opposite old.side
   pub generation : new.generation ≡ old.generation + 1
   pub unclosed : new.closed ≡ false

@@ -5,8 +5,8 @@ ghost use Rattle.oc_base.specs.Shelves.{held_of};
 ghost use Rattle.oc_base.specs.Stops.{is_kept_new};
 ghost use Rattle.oc_base.specs.declared.limits.TheConstants.{DUE_BYTES, MAX_LOG_LENGTH};
 ghost use Rattle.oc_keep.specs.Files.{AllGoOn, AreReliable, SameAsEither, SameDurable, Survives, disks};
-ghost use Rattle.oc_keep.specs.KeptView.{AtAnyMoment, IsFullAt, IsHonest, IsRipe, NodeSurvives, disks_of, header, header_of, node_of};
-ghost use Rattle.oc_keep.specs.Promises.{ChangesNothing, Closes, HoldFiles, IsNodeOf, IsSameNode, IsTurnedOver, LoadsSafely, RefusesNode};
+ghost use Rattle.oc_keep.specs.KeptView.{AtAnyMoment, IsFullAt, IsFullOn, IsHonest, IsRipe, NodeSurvives, disks_of, header, header_of, node_of};
+ghost use Rattle.oc_keep.specs.Promises.{ChangesNothing, Closes, HoldFiles, IsNodeOf, IsSameNode, IsTurnedOver, LeavesFiles, LoadsSafely, RefusesNode};
 ghost use Rattle.oc_keep.specs.ReadyView.{AreLeftAs, CanCommit, CanStopWrite, IsFullToWrite, is_written, outcome_of, told_of};
 ghost use Rattle.oc_laws_step.specs.LawfulNode.{IsLawfulNode};
 ghost use Rattle.oc_model.specs.Lawful.{IsHeader, IsInput};
@@ -137,12 +137,14 @@ impl<D: Disk> Kept<D> {
         ensures closed { IsErrOf result KeepError.Closed ↔ IsTrue self.old.closed }
         ensures full { IsErrOf result KeepError.Full → IsFullAt self.old input }
         ensures fits { OnOk result (¬ IsFullAt self.old input) }
+        ensures full_first { IsErrOf result KeepError.Disk → ¬ IsFullAt self.old input }
         ensures unchanged { IfErr result (λ error. error ≢ KeepError.Disk
             → ChangesNothing D.view self.old self.new) }
         ensures node_err { OnErr result (IsHonest D.view self.old → node_of self.new ≡ node_of self.old) }
         ensures disk { IsErrOf result KeepError.Disk → Closes D.view self.old self.new }
         ensures stays_open { ¬ IsErrOf result KeepError.Disk → self.new.closed ≡ self.old.closed }
         ensures same { IsSameNode self.old.node.control self.new.node.control }
+        ensures generation { IsHonest D.view self.old → self.new.store.generation ≡ self.old.store.generation }
         ensures goes_on { AllGoOn D.view (disks_of self.old) (disks_of self.new) }
 
         // An open node on reliable disks takes it, if there is the memory.
@@ -176,6 +178,7 @@ impl<D: Disk> Kept<D> {
         // When it refuses.
         ensures closed { IsErrOf result ReadyError.Closed ↔ IsTrue self.old.closed }
         ensures disk { IsErrOf result ReadyError.Disk → Closes D.view self.old self.new }
+        ensures full_first { IsErrOf result ReadyError.Disk → ¬ IsFullAt self.old input }
         ensures stays_open { ¬ IsErrOf result ReadyError.Disk → self.new.closed ≡ self.old.closed }
         ensures goes_on { AllGoOn D.view (disks_of self.old) (disks_of self.new) }
 
@@ -228,6 +231,7 @@ impl<D: Disk> Kept<D> {
         ensures disk { IsErrOf result CommitError.Disk → Closes D.view self.old self.new }
         ensures stays_open { ¬ IsErrOf result CommitError.Disk → self.new.closed ≡ false }
         ensures same { IsSameNode self.old.node.control self.new.node.control }
+        ensures generation { IsHonest D.view self.old → self.new.store.generation ≡ self.old.store.generation }
         ensures goes_on { AllGoOn D.view (disks_of self.old) (disks_of self.new) }
 
         // On reliable disks it is taken.
@@ -360,6 +364,7 @@ impl<D: Disk> Kept<D> {
         ensures survives { self.now.closed ≡ false → IsHonest D.view self.now
             → NodeSurvives D.view self.now (node_of self.now) }
     {
+        // The clause of this call says that the shelf is lawful, and `lawful` rests on it.
         let _shelf = self.content.groups();
         &self.node
     }
@@ -374,7 +379,13 @@ impl<D: Disk> Kept<D> {
 
     /// The disks, those of the control files before that of the content.
     pub fn into_disks(self) -> (D, D, D)
-        ensures { disks result.0 result.1 result.2 ≡ disks_of self }
+        ensures disks { disks result.0 result.1 result.2 ≡ disks_of self }
+
+        // While no disk failed, every crash leaves files of a node, which are full for what it is full for.
+        ensures files { self.closed ≡ false → IsHonest D.view self
+            → LeavesFiles D.view self.node.control.nodes (disks_of self) }
+        ensures full { self.closed ≡ false → IsHonest D.view self
+            → (i : Input) → IsFullAt self i → IsFullOn D.view (disks_of self) (node_of self) i }
     {
         let (control, alternate) = self.store.into_disks();
         (control, alternate, self.content.into_disk())
@@ -395,6 +406,9 @@ impl Kept<MemDisk> {
         // else the node before it.
         ensures survives { Survives view_of (header_of self.node.control) self.node.control.me (disks result.0 result.1 result.2)
             (if is_written ready.write && is_kept_new calls image then (outcome_of (node_of self) ready).node else node_of self) }
+
+        // They are files of a node.
+        ensures files { LeavesFiles view_of self.node.control.nodes (disks result.0 result.1 result.2) }
 
         // The disk that is written is left new, without a stop or a fault, and the others as they are.
         ensures disks { AreLeftAs (disks_of self) (disks result.0 result.1 result.2) }

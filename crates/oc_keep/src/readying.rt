@@ -1,6 +1,6 @@
 //! An input made ready: its plan, what it writes, and the bytes that it sends.
 
-ghost use Rattle.std.specs.Prelude.{◌≡◌, ◌≢◌, ◌↔◌, ◌⊎◌, ◌≤◌, false, IsTrue, IsErrOf, Some, IfOk, IfErr, OnOk, OnErr};
+ghost use Rattle.std.specs.Prelude.{◌≡◌, ◌≢◌, ◌↔◌, ◌⊎◌, ◌≤◌, false, IsTrue, IsErrOf, None, Some, IfOk, IfErr, OnOk, OnErr};
 ghost use Rattle.oc_base.specs.declared.limits.TheConstants.{MAX_LOG_LENGTH};
 ghost use Rattle.oc_content.specs.ContentFile.{IsShelved, groups_in};
 ghost use Rattle.oc_content.specs.Promises.{PutsNothing};
@@ -49,6 +49,7 @@ pub fn make_ready<D: Disk>(
     ensures content { PutsNothing D.view content.old content.new }
     ensures none_failed { IsErrOf result ReadyError.Disk ⊎ NoneFailed D.view content.old.journal content.new.journal }
     ensures disk { IsErrOf result ReadyError.Disk → ClosesByRead D.view content.old.journal content.new.journal }
+    ensures full_first { IsErrOf result ReadyError.Disk → ¬ IsFullAt (kept_of node.old store.old content.old false) input.now }
     ensures open { IfErr result (λ error. error ≢ ReadyError.Closed) }
 {
     prepare_refuses_nothing_that_is_kept();
@@ -75,6 +76,7 @@ fn fetch<D: Disk>(
     ensures content { PutsNothing D.view content.old content.new }
     ensures disk { IsErrOf result ReadyError.Disk → ClosesByRead D.view content.old.journal content.new.journal }
     ensures none_failed { IsErrOf result ReadyError.Disk ⊎ NoneFailed D.view content.old.journal content.new.journal }
+    ensures wanting { OnErr result (plan.old.wants ≢ None) }
     ensures open { IfErr result (λ error. error ≢ ReadyError.Closed) }
 {
     let Some(want) = plan.wants() else {

@@ -1,10 +1,11 @@
 ghost use Rattle.std.specs.Prelude.{◌≡◌, ◌≢◌, ◌+◌, ◌<◌, ◌≤◌, false, length, take, drop, IsTrue};
 ghost use Rattle.std.specs.List.{AllByRecursion};
 ghost use Rattle.oc_base.specs.Lawful.{IsNode};
+ghost use Rattle.oc_keep.specs.declared.errors.KeepError.TheVariants.{Full};
 ghost use Rattle.oc_keep.specs.Files.{AllGoOn, AreHonest, AreReliable, disks};
-ghost use Rattle.oc_keep.specs.KeptView.{IsHonest, NodeSurvives, disks_of, header, header_of, node_of};
+ghost use Rattle.oc_keep.specs.KeptView.{IsFullOn, IsHonest, NodeSurvives, disks_of, header, header_of, node_of};
 ghost use Rattle.oc_keep.specs.Promises.{HoldFiles};
-ghost use Rattle.oc_keep.specs.Trials.{EndsSurely, HasCause, HasRunCause, IsCounted, LeavesAfter, RunLeaves, first_node};
+ghost use Rattle.oc_keep.specs.Trials.{BeginsWith, EndsFull, EndsSurely, HasCause, HasRunCause, IsCounted, LeavesAfter, RunLeaves, after_inputs, first_node};
 ghost use Rattle.oc_model.specs.Lawful.{IsHeader, IsInput};
 
 use crate::ended::{Trial, TrialEnd};
@@ -42,6 +43,12 @@ pub fn trial<D: Disk>(
     ensures cause { HasCause D.view nodes (disks control alternate content) (disks result.0 result.1 result.2) result.3.end }
     ensures goes_on { AllGoOn D.view (disks control alternate content) (disks result.0 result.1 result.2) }
 
+    // Where an input was refused since its file is full: with it, the file would pass its limit.
+    ensures full { AreHonest D.view (disks control alternate content) → result.3.end ≡ TrialEnd.Take Full
+        → BeginsWith (IsFullOn D.view (disks result.0 result.1 result.2)
+        (after_inputs (first_node D.view (header nodes chain areas.items) me (disks control alternate content)) (take result.3.done inputs.items)))
+        (drop result.3.done inputs.items) }
+
     // Over the files of a node on reliable disks all are taken, if there is the memory.
     ensures works { AreReliable D.view (disks control alternate content)
         → HoldFiles D.view nodes (disks control alternate content) → EndsSurely result.3.end }
@@ -69,6 +76,8 @@ fn run<D: Disk>(kept: &mut Kept<D>, mut inputs: Vec<Input>) -> Trial
     ensures leaves { IsHonest D.view kept.old → RunLeaves D.view kept.old inputs.items kept.new result }
     ensures counted { IsCounted inputs.items result }
     ensures cause { HasRunCause D.view (disks_of kept.old) (disks_of kept.new) result.end }
+    ensures full { IsHonest D.view kept.old → result.end ≡ TrialEnd.Take Full
+        → EndsFull kept.old inputs.items kept.new result.done }
     ensures goes_on { AllGoOn D.view (disks_of kept.old) (disks_of kept.new) }
     ensures works { AreReliable D.view (disks_of kept.old) → EndsSurely result.end }
 {

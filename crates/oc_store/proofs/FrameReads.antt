@@ -66,3 +66,12 @@ one_frame nodes body = flat_map-cons (records_in nodes) body [] ∙ append-nil (
 pub one_frame_more : (nodes : ℕ) (frames : List (List ℕ)) (body : List ℕ) → records_of nodes (frames ++ body ∷ []) ≡ records_of nodes frames ++ records_in nodes body
 one_frame_more nodes frames body =
     flat_map-append (records_in nodes) frames (body ∷ []) ∙ ap (λ (rs : List Record). records_of nodes frames ++ rs) (one_frame nodes body)
+
+-- a good frame behind good ones leaves them good
+pub good_more : (nodes : ℕ) (frames : List (List ℕ)) (body : List ℕ) → first_bad nodes frames ≡ None → first_bad nodes (body ∷ []) ≡ None → first_bad nodes (frames ++ body ∷ []) ≡ None
+good_more nodes [] body good one = one
+good_more nodes (x ∷ frames) body good one = by_read (decoded nodes x) (first_bad nodes frames) (first_bad nodes (frames ++ body ∷ [])) good (λ h. good_more nodes frames body h one) where
+  by_read : (r : Result (List Record) RecordFault) (later more : Option ℕ) → bad_or r later ≡ None → (later ≡ None → more ≡ None) → bad_or r more ≡ None
+  by_read (Ok records) None more h next = ap (option_map suc) (next refl)
+  by_read (Ok records) (Some k) more h next = absurd cc
+  by_read (Err fault) later more h next = absurd cc

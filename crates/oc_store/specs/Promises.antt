@@ -12,7 +12,7 @@ use Rattle.oc_store.specs.declared.errors.StoreError.{StoreError}
 use Rattle.oc_store.specs.declared.errors.StoreError.TheVariants as stores
 use Rattle.oc_store.specs.ControlFiles.{generation_in, generation_of, number_of, current_side, recovered_frames, recovered, IsGood, IsBadAt}
 use Rattle.oc_store.specs.Sides.{opposite}
-use Rattle.oc_store.specs.StoreView.{StoreView, first_disk, second_disk, AreHonest, Recovers, RecoversEither}
+use Rattle.oc_store.specs.StoreView.{StoreView, first_disk, second_disk, AreGood, AreHonest, Recovers, RecoversEither}
 
 -- Loading
 
@@ -50,6 +50,7 @@ pub record IsStoreOf {D : Type 0} (view : D → DiskView) (nodes : ℕ) (first s
   pub generation : IsTrue (view first).honest → IsTrue (view second).honest
       → store.generation ≡ number_of (generation_of (recovered_frames (view first).seen (view second).seen))
   pub kept : IsTrue (view first).honest → IsTrue (view second).honest → Recovers view store (recovered_frames (view first).seen (view second).seen)
+  pub good : IsTrue (view first).honest → IsTrue (view second).honest → AreGood nodes store
   pub good_first : HasGood nodes (view first)
   pub good_second : HasGood nodes (view second)
   pub unclosed : store.closed ≡ false
@@ -84,6 +85,7 @@ pub record Commits {D : Type 0} (view : D → DiskView) (body : List ℕ) (old n
   pub kept : AreHonest view old → Recovers view new (old.current.frames ++ body ∷ [])
   pub generation : 0 < length old.current.frames → new.generation ≡ old.generation
   pub generation_first : old.current.frames ≡ [] → new.generation ≡ generation_in body
+  pub generation_none : IsTrue (view old.current.disk).honest → old.current.frames ≡ [] → old.generation ≡ 0
   pub was_open : old.closed ≡ false
   pub unclosed : new.closed ≡ false
 

@@ -1,12 +1,12 @@
 -- A store of control records, as a contract sees it.
-use Rattle.std.specs.Prelude.{◌≡◌, ◌⊎◌, ℕ, ◌^◌, ◌<◌, Bool, false, IsTrue, List, [], ◌∷◌}
+use Rattle.std.specs.Prelude.{◌≡◌, ◌⊎◌, ℕ, ◌^◌, ◌<◌, Bool, false, IsTrue, None, List, [], ◌∷◌}
 use Rattle.oc_outside.specs.DiskView.{DiskView}
 use Rattle.oc_journal.specs.JournalFile.{frames_of}
-use Rattle.oc_journal.specs.JournalView.{JournalView, HasFrames}
+use Rattle.oc_journal.specs.JournalView.{JournalView, HasFrames, HoldsJournal}
 use Rattle.oc_model.specs.declared.record.Record.{Record}
 use Rattle.oc_model.specs.declared.record.Record.TheVariants.{Snapshot}
 use Rattle.oc_store.specs.declared.errors.Side.{Side}
-use Rattle.oc_store.specs.ControlFiles.{generation_of, number_of, current_side, at_side, recovered_frames}
+use Rattle.oc_store.specs.ControlFiles.{generation_of, number_of, current_side, at_side, recovered_frames, first_bad}
 
 -- the current file and the other one, which side the current one is, its generation, and whether a disk failed
 pub record StoreView (D : Type 0) : Type 0 where
@@ -26,6 +26,16 @@ second_disk s = at_side s.side s.other.disk s.current.disk
 -- both disks keep the disk model
 abbrev pub AreHonest : {D : Type 0} → (D → DiskView) → StoreView D → Type 0
 AreHonest view s = IsTrue (view s.current.disk).honest × IsTrue (view s.other.disk).honest
+
+-- every crash leaves two journals with the frames of the files
+pub record HoldsJournals {D : Type 0} (view : D → DiskView) (s : StoreView D) : Type 0 where
+  pub current : HoldsJournal view s.current
+  pub other : HoldsJournal view s.other
+
+-- all frames of both files are lists of records
+pub record AreGood {D : Type 0} (nodes : ℕ) (s : StoreView D) : Type 0 where
+  pub current : first_bad nodes s.current.frames ≡ None
+  pub other : first_bad nodes s.other.frames ≡ None
 
 -- from every crash now these frames are recovered
 abbrev pub Recovers : {D : Type 0} → (D → DiskView) → StoreView D → List (List ℕ) → Type 0

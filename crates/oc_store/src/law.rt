@@ -1,9 +1,9 @@
-ghost use Rattle.std.specs.Prelude.{◌≡◌, ℕ, ◌^◌, ◌<◌, List, [], ◌∷◌, ◌++◌, Ok, get_or};
+ghost use Rattle.std.specs.Prelude.{◌≡◌, ℕ, ◌^◌, ◌<◌, List, [], ◌∷◌, ◌++◌, Ok, None, get_or};
 ghost use Rattle.oc_model.specs.declared.record.Record.{Record};
 ghost use Rattle.oc_record.specs.Spelling.{records_bytes};
 ghost use Rattle.oc_model.specs.Lawful.{AreRecords};
 ghost use Rattle.oc_record.specs.Reading.{decoded};
-ghost use Rattle.oc_store.specs.ControlFiles.{records_in, records_of, generation_in, begun_generation};
+ghost use Rattle.oc_store.specs.ControlFiles.{records_in, records_of, first_bad, generation_in, begun_generation};
 
 use oc_record::spellings_are_read;
 
@@ -11,6 +11,8 @@ use oc_record::spellings_are_read;
 pub fn frames_add_their_records()
     ensures read { (nodes : ℕ) (list : List Record) → nodes < 2 ^ 32 → AreRecords nodes list
         → records_in nodes (records_bytes list) ≡ list }
+    ensures good { (nodes : ℕ) (list : List Record) → nodes < 2 ^ 32 → AreRecords nodes list
+        → first_bad nodes (records_bytes list ∷ []) ≡ None }
     ensures one { (nodes : ℕ) (body : List ℕ) → records_of nodes (body ∷ []) ≡ records_in nodes body }
     ensures more { (nodes : ℕ) (frames : List (List ℕ)) (body : List ℕ)
         → records_of nodes (frames ++ body ∷ []) ≡ records_of nodes frames ++ records_in nodes body }

@@ -1,13 +1,14 @@
 ghost use Rattle.std.specs.Prelude.{◌≡◌, ◌≢◌, ◌↔◌, ℕ, List, ◌+◌, ◌-◌, ◌^◌, ◌<◌, ◌≤◌, [], ◌∷◌, false, length, IsTrue, IsOk, IsErrOf, OnOk, IfOk, IfErr};
 ghost use Rattle.oc_outside.specs.DiskView.{CannotFail};
 ghost use Rattle.oc_outside.specs.MemDiskView.{disk_of, view_of};
+ghost use Rattle.oc_journal.specs.JournalFile.{IsJournalOf};
 ghost use Rattle.oc_journal.specs.JournalView.{HasFrames};
 ghost use Rattle.oc_journal.specs.Promises.{HasRoom, IsFullFor};
 ghost use Rattle.oc_journal.specs.Stopped.{frames_after, CanStop};
 ghost use Rattle.oc_record.specs.Spelling.{records_bytes, HaveSpellings};
 ghost use Rattle.oc_store.specs.ControlFiles.{generation_in, generation_of, number_of, current_side, at_side, recovered_frames, IsGood};
 ghost use Rattle.oc_store.specs.Promises.{IsStoreOf, LoadBothSafely, RefusesFiles, ReservesCurrent, ReservesOther, Commits, CommitsSafely, ClosesByCommit, TurnsOver, ClosesByTurn};
-ghost use Rattle.oc_store.specs.StoreView.{first_disk, second_disk, AreHonest, Recovers, RecoversEither, BeginsAbove};
+ghost use Rattle.oc_store.specs.StoreView.{first_disk, second_disk, AreHonest, HoldsJournals, Recovers, RecoversEither, BeginsAbove};
 
 use crate::errors::{Side, StoreError};
 use crate::generation::{generation_in_frame, generation_with};
@@ -217,6 +218,9 @@ impl<D: Disk> Store<D> {
     pub fn into_disks(self) -> (D, D)
         ensures first { result.0 ≡ first_disk self }
         ensures second { result.1 ≡ second_disk self }
+
+        // While no call failed, every crash leaves journals with the frames of the files.
+        ensures holds { self.closed ≡ false → AreHonest D.view self → HoldsJournals D.view self }
     {
         match self.side {
             Side::First => (self.current.into_disk(), self.other.into_disk()),
@@ -234,12 +238,15 @@ impl Store<MemDisk> {
         requires room { CanStop (length frame.now) self.current }
 
         // The frames of the current file are recovered, with the new one exactly after four calls, or after
-        // three with an image that opens the gate, and every crash leaves them. All of that file is safe, and
-        // the other one is as it was.
+        // three with an image that opens the gate, and every crash leaves them, in journals. All of that file is
+        // safe, and the other one is as it was.
         ensures frames { recovered_frames result.0.bytes result.1.bytes
             ≡ frames_after calls image self.current.frames frame.now }
         ensures kept { (a b : List ℕ) → (view_of result.0).may_leave a → (view_of result.1).may_leave b
             → recovered_frames a b ≡ frames_after calls image self.current.frames frame.now }
+        ensures journals { (a b : List ℕ) → (view_of result.0).may_leave a → (view_of result.1).may_leave b
+            → IsJournalOf (frames_after calls image self.current.frames frame.now) (at_side self.side a b)
+            × IsJournalOf self.other.frames (at_side self.side b a) }
         ensures current { at_side self.side result.0 result.1 ≡ disk_of (at_side self.side result.0 result.1).bytes }
         ensures other { at_side self.side result.1 result.0 ≡ self.other.disk }
     {

@@ -12,4 +12,4 @@ returns-in-Err-clause-refuses g c =
     let view = g.D.Disk.view in
     let j = c.args.journal in
     let e = c.in-Err.ensures in
-    rw c.into_disk.ensures (refuses_index (view j.disk) (view c.index_frames.new.journal.disk) j.frames c.in-Err.error (λ is. (e.disk (ap Err is)).fails) (λ is. e.journal (ap Err is)) (λ i is. e.bad i (ap Err is)))
+    rw c.into_disk.ensures.disk (refuses_index (view j.disk) (view c.index_frames.new.journal.disk) j.frames c.in-Err.error (λ is. (e.disk (ap Err is)).fails) (λ is. e.journal (ap Err is)) (λ i is. e.bad i (ap Err is)))

@@ -1,10 +1,11 @@
-use Rattle.std.proofs.Common.{ℕ, List, ap, ◌∙◌}
+use Rattle.std.proofs.Common.{ℕ, false, List, ap, ◌∙◌}
 use Rattle.oc_content.specs.ContentFile.{groups_in}
 use Rattle.oc_node.specs.Planned.{PlanView}
 use Rattle.oc_outside.proofs.DiskMoments.{still_honest}
+use Rattle.oc_keep.specs.KeptView.{kept_of}
 use Rattle.oc_keep.specs.ReadyView.{outcome_of}
 use Rattle.oc_keep.specs.Writing.{fetched}
-use Rattle.oc_keep.proofs.Steps.{made_commits, made_full, made_step, made_writes, plan_keeps, puts_then}
+use Rattle.oc_keep.proofs.Steps.{made_commits, made_full, made_plain, made_step, made_writes, plan_keeps, puts_then, wanting_fits}
 use Rattle.oc_keep.proofs.readying.make_ready.Goals as goal
 
 pub writing-requires-clause-keeps : goal.writing-requires-clause-keeps
@@ -15,6 +16,11 @@ writing-requires-clause-keeps g c =
 
 pub returns-in_err-fetch-clause-content : goal.returns-in_err-fetch-clause-content
 returns-in_err-fetch-clause-content g c = puts_then g.D.Disk.view c.args.content.now c.writing.new.content c.fetch.new.content (λ x h. g.met.D.Disk.consistent x h) c.writing.ensures.content c.fetch.ensures.content
+
+pub returns-in_err-fetch-clause-full_first : goal.returns-in_err-fetch-clause-full_first
+returns-in_err-fetch-clause-full_first g c = λ disk full.
+    let made = rw c.groups.ensures.lines at c.in_ok-plan.ensures.plan in
+    wanting_fits (kept_of c.args.node.now c.args.store.now c.args.content.now false) c.args.input.now c.in_ok-plan.plan made c.in_err-fetch.ensures.wanting full
 
 pub returns-clause-step : goal.returns-clause-step
 returns-clause-step g c = λ honest.
@@ -32,8 +38,9 @@ returns-clause-step g c = λ honest.
 
 pub returns-clause-commits : goal.returns-clause-commits
 returns-clause-commits g c =
+    let made = rw c.groups.ensures.lines at c.in_ok-plan.ensures.plan in
     made_commits g.D.Disk.view c.plan.new.self c.writing.new.store c.writing.new.content c.fetch.new.content c.args.content.now.shelves c.in_ok-plan.plan c.fetch.new.plan _ c.in_ok-write.write
-    c.in_ok-plan.ensures.applies c.fetch.ensures.rest c.fetch.ensures.content c.in_ok-write.ensures.write
+    c.in_ok-plan.ensures.applies (made_plain c.args.node.now.control c.args.content.now.shelves c.args.input.now c.in_ok-plan.plan made) c.fetch.ensures.rest c.fetch.ensures.content c.in_ok-write.ensures.write
 
 pub returns-clause-writes : goal.returns-clause-writes
 returns-clause-writes g c =

@@ -13,4 +13,4 @@ returns-in-Err-read-clause-safely_err g c =
     let u = g.D.Disk.view c.args.disk in
     let v = g.D.Disk.view c.in-Ok.journal.disk in
     let w = g.D.Disk.view c.read.new.journal.disk in
-    rw c.into_disk.ensures (LoadsSafely-reads u v w c.in-Ok.ensures.safely (λ h. g.met.D.Disk.consistent c.in-Ok.journal.disk h) c.read.ensures.same.disk)
+    rw c.into_disk.ensures.disk (LoadsSafely-reads u v w c.in-Ok.ensures.safely (λ h. g.met.D.Disk.consistent c.in-Ok.journal.disk h) c.read.ensures.same.disk)

@@ -1,7 +1,7 @@
 use Rattle.std.proofs.Common.{◌≡◌, true, false, Err, refl, ap, ◌∙◌}
 use Rattle.oc_keep.specs.declared.errors.CommitError.{CommitError}
 use Rattle.oc_keep.specs.KeptView.{KeptView, disks_of, kept_of}
-use Rattle.oc_keep.proofs.Committing.{commit_kept, commit_moments, failed_kept, write_goes_on}
+use Rattle.oc_keep.proofs.Committing.{commit_generation, commit_kept, commit_moments, failed_kept, write_goes_on}
 use Rattle.oc_keep.proofs.Stays.{all_honest, kept_survives}
 use Rattle.oc_keep.proofs.kept.Kept.commit.Goals as goal
 
@@ -12,7 +12,7 @@ invariant_of-self g c =
     let k2 = kept_of c.apply.new.self c.put.new.store c.put.new.content s.closed in
     let was_open : s.closed ≡ false = ap (λ (x : KeptView g.row.D.Denot). x.closed) c.self.view_is ∙ c.requires.open in
     let can = rw (← c.self.view_is, ← c.ready.view_is) at c.requires.ready in
-    commit_kept g.D.Disk.view c.frames_add_their_records.ensures.read k c.self.invariant was_open k2 c.ready.inside.plan c.ready.inside.write can.applies can.writes c.in-Ok.ensures.writes c.put.ensures.safely (λ long. let full = c.in-Ok.ensures.full.1 long in absurd cc) c.apply.ensures.control c.in-Ok.ensures.lines
+    commit_kept g.D.Disk.view c.frames_add_their_records.ensures.read k c.self.invariant was_open c.frames_add_their_records.ensures.good k2 c.ready.inside.plan c.ready.inside.write can.applies can.writes c.in-Ok.ensures.writes c.put.ensures.safely (λ long. let full = c.in-Ok.ensures.full.1 long in absurd cc) c.apply.ensures.control c.in-Ok.ensures.lines
 
 pub returns-in-Ok-clause-survives : goal.returns-in-Ok-clause-survives
 returns-in-Ok-clause-survives g c =
@@ -58,3 +58,13 @@ returns-clause-any_moment g c =
     let can = rw (← c.self.view_is, ← c.ready.view_is) at c.requires.ready in
     rw (← c.self.view_is, ← c.ready.view_is) (λ honest.
     commit_moments g.D.Disk.view c.frames_add_their_records.ensures.read k c.self.invariant was_open (λ x h. g.met.D.Disk.consistent x h) k2 c.ready.inside.plan c.ready.inside.write can.applies.records can.writes c.put.ensures.safely honest)
+
+pub returns-in-Ok-clause-generation : goal.returns-in-Ok-clause-generation
+returns-in-Ok-clause-generation g c =
+    let s = c.self.inside in
+    let k = kept_of s.node s.store s.content s.closed in
+    let k2 = kept_of c.apply.new.self c.put.new.store c.put.new.content s.closed in
+    let was_open : s.closed ≡ false = ap (λ (x : KeptView g.row.D.Denot). x.closed) c.self.view_is ∙ c.requires.open in
+    let can = rw (← c.self.view_is, ← c.ready.view_is) at c.requires.ready in
+    rw (← c.self.view_is)
+    (commit_generation g.D.Disk.view c.frames_add_their_records.ensures.read k c.self.invariant was_open k2 c.ready.inside.plan c.ready.inside.write can.applies.records can.plain can.writes c.in-Ok.ensures.writes c.put.ensures.safely)

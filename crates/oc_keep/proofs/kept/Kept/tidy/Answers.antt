@@ -14,7 +14,7 @@ invariant_of-self g c =
     let count : IsCount (s.store.generation + 1) = (omega arith, omega (arith, due.1)) in
     let short = c.in-Ok-true.ensures.short.0 c.in-Ok-true.field-0-test in
     turned_kept g.D.Disk.view c.frames_add_their_records.ensures.read c.snapshots_stand_for_all.ensures (kept_of s.node s.store s.content s.closed) c.self.invariant c.if-self.false count short.based
-    c.replace.new.store s.closed (c.in-Ok-true.ensures.replaces c.in-Ok-true.field-0-test)
+    c.frames_add_their_records.ensures.good c.replace.new.store s.closed (c.in-Ok-true.ensures.replaces c.in-Ok-true.field-0-test)
 
 pub returns-in-Ok-true-clause-any_moment : goal.returns-in-Ok-true-clause-any_moment
 returns-in-Ok-true-clause-any_moment g c =

@@ -7,6 +7,7 @@ use Rattle.oc_keep.specs.declared.ready.Write.{Write}
 use Rattle.oc_keep.specs.declared.ready.Write.TheVariants as written
 use Rattle.oc_keep.specs.Files.{AreReliable, Survives}
 use Rattle.oc_keep.specs.KeptView.{KeptView, disks_of, header_of, node_of}
+use Rattle.oc_keep.specs.Promises.{LeavesFiles}
 use Rattle.oc_keep.specs.ReadyView.{CanCommit, CanStopWrite, CanWrite, ReadyView, is_written, outcome_of}
 use Rattle.oc_keep.specs.Writing.{IsRoomFor}
 use Rattle.oc_model.specs.declared.input.Input.{Input}
@@ -63,8 +64,9 @@ chosen false P n m first second = second
 -- what a stop leaves
 pub left_by_stop : (k l : KeptView MemDiskView) (r : ReadyView) (i : Input) (calls image : ℕ) (f : Files) → node_of l ≡ node_of k → outcome_of (node_of k) r ≡ step (node_of k) i → is_written r.write ≡ writes (node_of k) i
     → Survives view_of (header_of l.node.control) l.node.control.me (disks_in f) (if is_written r.write && is_kept_new calls image then (outcome_of (node_of l) r).node else node_of l)
+    → LeavesFiles view_of l.node.control.nodes (disks_in f)
     → IsLeft k.node.control (if keeps_write calls image (node_of k) i then (step (node_of k) i).node else node_of k) f
-left_by_stop k l r i calls image f same went frame survives =
+left_by_stop k l r i calls image f same went frame survives files =
     let n : Node = node_of k in
     let first : Survives view_of (header_of n.control) n.control.me (disks_in f) (if is_written r.write && is_kept_new calls image then (outcome_of n r).node else n) =
     subst (λ (m : Node). Survives view_of (header_of m.control) m.control.me (disks_in f) (if is_written r.write && is_kept_new calls image then (outcome_of m r).node else m)) same survives in
@@ -74,6 +76,6 @@ left_by_stop k l r i calls image f same went frame survives =
     subst (λ (b : Bool). Survives view_of (header_of n.control) n.control.me (disks_in f) (if b && is_kept_new calls image then (step n i).node else n)) frame second in
     let header : header_of (step n i).node.control ≡ header_of n.control = subst (λ (o : Outcome). header_of o.node.control ≡ header_of n.control) went refl in
     let me : (step n i).node.control.me ≡ n.control.me = subst (λ (o : Outcome). o.node.control.me ≡ n.control.me) went refl in
-    left_of k.node.control (if keeps_write calls image n i then (step n i).node else n) f third
+    left_of k.node.control (if keeps_write calls image n i then (step n i).node else n) f third (subst (λ (m : Node). LeavesFiles view_of m.control.nodes (disks_in f)) same files)
     (chosen (keeps_write calls image n i) (λ (m : Node). header_of m.control ≡ header_of n.control) (step n i).node n header refl)
     (chosen (keeps_write calls image n i) (λ (m : Node). m.control.me ≡ n.control.me) (step n i).node n me refl)

@@ -2,11 +2,12 @@
 use Rattle.std.proofs.Common.{◌≡◌, ℕ, refl, sym, ap, subst, ◌∙◌}
 use Rattle.oc_keep.specs.Files.{AreReliable, Disks, Survives, disks}
 use Rattle.oc_keep.specs.KeptView.{KeptView, disks_of, header_of, node_of}
-use Rattle.oc_keep.specs.Promises.{IsNodeOf, LoadsSafely}
+use Rattle.oc_keep.specs.Promises.{HoldFiles, IsNodeOf, LoadsSafely}
 use Rattle.oc_model.specs.Node.{Header}
 use Rattle.oc_outside.specs.MemDiskView.{MemDiskView, disk_of, view_of}
 use Rattle.oc_world.specs.declared.standing.Files.{Files}
-use Rattle.oc_world.specs.Standing.{IsRunning, disks_in, left_in}
+use Rattle.oc_world.specs.Standing.{IsRunning, IsStopped, disks_in, left_in}
+use Rattle.oc_world.proofs.Left.{seen_files}
 use Rattle.oc_world.proofs.Open.{reliable_on}
 
 -- copies of files
@@ -44,3 +45,7 @@ pub loaded_node : (h : Header) (x : ℕ) (f g : Files) (k : KeptView MemDiskView
 loaded_node h x f g k same is =
     is.node (record { control = refl; alternate = refl; content = refl })
     ∙ ap (λ (d : Disks MemDiskView). left_in h x (record { control = d.control; alternate = d.alternate; content = d.content })) (copied f g same)
+
+-- the copies hold the files of a node
+pub copies_hold : (h : Header) (x : ℕ) (f g : Files) → AreCopies f g → IsStopped h x f → HoldFiles view_of h.nodes (disks_in g)
+copies_hold h x f g same is = subst (HoldFiles view_of h.nodes) (sym (copied f g same)) (seen_files h x f is)

@@ -1,14 +1,16 @@
 -- A process by its standing.
 use Rattle.std.proofs.Common.{◌≡◌, ℕ, false, refl, sym, ap, subst, ◌∙◌}
-use Rattle.oc_keep.specs.KeptView.{KeptView, header_of, node_of}
+use Rattle.oc_keep.specs.Files.{Disks, Survives}
+use Rattle.oc_keep.specs.KeptView.{KeptView, disks_of, header_of, node_of}
 use Rattle.oc_keep.specs.Promises.{IsSameNode}
 use Rattle.oc_model.specs.Node.{Header, Node, restarted}
+use Rattle.oc_model.specs.World.{Process}
 use Rattle.oc_outside.specs.MemDiskView.{MemDiskView, view_of}
 use Rattle.oc_keep.specs.KeptView.{NodeSurvives}
 use Rattle.oc_world.specs.declared.standing.Files.{Files}
 use Rattle.oc_world.specs.declared.standing.Standing.{Standing}
 use Rattle.oc_world.specs.declared.standing.Standing.TheVariants.{Running, Stopped}
-use Rattle.oc_world.specs.Standing.{IsLeft, IsOpen, IsRunning, IsStopped, Stands, left_in, process_of}
+use Rattle.oc_world.specs.Standing.{IsLeft, IsOpen, IsRunning, IsStopped, Stands, disks_in, left_in, process_of}
 
 -- the node of a process is one of its header
 pub stands_header : (h : Header) (x : ℕ) (s : Standing) → Stands h x s → header_of (process_of h x s).node.control ≡ h
@@ -42,3 +44,20 @@ left_as h x k n f was left = subst (λ (y : ℕ). IsStopped h y f) was.me (subst
 pub left_node : (h : Header) (x : ℕ) (k : KeptView MemDiskView) (n : Node) (f : Files) → IsRunning h x k → IsLeft k.node.control n f → left_in h x f ≡ restarted n
 left_node h x k n f was left =
     ap (λ (j : Header). left_in j x f) (sym was.header) ∙ (ap (λ (y : ℕ). left_in (header_of k.node.control) y f) (sym was.me) ∙ left.node)
+
+-- Every crash of the disks of a process leaves what is durable of its node.
+abbrev pub ProcessSurvives : Disks MemDiskView → Process → Type 0
+ProcessSurvives d p = Survives view_of (header_of p.node.control) p.node.control.me d p.node
+
+-- that of one that runs
+pub running_survives : (h : Header) (x : ℕ) (s : Standing) (k : KeptView MemDiskView) (d : Disks MemDiskView) → Stands h x s → s ≡ Running k → d ≡ disks_of k → ProcessSurvives d (process_of h x s)
+running_survives h x s k d stands is same =
+    let runs : IsRunning h x k = subst (Stands h x) is stands in
+    subst (λ (t : Standing). ProcessSurvives d (process_of h x t)) (sym is)
+    (subst (λ (e : Disks MemDiskView). Survives view_of (header_of k.node.control) k.node.control.me e (node_of k)) (sym same) runs.survives)
+
+-- and that of one that is down
+pub stopped_survives : (h : Header) (x : ℕ) (s : Standing) (f : Files) → Stands h x s → s ≡ Stopped f → ProcessSurvives (disks_in f) (process_of h x s)
+stopped_survives h x s f stands is =
+    let stopped : IsStopped h x f = subst (Stands h x) is stands in
+    subst (λ (t : Standing). ProcessSurvives (disks_in f) (process_of h x t)) (sym is) stopped.survives

@@ -2,6 +2,7 @@
 use Rattle.std.specs.Prelude.{◌≡◌, ℕ, Bool, true, false}
 use Rattle.oc_keep.specs.Files.{AreReliable, Disks, Survives, disks, recovered}
 use Rattle.oc_keep.specs.KeptView.{KeptView, NodeSurvives, disks_of, header_of, node_of}
+use Rattle.oc_keep.specs.Promises.{LeavesFiles}
 use Rattle.oc_model.specs.Node.{Control, Header, Node, restarted}
 use Rattle.oc_model.specs.World.{Process, down}
 use Rattle.oc_outside.specs.MemDiskView.{MemDiskView, view_of}
@@ -38,9 +39,10 @@ pub record IsRunning (h : Header) (x : ℕ) (k : KeptView MemDiskView) : Type 0 
   pub unfailing : IsOpen k
   pub survives : NodeSurvives view_of k (node_of k)
 
--- every crash of the files now leaves what is durable of x
+-- every crash of the files now leaves what is durable of x, in files of a node
 pub record IsStopped (h : Header) (x : ℕ) (f : Files) : Type 0 where
   pub survives : Survives view_of h x (disks_in f) (left_in h x f)
+  pub files : LeavesFiles view_of h.nodes (disks_in f)
 
 -- the files are those of a node with this control state, and recover what is durable of n
 pub record IsLeft (c : Control) (n : Node) (f : Files) : Type 0 where

@@ -1,9 +1,9 @@
 //! An input at a node that runs: first the files are turned over where they are ripe, then all memory is
 //! taken, and last what is durable is written and the messages go out.
 
-ghost use Rattle.std.specs.Prelude.{◌≡◌, ◌++◌, IfOk, OnOk, OnErr};
+ghost use Rattle.std.specs.Prelude.{◌≡◌, ◌+◌, ◌++◌, IfOk, OnOk, OnErr};
 ghost use Rattle.std.specs.List.{AllByRecursion};
-ghost use Rattle.oc_keep.specs.KeptView.{node_of};
+ghost use Rattle.oc_keep.specs.KeptView.{IsRipe, node_of};
 ghost use Rattle.oc_keep.specs.Promises.{IsSameNode};
 ghost use Rattle.oc_keep.specs.ReadyView.{CanCommit, is_written, outcome_of, told_of};
 ghost use Rattle.oc_model.specs.Lawful.{IsInput, IsMessage};
@@ -26,6 +26,7 @@ fn turn_over(kept: &mut Kept<MemDisk>) -> Result<(), Memory>
     requires { IsOpen kept.old }
     ensures open { IsOpen kept.new }
     ensures node { node_of kept.new ≡ node_of kept.old }
+    ensures turned { OnOk result (IsRipe kept.old → kept.new.store.generation ≡ kept.old.store.generation + 1) }
 {
     match kept.tidy() {
         Ok(_) => Ok(()),
@@ -44,6 +45,7 @@ fn prepare(kept: &mut Kept<MemDisk>, input: Input) -> Result<Ready, Memory>
     ensures step { IfOk result (λ ready. outcome_of (node_of kept.old) ready ≡ step (node_of kept.old) input) }
     ensures writes { IfOk result (λ ready. is_written ready.write ≡ writes (node_of kept.old) input) }
     ensures commits { IfOk result (λ ready. CanCommit view_of kept.new ready) }
+    ensures generation { kept.new.store.generation ≡ kept.old.store.generation }
 {
     match kept.ready(input) {
         Ok(ready) => Ok(ready),
@@ -63,6 +65,7 @@ pub(crate) fn make_ready(kept: &mut Kept<MemDisk>, input: Input) -> Result<Ready
     ensures writes { IfOk result (λ ready. is_written ready.write ≡ writes (node_of kept.old) input) }
     ensures commits { IfOk result (λ ready. CanCommit view_of kept.new ready) }
     ensures lawful { IfOk result (λ ready. AllByRecursion (IsMessage kept.old.node.control.nodes) ready.plan.sends) }
+    ensures turned { OnOk result (IsRipe kept.old → kept.new.store.generation ≡ kept.old.store.generation + 1) }
 {
     lawful_nodes_stay_lawful();
     let _node = kept.node();
@@ -80,6 +83,7 @@ fn commit(kept: &mut Kept<MemDisk>, ready: Ready) -> Outcome
     ensures outcome { result ≡ told_of (outcome_of (node_of kept.old) ready) }
     ensures node { node_of kept.new ≡ (outcome_of (node_of kept.old) ready).node }
     ensures same { IsSameNode kept.old.node.control kept.new.node.control }
+    ensures generation { kept.new.store.generation ≡ kept.old.store.generation }
 {
     match kept.commit(ready) {
         Ok(outcome) => outcome,
@@ -104,6 +108,9 @@ pub(crate) fn act(
     ensures node { OnOk result (node_of kept.new ≡ (step (node_of kept.old) input).node) }
     ensures messages { OnOk result (net.new.messages ≡ net.old.messages ++ (step (node_of kept.old) input).sends) }
     ensures answer { IfOk result (λ answer. answer ≡ (step (node_of kept.old) input).answer) }
+
+    // Control files that are ripe are turned over.
+    ensures turned { OnOk result (IsRipe kept.old → kept.new.store.generation ≡ kept.old.store.generation + 1) }
     ensures node_err { OnErr result (node_of kept.new ≡ node_of kept.old) }
     ensures messages_err { OnErr result (net.new.messages ≡ net.old.messages) }
 {

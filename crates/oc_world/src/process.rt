@@ -3,6 +3,7 @@
 ghost use Rattle.std.specs.Prelude.{◌≡◌, ◌++◌, ◌≤◌, true, false, if◌then◌else◌, IfOk, OnOk, OnErr};
 ghost use Rattle.oc_base.specs.Groups.{shelf};
 ghost use Rattle.oc_base.specs.Lawful.{IsNode};
+ghost use Rattle.oc_keep.specs.Files.{Survives, disks};
 ghost use Rattle.oc_keep.specs.KeptView.{header, header_of, node_of};
 ghost use Rattle.oc_keep.specs.Promises.{IsSameNode};
 ghost use Rattle.oc_laws_step.specs.LawfulNode.{IsLawfulControl};
@@ -11,6 +12,7 @@ ghost use Rattle.oc_model.specs.NextWorld.{keeps_write, stopped};
 ghost use Rattle.oc_model.specs.Node.{new_node, restarted};
 ghost use Rattle.oc_model.specs.Step.{step};
 ghost use Rattle.oc_model.specs.World.{down};
+ghost use Rattle.oc_outside.specs.MemDiskView.{view_of};
 ghost use Rattle.oc_stage.specs.Sight.{sight_of};
 ghost use Rattle.oc_world.specs.Standing.{IsRunning, is_running};
 
@@ -196,6 +198,32 @@ impl Process {
                 let _node = kept.node();
                 self.standing = Standing::Running(kept);
                 Err(Memory)
+            }
+        }
+    }
+
+    /// The disks of the node's files, those of the control files before that of the content. Every crash of
+    /// them leaves what is durable of the node.
+    pub(crate) fn into_disks(self) -> (MemDisk, MemDisk, MemDisk)
+        ensures { Survives view_of (header_of self.node.control) self.node.control.me (disks result.0 result.1 result.2) self.node }
+    {
+        let Process {
+            alloc: _,
+            id: _,
+            nodes: _,
+            chain: _,
+            areas: _,
+            standing,
+        } = self;
+        match standing {
+            Standing::Running(kept) => kept.into_disks(),
+            Standing::Stopped(files) => {
+                let Files {
+                    control,
+                    alternate,
+                    content,
+                } = files;
+                (control, alternate, content)
             }
         }
     }

@@ -1,10 +1,13 @@
-ghost use Rattle.std.specs.Prelude.{◌≡◌, ◌↔◌, ◌≤◌, [], length, option_map, if◌then◌else◌, IsTrue, IfOk, OnOk, OnErr};
+ghost use Rattle.std.specs.Prelude.{◌≡◌, ◌↔◌, ℕ, ◌≤◌, List, [], length, option_map, if◌then◌else◌, IsSome, IsTrue, IfOk, IfSome, OnOk, OnErr};
 ghost use Rattle.oc_base.specs.Groups.{shelf};
 ghost use Rattle.oc_base.specs.Lawful.{IsNode};
 ghost use Rattle.std.specs.List.{range_with_len};
 ghost use Rattle.oc_base.specs.declared.limits.TheConstants.{MAX_NODES};
 ghost use Rattle.oc_calm.specs.Cluster.{HasChain, IsStepOf, IsUpNode, is_ack};
-ghost use Rattle.oc_keep.specs.KeptView.{header};
+ghost use Rattle.oc_content.specs.ContentFile.{groups_in};
+ghost use Rattle.oc_journal.specs.JournalFile.{frames_of};
+ghost use Rattle.oc_keep.specs.Files.{Survives, disks};
+ghost use Rattle.oc_keep.specs.KeptView.{header, header_of};
 ghost use Rattle.oc_laws_step.specs.LawfulNode.{IsLawfulControl};
 ghost use Rattle.oc_model.specs.Lawful.{IsEvent, IsHeader, IsInput};
 ghost use Rattle.oc_model.specs.NextWorld.{crashed, next_world, started, stopped_at, word_of, word_of_act, word_of_stop};
@@ -12,6 +15,7 @@ ghost use Rattle.oc_model.specs.Ready.{IsSettled};
 ghost use Rattle.oc_model.specs.Runs.{last_body};
 ghost use Rattle.oc_model.specs.World.{acted, after_act, aimed, ids, is_up, message_at, new_world, node as node_in, process};
 ghost use Rattle.oc_model.specs.declared.event.Event.TheVariants.{Crash, Do, Stop, Up};
+ghost use Rattle.oc_outside.specs.MemDiskView.{view_of};
 ghost use Rattle.oc_stage.specs.Sight.{sight_in};
 ghost use Rattle.oc_stage.specs.Stage.{HasTimeFor, IsSaid};
 ghost use Rattle.oc_world.specs.Inside.{IsLeftBy};
@@ -26,6 +30,7 @@ use oc_calm::{heal, is_settled, settle};
 use oc_keep::Node;
 use oc_laws_world::tests_decide;
 use oc_model::{Act, Answer, Event, Input, Message, Word};
+use oc_outside::MemDisk;
 use std::alloc::Global;
 use std::marker::Model;
 
@@ -267,6 +272,38 @@ impl World {
         let process = &self.processes[at];
         let sight = process.sight()?;
         Ok(sight)
+    }
+
+    /// The disks of a node's files, those of the control files before that of the content; none where there
+    /// is no such node.
+    pub fn into_disks(self, node: NodeId) -> Option<(MemDisk, MemDisk, MemDisk)>
+        ensures found { IsSome result ↔ IsNode (length (ids self)) node }
+
+        // Every crash of them leaves what is durable of the node, and of node 1 the source.
+        ensures survives { IfSome result (λ left. let n = node_in self node in
+            Survives view_of (header_of n.control) node (disks left.0 left.1 left.2) n) }
+        ensures source { IfSome result (λ left. node ≡ 1 → (content : List ℕ)
+            → (view_of left.2).may_leave content → groups_in (frames_of content) ≡ self.source) }
+    {
+        if !self.has(node) {
+            return None;
+        }
+        let at = node.index();
+        let World {
+            alloc: _,
+            chain: _,
+            mut processes,
+            net: _,
+        } = self;
+        let process = processes.swap_remove(at);
+        Some(process.into_disks())
+    }
+
+    /// Whether there is a node of this number.
+    fn has(&self, node: NodeId) -> bool
+        ensures { IsTrue result ↔ IsNode (length (ids self.now)) node }
+    {
+        1 <= node.0 && node.0 <= self.count()
     }
 
     /// Whether the world is settled: one node that is up acts as root, every other one that is up has a true

@@ -4,7 +4,7 @@ use Rattle.std.proofs.Math.Nat.{eq-or-lt_of_le}
 use Rattle.std.proofs.lemmas.List.{append-nil, append_assoc, take_all}
 use Rattle.std.specs.List.{AllByRecursion}
 use Rattle.std.specs.Result.{is_err}
-use Rattle.oc_fetch.specs.Chunks.{TakesPiece, StopsPiece}
+use Rattle.oc_fetch.specs.Chunks.{EndsWritten, IsPut, StopsPiece, TakesPiece}
 use Rattle.oc_fetch.specs.Passing.{IsPassed, StopsPassing}
 use Rattle.oc_fetch.specs.Replies.{BreaksOff}
 use Rattle.oc_fetch.specs.declared.end.GetEnd.{GetEnd}
@@ -67,26 +67,38 @@ whole_text bytes content t =
 
 -- What was passed on so far
 
--- bytes came that lead to this stage, and so much of content was taken
-pub record HasPassed {S K : Type 0} (gives : S → List ℕ → S → Type 0) (takes : K → List ℕ → K → Type 0) (old new : S) (before after : K) (stage : Stage) (count : ℕ) : Type 0 where
+-- bytes came that lead to this stage; of their content so much was taken, and this is still gathered
+pub record HasPassed {S K : Type 0} (gives : S → List ℕ → S → Type 0) (takes : K → List ℕ → K → Type 0) (old new : S) (before after : K) (stage : Stage) (count : ℕ) (gathered : List ℕ) : Type 0 where
   pub bytes : List ℕ
   pub content : List ℕ
   pub came : gives old bytes new
   pub sent : takes before content after
-  pub taken : IsTaken bytes content stage
+  pub taken : IsTaken bytes (content ++ gathered) stage
   pub long : length content ≡ count
 
-pub passed_first : {S K : Type 0} (gives : S → List ℕ → S → Type 0) (takes : K → List ℕ → K → Type 0) → ((s : S) → gives s [] s) → ((k : K) → takes k [] k) → (s : S) (k : K) (stage : Stage) → IsTaken [] [] stage → HasPassed gives takes s s k k stage 0
+pub passed_first : {S K : Type 0} (gives : S → List ℕ → S → Type 0) (takes : K → List ℕ → K → Type 0) → ((s : S) → gives s [] s) → ((k : K) → takes k [] k) → (s : S) (k : K) (stage : Stage) → IsTaken [] [] stage → HasPassed gives takes s s k k stage 0 []
 passed_first gives takes none_given none_taken s k stage taken = record { bytes = []; content = []; came = none_given s; sent = none_taken k; taken = taken; long = refl }
 
-pub passed_then : {S K : Type 0} (gives : S → List ℕ → S → Type 0) (takes : K → List ℕ → K → Type 0) → Then gives gives → Then takes takes → (a b c : S) (p q r : K) (s t : Stage) (count : ℕ) (content : List ℕ) → HasPassed gives takes a b p q s count → TakesPiece gives b c s t content → takes q content r → HasPassed gives takes a c p r t (count + length content)
-passed_then gives takes came sent a b c p q r s t count content has piece more = record {
+-- one piece more came
+pub passed_then : {S K : Type 0} (gives : S → List ℕ → S → Type 0) (takes : K → List ℕ → K → Type 0) → Then gives gives → (a b c : S) (p q : K) (s t : Stage) (count : ℕ) (gathered more : List ℕ) → HasPassed gives takes a b p q s count gathered → TakesPiece gives b c s t more → HasPassed gives takes a c p q t count (gathered ++ more)
+passed_then gives takes came a b c p q s t count gathered more has piece = record {
   bytes = has.bytes ++ piece.bytes;
-  content = has.content ++ content;
+  content = has.content;
   came = came a b c has.bytes piece.bytes has.came piece.came;
-  sent = sent p q r has.content content has.sent more;
-  taken = piece.takes.on has.bytes has.content has.taken;
-  long = omega (arith, has.long, length-append has.content content);
+  sent = has.sent;
+  taken = subst (λ (x : List ℕ). IsTaken (has.bytes ++ piece.bytes) x t) (append_assoc has.content gathered more) (piece.takes.on has.bytes (has.content ++ gathered) has.taken);
+  long = has.long;
+}
+
+-- some of what was gathered was written
+pub passed_put : {S K : Type 0} (gives : S → List ℕ → S → Type 0) (takes : K → List ℕ → K → Type 0) → Then takes takes → (a b : S) (p q r : K) (s : Stage) (count more : ℕ) (gathered left : List ℕ) → HasPassed gives takes a b p q s count gathered → IsPut takes q r gathered left more → HasPassed gives takes a b p r s (count + more) left
+passed_put gives takes sent a b p q r s count more gathered left has put = record {
+  bytes = has.bytes;
+  content = has.content ++ put.written;
+  came = has.came;
+  sent = sent p q r has.content put.written has.sent put.sent;
+  taken = subst (λ (x : List ℕ). IsTaken has.bytes x s) (ap (λ (x : List ℕ). has.content ++ x) put.split ∙ sym (append_assoc has.content put.written left)) has.taken;
+  long = omega (arith, has.long, put.long, length-append has.content put.written);
 }
 
 -- a text that goes on no more is at its end
@@ -105,7 +117,7 @@ ends_early (in_closing front) content rest over goes none end = inl (none, refl,
 ends_early ended content rest over goes none end = cc
 ends_early (refused fault) content rest over goes none end = inr (inl (fault, refl))
 
-pub passed_whole : {S K : Type 0} (gives : S → List ℕ → S → Type 0) (ended_by : S → Type 0) (takes : K → List ℕ → K → Type 0) (a b : S) (p q : K) (s : Stage) (count : ℕ) → HasPassed gives takes a b p q s count → count ≤ MAX_OPEN_BYTES → is_ended s ≡ true → IsPassed gives ended_by takes Chunked a b p q count
+pub passed_whole : {S K : Type 0} (gives : S → List ℕ → S → Type 0) (ended_by : S → Type 0) (takes : K → List ℕ → K → Type 0) (a b : S) (p q : K) (s : Stage) (count : ℕ) → HasPassed gives takes a b p q s count [] → count ≤ MAX_OPEN_BYTES → is_ended s ≡ true → IsPassed gives ended_by takes Chunked a b p q count
 passed_whole gives ended_by takes a b p q s count has fits end = record {
   body = has.bytes;
   content = has.content;
@@ -113,106 +125,137 @@ passed_whole gives ended_by takes a b p q s count has fits end = record {
   came = has.came;
   sent = has.sent;
   is_over = unseen;
-  whole = (subst (λ (t : Stage). IsTaken has.bytes has.content t) (ended_at s end) has.taken, omega (arith, has.long, fits));
+  whole = (subst (λ (x : List ℕ). IsTaken has.bytes x ended) (append-nil has.content) (subst (λ (t : Stage). IsTaken has.bytes (has.content ++ []) t) (ended_at s end) has.taken), omega (arith, has.long, fits));
   count_is = has.long;
 }
 
 -- a piece was not taken
-pub passed_stops : {S K : Type 0} (gives fails : S → List ℕ → S → Type 0) (ended_by : S → Type 0) (takes breaks : K → List ℕ → K → Type 0) → Then gives gives → Then gives fails → (a b c : S) (p q : K) (s : Stage) (count : ℕ) (end : GetEnd) → HasPassed gives takes a b p q s count → is_ended s ≡ false → StopsPiece gives fails ended_by b c s end → StopsPassing gives fails ended_by takes breaks Chunked a c p q end
-passed_stops gives fails ended_by takes breaks came fail a b c p q s count ends.Link has goes stops = record {
+pub passed_stops : {S K : Type 0} (gives fails : S → List ℕ → S → Type 0) (ended_by : S → Type 0) (takes breaks : K → List ℕ → K → Type 0) → Then gives gives → Then gives fails → (a b c : S) (p q : K) (s : Stage) (count : ℕ) (gathered : List ℕ) (end : GetEnd) → HasPassed gives takes a b p q s count gathered → is_ended s ≡ false → StopsPiece gives fails ended_by b c s end → StopsPassing gives fails ended_by takes breaks Chunked a c p q end
+passed_stops gives fails ended_by takes breaks came fail a b c p q s count gathered ends.Link has goes stops = record {
   body = has.bytes ++ (stops.front ++ stops.rest);
-  content = has.content;
+  content = has.content ++ gathered;
   written = has.content;
   over = stops.over;
   came = fail a b c has.bytes (stops.front ++ stops.rest) has.came stops.came;
   sent = has.sent;
   is_over = stops.is_over;
   begins = inr (has.bytes, stops.front ++ stops.rest, s, refl, has.taken);
-  front = front_whole has.content;
+  front = (gathered, refl);
   cause = tt;
 }
-passed_stops gives fails ended_by takes breaks came fail a b c p q s count ends.Memory has goes stops = record {
+passed_stops gives fails ended_by takes breaks came fail a b c p q s count gathered ends.Memory has goes stops = record {
   body = has.bytes ++ (stops.front ++ stops.rest);
-  content = has.content;
+  content = has.content ++ gathered;
   written = has.content;
   over = stops.over;
   came = came a b c has.bytes (stops.front ++ stops.rest) has.came stops.came;
   sent = has.sent;
   is_over = stops.is_over;
   begins = inr (has.bytes, stops.front ++ stops.rest, s, refl, has.taken);
-  front = front_whole has.content;
+  front = (gathered, refl);
   cause = tt;
 }
-passed_stops gives fails ended_by takes breaks came fail a b c p q s count ends.Reply has goes stops = elim stops.cause [
+passed_stops gives fails ended_by takes breaks came fail a b c p q s count gathered ends.Reply has goes stops = elim stops.cause [
   | inl early ↦ record {
     body = has.bytes ++ (stops.front ++ stops.rest);
-    content = has.content;
+    content = has.content ++ gathered;
     written = has.content;
     over = stops.over;
     came = came a b c has.bytes (stops.front ++ stops.rest) has.came stops.came;
     sent = has.sent;
     is_over = stops.is_over;
     begins = inr (has.bytes, stops.front ++ stops.rest, s, refl, has.taken);
-    front = front_whole has.content;
-    cause = (has.bytes, stops.front ++ stops.rest, has.content, s, refl, has.taken, ends_early s has.content (stops.front ++ stops.rest) stops.over goes early.0 early.1);
+    front = (gathered, refl);
+    cause = (has.bytes, stops.front ++ stops.rest, has.content ++ gathered, s, refl, has.taken, ends_early s (has.content ++ gathered) (stops.front ++ stops.rest) stops.over goes early.0 early.1);
   }
   | inr (fault, content, takes_on) ↦
       let split : has.bytes ++ (stops.front ++ stops.rest) ≡ (has.bytes ++ stops.front) ++ stops.rest = sym (append_assoc has.bytes stops.front stops.rest) in
-      let taken = takes_on.on has.bytes has.content has.taken in
+      let taken = takes_on.on has.bytes (has.content ++ gathered) has.taken in
       record {
         body = has.bytes ++ (stops.front ++ stops.rest);
-        content = has.content ++ content;
+        content = (has.content ++ gathered) ++ content;
         written = has.content;
         over = stops.over;
         came = came a b c has.bytes (stops.front ++ stops.rest) has.came stops.came;
         sent = has.sent;
         is_over = stops.is_over;
         begins = inr (has.bytes ++ stops.front, stops.rest, refused fault, split, taken);
-        front = (content, refl);
-        cause = (has.bytes ++ stops.front, stops.rest, has.content ++ content, refused fault, split, taken, inr (inl (fault, refl)));
+        front = (gathered ++ content, append_assoc has.content gathered content);
+        cause = (has.bytes ++ stops.front, stops.rest, (has.content ++ gathered) ++ content, refused fault, split, taken, inr (inl (fault, refl)));
       }
 ]
-passed_stops gives fails ended_by takes breaks came fail a b c p q s count ends.Done has goes stops = absurd stops.cause
-passed_stops gives fails ended_by takes breaks came fail a b c p q s count ends.BadUrl has goes stops = absurd stops.cause
-passed_stops gives fails ended_by takes breaks came fail a b c p q s count (ends.Refused status) has goes stops = absurd stops.cause
-passed_stops gives fails ended_by takes breaks came fail a b c p q s count ends.Redirects has goes stops = absurd stops.cause
-passed_stops gives fails ended_by takes breaks came fail a b c p q s count ends.Sink has goes stops = absurd stops.cause
+passed_stops gives fails ended_by takes breaks came fail a b c p q s count gathered ends.Done has goes stops = absurd stops.cause
+passed_stops gives fails ended_by takes breaks came fail a b c p q s count gathered ends.BadUrl has goes stops = absurd stops.cause
+passed_stops gives fails ended_by takes breaks came fail a b c p q s count gathered (ends.Refused status) has goes stops = absurd stops.cause
+passed_stops gives fails ended_by takes breaks came fail a b c p q s count gathered ends.Redirects has goes stops = absurd stops.cause
+passed_stops gives fails ended_by takes breaks came fail a b c p q s count gathered ends.Sink has goes stops = absurd stops.cause
+
+-- nor could what was gathered be written
+passed_unput : {S K : Type 0} (gives fails : S → List ℕ → S → Type 0) (ended_by : S → Type 0) (takes breaks : K → List ℕ → K → Type 0) → Then gives gives → Then takes breaks → (a b c : S) (p q r : K) (s : Stage) (count : ℕ) (gathered more : List ℕ) (n : ℕ) → HasPassed gives takes a b p q s count gathered → gives b more c → breaks q (take n gathered) r → StopsPassing gives fails ended_by takes breaks Chunked a c p r ends.Sink
+passed_unput gives fails ended_by takes breaks came fail a b c p q r s count gathered more n has next unsent = record {
+  body = has.bytes ++ more;
+  content = has.content ++ gathered;
+  written = has.content ++ take n gathered;
+  over = false;
+  came = came a b c has.bytes more has.came next;
+  sent = fail p q r has.content (take n gathered) has.sent unsent;
+  is_over = unseen;
+  begins = inr (has.bytes, more, s, refl, has.taken);
+  front = front_behind has.content (take n gathered) gathered (drop n gathered, sym (take-append-drop n gathered));
+  cause = tt;
+}
+
+-- a piece that was not taken came without a failure of the source, unless it ends with one
+came_piece : {S : Type 0} (gives fails : S → List ℕ → S → Type 0) (ended_by : S → Type 0) (b c : S) (s : Stage) (end : GetEnd) → end ≢ ends.Link → (stops : StopsPiece gives fails ended_by b c s end) → gives b (stops.front ++ stops.rest) c
+came_piece gives fails ended_by b c s ends.Link other stops = absurd (other refl)
+came_piece gives fails ended_by b c s ends.Done other stops = stops.came
+came_piece gives fails ended_by b c s ends.BadUrl other stops = stops.came
+came_piece gives fails ended_by b c s (ends.Refused status) other stops = stops.came
+came_piece gives fails ended_by b c s ends.Redirects other stops = stops.came
+came_piece gives fails ended_by b c s ends.Reply other stops = stops.came
+came_piece gives fails ended_by b c s ends.Sink other stops = stops.came
+came_piece gives fails ended_by b c s ends.Memory other stops = stops.came
+
+-- a piece was not taken, and what was gathered was written or left
+pub passed_ends : {S K : Type 0} (gives fails : S → List ℕ → S → Type 0) (ended_by : S → Type 0) (takes breaks : K → List ℕ → K → Type 0) → Then gives gives → Then gives fails → Then takes takes → Then takes breaks → (a b c : S) (p q r : K) (s : Stage) (count : ℕ) (gathered : List ℕ) (end last : GetEnd) → HasPassed gives takes a b p q s count gathered → is_ended s ≡ false → StopsPiece gives fails ended_by b c s end → EndsWritten takes breaks q r gathered end last → StopsPassing gives fails ended_by takes breaks Chunked a c p r last
+passed_ends gives fails ended_by takes breaks came fail sent break a b c p q r s count gathered end last has goes stops (inl (same, inl written)) =
+    let put : IsPut takes q r gathered [] (length gathered) = record { written = gathered; split = sym (append-nil gathered); sent = written; long = refl } in
+    let all = passed_put gives takes sent a b p q r s count (length gathered) gathered [] has put in
+    subst (λ (e : GetEnd). StopsPassing gives fails ended_by takes breaks Chunked a c p r e) (sym same) (passed_stops gives fails ended_by takes breaks came fail a b c p r s (count + length gathered) [] end all goes stops)
+passed_ends gives fails ended_by takes breaks came fail sent break a b c p q r s count gathered end last has goes stops (inl (same, inr left)) =
+    subst (λ (e : GetEnd). StopsPassing gives fails ended_by takes breaks Chunked a c p r e) (sym same) (subst (λ k. StopsPassing gives fails ended_by takes breaks Chunked a c p k end) (sym left) (passed_stops gives fails ended_by takes breaks came fail a b c p q s count gathered end has goes stops))
+passed_ends gives fails ended_by takes breaks came fail sent break a b c p q r s count gathered end last has goes stops (inr (sink, other, (n, unsent))) =
+    subst (λ (e : GetEnd). StopsPassing gives fails ended_by takes breaks Chunked a c p r e) (sym sink) (passed_unput gives fails ended_by takes breaks came break a b c p q r s count gathered (stops.front ++ stops.rest) n has (came_piece gives fails ended_by b c s end other stops) unsent)
 
 -- the content is too long
-pub passed_too_long : {S K : Type 0} (gives fails : S → List ℕ → S → Type 0) (ended_by : S → Type 0) (takes breaks : K → List ℕ → K → Type 0) → Then gives gives → (a b c : S) (p q : K) (s t : Stage) (count : ℕ) (content : List ℕ) → HasPassed gives takes a b p q s count → TakesPiece gives b c s t content → MAX_OPEN_BYTES < count + length content → StopsPassing gives fails ended_by takes breaks Chunked a c p q ends.Reply
-passed_too_long gives fails ended_by takes breaks came a b c p q s t count content has piece long =
-    let body = has.bytes ++ piece.bytes in
-    let taken = piece.takes.on has.bytes has.content has.taken in
-    record {
-      body = body;
-      content = has.content ++ content;
-      written = has.content;
-      over = false;
-      came = came a b c has.bytes piece.bytes has.came piece.came;
-      sent = has.sent;
-      is_over = unseen;
-      begins = inr (body, [], t, sym (append-nil body), taken);
-      front = (content, refl);
-      cause = (body, [], has.content ++ content, t, sym (append-nil body), taken, inr (inr (omega (arith, long, has.long, length-append has.content content))));
-    }
+pub passed_too_long : {S K : Type 0} (gives fails : S → List ℕ → S → Type 0) (ended_by : S → Type 0) (takes breaks : K → List ℕ → K → Type 0) (a b : S) (p q : K) (s : Stage) (count : ℕ) (gathered : List ℕ) → HasPassed gives takes a b p q s count gathered → MAX_OPEN_BYTES < count + length gathered → StopsPassing gives fails ended_by takes breaks Chunked a b p q ends.Reply
+passed_too_long gives fails ended_by takes breaks a b p q s count gathered has long = record {
+  body = has.bytes;
+  content = has.content ++ gathered;
+  written = has.content;
+  over = false;
+  came = has.came;
+  sent = has.sent;
+  is_over = unseen;
+  begins = inr (has.bytes, [], s, sym (append-nil has.bytes), has.taken);
+  front = (gathered, refl);
+  cause = (has.bytes, [], has.content ++ gathered, s, sym (append-nil has.bytes), has.taken, inr (inr (omega (arith, long, has.long, length-append has.content gathered))));
+}
 
--- the sink failed behind a front of a piece's content
-pub passed_unsent : {S K : Type 0} (gives fails : S → List ℕ → S → Type 0) (ended_by : S → Type 0) (takes breaks : K → List ℕ → K → Type 0) → Then gives gives → Then takes breaks → (a b c : S) (p q r : K) (s t : Stage) (count : ℕ) (content : List ℕ) (n : ℕ) → HasPassed gives takes a b p q s count → TakesPiece gives b c s t content → breaks q (take n content) r → StopsPassing gives fails ended_by takes breaks Chunked a c p r ends.Sink
-passed_unsent gives fails ended_by takes breaks came fail a b c p q r s t count content n has piece unsent =
-    let body = has.bytes ++ piece.bytes in
-    let taken = piece.takes.on has.bytes has.content has.taken in
-    record {
-      body = body;
-      content = has.content ++ content;
-      written = has.content ++ take n content;
-      over = false;
-      came = came a b c has.bytes piece.bytes has.came piece.came;
-      sent = fail p q r has.content (take n content) has.sent unsent;
-      is_over = unseen;
-      begins = inr (body, [], t, sym (append-nil body), taken);
-      front = front_behind has.content (take n content) content (drop n content, sym (take-append-drop n content));
-      cause = tt;
-    }
+-- the sink failed behind a front of what was gathered
+pub passed_unsent : {S K : Type 0} (gives fails : S → List ℕ → S → Type 0) (ended_by : S → Type 0) (takes breaks : K → List ℕ → K → Type 0) → Then takes breaks → (a b : S) (p q r : K) (s : Stage) (count : ℕ) (gathered : List ℕ) (n : ℕ) → HasPassed gives takes a b p q s count gathered → breaks q (take n gathered) r → StopsPassing gives fails ended_by takes breaks Chunked a b p r ends.Sink
+passed_unsent gives fails ended_by takes breaks fail a b p q r s count gathered n has unsent = record {
+  body = has.bytes;
+  content = has.content ++ gathered;
+  written = has.content ++ take n gathered;
+  over = false;
+  came = has.came;
+  sent = fail p q r has.content (take n gathered) has.sent unsent;
+  is_over = unseen;
+  begins = inr (has.bytes, [], s, sym (append-nil has.bytes), has.taken);
+  front = front_behind has.content (take n gathered) gathered (drop n gathered, sym (take-append-drop n gathered));
+  cause = tt;
+}
 
 -- nothing came yet, since there was no memory for it
 pub passed_nothing : {S K : Type 0} (gives fails : S → List ℕ → S → Type 0) (ended_by : S → Type 0) (takes breaks : K → List ℕ → K → Type 0) → ((s : S) → gives s [] s) → ((k : K) → takes k [] k) → (s : S) (k : K) → StopsPassing gives fails ended_by takes breaks Chunked s s k k ends.Memory
@@ -230,17 +273,17 @@ passed_nothing gives fails ended_by takes breaks none_given none_taken s k = rec
 }
 
 -- it was given up
-pub passed_starved : {S K : Type 0} (gives fails : S → List ℕ → S → Type 0) (ended_by : S → Type 0) (takes breaks : K → List ℕ → K → Type 0) (a b : S) (p q : K) (s : Stage) (count : ℕ) → HasPassed gives takes a b p q s count → StopsPassing gives fails ended_by takes breaks Chunked a b p q ends.Memory
-passed_starved gives fails ended_by takes breaks a b p q s count has = record {
+pub passed_starved : {S K : Type 0} (gives fails : S → List ℕ → S → Type 0) (ended_by : S → Type 0) (takes breaks : K → List ℕ → K → Type 0) (a b : S) (p q : K) (s : Stage) (count : ℕ) (gathered : List ℕ) → HasPassed gives takes a b p q s count gathered → StopsPassing gives fails ended_by takes breaks Chunked a b p q ends.Memory
+passed_starved gives fails ended_by takes breaks a b p q s count gathered has = record {
   body = has.bytes;
-  content = has.content;
+  content = has.content ++ gathered;
   written = has.content;
   over = false;
   came = has.came;
   sent = has.sent;
   is_over = unseen;
   begins = inr (has.bytes, [], s, sym (append-nil has.bytes), has.taken);
-  front = front_whole has.content;
+  front = (gathered, refl);
   cause = tt;
 }
 

@@ -31,7 +31,7 @@ AreFronts (turn ∷ turns) [] = ⊥
 AreFronts (turn ∷ turns) (text ∷ texts) = IsFrontOf turn text × AreFronts turns texts
 
 -- a Location leads to one URL
-one_url : (asked : Parts) (a b : List ℕ) (u v : Parts) → a ≡ b → LeadsTo asked a u → LeadsTo asked b v → u ≡ v
+pub one_url : (asked : Parts) (a b : List ℕ) (u v : Parts) → a ≡ b → LeadsTo asked a u → LeadsTo asked b v → u ≡ v
 one_url asked a b u v e p q = let parsed = sym p.joined ∙ ap (λ (x : List ℕ). parse_url (Some asked) x) e ∙ q.joined in cc
 
 -- a head of a whole 200 is a 200

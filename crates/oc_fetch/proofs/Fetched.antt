@@ -74,7 +74,7 @@ talked_so takes breaks P Q a b p q end so talked = record {
 
 -- Completeness
 
-one_parsed : (address : List ℕ) (u v : Parts) → IsAddressOf address u → IsAddressOf address v → u ≡ v
+pub one_parsed : (address : List ℕ) (u v : Parts) → IsAddressOf address u → IsAddressOf address v → u ≡ v
 one_parsed address u v p q = let e = sym p.parsed ∙ q.parsed in cc
 
 -- where nothing is asked, nothing was refused of a good address

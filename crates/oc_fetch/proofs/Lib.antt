@@ -10,3 +10,4 @@ mod OneHead
 mod Completing
 mod Dialling
 mod Fetched
+mod Redirected

@@ -1,8 +1,8 @@
 -- How a chunked text goes from a source through a reader of chunks.
-use Rattle.std.specs.Prelude.{◌≡◌, ◌⊎◌, ℕ, Bool, true, List, [], ◌++◌, ⊤}
+use Rattle.std.specs.Prelude.{◌≡◌, ◌≢◌, ◌⊎◌, ℕ, Bool, true, List, [], ◌++◌, length, take, ⊤}
 use Rattle.oc_fetch.specs.Passing.{Came}
 use Rattle.oc_fetch.specs.declared.end.GetEnd.{GetEnd}
-use Rattle.oc_fetch.specs.declared.end.GetEnd.TheVariants.{Reply, Link, Memory}
+use Rattle.oc_fetch.specs.declared.end.GetEnd.TheVariants.{Reply, Link, Sink, Memory}
 use Rattle.oc_stream.specs.Stages.{Stage, refused}
 use Rattle.oc_stream.specs.Taken.{Takes}
 use Rattle.oc_stream.specs.declared.fault.ChunkFault.{ChunkFault}
@@ -21,6 +21,19 @@ StopsAt stage front rest over Reply =
 StopsAt stage front rest over Link = front ++ rest ≡ []
 StopsAt stage front rest over Memory = ⊤
 StopsAt stage front rest over end = ⊥
+
+-- of what was gathered a front was written, of this length, and this is left
+pub record IsPut {K : Type 0} (takes : K → List ℕ → K → Type 0) (old new : K) (before after : List ℕ) (count : ℕ) : Type 0 where
+  pub written : List ℕ
+  pub split : before ≡ written ++ after
+  pub sent : takes old written new
+  pub long : length written ≡ count
+
+-- what was gathered before this end was written or left, or writing it failed, which is another end
+abbrev pub EndsWritten : {K : Type 0} → (K → List ℕ → K → Type 0) → (K → List ℕ → K → Type 0) → K → K → List ℕ → GetEnd → GetEnd → Type 0
+EndsWritten takes breaks old new content end ended =
+    ((ended ≡ end) × (takes old content new ⊎ (new ≡ old)))
+    ⊎ ((ended ≡ Sink) × (end ≢ Link) × ((n : ℕ) × breaks old (take n content) new))
 
 -- a piece came that was not taken
 pub record StopsPiece {S : Type 0} (gives fails : S → List ℕ → S → Type 0) (ended : S → Type 0) (old new : S) (stage : Stage) (end : GetEnd) : Type 0 where

@@ -10,3 +10,4 @@ pub mod Redirecting
 pub mod Conversations
 pub mod Downloads
 pub mod Completeness
+pub mod Redirections

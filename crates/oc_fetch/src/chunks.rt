@@ -1,7 +1,7 @@
 //! A chunked content, passed on as it comes.
 
-ghost use Rattle.std.specs.Prelude.{◌≡◌, ℕ, List, false, not, IfOk, IfErr, OnOk, IsErrOf};
-ghost use Rattle.oc_fetch.specs.Chunks.{TakesPiece, StopsPiece};
+ghost use Rattle.std.specs.Prelude.{◌≡◌, ◌⊎◌, ◌++◌, ℕ, List, [], false, not, take, IfOk, IfErr, OnOk, OnErr, IsErrOf};
+ghost use Rattle.oc_fetch.specs.Chunks.{EndsWritten, IsPut, StopsPiece, TakesPiece};
 ghost use Rattle.oc_fetch.specs.Passing.{IsPassed, StopsPassing};
 ghost use Rattle.oc_fetch.specs.declared.extent.Extent.TheVariants.{Chunked as ChunkedExtent};
 ghost use Rattle.oc_outside.specs.Faults.{NoFall, Rose};
@@ -10,13 +10,14 @@ ghost use Rattle.oc_stream.specs.Taken.{IsTaken};
 
 use crate::end::GetEnd;
 use crate::extent::MAX_OPEN_BYTES;
+use crate::room::PIECE_BYTES;
 use oc_outside::{Sink, Source, write_all};
 use oc_stream::{ChunkFault, Unchunker, a_chunked_text_ends, a_text_is_read_in_one_way};
 use std::alloc::Global;
 
 /// Passes a chunked content on from a source to a sink, at most `MAX_OPEN_BYTES`. The text is taken byte
-/// by byte, since its end shows only there, and nothing that is behind it may be taken. Gives the length of
-/// the content in bytes.
+/// by byte, since its end shows only there, and nothing that is behind it may be taken. Its content is
+/// gathered, and written in pieces of `PIECE_BYTES`. Gives the length of the content in bytes.
 pub(crate) fn pass_chunked<S: Source, K: Sink>(
     alloc: Global,
     source: &mut S,
@@ -32,20 +33,67 @@ pub(crate) fn pass_chunked<S: Source, K: Sink>(
 {
     let mut unchunker = Unchunker::new(alloc)?;
     let mut passed = 0;
+    content.clear();
     'bytes: for _ in 0..u64::MAX {
         if !goes_on(&unchunker) {
-            return Ok(passed);
+            let last = put(sink, content)?;
+            return Ok(passed + last);
         }
-        take_byte(&mut unchunker, source, content)?;
+        if let Err(end) = take_byte(&mut unchunker, source, content) {
+            return Err(put_before(end, sink, content));
+        }
         if content.len() as u64 > MAX_OPEN_BYTES - passed {
             return Err(GetEnd::Reply);
         }
-        if write_all(sink, content).is_err() {
-            return Err(GetEnd::Sink);
-        }
-        passed += content.len() as u64;
+        passed += put_piece(sink, content)?;
     }
     Err(GetEnd::Memory)
+}
+
+/// Writes what was gathered, if it is a whole piece. Gives how many bytes were written, and leaves the rest.
+fn put_piece<K: Sink>(sink: &mut K, content: &mut Vec<u8>) -> Result<u64, GetEnd>
+    ensures put { IfOk result (λ count. IsPut K.takes sink.old sink.new content.old.items content.new.items count) }
+    ensures unsent { OnErr result ((n : ℕ) × K.fails sink.old (take n content.old.items) sink.new) }
+    ensures end { IfErr result (λ end. end ≡ GetEnd.Sink) }
+    ensures count { NoFall (K.faults sink.old) (K.faults sink.new) }
+    ensures cause { OnErr result (Rose (K.faults sink.old) (K.faults sink.new)) }
+{
+    if content.len() < PIECE_BYTES {
+        return Ok(0);
+    }
+    let written = put(sink, content)?;
+    content.clear();
+    Ok(written)
+}
+
+/// Writes what was gathered. Gives its length in bytes.
+fn put<K: Sink>(sink: &mut K, content: &[u8]) -> Result<u64, GetEnd>
+    ensures put { IfOk result (λ count. IsPut K.takes sink.old sink.new content.now [] count) }
+    ensures unsent { OnErr result ((n : ℕ) × K.fails sink.old (take n content.now) sink.new) }
+    ensures end { IfErr result (λ end. end ≡ GetEnd.Sink) }
+    ensures count { NoFall (K.faults sink.old) (K.faults sink.new) }
+    ensures cause { OnErr result (Rose (K.faults sink.old) (K.faults sink.new)) }
+{
+    match write_all(sink, content) {
+        Ok(()) => Ok(content.len() as u64),
+        Err(_) => Err(GetEnd::Sink),
+    }
+}
+
+/// Writes what was gathered before a text that is not whole, unless the link failed. Gives how it ends, which
+/// is with `Sink` where the write fails too.
+fn put_before<K: Sink>(end: GetEnd, sink: &mut K, content: &[u8]) -> GetEnd
+    ensures written { EndsWritten K.takes K.fails sink.old sink.new content.now end result }
+    ensures count { NoFall (K.faults sink.old) (K.faults sink.new) }
+    ensures cause { result ≡ GetEnd.Sink → (end ≡ GetEnd.Sink) ⊎ Rose (K.faults sink.old) (K.faults sink.new) }
+{
+    match end {
+        GetEnd::Link => end,
+        _ => match put(sink, content) {
+            Ok(_) => end,
+            Err(failed) => failed,
+        },
+    }
 }
 
 /// Whether a text is not at its end.
@@ -57,7 +105,7 @@ fn goes_on(unchunker: &Unchunker) -> bool
     !unchunker.ended()
 }
 
-/// Takes the next byte of a chunked text that is not at its end. Leaves its content.
+/// Takes the next byte of a chunked text that is not at its end, and gathers its content.
 fn take_byte<S: Source>(
     unchunker: &mut Unchunker,
     source: &mut S,
@@ -65,7 +113,9 @@ fn take_byte<S: Source>(
 ) -> Result<(), GetEnd>
     requires open { is_ended unchunker.old ≡ false }
     requires taken { (bytes : List ℕ) × (given : List ℕ) × IsTaken bytes given unchunker.old }
-    ensures takes { OnOk result (TakesPiece S.gives source.old source.new unchunker.old unchunker.new content.new.items) }
+    ensures takes { OnOk result ((more : List ℕ) × (content.new.items ≡ content.old.items ++ more)
+        × TakesPiece S.gives source.old source.new unchunker.old unchunker.new more) }
+    ensures unused { OnErr result (content.new.items ≡ content.old.items) }
     ensures stops { IfErr result (λ end. StopsPiece S.gives S.fails S.ended source.old source.new unchunker.old end) }
     ensures count { NoFall (S.faults source.old) (S.faults source.new) }
     ensures cause { IsErrOf result GetEnd.Link → Rose (S.faults source.old) (S.faults source.new) }
@@ -78,7 +128,6 @@ fn take_byte<S: Source>(
     if count == 0 {
         return Err(GetEnd::Reply);
     }
-    content.clear();
     match unchunker.feed(&byte, content) {
         Ok(_) => Ok(()),
         Err(ChunkFault::Memory) => Err(GetEnd::Memory),

@@ -7,6 +7,7 @@ ghost use Rattle.oc_fetch.specs.Conversations.{Converses};
 ghost use Rattle.oc_fetch.specs.Downloads.{Downloads, IsUnasked, first_place, content_of, news_of};
 ghost use Rattle.oc_fetch.specs.Ends.{end_of_url};
 ghost use Rattle.oc_fetch.specs.Passing.{IsTalked};
+ghost use Rattle.oc_fetch.specs.Redirections.{StopsAtThird};
 ghost use Rattle.oc_fetch.specs.Wishes.{wish_of};
 ghost use Rattle.oc_outside.specs.Faults.{NoFall, Rose};
 ghost use Rattle.oc_outside.specs.LinkCalls.{Told, CountsDialling};
@@ -36,6 +37,10 @@ pub fn get<L: Link, K: Sink>(alloc: Global, address: &str, link: &mut L, sink: &
     ensures talked { IsTalked K.takes K.fails (Downloads content_of address.now 1)
         (L.story link.old) (L.story link.new) sink.old sink.new result }
     ensures bad { IsBadAddress address.now → IsUnasked address.now result }
+
+    // Behind a third 302 with a good Location, and nowhere else, it ends with `Redirects`.
+    ensures redirects { IsTalked K.takes K.fails (λ turns written end. StopsAtThird address.now turns end)
+        (L.story link.old) (L.story link.new) sink.old sink.new result }
 
     // Where the replies lead to a whole content, they are not refused.
     ensures complete { (url : Parts) → IsAddressOf address.now url
@@ -69,11 +74,16 @@ pub fn follow<L: Link, K: Sink>(
         (L.story link.old) (L.story link.new) sink.old sink.new result }
     ensures bad { IsBadAddress address.now → IsUnasked address.now result }
 
+    // Behind a third 302 with a good Location, and nowhere else, it ends with `Redirects`.
+    ensures redirects { IsTalked K.takes K.fails (λ turns written end. StopsAtThird address.now turns end)
+        (L.story link.old) (L.story link.new) sink.old sink.new result }
+
     ensures link_count { CountsDialling (L.faults link.old) (L.faults link.new) }
     ensures sink_count { NoFall (K.faults sink.old) (K.faults sink.new) }
     ensures link_cause { result ≡ GetEnd.Link → Rose (L.faults link.old).dialling (L.faults link.new).dialling }
     ensures sink_cause { result ≡ GetEnd.Sink → Rose (K.faults sink.old) (K.faults sink.new) }
 {
+    a_response_head_has_one_answer();
     match read_address(alloc, address) {
         Ok(url) => match news(alloc, &url) {
             Ok(wish) => download(alloc, &wish, url, times, link, sink),

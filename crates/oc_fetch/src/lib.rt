@@ -11,7 +11,10 @@
 //! dials the turns make: a link that tells its story shows these and no others. The content of each reply of
 //! 200 was written in order and nothing else, and of one that was not read whole a front.
 //!
-//! [`get`] has a second clause, `Completes`: where the dials give replies that lead to a whole content, nothing
+//! `StopsAtThird` says of the same turns that `Redirects` comes exactly behind a third 302 with a good Location,
+//! unless a call or memory failed (`specs/Redirections`).
+//!
+//! [`get`] has one more clause, `Completes`: where the dials give replies that lead to a whole content, nothing
 //! that came is refused.
 #![tactic(auto)]
 

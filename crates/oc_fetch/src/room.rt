@@ -5,7 +5,7 @@ use oc_http::HeadReader;
 use std::alloc::Global;
 
 /// How many bytes of a content are passed on at once.
-const PIECE_BYTES: usize = 65_536;
+pub(crate) const PIECE_BYTES: usize = 65_536;
 
 /// The memory of a conversation, which is taken before its first request.
 #[derive(Drop)]
@@ -13,7 +13,7 @@ pub(crate) struct Room {
     pub(crate) heads: HeadReader,
     /// What came of a reply.
     pub(crate) buffer: Vec<u8>,
-    /// What it brings of content, where that is chunked.
+    /// What is gathered of its content, where that is chunked.
     pub(crate) content: Vec<u8>,
     ghost some: { 0 < vec_len buffer },
 }

@@ -1,13 +1,16 @@
 ghost use Rattle.std.specs.Prelude.{◌≡◌, ◌≤◌, length, IfOk};
 
+use crate::limits::PIECE;
 use crate::outgoing::copy_front;
 use crate::request::is_whole;
 use mio::net::TcpStream;
+use oc_base::{MAX_BODY_BYTES, MAX_HEAD_BYTES};
+use std::alloc::Global;
 use std::io::{self, ErrorKind, Read, Write};
 use std::net::Shutdown;
 
 /// The most bytes that wait to be read on one connection: those of a head, of a body, and of one more piece.
-const MOST_WAITING: usize = 1_100_000;
+const MOST_WAITING: usize = MAX_HEAD_BYTES + MAX_BODY_BYTES as usize + PIECE;
 
 /// How often a call is made at most, as long as it finds something or is interrupted.
 const MOST_CALLS: u32 = 1_000;
@@ -62,17 +65,16 @@ impl Connection {
         &mut self.stream
     }
 
-    /// Takes in what has come, by pieces as long as the buffer, and answers how many bytes that were.
-    pub(crate) fn take_in(&mut self, piece: &mut [u8]) -> u64 {
-        let taken = self.take_pieces(piece);
-        if taken > 0 {
+    /// Takes in what has come, by pieces as long as the buffer.
+    pub(crate) fn take_in(&mut self, piece: &mut [u8]) {
+        if self.take_pieces(piece) {
             self.whole = is_whole(self.unread());
         }
-        taken
     }
 
-    fn take_pieces(&mut self, piece: &mut [u8]) -> u64 {
-        let mut taken = 0u64;
+    /// Answers whether anything had come.
+    fn take_pieces(&mut self, piece: &mut [u8]) -> bool {
+        let mut taken = false;
         for _ in 0..MOST_CALLS {
             if self.ended || self.broken || self.came.len() >= MOST_WAITING {
                 return taken;
@@ -80,7 +82,7 @@ impl Connection {
             match self.stream.read(piece) {
                 Ok(0) => self.ended = true,
                 Ok(count) => {
-                    taken = taken.saturating_add(count as u64);
+                    taken = true;
                     if self.came.extend_from_slice(&piece[..count]).is_err() {
                         self.broken = true;
                     }
@@ -91,6 +93,11 @@ impl Connection {
             }
         }
         taken
+    }
+
+    /// Whether its request has come.
+    pub(crate) fn is_whole(&self) -> bool {
+        self.whole
     }
 
     /// Whether it can be served without waiting for it: its request has come, or no more of it will.
@@ -197,12 +204,17 @@ impl Connection {
         self.number == token as u64
     }
 
-    /// Once nothing is left to send, tells the peer that nothing more comes, and gives it so much time to end.
-    pub(crate) fn leave(&mut self, now: u64, linger: u64) {
+    /// Nothing more is read from it. Once nothing is left to send, tells the peer that nothing more comes, and
+    /// gives it so much time to end; only the socket is kept then.
+    pub(crate) fn leave(&mut self, alloc: Global, now: u64, linger: u64) {
+        self.came = Vec::new(alloc);
+        self.read = 0;
         if self.finished || self.left_to_send() > 0 {
             return;
         }
         self.finished = true;
+        self.unsent = Vec::new(alloc);
+        self.sent = 0;
         self.until = now.saturating_add(linger);
         if self.stream.shutdown(Shutdown::Write).is_err() {
             self.broken = true;
@@ -220,12 +232,19 @@ impl Connection {
         self.finished
     }
 
-    /// Takes in what has come, and forgets it.
+    /// Takes off the socket what has come, and keeps none of it.
     pub(crate) fn discard(&mut self, piece: &mut [u8]) {
-        self.take_in(piece);
-        if !self.unread().is_empty() {
-            self.came.truncate(1);
-            self.read = 0;
+        for _ in 0..MOST_CALLS {
+            if self.ended || self.broken {
+                return;
+            }
+            match self.stream.read(piece) {
+                Ok(0) => self.ended = true,
+                Ok(_) => {}
+                Err(error) if error.kind() == ErrorKind::Interrupted => {}
+                Err(error) if error.kind() == ErrorKind::WouldBlock => return,
+                Err(_) => self.broken = true,
+            }
         }
     }
 }

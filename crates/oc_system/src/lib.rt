@@ -7,6 +7,7 @@
 
 mod connection;
 mod file_disk;
+mod limits;
 mod outgoing;
 mod request;
 mod socket_link;
@@ -14,5 +15,5 @@ mod sockets;
 mod system_clock;
 
 pub use file_disk::FileDisk;
-pub use socket_link::SocketLink;
+pub use socket_link::{SocketLink, Traffic};
 pub use system_clock::SystemClock;

@@ -36,6 +36,7 @@ impl Outgoing {
         address: &str,
         until: Option<u64>,
     ) -> io::Result<Outgoing> {
+        let until = deadline(rt, until);
         let mut last = io::Error::from(ErrorKind::AddrNotAvailable);
         for each in address.to_socket_addrs(rt)? {
             match TcpStream::connect_timeout(rt, &each, time_left(rt, until)?) {
@@ -68,6 +69,7 @@ impl Outgoing {
         bytes: &[u8],
         until: Option<u64>,
     ) -> io::Result<()> {
+        let until = deadline(rt, until);
         let mut written = 0usize;
         for _ in 0..MOST_TRIES {
             let rest = bytes.get(written..).unwrap_or(&[]);
@@ -97,6 +99,7 @@ impl Outgoing {
 
     /// Reads a further piece from the system, until that time. Answers its length, and 0 at the end.
     pub(crate) fn fill<R: Clock>(&mut self, rt: &R, until: Option<u64>) -> io::Result<usize> {
+        let until = deadline(rt, until);
         self.given = 0;
         self.came = 0;
         for _ in 0..MOST_TRIES {
@@ -119,13 +122,17 @@ impl Outgoing {
     }
 }
 
-/// How long a call may wait until that time in milliseconds, or at all where none is set. A call that has no
-/// time left fails.
-fn time_left<R: Clock>(rt: &R, until: Option<u64>) -> io::Result<Duration> {
-    let left = match until {
-        Some(until) => until.saturating_sub(millis(rt)),
-        None => CALL_MILLIS,
-    };
+/// Until when a call may last that begins now, in milliseconds.
+fn deadline<R: Clock>(rt: &R, until: Option<u64>) -> u64 {
+    match until {
+        Some(until) => until,
+        None => millis(rt).saturating_add(CALL_MILLIS),
+    }
+}
+
+/// How long a call may wait until that time in milliseconds. A call that has no time left fails.
+fn time_left<R: Clock>(rt: &R, until: u64) -> io::Result<Duration> {
+    let left = until.saturating_sub(millis(rt));
     if left == 0 {
         return Err(io::Error::from(ErrorKind::TimedOut));
     }

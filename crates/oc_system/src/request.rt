@@ -1,8 +1,4 @@
-/// The most bytes that a head may have.
-const MOST_HEAD: usize = 8_192;
-
-/// The most bytes that a body may have.
-const MOST_BODY: usize = 1_000_000;
+use oc_base::{MAX_BODY_BYTES, MAX_HEAD_BYTES};
 
 /// What the lines of a head so far say of the body behind it.
 #[derive(Clone, Copy)]
@@ -34,7 +30,7 @@ impl Said {
 
     /// Whether so many bytes behind the head are all that is waited for.
     fn is_enough(self, behind: usize) -> bool {
-        self.expects || self.length > MOST_BODY || behind >= self.length
+        self.expects || self.length > MAX_BODY_BYTES as usize || behind >= self.length
     }
 }
 
@@ -61,7 +57,7 @@ pub(crate) fn is_whole(bytes: &[u8]) -> bool {
             return said.is_enough(bytes.len().saturating_sub(at));
         }
     }
-    bytes.len() >= MOST_HEAD
+    bytes.len() >= MAX_HEAD_BYTES
 }
 
 /// The name and the value of a field, without the blanks round the value.

@@ -14,6 +14,15 @@ const SHORT_DIAL: u64 = 500;
 
 const LONG_DIAL: u64 = 2_000;
 
+/// How many bytes passed through the calls of a link.
+#[derive(Clone, Copy, Debug, PartialEq, Eq)]
+pub struct Traffic {
+    /// Those that were read.
+    pub came: u64,
+    /// Those that were written.
+    pub went: u64,
+}
+
 /// Sockets as a link.
 #[derive(Drop)]
 pub struct SocketLink<'a, R> {
@@ -61,16 +70,15 @@ impl<'a, R: Net<Stream = TcpStream> + Clock> SocketLink<'a, R> {
         }
     }
 
-    /// How many bytes came in and went out so far, over all connections.
-    pub fn passed(&self) -> (u64, u64) {
-        let (came, went) = match &self.sockets {
-            Some(sockets) => sockets.passed(),
-            None => (0, 0),
-        };
-        (
-            self.came.saturating_add(came),
-            self.went.saturating_add(went),
-        )
+    /// How many bytes passed through its calls so far, over all connections.
+    pub fn traffic(&self) -> Traffic
+        ensures came { result.came ≡ self.now.came }
+        ensures went { result.went ≡ self.now.went }
+    {
+        Traffic {
+            came: self.came,
+            went: self.went,
+        }
     }
 }
 
@@ -176,7 +184,6 @@ impl<R: Net<Stream = TcpStream> + Clock> SocketLink<'_, R> {
             return Ok(());
         };
         let count = outgoing.fill(self.rt, self.until)?;
-        self.came = self.came.saturating_add(count as u64);
         let is_work = self.awaits_reply
             && count > 0
             && !outgoing.waiting().starts_with(b"HTTP/1.1 204");
@@ -246,7 +253,10 @@ impl<R: Net<Stream = TcpStream> + Clock> Link for SocketLink<'_, R> {
 
     fn read(&mut self, buf: &mut [u8]) -> Result<usize, Failed> {
         match self.listen_to(buf) {
-            Ok(count) => Ok(count),
+            Ok(count) => {
+                self.came = self.came.saturating_add(count as u64);
+                Ok(count)
+            }
             Err(_) => {
                 self.talking = self.talking.saturating_add(1);
                 Err(Failed)
@@ -256,7 +266,10 @@ impl<R: Net<Stream = TcpStream> + Clock> Link for SocketLink<'_, R> {
 
     fn write(&mut self, bytes: &[u8]) -> Result<usize, Failed> {
         match self.answer(bytes) {
-            Ok(count) => Ok(count),
+            Ok(count) => {
+                self.went = self.went.saturating_add(count as u64);
+                Ok(count)
+            }
             Err(_) => {
                 self.talking = self.talking.saturating_add(1);
                 Err(Failed)
@@ -293,7 +306,10 @@ impl<R: Net<Stream = TcpStream> + Clock> Link for SocketLink<'_, R> {
 
     fn dial_read(&mut self, buf: &mut [u8]) -> Result<usize, Failed> {
         match self.hear(buf) {
-            Ok(count) => Ok(count),
+            Ok(count) => {
+                self.came = self.came.saturating_add(count as u64);
+                Ok(count)
+            }
             Err(_) => {
                 self.dialling = self.dialling.saturating_add(1);
                 Err(Failed)

@@ -1,6 +1,10 @@
-ghost use Rattle.std.specs.Prelude.{◌<◌, ◌≤◌, length, IfOk};
+mod current;
 
 use crate::connection::Connection;
+use crate::limits::{
+    EVENTS, KEPT_MILLIS, LEAVING_MILLIS, LINGER_MILLIS, LISTENER, LONG_WAIT, MOST_KEPT, MOST_WAITS,
+    PIECE, SHORT_WAIT,
+};
 use mio::net::{TcpListener, TcpStream as Stream};
 use mio::{Events, Interest, Poll, Token};
 use std::alloc::{AllocError, Global};
@@ -9,51 +13,13 @@ use std::net::{Net, SocketAddr, TcpStream, ToSocketAddrs};
 use std::rt::Clock;
 use std::time::Duration;
 
-/// How many connections are kept while their requests come.
-const MOST_KEPT: usize = 256;
-
-/// How many connections are kept until their replies have gone out.
-const MOST_LEAVING: usize = 1_024;
-
-/// For how long a connection is kept while its request comes, in milliseconds.
-const KEPT_MILLIS: u64 = 10_000;
-
-/// For how long a reply is written on without progress, in milliseconds.
-const LEAVING_MILLIS: u64 = 5_000;
-
-/// For how long the peer may take to end a connection on which nothing more goes out, in milliseconds.
-const LINGER_MILLIS: u64 = 1_000;
-
-/// For how long the current connection may send nothing behind a reply, and for how long a further request
-/// may take to come, in milliseconds. Nobody else is served meanwhile.
-const IDLE_MILLIS: u64 = 100;
-
-const FURTHER_MILLIS: u64 = 300;
-
-/// For how long the current connection may send nothing while its request comes, in milliseconds.
-const SILENT_MILLIS: u64 = 1_000;
-
-/// For how long one look for progress waits, in milliseconds.
-const LOOK_MILLIS: u64 = 20;
-
-/// The most bytes of replies that are kept to be written on, of all connections together.
-const MOST_UNSENT: usize = 67_108_864;
-
-/// The shortest and the longest wait for a connection, in milliseconds.
-const SHORT_WAIT: u64 = 20;
-
-const LONG_WAIT: u64 = 160;
-
-/// How many events one wait gives, and the length of the buffer into which sockets are read, in bytes.
-const EVENTS: usize = 512;
-
-const PIECE: usize = 65_536;
-
-/// How often a wait is begun again at most.
-const MOST_WAITS: u32 = 1_000_000;
-
-/// The token of the listener. That of a connection is its number.
-const LISTENER: usize = 0;
+/// What is to come next on a connection: its first request, the body that it was let send, or a further request.
+#[derive(Clone, Copy)]
+pub(crate) enum Awaits {
+    Request,
+    Body,
+    Further,
+}
 
 /// The listening side of a program's sockets.
 ///
@@ -70,13 +36,15 @@ pub(crate) struct Sockets {
     piece: Vec<u8>,
     kept: Vec<Connection>,
     current: Option<Connection>,
-    /// Whether the last thing that passed on the current connection was a reply.
-    replied: bool,
+    /// What is to come next on the current connection.
+    awaits: Awaits,
+    /// Whether nothing was written on the current connection since the last bytes were read from it.
+    has_read: bool,
     leaving: Vec<Connection>,
     last_number: u64,
     /// How long the next wait for a connection is, in milliseconds.
     wait: u64,
-    came: u64,
+    /// How many bytes went out so far, by which progress is seen.
     went: u64,
 }
 
@@ -104,18 +72,13 @@ impl Sockets {
             piece: Vec::from_elem(alloc, 0u8, PIECE)?,
             kept: Vec::with_capacity(alloc, MOST_KEPT)?,
             current: None,
-            replied: false,
+            awaits: Awaits::Request,
+            has_read: false,
             leaving: Vec::new(alloc),
             last_number: 0,
             wait: 0,
-            came: 0,
             went: 0,
         })
-    }
-
-    /// How many bytes came in and went out so far.
-    pub(crate) fn passed(&self) -> (u64, u64) {
-        (self.came, self.went)
     }
 
     /// There is work at hand: the next wait for a connection is none.
@@ -123,7 +86,7 @@ impl Sockets {
         self.wait = 0;
     }
 
-    /// Makes the oldest connection that can be served the current one; answers whether there was one.
+    /// Makes the connection that is to be served next the current one; answers whether there was one.
     pub(crate) fn next<R: Clock>(&mut self, rt: &R) -> io::Result<bool> {
         self.close(rt);
         let begun = millis(rt);
@@ -148,189 +111,23 @@ impl Sockets {
         Ok(false)
     }
 
-    /// Reads from the current connection, and waits for it no longer than it may.
-    pub(crate) fn read<R: Clock>(&mut self, rt: &R, buf: &mut [u8]) -> io::Result<usize>
-        ensures within { IfOk result (λ n. n ≤ length buf.old) }
-    {
-        let begun = millis(rt);
-        let mut now = begun;
-        for _ in 0..MOST_WAITS {
-            match self.read_now(buf) {
-                Err(error) if error.kind() == ErrorKind::WouldBlock => {}
-                given => return given,
-            }
-            if self.is_out_of_time(begun, now) {
-                break;
-            }
-            self.pump(LOOK_MILLIS, now)?;
-            now = millis(rt);
-        }
-        if self.replied {
-            return Ok(0);
-        }
-        Err(io::Error::from(ErrorKind::TimedOut))
-    }
-
-    /// Reads what has come on the current connection.
-    fn read_now(&mut self, buf: &mut [u8]) -> io::Result<usize>
-        ensures within { IfOk result (λ n. n ≤ length buf.old) }
-    {
-        let Some(current) = &mut self.current else {
-            return Ok(0);
-        };
-        match current.read_now(buf) {
-            Err(error) if error.kind() == ErrorKind::WouldBlock => {}
-            given => return given,
-        }
-        // More may have come while nobody looked.
-        let taken = current.take_in(&mut self.piece);
-        self.came = self.came.saturating_add(taken);
-        current.read_now(buf)
-    }
-
-    /// Whether the current connection, which has sent nothing since then, has had its time.
-    fn is_out_of_time(&self, since: u64, now: u64) -> bool {
-        let silent = if self.replied {
-            IDLE_MILLIS
-        } else {
-            SILENT_MILLIS
-        };
-        let until = match &self.current {
-            Some(current) => current.until,
-            None => 0,
-        };
-        now >= until || now >= since.saturating_add(silent)
-    }
-
-    /// Writes a front of the bytes on the current connection: what cannot go out at once is kept. It waits
-    /// only where too much is kept.
-    pub(crate) fn write<R: Clock>(&mut self, rt: &R, bytes: &[u8]) -> io::Result<usize>
-        ensures within { IfOk result (λ n. n ≤ length bytes.now) }
-        ensures some { IfOk result (λ n. 0 < length bytes.now → 0 < n) }
-    {
-        if bytes.is_empty() {
-            return Ok(0);
-        }
-        let mut now = millis(rt);
-        let mut until = now.saturating_add(LEAVING_MILLIS);
-        for _ in 0..MOST_WAITS {
-            let before = self.went;
-            let room = MOST_UNSENT.saturating_sub(self.unsent());
-            let count = bytes.len().min(room);
-            if count > 0 {
-                self.put(&bytes[..count], now)?;
-                return Ok(count);
-            }
-            self.pump(LOOK_MILLIS, now)?;
-            now = millis(rt);
-            if self.went > before {
-                until = now.saturating_add(LEAVING_MILLIS);
-            }
-            if now >= until {
-                break;
-            }
-        }
-        Err(io::Error::from(ErrorKind::TimedOut))
-    }
-
-    /// Puts bytes on the current connection, and sends what can go out at once. Behind a reply a further
-    /// request has its time from then on.
-    fn put(&mut self, bytes: &[u8], now: u64) -> io::Result<()> {
-        let Some(current) = &mut self.current else {
-            return Err(io::Error::from(ErrorKind::NotConnected));
-        };
-        current.put(bytes)?;
-        self.went = self.went.saturating_add(current.send());
-        if current.is_broken() {
-            return Err(io::Error::from(ErrorKind::BrokenPipe));
-        }
-        self.replied = !bytes.starts_with(b"HTTP/1.1 100");
-        let time = if self.replied {
-            FURTHER_MILLIS
-        } else {
-            KEPT_MILLIS
-        };
-        current.until = now.saturating_add(time);
-        Ok(())
-    }
-
-    /// Ends the current connection, if there is one. What is still to go out goes out later.
-    pub(crate) fn close<R: Clock>(&mut self, rt: &R) {
-        let Some(mut current) = self.current.take() else {
-            return;
-        };
-        let now = millis(rt);
-        self.replied = false;
-        self.went = self.went.saturating_add(current.send());
-        current.until = now.saturating_add(LEAVING_MILLIS);
-        current.leave(now, LINGER_MILLIS);
-        if current.is_gone() {
-            return;
-        }
-        self.make_room(rt, now);
-        // Without the memory to keep it, it is dropped, and what was not sent with it.
-        let _kept = self.leaving.push(current).is_ok();
-    }
-
-    /// Sees that one more connection can leave: one that has only its peer's end to wait for has to go, or
-    /// else they are waited for.
-    fn make_room<R: Clock>(&mut self, rt: &R, begun: u64) {
-        let until = begun.saturating_add(LEAVING_MILLIS);
-        let mut now = begun;
-        for _ in 0..MOST_WAITS {
-            if self.leaving.len() < MOST_LEAVING {
-                return;
-            }
-            let finished = self
-                .leaving
-                .iter()
-                .position(|connection| connection.is_finished());
-            let place = finished.unwrap_or(0);
-            if (finished.is_some() || now >= until) && place < self.leaving.len() {
-                self.leaving.remove(place);
-                return;
-            }
-            if self.pump(LOOK_MILLIS, now).is_err() {
-                return;
-            }
-            now = millis(rt);
-        }
-    }
-
-    /// Sends on until all replies have gone out, for as long as any makes progress.
-    pub(crate) fn finish<R: Clock>(&mut self, rt: &R) {
-        self.close(rt);
-        for _ in 0..MOST_WAITS {
-            let is_sent = self
-                .leaving
-                .iter()
-                .all(|connection| connection.is_finished());
-            if is_sent || self.pump(LOOK_MILLIS, millis(rt)).is_err() {
-                return;
-            }
-        }
-    }
-
-    /// How many bytes are kept to go out.
-    fn unsent(&self) -> usize {
-        let mut sum = match &self.current {
-            Some(current) => current.left_to_send(),
-            None => 0,
-        };
-        for connection in &self.leaving {
-            sum = sum.saturating_add(connection.left_to_send());
-        }
-        sum
-    }
-
-    /// The place of the oldest kept connection that can be served.
+    /// The place of the kept connection that is to be served next: the oldest whose request has come, and else
+    /// the oldest that is not waited for any longer. So many that run out of their time at once hold up nobody.
     fn first_ripe(&self, now: u64) -> Option<usize> {
-        self.kept
+        let whole = self
+            .kept
             .iter()
-            .position(|connection| connection.is_ripe(now))
+            .position(|connection| connection.is_whole());
+        match whole {
+            Some(place) => Some(place),
+            None => self
+                .kept
+                .iter()
+                .position(|connection| connection.is_ripe(now)),
+        }
     }
 
-    /// Makes the oldest kept connection that can be served the current one.
+    /// Makes the kept connection that is to be served next the current one.
     fn take_ripe(&mut self, now: u64) -> bool {
         let Some(place) = self.first_ripe(now) else {
             return false;
@@ -374,16 +171,14 @@ impl Sockets {
     fn serve(&mut self, token: usize, now: u64) {
         if let Some(current) = &mut self.current {
             if current.is_at(token) {
-                let taken = current.take_in(&mut self.piece);
-                self.came = self.came.saturating_add(taken);
+                current.take_in(&mut self.piece);
                 self.went = self.went.saturating_add(current.send());
                 return;
             }
         }
         for connection in self.kept.iter_mut() {
             if connection.is_at(token) {
-                let taken = connection.take_in(&mut self.piece);
-                self.came = self.came.saturating_add(taken);
+                connection.take_in(&mut self.piece);
                 return;
             }
         }
@@ -395,7 +190,7 @@ impl Sockets {
                     connection.until = now.saturating_add(LEAVING_MILLIS);
                 }
                 connection.discard(&mut self.piece);
-                connection.leave(now, LINGER_MILLIS);
+                connection.leave(self.alloc, now, LINGER_MILLIS);
                 return;
             }
         }
@@ -405,7 +200,7 @@ impl Sockets {
     /// has to go; where none is, the others go on waiting.
     fn accept(&mut self, now: u64) {
         for _ in 0..MOST_KEPT {
-            if self.kept.len() >= MOST_KEPT && !self.drop_one(now) {
+            if self.kept.len() >= MOST_KEPT && !self.drop_one() {
                 return;
             }
             match self.listener.accept() {
@@ -417,11 +212,11 @@ impl Sockets {
     }
 
     /// Drops the oldest connection whose request has not come yet; answers whether there was one.
-    fn drop_one(&mut self, now: u64) -> bool {
+    fn drop_one(&mut self) -> bool {
         let sending = self
             .kept
             .iter()
-            .position(|connection| !connection.is_ripe(now));
+            .position(|connection| !connection.is_whole());
         match sending {
             Some(place) if place < self.kept.len() => {
                 self.kept.remove(place);
@@ -452,8 +247,7 @@ impl Sockets {
             number,
             now.saturating_add(KEPT_MILLIS),
         );
-        let taken = connection.take_in(&mut self.piece);
-        self.came = self.came.saturating_add(taken);
+        connection.take_in(&mut self.piece);
         let _kept = self.kept.push(connection).is_ok();
     }
 }

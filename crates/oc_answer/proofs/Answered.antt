@@ -1,0 +1,120 @@
+-- What an input is answered is the text of its step's outcome.
+use Rattle.std.proofs.Common.{◌≡◌, ◌≤◌, ℕ, ◌-◌, true, false, Bool, Option, List, length, refl, sym, ap, subst, ◌∙◌}
+use Rattle.oc_base.specs.Groups.{bytes_of, shelf}
+use Rattle.oc_base.specs.declared.group.Group.{Group}
+use Rattle.oc_http.specs.declared.framing.Connection.{Connection}
+use Rattle.oc_http.specs.declared.framing.Connection.TheVariants.{Close}
+use Rattle.oc_keep.specs.KeptView.{IsHonest, KeptView, disks_of, node_of}
+use Rattle.oc_keep.proofs.Stays.{all_honest}
+use Rattle.oc_model.specs.declared.answer.Answer.{Answer}
+use Rattle.oc_model.specs.declared.answer.Answer.TheVariants as answers
+use Rattle.oc_model.specs.declared.input.Input.{Input}
+use Rattle.oc_model.specs.declared.input.Input.TheVariants as inputs
+use Rattle.oc_model.specs.declared.message.Message.{Message}
+use Rattle.oc_model.specs.Node.{Header, Node}
+use Rattle.oc_model.specs.Step.{step}
+use Rattle.oc_node.specs.OutcomeView.{OutcomeView}
+use Rattle.oc_outside.specs.DiskView.{DiskView}
+use Rattle.oc_outside.specs.Story.{Story}
+use Rattle.oc_routes.specs.Responses.{client_response, response_to}
+use Rattle.oc_routes.specs.declared.asks.Asks.{Asks}
+use Rattle.oc_routes.specs.declared.asks.Asks.TheVariants as asks
+use Rattle.oc_routes.specs.declared.asks.Manner.{Manner}
+use Rattle.oc_routes.specs.declared.asks.Manner.TheVariants.{HeadAlone, Once, Follow}
+use Rattle.oc_routes.specs.declared.response.Response.{Response}
+use Rattle.oc_turn.specs.Scenes.{KeepsOne}
+use Rattle.oc_answer.specs.Hearing.{SaysOn}
+use Rattle.oc_answer.specs.Replying.{sender_of, sent_back}
+use Rattle.oc_answer.specs.Requests.{Belongs}
+use Rattle.oc_answer.specs.Serving.{Fits, IsSaid, RepliesTo, Responds, SaysResponse, back_to_sender, is_sealed, response_for, sendable, whole_text}
+use Rattle.oc_answer.proofs.Contents.{serves_held}
+
+-- A response
+
+pub reply_said : (asked : Asks) (response wanted : Response) (whole : Bool) (groups : List Group) (a b : Option Story) → response ≡ wanted → whole ≡ true
+    → (Fits asked response.content groups → SaysOn whole (whole_text asked response groups) a b) → SaysResponse asked wanted true response.connection groups a b
+reply_said asked response wanted whole groups a b is went said fits =
+    let spoke : SaysOn whole (whole_text asked response groups) a b = said (subst (λ (r : Response). Fits asked r.content groups) (sym is) fits) in (
+      subst (λ (r : Response). SaysOn true (whole_text asked r groups) a b) is (subst (λ (x : Bool). SaysOn x (whole_text asked response groups) a b) went spoke),
+      ap (λ (r : Response). r.connection) is,
+    )
+
+pub reply_cut : (asked : Asks) (response wanted : Response) (whole : Bool) (groups : List Group) (a b : Option Story) → response ≡ wanted → whole ≡ false
+    → (Fits asked response.content groups → SaysOn whole (whole_text asked response groups) a b) → SaysResponse asked wanted false Close groups a b
+reply_cut asked response wanted whole groups a b is went said fits =
+    let spoke : SaysOn whole (whole_text asked response groups) a b = said (subst (λ (r : Response). Fits asked r.content groups) (sym is) fits) in (
+      subst (λ (r : Response). SaysOn false (whole_text asked r groups) a b) is (subst (λ (x : Bool). SaysOn x (whole_text asked response groups) a b) went spoke),
+      refl,
+    )
+
+pub show_said : (response wanted : Response) (said : Bool) (text : List ℕ) (a b : Option Story) → response ≡ wanted → said ≡ true → text ≡ response.text → SaysOn said text a b → IsSaid true wanted.text wanted.connection response.connection a b
+show_said response wanted said text a b is went same spoke = (
+  subst (λ (t : List ℕ). SaysOn true t a b) (same ∙ ap (λ (r : Response). r.text) is) (subst (λ (x : Bool). SaysOn x text a b) went spoke),
+  ap (λ (r : Response). r.connection) is,
+)
+
+pub show_cut : (response wanted : Response) (said : Bool) (text : List ℕ) (a b : Option Story) → response ≡ wanted → said ≡ false → text ≡ response.text → SaysOn said text a b → IsSaid false wanted.text wanted.connection Close a b
+show_cut response wanted said text a b is went same spoke = (
+  subst (λ (t : List ℕ). SaysOn false t a b) (same ∙ ap (λ (r : Response). r.text) is) (subst (λ (x : Bool). SaysOn x text a b) went spoke),
+  refl,
+)
+
+-- The outcome of a step
+
+back_is : (i : Input) (sends : List Message) → sent_back (sender_of i) sends ≡ back_to_sender i sends
+back_is (inputs.Tick t) sends = refl
+back_is inputs.CheckNow sends = refl
+back_is (inputs.Relocate p) sends = refl
+back_is (inputs.Unreachable p) sends = refl
+back_is (inputs.Pull p) sends = refl
+back_is (inputs.Measured p rate hops) sends = refl
+back_is (inputs.Publish group bytes) sends = refl
+back_is (inputs.Seal group) sends = refl
+back_is (inputs.Client area start group) sends = refl
+back_is (inputs.Delivered m) sends = refl
+
+client_fits : (answer : Answer) (manner : Manner) (g : List ℕ) (area start : ℕ) (sealed : Bool) (addresses : List (List ℕ)) (last : Bool) (groups : List Group)
+    → ((count : ℕ) → answer ≡ answers.Serve count → count ≤ length (bytes_of g groups) - start)
+    → Fits (asks.Client g area start manner) (client_response g start manner answer sealed addresses last).content groups
+client_fits (answers.Serve count) HeadAlone g area start sealed addresses last groups held = tt
+client_fits (answers.Serve count) Once g area start sealed addresses last groups held = held count refl
+client_fits (answers.Serve count) Follow g area start sealed addresses last groups held = held count refl
+client_fits (answers.Redirect node) manner g area start sealed addresses last groups held = tt
+client_fits answer manner g area start sealed addresses last groups held = tt
+
+-- what a client is sent is there
+fits_step : (asked : Asks) (i : Input) (n : Node) (nodes : ℕ) (addresses : List (List ℕ)) (last : Bool) → Belongs asked i → Fits asked (response_for nodes addresses asked last i n).content (step n i).node.groups
+fits_step asks.Message i n nodes addresses last belongs = tt
+fits_step (asks.Publish g) i n nodes addresses last belongs = tt
+fits_step (asks.Seal g) i n nodes addresses last belongs = tt
+fits_step (asks.Probe manner) i n nodes addresses last belongs = tt
+fits_step (asks.Client g area start manner) i n nodes addresses last belongs =
+    subst (λ (x : Input). Fits (asks.Client g area start manner) (response_for nodes addresses (asks.Client g area start manner) last x n).content (step n x).node.groups) (sym belongs)
+    (client_fits (step n (inputs.Client area start g)).answer manner g area start (is_sealed (asks.Client g area start manner) (shelf (step n (inputs.Client area start g)).node.groups)) addresses last (step n (inputs.Client area start g)).node.groups
+    (λ count is. serves_held n area start count g is))
+
+replied_with : (nodes : ℕ) (addresses : List (List ℕ)) (asked : Asks) (last said : Bool) (kept : Connection) (n : Node) (i : Input) (groups : List Group) (answer : Answer) (reply : Option Message) (a b : Option Story)
+    → groups ≡ (step n i).node.groups → answer ≡ (step n i).answer → reply ≡ back_to_sender i (step n i).sends → Belongs asked i
+    → SaysResponse asked (response_to asked answer (sendable nodes reply) (is_sealed asked (shelf groups)) addresses last) said kept groups a b
+    → RepliesTo nodes addresses asked last i said kept n a b
+replied_with nodes addresses asked last said kept n i groups answer reply a b same answered back belongs says =
+    let one : SaysResponse asked (response_to asked answer (sendable nodes reply) (is_sealed asked (shelf (step n i).node.groups)) addresses last) said kept (step n i).node.groups a b =
+    subst (λ (ks : List Group). SaysResponse asked (response_to asked answer (sendable nodes reply) (is_sealed asked (shelf ks)) addresses last) said kept ks a b) same says in
+    let two : SaysResponse asked (response_to asked (step n i).answer (sendable nodes reply) (is_sealed asked (shelf (step n i).node.groups)) addresses last) said kept (step n i).node.groups a b =
+    subst (λ (x : Answer). SaysResponse asked (response_to asked x (sendable nodes reply) (is_sealed asked (shelf (step n i).node.groups)) addresses last) said kept (step n i).node.groups a b) answered one in
+    let three : SaysResponse asked (response_for nodes addresses asked last i n) said kept (step n i).node.groups a b =
+    subst (λ (m : Option Message). SaysResponse asked (response_to asked (step n i).answer (sendable nodes m) (is_sealed asked (shelf (step n i).node.groups)) addresses last) said kept (step n i).node.groups a b) back two in
+    three (fits_step asked i n nodes addresses last belongs)
+
+pub replied_to : {D : Type 0} (view : D → DiskView) (k0 k1 : KeptView D) (i : Input) (outcome : OutcomeView) (addresses : List (List ℕ)) (asked : Asks) (last said : Bool) (kept : Connection) (answer : Answer) (reply : Option Message) (a b : Option Story)
+    → (IsHonest view k1 → Responds k1.node.control.nodes addresses asked last answer reply (node_of k1).groups said kept a b)
+    → KeepsOne view i outcome k0 k1 → answer ≡ outcome.answer → reply ≡ sent_back (sender_of i) outcome.sends → Belongs asked i → IsHonest view k0
+    → RepliesTo k0.node.control.nodes addresses asked last i said kept (node_of k0) a b
+replied_to view k0 k1 i outcome addresses asked last said kept answer reply a b says keeps answered back belongs honest =
+    let n = node_of k0 in
+    let is = keeps.outcome_is honest in
+    replied_with k0.node.control.nodes addresses asked last said kept n i (node_of k1).groups answer reply a b
+    (ap (λ (x : Node). x.groups) (keeps.node honest)) (answered ∙ ap (λ (o : OutcomeView). o.answer) is)
+    (back ∙ back_is i outcome.sends ∙ ap (λ (o : OutcomeView). back_to_sender i o.sends) is) belongs
+    (subst (λ (nodes : ℕ). SaysResponse asked (response_to asked answer (sendable nodes reply) (is_sealed asked (shelf (node_of k1).groups)) addresses last) said kept (node_of k1).groups a b)
+    (ap (λ (h : Header). h.nodes) keeps.same.header) (says (all_honest view (disks_of k0) (disks_of k1) keeps.goes_on honest)).says)

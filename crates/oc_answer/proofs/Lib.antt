@@ -1,0 +1,5 @@
+pub mod Talking
+pub mod Reading
+pub mod Contents
+pub mod Answered
+pub mod Served

@@ -1,0 +1,103 @@
+use Rattle.std.proofs.Common.{[], ◌∷◌, inr, refl, Some, None, Ok, Err, rules}
+use Rattle.oc_keep.specs.KeptView.{node_of}
+use Rattle.oc_routes.specs.Refusals.{why_text}
+use Rattle.oc_routes.specs.declared.fault.RouteFault.TheVariants as route
+use Rattle.oc_turn.specs.Deeds.{Notes, Talks, outside_of}
+use Rattle.oc_turn.specs.Scenes.{scene}
+use Rattle.oc_turn.proofs.Results.{err_then, ok_then}
+use Rattle.oc_turn.proofs.Scenes.{memory_stops, stopped_then, untold}
+use Rattle.oc_turn.proofs.Steps.{did_note, note_stops}
+use Rattle.oc_turn.proofs.Talks.{talks_only}
+use Rattle.oc_answer.specs.Serving.{terms}
+use Rattle.oc_answer.proofs.Served.{did_behind, reads_as, serves_read}
+use Rattle.oc_answer.proofs.Talking.{counts_then, talk_did}
+use Rattle.oc_answer.proofs.answering.serve_request.Goals as goal
+
+pub returns-in-Ok-Some-clause-did : goal.returns-in-Ok-Some-clause-did
+returns-in-Ok-Some-clause-did g c =
+    let a = c.args in
+    let story = g.L.Link.story in
+    let faults = g.L.Link.faults in
+    let r = c.read_request in
+    let n = c.answer.new in
+    let t = terms a.kept.now a.config.now.rules in
+    let reads = reads_as c.id-me.result c.nodes-nodes.result a.kept.now.node.control.me a.kept.now.node.control.nodes a.number c.deref.result.now a.config.now.rules r.result (Ok (Some c.in-Ok-Some.request)) (story a.link.now) (story r.new.link) (search rules) (search rules) (search rules) (search rules) r.ensures.reads in
+    ok_then c.answer.result (λ connection d. (
+      d.0,
+      d.1,
+      λ addresses seconds millis.
+          did_behind g.D.Disk.view g.K.Sink.takes g.K.Sink.fails g.K.Sink.faults addresses d.0 a.kept.now a.outbox.now a.sink.now (outside_of (story a.link.now) (faults a.link.now) seconds millis) (outside_of (story r.new.link) (faults r.new.link) seconds millis)
+          (scene n.kept n.outbox n.sink (outside_of (story n.link) (faults n.link) seconds millis)) d.1 (talks_only (story a.link.now) (story r.new.link) (faults a.link.now) (faults r.new.link) seconds millis r.ensures.talked) (d.2 addresses seconds millis),
+      λ honest. serves_read t a.config.now.addresses a.number c.in-Ok-Some.request d.0 connection (node_of a.kept.now) (story a.link.now) (story r.new.link) (story n.link) reads (d.3 honest),
+    )) c.answer.ensures.did
+
+pub returns-in-Ok-Some-clause-stops : goal.returns-in-Ok-Some-clause-stops
+returns-in-Ok-Some-clause-stops g c =
+    let a = c.args in
+    let story = g.L.Link.story in
+    let faults = g.L.Link.faults in
+    let r = c.read_request in
+    err_then c.answer.result (λ end stopped.
+    stopped_then g.D.Disk.view g.K.Sink.takes g.K.Sink.fails g.K.Sink.faults [] g.met.K.Sink.takes_then g.met.K.Sink.takes_fails _ _ (λ none. none) (Talks ∷ []) end
+    (scene a.kept.now a.outbox.now a.sink.now (outside_of (story a.link.now) (faults a.link.now) untold untold)) (scene a.kept.now a.outbox.now a.sink.now (outside_of (story r.new.link) (faults r.new.link) untold untold)) c.answer.new.kept c.answer.new.sink
+    (talk_did g.D.Disk.view g.K.Sink.takes g.K.Sink.fails g.K.Sink.faults [] g.met.K.Sink.takes_nothing a.kept.now a.outbox.now a.sink.now (story a.link.now) (story r.new.link) (faults a.link.now) (faults r.new.link) untold untold c.requires.open r.ensures.talked) stopped) c.answer.ensures.stops
+
+pub returns-in-Ok-Some-clause-count : goal.returns-in-Ok-Some-clause-count
+returns-in-Ok-Some-clause-count g c =
+    let faults = g.L.Link.faults in
+    counts_then (faults c.args.link.now) (faults c.read_request.new.link) (faults c.answer.new.link) c.read_request.ensures.talked.counts c.answer.ensures.count
+
+pub returns-in-Ok-None-clause-did : goal.returns-in-Ok-None-clause-did
+returns-in-Ok-None-clause-did g c =
+    let a = c.args in
+    let story = g.L.Link.story in
+    let faults = g.L.Link.faults in
+    let r = c.read_request in
+    let reads = reads_as c.id-me.result c.nodes-nodes.result a.kept.now.node.control.me a.kept.now.node.control.nodes a.number c.deref.result.now a.config.now.rules r.result (Ok None) (story a.link.now) (story r.new.link) (search rules) (search rules) (search rules) (search rules) r.ensures.reads in (
+      Talks,
+      tt,
+      λ addresses seconds millis.
+          talk_did g.D.Disk.view g.K.Sink.takes g.K.Sink.fails g.K.Sink.faults addresses g.met.K.Sink.takes_nothing a.kept.now a.outbox.now a.sink.now (story a.link.now) (story r.new.link) (faults a.link.now) (faults r.new.link) seconds millis c.requires.open r.ensures.talked,
+      λ honest. inr (reads, refl),
+    )
+
+pub returns-in-Err-Refused-clause-did : goal.returns-in-Err-Refused-clause-did
+returns-in-Err-Refused-clause-did g c =
+    let a = c.args in
+    let story = g.L.Link.story in
+    let faults = g.L.Link.faults in
+    let r = c.read_request in
+    let n = c.refuse.new in
+    let why = why_text c.in-Err-Refused.refused in
+    let reads = reads_as c.id-me.result c.nodes-nodes.result a.kept.now.node.control.me a.kept.now.node.control.nodes a.number c.deref.result.now a.config.now.rules r.result (Err (route.Refused c.in-Err-Refused.refused)) (story a.link.now) (story r.new.link) (search rules) (search rules) (search rules) (search rules) r.ensures.reads in
+    ok_then c.refuse.result (λ connection done. (
+      Notes why,
+      tt,
+      λ addresses seconds millis.
+          did_behind g.D.Disk.view g.K.Sink.takes g.K.Sink.fails g.K.Sink.faults addresses (Notes why) a.kept.now a.outbox.now a.sink.now (outside_of (story a.link.now) (faults a.link.now) seconds millis) (outside_of (story r.new.link) (faults r.new.link) seconds millis)
+          (scene a.kept.now a.outbox.now n.sink (outside_of (story n.link) (faults n.link) seconds millis)) tt (talks_only (story a.link.now) (story r.new.link) (faults a.link.now) (faults r.new.link) seconds millis r.ensures.talked)
+          (did_note g.D.Disk.view g.K.Sink.takes g.K.Sink.fails g.K.Sink.faults addresses why a.kept.now a.outbox.now a.sink.now n.sink (outside_of (story r.new.link) (faults r.new.link) seconds millis) (outside_of (story n.link) (faults n.link) seconds millis) done.0 c.requires.open
+          (talks_only (story r.new.link) (story n.link) (faults r.new.link) (faults n.link) seconds millis c.refuse.ensures.talked)),
+      λ honest. record { refused = c.in-Err-Refused.refused; between = story r.new.link; is_refused = reads; why_is = refl; reply = done.1; ends = done.2 },
+    )) c.refuse.ensures.refused
+
+pub returns-in-Err-Refused-clause-stops : goal.returns-in-Err-Refused-clause-stops
+returns-in-Err-Refused-clause-stops g c =
+    let a = c.args in
+    let story = g.L.Link.story in
+    let faults = g.L.Link.faults in
+    let r = c.read_request in
+    err_then c.refuse.result (λ end stops.
+    stopped_then g.D.Disk.view g.K.Sink.takes g.K.Sink.fails g.K.Sink.faults [] g.met.K.Sink.takes_then g.met.K.Sink.takes_fails _ _ (λ none. none) (Talks ∷ []) end
+    (scene a.kept.now a.outbox.now a.sink.now (outside_of (story a.link.now) (faults a.link.now) untold untold)) (scene a.kept.now a.outbox.now a.sink.now (outside_of (story r.new.link) (faults r.new.link) untold untold)) a.kept.now c.refuse.new.sink
+    (talk_did g.D.Disk.view g.K.Sink.takes g.K.Sink.fails g.K.Sink.faults [] g.met.K.Sink.takes_nothing a.kept.now a.outbox.now a.sink.now (story a.link.now) (story r.new.link) (faults a.link.now) (faults r.new.link) untold untold c.requires.open r.ensures.talked)
+    (note_stops g.D.Disk.view g.K.Sink.takes g.K.Sink.fails g.K.Sink.faults [] g.met.K.Sink.takes_nothing end (why_text c.in-Err-Refused.refused) a.kept.now a.sink.now c.refuse.new.sink (c.node-node.ensures.survives c.requires.open) stops)) c.refuse.ensures.stops
+
+pub returns-in-Err-Refused-clause-count : goal.returns-in-Err-Refused-clause-count
+returns-in-Err-Refused-clause-count g c =
+    let faults = g.L.Link.faults in
+    counts_then (faults c.args.link.now) (faults c.read_request.new.link) (faults c.refuse.new.link) c.read_request.ensures.talked.counts c.refuse.ensures.talked.counts
+
+pub returns-in-Err-Memory-clause-stops : goal.returns-in-Err-Memory-clause-stops
+returns-in-Err-Memory-clause-stops g c =
+    memory_stops g.D.Disk.view g.K.Sink.takes g.K.Sink.fails g.K.Sink.faults [] g.met.K.Sink.takes_nothing _ c.args.kept.now c.args.sink.now (c.node-node.ensures.survives c.requires.open)

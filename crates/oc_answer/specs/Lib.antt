@@ -1,0 +1,5 @@
+pub mod Beginning
+pub mod Hearing
+pub mod Serving
+pub mod Replying
+pub mod Requests

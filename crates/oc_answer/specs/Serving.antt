@@ -1,0 +1,192 @@
+-- What the requests of a connection are answered, one behind the other.
+use Rattle.std.specs.Prelude.{◌≡◌, ◌⊎◌, ℕ, ◌+◌, ◌-◌, ◌<◌, ◌≤◌, Bool, true, false, ◌&&◌, if◌then◌else◌, not, Option, Some, None, List, [], ◌∷◌, ◌++◌, length, take, drop}
+use Rattle.std.specs.List.{list_any}
+use Rattle.std.specs.Option.{option_map}
+use Rattle.std.specs.Str.{bytes_eq}
+use Rattle.oc_base.specs.Groups.{bytes_of, shelf}
+use Rattle.oc_base.specs.declared.shelf.Shelf.{Shelf}
+use Rattle.oc_base.specs.declared.group.Group.{Group}
+use Rattle.oc_http.specs.declared.framing.Connection.{Connection}
+use Rattle.oc_http.specs.declared.framing.Connection.TheVariants.{Close, Keep}
+use Rattle.oc_keep.specs.KeptView.{KeptView}
+use Rattle.oc_keep.specs.Trials.{after_inputs}
+use Rattle.oc_model.specs.declared.answer.Answer.{Answer}
+use Rattle.oc_model.specs.declared.answer.Answer.TheVariants as answers
+use Rattle.oc_model.specs.declared.input.Input.{Input}
+use Rattle.oc_model.specs.declared.input.Input.TheVariants.{Delivered}
+use Rattle.oc_model.specs.declared.message.Message.{Message}
+use Rattle.oc_model.specs.Node.{Node}
+use Rattle.oc_model.specs.Step.{step}
+use Rattle.oc_outside.specs.Story.{Story, closed}
+use Rattle.oc_routes.specs.Refusals.{refusal_text, why_text}
+use Rattle.oc_routes.specs.Replies.{reply_to}
+use Rattle.oc_routes.specs.Responses.{response_to}
+use Rattle.oc_routes.specs.declared.asks.Asks.{Asks}
+use Rattle.oc_routes.specs.declared.asks.Asks.TheVariants as asks
+use Rattle.oc_routes.specs.declared.refused.Refused.{Refused}
+use Rattle.oc_routes.specs.declared.response.Content.{Content}
+use Rattle.oc_routes.specs.declared.response.Response.{Response}
+use Rattle.oc_stream.specs.Texts.{chunked_text, chunks_written}
+use Rattle.oc_turn.specs.Deeds.{Deed, Answers, Notes, Talks, inputs_of}
+use Rattle.oc_turn.specs.Lines.{input_in}
+use Rattle.oc_turn.specs.Sending.{can_send}
+use Rattle.oc_answer.specs.declared.requests.Request.{Request}
+use Rattle.oc_policy.specs.declared.rule.Rule.{Rule}
+use Rattle.oc_answer.specs.Hearing.{Terms, terms_of, HearsRequest, EndsBefore, IsRefused, SaysOn}
+
+-- the terms of a node under these access rules
+abbrev pub terms : {D : Type 0} → KeptView D → List Rule → Terms
+terms kept rules = terms_of kept.node.control.me kept.node.control.nodes rules
+
+-- Texts
+
+-- the message that goes back to the sender of a message, where it can be sent
+abbrev pub sendable : ℕ → Option Message → Option Message
+sendable nodes None = None
+sendable nodes (Some m) = if can_send nodes m then Some m else None
+
+-- the message of a step that goes back to the sender of the input, if it has one
+abbrev pub back_to_sender : Input → List Message → Option Message
+back_to_sender (Delivered m) sends = reply_to sends m.from
+back_to_sender i sends = None
+
+-- whether the group of this name stands on a shelf as sealed
+abbrev pub is_line_sealed : List ℕ → List Shelf → Bool
+is_line_sealed group lines = list_any (λ line. bytes_eq line.group group && line.sealed) lines
+
+-- whether the group that a client asks for is sealed
+abbrev pub is_sealed : Asks → List Shelf → Bool
+is_sealed (asks.Client group area start manner) lines = is_line_sealed group lines
+is_sealed asked lines = false
+
+-- what a request is answered whose input comes to this node
+abbrev pub response_for : ℕ → List (List ℕ) → Asks → Bool → Input → Node → Response
+response_for nodes addresses asked last i n =
+    response_to asked (step n i).answer (sendable nodes (back_to_sender i (step n i).sends)) (is_sealed asked (shelf (step n i).node.groups)) addresses last
+
+-- some bytes of a group
+abbrev pub part_of : List ℕ → ℕ → ℕ → List Group → List ℕ
+part_of group start count groups = take count (drop start (bytes_of group groups))
+
+-- bytes as they are sent: plain, or as chunks
+abbrev pub pieces : Bool → List ℕ → List ℕ
+pieces true bytes = chunks_written (length bytes) bytes
+pieces false bytes = bytes
+
+-- a content as it is sent: plain, or as chunked text
+abbrev pub coded : Bool → List ℕ → List ℕ
+coded true bytes = chunked_text bytes
+coded false bytes = bytes
+
+-- the content of a group that stands behind the head
+abbrev pub content_text : Asks → Option Content → List Group → List ℕ
+content_text (asks.Client group area start manner) (Some content) groups = coded content.chunked (part_of group content.start content.count groups)
+content_text asked content groups = []
+
+-- the group has as many bytes behind the start as are sent
+abbrev pub FitsIn : List ℕ → Content → List Group → Type 0
+FitsIn group content groups = content.count ≤ length (bytes_of group groups) - content.start
+
+-- the same of what a client is sent
+abbrev pub Fits : Asks → Option Content → List Group → Type 0
+Fits (asks.Client group area start manner) (Some content) groups = FitsIn group content groups
+Fits asked content groups = Unit {0}
+
+-- the whole text of a response
+abbrev pub whole_text : Asks → Response → List Group → List ℕ
+whole_text asked response groups = response.text ++ content_text asked response.content groups
+
+-- Requests
+
+-- the text was written, and what becomes of the connection is what the response says; or a front of it, and the connection ends
+abbrev pub IsSaid : Bool → List ℕ → Connection → Connection → Option Story → Option Story → Type 0
+IsSaid true text wanted kept old new = SaysOn true text old new × (kept ≡ wanted)
+IsSaid false text wanted kept old new = SaysOn false text old new × (kept ≡ Close)
+
+-- a response was written with its content
+abbrev pub SaysResponse : Asks → Response → Bool → Connection → List Group → Option Story → Option Story → Type 0
+SaysResponse asked response said kept groups old new =
+    Fits asked response.content groups → IsSaid said (whole_text asked response groups) response.connection kept old new
+
+-- the response to this answer of a step, and to this message that goes back to a sender, was written with its content
+pub record Responds (nodes : ℕ) (addresses : List (List ℕ)) (asked : Asks) (last : Bool) (answer : Answer) (reply : Option Message) (groups : List Group) (said : Bool) (kept : Connection) (old new : Option Story) : Type 0 where
+  pub says : SaysResponse asked (response_to asked answer (sendable nodes reply) (is_sealed asked (shelf groups)) addresses last) said kept groups old new
+
+-- the input of a request is answered by the text of its step's outcome
+abbrev pub RepliesTo : ℕ → List (List ℕ) → Asks → Bool → Input → Bool → Connection → Node → Option Story → Option Story → Type 0
+RepliesTo nodes addresses asked last i said kept n old new =
+    IsSaid said (whole_text asked (response_for nodes addresses asked last i n) (step n i).node.groups) (response_for nodes addresses asked last i n).connection kept old new
+
+-- what a request is answered that is no input
+abbrev pub shown : List (List ℕ) → Asks → Bool → Response
+shown addresses asked last = response_to asked answers.Ok None false addresses last
+
+-- the input of a request was heard, and is answered so
+pub record IsAnswered (t : Terms) (addresses : List (List ℕ)) (number : ℕ) (i : Input) (said : Bool) (kept : Connection) (n : Node) (old new : Option Story) : Type 0 where
+  pub asked : Asks
+  pub last : Bool
+  pub between : Option Story
+  pub heard : HearsRequest t number asked (Some i) last old between
+  pub answered : RepliesTo t.nodes addresses asked last i said kept n between new
+
+-- a request that is no input was heard, and is answered
+pub record IsShown (t : Terms) (addresses : List (List ℕ)) (number : ℕ) (kept : Connection) (old new : Option Story) : Type 0 where
+  pub asked : Asks
+  pub last : Bool
+  pub between : Option Story
+  pub said : Bool
+  pub heard : HearsRequest t number asked None last old between
+  pub answered : IsSaid said (shown addresses asked last).text (shown addresses asked last).connection kept between new
+
+-- a refusal is answered by its text or a front of it; some have none
+abbrev pub SaysRefusal : Option (List ℕ) → Option Story → Option Story → Type 0
+SaysRefusal None old new = new ≡ old
+SaysRefusal (Some text) old new = (said : Bool) × SaysOn said text old new
+
+-- a request is refused, which ends the connection
+pub record IsTurnedAway (t : Terms) (number : ℕ) (why : List ℕ) (kept : Connection) (old new : Option Story) : Type 0 where
+  pub refused : Refused
+  pub between : Option Story
+  pub is_refused : IsRefused t number refused old between
+  pub why_is : why ≡ why_text refused
+  pub reply : SaysRefusal (refusal_text refused) between new
+  pub ends : kept ≡ Close
+
+-- what the deed of the request of this number is on its connection
+abbrev pub Serves : Terms → List (List ℕ) → ℕ → Deed → Connection → Node → Option Story → Option Story → Type 0
+Serves t addresses number (Answers i failed) kept n old new = IsAnswered t addresses number i (not failed) kept n old new
+Serves t addresses number (Notes why) kept n old new = IsTurnedAway t number why kept old new
+Serves t addresses number Talks kept n old new = IsShown t addresses number kept old new ⊎ (EndsBefore number old new × (kept ≡ Close))
+Serves t addresses number d kept n old new = ⊥
+
+-- what the deed of a request that was read is on its connection
+abbrev pub Replies : ℕ → List (List ℕ) → Request → Deed → Connection → Node → Option Story → Option Story → Type 0
+Replies nodes addresses request (Answers i failed) kept n old new =
+    (input_in request.entry ≡ Some i) × RepliesTo nodes addresses request.asks request.last i (not failed) kept n old new
+Replies nodes addresses request Talks kept n old new =
+    (input_in request.entry ≡ None) × ((said : Bool) × IsSaid said (shown addresses request.asks request.last).text (shown addresses request.asks request.last).connection kept old new)
+Replies nodes addresses request d kept n old new = ⊥
+
+-- requests from this number on, each of which kept the connection
+abbrev pub KeepOn : Terms → List (List ℕ) → ℕ → List Deed → Node → Option Story → Option Story → Type 0
+KeepOn t addresses number [] n old new = new ≡ old
+KeepOn t addresses number (d ∷ ds) n old new =
+    (between : Option Story) × Serves t addresses number d Keep n old between × KeepOn t addresses (number + 1) ds (after_inputs n (inputs_of (d ∷ []))) between new
+
+-- The requests of a connection: each but the last kept it, and the last did not. There are at most 16.
+pub record ServesAll (t : Terms) (addresses : List (List ℕ)) (ds : List Deed) (n : Node) (old new : Option Story) : Type 0 where
+  pub before : List Deed
+  pub last : Deed
+  pub between : Option Story
+  pub deeds_are : ds ≡ before ++ last ∷ []
+  pub few : length before < 16
+  pub kept : KeepOn t addresses 1 before n old between
+  pub ended : Serves t addresses (length before + 1) last Close (after_inputs n (inputs_of before)) between new
+
+-- the deeds of a connection: those of its requests, and its end
+pub record IsConnection (t : Terms) (addresses : List (List ℕ)) (ds : List Deed) (n : Node) (old new : Option Story) : Type 0 where
+  pub requests : List Deed
+  pub between : Option Story
+  pub deeds_are : ds ≡ requests ++ Talks ∷ []
+  pub served : ServesAll t addresses requests n old between
+  pub closed_is : new ≡ option_map closed between

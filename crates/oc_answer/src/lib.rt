@@ -1,0 +1,21 @@
+//! The connection that came to a running node: its requests are read, what each asks is done, and it is
+//! answered.
+//!
+//! [`serve_connection`] serves one connection. What it does is a list of deeds, one of each request and
+//! one of the connection's end: an input that was taken, with its line, before it was answered; the line of
+//! a refused request; or a probe that was answered.
+//!
+//! Over a link that tells its bytes the contract says what each deed is on the connection
+//! (`specs/Serving`, `IsConnection`). `specs/Hearing` says which bytes were read of the request, what they
+//! ask under the access rules, and why it is refused. The answer to an input is the text of its step's
+//! outcome, whole, or a front of it where the write failed; that to a refused request is the text of its
+//! fault, or a front of it. A further request is read only behind a reply that keeps the connection.
+#![tactic(auto)]
+
+mod answering;
+mod arriving;
+mod begun;
+mod replying;
+mod requests;
+
+pub use arriving::serve_connection;

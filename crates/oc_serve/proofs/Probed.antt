@@ -1,0 +1,85 @@
+-- A probe, as deeds.
+use Rattle.std.proofs.Common.{◌≡◌, ℕ, ◌-◌, min, slice_get, slice_set, false, Ok, Err, Result, Option, None, Some, List, [], ◌∷◌, ◌++◌, refl, ap, subst, ◌∙◌, arith}
+use Rattle.oc_base.specs.declared.limits.TheConstants.{MAX_RATE}
+use Rattle.oc_keep.specs.KeptView.{KeptView}
+use Rattle.oc_model.specs.Measures.{reading_of}
+use Rattle.oc_model.specs.declared.input.Input.{Input}
+use Rattle.oc_model.specs.declared.input.Input.TheVariants.{Measured}
+use Rattle.oc_model.specs.declared.message.Message.{Message}
+use Rattle.oc_outside.specs.ClockView.{Series}
+use Rattle.oc_outside.specs.DiskView.{DiskView}
+use Rattle.oc_outside.specs.Faults.{Rose}
+use Rattle.oc_outside.specs.LinkCalls.{LinkFaults, CountsDialling}
+use Rattle.oc_outside.specs.Story.{Story}
+use Rattle.oc_probe.specs.Probes.{Probed, Timed}
+use Rattle.oc_probe.specs.Rates.{IsMedian, rates_of, with_rate}
+use Rattle.oc_probe.specs.Turns.{RotationView, turned}
+use Rattle.oc_probe.specs.declared.probing.Probing.{Probing}
+use Rattle.oc_probe.specs.declared.fault.ProbeFault.{ProbeFault}
+use Rattle.oc_probe.specs.declared.fault.ProbeFault.TheVariants as faults
+use Rattle.oc_turn.specs.Deeds.{Deed, Notes, Outside, ProbeCause, Probes, Takes, address_in, outside_of}
+use Rattle.oc_turn.specs.Scenes.{Did, NotesOne, Scene, scene, setting}
+use Rattle.oc_serve.specs.Turns.{ProbesAny, ProbesNext, ProbesPeer, probe_note}
+use Rattle.oc_turn.proofs.Scenes.{did_then}
+use Rattle.oc_turn.proofs.Steps.{did_note, did_silent}
+use Rattle.oc_turn.proofs.Talks.{talked_none, talks_only}
+
+cause_is : (came : Result ℕ ProbeFault) (f f2 : LinkFaults) → (came ≡ Err faults.Link → Rose f.dialling f2.dialling) → ProbeCause came f f2
+cause_is (Ok rate) f f2 failed = tt
+cause_is (Err faults.Link) f f2 failed = failed refl
+cause_is (Err faults.Reply) f f2 failed = tt
+cause_is (Err faults.Memory) f f2 failed = tt
+
+module _ {D K : Type 0} (view : D → DiskView) (takes fails : K → List ℕ → K → Type 0) (count : K → ℕ) (addresses : List (List ℕ)) where
+  -- a peer was probed
+  pub probe_did : (takes_nothing : (k : K) → takes k [] k) (k : KeptView D) (peer hops : ℕ) (came : Result ℕ ProbeFault) (address : List ℕ) (o : List Message) (s : K) (st st2 : Option Story) (f f2 : LinkFaults) (sec sec2 mil mil2 : Series)
+      → hops ≡ (reading_of k.node.control.kept.measures peer).hops
+      → k.closed ≡ false → address ≡ address_in (setting k addresses) peer → Probed came address st st2 → Timed came mil mil2 → (came ≡ Err faults.Link → Rose f.dialling f2.dialling) → CountsDialling f f2 → sec2 ≡ sec
+      → Did view takes count addresses (Probes peer hops came ∷ []) (scene k o s (outside_of st f sec mil)) (scene k o s (outside_of st2 f2 sec2 mil2))
+  probe_did takes_nothing k peer hops came address o s st st2 f f2 sec sec2 mil mil2 far is_open place probed timed failed counts same =
+      did_silent view takes fails count addresses takes_nothing (Probes peer hops came) k o o s (outside_of st f sec mil) (outside_of st2 f2 sec2 mil2) (λ me. refl) is_open (omega (arith, counts.listening)) (
+        far,
+        record {
+          probed = subst (λ (a : List ℕ). Probed came a st st2) place probed;
+          timed = timed;
+          cause = cause_is came f f2 failed;
+          counts = counts;
+          rest = ap (λ (x : Series). outside_of st2 f2 x mil2) same;
+        },
+        refl,
+      )
+
+  -- and what was measured is taken
+  pub measured_did : (takes_then : (a b c : K) (x y : List ℕ) → takes a x b → takes b y c → takes a (x ++ y) c) (gauge after : List (List ℕ)) (peer hops rate median rated : ℕ) (i : Input) (a : Scene D K) (k k2 : KeptView D) (o o2 : List Message) (s s2 : K) (out : Outside)
+      → IsMedian (with_rate (rates_of gauge peer) rate) median → after ≡ slice_set gauge (peer - 1) (with_rate (rates_of gauge peer) rate) → rated ≡ min median MAX_RATE
+      → i ≡ Measured peer rated hops → Did view takes count addresses (Probes peer hops (Ok rate) ∷ []) a (scene k o s out)
+      → ((addresses : List (List ℕ)) (out : Outside) → Did view takes count addresses (Takes i ∷ []) (scene k o s out) (scene k2 o2 s2 out))
+      → (ds : List Deed) × ProbesPeer gauge after peer ds × Did view takes count addresses ds a (scene k2 o2 s2 out)
+  measured_did takes_then gauge after peer hops rate median rated i a k k2 o o2 s s2 out is_median put most is probed did = (
+    Probes peer hops (Ok rate) ∷ Takes (Measured peer (min median MAX_RATE) hops) ∷ [],
+    (hops, Ok rate, (median, is_median, put, refl)),
+    did_then view takes fails count addresses takes_then (Probes peer hops (Ok rate) ∷ []) (Takes (Measured peer (min median MAX_RATE) hops) ∷ []) a (scene k o s out) (scene k2 o2 s2 out) probed
+        (subst (λ (x : Input). Did view takes count addresses (Takes x ∷ []) (scene k o s out) (scene k2 o2 s2 out)) (is ∙ ap (λ (x : ℕ). Measured peer x hops) most) (did addresses out)),
+  )
+
+  -- and its fault is told
+  pub noted_did : (takes_then : (a b c : K) (x y : List ℕ) → takes a x b → takes b y c → takes a (x ++ y) c) (gauge : List (List ℕ)) (peer hops : ℕ) (fault : ProbeFault) (why : List ℕ) (a : Scene D K) (k : KeptView D) (o : List Message) (s s2 : K) (st : Option Story) (f : LinkFaults) (sec mil : Series)
+      → why ≡ probe_note peer fault → k.closed ≡ false → Did view takes count addresses (Probes peer hops (Err fault) ∷ []) a (scene k o s (outside_of st f sec mil)) → NotesOne takes count why s s2
+      → (ds : List Deed) × ProbesPeer gauge gauge peer ds × Did view takes count addresses ds a (scene k o s2 (outside_of st f sec mil))
+  noted_did takes_then gauge peer hops fault why a k o s s2 st f sec mil is is_open probed noted = (
+    Probes peer hops (Err fault) ∷ Notes (probe_note peer fault) ∷ [],
+    (hops, Err fault, (refl, refl)),
+    did_then view takes fails count addresses takes_then (Probes peer hops (Err fault) ∷ []) (Notes (probe_note peer fault) ∷ []) a (scene k o s (outside_of st f sec mil)) (scene k o s2 (outside_of st f sec mil)) probed
+        (subst (λ (x : List ℕ). Did view takes count addresses (Notes x ∷ []) (scene k o s (outside_of st f sec mil)) (scene k o s2 (outside_of st f sec mil))) is
+        (did_note view takes fails count addresses why k o s s2 (outside_of st f sec mil) (outside_of st f sec mil) noted is_open (talks_only st st f f sec mil (talked_none st f)))),
+  )
+
+-- the next peer of the rotation was probed
+pub probed_next : (old : Probing) (gauge : List (List ℕ)) (rotation : RotationView) (peer : ℕ) (ds : List Deed) → Some peer ≡ slice_get old.rotation.coming 0 → rotation ≡ record old.rotation { coming = turned old.rotation.coming }
+    → ProbesPeer old.gauge gauge peer ds → ProbesNext old (record { gauge = gauge; rotation = rotation }) ds
+probed_next old gauge rotation peer ds is turns probed = record { probed = subst (λ (next : Option ℕ). ProbesAny old.gauge gauge next ds) is probed; turns = turns }
+
+-- there is none
+pub probed_none : (old : Probing) (rotation : RotationView) → None ≡ slice_get old.rotation.coming 0 → rotation ≡ record old.rotation { coming = turned old.rotation.coming }
+    → ProbesNext old (record { gauge = old.gauge; rotation = rotation }) []
+probed_none old rotation is turns = record { probed = subst (λ (next : Option ℕ). ProbesAny old.gauge old.gauge next []) is (refl, refl); turns = turns }

@@ -1,0 +1,101 @@
+-- The messages that are sent, as deeds.
+use Rattle.std.proofs.Common.{◌≡◌, ◌⊎◌, ℕ, false, true, Some, None, Option, List, [], ◌∷◌, ◌++◌, refl, sym, ap, subst, ◌∙◌}
+use Rattle.oc_keep.specs.KeptView.{KeptView, node_of}
+use Rattle.oc_model.specs.declared.input.Input.{Input}
+use Rattle.oc_model.specs.declared.message.Message.{Message}
+use Rattle.oc_outside.specs.ClockView.{Series}
+use Rattle.oc_outside.specs.DiskView.{DiskView}
+use Rattle.oc_outside.specs.Faults.{NoFall, Rose}
+use Rattle.oc_outside.specs.LinkCalls.{LinkFaults, CountsDialling, Told}
+use Rattle.oc_outside.specs.Story.{Story}
+use Rattle.oc_turn.specs.Dials.{DialsMessage, IsAnswered, Makes, text_of}
+use Rattle.oc_turn.specs.Lines.{IsEntry, input_in}
+use Rattle.oc_turn.specs.declared.entry.Entry.{Entry}
+use Rattle.oc_turn.specs.Deeds.{Deed, DialledTo, Outside, Setting, Sight, Does, address_in, outside_of}
+use Rattle.oc_turn.specs.Deeds as deeds
+use Rattle.oc_turn.specs.Scenes.{Did, scene, setting}
+use Rattle.oc_serve.specs.Sending.{BecomesOf, IsLawfulSent, setting_of}
+use Rattle.oc_turn.specs.Deeds.{sight_of}
+use Rattle.oc_serve.specs.declared.sending.Sent.{Sent}
+use Rattle.oc_serve.specs.declared.sending.Sent.TheVariants as sents
+use Rattle.oc_serve.specs.Turns.{Lost, Brought, IsOneSent}
+use Rattle.oc_turn.proofs.Steps.{did_silent}
+
+-- a dial to an address is one to the receiver's
+pub dialled_to : (s : Setting) (m : Message) (came : Option Input) (address : List ℕ) (st st2 : Option Story) (f f2 : LinkFaults) → address ≡ address_in s m.to
+    → Told (DialsMessage s.nodes s.me address m came) st st2
+    → Rose f.dialling f2.dialling ⊎ Told (Makes (IsAnswered s.nodes s.me m.to address (text_of address m) came)) st st2
+    → CountsDialling f f2 → DialledTo s m came st st2 f f2
+dialled_to s m came address st st2 f f2 same dialled cause counts = record {
+  dialled = subst (λ (a : List ℕ). Told (DialsMessage s.nodes s.me a m came) st st2) same dialled;
+  cause = subst (λ (a : List ℕ). Rose f.dialling f2.dialling ⊎ Told (Makes (IsAnswered s.nodes s.me m.to a (text_of a m) came)) st st2) same cause;
+  counts = counts;
+}
+
+-- the deeds of what became of the oldest message
+abbrev pub SentDeeds : Sent → List Deed → Type 0
+SentDeeds sents.Empty ds = ds ≡ deeds.Empties ∷ []
+SentDeeds sents.Lost ds = (m : Message) × (ds ≡ deeds.Drops m ∷ [])
+SentDeeds (sents.Brought came) ds = (m : Message) × (ds ≡ deeds.Dials m (input_in came) ∷ [])
+
+module _ {D K : Type 0} (view : D → DiskView) (takes fails : K → List ℕ → K → Type 0) (count : K → ℕ) (addresses : List (List ℕ)) where
+  pub sent_did : (takes_nothing : (k : K) → takes k [] k) (k : KeptView D) (sent : Sent) (o o2 : List Message) (sink : K) (st st2 : Option Story) (f f2 : LinkFaults)
+      → k.closed ≡ false → NoFall f.listening f2.listening → BecomesOf (setting k addresses) sent o o2 st st2 f f2
+      → (ds : List Deed) × SentDeeds sent ds × ((seconds millis : Series) → Did view takes count addresses ds (scene k o sink (outside_of st f seconds millis)) (scene k o2 sink (outside_of st2 f2 seconds millis)))
+  sent_did takes_nothing k sents.Empty o o2 sink st st2 f f2 is_open listens (old, new, story, faults) = (
+    deeds.Empties ∷ [],
+    refl,
+    λ seconds millis.
+        did_silent view takes fails count addresses takes_nothing deeds.Empties k o o2 sink (outside_of st f seconds millis) (outside_of st2 f2 seconds millis) (λ me. refl) is_open listens (
+          old,
+          ap (λ (x : List Message). sight_of (node_of k) x (outside_of st2 f2 seconds millis)) (new ∙ sym old)
+              ∙ ap (λ (x : Option Story). sight_of (node_of k) o (outside_of x f2 seconds millis)) story
+              ∙ ap (λ (x : LinkFaults). sight_of (node_of k) o (outside_of st x seconds millis)) faults,
+        ),
+  )
+  sent_did takes_nothing k sents.Lost o o2 sink st st2 f f2 is_open listens (m, oldest, cannot, story, faults) = (
+    deeds.Drops m ∷ [],
+    (m, refl),
+    λ seconds millis.
+        did_silent view takes fails count addresses takes_nothing (deeds.Drops m) k o o2 sink (outside_of st f seconds millis) (outside_of st2 f2 seconds millis) (λ me. refl) is_open listens (
+          cannot,
+          ap (λ (x : List Message). sight_of (node_of k) x (outside_of st f seconds millis)) oldest
+              ∙ ap (λ (x : Option Story). sight_of (node_of k) (m ∷ o2) (outside_of x f seconds millis)) (sym story)
+              ∙ ap (λ (x : LinkFaults). sight_of (node_of k) (m ∷ o2) (outside_of st2 x seconds millis)) (sym faults),
+        ),
+  )
+  sent_did takes_nothing k (sents.Brought came) o o2 sink st st2 f f2 is_open listens (m, oldest, dialled) = (
+    deeds.Dials m (input_in came) ∷ [],
+    (m, refl),
+    λ seconds millis.
+        did_silent view takes fails count addresses takes_nothing (deeds.Dials m (input_in came)) k o o2 sink (outside_of st f seconds millis) (outside_of st2 f2 seconds millis) (λ me. refl) is_open listens
+        (record { dialled = dialled; rest = refl }, oldest, refl),
+  )
+
+-- one message was sent
+pub sent_empty : (ds : List Deed) → SentDeeds sents.Empty ds → IsOneSent false ds
+sent_empty ds is = is
+
+pub sent_lost : (ds : List Deed) → SentDeeds sents.Lost ds → IsOneSent true ds
+sent_lost ds (m, is) = (Lost m, is)
+
+pub sent_none : (ds : List Deed) → SentDeeds (sents.Brought None) ds → IsOneSent true ds
+sent_none ds (m, is) = (Brought m None, is)
+
+pub sent_some : (e : Entry) (ds : List Deed) → SentDeeds (sents.Brought (Some e)) ds → IsOneSent true (ds ++ deeds.Takes e.input ∷ [])
+sent_some e ds (m, is) = (Brought m (Some e.input), ap (λ (x : List Deed). x ++ deeds.Takes e.input ∷ []) is)
+
+-- what became of the oldest message, told of this node
+pub becomes_here : {D : Type 0} → (k : KeptView D) (addresses : List (List ℕ)) (me nodes : ℕ) (sent is : Sent) (o o2 : List Message) (st st2 : Option Story) (f f2 : LinkFaults)
+    → sent ≡ is → me ≡ k.node.control.me → nodes ≡ k.node.control.nodes → BecomesOf (setting_of me nodes addresses) sent o o2 st st2 f f2 → BecomesOf (setting k addresses) is o o2 st st2 f f2
+becomes_here k addresses me nodes sent is o o2 st st2 f f2 same mine all becomes =
+    subst (λ (x : Sent). BecomesOf (setting k addresses) x o o2 st st2 f f2) same
+    (subst (λ (x : ℕ). BecomesOf (setting_of x k.node.control.nodes addresses) sent o o2 st st2 f f2) mine
+    (subst (λ (x : ℕ). BecomesOf (setting_of me x addresses) sent o o2 st st2 f f2) all becomes))
+
+-- the entry that came is one of this node
+pub entry_here : {D : Type 0} → (k : KeptView D) (me nodes : ℕ) (sent : Sent) (e : Entry) → sent ≡ sents.Brought (Some e) → me ≡ k.node.control.me → nodes ≡ k.node.control.nodes → IsLawfulSent nodes me sent → IsEntry k.node.control.nodes k.node.control.me e
+entry_here k me nodes sent e same mine all lawful =
+    subst (λ (x : ℕ). IsEntry k.node.control.nodes x e) mine
+    (subst (λ (x : ℕ). IsEntry x me e) all
+    (subst (λ (x : Sent). IsLawfulSent nodes me x) same lawful))

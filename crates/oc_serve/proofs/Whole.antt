@@ -1,0 +1,258 @@
+-- A whole turn.
+use Rattle.std.proofs.Common.{◌≡◌, ℕ, suc, ◌+◌, ◌<◌, false, true, Some, None, Ok, Option, List, [], ◌∷◌, ◌++◌, length, inl, inr, refl, sym, ap, subst, ◌∙◌, arith}
+use Rattle.std.proofs.lemmas.List.{append-nil, append_assoc, length-append}
+use Rattle.oc_keep.specs.KeptView.{IsHonest, KeptView, disks_of, node_of}
+use Rattle.oc_model.specs.declared.message.Message.{Message}
+use Rattle.oc_outside.specs.ClockView.{Series}
+use Rattle.oc_outside.specs.DiskView.{DiskView}
+use Rattle.oc_outside.specs.LinkCalls.{LinkFaults, CountsListening, NextGives}
+use Rattle.oc_outside.specs.Story.{Story}
+use Rattle.oc_outside.specs.declared.link.Arrival.{Arrival}
+use Rattle.oc_outside.specs.declared.link.Arrival.TheVariants as arrivals
+use Rattle.oc_probe.specs.declared.probing.Probing.{Probing}
+use Rattle.oc_turn.specs.declared.ends.TurnEnd.{TurnEnd}
+use Rattle.oc_serve.specs.declared.limits.TheConstants.{MAX_DIALS}
+use Rattle.oc_turn.specs.Deeds.{Calls, Deed, DoAll, Does, Outside, Setting, Sight, outside_of, ticked}
+use Rattle.oc_turn.specs.Looks.{LooksOnly}
+use Rattle.oc_turn.specs.Scenes.{Did, Scene, Stopped, scene, setting, sight}
+use Rattle.oc_answer.specs.Hearing.{Terms, terms_of}
+use Rattle.oc_answer.specs.Serving.{terms}
+use Rattle.oc_keep.specs.Promises.{IsSameNode}
+use Rattle.oc_keep.proofs.Stays.{all_honest}
+use Rattle.oc_model.specs.Node.{Header}
+use Rattle.oc_policy.specs.declared.rule.Rule.{Rule}
+use Rattle.oc_turn.proofs.Chains.{do_then}
+use Rattle.oc_serve.specs.Ends.{MakesTurn}
+use Rattle.oc_serve.specs.Served.{IsServed, ServesOne, ServesTurns}
+use Rattle.oc_serve.specs.Turns.{AreSent, AreTurns, Errand, IsArrival, IsOneSent, IsTickedAndSent, IsTurn, ProbesAt, ProbesNext, arrival_of, end_with, errand_deeds, errands_deeds}
+use Rattle.oc_turn.specs.Deeds.{ticked}
+use Rattle.oc_turn.proofs.Scenes.{did_then, stopped_then}
+use Rattle.oc_turn.proofs.Steps.{did_look, did_silent}
+
+-- Messages that are sent
+
+errands_push : (es : List Errand) (e : Errand) → errands_deeds (es ++ e ∷ []) ≡ errands_deeds es ++ errand_deeds e
+errands_push [] e = append-nil (errand_deeds e)
+errands_push (x ∷ es) e = ap (λ (ds : List Deed). errand_deeds x ++ ds) (errands_push es e) ∙ sym (append_assoc (errand_deeds x) (errands_deeds es) (errand_deeds e))
+
+-- so many messages were sent, and there may be more
+pub record AreSoFar (n : ℕ) (ds : List Deed) : Type 0 where
+  pub errands : List Errand
+  pub count : length errands ≡ n
+  pub deeds_are : ds ≡ errands_deeds errands
+
+pub none_sent : AreSoFar 0 []
+none_sent = record { errands = []; count = refl; deeds_are = refl }
+
+pub one_more : (n : ℕ) (ds es : List Deed) → AreSoFar n ds → IsOneSent true es → AreSoFar (n + 1) (ds ++ es)
+one_more n ds es far (e, is) = record {
+  errands = far.errands ++ e ∷ [];
+  count = omega (arith, far.count, length-append far.errands (e ∷ []));
+  deeds_are = ap (λ (x : List Deed). x ++ es) far.deeds_are ∙ ap (λ (x : List Deed). errands_deeds far.errands ++ x) is ∙ sym (errands_push far.errands e);
+}
+
+pub no_more : (n most : ℕ) (ds es : List Deed) → n < most → AreSoFar n ds → IsOneSent false es → AreSent most (ds ++ es)
+no_more n most ds es below far is = (far.errands, inr (omega (arith, far.count, below), ap (λ (x : List Deed). x ++ es) far.deeds_are ∙ ap (λ (x : List Deed). errands_deeds far.errands ++ x) is))
+
+pub all_sent : (most : ℕ) (ds : List Deed) → AreSoFar most ds → AreSent most ds
+all_sent most ds far = (far.errands, inl (far.count, far.deeds_are))
+
+-- A turn
+
+answered_by : (arrival : Arrival) → arrival_of (end_with arrival) ≡ Some arrival
+answered_by arrivals.Conn = refl
+answered_by arrivals.Quiet = refl
+
+-- without what it takes to probe nothing is probed
+none_probed : (arrival : Arrival) → ProbesAt (end_with arrival) None None []
+none_probed arrivals.Conn = (refl, refl)
+none_probed arrivals.Quiet = (refl, refl)
+
+-- these deeds make so many turns, with any further ones behind them
+abbrev pub AreTurnsSoFar : Option Probing → Option Probing → ℕ → List Deed → Type 0
+AreTurnsSoFar old now n ds = (new : Option Probing) (more : ℕ) (rest : List Deed) → AreTurns now new more rest → AreTurns old new (n + more) (ds ++ rest)
+
+pub no_turns : (old : Option Probing) → AreTurnsSoFar old old 0 []
+no_turns old = λ new more rest is. let same : 0 + more ≡ more = omega arith in subst (λ (k : ℕ). AreTurns old new k rest) (sym same) is
+
+pub all_turns : (old now : Option Probing) (n : ℕ) (ds : List Deed) → AreTurnsSoFar old now n ds → AreTurns old now n ds
+all_turns old now n ds far =
+    let same : n + 0 ≡ n = omega arith in
+    subst (λ (k : ℕ). AreTurns old now k ds) same (subst (λ (x : List Deed). AreTurns old now (n + 0) x) (append-nil ds) (far now 0 [] (refl, refl)))
+
+-- a further turn
+pub turns_then : (old between now : Option Probing) (n : ℕ) (end : TurnEnd) (ds es : List Deed) → AreTurnsSoFar old between n ds → IsTurn between now end es → AreTurnsSoFar old now (n + 1) (ds ++ es)
+turns_then old between now n end ds es far turn = λ new more rest is.
+    let next : n + 1 + more ≡ n + suc more = omega arith in
+    subst (λ (k : ℕ). AreTurns old new k ((ds ++ es) ++ rest)) (sym next)
+    (subst (λ (x : List Deed). AreTurns old new (n + suc more) x) (sym (append_assoc ds es rest)) (far new (suc more) (es ++ rest) (es, rest, now, end, turn, is, refl)))
+
+-- what is said of one node is said of the same node
+same_setting : {D : Type 0} → (a b : KeptView D) (addresses : List (List ℕ)) → IsSameNode a.node.control b.node.control → setting b addresses ≡ setting a addresses
+same_setting a b addresses same =
+    ap (λ (me : ℕ). record { me = me; nodes = b.node.control.nodes; addresses = addresses }) same.me
+    ∙ ap (λ (h : Header). record { me = a.node.control.me; nodes = h.nodes; addresses = addresses }) same.header
+
+same_terms : {D : Type 0} → (a b : KeptView D) (rules : List Rule) → IsSameNode a.node.control b.node.control → terms b rules ≡ terms a rules
+same_terms a b rules same =
+    ap (λ (me : ℕ). terms_of me b.node.control.nodes rules) same.me
+    ∙ ap (λ (h : Header). terms_of a.node.control.me h.nodes rules) same.header
+
+-- these deeds serve so many turns, with any further ones behind them
+abbrev pub ServesSoFar : Setting → Terms → Option Probing → Option Probing → ℕ → List Deed → Sight → Sight → Type 0
+ServesSoFar s t old now n ds a b = (new : Option Probing) (more : ℕ) (rest : List Deed) (c : Sight) → ServesTurns s t now new more rest b c → ServesTurns s t old new (n + more) (ds ++ rest) a c
+
+pub serves_none : (s : Setting) (t : Terms) (old : Option Probing) (a : Sight) → ServesSoFar s t old old 0 [] a a
+serves_none s t old a = λ new more rest c is. let same : 0 + more ≡ more = omega arith in subst (λ (k : ℕ). ServesTurns s t old new k rest a c) (sym same) is
+
+pub serves_all : (s : Setting) (t : Terms) (old now : Option Probing) (n : ℕ) (ds : List Deed) (a b : Sight) → ServesSoFar s t old now n ds a b → ServesTurns s t old now n ds a b
+serves_all s t old now n ds a b far =
+    let same : n + 0 ≡ n = omega arith in
+    subst (λ (k : ℕ). ServesTurns s t old now k ds a b) same (subst (λ (x : List Deed). ServesTurns s t old now (n + 0) x a b) (append-nil ds) (far now 0 [] b (refl, refl, refl)))
+
+further : (s : Setting) (t : Terms) (old between now : Option Probing) (n : ℕ) (arrival : Arrival) (ds es : List Deed) (a b c : Sight)
+    → ServesSoFar s t old between n ds a b → IsTurn between now (end_with arrival) es → ServesOne s t arrival es b c → ServesSoFar s t old now (n + 1) (ds ++ es) a c
+further s t old between now n arrival ds es a b c far turn one = λ new more rest d is.
+    let next : n + 1 + more ≡ n + suc more = omega arith in
+    subst (λ (k : ℕ). ServesTurns s t old new k ((ds ++ es) ++ rest) a d) (sym next)
+    (subst (λ (x : List Deed). ServesTurns s t old new (n + suc more) x a d) (sym (append_assoc ds es rest)) (far new (suc more) (es ++ rest) d (es, rest, c, now, arrival, turn, one, is, refl)))
+
+module _ {D K : Type 0} (view : D → DiskView) (takes fails : K → List ℕ → K → Type 0) (count : K → ℕ) (addresses : List (List ℕ)) where
+  -- the files are tidied, and the link is asked
+  pub asked_did : (takes_nothing : (k : K) → takes k [] k) (takes_then : (a b c : K) (x y : List ℕ) → takes a x b → takes b y c → takes a (x ++ y) c)
+      → (k0 k1 : KeptView D) (o0 : List Message) (s0 : K) (st0 st1 : Option Story) (f0 f1 : LinkFaults) (seconds millis : Series) (arrival : Arrival)
+      → LooksOnly view k0 k1 → NextGives (Ok arrival) st0 st1 → CountsListening f0 f1
+      → Did view takes count addresses (Calls arrival ∷ []) (scene k0 o0 s0 (outside_of st0 f0 seconds millis)) (scene k1 o0 s0 (outside_of st1 f1 seconds millis))
+  asked_did takes_nothing takes_then k0 k1 o0 s0 st0 st1 f0 f1 seconds millis arrival looks asked counts =
+      did_then view takes fails count addresses takes_then [] (Calls arrival ∷ [])
+      (scene k0 o0 s0 (outside_of st0 f0 seconds millis)) (scene k1 o0 s0 (outside_of st0 f0 seconds millis)) (scene k1 o0 s0 (outside_of st1 f1 seconds millis))
+      (did_look view takes fails count addresses takes_nothing k0 k1 o0 s0 (outside_of st0 f0 seconds millis) looks)
+      (did_silent view takes fails count addresses takes_nothing (Calls arrival) k1 o0 o0 s0 (outside_of st0 f0 seconds millis) (outside_of st1 f1 seconds millis)
+      (λ me. refl) looks.is_open counts.listening (record { next = asked; counts = counts; rest = refl }, refl))
+
+  -- and the connection is served
+  pub arrived_did : (takes_nothing : (k : K) → takes k [] k) (takes_then : (a b c : K) (x y : List ℕ) → takes a x b → takes b y c → takes a (x ++ y) c)
+      → (k0 k1 k2 : KeptView D) (o0 o1 : List Message) (s0 s1 : K) (st0 st1 st2 : Option Story) (f0 f1 f2 : LinkFaults) (seconds millis : Series) (arrival : Arrival) (requests : List Deed)
+      → LooksOnly view k0 k1 → NextGives (Ok arrival) st0 st1 → CountsListening f0 f1
+      → Did view takes count addresses requests (scene k1 o0 s0 (outside_of st1 f1 seconds millis)) (scene k2 o1 s1 (outside_of st2 f2 seconds millis))
+      → Did view takes count addresses (Calls arrival ∷ requests) (scene k0 o0 s0 (outside_of st0 f0 seconds millis)) (scene k2 o1 s1 (outside_of st2 f2 seconds millis))
+  arrived_did takes_nothing takes_then k0 k1 k2 o0 o1 s0 s1 st0 st1 st2 f0 f1 f2 seconds millis arrival requests looks asked counts talked =
+      did_then view takes fails count addresses takes_then (Calls arrival ∷ []) requests
+      (scene k0 o0 s0 (outside_of st0 f0 seconds millis)) (scene k1 o0 s0 (outside_of st1 f1 seconds millis)) (scene k2 o1 s1 (outside_of st2 f2 seconds millis))
+      (asked_did takes_nothing takes_then k0 k1 o0 s0 st0 st1 f0 f1 seconds millis arrival looks asked counts) talked
+
+  -- where the connection was answered, it is so in the turn
+  served_one : (rules : List Rule) (a b c d : Scene D K) (arrival : Arrival) (requests next : List Deed)
+      → Did view takes count addresses (Calls arrival ∷ []) a b → Did view takes count addresses requests b c → Did view takes count addresses next c d
+      → (IsHonest view b.kept → IsServed (terms b.kept rules) addresses arrival requests (node_of b.kept) b.outside.story c.outside.story)
+      → IsHonest view a.kept → ServesOne (setting a.kept addresses) (terms a.kept rules) arrival ((Calls arrival ∷ requests) ++ next) (sight a) (sight d)
+  served_one rules a b c d arrival requests next asked talked sent answered honest =
+      let b_honest = all_honest view (disks_of a.kept) (disks_of b.kept) asked.goes_on honest in
+      let c_honest = all_honest view (disks_of b.kept) (disks_of c.kept) talked.goes_on b_honest in
+      let calls = asked.done honest in
+      record {
+        requests = requests;
+        rest = next;
+        called = sight b;
+        served = sight c;
+        deeds_are = refl;
+        calls = subst (λ (x : Sight). Does (setting a.kept addresses) (Calls arrival) (sight a) x) (sym calls.2) calls.1;
+        talks = subst (λ (s : Setting). DoAll s requests (sight b) (sight c)) (same_setting a.kept b.kept addresses asked.same) (talked.done b_honest);
+        answered = subst (λ (t : Terms). IsServed t addresses arrival requests (node_of b.kept) b.outside.story c.outside.story) (same_terms a.kept b.kept rules asked.same) (answered b_honest);
+        goes_on = subst (λ (s : Setting). DoAll s next (sight c) (sight d)) (same_setting b.kept c.kept addresses talked.same ∙ same_setting a.kept b.kept addresses asked.same) (sent.done c_honest);
+      }
+
+  pub turn_did : (takes_nothing : (k : K) → takes k [] k) (takes_then : (a b c : K) (x y : List ℕ) → takes a x b → takes b y c → takes a (x ++ y) c)
+      → (rules : List Rule) (a b c d : Scene D K) (arrival : Arrival) (requests next : List Deed)
+      → IsArrival arrival requests → Did view takes count addresses (Calls arrival ∷ []) a b → Did view takes count addresses requests b c
+      → IsTickedAndSent next → Did view takes count addresses next c d
+      → (IsHonest view b.kept → IsServed (terms b.kept rules) addresses arrival requests (node_of b.kept) b.outside.story c.outside.story)
+      → MakesTurn view takes count addresses rules None None arrival a d
+  turn_did takes_nothing takes_then rules a b c d arrival requests next arrived asked talked sent done answered = (
+    (Calls arrival ∷ requests) ++ next,
+    record {
+      arrival = arrival;
+      requests = requests;
+      next = next;
+      probe = [];
+      answered = answered_by arrival;
+      arrived = arrived;
+      ticked_and_sent = sent;
+      probed = none_probed arrival;
+      deeds_are = sym (append-nil ((Calls arrival ∷ requests) ++ next));
+    },
+    did_then view takes fails count addresses takes_then (Calls arrival ∷ requests) next a c d
+        (did_then view takes fails count addresses takes_then (Calls arrival ∷ []) requests a b c asked talked) done,
+    served_one rules a b c d arrival requests next asked talked done answered,
+  )
+
+  -- a probe behind a turn
+  pub serves_behind : (rules : List Rule) (arrival : Arrival) (ds probe : List Deed) (a b c : Scene D K)
+      → Did view takes count addresses ds a b → (IsHonest view a.kept → ServesOne (setting a.kept addresses) (terms a.kept rules) arrival ds (sight a) (sight b)) → Did view takes count addresses probe b c
+      → IsHonest view a.kept → ServesOne (setting a.kept addresses) (terms a.kept rules) arrival (ds ++ probe) (sight a) (sight c)
+  serves_behind rules arrival ds probe a b c first serves probed honest =
+      let one = serves honest in
+      let does = subst (λ (s : Setting). DoAll s probe (sight b) (sight c)) (same_setting a.kept b.kept addresses first.same) (probed.done (all_honest view (disks_of a.kept) (disks_of b.kept) first.goes_on honest)) in
+      record {
+        requests = one.requests;
+        rest = one.rest ++ probe;
+        called = one.called;
+        served = one.served;
+        deeds_are = ap (λ (x : List Deed). x ++ probe) one.deeds_are ∙ append_assoc (Calls arrival ∷ one.requests) one.rest probe;
+        calls = one.calls;
+        talks = one.talks;
+        answered = one.answered;
+        goes_on = do_then (setting a.kept addresses) one.rest probe one.served (sight b) (sight c) one.goes_on does;
+      }
+
+  -- the same of so many turns with a further one
+  pub serves_then : (rules : List Rule) (old between now : Option Probing) (n : ℕ) (arrival : Arrival) (ds es : List Deed) (a b c : Scene D K)
+      → Did view takes count addresses ds a b
+      → (IsHonest view a.kept → ServesSoFar (setting a.kept addresses) (terms a.kept rules) old between n ds (sight a) (sight b))
+      → IsTurn between now (end_with arrival) es
+      → (IsHonest view b.kept → ServesOne (setting b.kept addresses) (terms b.kept rules) arrival es (sight b) (sight c))
+      → IsHonest view a.kept → ServesSoFar (setting a.kept addresses) (terms a.kept rules) old now (n + 1) (ds ++ es) (sight a) (sight c)
+  serves_then rules old between now n arrival ds es a b c did far turn serves honest =
+      let one = subst (λ (s : Setting). ServesOne s (terms a.kept rules) arrival es (sight b) (sight c)) (same_setting a.kept b.kept addresses did.same)
+      (subst (λ (t : Terms). ServesOne (setting b.kept addresses) t arrival es (sight b) (sight c)) (same_terms a.kept b.kept rules did.same) (serves (all_honest view (disks_of a.kept) (disks_of b.kept) did.goes_on honest))) in
+      further (setting a.kept addresses) (terms a.kept rules) old between now n arrival ds es (sight a) (sight b) (sight c) (far honest) turn one
+
+  -- a look before what stopped
+  pub look_then : (takes_nothing : (k : K) → takes k [] k) (takes_then : (a b c : K) (x y : List ℕ) → takes a x b → takes b y c → takes a (x ++ y) c) (takes_fails : (a b c : K) (x y : List ℕ) → takes a x b → fails b y c → fails a (x ++ y) c)
+      → (link linked : Type 0) → (link → linked) → (end : TurnEnd) (old mid new : KeptView D) (o : List Message) (out : Outside) (sink after : K)
+      → LooksOnly view old mid → Stopped view takes fails count link end mid new sink after → Stopped view takes fails count linked end old new sink after
+  look_then takes_nothing takes_then takes_fails link linked so end old mid new o out sink after looks stopped =
+      stopped_then view takes fails count addresses takes_then takes_fails link linked so [] end (scene old o sink out) (scene mid o sink out) new after
+      (did_look view takes fails count addresses takes_nothing old mid o sink out looks) stopped
+
+-- a turn without a probe, where a connection came
+pub served_too : (had : Probing) (ds : List Deed) → IsTurn None None (end_with arrivals.Conn) ds → IsTurn (Some had) (Some had) (end_with arrivals.Conn) ds
+served_too had ds turn = record {
+  arrival = turn.arrival;
+  requests = turn.requests;
+  next = turn.next;
+  probe = turn.probe;
+  answered = turn.answered;
+  arrived = turn.arrived;
+  ticked_and_sent = turn.ticked_and_sent;
+  probed = (refl, turn.probed.1);
+  deeds_are = turn.deeds_are;
+}
+
+-- a probe behind a quiet turn
+pub probed_too : (had has : Probing) (ds probe : List Deed) → IsTurn None None (end_with arrivals.Quiet) ds → ProbesNext had has probe → IsTurn (Some had) (Some has) (end_with arrivals.Quiet) (ds ++ probe)
+probed_too had has ds probe turn probed = record {
+  arrival = turn.arrival;
+  requests = turn.requests;
+  next = turn.next;
+  probe = probe;
+  answered = turn.answered;
+  arrived = turn.arrived;
+  ticked_and_sent = turn.ticked_and_sent;
+  probed = probed;
+  deeds_are = ap (λ (x : List Deed). x ++ probe) (turn.deeds_are ∙ ap (λ (x : List Deed). (Calls turn.arrival ∷ turn.requests) ++ turn.next ++ x) turn.probed.1 ∙ append-nil ((Calls turn.arrival ∷ turn.requests) ++ turn.next));
+}
+
+-- the tick, and then the messages
+pub tick_then : (t : ℕ) (sent : List Deed) → AreSent MAX_DIALS sent → IsTickedAndSent (ticked t ++ sent)
+tick_then t sent are = record { t = t; sent = sent; are_sent = are; deeds_are = refl }

@@ -1,0 +1,28 @@
+-- So many turns were made, and the node is as these left it.
+use Rattle.std.proofs.Common.{◌≡◌, false, Some, List}
+use Rattle.oc_turn.specs.Deeds.{Deed, outside_of, sight_of}
+use Rattle.oc_turn.specs.Scenes.{Did, scene, setting}
+use Rattle.oc_answer.specs.Serving.{terms}
+use Rattle.oc_keep.specs.KeptView.{IsHonest, node_of}
+use Rattle.oc_serve.specs.Sending.{IsPlaced}
+use Rattle.oc_serve.specs.Turns.{IsMadeFor}
+use Rattle.oc_serve.proofs.Whole.{AreTurnsSoFar, ServesSoFar}
+use Rattle.oc_serve.proofs.serving.serve_probing.Given as goal
+
+abbrev pub invariant-turns : goal.invariant-turns
+invariant-turns g l =
+    let story = g.L.Link.story in
+    let faults = g.L.Link.faults in
+    let seconds = g.C.Clock.seconds in
+    let millis = g.C.Clock.milliseconds in
+    record {
+      is_open : l.kept.closed ≡ false;
+      placed : IsPlaced l.kept.node.control.nodes l.config.addresses;
+      far : (ds : List Deed) × AreTurnsSoFar (Some l.fn.probing) (Some l.probing) l.done ds × Did g.D.Disk.view g.K.Sink.takes g.K.Sink.faults l.config.addresses ds
+          (scene l.fn.kept l.fn.outbox l.fn.sink (outside_of (story l.fn.link) (faults l.fn.link) (seconds l.fn.clock) (millis l.fn.clock)))
+          (scene l.kept l.outbox l.sink (outside_of (story l.link) (faults l.link) (seconds l.clock) (millis l.clock)))
+          × (IsHonest g.D.Disk.view l.fn.kept → ServesSoFar (setting l.fn.kept l.config.addresses) (terms l.fn.kept l.config.rules) (Some l.fn.probing) (Some l.probing) l.done ds
+          (sight_of (node_of l.fn.kept) l.fn.outbox (outside_of (story l.fn.link) (faults l.fn.link) (seconds l.fn.clock) (millis l.fn.clock)))
+          (sight_of (node_of l.kept) l.outbox (outside_of (story l.link) (faults l.link) (seconds l.clock) (millis l.clock))));
+      probing : IsMadeFor l.kept.node.control.nodes l.probing;
+    }

@@ -1,0 +1,4 @@
+pub mod Sending
+pub mod Turns
+pub mod Served
+pub mod Ends

@@ -1,0 +1,20 @@
+//! The turns of a running node.
+//!
+//! [`turn`] tidies the node's files, serves the connection that waits, if one does, takes the clock's time,
+//! dials the messages that are still to be sent, and may probe a peer. [`serve`] does so many times.
+//!
+//! What a turn does is a list of deeds; `specs/Turns` says which deeds make a turn, `specs/Served` that
+//! the requests of its connection were answered by the outcomes of their steps, and `specs/Ends` what was
+//! done by how it ended.
+#![tactic(auto)]
+
+mod limits;
+mod place;
+mod probing;
+mod sending;
+mod serving;
+mod turning;
+
+pub use limits::MAX_DIALS;
+pub use oc_turn::{Outbox, TurnEnd};
+pub use serving::{serve, turn};

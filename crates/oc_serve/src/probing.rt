@@ -1,0 +1,133 @@
+//! The probe of a turn.
+
+ghost use Rattle.std.specs.Prelude.{◌≡◌, List, IfErr, IfOk, OnOk, false, length};
+ghost use Rattle.oc_base.specs.Lawful.{IsNode};
+ghost use Rattle.oc_outside.specs.LinkCalls.{CountsDialling};
+ghost use Rattle.oc_turn.specs.Deeds.{Deed, outside_of};
+ghost use Rattle.oc_turn.specs.Scenes.{Did, Stopped, scene};
+ghost use Rattle.oc_serve.specs.Sending.{IsPlaced};
+ghost use Rattle.oc_serve.specs.Turns.{IsMadeFor, ProbesNext, ProbesPeer, probe_note, probe_word};
+
+use crate::place::address_of;
+use oc_base::{MAX_RATE, Memory, NodeId, put, put_number};
+use oc_config::Config;
+use oc_keep::Kept;
+use oc_model::Input;
+use oc_outside::{Clock, Disk, Link, Sink};
+use oc_probe::{Gauge, ProbeFault, Probing, probe};
+use oc_turn::{Outbox, TurnEnd, input_entry, take_own, write_note};
+use std::alloc::Global;
+
+/// Probes the next peer of the rotation, if there is one: takes the median of what was measured, or tells
+/// why nothing was.
+#[allow(clippy::too_many_arguments)]
+pub(crate) fn probe_next<D: Disk, L: Link, C: Clock, K: Sink>(
+    alloc: Global,
+    kept: &mut Kept<D>,
+    outbox: &mut Outbox,
+    config: &Config,
+    link: &mut L,
+    clock: &mut C,
+    sink: &mut K,
+    probing: &mut Probing,
+) -> Result<(), TurnEnd>
+    requires open { kept.old.closed ≡ false }
+    requires placed { IsPlaced kept.old.node.control.nodes config.now.addresses }
+    requires probing { IsMadeFor kept.old.node.control.nodes probing.old }
+    ensures did { OnOk result ((probe : List Deed) × ProbesNext probing.old probing.new probe
+        × Did D.view K.takes K.faults config.now.addresses probe
+        (scene kept.old outbox.old sink.old (outside_of (L.story link.old) (L.faults link.old) (C.seconds clock.old) (C.milliseconds clock.old)))
+        (scene kept.new outbox.new sink.new (outside_of (L.story link.new) (L.faults link.new) (C.seconds clock.new) (C.milliseconds clock.new)))) }
+    ensures stops { IfErr result (λ end. Stopped D.view K.takes K.fails K.faults ⊥ end kept.old kept.new sink.old sink.new) }
+    ensures count { CountsDialling (L.faults link.old) (L.faults link.new) }
+    ensures probing { IsMadeFor kept.old.node.control.nodes probing.new }
+{
+    match probing.rotation.next() {
+        Some(peer) => probe_peer(
+            alloc,
+            kept,
+            outbox,
+            config,
+            link,
+            clock,
+            sink,
+            &mut probing.gauge,
+            peer,
+        ),
+        None => {
+            // While no disk failed, the node is what the files recover.
+            let _node = kept.node();
+            Ok(())
+        }
+    }
+}
+
+/// Probes a peer.
+#[allow(clippy::too_many_arguments)]
+fn probe_peer<D: Disk, L: Link, C: Clock, K: Sink>(
+    alloc: Global,
+    kept: &mut Kept<D>,
+    outbox: &mut Outbox,
+    config: &Config,
+    link: &mut L,
+    clock: &mut C,
+    sink: &mut K,
+    gauge: &mut Gauge,
+    peer: NodeId,
+) -> Result<(), TurnEnd>
+    requires open { kept.old.closed ≡ false }
+    requires placed { IsPlaced kept.old.node.control.nodes config.now.addresses }
+    requires gauge { length gauge.old ≡ kept.old.node.control.nodes }
+    requires peer { IsNode kept.old.node.control.nodes peer }
+    ensures did { OnOk result ((probe : List Deed) × ProbesPeer gauge.old gauge.new peer probe
+        × Did D.view K.takes K.faults config.now.addresses probe
+        (scene kept.old outbox.old sink.old (outside_of (L.story link.old) (L.faults link.old) (C.seconds clock.old) (C.milliseconds clock.old)))
+        (scene kept.new outbox.new sink.new (outside_of (L.story link.new) (L.faults link.new) (C.seconds clock.new) (C.milliseconds clock.new)))) }
+    ensures stops { IfErr result (λ end. Stopped D.view K.takes K.fails K.faults ⊥ end kept.old kept.new sink.old sink.new) }
+    ensures count { CountsDialling (L.faults link.old) (L.faults link.new) }
+    ensures gauge { length gauge.new ≡ length gauge.old }
+{
+    // While no disk failed, the node is what the files recover.
+    let node = kept.node();
+    let me = node.id();
+    let (_rate, hops) = node.measures().get(peer);
+    match probe(alloc, address_of(config, peer), link, clock) {
+        Ok(rate) => {
+            let median = gauge.put(peer, rate).min(MAX_RATE);
+            let input = Input::Measured {
+                peer,
+                rate: median,
+                hops,
+            };
+            let entry = input_entry(alloc, me, input)?;
+            take_own(kept, outbox, sink, entry)
+        }
+        Err(ProbeFault::Memory) => Err(TurnEnd::Memory),
+        Err(fault) => {
+            let why = probe_note(alloc, peer, fault)?;
+            write_note(alloc, sink, &why)
+        }
+    }
+}
+
+/// Why a probe took nothing.
+fn probe_note(alloc: Global, peer: NodeId, fault: ProbeFault) -> Result<Vec<u8>, Memory>
+    ensures { IfOk result (λ why. why.items ≡ probe_note peer fault) }
+{
+    let mut why = Vec::new(alloc);
+    put(&mut why, b"probe ")?;
+    put_number(&mut why, u64::from(peer.0))?;
+    put(&mut why, b" ")?;
+    put(&mut why, probe_word(fault).as_bytes())?;
+    Ok(why)
+}
+
+fn probe_word(fault: ProbeFault) -> &'static str
+    ensures { result.now ≡ probe_word fault }
+{
+    match fault {
+        ProbeFault::Link => "link",
+        ProbeFault::Reply => "reply",
+        ProbeFault::Memory => "",
+    }
+}

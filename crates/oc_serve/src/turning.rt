@@ -1,0 +1,178 @@
+//! One turn.
+
+ghost use Rattle.std.specs.Prelude.{◌≡◌, ◌≤◌, ℕ, Ok, None, Some, List, IfErr, IfOk, OnOk, false, length};
+ghost use Rattle.oc_keep.specs.KeptView.{IsHonest, NodeSurvives, node_of};
+ghost use Rattle.oc_outside.specs.ClockView.{Series};
+ghost use Rattle.oc_outside.specs.Faults.{NoFall, Rose};
+ghost use Rattle.oc_outside.specs.LinkCalls.{CountsDialling, CountsListening, CountsTalking, NextGives};
+ghost use Rattle.oc_policy.specs.declared.deciding.TheConstants.{MAX_RULES as MOST_RULES};
+ghost use Rattle.oc_turn.specs.Deeds.{Deed, outside_of};
+ghost use Rattle.oc_turn.specs.Looks.{LookStops};
+ghost use Rattle.oc_turn.specs.Scenes.{Did, Stopped, scene};
+ghost use Rattle.oc_answer.specs.Serving.{terms};
+ghost use Rattle.oc_serve.specs.Ends.{MakesTurn, Renews};
+ghost use Rattle.oc_serve.specs.Served.{IsServed};
+ghost use Rattle.oc_serve.specs.Sending.{IsPlaced};
+ghost use Rattle.oc_serve.specs.Turns.{IsArrival, IsMadeFor, IsTickedAndSent};
+
+use crate::probing::probe_next;
+use crate::sending::send_all;
+use oc_answer::serve_connection;
+use oc_config::Config;
+use oc_http::HeadReader;
+use oc_keep::Kept;
+use oc_outside::{Arrival, Clock, Disk, Link, Sink};
+use oc_probe::Probing;
+use oc_turn::{Outbox, TurnEnd, tick, tidy};
+use std::alloc::Global;
+
+/// A turn that probes where it is quiet.
+#[allow(clippy::too_many_arguments)]
+pub(crate) fn turn_probing<D: Disk, L: Link, C: Clock, K: Sink>(
+    alloc: Global,
+    kept: &mut Kept<D>,
+    outbox: &mut Outbox,
+    config: &Config,
+    link: &mut L,
+    clock: &mut C,
+    sink: &mut K,
+    probing: &mut Probing,
+) -> Result<Arrival, TurnEnd>
+    requires open { kept.old.closed ≡ false }
+    requires placed { IsPlaced kept.old.node.control.nodes config.now.addresses }
+    requires rules { length config.now.rules ≤ MOST_RULES }
+    requires probing { IsMadeFor kept.old.node.control.nodes probing.old }
+    ensures did { IfOk result (λ arrival. MakesTurn D.view K.takes K.faults config.now.addresses config.now.rules (Some probing.old) (Some probing.new) arrival
+        (scene kept.old outbox.old sink.old (outside_of (L.story link.old) (L.faults link.old) (C.seconds clock.old) (C.milliseconds clock.old)))
+        (scene kept.new outbox.new sink.new (outside_of (L.story link.new) (L.faults link.new) (C.seconds clock.new) (C.milliseconds clock.new)))) }
+    ensures stops { IfErr result (λ end. Stopped D.view K.takes K.fails K.faults (Rose (L.faults link.old).listening (L.faults link.new).listening) end kept.old kept.new sink.old sink.new) }
+    ensures listens { NoFall (L.faults link.old).listening (L.faults link.new).listening }
+    ensures renews { OnOk result (Renews D.view kept.old kept.new) }
+    ensures probing { IsMadeFor kept.old.node.control.nodes probing.new }
+{
+    let arrival = turn_plain(alloc, kept, outbox, config, link, clock, sink)?;
+    match arrival {
+        Arrival::Conn => Ok(Arrival::Conn),
+        Arrival::Quiet => {
+            probe_next(alloc, kept, outbox, config, link, clock, sink, probing)?;
+            Ok(Arrival::Quiet)
+        }
+    }
+}
+
+/// A turn without a probe: the files are tidied, the link is asked for a connection, which is served, and
+/// then the clock's time is taken, and messages are sent.
+#[allow(clippy::too_many_arguments)]
+pub(crate) fn turn_plain<D: Disk, L: Link, C: Clock, K: Sink>(
+    alloc: Global,
+    kept: &mut Kept<D>,
+    outbox: &mut Outbox,
+    config: &Config,
+    link: &mut L,
+    clock: &mut C,
+    sink: &mut K,
+) -> Result<Arrival, TurnEnd>
+    requires open { kept.old.closed ≡ false }
+    requires placed { IsPlaced kept.old.node.control.nodes config.now.addresses }
+    requires rules { length config.now.rules ≤ MOST_RULES }
+    ensures did { IfOk result (λ arrival. MakesTurn D.view K.takes K.faults config.now.addresses config.now.rules None None arrival
+        (scene kept.old outbox.old sink.old (outside_of (L.story link.old) (L.faults link.old) (C.seconds clock.old) (C.milliseconds clock.old)))
+        (scene kept.new outbox.new sink.new (outside_of (L.story link.new) (L.faults link.new) (C.seconds clock.new) (C.milliseconds clock.new)))) }
+    ensures stops { IfErr result (λ end. Stopped D.view K.takes K.fails K.faults (Rose (L.faults link.old).listening (L.faults link.new).listening) end kept.old kept.new sink.old sink.new) }
+    ensures listens { NoFall (L.faults link.old).listening (L.faults link.new).listening }
+    ensures renews { OnOk result (Renews D.view kept.old kept.new) }
+{
+    tidy(kept)?;
+    let mut reader = make_reader(alloc, kept)?;
+    let arrival = ask(kept, link)?;
+    serve_arrival(
+        alloc,
+        &mut reader,
+        kept,
+        outbox,
+        config,
+        link,
+        sink,
+        arrival,
+    )?;
+    tick_and_send(alloc, &mut reader, kept, outbox, config, link, clock, sink)?;
+    Ok(arrival)
+}
+
+/// The room for the heads of a turn.
+fn make_reader<D: Disk>(alloc: Global, kept: &Kept<D>) -> Result<HeadReader, TurnEnd>
+    ensures { IfErr result (λ end. (kept.now.closed ≡ false → LookStops D.view end kept.now kept.now)) }
+{
+    // While no disk failed, the node is what the files recover.
+    let _node = kept.node();
+    Ok(HeadReader::new(alloc)?)
+}
+
+/// Asks the link for a connection that waits.
+fn ask<D: Disk, L: Link>(kept: &Kept<D>, link: &mut L) -> Result<Arrival, TurnEnd>
+    ensures asked { IfOk result (λ arrival. NextGives (Ok arrival) (L.story link.old) (L.story link.new)) }
+    ensures fails { IfErr result (λ end. (end ≡ TurnEnd.Link) × Rose (L.faults link.old).listening (L.faults link.new).listening) }
+    ensures count { CountsListening (L.faults link.old) (L.faults link.new) }
+    ensures survives { kept.now.closed ≡ false → IsHonest D.view kept.now → NodeSurvives D.view kept.now (node_of kept.now) }
+{
+    // While no disk failed, the node is what the files recover.
+    let _node = kept.node();
+    match link.next() {
+        Ok(arrival) => Ok(arrival),
+        Err(_) => Err(TurnEnd::Link),
+    }
+}
+
+/// Serves the connection, where one came.
+#[allow(clippy::too_many_arguments)]
+fn serve_arrival<D: Disk, L: Link, K: Sink>(
+    alloc: Global,
+    reader: &mut HeadReader,
+    kept: &mut Kept<D>,
+    outbox: &mut Outbox,
+    config: &Config,
+    link: &mut L,
+    sink: &mut K,
+    arrival: Arrival,
+) -> Result<(), TurnEnd>
+    requires open { kept.old.closed ≡ false }
+    requires rules { length config.now.rules ≤ MOST_RULES }
+    ensures did { OnOk result ((deeds : List Deed) × IsArrival arrival deeds × ((addresses : List (List ℕ)) (seconds millis : Series)
+        → Did D.view K.takes K.faults addresses deeds
+        (scene kept.old outbox.old sink.old (outside_of (L.story link.old) (L.faults link.old) seconds millis))
+        (scene kept.new outbox.new sink.new (outside_of (L.story link.new) (L.faults link.new) seconds millis)))
+        × (IsHonest D.view kept.old → IsServed (terms kept.old config.now.rules) config.now.addresses arrival deeds (node_of kept.old)
+        (L.story link.old) (L.story link.new))) }
+    ensures stops { IfErr result (λ end. Stopped D.view K.takes K.fails K.faults ⊥ end kept.old kept.new sink.old sink.new) }
+    ensures count { CountsTalking (L.faults link.old) (L.faults link.new) }
+{
+    match arrival {
+        Arrival::Conn => serve_connection(alloc, reader, kept, outbox, config, link, sink),
+        Arrival::Quiet => Ok(()),
+    }
+}
+
+/// Takes the clock's time, and sends messages.
+#[allow(clippy::too_many_arguments)]
+fn tick_and_send<D: Disk, L: Link, C: Clock, K: Sink>(
+    alloc: Global,
+    reader: &mut HeadReader,
+    kept: &mut Kept<D>,
+    outbox: &mut Outbox,
+    config: &Config,
+    link: &mut L,
+    clock: &mut C,
+    sink: &mut K,
+) -> Result<(), TurnEnd>
+    requires open { kept.old.closed ≡ false }
+    requires placed { IsPlaced kept.old.node.control.nodes config.now.addresses }
+    ensures did { OnOk result ((deeds : List Deed) × IsTickedAndSent deeds
+        × Did D.view K.takes K.faults config.now.addresses deeds
+        (scene kept.old outbox.old sink.old (outside_of (L.story link.old) (L.faults link.old) (C.seconds clock.old) (C.milliseconds clock.old)))
+        (scene kept.new outbox.new sink.new (outside_of (L.story link.new) (L.faults link.new) (C.seconds clock.new) (C.milliseconds clock.new)))) }
+    ensures stops { IfErr result (λ end. Stopped D.view K.takes K.fails K.faults ⊥ end kept.old kept.new sink.old sink.new) }
+    ensures count { CountsDialling (L.faults link.old) (L.faults link.new) }
+{
+    tick(alloc, kept, outbox, clock, sink)?;
+    send_all(alloc, reader, kept, outbox, config, link, sink)
+}

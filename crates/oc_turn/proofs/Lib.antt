@@ -1,0 +1,11 @@
+pub mod Asking
+pub mod Rows
+pub mod Chains
+pub mod Scenes
+pub mod Takes
+pub mod Steps
+pub mod Results
+pub mod Talks
+pub mod Turned
+pub mod Looking
+pub mod Ticks

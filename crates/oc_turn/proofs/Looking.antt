@@ -1,0 +1,65 @@
+-- Looks, one behind another.
+use Rattle.std.proofs.Common.{◌≡◌, ℕ, IsTrue, false, true, Bool, List, refl, sym, ap, subst, ◌∙◌, arith}
+use Rattle.oc_content.specs.ContentFile.{groups_in}
+use Rattle.oc_keep.specs.Files.{AllGoOn, AreHonest, OneRose, Survives}
+use Rattle.oc_keep.specs.KeptView.{IsHonest, KeptView, NodeSurvives, disks_of, header_of, node_of}
+use Rattle.oc_keep.specs.Promises.{ChangesNothing, IsSameNode}
+use Rattle.oc_keep.proofs.Runs.{all_go_on_then, one_rose_after}
+use Rattle.oc_keep.proofs.Stays.{all_honest}
+use Rattle.oc_model.specs.Node.{Control, Header, Node}
+use Rattle.oc_outside.specs.DiskView.{DiskView}
+use Rattle.oc_turn.specs.declared.ends.TurnEnd.{TurnEnd}
+use Rattle.oc_turn.specs.declared.ends.TurnEnd.TheVariants as ends
+use Rattle.oc_turn.specs.Looks.{LookCause, LooksOnly, LookStops}
+use Rattle.oc_turn.proofs.Scenes.{go_on_none}
+use Rattle.oc_turn.proofs.Takes.{named}
+
+module _ {D : Type 0} (view : D → DiskView) where
+  pub looks_none : (k : KeptView D) → k.closed ≡ false → LooksOnly view k k
+  looks_none k is_open = record { is_open = is_open; same = record { me = refl; header = refl }; goes_on = go_on_none view (disks_of k); node = λ honest. refl; generation = λ honest. omega arith }
+
+  pub looks_then : (a b c : KeptView D) → LooksOnly view a b → LooksOnly view b c → LooksOnly view a c
+  looks_then a b c p q = record {
+    is_open = q.is_open;
+    same = record { me = q.same.me ∙ p.same.me; header = q.same.header ∙ p.same.header };
+    goes_on = all_go_on_then view (disks_of a) (disks_of b) (disks_of c) p.goes_on q.goes_on;
+    node = λ honest. q.node (all_honest view (disks_of a) (disks_of b) p.goes_on honest) ∙ p.node honest;
+    generation = λ honest. omega (arith, p.generation honest, q.generation (all_honest view (disks_of a) (disks_of b) p.goes_on honest));
+  }
+
+  look_cause : (end : TurnEnd) (a b c : KeptView D) → LooksOnly view a b → LookCause view end b c → LookCause view end a c
+  look_cause ends.Disk a b c p cause = one_rose_after view (disks_of a) (disks_of b) (disks_of c) p.goes_on cause
+  look_cause ends.Memory a b c p cause = tt
+  look_cause ends.Served a b c p cause = cause
+  look_cause ends.Quiet a b c p cause = cause
+  look_cause ends.Link a b c p cause = cause
+  look_cause ends.Full a b c p cause = cause
+  look_cause ends.Sink a b c p cause = cause
+
+  pub stops_behind : (end : TurnEnd) (a b c : KeptView D) → LooksOnly view a b → LookStops view end b c → LookStops view end a c
+  stops_behind end a b c p q = record {
+    goes_on = all_go_on_then view (disks_of a) (disks_of b) (disks_of c) p.goes_on q.goes_on;
+    leaves = λ honest.
+        subst (λ (n : Node). Survives view (header_of a.node.control) a.node.control.me (disks_of c) n) (p.node honest)
+        (named (λ h me. Survives view h me (disks_of c) (node_of b)) a b p.same (q.leaves (all_honest view (disks_of a) (disks_of b) p.goes_on honest)));
+    cause = look_cause end a b c p q.cause;
+  }
+
+  -- memory ran out in a look at an open node
+  pub memory_looks : (k : KeptView D) → (IsHonest view k → NodeSurvives view k (node_of k)) → LookStops view ends.Memory k k
+  memory_looks k survives = record { goes_on = go_on_none view (disks_of k); leaves = survives; cause = tt }
+
+  -- a call that changed nothing
+  nothing_node : (old new : KeptView D) → ChangesNothing view old new → IsHonest view old → node_of new ≡ node_of old
+  nothing_node old new nothing honest =
+      ap (λ (n : Control). record { control = n; groups = groups_in new.content.journal.frames }) nothing.control
+      ∙ ap (λ (frames : List (List ℕ)). record { control = old.node.control; groups = groups_in frames }) (nothing.content.journal.frames honest.content)
+
+  pub looked : (old new : KeptView D) → new.closed ≡ false → ChangesNothing view old new → AllGoOn view (disks_of old) (disks_of new) → LooksOnly view old new
+  looked old new is_open nothing on = record {
+    is_open = is_open;
+    same = record { me = ap (λ (n : Control). n.me) nothing.control; header = ap header_of nothing.control };
+    goes_on = on;
+    node = λ honest. nothing_node old new nothing honest;
+    generation = λ honest. omega (arith, nothing.store.generation);
+  }

@@ -1,0 +1,71 @@
+-- The files are turned over, or not.
+use Rattle.std.proofs.Common.{◌≡◌, ℕ, IsTrue, false, true, Bool, Some, None, Option, List, refl, sym, ap, subst, ◌∙◌, arith, ◌≤◌}
+use Rattle.oc_content.specs.ContentFile.{groups_in}
+use Rattle.oc_content.specs.ContentView.{ContentView}
+use Rattle.oc_keep.specs.Files.{AllGoOn, AreHonest, OneRose, SameDurable, Survives}
+use Rattle.oc_keep.specs.KeptView.{AtAnyMoment, IsHonest, KeptView, NodeSurvives, disks_of, header_of, node_of}
+use Rattle.oc_keep.specs.Promises.{ChangesNothing, Closes, IsSameNode, IsTurnedOver}
+use Rattle.oc_keep.specs.declared.errors.TidyError.{TidyError}
+use Rattle.oc_keep.specs.declared.errors.TidyError.TheVariants as tidies
+use Rattle.oc_keep.proofs.Stays.{Law, all_honest, leaves_now}
+use Rattle.oc_model.specs.Node.{Control, Header, Node}
+use Rattle.oc_outside.specs.DiskView.{DiskView}
+use Rattle.oc_outside.specs.Faults.{NoFall}
+use Rattle.oc_turn.specs.declared.ends.TurnEnd.TheVariants as ends
+use Rattle.oc_turn.specs.Looks.{LooksOnly, LookStops, end_of_tidy}
+
+module _ {D : Type 0} (view : D → DiskView) (old new : KeptView D) where
+  -- with the same control state and the same content it is the same node
+  same_node : new.node.control ≡ old.node.control → new.content ≡ old.content → node_of new ≡ node_of old
+  same_node control content =
+      ap (λ (n : Control). record { control = n; groups = groups_in new.content.journal.frames }) control
+      ∙ ap (λ (x : ContentView D). record { control = old.node.control; groups = groups_in x.journal.frames }) content
+
+  same_id : new.node.control ≡ old.node.control → IsSameNode old.node.control new.node.control
+  same_id control = record { me = ap (λ (n : Control). n.me) control; header = ap header_of control }
+
+  pub tidied : new.closed ≡ false → new.node.control ≡ old.node.control → new.content ≡ old.content → AllGoOn view (disks_of old) (disks_of new) → NoFall old.store.generation new.store.generation → LooksOnly view old new
+  tidied is_open control content on grows = record { is_open = is_open; same = same_id control; goes_on = on; node = λ honest. same_node control content; generation = λ honest. grows }
+
+  -- the generation after files were turned over, or not
+  pub turned_grows : (turned : Bool) → (IsTrue turned → IsTurnedOver view old new) → (turned ≡ false → new ≡ old) → NoFall old.store.generation new.store.generation
+  turned_grows true over same = omega (arith, (over refl).generation)
+  turned_grows false over same = omega (arith, ap (λ (k : KeptView D). k.store.generation) (same refl))
+
+-- the node at another moment, by its name
+named : (P : Header → ℕ → Type 0) → {D : Type 0} → (old new : KeptView D) → IsSameNode old.node.control new.node.control → P (header_of new.node.control) new.node.control.me → P (header_of old.node.control) old.node.control.me
+named P old new same p = subst (λ (me : ℕ). P (header_of old.node.control) me) same.me (subst (λ (h : Header). P h new.node.control.me) same.header p)
+
+module _ {D : Type 0} (view : D → DiskView) (law : Law view) (old new : KeptView D) where
+  stays : new.node.control ≡ old.node.control → new.content ≡ old.content → AllGoOn view (disks_of old) (disks_of new) → new.closed ≡ false
+      → (new.closed ≡ false → IsHonest view new → NodeSurvives view new (node_of new)) → IsHonest view old → Survives view (header_of old.node.control) old.node.control.me (disks_of new) (node_of old)
+  stays control content on is_open survives honest =
+      subst (λ (n : Node). Survives view (header_of old.node.control) old.node.control.me (disks_of new) n) (same_node view old new control content)
+      (named (λ h me. Survives view h me (disks_of new) (node_of new)) old new (same_id view old new control)
+      (survives is_open (all_honest view (disks_of old) (disks_of new) on honest)))
+
+  pub tidy_stops : (error : TidyError) → old.closed ≡ false → new.node.control ≡ old.node.control → new.content ≡ old.content → AllGoOn view (disks_of old) (disks_of new)
+      → (error ≡ tidies.Closed → IsTrue old.closed) → (error ≡ tidies.Disk → Closes view old new) → ((error ≡ tidies.Disk → ⊥) → new.closed ≡ old.closed)
+      → (IsHonest view old → AtAnyMoment view old new (SameDurable (node_of old))) → (new.closed ≡ false → IsHonest view new → NodeSurvives view new (node_of new))
+      → LookStops view (end_of_tidy error) old new
+  tidy_stops tidies.Closed is_open control content on closed disk still moments survives =
+      let yes : old.closed ≡ true = closed refl in let no = is_open in absurd cc
+  tidy_stops tidies.Memory is_open control content on closed disk still moments survives = record {
+    goes_on = on;
+    leaves = stays control content on (still (λ e. absurd cc) ∙ is_open) survives;
+    cause = tt;
+  }
+  tidy_stops tidies.Disk is_open control content on closed disk still moments survives = record {
+    goes_on = on;
+    leaves = λ honest. leaves_now view (header_of old.node.control) old.node.control.me (disks_of old) (disks_of new) (SameDurable (node_of old)) law (all_honest view (disks_of old) (disks_of new) on honest) (moments honest);
+    cause = (disk refl).rose;
+  }
+
+  -- the same of a call that read
+  pub read_stops : old.closed ≡ false → AllGoOn view (disks_of old) (disks_of new) → Closes view old new
+      → (IsHonest view old → AtAnyMoment view old new (SameDurable (node_of old))) → LookStops view ends.Disk old new
+  read_stops is_open on closes moments = record {
+    goes_on = on;
+    leaves = λ honest. leaves_now view (header_of old.node.control) old.node.control.me (disks_of old) (disks_of new) (SameDurable (node_of old)) law (all_honest view (disks_of old) (disks_of new) on honest) (moments honest);
+    cause = closes.rose;
+  }

@@ -1,0 +1,35 @@
+//! What a turn of a running node is made of: the messages that are still to be sent, the line of an input,
+//! one message that is dialled with what comes of it, and one input that is taken into the node's files.
+//!
+//! An [`Outbox`] keeps the messages that are to be sent, oldest first. An [`Entry`] is an input with its
+//! line, made before the input is taken. [`dial`] brings one message to its receiver: it says of the link
+//! that one dial was made with exactly that message's request, and which entry came of it by what was read.
+//! [`take`] and [`take_own`] take an entry into the files and then write its line; [`tick`] takes the
+//! clock's time, and [`tidy`] turns ripe files over.
+//!
+//! What a turn does is a list of deeds (`specs/Deeds`): an input that was taken with its line, a message
+//! that was dialled, and so on. `specs/Scenes` says what it means that deeds were done: the lines that were
+//! written, the node and what it has still to send, and what every crash leaves, also where it ended in the
+//! midst of one input more. A [`TurnEnd`] is how a turn ended.
+#![tactic(auto)]
+
+mod dialling;
+mod ends;
+mod entry;
+mod hearing;
+mod notes;
+mod outbox;
+mod sendable;
+mod taking;
+mod ticking;
+mod tidying;
+
+pub use dialling::dial;
+pub use ends::TurnEnd;
+pub use entry::{Entry, fail_entry, input_entry, message_entry};
+pub use notes::{write_line, write_note};
+pub use outbox::{MAX_OUTBOX, Outbox, put_all};
+pub use sendable::can_send;
+pub use taking::{take, take_own};
+pub use ticking::tick;
+pub use tidying::tidy;

@@ -1,0 +1,41 @@
+//! The tick of a turn.
+
+ghost use Rattle.std.specs.Prelude.{◌≡◌, ℕ, List, IfErr, OnOk, false};
+ghost use Rattle.oc_outside.specs.LinkCalls.{LinkFaults};
+ghost use Rattle.oc_outside.specs.Story.{Story};
+ghost use Rattle.std.specs.Prelude.{Option};
+ghost use Rattle.oc_turn.specs.Deeds.{outside_of};
+ghost use Rattle.oc_turn.specs.Scenes.{Did, Stopped, scene};
+ghost use Rattle.oc_turn.specs.Deeds.{ticked};
+
+use crate::ends::TurnEnd;
+use crate::entry::input_entry;
+use crate::outbox::Outbox;
+use crate::taking::take_own;
+use oc_base::MAX_TIME;
+use oc_keep::Kept;
+use oc_model::Input;
+use oc_outside::{Clock, Disk, Sink};
+use std::alloc::Global;
+
+/// Takes a tick with the seconds that the clock gives.
+pub fn tick<D: Disk, C: Clock, K: Sink>(
+    alloc: Global,
+    kept: &mut Kept<D>,
+    outbox: &mut Outbox,
+    clock: &mut C,
+    sink: &mut K,
+) -> Result<(), TurnEnd>
+    requires open { kept.old.closed ≡ false }
+    ensures did { OnOk result ((t : ℕ) × ((addresses : List (List ℕ)) (story : Option Story) (faults : LinkFaults)
+        → Did D.view K.takes K.faults addresses (ticked t)
+        (scene kept.old outbox.old sink.old (outside_of story faults (C.seconds clock.old) (C.milliseconds clock.old)))
+        (scene kept.new outbox.new sink.new (outside_of story faults (C.seconds clock.new) (C.milliseconds clock.new))))) }
+    ensures stops { IfErr result (λ end. Stopped D.view K.takes K.fails K.faults ⊥ end kept.old kept.new sink.old sink.new) }
+{
+    let now = clock.now().min(MAX_TIME);
+    // While no disk failed, the node is what the files recover.
+    let me = kept.node().id();
+    let entry = input_entry(alloc, me, Input::Tick(now))?;
+    take_own(kept, outbox, sink, entry)
+}

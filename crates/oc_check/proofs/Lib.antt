@@ -1,0 +1,5 @@
+mod Safely
+mod Headers
+mod Shown
+pub mod Lenders
+pub mod Complete

@@ -1,0 +1,14 @@
+//! What the three files of a node recover, as a text.
+//!
+//! [`recovered_text`] is what the layer above uses: over lent disks it gives the block of `show` and the
+//! block of `held` of the node that they recover (`Shows`), or why they recover none. A load writes the
+//! header of a file that is new and nothing else, so at every moment a crash leaves what one at the start
+//! would have left.
+#![tactic(auto)]
+
+mod lending;
+mod loading;
+mod showing;
+mod sight;
+
+pub use lending::recovered_text;

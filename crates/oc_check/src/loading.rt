@@ -1,0 +1,102 @@
+//! A node loaded from its files, to be shown.
+
+ghost use Rattle.std.specs.Prelude.{◌≡◌, ◌≤◌, ◌++◌, false, IfErr, IfOk, replicate};
+ghost use Rattle.oc_base.specs.Lawful.{IsNode};
+ghost use Rattle.oc_base.specs.declared.limits.TheConstants.{MAX_CHAIN, MAX_NODES};
+ghost use Rattle.oc_check.specs.Checks.{Shows, header_without_areas};
+ghost use Rattle.oc_keep.specs.Files.{disks};
+ghost use Rattle.oc_base.specs.Groups.{shelf};
+ghost use Rattle.oc_keep.specs.KeptView.{IsHonest, node_of};
+ghost use Rattle.oc_keep.specs.Promises.{LoadsSafely, RefusesNode};
+ghost use Rattle.oc_replay.specs.Lines.{held_text};
+ghost use Rattle.oc_replay.specs.Shows.{show_text};
+ghost use Rattle.oc_stage.specs.Sight.{sight_of};
+
+use crate::showing::show;
+use oc_base::{Memory, NodeId};
+use oc_keep::{KeepLoad, Kept};
+use oc_outside::Disk;
+use std::alloc::Global;
+
+/// What the files of a node showed, and the disks.
+#[derive(Drop)]
+pub(crate) struct Shown<D: Disk> {
+    pub(crate) control: D,
+    pub(crate) alternate: D,
+    pub(crate) content: D,
+    /// The text of the node, or why there is none.
+    pub(crate) text: Result<Vec<u8>, KeepLoad>,
+}
+
+/// The text of the node that these files recover.
+pub(crate) fn load_and_show<D: Disk>(
+    alloc: Global,
+    id: NodeId,
+    nodes: u32,
+    chain: u32,
+    control: D,
+    alternate: D,
+    content: D,
+) -> Shown<D>
+    requires few { nodes ≤ MAX_NODES }
+    requires chained { 1 ≤ chain }
+    requires short { chain ≤ MAX_CHAIN }
+    requires within { chain ≤ nodes }
+    requires id { IsNode nodes id }
+    ensures shows { IfOk result.text (λ text. Shows D.view (header_without_areas nodes chain) id (disks control alternate content) text.items) }
+    ensures refuses { IfErr result.text (λ error. RefusesNode D.view nodes
+        (disks control alternate content) (disks result.control result.alternate result.content) error) }
+    ensures safely { LoadsSafely D.view (header_without_areas nodes chain) id
+        (disks control alternate content) (disks result.control result.alternate result.content) }
+{
+    let areas = match no_areas(alloc, nodes) {
+        Ok(areas) => areas,
+        Err(Memory) => {
+            return Shown {
+                control,
+                alternate,
+                content,
+                text: Err(KeepLoad::Memory),
+            };
+        }
+    };
+    match Kept::load(alloc, control, alternate, content, id, nodes, chain, areas) {
+        Ok(kept) => {
+            let text = text_of(alloc, &kept, id);
+            let (control, alternate, content) = kept.into_disks();
+            Shown {
+                control,
+                alternate,
+                content,
+                text,
+            }
+        }
+        Err((control, alternate, content, error)) => Shown {
+            control,
+            alternate,
+            content,
+            text: Err(error),
+        },
+    }
+}
+
+/// The text of a node that was loaded.
+fn text_of<D: Disk>(alloc: Global, kept: &Kept<D>, id: NodeId) -> Result<Vec<u8>, KeepLoad>
+    ensures text { IfOk result (λ text. text.items
+        ≡ show_text id (sight_of kept.now.node.control false) ++ held_text kept.now.content.shelves) }
+    ensures memory { IfErr result (λ error. error ≡ KeepLoad.Memory) }
+    ensures groups { IsHonest D.view kept.now → kept.now.content.shelves ≡ shelf (node_of kept.now).groups }
+{
+    let _shelf = kept.shelf();
+    match show(alloc, kept, id) {
+        Ok(text) => Ok(text),
+        Err(Memory) => Err(KeepLoad::Memory),
+    }
+}
+
+/// An area of 0 for each node.
+fn no_areas(alloc: Global, nodes: u32) -> Result<Vec<u8>, Memory>
+    ensures { IfOk result (λ areas. areas.items ≡ replicate nodes 0) }
+{
+    Ok(vec![in alloc; 0; nodes as usize]?)
+}

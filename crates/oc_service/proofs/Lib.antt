@@ -1,0 +1,7 @@
+mod Founded
+mod Headers
+mod Lent
+mod Measured
+mod Places
+mod Probes
+mod Served

@@ -1,0 +1,17 @@
+//! A node that runs for a number of turns: it is loaded from its files, waits at its address, takes what was
+//! measured before, and serves its turns.
+//!
+//! [`run_node`] is what the layer above uses. Its contract names the deeds of the run (`IsRun`): the
+//! measures of the configuration, in their order, and then the deeds of each turn. The lines of these deeds
+//! were written, the node and the link are what the deeds make of them, and every crash leaves the node
+//! behind them; where it ended before, also with one input more under way. What the connections of the turns
+//! were answered stands in the contract of `oc_serve::serve`, and is not told again here.
+#![tactic(auto)]
+
+mod measuring;
+mod probing;
+mod serving;
+mod starting;
+
+pub use oc_turn::TurnEnd;
+pub use starting::{NodeEnd, run_node};

@@ -1,8 +1,10 @@
-mod PureKinds
-mod WordLemmas
-mod PlainWords
 mod Parts
 mod Told
 mod Passed
 mod CalmEvents
 mod Statuses
+mod Replayed
+mod Completes
+mod Gotten
+mod Noded
+mod Works

@@ -93,6 +93,8 @@ module _ {R : Type 0} (old new : ReaderSource R) (left : R → List ℕ) (began 
   bytes_told = record {
     says = says_it;
     passes = passes_it;
+    whole = λ front h. let same = is_whole front h.0.passed h.1 in (sym same, (is_counted front h.0.passed).0 ∙ ap length (sym same));
+    long = λ h. let (front, came, more) = h in let counted = is_counted front came.passed in (omega (arith, more, counted.1), omega (arith, counted.0, counted.1));
     failed = λ h. came_it h.0.0 h.0.1.passed;
     came = λ h. came_it h.0 h.1.passed;
     unread = λ same. read_is ∙ (ap (λ s. s.passed) same ∙ began);
@@ -128,6 +130,8 @@ module _ {R : Type 0} (old new : ReaderSource R) (remaining : R → Option (List
   input_told = record {
     says = λ r h. (h.bytes, was_read h.bytes h.came.passed, h.read);
     passes = λ what h. let (bytes, came, refused) = passing _ _ old new what h in (bytes, was_read bytes came.passed, refused);
+    whole = λ bytes h. was_read bytes h.0.passed;
+    long = λ h. let (bytes, came, more) = h in (bytes, was_read bytes came.passed, more);
     failed = λ h. subst (λ n. 0 < n) (sym faults_are) (failed_since old.faults new.faults sound h.1);
     came = λ h. (h.0, was_read h.0 h.1.passed);
     unread = λ same. (bytes_are ∙ ap (λ s. s.passed) same ∙ began, faults_are ∙ ap (λ s. s.faults) same ∙ sound);

@@ -20,8 +20,9 @@ HappenedAtReplay input output stage summary Done = (s : Script) × input.says (O
 HappenedAtReplay input output stage summary (Text line why) = input.says (Err (faults.Line line why)) × output.written [] × stage.unplayed
 HappenedAtReplay input output stage summary (Limit what) = input.passes what × output.written [] × stage.unplayed
 HappenedAtReplay input output stage summary Source = input.failed × output.written [] × stage.unplayed
-HappenedAtReplay input output stage summary Sink = (s : Script) × input.says (Ok s) × SomeFront (stage.text summary s) output.cut_off × SomeFront s.events (stage.played s)
-HappenedAtReplay input output stage summary Memory = (input.came × output.written [] × stage.unplayed) ⊎ ((s : Script) × input.says (Ok s) × SomeFront (stage.text summary s) output.written)
+HappenedAtReplay input output stage summary Sink = (s : Script) × input.says (Ok s) × IsSchedule s × SomeFront (stage.text summary s) output.cut_off × SomeFront s.events (stage.played s) × HeadlineHolds s
+HappenedAtReplay input output stage summary Memory = (input.came × output.written [] × stage.unplayed)
+    ⊎ ((s : Script) × input.says (Ok s) × IsSchedule s × SomeFront (stage.text summary s) output.written × HeadlineHolds s)
 
 -- ---- which status has to come
 

@@ -1,6 +1,7 @@
 -- A run over bytes in memory, and a run over streams of which it is known how many bytes passed.
 use Rattle.std.specs.Prelude.{◌≡◌, ℕ, ◌<◌, ◌≤◌, ◌^◌, ◌-◌, ◌⊎◌, List, length, min, Err}
 use Rattle.oc_adapters.specs.declared.traffic.Traffic.{Traffic}
+use Rattle.oc_base.specs.declared.limits.TheConstants.{MAX_SCHEDULE_BYTES}
 use Rattle.oc_replay.specs.Report.{SomeFront}
 use Rattle.oc_schedule.specs.Schedule.{schedule_of}
 use Rattle.oc_schedule.specs.declared.fault.ScheduleFault.TheVariants.{Limit}
@@ -13,6 +14,8 @@ abbrev pub at_bytes : List ℕ → ℕ → Input
 at_bytes bytes read = record {
   says = λ says. (schedule_of bytes ≡ says) × (read ≡ length bytes);
   passes = λ what. (schedule_of bytes ≡ Err (Limit what)) × (read ≤ length bytes);
+  whole = λ all. (all ≡ bytes) × (read ≡ length bytes);
+  long = (MAX_SCHEDULE_BYTES < length bytes) × (read ≤ length bytes);
   failed = read ≤ length bytes;
   came = read ≤ length bytes;
   unread = read ≡ 0;
@@ -41,6 +44,8 @@ abbrev pub at_input : Traffic → Input
 at_input traffic = record {
   says = λ says. (bytes : List ℕ) × IsCountOf traffic bytes × (schedule_of bytes ≡ says);
   passes = λ what. (bytes : List ℕ) × IsCountOf traffic bytes × (schedule_of bytes ≡ Err (Limit what));
+  whole = λ bytes. IsCountOf traffic bytes;
+  long = (bytes : List ℕ) × IsCountOf traffic bytes × (MAX_SCHEDULE_BYTES < length bytes);
   failed = HasFailed traffic;
   came = (bytes : List ℕ) × IsCountOf traffic bytes;
   unread = (traffic.bytes ≡ 0) × (traffic.faults ≡ 0);

@@ -1,4 +1,5 @@
-//! The program as a call: words, an input, an output, an error output and a stage in; a status out.
+//! The program as a call: words, an input, an output, an error output, a stage, the three files of a node, a
+//! link and a clock in; a status out.
 //!
 //! [`run`] is the contract that everything leads up to: how it ended, with which status and which
 //! line, and what had then happened outside. `Outside` in `specs/` is all that it speaks of, and
@@ -9,31 +10,39 @@
 //! Where a replay ends with status 0, [`headline_holds`] is part of that clause: what is so of every world
 //! of the schedule, inside of settle and heal too, and what settle and heal leave and tell.
 //!
-//! [`read_words`] gives what the words ask for, exactly as `clap` reads them. Each command is a file:
-//! `replaying` and `generating` have its subcommand, its arguments and what it does.
+//! Each command is a file: `replaying`, `generating`, `listing` (`rules`), `checking`, `getting`
+//! and `serving` (`node`). What the words ask for is read by `oc_words`.
 #![tactic(auto)]
 
-mod arguments;
-mod command;
+mod checking;
+mod command_texts;
+mod configuring;
 mod ending;
 mod generating;
+mod getting;
 mod headline;
 mod helping;
+mod lines;
+mod listing;
 mod replaying;
 mod running;
+mod serving;
 mod status;
 mod streams;
 mod telling;
 mod texts;
-mod words;
 
+pub use checking::CheckEnd;
+pub use configuring::ConfigEnd;
 pub use ending::End;
-pub use generating::{GenEnd, Sample};
+pub use generating::GenEnd;
 pub use headline::headline_holds;
+pub use listing::RulesEnd;
 pub use oc_adapters::{ReaderSource, Traffic, WriterSink};
+pub use oc_words::{Request, Sample, WordsFault, read_words, rows_ask};
 pub use running::run;
+pub use serving::ServiceEnd;
 pub use status::Status;
 pub use streams::{MemoryRun, StreamsRun, run_in_memory, run_on_streams};
 pub use telling::tell;
 pub use texts::{help, usage};
-pub use words::{Request, WordsFault, read_words, rows_ask};

@@ -1,36 +1,53 @@
 //! The top call.
 
 ghost use Rattle.std.specs.Prelude.{◌≡◌, ◌≢◌, ℕ, Bool, ◌⊎◌, List, Some, None};
+ghost use Rattle.oc_keep.specs.Files.{AreHonest, OneRose, disks};
+ghost use Rattle.oc_keep.specs.Promises.{HoldFiles};
 ghost use Rattle.oc_outside.specs.Faults.{NoFall, Rose};
 ghost use Rattle.oc_program.specs.AtReplay.{HasStatus};
-ghost use Rattle.oc_program.specs.Outside.{at_sink, at_source, at_stage};
-ghost use Rattle.oc_program.specs.Run.{Happened, IsWrittenOrCut, line_of, status_of};
+ghost use Rattle.oc_program.specs.AtRules.{HasConfigStatus};
+ghost use Rattle.oc_program.specs.Complete.{IsDoneOrMemory, IsServed, once};
+ghost use Rattle.oc_program.specs.Ends.{status_of};
+ghost use Rattle.oc_program.specs.Lines.{line_of};
+ghost use Rattle.oc_program.specs.Outside.{at_clock, at_files, at_link, at_node, at_sink, at_source, at_stage, seen};
+ghost use Rattle.oc_program.specs.Run.{Happened, IsNoNode, IsWrittenOrCut};
 ghost use Rattle.oc_program.specs.Status.{number_of};
-ghost use Rattle.oc_program.specs.Words.{IsPlain, asked, texts_of};
-ghost use Rattle.oc_program.specs.declared.generating.Sample.{Sample};
+ghost use Rattle.oc_words.specs.Words.{IsPlain, asked, texts_of};
+ghost use Rattle.oc_words.specs.declared.request.Member.{Member};
+ghost use Rattle.oc_words.specs.declared.request.Sample.{Sample};
 
+use crate::checking::check_files;
 use crate::ending::End;
 use crate::generating::write_sample;
+use crate::getting::download;
 use crate::helping::write_help;
+use crate::listing::list_rules;
 use crate::replaying::replay_input;
+use crate::serving::run_service;
 use crate::telling::tell;
-use crate::words::{Request, WordsFault, read_words};
-use oc_outside::{Sink, Source};
+use oc_outside::{Clock, Disk, Link, Sink, Source};
 use oc_stage::Stage;
+use oc_words::{Request, WordsFault, read_words};
 use std::alloc::Global;
 
-/// Runs the program: what the words ask for, from the input to the output, over the stage.
+/// Runs the program: what the words ask for, from the input to the output, over the stage, the three files
+/// of a node, a link and a clock. `control_a` and `control_b` are the control files.
 ///
 /// The status is that of [`Status`](crate::Status); with each status but 0 a line on the error output
-/// says why. Where the words do not ask for a replay, nothing is read and the stage stays as it was; so
-/// it does where the input is no schedule.
-pub fn run<S: Source, K: Sink, E: Sink, T: Stage>(
+/// says why. What the words have no use for stays as it was.
+#[allow(clippy::too_many_arguments)]
+pub fn run<S: Source, K: Sink, E: Sink, T: Stage, D: Disk, L: Link, C: Clock>(
     alloc: Global,
     words: &[String],
     input: &mut S,
     out: &mut K,
     err: &mut E,
     stage: &mut T,
+    control_a: &mut D,
+    control_b: &mut D,
+    content: &mut D,
+    link: &mut L,
+    clock: &mut C,
 ) -> u8
     // How it ended: the status, the line on the error output, and what had happened.
     ensures ended { (end : End) × (usage : List ℕ)
@@ -41,6 +58,12 @@ pub fn run<S: Source, K: Sink, E: Sink, T: Stage>(
           input = at_source S.gives S.fails S.ended S.faults input.old input.new;
           output = at_sink K.takes K.fails K.faults out.old out.new;
           stage = at_stage T.first T.after T.word T.world stage.old stage.new;
+          files = at_files D.view (disks control_a.old control_b.old content.old) (disks control_a.new control_b.new content.new);
+          link = at_link L.story L.faults link.old link.new;
+          clock = at_clock clock.old clock.new;
+          node = at_node D.view (disks control_a.old control_b.old content.old) (disks control_a.new control_b.new content.new)
+              (seen L.story L.faults C.seconds C.milliseconds link.old clock.old)
+              (seen L.story L.faults C.seconds C.milliseconds link.new clock.new);
         }) end }
 
     // Status 2 comes exactly where the words ask for nothing; want of memory comes before.
@@ -51,51 +74,91 @@ pub fn run<S: Source, K: Sink, E: Sink, T: Stage>(
     // Where the output does not fail, help and `gen` do what they are asked for, or memory is wanting.
     ensures helped { asked (texts_of words.now) ≡ Some Request.Help
         → (Rose (K.faults out.old) (K.faults out.new) → ⊥)
-        → (result ≡ 0) ⊎ (result ≡ 4) }
+        → IsDoneOrMemory result }
     ensures generated { (sample : Sample) → asked (texts_of words.now) ≡ Some (Request.Gen sample)
         → (Rose (K.faults out.old) (K.faults out.new) → ⊥)
-        → (result ≡ 0) ⊎ (result ≡ 4) }
+        → IsDoneOrMemory result }
 
-    // Where neither input nor output fails, the status of a replay is that of what its input says, or
-    // memory is wanting.
+    // Where neither input nor output fails, the status of a replay is that of what its input says, and so
+    // that of `rules`, or memory is wanting.
     ensures replayed { (summary : Bool) → asked (texts_of words.now) ≡ Some (Request.Replay summary)
         → (Rose (S.faults input.old) (S.faults input.new) → ⊥)
         → (Rose (K.faults out.old) (K.faults out.new) → ⊥)
         → HasStatus S.gives S.ended input.old input.new result ⊎ (result ≡ 4) }
+    ensures listed { asked (texts_of words.now) ≡ Some Request.Rules
+        → (Rose (S.faults input.old) (S.faults input.new) → ⊥)
+        → (Rose (K.faults out.old) (K.faults out.new) → ⊥)
+        → HasConfigStatus S.gives S.ended input.old input.new result ⊎ (result ≡ 4) }
+
+    // Where neither the output nor a disk fails, the files of a node on honest disks are shown by `check`, and
+    // where no dial fails, a URL that is served whole is downloaded by `get`; or memory is wanting.
+    ensures checked { (member : Member) → asked (texts_of words.now) ≡ Some (Request.Check member)
+        → AreHonest D.view (disks control_a.old control_b.old content.old)
+        → HoldFiles D.view member.nodes (disks control_a.old control_b.old content.old)
+        → (OneRose D.view (disks control_a.old control_b.old content.old) (disks control_a.new control_b.new content.new) → ⊥)
+        → (Rose (K.faults out.old) (K.faults out.new) → ⊥)
+        → IsDoneOrMemory result }
+    ensures fetched { (address : List ℕ) → asked (texts_of words.now) ≡ Some (Request.Get (once address))
+        → IsServed address (L.story link.old) (L.story link.new)
+        → (Rose (L.faults link.old).dialling (L.faults link.new).dialling → ⊥)
+        → (Rose (K.faults out.old) (K.faults out.new) → ⊥)
+        → IsDoneOrMemory result }
 
     ensures input_count { NoFall (S.faults input.old) (S.faults input.new) }
-    ensures output_count { NoFall (K.faults out.old) (K.faults out.new) }
+    ensures output_count { IsNoNode (asked (texts_of words.now)) → NoFall (K.faults out.old) (K.faults out.new) }
     ensures error_count { NoFall (E.faults err.old) (E.faults err.new) }
 {
-    let end = perform(alloc, words, input, out, stage);
+    let end = perform(
+        alloc, words, input, out, stage, control_a, control_b, content, link, clock,
+    );
     tell(err, end);
     end.status().number()
 }
 
 /// Does what the words ask for.
-fn perform<S: Source, K: Sink, T: Stage>(
+#[allow(clippy::too_many_arguments)]
+fn perform<S: Source, K: Sink, T: Stage, D: Disk, L: Link, C: Clock>(
     alloc: Global,
     words: &[String],
     input: &mut S,
     out: &mut K,
     stage: &mut T,
+    control_a: &mut D,
+    control_b: &mut D,
+    content: &mut D,
+    link: &mut L,
+    clock: &mut C,
 ) -> End
     ensures happened { Happened (record {
       asked = asked (texts_of words.now);
       input = at_source S.gives S.fails S.ended S.faults input.old input.new;
       output = at_sink K.takes K.fails K.faults out.old out.new;
       stage = at_stage T.first T.after T.word T.world stage.old stage.new;
+      files = at_files D.view (disks control_a.old control_b.old content.old) (disks control_a.new control_b.new content.new);
+      link = at_link L.story L.faults link.old link.new;
+      clock = at_clock clock.old clock.new;
+      node = at_node D.view (disks control_a.old control_b.old content.old) (disks control_a.new control_b.new content.new)
+          (seen L.story L.faults C.seconds C.milliseconds link.old clock.old)
+          (seen L.story L.faults C.seconds C.milliseconds link.new clock.new);
     }) result }
     ensures misused { asked (texts_of words.now) ≡ None → (result ≡ End.Misused) ⊎ (result ≡ End.NoMemory) }
     ensures input_count { NoFall (S.faults input.old) (S.faults input.new) }
-    ensures output_count { NoFall (K.faults out.old) (K.faults out.new) }
+    ensures output_count { IsNoNode (asked (texts_of words.now)) → NoFall (K.faults out.old) (K.faults out.new) }
 {
     match read_words(alloc, words) {
         Ok(Request::Replay { summary }) => {
             End::Replayed(replay_input(alloc, input, out, stage, summary))
         }
         Ok(Request::Gen(sample)) => End::Generated(write_sample(alloc, sample, out)),
-        Ok(Request::Help) => write_help(out),
+        Ok(Request::Rules) => End::Listed(list_rules(alloc, input, out)),
+        Ok(Request::Check(member)) => End::Checked(check_files(
+            alloc, member, out, control_a, control_b, content,
+        )),
+        Ok(Request::Get(wanted)) => End::Got(download(alloc, &wanted, out, link)),
+        Ok(Request::Node(service)) => End::Served(run_service(
+            alloc, service, input, out, control_a, control_b, content, link, clock,
+        )),
+        Ok(Request::Help) => write_help(words, out),
         Err(WordsFault::Usage) => End::Misused,
         Err(WordsFault::Memory) => End::NoMemory,
     }

@@ -3,18 +3,22 @@
 
 ghost use Rattle.std.specs.Prelude.{◌≡◌, ℕ, Bool, ◌⊎◌, List, Some};
 ghost use Rattle.oc_program.specs.AtReplay.{status_for};
-ghost use Rattle.oc_program.specs.Outside.{at_stage};
-ghost use Rattle.oc_program.specs.Run.{Happened, line_of, status_of};
+ghost use Rattle.oc_keep.specs.Files.{disks};
+ghost use Rattle.oc_program.specs.Ends.{status_of};
+ghost use Rattle.oc_program.specs.Lines.{line_of};
+ghost use Rattle.oc_program.specs.Outside.{at_clock, at_files, at_link, at_node, at_stage, seen};
+ghost use Rattle.oc_program.specs.Run.{Happened};
 ghost use Rattle.oc_program.specs.Status.{number_of};
 ghost use Rattle.oc_program.specs.Streams.{IsCountOfLineOrFront, IsLineOrFront, at_bytes, at_input, at_output, at_text};
-ghost use Rattle.oc_program.specs.Words.{asked, texts_of};
+ghost use Rattle.oc_words.specs.Words.{asked, texts_of};
 ghost use Rattle.oc_program.specs.declared.ending.End.{End};
 ghost use Rattle.oc_schedule.specs.Schedule.{schedule_of};
 
 use crate::running::run;
-use crate::words::Request;
 use oc_adapters::{ReaderSource, Traffic, WriterSink};
+use oc_outside::{Clock, Disk, Link};
 use oc_stage::Stage;
+use oc_words::Request;
 use std::alloc::Global;
 use std::io::{Stderr, Stdin, Stdout};
 
@@ -32,11 +36,17 @@ pub struct MemoryRun {
 }
 
 /// [`run`] over the bytes of an input, into memory.
-pub fn run_in_memory<T: Stage>(
+#[allow(clippy::too_many_arguments)]
+pub fn run_in_memory<T: Stage, D: Disk, L: Link, C: Clock>(
     alloc: Global,
     words: &[String],
     input: &[u8],
     stage: &mut T,
+    control_a: &mut D,
+    control_b: &mut D,
+    content: &mut D,
+    link: &mut L,
+    clock: &mut C,
 ) -> MemoryRun
     ensures ended { (end : End) × (usage : List ℕ)
         × (result.status ≡ number_of (status_of end))
@@ -46,6 +56,12 @@ pub fn run_in_memory<T: Stage>(
           input = at_bytes input.now result.read;
           output = at_text result.output.items;
           stage = at_stage T.first T.after T.word T.world stage.old stage.new;
+          files = at_files D.view (disks control_a.old control_b.old content.old) (disks control_a.new control_b.new content.new);
+          link = at_link L.story L.faults link.old link.new;
+          clock = at_clock clock.old clock.new;
+          node = at_node D.view (disks control_a.old control_b.old content.old) (disks control_a.new control_b.new content.new)
+              (seen L.story L.faults C.seconds C.milliseconds link.old clock.old)
+              (seen L.story L.faults C.seconds C.milliseconds link.new clock.new);
         }) end }
 
     // The status of a replay is that of what these bytes say, or the output failed, or memory is wanting.
@@ -55,7 +71,19 @@ pub fn run_in_memory<T: Stage>(
     let mut source = ReaderSource::new(input);
     let mut out = WriterSink::new(Vec::new(alloc));
     let mut err = WriterSink::new(Vec::new(alloc));
-    let status = run(alloc, words, &mut source, &mut out, &mut err, stage);
+    let status = run(
+        alloc,
+        words,
+        &mut source,
+        &mut out,
+        &mut err,
+        stage,
+        control_a,
+        control_b,
+        content,
+        link,
+        clock,
+    );
     MemoryRun {
         status,
         read: source.traffic().bytes,
@@ -80,13 +108,19 @@ pub struct StreamsRun {
 /// [`run`] over the standard streams. Which bytes pass there no contract can say; how many, this one
 /// does: as many were read as some text has that says what the end tells, and exactly as many were
 /// written as the text has that had to be written.
-pub fn run_on_streams<T: Stage>(
+#[allow(clippy::too_many_arguments)]
+pub fn run_on_streams<T: Stage, D: Disk, L: Link, C: Clock>(
     alloc: Global,
     words: &[String],
     input: Stdin,
     output: Stdout,
     error: Stderr,
     stage: &mut T,
+    control_a: &mut D,
+    control_b: &mut D,
+    content: &mut D,
+    link: &mut L,
+    clock: &mut C,
 ) -> StreamsRun
     ensures ended { (end : End) × (usage : List ℕ)
         × (result.status ≡ number_of (status_of end))
@@ -96,12 +130,30 @@ pub fn run_on_streams<T: Stage>(
           input = at_input result.input;
           output = at_output result.output;
           stage = at_stage T.first T.after T.word T.world stage.old stage.new;
+          files = at_files D.view (disks control_a.old control_b.old content.old) (disks control_a.new control_b.new content.new);
+          link = at_link L.story L.faults link.old link.new;
+          clock = at_clock clock.old clock.new;
+          node = at_node D.view (disks control_a.old control_b.old content.old) (disks control_a.new control_b.new content.new)
+              (seen L.story L.faults C.seconds C.milliseconds link.old clock.old)
+              (seen L.story L.faults C.seconds C.milliseconds link.new clock.new);
         }) end }
 {
     let mut stdin = ReaderSource::new(input);
     let mut stdout = WriterSink::new(output);
     let mut stderr = WriterSink::new(error);
-    let status = run(alloc, words, &mut stdin, &mut stdout, &mut stderr, stage);
+    let status = run(
+        alloc,
+        words,
+        &mut stdin,
+        &mut stdout,
+        &mut stderr,
+        stage,
+        control_a,
+        control_b,
+        content,
+        link,
+        clock,
+    );
     StreamsRun {
         status,
         input: stdin.traffic(),

@@ -1,86 +1,73 @@
-//! The texts of help and usage.
+//! The text that says what the program is and which commands it has, and that on usage.
 
 ghost use Rattle.std.specs.Prelude.{◌<◌, length};
 
-/// The text that answers `--help`.
-pub fn help() -> &'static str
+use crate::command_texts::{check_help, gen_help, get_help, node_help, replay_help, rules_help};
+
+/// The text that answers `--help`, by the first word: that of a command, or that of the program.
+pub fn help(words: &[String]) -> &'static str
+    ensures { 0 < length result.now }
+{
+    match words.first() {
+        Some(word) => help_on(word.as_str()),
+        None => program_help(),
+    }
+}
+
+/// The text on this command, or that of the program where it is none.
+fn help_on(word: &str) -> &'static str
+    ensures { 0 < length result.now }
+{
+    match word {
+        "replay" => replay_help(),
+        "gen" => gen_help(),
+        "node" => node_help(),
+        "check" => check_help(),
+        "get" => get_help(),
+        "rules" => rules_help(),
+        _ => program_help(),
+    }
+}
+
+/// The text of the program.
+fn program_help() -> &'static str
     ensures { 0 < length result.now }
 {
     "\
 overcast: multicast from one source over nodes that keep what they get
 
-Usage: overcast replay [--summary] < SCHEDULE > REPORT
-       overcast gen SEED NODES EVENTS > SCHEDULE
-       overcast --help
+Node 1 is the source, and publishes bytes in groups. The other nodes form a tree
+beneath it, and each passes on what it gets. Clients read groups over HTTP.
 
-Node 1 is the source, and publishes bytes in groups. Another node pulls from a
-neighbour the bytes that it does not hold yet, and passes them on in its turn.
+Usage: overcast node ID --turns N [--probe] < CONFIGURATION > LINES
+       overcast check ID NODES CHAIN
+       overcast get URL [--follow N] > CONTENT
+       overcast rules < CONFIGURATION
+       overcast replay [--summary] < SCHEDULE > REPORT
+       overcast gen SEED NODES EVENTS > SCHEDULE
+       overcast [COMMAND] --help
 
 Commands:
-  replay  plays a schedule over nodes and a network in memory. It reads the
-          schedule on standard input, and writes the report on standard output:
-          what came of each event, and each message sent. It ends with any of
-          the statuses below.
-            --summary  writes six lines on the last world in place of the
-                       report: the events, the messages, the nodes that are up,
-                       those of them that are joined, those that act as root,
-                       and the bytes that all nodes hold
-  gen     writes a schedule on standard output that follows from a seed: the
-          same numbers give the same text. It reads no input. First all nodes
-          start; then come ticks, deliveries, publishes, crashes and starts. It
-          ends with status 0, 1, 2 or 4.
-            SEED    the seed, below 2^64
-            NODES   the number of nodes, 1 to 1024
-            EVENTS  the number of events, from NODES to 99999
-          A number is decimal digits, with no sign and no zero in front.
+  node    runs a node of a network on its three files
+  check   shows what the three files of a node hold
+  get     downloads a group, once or as it grows
+  rules   lists the access rules of a configuration
+  replay  plays a schedule over nodes and a network in memory, and reports
+  gen     writes a schedule that follows from a seed
 
-A schedule is text, with one event on a line. Its first line is
-`overcast 1 nodes N chain C`: N nodes, of which nodes 1 to C can act as root.
-Empty lines, and lines that begin with `#`, are skipped.
+`overcast COMMAND --help` says more of each, with an example.
 
-Example: node 2 pulls from node 1 what was published there. The report says that
-it holds 5 bytes of the group `/a`, and ends with the numbers of events and
-messages.
-
-  $ overcast replay <<END
-  overcast 1 nodes 2 chain 1
-  up 1
-  up 2
-  publish 1 /a 68656c6c6f
-  pull 2 1
-  deliver 1
-  deliver 2
-  held 2
-  END
-  #1 ok
-  #2 ok
-  #3 ok
-  #4 ok
-    m1 2>1 fetch []
-  #5 ok
-    m2 1>2 chunk /a 0 68656c6c6f
-  #6 ok
-  #7 ok
-    /a 5
-  end 7 2
-
-Example: five events of two nodes, by the seed 7.
-
-  $ overcast gen 7 2 5
-  overcast 1 nodes 2 chain 2
-  up 1
-  up 2
-  crash 2
-  tick 2 4
-  deliver 5
+A number is decimal digits, with no sign and no zero in front.
 
 Exit status:
   0  the work was done
-  1  the input or the output failed
+  1  the input, the output, a disk or the link failed
   2  the words are not as under Usage, or a number is not in its range
-  3  the schedule has a fault, in the line that is named
+  3  what was read has a fault: a line of a schedule, a key of a configuration,
+     a file that is no journal, or a frame of one
   4  out of memory
-  5  the schedule passes a limit on its lines, bytes, published bytes or settles
+  5  a limit was passed
+  6  nothing was got: a bad URL, a status, too many redirections, or a bad reply
 
 With each status but 0, one line on standard error says why.
 "
@@ -89,8 +76,12 @@ With each status but 0, one line on standard error says why.
 /// The text behind the line `overcast: usage`, which says what the words may be.
 pub fn usage() -> &'static str {
     "\
-Usage: overcast replay [--summary] < SCHEDULE > REPORT
+Usage: overcast node ID --turns N [--probe] < CONFIGURATION > LINES
+       overcast check ID NODES CHAIN
+       overcast get URL [--follow N] > CONTENT
+       overcast rules < CONFIGURATION
+       overcast replay [--summary] < SCHEDULE > REPORT
        overcast gen SEED NODES EVENTS > SCHEDULE
-       overcast --help
+       overcast [COMMAND] --help
 "
 }

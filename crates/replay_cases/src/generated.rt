@@ -1,6 +1,7 @@
 //! Runs of `gen` over memory, through the adapters that the program itself uses.
 
 use crate::outcome::words_of;
+use crate::unused::Unused;
 use oc_program::run_in_memory;
 use oc_world::World;
 use std::alloc::Global;
@@ -13,7 +14,18 @@ impl Cases for Rows {
     fn answer(alloc: Global, given: &str) -> Result<String, Fault> {
         let mut fields = Fields::of(given, ' ');
         let words = words_of(alloc, fields.text())?;
-        let run = run_in_memory(alloc, &words, b"", &mut World::empty(alloc));
+        let mut unused = Unused::new(alloc)?;
+        let run = run_in_memory(
+            alloc,
+            &words,
+            b"",
+            &mut World::empty(alloc),
+            &mut unused.control_a,
+            &mut unused.control_b,
+            &mut unused.content,
+            &mut unused.link,
+            &mut unused.clock,
+        );
         let mut said = String::new(alloc);
         let status = run.status;
         let read = run.read;

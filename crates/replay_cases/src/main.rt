@@ -9,6 +9,7 @@ mod case;
 mod expected;
 mod generated;
 mod outcome;
+mod unused;
 mod verdict;
 
 use case::Case;

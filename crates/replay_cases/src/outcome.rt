@@ -1,5 +1,6 @@
 //! One run of the program over memory.
 
+use crate::unused::Unused;
 use oc_outside::{MemSink, MemSource};
 use oc_program::run;
 use oc_stage::Stage;
@@ -62,7 +63,20 @@ impl Outcome {
         let mut source = MemSource::new(given.input.to_vec(alloc)?, vec![in alloc; failing.input]?);
         let mut out = MemSink::new(alloc, ROOM, vec![in alloc; failing.output]?)?;
         let mut err = MemSink::new(alloc, ROOM, vec![in alloc; failing.error]?)?;
-        let status = run(alloc, &words, &mut source, &mut out, &mut err, stage);
+        let mut unused = Unused::new(alloc)?;
+        let status = run(
+            alloc,
+            &words,
+            &mut source,
+            &mut out,
+            &mut err,
+            stage,
+            &mut unused.control_a,
+            &mut unused.control_b,
+            &mut unused.content,
+            &mut unused.link,
+            &mut unused.clock,
+        );
         Ok(Outcome {
             status,
             output: out.text().to_vec(alloc)?,

@@ -1,9 +1,15 @@
-use Rattle.std.proofs.Common.{◌∙◌, ap, sym}
-use Rattle.oc_program.specs.Outside.{at_sink, at_source, at_stage}
+use Rattle.std.proofs.Common.{◌≡◌, ◌⊎◌, ◌∙◌, ap, subst, sym}
+use Rattle.oc_keep.specs.Files.{disks}
+use Rattle.oc_program.specs.AtReplay.{HasStatus}
+use Rattle.oc_program.specs.AtRules.{HasConfigStatus}
+use Rattle.oc_program.specs.Complete.{IsDoneOrMemory}
+use Rattle.oc_program.specs.Outside.{at_clock, at_files, at_link, at_node, at_sink, at_source, at_stage, seen}
 use Rattle.oc_program.specs.Status.{number_of}
-use Rattle.oc_program.specs.Words.{asked, texts_of}
-use Rattle.oc_program.proofs.PlainWords.{plain_asks}
+use Rattle.oc_words.specs.Words.{asked, texts_of}
+use Rattle.oc_words.proofs.PlainWords.{plain_asks}
+use Rattle.oc_program.proofs.Completes.{checked, fetched}
 use Rattle.oc_program.proofs.Statuses.{only_misused}
+use Rattle.oc_program.proofs.Works.{helped, listed, replayed}
 use Rattle.oc_program.proofs.running.run.Goals as goal
 
 pub returns-clause-plain : goal.returns-clause-plain
@@ -14,4 +20,52 @@ returns-clause-plain g c = λ plain is.
       input = at_source g.S.Source.gives g.S.Source.fails g.S.Source.ended g.S.Source.faults c.args.input.now c.perform-end.new.input;
       output = at_sink g.K.Sink.takes g.K.Sink.fails g.K.Sink.faults c.args.out.now c.perform-end.new.out;
       stage = at_stage g.T.Stage.first g.T.Stage.after g.T.Stage.word g.T.Stage.world c.args.stage.now c.perform-end.new.stage;
+      files = at_files g.D.Disk.view (disks c.args.control_a.now c.args.control_b.now c.args.content.now) (disks c.perform-end.new.control_a c.perform-end.new.control_b c.perform-end.new.content);
+      link = at_link g.L.Link.story g.L.Link.faults c.args.link.now c.perform-end.new.link;
+      clock = at_clock c.args.clock.now c.perform-end.new.clock;
+      node = at_node g.D.Disk.view (disks c.args.control_a.now c.args.control_b.now c.args.content.now) (disks c.perform-end.new.control_a c.perform-end.new.control_b c.perform-end.new.content) (seen g.L.Link.story g.L.Link.faults g.C.Clock.seconds g.C.Clock.milliseconds c.args.link.now c.args.clock.now) (seen g.L.Link.story g.L.Link.faults g.C.Clock.seconds g.C.Clock.milliseconds c.perform-end.new.link c.perform-end.new.clock);
     }) c.perform-end.result (sym (c.number.ensures ∙ ap number_of c.status.ensures) ∙ is) c.perform-end.ensures.happened)
+
+pub returns-clause-checked : goal.returns-clause-checked
+returns-clause-checked g c = λ member asks honest files unfailed sound.
+    subst IsDoneOrMemory (sym (c.number.ensures ∙ ap number_of c.status.ensures))
+    (checked g.D.Disk.view (disks c.args.control_a.now c.args.control_b.now c.args.content.now) (disks c.perform-end.new.control_a c.perform-end.new.control_b c.perform-end.new.content)
+    (at_sink g.K.Sink.takes g.K.Sink.fails g.K.Sink.faults c.args.out.now c.perform-end.new.out) (λ text cut. sound cut.1) honest unfailed
+    _ _ _ _ _ (asked (texts_of c.args.words.now)) member c.perform-end.result asks files c.perform-end.ensures.happened)
+
+pub returns-clause-fetched : goal.returns-clause-fetched
+returns-clause-fetched g c = λ address asks served unfailed sound.
+    subst IsDoneOrMemory (sym (c.number.ensures ∙ ap number_of c.status.ensures))
+    (fetched g.L.Link.story g.L.Link.faults c.args.link.now c.perform-end.new.link
+    (at_sink g.K.Sink.takes g.K.Sink.fails g.K.Sink.faults c.args.out.now c.perform-end.new.out) (λ text cut. sound cut.1) unfailed
+    _ _ _ _ _ (asked (texts_of c.args.words.now)) address c.perform-end.result asks served c.perform-end.ensures.happened)
+
+pub returns-clause-helped : goal.returns-clause-helped
+returns-clause-helped g c = λ asks sound.
+    subst IsDoneOrMemory (sym (c.number.ensures ∙ ap number_of c.status.ensures))
+    (helped (record {
+      asked = asked (texts_of c.args.words.now);
+      input = at_source g.S.Source.gives g.S.Source.fails g.S.Source.ended g.S.Source.faults c.args.input.now c.perform-end.new.input;
+      output = at_sink g.K.Sink.takes g.K.Sink.fails g.K.Sink.faults c.args.out.now c.perform-end.new.out;
+      stage = at_stage g.T.Stage.first g.T.Stage.after g.T.Stage.word g.T.Stage.world c.args.stage.now c.perform-end.new.stage;
+      files = at_files g.D.Disk.view (disks c.args.control_a.now c.args.control_b.now c.args.content.now) (disks c.perform-end.new.control_a c.perform-end.new.control_b c.perform-end.new.content);
+      link = at_link g.L.Link.story g.L.Link.faults c.args.link.now c.perform-end.new.link;
+      clock = at_clock c.args.clock.now c.perform-end.new.clock;
+      node = at_node g.D.Disk.view (disks c.args.control_a.now c.args.control_b.now c.args.content.now) (disks c.perform-end.new.control_a c.perform-end.new.control_b c.perform-end.new.content) (seen g.L.Link.story g.L.Link.faults g.C.Clock.seconds g.C.Clock.milliseconds c.args.link.now c.args.clock.now) (seen g.L.Link.story g.L.Link.faults g.C.Clock.seconds g.C.Clock.milliseconds c.perform-end.new.link c.perform-end.new.clock);
+    }) (λ text cut. sound cut.1) c.perform-end.result asks c.perform-end.ensures.happened)
+
+pub returns-clause-replayed : goal.returns-clause-replayed
+returns-clause-replayed g c = λ summary asks unfailed sound.
+    subst (λ n. HasStatus g.S.Source.gives g.S.Source.ended c.args.input.now c.perform-end.new.input n ⊎ (n ≡ 4)) (sym (c.number.ensures ∙ ap number_of c.status.ensures))
+    (replayed g.S.Source.gives g.S.Source.fails g.S.Source.ended g.S.Source.faults c.args.input.now c.perform-end.new.input
+    (at_sink g.K.Sink.takes g.K.Sink.fails g.K.Sink.faults c.args.out.now c.perform-end.new.out)
+    (at_stage g.T.Stage.first g.T.Stage.after g.T.Stage.word g.T.Stage.world c.args.stage.now c.perform-end.new.stage) unfailed (λ text cut. sound cut.1)
+    (asked (texts_of c.args.words.now)) _ _ _ _ summary c.perform-end.result asks c.perform-end.ensures.happened)
+
+pub returns-clause-listed : goal.returns-clause-listed
+returns-clause-listed g c = λ asks unfailed sound.
+    subst (λ n. HasConfigStatus g.S.Source.gives g.S.Source.ended c.args.input.now c.perform-end.new.input n ⊎ (n ≡ 4)) (sym (c.number.ensures ∙ ap number_of c.status.ensures))
+    (listed g.S.Source.gives g.S.Source.fails g.S.Source.ended g.S.Source.faults c.args.input.now c.perform-end.new.input
+    (at_sink g.K.Sink.takes g.K.Sink.fails g.K.Sink.faults c.args.out.now c.perform-end.new.out)
+    (at_stage g.T.Stage.first g.T.Stage.after g.T.Stage.word g.T.Stage.world c.args.stage.now c.perform-end.new.stage) unfailed (λ text cut. sound cut.1)
+    (asked (texts_of c.args.words.now)) _ _ _ _ c.perform-end.result asks c.perform-end.ensures.happened)

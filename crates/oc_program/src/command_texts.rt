@@ -1,0 +1,243 @@
+//! The texts that answer `--help` behind a command.
+
+ghost use Rattle.std.specs.Prelude.{◌<◌, length};
+
+pub(crate) fn replay_help() -> &'static str
+    ensures { 0 < length result.now }
+{
+    "\
+overcast replay: plays a schedule over nodes and a network in memory
+
+Usage: overcast replay [--summary] < SCHEDULE > REPORT
+
+Reads the schedule on standard input to its end, plays its events one by one, and
+writes the report on standard output: what came of each event, and each message
+sent. It touches no file and no network.
+
+  --summary  writes six lines on the last world in place of the report: the
+             events, the messages, the nodes that are up, those of them that are
+             joined, those that act as root, and the bytes that all nodes hold
+
+A schedule is text, with one event on a line. Its first line is
+`overcast 1 nodes N chain C`: N nodes, of which nodes 1 to C can act as root.
+Empty lines, and lines that begin with `#`, are skipped.
+
+Example: node 2 pulls from node 1 what was published there. The report says that
+it holds 5 bytes of the group `/a`, and ends with the numbers of events and
+messages.
+
+  $ overcast replay <<END
+  overcast 1 nodes 2 chain 1
+  up 1
+  up 2
+  publish 1 /a 68656c6c6f
+  pull 2 1
+  deliver 1
+  deliver 2
+  held 2
+  END
+  #1 ok
+  #2 ok
+  #3 ok
+  #4 ok
+    m1 2>1 fetch []
+  #5 ok
+    m2 1>2 chunk /a 0 68656c6c6f
+  #6 ok
+  #7 ok
+    /a 5
+  end 7 2
+
+Exit status:
+  0  the whole report was written
+  1  the input or the output failed
+  2  the words are not as under Usage
+  3  the schedule has a fault, in the line that is named
+  4  out of memory
+  5  the schedule passes a limit on its lines, bytes, published bytes or settles
+"
+}
+
+pub(crate) fn gen_help() -> &'static str
+    ensures { 0 < length result.now }
+{
+    "\
+overcast gen: writes a schedule that follows from a seed
+
+Usage: overcast gen SEED NODES EVENTS > SCHEDULE
+
+The same numbers give the same text. First all nodes start; then come ticks,
+deliveries, publishes, crashes and starts. It reads no input.
+
+  SEED    the seed, below 2^64
+  NODES   the number of nodes, 1 to 1024
+  EVENTS  the number of events, from NODES to 99999
+
+Example: five events of two nodes, by the seed 7.
+
+  $ overcast gen 7 2 5
+  overcast 1 nodes 2 chain 2
+  up 1
+  up 2
+  crash 2
+  tick 2 4
+  deliver 5
+
+Exit status:
+  0  the schedule was written
+  1  the output failed
+  2  the words are not as under Usage, or a number is not in its range
+  4  out of memory
+"
+}
+
+pub(crate) fn node_help() -> &'static str
+    ensures { 0 < length result.now }
+{
+    "\
+overcast node: runs a node of a network
+
+Usage: overcast node ID --turns N [--probe] < CONFIGURATION > LINES
+
+Reads the configuration on standard input, loads the node with this id from its
+three files in the folder where it runs, waits for connections at the address
+that the configuration gives it, and serves N turns. In a turn it answers the
+connection that waits, if one does, takes the time, and dials up to 16 messages.
+A quiet turn ends within about a fifth of a second.
+
+  ID       the node, one of the configuration
+  --turns  the number of turns, 0 to 1000000000
+  --probe  measures the rate to a peer in each turn in which nobody came
+
+Files: `control.log` and `control.alt` hold what it remembers of the tree,
+`content.log` the groups. They are made where there are none. Whatever was
+acknowledged is in them, also after a crash. One program at a time uses them.
+
+Each input that the node takes is written as a line, once it is in the files and
+before it is answered. A line that begins with `!` says which request was
+refused, and why.
+
+Example: the first of three nodes (examples/three_nodes.toml), which then answers
+requests at 127.0.0.1:7001. A POST to the source publishes bytes in a group.
+
+  $ overcast node 1 --turns 100000 < three_nodes.toml &
+  $ curl --data-binary hello http://127.0.0.1:7001/news/today
+  $ curl http://127.0.0.1:7001/news/today
+  hello
+
+Exit status:
+  0  all turns were served
+  1  the input, the output, a disk or the link failed
+  2  the words are not as under Usage, or a number is not in its range
+  3  the configuration has a fault, in the key that is named, or lacks the id; or
+     a file is no journal, or has a bad frame
+  4  out of memory
+  5  the configuration is too long, or a file would pass 2^40 bytes
+"
+}
+
+pub(crate) fn check_help() -> &'static str
+    ensures { 0 < length result.now }
+{
+    "\
+overcast check: shows what the files of a node hold
+
+Usage: overcast check ID NODES CHAIN
+
+Loads `control.log`, `control.alt` and `content.log` of the folder where it runs,
+as those of the node with this id, and writes how the node stands in the tree,
+its ancestors, its table of the nodes beneath it, and the listing of that table;
+then each group that it holds, with its bytes. The node must not be running. A
+file that is missing is made, with nothing in it.
+
+  ID     the node, 1 to NODES
+  NODES  the number of nodes, 1 to 1024
+  CHAIN  the number of nodes that can act as root, 1 to 16 and at most NODES
+
+Example: a folder with no files.
+
+  $ overcast check 1 3 2
+    node 1 down idle seq 0 rank - log 0/0
+    ancestors []
+    table []
+    listed []
+
+Exit status:
+  0  all was written
+  1  the output or a disk failed; a disk fails too where a node runs on the files
+  2  the words are not as under Usage, or a number is not in its range
+  3  a file is no journal, or has a bad frame, which is named
+  4  out of memory
+"
+}
+
+pub(crate) fn get_help() -> &'static str
+    ensures { 0 < length result.now }
+{
+    "\
+overcast get: downloads a group
+
+Usage: overcast get URL [--follow N] > CONTENT
+
+Writes the content of the URL on standard output as it comes. It follows two
+redirections, so that it may ask any chain member: `http://HOST:PORT/GROUP`, with
+`?start=S` to begin at a byte, and `area=A` to be sent to a node of that area.
+
+  --follow  asks again and again for what is new, until the group is sealed or N
+            replies have come, N from 1 to 1000000
+
+Example: the content of a group, from the sixth byte on.
+
+  $ overcast get 'http://127.0.0.1:7001/news/today?start=5'
+
+Exit status:
+  0  the content was written whole
+  1  the output or the link failed
+  2  the words are not as under Usage, or a number is not in its range
+  4  out of memory
+  6  the URL is bad, the reply has a status but 200 and 302, is no whole reply, or
+     redirects a third time
+"
+}
+
+pub(crate) fn rules_help() -> &'static str
+    ensures { 0 < length result.now }
+{
+    "\
+overcast rules: lists the access rules of a configuration
+
+Usage: overcast rules < CONFIGURATION
+
+Reads the configuration on standard input, and writes a line for each of its
+access rules: its number, whether it allows or denies, the method, the prefix of
+the groups and the area of which it speaks, `any` for each that it leaves out. The
+first rule that matches a request decides. Behind a rule that can decide nothing
+stands the number of a rule before it that matches all that it matches.
+
+Example: a rule that the first one leaves nothing to.
+
+  $ overcast rules <<END
+  chain = 1
+  [[node]]
+  id = 1
+  address = \"127.0.0.1:7001\"
+  [[rule]]
+  allow = false
+  prefix = \"/news\"
+  [[rule]]
+  allow = true
+  prefix = \"/news/today\"
+  method = \"get\"
+  END
+  1 deny any /news any
+  2 allow get /news/today any shadowed by 1
+
+Exit status:
+  0  all lines were written
+  1  the input or the output failed
+  2  the words are not as under Usage
+  3  the configuration has a fault, in the key that is named
+  4  out of memory
+  5  the configuration is too long
+"
+}

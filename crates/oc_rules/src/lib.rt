@@ -1,0 +1,9 @@
+//! The access rules of a configuration as a text: a line for each rule, and beside a rule that can decide
+//! nothing the number of the rule that leaves it nothing.
+//!
+//! [`rules_text`] is what the layer above uses: it writes exactly the lines of the rules (`IsListing`).
+#![tactic(auto)]
+
+mod listing;
+
+pub use listing::rules_text;

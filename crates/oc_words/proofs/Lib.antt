@@ -1,0 +1,4 @@
+pub mod PureKinds
+pub mod WordLemmas
+pub mod Tokens
+pub mod PlainWords

@@ -1,0 +1,171 @@
+-- What plain words ask for: words that are no flags go to the arguments in their order.
+use Rattle.std.proofs.Common.{◌≡◌, ◌≢◌, ◌∙◌, ℕ, Bool, ap, ap₂, refl, codes, true, false, cond, not, ◌&&◌, List, [], ◌∷◌, Some, None, Result, Ok, Err, subst, ◌^◌, ◌-◌}
+use Rattle.std.specs.Prelude.{nat_le, unwrap_or}
+use Rattle.std.specs.Result.{result_ok}
+use Rattle.std.specs.Str.Parse.{digits_value}
+use Rattle.clap.specs.Words.{Text, fault_of, subcommand_of}
+use Rattle.clap.specs.Faults.{level_fault}
+use Rattle.clap.specs.Kinds.{or_else}
+use Rattle.clap.specs.Simple.{Shape, built_leaf, inherited, marked_built, with_leaf_noted}
+use Rattle.clap.specs.Walk.{nothing_held, rows_after}
+use Rattle.clap.proofs.OnLiterals.{clap_on_literals}
+use Rattle.oc_base.specs.Words.{is_number, number_in}
+use Rattle.oc_base.specs.Steps.{◌>>=◌}
+use Rattle.oc_base.specs.declared.limits.TheConstants.{MAX_NODES}
+use Rattle.oc_base.specs.declared.why.Why.TheVariants.{Number, Range}
+use Rattle.oc_words.specs.Arguments.{IsNoFlag}
+use Rattle.oc_words.specs.Command.{bare_command, check_shape, command, gen_shape, get_shape, node_shape}
+use Rattle.oc_words.specs.Requests.{download_in, member_in, sample_in, service_in, times_in}
+use Rattle.oc_words.specs.Words.{IsPlain, plain_replay, plain_summary, plain_gen, plain_node, plain_probing, plain_check, plain_get, plain_follow, plain_rules}
+use Rattle.oc_words.specs.Words.{asked, asked_by, asking, request_by, verdict_among, verdict_of}
+use Rattle.oc_words.specs.declared.request.Download.{Download}
+use Rattle.oc_words.specs.declared.request.Member.{Member}
+use Rattle.oc_words.specs.declared.request.Request.{Request}
+use Rattle.oc_words.specs.declared.request.Request.TheVariants.{Replay, Gen, Node, Check, Get, Rules}
+use Rattle.oc_words.specs.declared.request.Sample.{Sample}
+use Rattle.oc_words.specs.declared.request.Service.{Service}
+use Rattle.oc_words.specs.declared.request.TheConstants.{MAX_EVENTS, MAX_FOLLOWED, MAX_TURNS}
+use Rattle.oc_words.proofs.Tokens.{Token, free, fixed, texts, AreFree, rows_of_tokens, fault_of_tokens, level_is, rows_are}
+
+-- ---- the words of a row
+
+-- a subcommand, built
+abbrev built_of : Shape → Shape
+built_of s = built_leaf (inherited (with_leaf_noted (marked_built (record bare_command.top { is_leaf = false }))) s)
+
+-- the words ask for what the rows of their subcommand say, where the walk over them finds no fault
+row_asks : (name : Text) (s : Shape) (tokens : List Token) → AreFree tokens
+    → fault_of command (name ∷ texts tokens) ≡ or_else (level_fault s [] nothing_held (texts tokens) false []) []
+    → subcommand_of command (name ∷ texts tokens) ≡ Some (name, rows_after s.rules [] (texts tokens))
+    → fault_of_tokens s tokens ≡ []
+    → asked (name ∷ texts tokens) ≡ result_ok (request_by name (rows_of_tokens s tokens))
+unfolding asked verdict_of
+row_asks name s tokens frees whole rows none =
+    ap₂ asked_by (ap verdict_among (whole ∙ ap (λ below. or_else below []) (level_is s tokens frees ∙ none)))
+    (rows ∙ ap (λ r. Some (name, r)) (rows_are s tokens frees))
+
+pub asked_by_gen : (seed nodes events : Text) → IsNoFlag seed → IsNoFlag nodes → IsNoFlag events
+    → asked (codes "gen" ∷ seed ∷ nodes ∷ events ∷ []) ≡ result_ok (asking Gen (sample_in seed nodes events))
+unfolding command clap_on_literals
+asked_by_gen seed nodes events s n e =
+    row_asks (codes "gen") (built_of gen_shape) (free seed ∷ free nodes ∷ free events ∷ []) (s, (n, (e, tt))) refl refl refl
+
+pub asked_by_check : (id nodes chain : Text) → IsNoFlag id → IsNoFlag nodes → IsNoFlag chain
+    → asked (codes "check" ∷ id ∷ nodes ∷ chain ∷ []) ≡ result_ok (asking Check (member_in id nodes chain))
+unfolding command clap_on_literals
+asked_by_check id nodes chain i n c =
+    row_asks (codes "check") (built_of check_shape) (free id ∷ free nodes ∷ free chain ∷ []) (i, (n, (c, tt))) refl refl refl
+
+pub asked_by_node : (id turns : Text) → IsNoFlag id → IsNoFlag turns
+    → asked (codes "node" ∷ id ∷ codes "--turns" ∷ turns ∷ []) ≡ result_ok (asking Node (service_in id turns false))
+unfolding command clap_on_literals
+asked_by_node id turns i t =
+    row_asks (codes "node") (built_of node_shape) (free id ∷ fixed (codes "--turns") ∷ free turns ∷ []) (i, (tt, (t, tt))) refl refl refl
+
+pub asked_by_probing : (id turns : Text) → IsNoFlag id → IsNoFlag turns
+    → asked (codes "node" ∷ id ∷ codes "--turns" ∷ turns ∷ codes "--probe" ∷ []) ≡ result_ok (asking Node (service_in id turns true))
+unfolding command clap_on_literals
+asked_by_probing id turns i t =
+    row_asks (codes "node") (built_of node_shape) (free id ∷ fixed (codes "--turns") ∷ free turns ∷ fixed (codes "--probe") ∷ []) (i, (tt, (t, (tt, tt)))) refl refl refl
+
+pub asked_by_get : (url : Text) → IsNoFlag url
+    → asked (codes "get" ∷ url ∷ []) ≡ result_ok (asking Get (download_in url None))
+unfolding command clap_on_literals
+asked_by_get url u = row_asks (codes "get") (built_of get_shape) (free url ∷ []) (u, tt) refl refl refl
+
+pub asked_by_follow : (url times : Text) → IsNoFlag url → IsNoFlag times
+    → asked (codes "get" ∷ url ∷ codes "--follow" ∷ times ∷ []) ≡ result_ok (asking Get (download_in url (Some times)))
+unfolding command clap_on_literals
+asked_by_follow url times u t =
+    row_asks (codes "get") (built_of get_shape) (free url ∷ fixed (codes "--follow") ∷ free times ∷ []) (u, (tt, (t, tt))) refl refl refl
+
+pub asked_by_replay : asked (codes "replay" ∷ []) ≡ Some (Replay false)
+unfolding asked verdict_of command clap_on_literals
+asked_by_replay = refl
+
+pub asked_by_summary : asked (codes "replay" ∷ codes "--summary" ∷ []) ≡ Some (Replay true)
+unfolding asked verdict_of command clap_on_literals
+asked_by_summary = refl
+
+pub asked_by_rules : asked (codes "rules" ∷ []) ≡ Some Rules
+unfolding asked verdict_of command clap_on_literals
+asked_by_rules = refl
+
+-- ---- plain words ask for something
+
+and_false : (b : Bool) → (b && false) ≡ false
+and_false true = refl
+and_false false = refl
+
+-- what is spelled as a number is no flag
+no_flag : (least most : ℕ) (word : Text) (n : ℕ) → number_in least most word ≡ Ok n → IsNoFlag word
+no_flag least most [] n is = λ e. cc
+no_flag least most (x ∷ xs) n is = λ e.
+    let hyphen : number_in least most (45 ∷ xs) ≡ Ok n = subst (λ o. number_in least most (unwrap_or o x ∷ xs) ≡ Ok n) e is in
+    let misspelled : is_number (45 ∷ xs) ≡ false = and_false _ in
+    let refused : number_in least most (45 ∷ xs) ≡ Err Number = ap (λ b. cond (not b) (Err Number) (cond (nat_le least (digits_value 10 (45 ∷ xs)) && nat_le (digits_value 10 (45 ∷ xs)) most) (Ok (digits_value 10 (45 ∷ xs))) (Err Range))) misspelled in
+    cc
+
+-- both steps of two that gave a value gave one
+both_gave : {A B E : Type 0} (r : Result A E) (f : A → Result B E) (b : B) → (r >>= f) ≡ Ok b → (a : A) × (r ≡ Ok a) × (f a ≡ Ok b)
+both_gave (Ok a) f b is = (a, refl, is)
+both_gave (Err e) f b is = cc
+
+-- of the words that say a sample, a run, a node or a download none is a flag
+sample_words : (seed nodes events : Text) (sample : Sample) → sample_in seed nodes events ≡ Ok sample
+    → IsNoFlag seed × IsNoFlag nodes × IsNoFlag events
+sample_words seed nodes events sample is =
+    let (a, first, rest) = both_gave (number_in 0 (2 ^ 64 - 1) seed) _ sample is in
+    let (b, second, more) = both_gave (number_in 1 MAX_NODES nodes) _ sample rest in
+    let (c, third, last) = both_gave (number_in b MAX_EVENTS events) _ sample more in
+    (no_flag _ _ seed a first, no_flag _ _ nodes b second, no_flag _ _ events c third)
+
+service_words : (id turns : Text) (probes : Bool) (service : Service) → service_in id turns probes ≡ Ok service
+    → IsNoFlag id × IsNoFlag turns
+service_words id turns probes service is =
+    let (a, first, rest) = both_gave (number_in 0 (2 ^ 64 - 1) id) _ service is in
+    let (b, second, last) = both_gave (number_in 0 MAX_TURNS turns) _ service rest in
+    (no_flag _ _ id a first, no_flag _ _ turns b second)
+
+member_words : (id nodes chain : Text) (member : Member) → member_in id nodes chain ≡ Ok member
+    → IsNoFlag id × IsNoFlag nodes × IsNoFlag chain
+member_words id nodes chain member is =
+    let (a, first, rest) = both_gave (number_in 1 MAX_NODES nodes) _ member is in
+    let (b, second, more) = both_gave (number_in 1 _ chain) _ member rest in
+    let (c, third, last) = both_gave (number_in 1 a id) _ member more in
+    (no_flag _ _ id c third, no_flag _ _ nodes a first, no_flag _ _ chain b second)
+
+times_word : (url times : Text) (download : Download) → download_in url (Some times) ≡ Ok download → IsNoFlag times
+times_word url times download is =
+    let (a, first, rest) = both_gave (times_in (Some times)) _ download is in
+    let (b, second, last) = both_gave (number_in 1 MAX_FOLLOWED times) _ a first in
+    no_flag _ _ times b second
+
+-- a request of fields that are as they have to be
+of_fields : {A : Type 0} (make : A → Request) (said : Result A _) (fields : A) → said ≡ Ok fields → result_ok (asking make said) ≡ Some (make fields)
+of_fields make said fields is = ap (λ s. result_ok (asking make s)) is
+
+-- words that ask for something ask not for nothing
+something : (words row : List Text) (request : Request) → words ≡ row → asked row ≡ Some request → asked words ≢ None
+something words row request is asks = λ none. let asks_too : asked words ≡ Some request = ap asked is ∙ asks in cc
+
+pub plain_asks : (words : List Text) → IsPlain words → asked words ≢ None
+plain_asks words (plain_replay is) = something words _ _ is asked_by_replay
+plain_asks words (plain_summary is) = something words _ _ is asked_by_summary
+plain_asks words (plain_rules is) = something words _ _ is asked_by_rules
+plain_asks words (plain_gen seed nodes events sample is said) =
+    let free = sample_words seed nodes events sample said in
+    something words _ (Gen sample) is (asked_by_gen seed nodes events free.0 free.1 free.2 ∙ of_fields Gen _ sample said)
+plain_asks words (plain_node id turns service is said) =
+    let free = service_words id turns false service said in
+    something words _ (Node service) is (asked_by_node id turns free.0 free.1 ∙ of_fields Node _ service said)
+plain_asks words (plain_probing id turns service is said) =
+    let free = service_words id turns true service said in
+    something words _ (Node service) is (asked_by_probing id turns free.0 free.1 ∙ of_fields Node _ service said)
+plain_asks words (plain_check id nodes chain member is said) =
+    let free = member_words id nodes chain member said in
+    something words _ (Check member) is (asked_by_check id nodes chain free.0 free.1 free.2 ∙ of_fields Check _ member said)
+plain_asks words (plain_get url is u) =
+    something words _ (Get (record { address = url; times = None })) is (asked_by_get url u)
+plain_asks words (plain_follow url times download is u said) =
+    something words _ (Get download) is (asked_by_follow url times u (times_word url times download said) ∙ of_fields Get _ download said)

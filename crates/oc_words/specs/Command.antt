@@ -1,0 +1,85 @@
+-- The command by which `clap` reads the words, as a term: what its builders make.
+use Rattle.std.specs.Prelude.{◌≡◌, [], ◌∷◌, Some, true, false, codes}
+use Rattle.clap.specs.Words.{App, Rule, Shape, Text, new_app, new_rule, rule_of, shape_of, with_subcommand}
+use Rattle.clap.specs.Simple.{new_shape, on_top}
+use Rattle.clap.specs.declared.builder.action.ArgAction.TheVariants.{SetTrue}
+use Rattle.clap.specs.declared.builder.arg.Arg.{Arg}
+use Rattle.clap.specs.declared.builder.command.Command.{Command}
+use Rattle.clap.specs.declared.builder.command.Command.TheViews.{out-Command as fields_of}
+
+-- the words begin behind the program's name, one of them has to be a subcommand, and there is no
+-- subcommand `help`
+abbrev pub bare_command : App
+bare_command = on_top (λ s. record s {
+  no_binary_name = true;
+  disable_help_subcommand = true;
+  subcommand_required = true;
+}) (new_app (codes "overcast"))
+
+-- an argument that has to be given, by one word in its place
+abbrev pub required_rule : Text → Rule
+required_rule id = record (new_rule id) { required = true }
+
+-- a flag, which is given by two hyphens and its id
+abbrev pub flag_rule : Text → Rule
+flag_rule id = record (new_rule id) { long = Some id; action = Some SetTrue }
+
+-- an option, which is given by two hyphens and its id, and one word behind them
+abbrev pub option_rule : Text → Rule
+option_rule id = record (new_rule id) { long = Some id }
+
+-- an option that has to be given
+abbrev pub required_option_rule : Text → Rule
+required_option_rule id = record (option_rule id) { required = true }
+
+-- `replay`, with the flag `--summary`
+abbrev pub replay_shape : Shape
+replay_shape = record (new_shape (codes "replay")) { rules = flag_rule (codes "summary") ∷ [] }
+
+-- `gen SEED NODES EVENTS`
+abbrev pub gen_shape : Shape
+gen_shape = record (new_shape (codes "gen")) {
+  rules = required_rule (codes "SEED") ∷ required_rule (codes "NODES") ∷ required_rule (codes "EVENTS") ∷ [];
+}
+
+-- `node ID`, with the option `--turns N`, which has to be given, and the flag `--probe`
+abbrev pub node_shape : Shape
+node_shape = record (new_shape (codes "node")) {
+  rules = required_rule (codes "ID") ∷ required_option_rule (codes "turns") ∷ flag_rule (codes "probe") ∷ [];
+}
+
+-- `check ID NODES CHAIN`
+abbrev pub check_shape : Shape
+check_shape = record (new_shape (codes "check")) {
+  rules = required_rule (codes "ID") ∷ required_rule (codes "NODES") ∷ required_rule (codes "CHAIN") ∷ [];
+}
+
+-- `get URL`, with the option `--follow N`
+abbrev pub get_shape : Shape
+get_shape = record (new_shape (codes "get")) { rules = required_rule (codes "URL") ∷ option_rule (codes "follow") ∷ [] }
+
+-- `rules`
+abbrev pub rules_shape : Shape
+rules_shape = new_shape (codes "rules")
+
+-- the command with the subcommands that take no part in a network
+abbrev pub stateless_command : App
+stateless_command = with_subcommand (with_subcommand bare_command replay_shape) gen_shape
+
+-- and with those that make no connection
+abbrev pub local_command : App
+local_command = with_subcommand (with_subcommand stateless_command check_shape) rules_shape
+
+-- the command with each of its subcommands
+unfoldable pub command : App
+command = with_subcommand (with_subcommand local_command node_shape) get_shape
+
+-- a is an argument of this rule, and reaches no subcommand
+pub record IsArgument (rule : Rule) (a : Arg) : Type 0 where
+  pub reads : rule_of a ≡ rule
+  pub is_local : a.global ≡ false
+
+-- c is a subcommand of this shape, and no argument of it reaches past it
+pub record IsSubcommand (shape : Shape) (c : Command) : Type 0 where
+  pub reads : shape_of c ≡ shape
+  pub is_local : (fields_of c).has_globals ≡ false

@@ -1,0 +1,62 @@
+//! The arguments of a subcommand.
+ghost use Rattle.std.specs.Prelude.{◌≡◌, option_map};
+ghost use Rattle.clap.specs.Words.{first_of, found_of, rows_of};
+ghost use Rattle.oc_base.specs.Words.{GivesFields};
+ghost use Rattle.oc_words.specs.Arguments.{is_flagged, word_of};
+ghost use Rattle.oc_words.specs.Command.{IsArgument, flag_rule, option_rule, required_option_rule, required_rule};
+
+use clap::{Arg, ArgAction, ArgMatches};
+use oc_base::Why;
+use std::alloc::Global;
+
+/// An argument that has to be given, by one word in its place.
+pub(crate) fn required<'a>(alloc: Global, id: &'a str) -> Arg<'a>
+    ensures { IsArgument (required_rule id.entry.now) result }
+{
+    Arg::new(alloc, id).required(true)
+}
+
+/// A flag, which is given by two hyphens and its id, or not.
+pub(crate) fn flag<'a>(alloc: Global, id: &'a str) -> Arg<'a>
+    ensures { IsArgument (flag_rule id.entry.now) result }
+{
+    Arg::new(alloc, id).long(id).action(ArgAction::SetTrue)
+}
+
+/// An option, which is given by two hyphens and its id and one word behind them, or not.
+pub(crate) fn option<'a>(alloc: Global, id: &'a str) -> Arg<'a>
+    ensures { IsArgument (option_rule id.entry.now) result }
+{
+    Arg::new(alloc, id).long(id)
+}
+
+/// An option that has to be given.
+pub(crate) fn required_option<'a>(alloc: Global, id: &'a str) -> Arg<'a>
+    ensures { IsArgument (required_option_rule id.entry.now) result }
+{
+    Arg::new(alloc, id).long(id).required(true)
+}
+
+/// Whether a flag was given.
+pub(crate) fn is_flagged(matches: &ArgMatches<'_>, id: &str) -> bool
+    ensures { result ≡ is_flagged id.now (rows_of (found_of matches.now)) }
+{
+    match matches.get_str(id) {
+        Some(word) => word == "true",
+        None => false,
+    }
+}
+
+/// The word of an argument, if it was given.
+pub(crate) fn given<'a>(matches: &ArgMatches<'a>, id: &str) -> Option<&'a str>
+    ensures { option_map (λ word. word.now) result ≡ first_of id.now (rows_of (found_of matches.now)) }
+{
+    matches.get_str(id)
+}
+
+/// The word of an argument that has to be given.
+pub(crate) fn word<'a>(matches: &ArgMatches<'a>, id: &str) -> Result<&'a str, Why>
+    ensures { GivesFields (λ word. word.now) result (word_of id.now (rows_of (found_of matches.now))) }
+{
+    matches.get_str(id).ok_or(Why::Count)
+}

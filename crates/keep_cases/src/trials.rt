@@ -1,0 +1,81 @@
+//! Trials: a node is loaded, and takes inputs up to the first that is refused.
+
+ghost use Rattle.std.specs.Prelude.{IfOk};
+ghost use Rattle.std.specs.List.{AllByRecursion};
+ghost use Rattle.oc_model.specs.Lawful.{IsInput};
+
+use crate::files::{Files, show};
+use crate::inputs::{NODES, input_in};
+use oc_base::NodeId;
+use oc_keep::{Trial, trial};
+use oc_model::Input;
+use oc_outside::Disk;
+use std::alloc::Global;
+use test_tools::{Cases, Fault, Fields, Step};
+
+/// More inputs than a row has.
+const MOST_INPUTS: u32 = 100;
+
+/// The words of a row: how many inputs were taken, why the trial ended, and then what the disks hold after a
+/// crash.
+pub struct Rows;
+
+impl Cases for Rows {
+    fn answer(alloc: Global, given: &str) -> Result<String, Fault> {
+        let mut fields = Fields::of(given, ' ');
+        let shown = fields.text();
+        let me = fields.node()?;
+        let files = Files::of(alloc, &mut fields)?;
+        let (files, trial) = tried(alloc, me, files, fields)?;
+        let mut said = format!(in alloc; "{} {:?} ", trial.done, trial.end)?;
+        show(alloc, shown, me, files, &mut said)?;
+        Ok(said)
+    }
+}
+
+/// The files after a trial of the inputs of these steps, and how it ended.
+fn tried<D: Disk + Drop>(
+    alloc: Global,
+    me: NodeId,
+    files: Files<D>,
+    steps: Fields<'_>,
+) -> Result<(Files<D>, Trial), Fault> {
+    let areas = vec![in alloc; 0, 0, 0]?;
+    let inputs = inputs_in(alloc, steps, me)?;
+    if me.0 < 1 || me.0 > NODES {
+        return Err(Fault::Field);
+    }
+    let Files {
+        control,
+        alternate,
+        content,
+    } = files;
+    let (control, alternate, content, trial) = trial(
+        alloc, control, alternate, content, me, NODES, 1, areas, inputs,
+    );
+    Ok((
+        Files {
+            control,
+            alternate,
+            content,
+        },
+        trial,
+    ))
+}
+
+/// The inputs of steps.
+#[tactic(auto, using(crate::proofs::Lists::inputs_push))]
+fn inputs_in(alloc: Global, steps: Fields<'_>, me: NodeId) -> Result<Vec<Input>, Fault>
+    ensures { IfOk result (λ inputs. AllByRecursion (IsInput 3 me) inputs.items) }
+{
+    let mut steps = steps;
+    let mut inputs = Vec::new(alloc);
+    for _ in 0..MOST_INPUTS {
+        if steps.is_empty() {
+            break;
+        }
+        let input = input_in(alloc, Step::of(steps.text()), me)?;
+        inputs.push(input)?;
+    }
+    Ok(inputs)
+}

@@ -1,0 +1,36 @@
+//! Bytes as fields of a row.
+
+use std::alloc::Global;
+use test_tools::{Fault, Fields};
+
+/// More fields than a text of bytes has.
+const MOST_FIELDS: u32 = 1_000;
+
+/// The bytes of fields, one behind the other: `7` is a number in eight bytes, `#7` in four, `.7` in one, and
+/// `x2f61` is bytes. In front of a `#` and a `.` a word may stand that says what it is.
+pub fn spelled(alloc: Global, fields: Fields<'_>) -> Result<Vec<u8>, Fault> {
+    let mut fields = fields;
+    let mut bytes = Vec::new(alloc);
+    for _ in 0..MOST_FIELDS {
+        if fields.is_empty() {
+            break;
+        }
+        put_field(alloc, &mut bytes, fields.text())?;
+    }
+    Ok(bytes)
+}
+
+fn put_field(alloc: Global, bytes: &mut Vec<u8>, field: &str) -> Result<(), Fault> {
+    if let Some((_, number)) = field.split_once('#') {
+        let number = Fields::of(number, ' ').small()?;
+        bytes.extend_from_slice(&number.to_be_bytes())?;
+    } else if let Some((_, number)) = field.split_once('.') {
+        bytes.push(Fields::of(number, ' ').byte()?)?;
+    } else if let Some(hex) = field.strip_prefix('x') {
+        bytes.extend_from_slice(&Fields::of(hex, ' ').bytes(alloc)?)?;
+    } else {
+        let number = Fields::of(field, ' ').number()?;
+        bytes.extend_from_slice(&number.to_be_bytes())?;
+    }
+    Ok(())
+}

@@ -5,7 +5,7 @@ ghost use Rattle.oc_base.specs.Names.{IsGroupName};
 
 use oc_base::{GroupName, Shelf};
 use oc_content::{Content, ContentError};
-use oc_outside::MemDisk;
+use oc_io::MemDisk;
 use std::alloc::Global;
 use test_tools::{Cases, Fault, Step, bytes_of, disk_in, group_in, put_hex};
 

@@ -1,7 +1,7 @@
 //! The journal of a disk: what is appended, restarted, read and recovered.
 
+use oc_io::MemDisk;
 use oc_journal::{Frame, Journal, LoadError};
-use oc_outside::MemDisk;
 use std::alloc::Global;
 use test_tools::{Cases, Fault, Step, bytes_of, disk_in, put_hex};
 

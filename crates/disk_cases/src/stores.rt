@@ -1,6 +1,6 @@
 //! The store of a node's control records on two disks.
 
-use oc_outside::MemDisk;
+use oc_io::MemDisk;
 use oc_store::{Record, Store, StoreError};
 use std::alloc::Global;
 use test_tools::{Cases, Fault, Step, bytes_of, disk_in, put_hex};

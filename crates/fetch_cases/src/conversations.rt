@@ -2,7 +2,8 @@
 
 use crate::texts::{numbers_in, put_text, text_in, texts_in};
 use oc_fetch::{GetEnd, follow, get};
-use oc_outside::{MemLink, MemSink};
+use oc_io::MemSink;
+use oc_outside::MemLink;
 use std::alloc::Global;
 use std::str;
 use test_tools::{Cases, Fault, Fields, Step};

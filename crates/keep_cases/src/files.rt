@@ -2,8 +2,8 @@
 
 use crate::inputs::NODES;
 use oc_base::{NodeId, Shelf};
+use oc_io::{Disk, MemDisk};
 use oc_keep::{KeepLoad, Kept, Node};
-use oc_outside::{Disk, MemDisk};
 use std::alloc::Global;
 use test_tools::{Fault, Fields, bytes_of, disk_in, put_hex};
 

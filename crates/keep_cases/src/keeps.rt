@@ -3,8 +3,8 @@
 use crate::files::{Files, load, show};
 use crate::inputs::input_in;
 use oc_base::NodeId;
+use oc_io::Disk;
 use oc_keep::Kept;
-use oc_outside::Disk;
 use std::alloc::Global;
 use test_tools::{Cases, Fault, Fields, Step, group_in, put_hex};
 

@@ -7,9 +7,9 @@ ghost use Rattle.oc_model.specs.Lawful.{IsInput};
 use crate::files::{Files, show};
 use crate::inputs::{NODES, input_in};
 use oc_base::NodeId;
+use oc_io::Disk;
 use oc_keep::{Trial, trial};
 use oc_model::Input;
-use oc_outside::Disk;
 use std::alloc::Global;
 use test_tools::{Cases, Fault, Fields, Step};
 

@@ -2,7 +2,7 @@
 use Rattle.std.specs.Prelude.{◌≡◌, ℕ, IsTrue, Option, List, [], ◌++◌, length, refl}
 use Rattle.std.specs.Io.KnownBytes.{Consumes, IsAtEnd}
 use Rattle.std.proofs.Common.{◌∙◌, ap}
-use Rattle.oc_outside.specs.Tally.{counted}
+use Rattle.oc_io.specs.Tally.{counted}
 use Rattle.oc_adapters.specs.Counts.{Rises, Rises-none, Rises-then}
 use Rattle.oc_adapters.specs.Known.{Consumes-none, Consumes-then}
 use Rattle.oc_adapters.specs.declared.reader_source.ReaderSource.{ReaderSource}

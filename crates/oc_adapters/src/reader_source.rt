@@ -1,9 +1,9 @@
 ghost use Rattle.std.specs.Prelude.{◌≡◌, ◌↔◌, ◌+◌, ◌<◌, ◌≤◌, [], length, take, IsTrue, IfOk, OnErr};
-ghost use Rattle.oc_outside.specs.Faults.{NoFall, Rose};
+ghost use Rattle.oc_io.specs.Faults.{NoFall, Rose};
 
 use crate::retrying::read_once;
 use crate::traffic::Traffic;
-use oc_outside::{Failed, Source};
+use oc_io::{Failed, Source};
 use std::io::Read;
 
 /// A reader as a source. It counts the bytes that came and the calls that failed, and keeps whether the

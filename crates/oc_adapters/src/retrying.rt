@@ -3,7 +3,7 @@
 ghost use Rattle.std.specs.Prelude.{◌≡◌, ◌<◌, ◌≤◌, length, IfOk};
 ghost use Rattle.std.specs.Io.KnownBytes.{ReadConsumes, WriteAppends};
 
-use oc_outside::Failed;
+use oc_io::Failed;
 use std::io::{ErrorKind, Read, Write};
 
 /// How often a call is made at most, as long as it is interrupted.

@@ -1,6 +1,6 @@
 use crate::retrying::write_once;
 use crate::traffic::Traffic;
-use oc_outside::{Failed, Sink};
+use oc_io::{Failed, Sink};
 use std::io::Write;
 
 /// A writer as a sink. It counts the bytes that went and the calls that failed.

@@ -14,7 +14,7 @@ use Rattle.oc_model.specs.declared.message.Message.{Message}
 use Rattle.oc_model.specs.Node.{Header, Node}
 use Rattle.oc_model.specs.Step.{step}
 use Rattle.oc_node.specs.OutcomeView.{OutcomeView}
-use Rattle.oc_outside.specs.DiskView.{DiskView}
+use Rattle.oc_io.specs.DiskView.{DiskView}
 use Rattle.oc_outside.specs.Story.{Story}
 use Rattle.oc_routes.specs.Responses.{client_response, response_to}
 use Rattle.oc_routes.specs.declared.asks.Asks.{Asks}

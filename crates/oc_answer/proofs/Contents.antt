@@ -28,7 +28,7 @@ use Rattle.oc_routes.specs.declared.response.Response.{Response}
 use Rattle.oc_stream.specs.Texts.{chunk_written, chunked_text, chunks_written, end_written}
 use Rattle.oc_keep.specs.KeptView.{IsHonest, KeptView, disks_of, node_of}
 use Rattle.oc_keep.proofs.Stays.{all_honest}
-use Rattle.oc_outside.specs.DiskView.{DiskView}
+use Rattle.oc_io.specs.DiskView.{DiskView}
 use Rattle.oc_turn.specs.Looks.{LooksOnly}
 use Rattle.oc_answer.specs.Hearing.{SaysOn}
 use Rattle.oc_answer.specs.Serving.{Fits, coded, content_text, part_of, pieces, whole_text}

@@ -12,7 +12,7 @@ use Rattle.oc_model.specs.declared.answer.Answer.TheVariants as answers
 use Rattle.oc_model.specs.declared.input.Input.{Input}
 use Rattle.oc_model.specs.declared.message.Message.{Message}
 use Rattle.oc_model.specs.Node.{Header, Node}
-use Rattle.oc_outside.specs.DiskView.{DiskView}
+use Rattle.oc_io.specs.DiskView.{DiskView}
 use Rattle.oc_outside.specs.Story.{Story}
 use Rattle.oc_policy.specs.declared.rule.Rule.{Rule}
 use Rattle.oc_routes.specs.Responses.{response_to}

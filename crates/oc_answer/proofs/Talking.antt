@@ -13,7 +13,7 @@ use Rattle.oc_model.specs.Node.{Node}
 use Rattle.oc_model.specs.Step.{step}
 use Rattle.oc_node.specs.OutcomeView.{OutcomeView}
 use Rattle.oc_outside.specs.ClockView.{Series}
-use Rattle.oc_outside.specs.DiskView.{DiskView}
+use Rattle.oc_io.specs.DiskView.{DiskView}
 use Rattle.oc_outside.specs.Exchange.{Hears, HearsThenBreaks, Says, SaysThenBreaks}
 use Rattle.oc_outside.specs.LinkCalls.{LinkFaults, CountsTalking, OnCurrent, Told}
 use Rattle.oc_outside.specs.LinkLoan.{LoanView, Talks}
@@ -21,7 +21,7 @@ use Rattle.oc_http.specs.Taking.{Took}
 use Rattle.oc_http.specs.declared.fault.HttpFault.{HttpFault}
 use Rattle.oc_http.specs.declared.fault.HttpFault.TheVariants as http
 use Rattle.oc_outside.specs.Story.{Connection, Story, closed}
-use Rattle.oc_outside.proofs.Counts.{Rose-after}
+use Rattle.oc_io.proofs.Counts.{Rose-after}
 use Rattle.std.specs.Option.{option_map}
 use Rattle.oc_routes.specs.Inputs.{input_line}
 use Rattle.oc_turn.specs.Outboxes.{with_messages}

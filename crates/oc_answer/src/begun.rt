@@ -4,7 +4,8 @@ ghost use Rattle.oc_outside.specs.LinkCalls.{IfTold};
 ghost use Rattle.oc_outside.specs.Story.{IsReadOut};
 ghost use Rattle.oc_answer.specs.Beginning.{Brings, Brings-nothing, Brings-then, Brings-fails};
 
-use oc_outside::{Failed, Link, Source};
+use oc_io::{Failed, Source};
+use oc_outside::Link;
 
 /// The current connection of a link that is lent, as a source that tells whether any byte came of it.
 #[derive(Drop)]

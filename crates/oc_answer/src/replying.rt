@@ -8,8 +8,9 @@ ghost use Rattle.oc_turn.specs.Deeds.{Talked};
 ghost use Rattle.oc_turn.specs.Looks.{LooksOnly, LookStops};
 
 use oc_base::{GroupName, Memory};
+use oc_io::{Disk, write_all};
 use oc_keep::{Kept, KeptRead};
-use oc_outside::{Current, Disk, Link, write_all};
+use oc_outside::{Current, Link};
 use oc_routes::{Asks, Content, Response};
 use oc_stream::chunk_text;
 use oc_turn::TurnEnd;

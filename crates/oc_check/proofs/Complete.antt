@@ -8,7 +8,7 @@ use Rattle.oc_keep.specs.Promises.{HoldFiles, RefusesNode}
 use Rattle.oc_keep.specs.declared.errors.KeepLoad.{KeepLoad}
 use Rattle.oc_keep.specs.declared.errors.KeepLoad.TheVariants as loads
 use Rattle.oc_keep.specs.declared.errors.Which.TheVariants.{Control, Alternate, Content}
-use Rattle.oc_outside.specs.DiskView.{DiskView}
+use Rattle.oc_io.specs.DiskView.{DiskView}
 use Rattle.oc_store.specs.ControlFiles.{IsBadAt, IsGood}
 
 -- frames behind a bad one mean nothing

@@ -11,7 +11,7 @@ use Rattle.oc_loans.specs.Loans.{loan_view, under}
 use Rattle.oc_loans.specs.declared.loan.Loan.{Loan}
 use Rattle.oc_loans.specs.declared.loan.Loan.TheVariants.{First, Second, Third}
 use Rattle.oc_model.specs.Node.{Header, Node}
-use Rattle.oc_outside.specs.DiskView.{DiskView, FailsToRead, GoesOn}
+use Rattle.oc_io.specs.DiskView.{DiskView, FailsToRead, GoesOn}
 use Rattle.oc_check.specs.Checks.{Shows}
 
 -- the loans of three disks

@@ -3,7 +3,7 @@ use Rattle.std.proofs.Common.{◌≡◌, ℕ, List, IsTrue, refl, inl, arith}
 use Rattle.oc_keep.specs.Files.{Disks, AllGoOn, AreHonest, IsLeft, MayLeave, HadLeft, AlwaysLeaves}
 use Rattle.oc_keep.specs.Promises.{LoadsSafely}
 use Rattle.oc_model.specs.Node.{Header}
-use Rattle.oc_outside.specs.DiskView.{DiskView, GoesOn, IsConsistent}
+use Rattle.oc_io.specs.DiskView.{DiskView, GoesOn, IsConsistent}
 
 -- a disk goes on as it is
 pub goes_on_same : (v : DiskView) → GoesOn v v

@@ -9,9 +9,9 @@ ghost use Rattle.oc_keep.specs.Promises.{HoldFiles, LoadsSafely, RefusesNode};
 
 use crate::loading::{Shown, load_and_show};
 use oc_base::NodeId;
+use oc_io::Disk;
 use oc_keep::KeepLoad;
 use oc_loans::Loan;
-use oc_outside::Disk;
 use std::alloc::Global;
 
 /// The block of `show` and the block of `held` of the node with this id among so many, with a chain of this

@@ -14,8 +14,8 @@ ghost use Rattle.oc_stage.specs.Sight.{sight_of};
 
 use crate::showing::show;
 use oc_base::{Memory, NodeId};
+use oc_io::Disk;
 use oc_keep::{KeepLoad, Kept};
-use oc_outside::Disk;
 use std::alloc::Global;
 
 /// What the files of a node showed, and the disks.

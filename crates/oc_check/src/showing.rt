@@ -7,8 +7,8 @@ ghost use Rattle.oc_stage.specs.Sight.{sight_of};
 
 use crate::sight::sight_of;
 use oc_base::{Memory, NodeId, put};
+use oc_io::Disk;
 use oc_keep::Kept;
-use oc_outside::Disk;
 use oc_replay::{held_text, show_text};
 use std::alloc::Global;
 

@@ -6,8 +6,8 @@ ghost use Rattle.oc_cert.specs.TableView.{entries_of};
 ghost use Rattle.oc_stage.specs.Sight.{sight_of};
 
 use oc_base::{Cert, CertList, IdList, LineList, Memory};
+use oc_io::Disk;
 use oc_keep::Kept;
-use oc_outside::Disk;
 use oc_stage::Sight;
 
 /// What is seen of a node on its files, which is up or not.

@@ -2,9 +2,9 @@
 use Rattle.std.proofs.Common.{◌≡◌, ◌≢◌, ℕ, suc, IsTrue, IsSome, Option, None, Some, Result, Ok, Err, IfErr, List, [], ◌∷◌, take, drop, fold, refl, sym, ap, subst, ◌∙◌, take-append-drop, arith}
 use Rattle.std.proofs.lemmas.List.Sums.{fold-append}
 use Rattle.std.specs.Result.{IsErrOf, OnErr}
-use Rattle.oc_outside.specs.DiskView.{DiskView, GoesOn, FailsToRead}
-use Rattle.oc_outside.proofs.Counts.{Rose-after}
-use Rattle.oc_outside.proofs.DiskMoments.{still_honest, still_reliable}
+use Rattle.oc_io.specs.DiskView.{DiskView, GoesOn, FailsToRead}
+use Rattle.oc_io.proofs.Counts.{Rose-after}
+use Rattle.oc_io.proofs.DiskMoments.{still_honest, still_reliable}
 use Rattle.oc_journal.specs.JournalFile.{frames_of, IsNoJournal}
 use Rattle.oc_journal.specs.JournalView.{JournalView}
 use Rattle.oc_journal.specs.Promises.{RefusesLoad, ClosesByAppend}

@@ -1,7 +1,7 @@
 -- The index as the frames of a journal are read one by one.
 use Rattle.std.proofs.Common.{◌≡◌, ℕ, suc, ◌+◌, ◌<◌, ◌≤◌, Bool, IsTrue, List, [], ◌∷◌, ◌++◌, length, take, get_or, Some, None, vec_capacity, refl, sym, ap, subst, ◌∙◌, arith}
 use Rattle.std.proofs.lemmas.List.{take_more, length-take-le, take_all}
-use Rattle.oc_outside.specs.DiskView.{DiskView}
+use Rattle.oc_io.specs.DiskView.{DiskView}
 use Rattle.oc_journal.specs.JournalView.{JournalView}
 use Rattle.oc_journal.specs.Promises.{OnlyReads}
 use Rattle.oc_content.specs.declared.index.Index.{Index}

@@ -2,8 +2,8 @@
 use Rattle.std.proofs.Common.{◌≡◌, ◌≢◌, ℕ, zero, suc, ◌≤◌, Bool, true, false, IsTrue, List, [], ◌∷◌, ◌++◌, length, take, drop, Option, Some, None, Result, Ok, Err, option_map, unwrap_or, IfSome, IfNone, MatchOption, get_or, flat_map, vec_capacity, refl, sym, ap, subst, ◌∙◌, arith}
 use Rattle.std.proofs.lemmas.List.{length-map, drop_all}
 use Rattle.std.specs.Result.{IsErrOf}
-use Rattle.oc_outside.specs.DiskView.{DiskView}
-use Rattle.oc_outside.proofs.DiskMoments.{still_honest}
+use Rattle.oc_io.specs.DiskView.{DiskView}
+use Rattle.oc_io.proofs.DiskMoments.{still_honest}
 use Rattle.oc_journal.specs.JournalView.{JournalView}
 use Rattle.oc_journal.specs.Promises.{OnlyReads, NoneFailed}
 use Rattle.oc_journal.specs.Stopped.{frames_after}

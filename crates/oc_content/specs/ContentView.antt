@@ -1,7 +1,7 @@
 -- A content log, and a piece made ready for it.
 use Rattle.std.specs.Prelude.{◌≡◌, ℕ, ◌<◌, Bool, true, ◌||◌, nat_lt, IsTrue, List, length, take}
 use Rattle.oc_base.specs.declared.shelf.Shelf.{Shelf}
-use Rattle.oc_outside.specs.DiskView.{DiskView, FailsToRead}
+use Rattle.oc_io.specs.DiskView.{DiskView, FailsToRead}
 use Rattle.oc_journal.specs.JournalView.{JournalView}
 use Rattle.oc_journal.specs.Promises.{OnlyReads, NoneFailed}
 use Rattle.oc_content.specs.declared.errors.ContentError.{ContentError}

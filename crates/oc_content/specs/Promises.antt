@@ -1,6 +1,6 @@
 -- What the calls of a content log promise.
 use Rattle.std.specs.Prelude.{◌≡◌, ℕ, ◌+◌, ◌≤◌, Bool, IsTrue, List, length, get_or, Some}
-use Rattle.oc_outside.specs.DiskView.{DiskView, FailsToRead}
+use Rattle.oc_io.specs.DiskView.{DiskView, FailsToRead}
 use Rattle.oc_journal.specs.JournalFile.{IsNoJournal}
 use Rattle.oc_journal.specs.Promises.{IsLoaded, OnlyReads, HasRoom, Appends, ClosesByAppend}
 use Rattle.oc_content.specs.declared.errors.ContentError.{ContentError}

@@ -1,7 +1,7 @@
 //! Appending what was prepared.
 
 ghost use Rattle.std.specs.Prelude.{◌≡◌, ◌≢◌, ◌↔◌, ◌+◌, ◌<◌, false, length, IsTrue, IsOk, IsErrOf, OnErr, IfOk, IfErr};
-ghost use Rattle.oc_outside.specs.DiskView.{CannotFail};
+ghost use Rattle.oc_io.specs.DiskView.{CannotFail};
 ghost use Rattle.oc_journal.specs.Promises.{AppendsSafely, ClosesByAppend, IsFullFor};
 ghost use Rattle.oc_content.specs.ContentView.{IsIndexed, IsReady, adds, parts};
 ghost use Rattle.oc_content.specs.Indexes.{rooms};
@@ -9,8 +9,8 @@ ghost use Rattle.oc_content.specs.Promises.{Commits};
 
 use crate::index::Index;
 use crate::piece::Piece;
+use oc_io::Disk;
 use oc_journal::{AppendError, Journal};
-use oc_outside::Disk;
 
 /// Appends a piece to the journal and then adds it to the index.
 pub fn append<D: Disk>(

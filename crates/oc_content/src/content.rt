@@ -1,8 +1,8 @@
 ghost use Rattle.std.specs.Prelude.{◌≡◌, ◌≢◌, ◌↔◌, ℕ, ◌+◌, ◌<◌, ◌≤◌, false, length, take, drop, All, None, Some, IsTrue, IsSome, IsOk, IsErrOf, IfNone, OnOk, IfOk, IfErr, IfSome};
 ghost use Rattle.oc_base.specs.Names.{IsGroupName};
 ghost use Rattle.oc_base.specs.Shelves.{held_of, IsHeldAt, IsShelf, AreLinesAscending};
-ghost use Rattle.oc_outside.specs.DiskView.{CannotFail, StaysAsItWas};
-ghost use Rattle.oc_outside.specs.MemDiskView.{disk_of};
+ghost use Rattle.oc_io.specs.DiskView.{CannotFail, StaysAsItWas};
+ghost use Rattle.oc_io.specs.MemDiskView.{disk_of};
 ghost use Rattle.oc_journal.specs.JournalFile.{frames_of, IsNoJournal};
 ghost use Rattle.oc_journal.specs.JournalView.{HoldsJournal};
 ghost use Rattle.oc_journal.specs.Promises.{LoadsSafely, NoneFailed, ClosesByRead, IsFullFor, AppendsSafely};
@@ -22,8 +22,8 @@ use crate::putting::ready;
 use crate::reading::read_group;
 use crate::spot::Spot;
 use oc_base::{GroupName, MAX_GROUP_BYTES, MAX_GROUPS, MAX_PUBLISH_BYTES, Shelf};
+use oc_io::{Disk, MemDisk};
 use oc_journal::{AppendError, Journal};
-use oc_outside::{Disk, MemDisk};
 use std::alloc::Global;
 use std::marker::Model;
 

@@ -7,8 +7,8 @@ ghost use Rattle.oc_content.specs.ContentView.{IsIndexed};
 
 use crate::errors::ContentError;
 use crate::index::Index;
+use oc_io::Disk;
 use oc_journal::Journal;
-use oc_outside::Disk;
 use std::alloc::Global;
 
 /// Reads each frame once, in order, up to the first bad one.

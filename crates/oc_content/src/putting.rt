@@ -16,8 +16,8 @@ use crate::heading::Heading;
 use crate::index::Index;
 use crate::piece::Piece;
 use oc_base::{GroupName, MAX_GROUP_BYTES, MAX_GROUPS, MAX_PUBLISH_BYTES, Place, Shelf, place_of};
+use oc_io::Disk;
 use oc_journal::Journal;
-use oc_outside::Disk;
 use std::alloc::{AllocError, Global};
 
 /// Makes bytes from a place on ready for a group, with all memory for them.

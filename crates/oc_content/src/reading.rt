@@ -13,8 +13,8 @@ use crate::errors::ReadError;
 use crate::index::Index;
 use crate::track::Span;
 use oc_base::{GroupName, Place, place_of};
+use oc_io::Disk;
 use oc_journal::{Journal, PeekError};
-use oc_outside::Disk;
 
 /// Reads the bytes of a group from an offset on, as many as fit; answers how many.
 pub fn read_group<D: Disk>(

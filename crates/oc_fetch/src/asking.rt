@@ -3,7 +3,7 @@
 ghost use Rattle.std.specs.Prelude.{◌≡◌, None, Some, IfErr, OnOk, IsErrOf};
 ghost use Rattle.oc_fetch.specs.Turns.{Turn, Speaks, SpeaksLast, asking, IsCut};
 ghost use Rattle.oc_fetch.specs.Wishes.{dialled_at};
-ghost use Rattle.oc_outside.specs.Faults.{Rose};
+ghost use Rattle.oc_io.specs.Faults.{Rose};
 ghost use Rattle.oc_outside.specs.LinkCalls.{Told, CountsDialling};
 
 use crate::end::GetEnd;

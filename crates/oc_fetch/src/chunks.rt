@@ -4,14 +4,14 @@ ghost use Rattle.std.specs.Prelude.{◌≡◌, ◌⊎◌, ◌++◌, ℕ, List, [
 ghost use Rattle.oc_fetch.specs.Chunks.{EndsWritten, IsPut, StopsPiece, TakesPiece};
 ghost use Rattle.oc_fetch.specs.Passing.{IsPassed, StopsPassing};
 ghost use Rattle.oc_fetch.specs.declared.extent.Extent.TheVariants.{Chunked as ChunkedExtent};
-ghost use Rattle.oc_outside.specs.Faults.{NoFall, Rose};
+ghost use Rattle.oc_io.specs.Faults.{NoFall, Rose};
 ghost use Rattle.oc_stream.specs.Stages.{is_ended};
 ghost use Rattle.oc_stream.specs.Taken.{IsTaken};
 
 use crate::end::GetEnd;
 use crate::extent::MAX_OPEN_BYTES;
 use crate::room::PIECE_BYTES;
-use oc_outside::{Sink, Source, write_all};
+use oc_io::{Sink, Source, write_all};
 use oc_stream::{ChunkFault, Unchunker, a_chunked_text_ends, a_text_is_read_in_one_way};
 use std::alloc::Global;
 

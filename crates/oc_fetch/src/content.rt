@@ -3,13 +3,13 @@
 ghost use Rattle.std.specs.Prelude.{◌≡◌, ◌<◌, ◌≤◌, length, IfOk, IfErr, OnOk, IsErrOf};
 ghost use Rattle.oc_fetch.specs.Passing.{IsMoved, IsHalted, IsPassed, StopsPassing};
 ghost use Rattle.oc_fetch.specs.declared.extent.Extent.TheVariants.{Counted as CountedExtent, ToTheEnd as OpenExtent};
-ghost use Rattle.oc_outside.specs.Faults.{NoFall, Rose};
+ghost use Rattle.oc_io.specs.Faults.{NoFall, Rose};
 
 use crate::chunks::pass_chunked;
 use crate::end::GetEnd;
 use crate::extent::{Extent, MAX_OPEN_BYTES};
 use crate::room::Room;
-use oc_outside::{Sink, Source, write_all};
+use oc_io::{Sink, Source, write_all};
 use std::alloc::Global;
 
 /// Passes the content of a reply on from a source to a sink, through a buffer. Gives its length in

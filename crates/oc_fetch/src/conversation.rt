@@ -4,7 +4,7 @@ ghost use Rattle.std.specs.Prelude.{◌≡◌, ◌<◌, false, IfErr, OnOk, IsEr
 ghost use Rattle.oc_fetch.specs.Conversations.{Converses};
 ghost use Rattle.oc_fetch.specs.Passing.{IsTalked, IsTalkedThrough};
 ghost use Rattle.oc_fetch.specs.Wishes.{wish_of};
-ghost use Rattle.oc_outside.specs.Faults.{NoFall, Rose};
+ghost use Rattle.oc_io.specs.Faults.{NoFall, Rose};
 ghost use Rattle.oc_outside.specs.LinkCalls.{CountsDialling};
 
 use crate::end::GetEnd;
@@ -12,7 +12,8 @@ use crate::exchange::exchange;
 use crate::place::Place;
 use crate::room::Room;
 use crate::wish::Wish;
-use oc_outside::{Link, Sink};
+use oc_io::Sink;
+use oc_outside::Link;
 use std::alloc::Global;
 
 /// Talks with servers, from a place on, until no more replies are wanted. The connection is ended.

@@ -9,7 +9,7 @@ ghost use Rattle.oc_fetch.specs.Ends.{end_of_url};
 ghost use Rattle.oc_fetch.specs.Passing.{IsTalked};
 ghost use Rattle.oc_fetch.specs.Redirections.{StopsAtThird};
 ghost use Rattle.oc_fetch.specs.Wishes.{wish_of};
-ghost use Rattle.oc_outside.specs.Faults.{NoFall, Rose};
+ghost use Rattle.oc_io.specs.Faults.{NoFall, Rose};
 ghost use Rattle.oc_outside.specs.LinkCalls.{Told, CountsDialling};
 ghost use Rattle.url.specs.Parts.{Parts};
 
@@ -22,7 +22,8 @@ use crate::target::Target;
 use crate::wish::Wish;
 use oc_base::Memory;
 use oc_http::a_response_head_has_one_answer;
-use oc_outside::{Link, Sink};
+use oc_io::Sink;
+use oc_outside::Link;
 use std::alloc::Global;
 use url::Url;
 

@@ -5,7 +5,7 @@ ghost use Rattle.oc_fetch.specs.Conversations.{LeadsOn, EndsWith, GoesOn, EndsAt
 ghost use Rattle.oc_fetch.specs.Passing.{IsHeard, IsLastHeard, IsExchanged, IsLastExchanged};
 ghost use Rattle.oc_fetch.specs.Wishes.{wish_of};
 ghost use Rattle.oc_outside.specs.Exchange.{Hears, HearsThenBreaks};
-ghost use Rattle.oc_outside.specs.Faults.{NoFall, Rose};
+ghost use Rattle.oc_io.specs.Faults.{NoFall, Rose};
 ghost use Rattle.oc_outside.specs.LinkCalls.{Told, IfTold, OnOutgoing, CountsDialling};
 ghost use Rattle.oc_outside.specs.Story.{IsHeardOut};
 
@@ -15,7 +15,8 @@ use crate::hearing::hear;
 use crate::place::Place;
 use crate::room::Room;
 use crate::wish::{Wish, write_request};
-use oc_outside::{Link, Outgoing, Sink};
+use oc_io::Sink;
+use oc_outside::{Link, Outgoing};
 use std::alloc::Global;
 
 /// Makes the request of a client at a place, passes on what comes of content, and goes to the place to

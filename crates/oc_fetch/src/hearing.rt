@@ -5,7 +5,7 @@ ghost use Rattle.oc_fetch.specs.Conversations.{LeadsOn, EndsWith, Brings, StopsC
 ghost use Rattle.oc_fetch.specs.Passing.{IsHeard, IsLastHeard};
 ghost use Rattle.oc_fetch.specs.Wishes.{wish_of, Takes, keeps};
 ghost use Rattle.oc_fetch.specs.Replies.{extent_of};
-ghost use Rattle.oc_outside.specs.Faults.{NoFall, Rose};
+ghost use Rattle.oc_io.specs.Faults.{NoFall, Rose};
 
 use crate::content::pass_content;
 use crate::end::GetEnd;
@@ -15,7 +15,7 @@ use crate::redirection::redirect;
 use crate::room::Room;
 use crate::wish::Wish;
 use oc_http::ReplyHead;
-use oc_outside::{Sink, Source};
+use oc_io::{Sink, Source};
 use std::alloc::Global;
 
 /// Takes a reply from a source, passes its content on to a sink, and goes to the place to which it

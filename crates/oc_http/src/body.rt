@@ -1,13 +1,13 @@
 //! The bodies of messages.
 
 ghost use Rattle.std.specs.Prelude.{◌≡◌, ℕ, List, IfOk, IfErr, IsErrOf, None, length, vec_len};
-ghost use Rattle.oc_outside.specs.Faults.{NoFall, Rose};
+ghost use Rattle.oc_io.specs.Faults.{NoFall, Rose};
 ghost use Rattle.oc_http.specs.Responses.{IsLong};
 ghost use Rattle.oc_http.specs.Taking.{Took, RefusesBody, RefusesContent};
 
 use crate::fault::HttpFault;
 use oc_base::MAX_BODY_BYTES;
-use oc_outside::{Source, read_all};
+use oc_io::{Source, read_all};
 use std::alloc::{AllocError, Global};
 
 /// Takes the next bytes of a source, as many as are wanted, and nothing behind them. The memory is taken

@@ -3,7 +3,7 @@ ghost use Rattle.oc_http.specs.Reads.{fault_of_read};
 ghost use Rattle.oc_http.specs.declared.fault.HttpFault.TheVariants.{Memory as HttpMemory, Source as HttpSource};
 
 use oc_base::Memory;
-use oc_outside::{Failed, ReadFault};
+use oc_io::{Failed, ReadFault};
 use std::alloc::{AllocError, AllocFailed};
 use std::error::Error;
 use std::fmt;

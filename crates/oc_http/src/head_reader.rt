@@ -1,7 +1,7 @@
 ghost use Rattle.std.specs.Prelude.{◌≡◌, ℕ, List, ◌++◌, ◌≤◌, vec_len, vec_capacity, IfOk, IfErr, IsErrOf};
 ghost use Rattle.oc_base.specs.declared.limits.TheConstants.{MAX_HEAD_BYTES};
 ghost use Rattle.oc_http.specs.declared.taking.TheConstants.{FIELD_ROOM};
-ghost use Rattle.oc_outside.specs.Faults.{NoFall, Rose};
+ghost use Rattle.oc_io.specs.Faults.{NoFall, Rose};
 
 use crate::body::take_content;
 use crate::fault::HttpFault;
@@ -12,7 +12,7 @@ use crate::responses::{body_length, read_response_head, read_response_start};
 use crate::taking::{FIELD_ROOM, take_request, take_response};
 use httparse::spans::{EMPTY_HEADER_SPAN, HeaderSpan};
 use oc_base::{Bytes, MAX_HEAD_BYTES, Memory};
-use oc_outside::Source;
+use oc_io::Source;
 use std::alloc::Global;
 
 /// Reads heads, one after another, over room that is taken once: a connection that carries several

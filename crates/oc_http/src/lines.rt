@@ -1,12 +1,12 @@
 //! The lines of a head, taken of a source one byte at a time, so that nothing behind the head is taken.
 
 ghost use Rattle.std.specs.Prelude.{◌≡◌, ◌≤◌, [], IfOk, IfErr, OnErr, OnOk, IsErrOf, None, vec_len, vec_capacity};
-ghost use Rattle.oc_outside.specs.Faults.{NoFall, Rose};
+ghost use Rattle.oc_io.specs.Faults.{NoFall, Rose};
 ghost use Rattle.oc_http.specs.Lines.{bytes_of, IsLineTaken, IsLineCut};
 
 use crate::fault::HttpFault;
 use oc_base::MAX_HEAD_BYTES;
-use oc_outside::{Failed, Source};
+use oc_io::{Failed, Source};
 
 /// The next byte of a source; `None` at its end.
 fn take_byte<S: Source>(source: &mut S) -> Result<Option<u8>, Failed>

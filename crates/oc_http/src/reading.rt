@@ -1,5 +1,5 @@
 ghost use Rattle.std.specs.Prelude.{◌≡◌, ℕ, List, ◌++◌, length, IfOk, IfErr, IsErrOf, vec_len};
-ghost use Rattle.oc_outside.specs.Faults.{NoFall, Rose};
+ghost use Rattle.oc_io.specs.Faults.{NoFall, Rose};
 ghost use Rattle.oc_http.specs.Taking.{Took, SaysRequest, RefusesRequest, RefusesBody, SaysReplyHead, RefusesReplyHead, SaysReply, RefusesReply};
 
 use crate::body::take_body;
@@ -7,7 +7,7 @@ use crate::fault::HttpFault;
 use crate::head::Head;
 use crate::head_reader::HeadReader;
 use crate::reply::{Reply, ReplyHead};
-use oc_outside::Source;
+use oc_io::Source;
 use std::alloc::Global;
 
 /// The head of a request (RFC 9112, sections 2 to 5). It is taken one byte at a time, and nothing behind

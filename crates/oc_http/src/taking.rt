@@ -2,7 +2,7 @@
 
 ghost use Rattle.std.specs.Prelude.{◌≡◌, ℕ, List, ◌≤◌, IfOk, IfErr, IsErrOf, length, vec_capacity};
 ghost use Rattle.httparse.specs.Grammar.{ReadsRequest, ReadsResponse};
-ghost use Rattle.oc_outside.specs.Faults.{NoFall, Rose};
+ghost use Rattle.oc_io.specs.Faults.{NoFall, Rose};
 ghost use Rattle.oc_http.specs.Lines.{IsRequestTaken, IsResponseTaken};
 ghost use Rattle.oc_http.specs.Taking.{Took, StopsInHead};
 
@@ -11,7 +11,7 @@ use crate::lines::take_line;
 use httparse::Status;
 use httparse::spans::{HeaderSpan, RequestSpans, ResponseSpans, parse_request, parse_response};
 use oc_base::MAX_HEAD_BYTES;
-use oc_outside::Source;
+use oc_io::Source;
 
 /// How many fields there is room for: more than `MAX_HEAD_BYTES` hold, since each takes three bytes.
 pub(crate) const FIELD_ROOM: usize = 2_731;

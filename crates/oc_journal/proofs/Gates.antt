@@ -5,8 +5,8 @@ use Rattle.std.specs.List.{All}
 use Rattle.std.proofs.lemmas.Bool.{cases_lt, le-ltb}
 use Rattle.std.proofs.lemmas.List.{append-nil, append_assoc, drop-drop, drop_more, get_or-take, get_or-drop, length-drop, length-take-le, map-append, take_all}
 use Rattle.std.proofs.Math.Seq.{take-add}
-use Rattle.oc_outside.specs.DiskView.{DiskView, StaysAsItWas}
-use Rattle.oc_outside.proofs.DiskMoments.{still_honest}
+use Rattle.oc_io.specs.DiskView.{DiskView, StaysAsItWas}
+use Rattle.oc_io.proofs.DiskMoments.{still_honest}
 use Rattle.oc_journal.specs.JournalFile.{magic, length_in, blocks, AreShort, IsNoJournal}
 use Rattle.oc_journal.specs.JournalView.{at_spot, at_spots}
 use Rattle.oc_journal.specs.Scanning.{IsScanned, IsFound, IsGate, IsBrokenAt}

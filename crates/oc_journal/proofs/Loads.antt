@@ -1,7 +1,7 @@
 -- What loading finds, and what a crash in its course leaves.
 use Rattle.std.proofs.Common.{◌≡◌, ℕ, Bool, false, IsTrue, List, sym, ◌∙◌, ap, subst, arith}
-use Rattle.oc_outside.specs.DiskView.{DiskView, IsSafe, StaysAsItWas, LeavesOnly, IsConsistent}
-use Rattle.oc_outside.proofs.DiskMoments.{LeavesOnly-then, LeavesOnly-weaker, LeavesOnly-now, GoesOn-then, still_honest}
+use Rattle.oc_io.specs.DiskView.{DiskView, IsSafe, StaysAsItWas, LeavesOnly, IsConsistent}
+use Rattle.oc_io.proofs.DiskMoments.{LeavesOnly-then, LeavesOnly-weaker, LeavesOnly-now, GoesOn-then, still_honest}
 use Rattle.oc_journal.specs.JournalFile.{frames_of, end_of, EndsAt, IsJournalOf, IsNoJournal}
 use Rattle.oc_journal.specs.JournalView.{at_spots, IsIndexed, IsLikeAnImage}
 use Rattle.oc_journal.specs.Promises.{LoadsSafely}

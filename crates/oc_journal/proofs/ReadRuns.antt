@@ -1,7 +1,7 @@
 -- Reads after reads, and after a load.
 use Rattle.std.proofs.Common.{IsTrue, refl, sym, ◌∙◌, arith}
-use Rattle.oc_outside.specs.DiskView.{DiskView, StaysAsItWas, IsConsistent}
-use Rattle.oc_outside.proofs.DiskMoments.{LeavesOnly-then, LeavesOnly-stays, LeavesOnly-now, StaysAsItWas-none, StaysAsItWas-then, GoesOn-then, still_honest, Fails-later}
+use Rattle.oc_io.specs.DiskView.{DiskView, StaysAsItWas, IsConsistent}
+use Rattle.oc_io.proofs.DiskMoments.{LeavesOnly-then, LeavesOnly-stays, LeavesOnly-now, StaysAsItWas-none, StaysAsItWas-then, GoesOn-then, still_honest, Fails-later}
 use Rattle.oc_journal.specs.JournalView.{JournalView, HasFrames, IsLikeAnImage}
 use Rattle.oc_journal.specs.Promises.{IsLoaded, LoadsSafely, OnlyReads, NoneFailed, ClosesByRead}
 

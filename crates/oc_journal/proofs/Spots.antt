@@ -2,7 +2,7 @@
 use Rattle.std.proofs.Common.{◌≡◌, ℕ, zero, suc, ◌+◌, ◌-◌, ◌<◌, ◌≤◌, Bool, false, IsTrue, List, [], ◌∷◌, ◌++◌, length, take, drop, refl, sym, ◌∙◌, ap, subst, arith}
 use Rattle.std.specs.List.{All}
 use Rattle.std.proofs.lemmas.List.{drop-take, take-take, map-append, drop-drop}
-use Rattle.oc_outside.specs.DiskView.{DiskView}
+use Rattle.oc_io.specs.DiskView.{DiskView}
 use Rattle.oc_journal.specs.JournalFile.{frames_of}
 use Rattle.oc_journal.specs.JournalView.{at_spot, at_spots, IsSettled, IsIndexed, HasFrames}
 use Rattle.oc_journal.specs.declared.spot.Spot.{Spot}

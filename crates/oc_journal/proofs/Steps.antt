@@ -3,7 +3,7 @@ use Rattle.std.proofs.Common.{◌≡◌, ◌≢◌, cond, Bool, inl, inr, ℕ, �
 use Rattle.std.proofs.lemmas.List.{append_assoc, take_at, drop_at, drop_all, drop_more}
 use Rattle.std.proofs.lemmas.Bool.{cases_eq, le-ltb}
 use Rattle.std.specs.Int.{w32, to_be_bytes}
-use Rattle.oc_outside.specs.DiskView.{Holds, IsTorn}
+use Rattle.oc_io.specs.DiskView.{Holds, IsTorn}
 use Rattle.oc_journal.specs.JournalFile.{magic, header, frames_of, frames_within, encoded, blocks, AreShort, EndsAt, IsBeforeOrAfter, IsAllOrNone}
 use Rattle.oc_journal.proofs.Blocks.{frames_of-ended, blocks-push, length-blocks_push, AreShort-push}
 

@@ -2,8 +2,8 @@
 use Rattle.std.proofs.Common.{◌≡◌, inl, ℕ, ◌+◌, ◌<◌, ◌≤◌, ◌^◌, List, [], ◌∷◌, ◌++◌, length, take, drop, sym, ◌∙◌, ap, subst, arith, Result, Ok, Err, OnOk}
 use Rattle.std.proofs.lemmas.List.{drop_all}
 use Rattle.oc_base.specs.declared.limits.TheConstants.{MAX_FRAME_BYTES}
-use Rattle.oc_outside.specs.DiskView.{DiskView, Holds, IsTorn, IsSafe, LeavesOnly, IsConsistent}
-use Rattle.oc_outside.proofs.DiskMoments.{LeavesOnly-now}
+use Rattle.oc_io.specs.DiskView.{DiskView, Holds, IsTorn, IsSafe, LeavesOnly, IsConsistent}
+use Rattle.oc_io.proofs.DiskMoments.{LeavesOnly-now}
 use Rattle.oc_journal.specs.JournalFile.{magic, header, frames_of, encoded, blocks, EndsAt, IsBeforeOrAfter, IsAllOrNone}
 use Rattle.oc_journal.specs.JournalView.{IsSettled, IsLikeAnImage}
 use Rattle.oc_journal.proofs.Blocks.{frames_of-ended}

@@ -1,7 +1,7 @@
 -- A journal on a disk: its frames and its index.
 use Rattle.std.specs.Prelude.{◌≡◌, ℕ, ◌+◌, ◌<◌, ◌≤◌, Bool, false, IsTrue, List, [], take, drop, map}
 use Rattle.std.specs.List.{All}
-use Rattle.oc_outside.specs.DiskView.{DiskView, IsSafe}
+use Rattle.oc_io.specs.DiskView.{DiskView, IsSafe}
 use Rattle.oc_journal.specs.JournalFile.{frames_of, end_of, EndsAt, IsJournalOf}
 use Rattle.oc_journal.specs.declared.spot.Spot.{Spot}
 

@@ -1,7 +1,7 @@
 -- What the calls of a journal promise.
 use Rattle.std.specs.Prelude.{◌≡◌, ℕ, ◌+◌, ◌<◌, ◌≤◌, false, true, IsTrue, List, [], ◌∷◌, ◌++◌, length}
 use Rattle.oc_base.specs.declared.limits.TheConstants.{MAX_JOURNAL_BYTES}
-use Rattle.oc_outside.specs.DiskView.{DiskView, GoesOn, StaysAsItWas, Takes, Fails, FailsToRead, HasNoFault, LeavesOnly}
+use Rattle.oc_io.specs.DiskView.{DiskView, GoesOn, StaysAsItWas, Takes, Fails, FailsToRead, HasNoFault, LeavesOnly}
 use Rattle.oc_journal.specs.JournalFile.{header, frames_of, IsNoJournal, IsBeforeOrAfter, IsAllOrNone}
 use Rattle.oc_journal.specs.JournalView.{JournalView, HasFrames, IsLikeAnImage}
 use Rattle.oc_journal.specs.declared.errors.LoadError.{LoadError}

@@ -2,7 +2,7 @@
 use Rattle.std.specs.Prelude.{◌≡◌, ◌≢◌, ℕ, ◌+◌, ◌<◌, ◌≤◌, false, IsTrue, List, [], ◌∷◌, ◌++◌, take, drop, get_or, Option, None, Some}
 use Rattle.std.specs.Int.{w32, to_be_bytes}
 use Rattle.std.specs.List.{All}
-use Rattle.oc_outside.specs.DiskView.{DiskView}
+use Rattle.oc_io.specs.DiskView.{DiskView}
 use Rattle.oc_journal.specs.JournalFile.{magic, blocks, is_whole, AreShort, EndsAt}
 use Rattle.oc_journal.specs.JournalView.{at_spots}
 use Rattle.oc_journal.specs.declared.spot.Spot.{Spot}

@@ -2,8 +2,8 @@
 use Rattle.std.specs.Prelude.{◌≡◌, ℕ, ◌+◌, ◌≤◌, List, [], ◌∷◌, ◌++◌, Option, None, Some, if◌then◌else◌}
 use Rattle.oc_base.specs.declared.limits.TheConstants.{MAX_JOURNAL_BYTES}
 use Rattle.oc_base.specs.Stops.{is_kept_new}
-use Rattle.oc_outside.specs.MemDiskView.{MemDiskView, refused, wrote}
-use Rattle.oc_outside.specs.declared.failures.Stop.{Stop}
+use Rattle.oc_io.specs.MemDiskView.{MemDiskView, refused, wrote}
+use Rattle.oc_io.specs.declared.failures.Stop.{Stop}
 use Rattle.oc_journal.specs.JournalView.{JournalView}
 
 -- An append of a body of n bytes can be stopped: no call of the disk is listed to fail, there is the room, and the file stays within its limit.

@@ -2,7 +2,7 @@ ghost use Rattle.std.specs.Prelude.{◌≡◌};
 ghost use Rattle.oc_journal.specs.declared.errors.LoadError.TheVariants.{Disk as LoadDisk, Memory as LoadMemory};
 ghost use Rattle.oc_journal.specs.declared.errors.FrameError.TheVariants.{Memory as FrameMemory};
 
-use oc_outside::Failed;
+use oc_io::Failed;
 use std::alloc::{AllocError, AllocFailed};
 
 /// Why a journal was not loaded.

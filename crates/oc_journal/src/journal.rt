@@ -1,6 +1,6 @@
 ghost use Rattle.std.specs.Prelude.{◌≡◌, ◌≢◌, ◌↔◌, ℕ, ◌+◌, ◌-◌, ◌<◌, ◌≤◌, [], true, false, length, min, take, drop, get_or, IsTrue, IsOk, IsErrOf, OnOk, OnErr, IfOk, IfErr};
-ghost use Rattle.oc_outside.specs.DiskView.{StaysAsItWas, CannotFail, FailsToRead, HasNoFault};
-ghost use Rattle.oc_outside.specs.MemDiskView.{disk_of};
+ghost use Rattle.oc_io.specs.DiskView.{StaysAsItWas, CannotFail, FailsToRead, HasNoFault};
+ghost use Rattle.oc_io.specs.MemDiskView.{disk_of};
 ghost use Rattle.oc_journal.specs.JournalFile.{frames_of, end_of, IsNoJournal};
 ghost use Rattle.oc_journal.specs.JournalView.{HasFrames, HoldsJournal};
 ghost use Rattle.oc_journal.specs.Promises.{IsLoaded, LoadsSafely, RefusesLoad, OnlyReads, NoneFailed, ClosesByRead, HasRoom, IsFullFor, Appends, AppendsSafely, ClosesByAppend, Restarts, RestartsSafely, ClosesByRestart};
@@ -13,7 +13,7 @@ use crate::safely::{FIRST_GATE, close_first_gate, write_frame};
 use crate::spot::Spot;
 use crate::stopped::write_until_stop;
 use oc_base::{MAX_JOURNAL_BYTES, Memory};
-use oc_outside::{Disk, Failed, MemDisk};
+use oc_io::{Disk, Failed, MemDisk};
 use std::alloc::Global;
 use std::marker::Model;
 

@@ -1,6 +1,6 @@
 ghost use Rattle.std.specs.Prelude.{◌≡◌, ◌≢◌, ℕ, ◌+◌, ◌<◌, ◌≤◌, false, length, take, drop, IsTrue, IsErrOf, IfOk, IfSome, OnOk, OnErr};
 ghost use Rattle.std.specs.Int.{w32, to_be_bytes};
-ghost use Rattle.oc_outside.specs.DiskView.{IsSafe, StaysAsItWas, FailsToRead, HasNoFault};
+ghost use Rattle.oc_io.specs.DiskView.{IsSafe, StaysAsItWas, FailsToRead, HasNoFault};
 ghost use Rattle.oc_journal.specs.JournalFile.{magic, header, frames_of, IsNoJournal};
 ghost use Rattle.oc_journal.specs.JournalView.{at_spots, IsIndexed};
 ghost use Rattle.oc_journal.specs.Promises.{LoadsSafely};
@@ -9,7 +9,7 @@ ghost use Rattle.oc_journal.specs.Scanning.{IsFound, IsGate, IsBrokenAt};
 use crate::errors::LoadError;
 use crate::safely::{FIRST_GATE, write_header};
 use crate::spot::Spot;
-use oc_outside::{Disk, Failed};
+use oc_io::{Disk, Failed};
 use std::alloc::Global;
 
 /// What every journal file begins with.

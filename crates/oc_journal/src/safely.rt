@@ -1,10 +1,10 @@
 ghost use Rattle.std.specs.Prelude.{◌≡◌, ℕ, ◌+◌, ◌^◌, ◌<◌, ◌≤◌, [], ◌∷◌, ◌++◌, max, IsTrue, length, take, drop, OnOk, OnErr};
-ghost use Rattle.oc_outside.specs.DiskView.{Holds, IsTorn, IsSafe, Takes, Fails, HasNoFault, LeavesOnly};
+ghost use Rattle.oc_io.specs.DiskView.{Holds, IsTorn, IsSafe, Takes, Fails, HasNoFault, LeavesOnly};
 ghost use Rattle.oc_journal.specs.JournalFile.{header, frames_of, IsBeforeOrAfter, IsAllOrNone};
 ghost use Rattle.oc_journal.specs.JournalView.{IsSettled, IsLikeAnImage};
 
 use crate::frame::Frame;
-use oc_outside::{Disk, Failed};
+use oc_io::{Disk, Failed};
 
 /// The file of a journal without frames: the magic and a closed gate.
 pub const HEADER: [u8; 9] = *b"OVERCST1\0";

@@ -1,11 +1,11 @@
 ghost use Rattle.std.specs.Prelude.{◌≡◌, ℕ, ◌+◌, ◌^◌, ◌<◌, ◌≤◌, [], ◌∷◌, false, length, IsSome, OnOk, OnErr};
-ghost use Rattle.oc_outside.specs.MemDiskView.{disk_of, view_of, wrote, synced};
+ghost use Rattle.oc_io.specs.MemDiskView.{disk_of, view_of, wrote, synced};
 ghost use Rattle.oc_journal.specs.JournalFile.{frames_of, IsJournalOf};
 ghost use Rattle.oc_journal.specs.JournalView.{IsSettled};
 ghost use Rattle.oc_journal.specs.Stopped.{IsCut, frames_after, left_of, image_of};
 
 use crate::frame::Frame;
-use oc_outside::{Disk, Failed, MemDisk};
+use oc_io::{Disk, Failed, MemDisk};
 
 /// Writes a frame behind the frames, which end at that offset, and opens the gate before it, by the
 /// calls of `append`; stops where the disk does, and crashes.

@@ -23,8 +23,8 @@ use Rattle.oc_node.specs.Applying.{CanApply}
 use Rattle.oc_node.specs.NodeView.{IsReached, NodeView}
 use Rattle.oc_node.specs.Planned.{PlanView, control_after}
 use Rattle.oc_node.proofs.Reaching.{reached_kept}
-use Rattle.oc_outside.specs.DiskView.{DiskView, GoesOn}
-use Rattle.oc_outside.proofs.DiskMoments.{StaysAsItWas-none}
+use Rattle.oc_io.specs.DiskView.{DiskView, GoesOn}
+use Rattle.oc_io.proofs.DiskMoments.{StaysAsItWas-none}
 use Rattle.oc_record.specs.Spelling.{records_bytes}
 use Rattle.oc_store.specs.ControlFiles.{at_side, begun_generation, first_bad, generation_in, records_in, records_of, recovered_frames}
 use Rattle.oc_store.specs.declared.errors.Side.{Side}

@@ -12,8 +12,8 @@ use Rattle.oc_model.specs.declared.input.Input.{Input}
 use Rattle.oc_model.specs.declared.record.Record.{Record}
 use Rattle.oc_model.specs.Lawful.{AreRecords}
 use Rattle.oc_model.specs.Step.{plan}
-use Rattle.oc_outside.specs.DiskView.{DiskView}
-use Rattle.oc_outside.specs.MemDiskView.{MemDiskView, disk_of, view_of}
+use Rattle.oc_io.specs.DiskView.{DiskView}
+use Rattle.oc_io.specs.MemDiskView.{MemDiskView, disk_of, view_of}
 use Rattle.oc_record.specs.Spelling.{records_bytes}
 use Rattle.oc_store.specs.ControlFiles.{IsGood, at_side, first_bad, recovered_frames}
 use Rattle.oc_store.specs.declared.errors.Side.{Side}

@@ -9,8 +9,8 @@ use Rattle.oc_journal.specs.JournalView.{IsLikeAnImage}
 use Rattle.oc_journal.specs.Promises as journals
 use Rattle.oc_model.specs.Node.{Header, new_durable, started_with}
 use Rattle.oc_model.specs.Records.{folded}
-use Rattle.oc_outside.specs.DiskView.{DiskView, IsConsistent}
-use Rattle.oc_outside.proofs.DiskMoments.{LeavesOnly-start, StaysAsItWas-none}
+use Rattle.oc_io.specs.DiskView.{DiskView, IsConsistent}
+use Rattle.oc_io.proofs.DiskMoments.{LeavesOnly-start, StaysAsItWas-none}
 use Rattle.oc_store.specs.ControlFiles.{current_frames, records_of}
 use Rattle.oc_store.specs.declared.errors.Side.TheVariants.{First, Second}
 use Rattle.oc_store.specs.declared.errors.StoreError.{StoreError}

@@ -14,9 +14,9 @@ use Rattle.oc_model.specs.Records.{folded}
 use Rattle.oc_model.specs.Snapshot.{snapshot}
 use Rattle.oc_node.specs.NodeView.{IsReached}
 use Rattle.oc_node.proofs.LawfulSnapshots.{lawful_snapshot}
-use Rattle.oc_outside.specs.DiskView.{DiskView, GoesOn, StaysAsItWas}
-use Rattle.oc_outside.specs.Faults.{Rose}
-use Rattle.oc_outside.proofs.DiskMoments.{GoesOn-then, StaysAsItWas-none, still_honest}
+use Rattle.oc_io.specs.DiskView.{DiskView, GoesOn, StaysAsItWas}
+use Rattle.oc_io.specs.Faults.{Rose}
+use Rattle.oc_io.proofs.DiskMoments.{GoesOn-then, StaysAsItWas-none, still_honest}
 use Rattle.oc_record.specs.Spelling.{records_bytes}
 use Rattle.oc_store.specs.ControlFiles.{at_side, first_bad, generation_in, records_of}
 use Rattle.oc_store.specs.declared.errors.Side.{Side}

@@ -7,9 +7,9 @@ use Rattle.oc_model.specs.declared.input.Input.{Input}
 use Rattle.oc_model.specs.Lawful.{IsInput}
 use Rattle.oc_model.specs.Node.{Control, Header, Node}
 use Rattle.oc_model.specs.Step.{plan, step}
-use Rattle.oc_outside.specs.DiskView.{DiskView}
-use Rattle.oc_outside.proofs.Counts.{Rose-after}
-use Rattle.oc_outside.proofs.DiskMoments.{GoesOn-then, still_reliable}
+use Rattle.oc_io.specs.DiskView.{DiskView}
+use Rattle.oc_io.proofs.Counts.{Rose-after}
+use Rattle.oc_io.proofs.DiskMoments.{GoesOn-then, still_reliable}
 use Rattle.oc_keep.specs.declared.errors.KeepError.{KeepError}
 use Rattle.oc_keep.specs.declared.errors.KeepError.TheVariants as keeps
 use Rattle.oc_keep.specs.Files.{Disks, AllGoOn, AreHonest, AreReliable, Leaves, OneRose, SameAsEither, SameDurable, Survives}

@@ -1,6 +1,6 @@
 -- What is said of the current control file and the other one, said of the first and the second.
 use Rattle.std.proofs.Common.{IsTrue}
-use Rattle.oc_outside.specs.DiskView.{DiskView}
+use Rattle.oc_io.specs.DiskView.{DiskView}
 use Rattle.oc_store.specs.ControlFiles.{at_side}
 use Rattle.oc_store.specs.declared.errors.Side.{Side}
 use Rattle.oc_store.specs.declared.errors.Side.TheVariants.{First, Second}

@@ -1,7 +1,7 @@
 -- Calls that wrote nothing to the disks of a node.
 use Rattle.std.proofs.Common.{◌≡◌, ℕ, false, IsTrue, Bool, List, refl, sym, ap, subst, ◌∙◌, ⊎_elim, arith}
-use Rattle.oc_outside.specs.DiskView.{DiskView, GoesOn, StaysAsItWas, IsConsistent}
-use Rattle.oc_outside.proofs.DiskMoments.{StaysAsItWas-none, still_honest}
+use Rattle.oc_io.specs.DiskView.{DiskView, GoesOn, StaysAsItWas, IsConsistent}
+use Rattle.oc_io.proofs.DiskMoments.{StaysAsItWas-none, still_honest}
 use Rattle.oc_journal.specs.JournalView.{JournalView}
 use Rattle.oc_journal.specs.Promises.{OnlyReads}
 use Rattle.oc_journal.proofs.ReadRuns.{HasFrames-reads, OnlyReads-none}

@@ -34,7 +34,7 @@ use Rattle.oc_model.specs.Step.{Piece, filled, finished, kept_at, piece_of, plan
 use Rattle.oc_node.specs.Applying.{CanApply}
 use Rattle.oc_node.specs.NodeView.{NodeView}
 use Rattle.oc_node.specs.Planned.{PlanView, control_after, planned}
-use Rattle.oc_outside.specs.DiskView.{DiskView, IsReliable}
+use Rattle.oc_io.specs.DiskView.{DiskView, IsReliable}
 use Rattle.oc_record.specs.Spelling.{records_bytes}
 use Rattle.oc_store.specs.ControlFiles.{begun_generation}
 use Rattle.oc_store.specs.StoreView.{StoreView}

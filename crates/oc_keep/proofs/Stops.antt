@@ -9,7 +9,7 @@ use Rattle.oc_model.specs.Lawful.{AreRecords}
 use Rattle.oc_model.specs.Node.{Control, new_durable}
 use Rattle.oc_model.specs.Records.{folded}
 use Rattle.oc_node.specs.Planned.{PlanView}
-use Rattle.oc_outside.specs.MemDiskView.{MemDiskView, disk_of, view_of}
+use Rattle.oc_io.specs.MemDiskView.{MemDiskView, disk_of, view_of}
 use Rattle.oc_record.specs.Spelling.{records_bytes}
 use Rattle.oc_store.specs.ControlFiles.{at_side, records_of, recovered_frames}
 use Rattle.oc_store.specs.declared.errors.Side.{Side}

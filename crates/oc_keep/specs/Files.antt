@@ -4,8 +4,8 @@ use Rattle.oc_content.specs.ContentFile.{groups_in}
 use Rattle.oc_journal.specs.JournalFile.{frames_of}
 use Rattle.oc_model.specs.Node.{Header, Node, new_durable, started_with}
 use Rattle.oc_model.specs.Records.{folded}
-use Rattle.oc_outside.specs.DiskView.{DiskView, GoesOn}
-use Rattle.oc_outside.specs.Faults.{Rose}
+use Rattle.oc_io.specs.DiskView.{DiskView, GoesOn}
+use Rattle.oc_io.specs.Faults.{Rose}
 use Rattle.oc_store.specs.ControlFiles.{recovered as recovered_records}
 
 -- the disks of a node's three files

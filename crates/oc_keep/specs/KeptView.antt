@@ -16,7 +16,7 @@ use Rattle.oc_model.specs.Records.{folded}
 use Rattle.oc_model.specs.Snapshot.{snapshot}
 use Rattle.oc_model.specs.Step.{piece_of, plan}
 use Rattle.oc_node.specs.NodeView.{IsReached, NodeView}
-use Rattle.oc_outside.specs.DiskView.{DiskView}
+use Rattle.oc_io.specs.DiskView.{DiskView}
 use Rattle.oc_record.specs.Spelling.{records_bytes}
 use Rattle.oc_store.specs.ControlFiles.{records_of, recovered_frames}
 use Rattle.oc_store.specs.StoreView.{StoreView, first_disk, second_disk, AreGood, Recovers}

@@ -7,7 +7,7 @@ use Rattle.oc_model.specs.Node.{Control, Header}
 use Rattle.oc_model.specs.Snapshot.{snapshot}
 use Rattle.oc_record.specs.Spelling.{records_bytes}
 use Rattle.oc_store.specs.Sides.{opposite}
-use Rattle.oc_outside.specs.DiskView.{DiskView, FailsToRead}
+use Rattle.oc_io.specs.DiskView.{DiskView, FailsToRead}
 use Rattle.oc_store.specs.ControlFiles.{IsGood, IsBadAt}
 use Rattle.oc_store.specs.Promises.{HasGood}
 use Rattle.oc_keep.specs.declared.errors.KeepLoad.{KeepLoad}

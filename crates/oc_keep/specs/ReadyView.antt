@@ -7,8 +7,8 @@ use Rattle.oc_model.specs.Node.{Node, Outcome}
 use Rattle.oc_node.specs.Applying.{CanApply}
 use Rattle.oc_node.specs.OutcomeView.{OutcomeView}
 use Rattle.oc_node.specs.Planned.{PlanView, control_after}
-use Rattle.oc_outside.specs.DiskView.{DiskView}
-use Rattle.oc_outside.specs.MemDiskView.{MemDiskView, disk_of}
+use Rattle.oc_io.specs.DiskView.{DiskView}
+use Rattle.oc_io.specs.MemDiskView.{MemDiskView, disk_of}
 use Rattle.oc_record.specs.Spelling.{records_bytes}
 use Rattle.oc_store.specs.ControlFiles.{begun_generation}
 use Rattle.oc_keep.specs.declared.ready.Write.{Write}

@@ -4,8 +4,8 @@ use Rattle.oc_base.specs.declared.limits.TheConstants.{MAX_BASE_ACKED, MAX_FRAME
 use Rattle.oc_model.specs.declared.record.Record.{Record}
 use Rattle.oc_model.specs.Node.{Durable}
 use Rattle.oc_model.specs.Snapshot.{snapshot}
-use Rattle.oc_outside.specs.DiskView.{DiskView, GoesOn}
-use Rattle.oc_outside.specs.Faults.{Rose}
+use Rattle.oc_io.specs.DiskView.{DiskView, GoesOn}
+use Rattle.oc_io.specs.Faults.{Rose}
 use Rattle.oc_record.specs.Spelling.{records_bytes}
 use Rattle.oc_store.specs.Sides.{opposite}
 use Rattle.oc_store.specs.StoreView.{StoreView, first_disk, second_disk, AreHonest, Recovers, RecoversEither}

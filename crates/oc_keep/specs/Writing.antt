@@ -10,7 +10,7 @@ use Rattle.oc_journal.specs.Promises.{OnlyReads, AppendsSafely, IsFullFor}
 use Rattle.oc_model.specs.declared.want.Want.{Want}
 use Rattle.oc_model.specs.Step.{Piece, bytes_wanted}
 use Rattle.oc_node.specs.Planned.{PlanView, filled_with}
-use Rattle.oc_outside.specs.DiskView.{DiskView, CannotFail}
+use Rattle.oc_io.specs.DiskView.{DiskView, CannotFail}
 use Rattle.oc_record.specs.Spelling.{records_bytes}
 use Rattle.oc_store.specs.Promises.{Commits, CommitsSafely, ClosesByCommit}
 use Rattle.oc_store.specs.StoreView.{StoreView}

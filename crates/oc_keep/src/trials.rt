@@ -11,8 +11,8 @@ ghost use Rattle.oc_model.specs.Lawful.{IsHeader, IsInput};
 use crate::ended::{Trial, TrialEnd};
 use crate::kept::Kept;
 use oc_base::NodeId;
+use oc_io::Disk;
 use oc_model::Input;
-use oc_outside::Disk;
 use std::alloc::Global;
 
 /// Loads a node, takes inputs in order up to the first that is refused, and hands the disks back.

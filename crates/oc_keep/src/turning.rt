@@ -11,8 +11,8 @@ ghost use Rattle.oc_keep.specs.Writing.{KeepsStore};
 
 use crate::errors::TidyError;
 use oc_base::{MAX_BASE_ACKED, MAX_FRAME_RECORDS, Memory};
+use oc_io::Disk;
 use oc_node::Node;
-use oc_outside::Disk;
 use oc_record::{Record, spellings_are_read};
 use oc_store::{RestartError, Store};
 

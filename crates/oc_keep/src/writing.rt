@@ -17,9 +17,9 @@ use crate::errors::CommitError;
 use crate::ready::Write;
 use oc_base::{GroupName, Memory};
 use oc_content::{Content, Piece, PutError};
+use oc_io::Disk;
 use oc_model::{Body, Input};
 use oc_node::Plan;
-use oc_outside::Disk;
 use oc_store::{AppendError, Store};
 use std::alloc::Global;
 

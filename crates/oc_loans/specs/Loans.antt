@@ -1,6 +1,6 @@
 -- What is seen of a disk that is lent.
 use Rattle.std.specs.Prelude.{ℕ, ◌∷◌, IsTrue}
-use Rattle.oc_outside.specs.DiskView.{DiskView, IsConsistent, IsReliable}
+use Rattle.oc_io.specs.DiskView.{DiskView, IsConsistent, IsReliable}
 use Rattle.oc_loans.specs.declared.loan.Loan.{Loan}
 use Rattle.oc_loans.specs.declared.loan.Loan.TheVariants.{First, Second, Third}
 

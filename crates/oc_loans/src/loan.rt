@@ -1,4 +1,4 @@
-use oc_outside::{Disk, Failed};
+use oc_io::{Disk, Failed};
 use std::alloc::AllocError;
 
 /// One of three disks that are lent.

@@ -1,13 +1,3 @@
-pub mod Faults
-pub mod Tally
-pub mod SourceView
-pub mod SinkView
-pub mod DiskView
-pub mod DiskPast
-pub mod Failing
-pub mod MemDiskView
-pub mod DiskLog
-pub mod DiskLogView
 pub mod Story
 pub mod Exchange
 pub mod LinkCalls

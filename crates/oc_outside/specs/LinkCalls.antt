@@ -1,9 +1,9 @@
 -- What each call does to the story of a link, where it is told, and to its counts of faults.
 use Rattle.std.specs.Prelude.{◌≡◌, ℕ, true, Option, None, Some, Result, Ok, Err, List, [], ◌∷◌, ◌++◌}
 use Rattle.std.specs.Option.{option_map}
-use Rattle.oc_outside.specs.Faults.{NoFall}
+use Rattle.oc_io.specs.Faults.{NoFall}
 use Rattle.oc_outside.specs.Story.{Connection, Dial, Story, dials, unused, wrote, closed, hung_up}
-use Rattle.oc_outside.specs.declared.fault.Failed.{Failed}
+use Rattle.oc_io.specs.declared.fault.Failed.{Failed}
 use Rattle.oc_outside.specs.declared.link.Arrival.{Arrival}
 use Rattle.oc_outside.specs.declared.link.Arrival.TheVariants.{Conn, Quiet}
 

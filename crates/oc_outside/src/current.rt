@@ -4,10 +4,8 @@ ghost use Rattle.oc_outside.specs.LinkCalls.{IfTold};
 ghost use Rattle.oc_outside.specs.LinkLoan.{Talks, Talks-hears-nothing, Talks-hears-then, Talks-hears-fails, Talks-says-nothing, Talks-says-then, Talks-says-fails};
 ghost use Rattle.oc_outside.specs.Story.{IsReadOut};
 
-use crate::fault::Failed;
 use crate::link::Link;
-use crate::sink::Sink;
-use crate::source::Source;
+use oc_io::{Failed, Sink, Source};
 
 /// The current connection of a link that is lent: a source of what comes on it, and a sink of what
 /// goes.

@@ -4,7 +4,7 @@ ghost use Rattle.oc_outside.specs.DialsView.{DialsView, all_dials, over, with_fa
 ghost use Rattle.oc_outside.specs.LinkCalls.{connection_of};
 ghost use Rattle.oc_outside.specs.Story.{broken, wrote, unused, through};
 ghost use Rattle.oc_outside.specs.TalksView.{further, left_of};
-ghost use Rattle.oc_outside.specs.Tally.{counted};
+ghost use Rattle.oc_io.specs.Tally.{counted};
 
 use crate::rows::Rows;
 use crate::talks::Talks;

@@ -1,11 +1,11 @@
 ghost use Rattle.std.specs.Prelude.{◌≡◌, ◌<◌, ◌≤◌, Option, length, take, IfOk, OnErr, OnOk};
 ghost use Rattle.std.specs.Option.{option_map};
 ghost use Rattle.oc_outside.specs.Exchange.{Hears, Says, Breaks, SaysFrontThenBreaks};
-ghost use Rattle.oc_outside.specs.Faults.{Rose};
+ghost use Rattle.oc_io.specs.Faults.{Rose};
 ghost use Rattle.oc_outside.specs.LinkCalls.{LinkFaults, CountsListening, CountsTalking, CountsDialling, Told, IfTold, NextGives, OnCurrent, OnOutgoing, DialsTo, DialFails};
 ghost use Rattle.oc_outside.specs.Story.{Story, closed, hung_up, IsReadOut, IsHeardOut};
 
-use crate::fault::Failed;
+use oc_io::Failed;
 
 /// What `next` found.
 #[derive(Clone, Copy, Debug, PartialEq, Eq)]

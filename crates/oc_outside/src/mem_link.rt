@@ -1,19 +1,18 @@
 ghost use Rattle.std.specs.Prelude.{◌≡◌, ◌+◌, ◌-◌, ◌<◌, ◌≤◌, ◌⊎◌, ◌↔◌, [], Option, None, Ok, length, min, take, map, IfOk, OnOk, OnErr, IsTrue, slice_get};
 ghost use Rattle.std.specs.Option.{option_copied, option_map};
 ghost use Rattle.oc_outside.specs.Exchange.{Hears, Says, Breaks, SaysFrontThenBreaks};
-ghost use Rattle.oc_outside.specs.Faults.{Rose};
+ghost use Rattle.oc_io.specs.Faults.{Rose};
 ghost use Rattle.oc_outside.specs.LinkCalls.{CountsListening, CountsTalking, CountsDialling, Told, IfTold, NextGives, OnCurrent, OnOutgoing, DialsTo, DialFails, connection_of};
 ghost use Rattle.oc_outside.specs.MemLinkView.{MemLinkView, CountsDials, link_of, told, passed, listen_failed, talk_failed, dial_call_failed, dial_failed, took_next, after_read, after_write, after_dial, after_dial_more, after_dial_read};
 ghost use Rattle.oc_outside.specs.Story.{broken, through, closed, hung_up, taken, dials, IsReadOut, IsHeardOut};
 ghost use Rattle.oc_outside.specs.TalksView.{left_of};
-ghost use Rattle.oc_outside.specs.Tally.{counted, IsListed};
+ghost use Rattle.oc_io.specs.Tally.{counted, IsListed};
 ghost use Rattle.oc_outside.specs.declared.link.Arrival.TheVariants.{Conn, Quiet};
 
-use crate::call_tally::CallTally;
 use crate::dials::Dials;
-use crate::fault::Failed;
 use crate::link::{Arrival, Link};
 use crate::talks::Talks;
+use oc_io::{CallTally, Failed};
 use std::alloc::{AllocError, Global};
 use std::marker::Model;
 

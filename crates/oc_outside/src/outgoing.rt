@@ -4,9 +4,8 @@ ghost use Rattle.oc_outside.specs.LinkCalls.{IfTold};
 ghost use Rattle.oc_outside.specs.LinkLoan.{Dials, Dials-hears-nothing, Dials-hears-then, Dials-hears-fails};
 ghost use Rattle.oc_outside.specs.Story.{IsHeardOut};
 
-use crate::fault::Failed;
 use crate::link::Link;
-use crate::source::Source;
+use oc_io::{Failed, Source};
 
 /// The outgoing connection of a link that is lent: a source of what comes back on it.
 #[derive(Drop)]

@@ -3,7 +3,7 @@
 ghost use Rattle.std.specs.Prelude.{◌↔◌, ℕ, List, ◌++◌, IfOk, IfErr, IsErrOf, IsTrue};
 ghost use Rattle.oc_http.specs.Taking.{SaysReply, RefusesReply};
 ghost use Rattle.oc_outside.specs.Exchange.{Hears};
-ghost use Rattle.oc_outside.specs.Faults.{Rose};
+ghost use Rattle.oc_io.specs.Faults.{Rose};
 ghost use Rattle.oc_outside.specs.LinkCalls.{CountsDialling, IfTold, OnOutgoing, Told};
 ghost use Rattle.oc_outside.specs.Story.{IsHeardOut};
 ghost use Rattle.oc_probe.specs.Probes.{HearsUntil, IsAnswer};

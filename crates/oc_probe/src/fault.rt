@@ -4,7 +4,7 @@ ghost use Rattle.oc_probe.specs.declared.fault.ProbeFault.TheVariants.{Link as L
 
 use oc_base::Memory;
 use oc_http::HttpFault;
-use oc_outside::Failed;
+use oc_io::Failed;
 use std::error::Error;
 use std::fmt;
 

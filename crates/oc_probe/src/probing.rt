@@ -1,7 +1,7 @@
 //! The timed download.
 
 ghost use Rattle.std.specs.Prelude.{◌≡◌, IsErrOf};
-ghost use Rattle.oc_outside.specs.Faults.{Rose};
+ghost use Rattle.oc_io.specs.Faults.{Rose};
 ghost use Rattle.oc_outside.specs.LinkCalls.{CountsDialling};
 ghost use Rattle.oc_probe.specs.Probes.{Probed, Timed};
 

@@ -6,8 +6,8 @@ use Rattle.oc_fetch.specs.declared.end.GetEnd.{GetEnd}
 use Rattle.oc_fetch.specs.declared.end.GetEnd.TheVariants as gets
 use Rattle.oc_keep.specs.Files.{Disks, AreHonest, OneRose}
 use Rattle.oc_keep.specs.Promises.{HoldFiles}
-use Rattle.oc_outside.specs.DiskView.{DiskView}
-use Rattle.oc_outside.specs.Faults.{Rose}
+use Rattle.oc_io.specs.DiskView.{DiskView}
+use Rattle.oc_io.specs.Faults.{Rose}
 use Rattle.oc_outside.specs.LinkCalls.{LinkFaults, Told}
 use Rattle.oc_outside.specs.Story.{Story}
 use Rattle.oc_words.specs.declared.request.Download.{Download}

@@ -6,7 +6,7 @@ use Rattle.oc_fetch.specs.Passing.{IsTalked, Sent}
 use Rattle.oc_fetch.specs.Turns.{Turn}
 use Rattle.oc_fetch.specs.declared.end.GetEnd.{GetEnd}
 use Rattle.oc_fetch.specs.declared.end.GetEnd.TheVariants as gets
-use Rattle.oc_outside.specs.Faults.{Rose}
+use Rattle.oc_io.specs.Faults.{Rose}
 use Rattle.oc_outside.specs.LinkCalls.{LinkFaults}
 use Rattle.oc_outside.specs.Story.{Story}
 use Rattle.oc_words.specs.declared.request.Download.{Download}

@@ -2,7 +2,7 @@
 use Rattle.std.proofs.Common.{◌≡◌, ℕ, List, [], length, subst, sym}
 use Rattle.oc_config.specs.Settings.{Settings}
 use Rattle.oc_keep.specs.Files.{Disks}
-use Rattle.oc_outside.specs.DiskView.{DiskView}
+use Rattle.oc_io.specs.DiskView.{DiskView}
 use Rattle.oc_service.specs.OnFiles.{NodeEnds}
 use Rattle.oc_service.specs.declared.starting.NodeEnd.{NodeEnd}
 use Rattle.oc_service.specs.declared.starting.NodeEnd.TheVariants as nodes

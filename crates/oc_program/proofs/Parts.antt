@@ -4,7 +4,7 @@ use Rattle.std.specs.Borrow.{Bor}
 use Rattle.std.proofs.lemmas.List.{take_more, take-append-le, take-append-drop, get_or_default}
 use Rattle.std.proofs.Math.Seq.{drop-cons, take-append-add}
 use Rattle.std.specs.Prelude.{Result, Ok, Err, OnOk, OnErr}
-use Rattle.oc_outside.specs.Faults.{Rose}
+use Rattle.oc_io.specs.Faults.{Rose}
 use Rattle.oc_program.specs.Run.{joined, IsWrittenOrCut}
 
 joined-append : (xs ys : List (Bor (List ℕ))) → joined (xs ++ ys) ≡ joined xs ++ joined ys

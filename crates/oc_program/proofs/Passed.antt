@@ -9,7 +9,7 @@ use Rattle.oc_adapters.specs.declared.reader_source.ReaderSource.{ReaderSource}
 use Rattle.oc_adapters.specs.declared.traffic.Traffic.{Traffic}
 use Rattle.oc_adapters.specs.declared.writer_sink.WriterSink.{WriterSink}
 use Rattle.oc_base.specs.declared.limits.TheConstants.{MAX_SCHEDULE_BYTES}
-use Rattle.oc_outside.specs.Faults.{Rose}
+use Rattle.oc_io.specs.Faults.{Rose}
 use Rattle.oc_replay.specs.Replay.{IsInput, PassesLimit}
 use Rattle.oc_schedule.specs.Schedule.{read_lines, schedule_of}
 use Rattle.oc_schedule.specs.Script.{Script}

@@ -8,7 +8,7 @@ use Rattle.oc_model.specs.Node.{Header}
 use Rattle.oc_model.specs.World.{World}
 use Rattle.oc_model.specs.declared.event.Event.{Event}
 use Rattle.oc_model.specs.declared.word.Word.{Word}
-use Rattle.oc_outside.specs.Faults.{Rose}
+use Rattle.oc_io.specs.Faults.{Rose}
 use Rattle.oc_replay.specs.Ends.{IfLimit, IfText, OnDone, OnMemory, OnRefusal, OnSink, OnSource}
 use Rattle.oc_replay.specs.Replay.{IsInput, PassesLimit, output_text, world_at}
 use Rattle.oc_replay.specs.Report.{SomeFront}

@@ -13,8 +13,8 @@ use Rattle.oc_model.specs.Node.{Header}
 use Rattle.oc_model.specs.World.{World}
 use Rattle.oc_model.specs.declared.event.Event.{Event}
 use Rattle.oc_model.specs.declared.word.Word.{Word}
-use Rattle.oc_outside.specs.DiskView.{DiskView}
-use Rattle.oc_outside.specs.Faults.{Rose}
+use Rattle.oc_io.specs.DiskView.{DiskView}
+use Rattle.oc_io.specs.Faults.{Rose}
 use Rattle.oc_outside.specs.LinkCalls.{LinkFaults, Told}
 use Rattle.oc_outside.specs.Story.{Story}
 use Rattle.oc_replay.specs.Replay.{IsInput, PassesLimit, output_text, world_at}

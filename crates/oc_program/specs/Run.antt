@@ -1,7 +1,7 @@
 -- What had happened outside at each end of a run.
 use Rattle.std.specs.Prelude.{◌≡◌, ℕ, ◌<◌, ◌⊎◌, Bool, List, [], ◌∷◌, ◌++◌, length, Option, Some, None, ⊤}
 use Rattle.std.specs.Borrow.{Bor}
-use Rattle.oc_outside.specs.Faults.{Rose}
+use Rattle.oc_io.specs.Faults.{Rose}
 use Rattle.oc_replay.specs.Report.{SomeFront}
 use Rattle.oc_words.specs.declared.request.Download.{Download}
 use Rattle.oc_words.specs.declared.request.Member.{Member}

@@ -1,14 +1,14 @@
 //! The command `check`, which shows what the files of a node recover.
 ghost use Rattle.oc_keep.specs.Files.{disks};
-ghost use Rattle.oc_outside.specs.Faults.{NoFall};
+ghost use Rattle.oc_io.specs.Faults.{NoFall};
 ghost use Rattle.oc_program.specs.AtCheck.{HappenedAtCheck};
 ghost use Rattle.oc_program.specs.Outside.{at_files, at_sink};
 ghost use Rattle.oc_words.specs.Requests.{IsMember};
 
 use oc_base::NodeId;
 use oc_check::recovered_text;
+use oc_io::{Disk, Sink, write_all};
 use oc_keep::KeepLoad;
-use oc_outside::{Disk, Sink, write_all};
 use oc_words::Member;
 use std::alloc::Global;
 

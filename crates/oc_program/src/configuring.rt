@@ -2,13 +2,13 @@
 
 ghost use Rattle.std.specs.Prelude.{IfOk};
 ghost use Rattle.oc_config.specs.Reading.{IsConfig};
-ghost use Rattle.oc_outside.specs.Faults.{NoFall};
+ghost use Rattle.oc_io.specs.Faults.{NoFall};
 ghost use Rattle.oc_program.specs.AtConfig.{GivesConfig, ReadsConfig};
 ghost use Rattle.oc_program.specs.Outside.{at_source};
 
 use oc_base::MAX_SCHEDULE_BYTES;
 use oc_config::{Config, ConfigFault, read};
-use oc_outside::{ReadFault, Source, read_all};
+use oc_io::{ReadFault, Source, read_all};
 use std::alloc::Global;
 
 /// Why there is no configuration.

@@ -1,13 +1,13 @@
 //! The command `gen`, which writes the schedule that follows from a seed.
 ghost use Rattle.std.specs.Prelude.{◌≡◌, IfOk};
-ghost use Rattle.oc_outside.specs.Faults.{NoFall};
+ghost use Rattle.oc_io.specs.Faults.{NoFall};
 ghost use Rattle.oc_program.specs.AtGen.{HappenedAtGen};
 ghost use Rattle.oc_program.specs.Outside.{at_sink};
 ghost use Rattle.oc_program.specs.AtGen.{sample_text};
 ghost use Rattle.oc_words.specs.Requests.{IsSample};
 
 use oc_base::Memory;
-use oc_outside::{Sink, write_all};
+use oc_io::{Sink, write_all};
 use oc_schedule::{generate, print};
 use oc_words::Sample;
 use std::alloc::Global;

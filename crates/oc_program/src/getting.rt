@@ -1,11 +1,12 @@
 //! The command `get`, which downloads.
 ghost use Rattle.std.specs.Option.{ForSome};
-ghost use Rattle.oc_outside.specs.Faults.{NoFall};
+ghost use Rattle.oc_io.specs.Faults.{NoFall};
 ghost use Rattle.oc_program.specs.AtGet.{HappenedAtGet};
 ghost use Rattle.oc_program.specs.Outside.{at_link, at_sink};
 
 use oc_fetch::{GetEnd, follow, get};
-use oc_outside::{Link, Sink};
+use oc_io::Sink;
+use oc_outside::Link;
 use oc_words::Download;
 use std::alloc::Global;
 

@@ -1,10 +1,10 @@
 //! The answer to `--help`.
 ghost use Rattle.std.specs.Prelude.{◌≡◌, ℕ, ◌<◌, ◌⊎◌, List, length};
-ghost use Rattle.oc_outside.specs.Faults.{NoFall, Rose};
+ghost use Rattle.oc_io.specs.Faults.{NoFall, Rose};
 
 use crate::ending::End;
 use crate::texts::help;
-use oc_outside::{Sink, write_all};
+use oc_io::{Sink, write_all};
 
 /// Writes the help for which the words ask.
 pub(crate) fn write_help<K: Sink>(words: &[String], out: &mut K) -> End

@@ -1,13 +1,13 @@
 //! The command `rules`, which lists the access rules of a configuration.
 ghost use Rattle.oc_config.specs.Reading.{IsConfig};
-ghost use Rattle.oc_outside.specs.Faults.{NoFall};
+ghost use Rattle.oc_io.specs.Faults.{NoFall};
 ghost use Rattle.oc_program.specs.AtRules.{HappenedAtRules, WritesRules};
 ghost use Rattle.oc_program.specs.Outside.{at_sink, at_source};
 
 use crate::configuring::{ConfigEnd, read_config};
 use oc_base::Memory;
 use oc_config::Config;
-use oc_outside::{Sink, Source, write_all};
+use oc_io::{Sink, Source, write_all};
 use oc_rules::rules_text;
 use std::alloc::Global;
 

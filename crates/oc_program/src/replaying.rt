@@ -1,10 +1,10 @@
 //! The command `replay`, which plays a schedule and writes its report or its summary.
-ghost use Rattle.oc_outside.specs.Faults.{NoFall};
+ghost use Rattle.oc_io.specs.Faults.{NoFall};
 ghost use Rattle.oc_program.specs.AtReplay.{HappenedAtReplay};
 ghost use Rattle.oc_program.specs.Outside.{at_sink, at_source, at_stage};
 
 use crate::headline::headline_holds;
-use oc_outside::{Sink, Source};
+use oc_io::{Sink, Source};
 use oc_replay::{ReplayEnd, replay};
 use oc_stage::Stage;
 use std::alloc::Global;

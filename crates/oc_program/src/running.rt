@@ -3,7 +3,7 @@
 ghost use Rattle.std.specs.Prelude.{◌≡◌, ◌≢◌, ℕ, Bool, ◌⊎◌, List, Some, None};
 ghost use Rattle.oc_keep.specs.Files.{AreHonest, OneRose, disks};
 ghost use Rattle.oc_keep.specs.Promises.{HoldFiles};
-ghost use Rattle.oc_outside.specs.Faults.{NoFall, Rose};
+ghost use Rattle.oc_io.specs.Faults.{NoFall, Rose};
 ghost use Rattle.oc_program.specs.AtReplay.{HasStatus};
 ghost use Rattle.oc_program.specs.AtRules.{HasConfigStatus};
 ghost use Rattle.oc_program.specs.Complete.{IsDoneOrMemory, IsServed, once};
@@ -25,7 +25,8 @@ use crate::listing::list_rules;
 use crate::replaying::replay_input;
 use crate::serving::run_service;
 use crate::telling::tell;
-use oc_outside::{Clock, Disk, Link, Sink, Source};
+use oc_io::{Disk, Sink, Source};
+use oc_outside::{Clock, Link};
 use oc_stage::Stage;
 use oc_words::{Request, WordsFault, read_words};
 use std::alloc::Global;

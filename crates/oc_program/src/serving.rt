@@ -2,14 +2,15 @@
 ghost use Rattle.std.specs.Prelude.{◌≡◌, length};
 ghost use Rattle.oc_config.specs.Reading.{IsConfig};
 ghost use Rattle.oc_keep.specs.Files.{disks};
-ghost use Rattle.oc_outside.specs.Faults.{NoFall};
+ghost use Rattle.oc_io.specs.Faults.{NoFall};
 ghost use Rattle.oc_program.specs.AtNode.{HappenedAtNode, IsMemberOf, RunsService, UnlessRan};
 ghost use Rattle.oc_program.specs.Outside.{at_files, at_node, at_sink, at_source, seen};
 
 use crate::configuring::{ConfigEnd, read_config};
 use oc_base::NodeId;
 use oc_config::Config;
-use oc_outside::{Clock, Disk, Link, Sink, Source};
+use oc_io::{Disk, Sink, Source};
+use oc_outside::{Clock, Link};
 use oc_service::{NodeEnd, run_node};
 use oc_words::Service;
 use std::alloc::Global;

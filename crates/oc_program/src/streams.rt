@@ -16,7 +16,8 @@ ghost use Rattle.oc_schedule.specs.Schedule.{schedule_of};
 
 use crate::running::run;
 use oc_adapters::{ReaderSource, Traffic, WriterSink};
-use oc_outside::{Clock, Disk, Link};
+use oc_io::Disk;
+use oc_outside::{Clock, Link};
 use oc_stage::Stage;
 use oc_words::Request;
 use std::alloc::Global;

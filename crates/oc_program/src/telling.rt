@@ -1,7 +1,7 @@
 //! The line that says on the error output how a run ended, written.
 
 ghost use Rattle.std.specs.Prelude.{◌≡◌, ℕ, List, OnOk};
-ghost use Rattle.oc_outside.specs.Faults.{NoFall};
+ghost use Rattle.oc_io.specs.Faults.{NoFall};
 ghost use Rattle.oc_program.specs.Lines.{line_of, text_of};
 ghost use Rattle.oc_program.specs.Run.{IsWrittenOrCut, joined};
 
@@ -12,7 +12,7 @@ use crate::lines::{
 };
 use crate::texts::usage;
 use itoa::Buffer;
-use oc_outside::{Failed, Sink, write_all};
+use oc_io::{Failed, Sink, write_all};
 
 /// Has the sink take these parts, one behind the other.
 fn write_parts<K: Sink>(sink: &mut K, parts: &[&[u8]]) -> Result<(), Failed>

@@ -1,7 +1,7 @@
 use Rattle.std.specs.Prelude.{ℕ}
 use Rattle.oc_base.specs.declared.why.Why.{Why}
-use Rattle.oc_outside.specs.declared.read_fault.ReadFault.{ReadFault}
-use Rattle.oc_outside.specs.declared.read_fault.ReadFault.TheVariants as reading
+use Rattle.oc_io.specs.declared.read_fault.ReadFault.{ReadFault}
+use Rattle.oc_io.specs.declared.read_fault.ReadFault.TheVariants as reading
 use Rattle.oc_schedule.specs.declared.fault.ScheduleFault.{ScheduleFault}
 use Rattle.oc_schedule.specs.declared.fault.ScheduleFault.TheVariants as schedule
 use Rattle.oc_schedule.specs.declared.fault.What.{What}

@@ -1,5 +1,5 @@
 use oc_base::Why;
-use oc_outside::ReadFault;
+use oc_io::ReadFault;
 use oc_schedule::{ScheduleFault, What};
 
 /// How a replay ends.

@@ -3,7 +3,7 @@
 ghost use Rattle.std.specs.Prelude.{◌≡◌, ℕ, ◌≤◌, Ok, Err, List, [], ◌⊎◌, length, fold, OnOk, IfOk, IfErr, IsErrOf};
 ghost use Rattle.oc_base.specs.declared.limits.TheConstants.{MAX_NODES};
 ghost use Rattle.oc_model.specs.World.{ids};
-ghost use Rattle.oc_outside.specs.Faults.{NoFall, Rose};
+ghost use Rattle.oc_io.specs.Faults.{NoFall, Rose};
 ghost use Rattle.oc_schedule.specs.Schedule.{IsSchedule};
 ghost use Rattle.oc_schedule.specs.Script.{Script};
 ghost use Rattle.oc_schedule.specs.declared.fault.ScheduleFault.TheVariants.{Line};
@@ -15,8 +15,8 @@ ghost use Rattle.oc_replay.specs.Report.{SomeFront};
 use crate::end::ReplayEnd;
 use crate::reporting::{ReportFault, report};
 use crate::summing::summarize;
+use oc_io::{Sink, Source, read_all};
 use oc_model::Event;
-use oc_outside::{Sink, Source, read_all};
 use oc_schedule::{Schedule, What, read};
 use oc_stage::Stage;
 use std::alloc::Global;

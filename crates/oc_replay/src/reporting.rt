@@ -3,7 +3,7 @@
 ghost use Rattle.std.specs.Prelude.{◌≡◌, ℕ, ◌+◌, ◌-◌, ◌^◌, ◌<◌, ◌++◌, length, take, fold, OnOk, IfOk, OnErr, IsErrOf};
 ghost use Rattle.oc_model.specs.Lawful.{IsEvent};
 ghost use Rattle.oc_model.specs.World.{ids, message_at};
-ghost use Rattle.oc_outside.specs.Faults.{NoFall, Rose};
+ghost use Rattle.oc_io.specs.Faults.{NoFall, Rose};
 ghost use Rattle.oc_replay.specs.Opening.{IsOpening};
 ghost use Rattle.oc_replay.specs.Report.{block_text, event_text, message_text, run_text, sent_from, sent_text, PassesOn, SomeFront};
 ghost use Rattle.oc_stage.specs.Stage.{HasTimeFor};
@@ -12,8 +12,8 @@ ghost use Rattle.oc_replay.specs.declared.reporting.ReportFault.TheVariants.{Sin
 use crate::lines::{put_end, put_event, put_held, put_message};
 use crate::show::put_show;
 use oc_base::Memory;
+use oc_io::{Failed, Sink, write_all};
 use oc_model::Event;
-use oc_outside::{Failed, Sink, write_all};
 use oc_stage::{Said, Stage};
 use std::alloc::Global;
 

@@ -8,15 +8,15 @@ ghost use Rattle.oc_model.specs.Adopting.{is_acting};
 ghost use Rattle.oc_model.specs.Records.{is_joined};
 ghost use Rattle.oc_model.specs.World.{ids};
 ghost use Rattle.oc_model.specs.WorldBounds.{IsWithinLimits};
-ghost use Rattle.oc_outside.specs.Faults.{NoFall, Rose};
+ghost use Rattle.oc_io.specs.Faults.{NoFall, Rose};
 ghost use Rattle.oc_replay.specs.Opening.{IsOpening};
 ghost use Rattle.oc_replay.specs.Report.{SomeFront};
 ghost use Rattle.oc_replay.specs.Summary.{FitsWith, bytes_in, count_line, one_if, plus, run_summary, summary_of_tally, summary_text, tally_at, tally_over};
 
 use crate::reporting::ReportFault;
 use oc_base::{Memory, NodeId, Shelf, put, put_with_number};
+use oc_io::{Sink, write_all};
 use oc_model::{Event, Mode};
-use oc_outside::{Sink, write_all};
 use oc_stage::Stage;
 use std::alloc::Global;
 

@@ -1,9 +1,9 @@
 -- How turns end.
 use Rattle.std.proofs.Common.{◌≡◌, ℕ, Some, None, Ok, Err, IfOk, IfErr, OnOk, Option, Result, List, subst}
 use Rattle.std.specs.Option.{ForSome}
-use Rattle.oc_outside.specs.DiskView.{DiskView}
+use Rattle.oc_io.specs.DiskView.{DiskView}
 use Rattle.oc_policy.specs.declared.rule.Rule.{Rule}
-use Rattle.oc_outside.specs.Faults.{Rose}
+use Rattle.oc_io.specs.Faults.{Rose}
 use Rattle.oc_outside.specs.declared.link.Arrival.{Arrival}
 use Rattle.oc_outside.specs.declared.link.Arrival.TheVariants as arrivals
 use Rattle.oc_probe.specs.declared.probing.Probing.{Probing}

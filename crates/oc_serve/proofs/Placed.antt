@@ -6,8 +6,8 @@ use Rattle.oc_keep.proofs.Stays.{all_honest}
 use Rattle.oc_keep.specs.Promises.{IsSameNode}
 use Rattle.oc_model.specs.Node.{Header}
 use Rattle.oc_probe.specs.declared.probing.Probing.{Probing}
-use Rattle.oc_outside.specs.DiskView.{DiskView}
-use Rattle.oc_outside.specs.Faults.{NoFall}
+use Rattle.oc_io.specs.DiskView.{DiskView}
+use Rattle.oc_io.specs.Faults.{NoFall}
 use Rattle.oc_serve.specs.Ends.{Renews}
 use Rattle.oc_serve.specs.Sending.{IsPlaced}
 use Rattle.oc_serve.specs.Turns.{IsMadeFor}

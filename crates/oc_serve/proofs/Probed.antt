@@ -7,8 +7,8 @@ use Rattle.oc_model.specs.declared.input.Input.{Input}
 use Rattle.oc_model.specs.declared.input.Input.TheVariants.{Measured}
 use Rattle.oc_model.specs.declared.message.Message.{Message}
 use Rattle.oc_outside.specs.ClockView.{Series}
-use Rattle.oc_outside.specs.DiskView.{DiskView}
-use Rattle.oc_outside.specs.Faults.{Rose}
+use Rattle.oc_io.specs.DiskView.{DiskView}
+use Rattle.oc_io.specs.Faults.{Rose}
 use Rattle.oc_outside.specs.LinkCalls.{LinkFaults, CountsDialling}
 use Rattle.oc_outside.specs.Story.{Story}
 use Rattle.oc_probe.specs.Probes.{Probed, Timed}

@@ -4,8 +4,8 @@ use Rattle.oc_keep.specs.KeptView.{KeptView, node_of}
 use Rattle.oc_model.specs.declared.input.Input.{Input}
 use Rattle.oc_model.specs.declared.message.Message.{Message}
 use Rattle.oc_outside.specs.ClockView.{Series}
-use Rattle.oc_outside.specs.DiskView.{DiskView}
-use Rattle.oc_outside.specs.Faults.{NoFall, Rose}
+use Rattle.oc_io.specs.DiskView.{DiskView}
+use Rattle.oc_io.specs.Faults.{NoFall, Rose}
 use Rattle.oc_outside.specs.LinkCalls.{LinkFaults, CountsDialling, Told}
 use Rattle.oc_outside.specs.Story.{Story}
 use Rattle.oc_turn.specs.Dials.{DialsMessage, IsAnswered, Makes, text_of}

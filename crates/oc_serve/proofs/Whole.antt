@@ -4,7 +4,7 @@ use Rattle.std.proofs.lemmas.List.{append-nil, append_assoc, length-append}
 use Rattle.oc_keep.specs.KeptView.{IsHonest, KeptView, disks_of, node_of}
 use Rattle.oc_model.specs.declared.message.Message.{Message}
 use Rattle.oc_outside.specs.ClockView.{Series}
-use Rattle.oc_outside.specs.DiskView.{DiskView}
+use Rattle.oc_io.specs.DiskView.{DiskView}
 use Rattle.oc_outside.specs.LinkCalls.{LinkFaults, CountsListening, NextGives}
 use Rattle.oc_outside.specs.Story.{Story}
 use Rattle.oc_outside.specs.declared.link.Arrival.{Arrival}

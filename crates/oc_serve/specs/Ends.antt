@@ -4,8 +4,8 @@ use denote.Ref.{MutBor}
 use mathlib.Core.Logic.{inl, inr}
 use Rattle.oc_probe.specs.declared.probing.Probing.{Probing}
 use Rattle.oc_keep.specs.KeptView.{IsHonest, IsRipe, KeptView}
-use Rattle.oc_outside.specs.DiskView.{DiskView}
-use Rattle.oc_outside.specs.Faults.{Rose}
+use Rattle.oc_io.specs.DiskView.{DiskView}
+use Rattle.oc_io.specs.Faults.{Rose}
 use Rattle.oc_turn.specs.declared.ends.TurnEnd.{TurnEnd}
 use Rattle.oc_turn.specs.declared.ends.TurnEnd.TheVariants as ends
 use Rattle.oc_turn.specs.Deeds.{Deed}

@@ -11,9 +11,10 @@ ghost use Rattle.oc_serve.specs.Turns.{IsMadeFor, ProbesNext, ProbesPeer, probe_
 use crate::place::address_of;
 use oc_base::{MAX_RATE, Memory, NodeId, put, put_number};
 use oc_config::Config;
+use oc_io::{Disk, Sink};
 use oc_keep::Kept;
 use oc_model::Input;
-use oc_outside::{Clock, Disk, Link, Sink};
+use oc_outside::{Clock, Link};
 use oc_probe::{Gauge, ProbeFault, Probing, probe};
 use oc_turn::{Outbox, TurnEnd, input_entry, take_own, write_note};
 use std::alloc::Global;

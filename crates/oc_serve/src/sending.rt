@@ -14,8 +14,9 @@ use crate::place::address_of;
 use oc_base::{Memory, NodeId};
 use oc_config::Config;
 use oc_http::HeadReader;
+use oc_io::{Disk, Sink};
 use oc_keep::Kept;
-use oc_outside::{Disk, Link, Sink};
+use oc_outside::Link;
 use oc_turn::{Entry, Outbox, TurnEnd, can_send, dial, take_own};
 use std::alloc::Global;
 

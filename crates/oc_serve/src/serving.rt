@@ -2,7 +2,7 @@
 
 ghost use Rattle.std.specs.Prelude.{◌≡◌, ◌≤◌, ℕ, List, IfErr, OnOk, None, Some, option_map, false, length};
 ghost use Rattle.std.specs.Option.{ForSome};
-ghost use Rattle.oc_outside.specs.Faults.{Rose};
+ghost use Rattle.oc_io.specs.Faults.{Rose};
 ghost use Rattle.oc_policy.specs.declared.deciding.TheConstants.{MAX_RULES as MOST_RULES};
 ghost use Rattle.oc_turn.specs.Deeds.{outside_of};
 ghost use Rattle.oc_serve.specs.Ends.{MakesTurns, ServeEnds, TurnEnds, ended_with, left_behind, served_with};
@@ -12,8 +12,9 @@ ghost use Rattle.oc_serve.specs.Turns.{IsMadeFor};
 
 use crate::turning::{turn_plain, turn_probing};
 use oc_config::Config;
+use oc_io::{Disk, Sink};
 use oc_keep::Kept;
-use oc_outside::{Arrival, Clock, Disk, Link, Sink};
+use oc_outside::{Arrival, Clock, Link};
 use oc_probe::Probing;
 use oc_turn::{Outbox, TurnEnd};
 use std::alloc::Global;

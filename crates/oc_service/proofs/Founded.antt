@@ -9,8 +9,8 @@ use Rattle.oc_keep.specs.Promises.{IsNodeOf, LoadsSafely}
 use Rattle.oc_keep.specs.Trials.{after_inputs, first_node}
 use Rattle.oc_model.specs.Node.{Header, Node}
 use Rattle.oc_model.specs.Step.{step}
-use Rattle.oc_outside.specs.DiskView.{DiskView, GoesOn, IsConsistent}
-use Rattle.oc_outside.specs.Faults.{Rose}
+use Rattle.oc_io.specs.DiskView.{DiskView, GoesOn, IsConsistent}
+use Rattle.oc_io.specs.Faults.{Rose}
 use Rattle.oc_serve.specs.Sending.{setting_of}
 use Rattle.oc_turn.specs.Deeds.{Deed, DoAll, Idle, Noting, Outside, Taking, Under, deeds_text, inputs_of, sight_of, under_line}
 use Rattle.oc_turn.specs.Scenes.{HasCause, LeavesAt, LeavesUnder, Stops, WritesAt}

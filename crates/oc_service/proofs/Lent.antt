@@ -9,7 +9,7 @@ use Rattle.oc_loans.specs.declared.loan.Loan.{Loan}
 use Rattle.oc_loans.specs.declared.loan.Loan.TheVariants.{First, Second, Third}
 use Rattle.oc_model.specs.Node.{Header, Node}
 use Rattle.oc_model.specs.Step.{step}
-use Rattle.oc_outside.specs.DiskView.{DiskView}
+use Rattle.oc_io.specs.DiskView.{DiskView}
 use Rattle.oc_turn.specs.Deeds.{Deed, Idle, Noting, Outside, Taking, Under}
 use Rattle.oc_turn.specs.declared.ends.TurnEnd.{TurnEnd}
 use Rattle.oc_turn.specs.declared.ends.TurnEnd.TheVariants as ends

@@ -5,8 +5,8 @@ use Rattle.oc_keep.specs.KeptView.{IsHonest, KeptView, NodeSurvives, disks_of, h
 use Rattle.oc_measure.specs.declared.lines.Measure.{Measure}
 use Rattle.oc_model.specs.declared.message.Message.{Message}
 use Rattle.oc_outside.specs.ClockView.{Series}
-use Rattle.oc_outside.specs.DiskView.{DiskView}
-use Rattle.oc_outside.specs.Faults.{Rose}
+use Rattle.oc_io.specs.DiskView.{DiskView}
+use Rattle.oc_io.specs.Faults.{Rose}
 use Rattle.oc_outside.specs.LinkCalls.{CountsListening, LinkFaults}
 use Rattle.oc_outside.specs.Story.{Story}
 use Rattle.oc_turn.proofs.Scenes.{did_then, go_on_none}

@@ -8,8 +8,8 @@ use Rattle.oc_keep.specs.Trials.{after_inputs, first_node}
 use Rattle.oc_model.specs.Node.{Header, Node}
 use Rattle.oc_model.specs.Step.{step}
 use Rattle.oc_model.specs.declared.message.Message.{Message}
-use Rattle.oc_outside.specs.DiskView.{DiskView}
-use Rattle.oc_outside.specs.Faults.{Rose}
+use Rattle.oc_io.specs.DiskView.{DiskView}
+use Rattle.oc_io.specs.Faults.{Rose}
 use Rattle.oc_outside.specs.LinkCalls.{CountsListening, LinkFaults}
 use Rattle.oc_serve.specs.Sending.{setting_of}
 use Rattle.oc_service.specs.Runs.{IsRun}

@@ -4,8 +4,8 @@ use Rattle.oc_keep.specs.KeptView.{IsHonest, KeptView, NodeSurvives, node_of}
 use Rattle.oc_measure.specs.declared.lines.Measure.{Measure}
 use Rattle.oc_model.specs.declared.input.Input.TheVariants.{Measured}
 use Rattle.oc_model.specs.declared.message.Message.{Message}
-use Rattle.oc_outside.specs.DiskView.{DiskView}
-use Rattle.oc_outside.specs.Faults.{Rose}
+use Rattle.oc_io.specs.DiskView.{DiskView}
+use Rattle.oc_io.specs.Faults.{Rose}
 use Rattle.oc_outside.specs.LinkCalls.{CountsListening, LinkFaults}
 use Rattle.oc_probe.specs.declared.probing.Probing.{Probing}
 use Rattle.oc_serve.specs.Turns.{AreTurns}

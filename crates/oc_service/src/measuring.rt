@@ -6,10 +6,10 @@ ghost use Rattle.oc_service.specs.Runs.{measure_deeds, measured};
 ghost use Rattle.oc_turn.specs.Deeds.{Outside};
 ghost use Rattle.oc_turn.specs.Scenes.{Did, Stopped, scene};
 
+use oc_io::{Disk, Sink};
 use oc_keep::Kept;
 use oc_measure::Measure;
 use oc_model::Input;
-use oc_outside::{Disk, Sink};
 use oc_turn::{Outbox, TurnEnd, input_entry, take_own};
 use std::alloc::Global;
 

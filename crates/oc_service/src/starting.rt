@@ -16,9 +16,10 @@ ghost use Rattle.oc_turn.specs.Deeds.{outside_of};
 use crate::serving::run_loaded;
 use oc_base::{Memory, NodeId};
 use oc_config::Config;
+use oc_io::{Disk, Sink};
 use oc_keep::{KeepLoad, Kept};
 use oc_loans::Loan;
-use oc_outside::{Clock, Disk, Link, Sink};
+use oc_outside::{Clock, Link};
 use oc_turn::TurnEnd;
 use std::alloc::Global;
 

@@ -6,7 +6,7 @@ ghost use Rattle.oc_keep.specs.Files.{Survives, disks};
 ghost use Rattle.oc_keep.specs.KeptView.{header_of};
 ghost use Rattle.oc_model.specs.NextWorld.{next_world, word_of};
 ghost use Rattle.oc_model.specs.World.{World as WorldState, ids, new_world, node as node_in};
-ghost use Rattle.oc_outside.specs.MemDiskView.{view_of};
+ghost use Rattle.oc_io.specs.MemDiskView.{view_of};
 ghost use Rattle.oc_program.specs.Ends.{status_of};
 ghost use Rattle.oc_program.specs.Lines.{line_of};
 ghost use Rattle.oc_program.specs.Outside.{at_clock, at_files, at_link, at_node, at_sink, at_source, at_stage, seen};
@@ -16,7 +16,8 @@ ghost use Rattle.oc_program.specs.declared.ending.End.{End};
 ghost use Rattle.oc_words.specs.Words.{asked, texts_of};
 
 use oc_base::NodeId;
-use oc_outside::{Clock, Disk, Link, MemDisk, Sink, Source};
+use oc_io::{Disk, MemDisk, Sink, Source};
+use oc_outside::{Clock, Link};
 use oc_program::run;
 use oc_world::World;
 use std::alloc::Global;

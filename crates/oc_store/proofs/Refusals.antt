@@ -1,6 +1,6 @@
 -- Why two control files are refused.
 use Rattle.std.proofs.Common.{◌≡◌, inl, inr, ℕ, IsTrue, refl, arith}
-use Rattle.oc_outside.specs.DiskView.{DiskView, FailsToRead}
+use Rattle.oc_io.specs.DiskView.{DiskView, FailsToRead}
 use Rattle.oc_store.specs.declared.errors.Side.TheVariants.{First, Second}
 use Rattle.oc_store.specs.declared.errors.SideError.{SideError}
 use Rattle.oc_store.specs.declared.errors.SideError.TheVariants as sides

@@ -1,7 +1,7 @@
 -- Which of two files is current after a frame is appended, and after the other file is replaced.
 use Rattle.std.proofs.Common.{◌≡◌, ◌⊎◌, inl, inr, ℕ, ◌<◌, Bool, true, false, List, [], ◌∷◌, ◌++◌, refl, sym, ◌∙◌, ap, arith, if◌then◌else◌}
 use Rattle.std.proofs.lemmas.Bool.{lt-ltb, le-ltb}
-use Rattle.oc_outside.specs.DiskView.{DiskView, LeavesOnly, IsConsistent}
+use Rattle.oc_io.specs.DiskView.{DiskView, LeavesOnly, IsConsistent}
 use Rattle.oc_journal.specs.JournalFile.{frames_of, IsBeforeOrAfter}
 use Rattle.oc_journal.specs.JournalView.{HasFrames}
 use Rattle.oc_journal.specs.Stopped.{frames_after}

@@ -1,6 +1,6 @@
 -- What the calls of a store promise.
 use Rattle.std.specs.Prelude.{◌≡◌, ◌⊎◌, ℕ, ◌+◌, ◌<◌, ◌≤◌, false, true, IsTrue, List, [], ◌∷◌, ◌++◌, length}
-use Rattle.oc_outside.specs.DiskView.{DiskView, Takes, Fails, FailsToRead, HasNoFault}
+use Rattle.oc_io.specs.DiskView.{DiskView, Takes, Fails, FailsToRead, HasNoFault}
 use Rattle.oc_journal.specs.JournalFile.{frames_of, IsNoJournal}
 use Rattle.oc_journal.specs.Promises.{LoadsSafely, OnlyReads, NoneFailed, Appends, ClosesByAppend}
 use Rattle.oc_model.specs.declared.record.Record.{Record}

@@ -1,6 +1,6 @@
 -- A store of control records, as a contract sees it.
 use Rattle.std.specs.Prelude.{◌≡◌, ◌⊎◌, ℕ, ◌^◌, ◌<◌, Bool, false, IsTrue, None, List, [], ◌∷◌}
-use Rattle.oc_outside.specs.DiskView.{DiskView}
+use Rattle.oc_io.specs.DiskView.{DiskView}
 use Rattle.oc_journal.specs.JournalFile.{frames_of}
 use Rattle.oc_journal.specs.JournalView.{JournalView, HasFrames, HoldsJournal}
 use Rattle.oc_model.specs.declared.record.Record.{Record}

@@ -3,8 +3,8 @@ ghost use Rattle.oc_journal.specs.Promises.{OnlyReads, NoneFailed, ClosesByRead}
 ghost use Rattle.oc_store.specs.ControlFiles.{generation_in, generation_of};
 
 use oc_base::{take_u8, take_u64};
+use oc_io::Disk;
 use oc_journal::{Frame, FrameError, Journal};
-use oc_outside::Disk;
 use oc_record::CODES;
 use std::alloc::Global;
 

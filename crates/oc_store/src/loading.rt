@@ -9,8 +9,8 @@ ghost use Rattle.oc_store.specs.declared.errors.SideError.TheVariants.{NotJourna
 
 use crate::errors::SideError;
 use crate::generation::generation_of;
+use oc_io::Disk;
 use oc_journal::Journal;
-use oc_outside::Disk;
 use oc_record::{Record, RecordFault, decode};
 use std::alloc::Global;
 

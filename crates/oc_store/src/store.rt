@@ -1,6 +1,6 @@
 ghost use Rattle.std.specs.Prelude.{◌≡◌, ◌≢◌, ◌↔◌, ℕ, List, ◌+◌, ◌-◌, ◌^◌, ◌<◌, ◌≤◌, [], ◌∷◌, false, length, IsTrue, IsOk, IsErrOf, OnOk, IfOk, IfErr};
-ghost use Rattle.oc_outside.specs.DiskView.{CannotFail};
-ghost use Rattle.oc_outside.specs.MemDiskView.{disk_of, view_of};
+ghost use Rattle.oc_io.specs.DiskView.{CannotFail};
+ghost use Rattle.oc_io.specs.MemDiskView.{disk_of, view_of};
 ghost use Rattle.oc_journal.specs.JournalFile.{IsJournalOf};
 ghost use Rattle.oc_journal.specs.JournalView.{HasFrames};
 ghost use Rattle.oc_journal.specs.Promises.{HasRoom, IsFullFor};
@@ -15,8 +15,8 @@ use crate::generation::{generation_in_frame, generation_with};
 use crate::loading::{ControlFile, load_file};
 use crate::turning::{framed, is_below, put_in_place};
 use oc_base::{DUE_BYTES, MAX_FRAME_BYTES, Memory};
+use oc_io::{Disk, MemDisk};
 use oc_journal::{AppendError, Frame, Journal, RestartError};
-use oc_outside::{Disk, MemDisk};
 use oc_record::Record;
 use std::alloc::Global;
 use std::marker::Model;

@@ -1,13 +1,13 @@
 ghost use Rattle.std.specs.Prelude.{◌≡◌, ◌⊎◌, ◌+◌, ◌<◌, [], ◌∷◌, ◌≤◌, length, false, true, IsTrue, IsErrOf, OnOk, OnErr, IfOk};
-ghost use Rattle.oc_outside.specs.DiskView.{Takes, Fails, HasNoFault, LeavesOnly};
+ghost use Rattle.oc_io.specs.DiskView.{Takes, Fails, HasNoFault, LeavesOnly};
 ghost use Rattle.oc_journal.specs.JournalView.{HasFrames};
 ghost use Rattle.oc_record.specs.Spelling.{records_bytes, HaveSpellings};
 ghost use Rattle.oc_store.specs.ControlFiles.{is_below};
 ghost use Rattle.oc_store.specs.StoreView.{IsReplaced};
 
 use oc_base::{MAX_FRAME_BYTES, Memory};
+use oc_io::{Disk, Failed};
 use oc_journal::{AppendError, Frame, FrameFault, Journal};
-use oc_outside::{Disk, Failed};
 use oc_record::{Record, encode};
 use std::alloc::Global;
 

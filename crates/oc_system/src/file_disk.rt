@@ -1,7 +1,7 @@
 ghost use Rattle.std.specs.Prelude.{◌≡◌, ◌-◌, ◌≤◌, min};
-ghost use Rattle.oc_outside.specs.Faults.{Rose};
+ghost use Rattle.oc_io.specs.Faults.{Rose};
 
-use oc_outside::{Disk, Failed};
+use oc_io::{Disk, Failed};
 use std::alloc::AllocError;
 use std::fs::{File, OpenOptions};
 use std::io;

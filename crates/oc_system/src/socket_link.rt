@@ -2,7 +2,8 @@ ghost use Rattle.std.specs.Prelude.{◌≡◌, ◌<◌, ◌≤◌, length, IfOk}
 
 use crate::outgoing::Outgoing;
 use crate::sockets::{Sockets, millis};
-use oc_outside::{Arrival, Failed, Link};
+use oc_io::Failed;
+use oc_outside::{Arrival, Link};
 use std::alloc::Global;
 use std::io;
 use std::net::{Net, TcpStream};

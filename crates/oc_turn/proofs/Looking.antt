@@ -7,7 +7,7 @@ use Rattle.oc_keep.specs.Promises.{ChangesNothing, IsSameNode}
 use Rattle.oc_keep.proofs.Runs.{all_go_on_then, one_rose_after}
 use Rattle.oc_keep.proofs.Stays.{all_honest}
 use Rattle.oc_model.specs.Node.{Control, Header, Node}
-use Rattle.oc_outside.specs.DiskView.{DiskView}
+use Rattle.oc_io.specs.DiskView.{DiskView}
 use Rattle.oc_turn.specs.declared.ends.TurnEnd.{TurnEnd}
 use Rattle.oc_turn.specs.declared.ends.TurnEnd.TheVariants as ends
 use Rattle.oc_turn.specs.Looks.{LookCause, LooksOnly, LookStops}

@@ -12,9 +12,9 @@ use Rattle.oc_model.specs.declared.message.Message.{Message}
 use Rattle.oc_model.specs.Node.{Header, Node}
 use Rattle.oc_model.specs.Step.{step}
 use Rattle.oc_outside.specs.ClockView.{Series}
-use Rattle.oc_outside.specs.DiskView.{DiskView}
-use Rattle.oc_outside.specs.Faults.{NoFall, Rose}
-use Rattle.oc_outside.proofs.Counts.{Rose-after}
+use Rattle.oc_io.specs.DiskView.{DiskView}
+use Rattle.oc_io.specs.Faults.{NoFall, Rose}
+use Rattle.oc_io.proofs.Counts.{Rose-after}
 use Rattle.oc_turn.specs.declared.ends.TurnEnd.{TurnEnd}
 use Rattle.oc_turn.specs.declared.ends.TurnEnd.TheVariants as ends
 use Rattle.oc_turn.specs.Deeds.{Deed, Setting, Sight, Under, Idle, Taking, Noting, DoAll, deeds_text, inputs_of, under_line}

@@ -8,8 +8,8 @@ use Rattle.oc_keep.specs.Trials.{after_inputs}
 use Rattle.oc_model.specs.declared.input.Input.{Input}
 use Rattle.oc_model.specs.declared.message.Message.{Message}
 use Rattle.oc_model.specs.Node.{Header, Node}
-use Rattle.oc_outside.specs.DiskView.{DiskView}
-use Rattle.oc_outside.specs.Faults.{NoFall, Rose}
+use Rattle.oc_io.specs.DiskView.{DiskView}
+use Rattle.oc_io.specs.Faults.{NoFall, Rose}
 use Rattle.oc_outside.specs.LinkCalls.{IsFront}
 use Rattle.oc_turn.specs.declared.ends.TurnEnd.{TurnEnd}
 use Rattle.oc_turn.specs.declared.ends.TurnEnd.TheVariants as ends

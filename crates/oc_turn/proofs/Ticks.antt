@@ -6,7 +6,7 @@ use Rattle.oc_model.specs.declared.input.Input.{Input}
 use Rattle.oc_model.specs.declared.input.Input.TheVariants.{Tick}
 use Rattle.oc_model.specs.declared.message.Message.{Message}
 use Rattle.oc_outside.specs.ClockView.{Series, Ticks}
-use Rattle.oc_outside.specs.DiskView.{DiskView}
+use Rattle.oc_io.specs.DiskView.{DiskView}
 use Rattle.oc_outside.specs.LinkCalls.{LinkFaults}
 use Rattle.oc_outside.specs.Story.{Story}
 use Rattle.oc_turn.specs.Deeds.{Deed, Outside, Reads, Takes, outside_of}

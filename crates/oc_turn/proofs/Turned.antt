@@ -9,8 +9,8 @@ use Rattle.oc_keep.specs.declared.errors.TidyError.{TidyError}
 use Rattle.oc_keep.specs.declared.errors.TidyError.TheVariants as tidies
 use Rattle.oc_keep.proofs.Stays.{Law, all_honest, leaves_now}
 use Rattle.oc_model.specs.Node.{Control, Header, Node}
-use Rattle.oc_outside.specs.DiskView.{DiskView}
-use Rattle.oc_outside.specs.Faults.{NoFall}
+use Rattle.oc_io.specs.DiskView.{DiskView}
+use Rattle.oc_io.specs.Faults.{NoFall}
 use Rattle.oc_turn.specs.declared.ends.TurnEnd.TheVariants as ends
 use Rattle.oc_turn.specs.Looks.{LooksOnly, LookStops, end_of_tidy}
 

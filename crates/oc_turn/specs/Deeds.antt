@@ -10,7 +10,7 @@ use Rattle.oc_model.specs.Node.{Node}
 use Rattle.oc_model.specs.Step.{step}
 use Rattle.oc_outside.specs.ClockView.{Series}
 use Rattle.oc_outside.specs.ClockView as clocks
-use Rattle.oc_outside.specs.Faults.{Rose}
+use Rattle.oc_io.specs.Faults.{Rose}
 use Rattle.oc_outside.specs.LinkCalls.{LinkFaults, CountsListening, CountsTalking, CountsDialling, NextGives, Told}
 use Rattle.oc_outside.specs.Story.{Story}
 use Rattle.oc_outside.specs.declared.link.Arrival.{Arrival}

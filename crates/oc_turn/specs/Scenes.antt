@@ -12,8 +12,8 @@ use Rattle.oc_model.specs.declared.message.Message.{Message}
 use Rattle.oc_model.specs.Node.{Header, Node}
 use Rattle.oc_model.specs.Step.{step}
 use Rattle.oc_node.specs.OutcomeView.{OutcomeView}
-use Rattle.oc_outside.specs.DiskView.{DiskView}
-use Rattle.oc_outside.specs.Faults.{NoFall, Rose}
+use Rattle.oc_io.specs.DiskView.{DiskView}
+use Rattle.oc_io.specs.Faults.{NoFall, Rose}
 use Rattle.oc_outside.specs.LinkCalls.{IsFront}
 use Rattle.oc_routes.specs.Inputs.{input_line}
 use Rattle.oc_turn.specs.declared.ends.TurnEnd.{TurnEnd}

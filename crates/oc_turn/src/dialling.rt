@@ -3,7 +3,7 @@
 ghost use Rattle.std.specs.Prelude.{◌≡◌, ◌⊎◌, IfOk, IfSome, OnErr};
 ghost use Rattle.oc_base.specs.Lawful.{IsNode};
 ghost use Rattle.oc_http.specs.Writing.{IsHost};
-ghost use Rattle.oc_outside.specs.Faults.{Rose};
+ghost use Rattle.oc_io.specs.Faults.{Rose};
 ghost use Rattle.oc_outside.specs.LinkCalls.{CountsDialling, Told};
 ghost use Rattle.oc_turn.specs.Dials.{DialsMessage, IsAnswered, Makes, MayMake, ComesOf, delivered_or, input_of_reply, message_to, text_of};
 ghost use Rattle.oc_turn.specs.Lines.{IsEntry, input_in};

@@ -6,7 +6,7 @@ ghost use Rattle.oc_turn.specs.Scenes.{LineStops, NotesOne, NoteStops, WritesOne
 
 use crate::ends::TurnEnd;
 use oc_base::{Memory, put};
-use oc_outside::{Sink, write_all};
+use oc_io::{Sink, write_all};
 use std::alloc::Global;
 
 /// Writes a line.

@@ -10,9 +10,9 @@ ghost use Rattle.oc_turn.specs.Lines.{IsEntry};
 use crate::ends::TurnEnd;
 use crate::entry::Entry;
 use crate::outbox::{Outbox, put_all};
+use oc_io::{Disk, Sink, write_all};
 use oc_keep::{KeepError, Kept, Outcome};
 use oc_model::Input;
-use oc_outside::{Disk, Sink, write_all};
 
 /// Takes an input: makes its frame safe, changes the node, and then writes the line.
 pub fn take<D: Disk, K: Sink>(

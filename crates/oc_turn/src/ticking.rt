@@ -13,9 +13,10 @@ use crate::entry::input_entry;
 use crate::outbox::Outbox;
 use crate::taking::take_own;
 use oc_base::MAX_TIME;
+use oc_io::{Disk, Sink};
 use oc_keep::Kept;
 use oc_model::Input;
-use oc_outside::{Clock, Disk, Sink};
+use oc_outside::Clock;
 use std::alloc::Global;
 
 /// Takes a tick with the seconds that the clock gives.

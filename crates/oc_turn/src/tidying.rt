@@ -5,8 +5,8 @@ ghost use Rattle.oc_keep.specs.KeptView.{IsRipe};
 ghost use Rattle.oc_turn.specs.Looks.{LooksOnly, LookStops, end_of_tidy};
 
 use crate::ends::TurnEnd;
+use oc_io::Disk;
 use oc_keep::{Kept, TidyError};
-use oc_outside::Disk;
 
 /// Turns the control files over, where they are ripe.
 pub fn tidy<D: Disk>(kept: &mut Kept<D>) -> Result<(), TurnEnd>

@@ -2,7 +2,7 @@
 use Rattle.std.proofs.Common.{◌≡◌, ℕ, inl, inr, true, List, [], ◌++◌, length, Ok, Err, refl, sym, ap, ◌∙◌, arith}
 use Rattle.std.specs.Prelude.{Contains}
 use Rattle.std.proofs.lemmas.List.{append-nil}
-use Rattle.oc_outside.specs.SourceView.{SourceView, source_of, GivesFront, FailsBehind, IsEmptied}
+use Rattle.oc_io.specs.SourceView.{SourceView, source_of, GivesFront, FailsBehind, IsEmptied}
 use Rattle.oc_http.specs.Answers.{IsDecided}
 use Rattle.oc_http.specs.Answers as heads
 use Rattle.oc_http.specs.Taking.{Took, SaysRequest, RefusesRequest, RefusesBody}

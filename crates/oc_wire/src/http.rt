@@ -14,8 +14,8 @@ use oc_base::Memory;
 use oc_http::{
     Head, HttpFault, Verb, a_written_request_is_read, read_body, read_head, write_request,
 };
+use oc_io::MemSource;
 use oc_model::Message;
-use oc_outside::MemSource;
 use std::alloc::Global;
 
 /// The path of a message's request.

@@ -15,9 +15,9 @@ use Rattle.oc_model.specs.NextWorld.{keeps_write, writes}
 use Rattle.oc_model.specs.Node.{Node, Outcome}
 use Rattle.oc_model.specs.Step.{step}
 use Rattle.oc_node.specs.Planned.{PlanView}
-use Rattle.oc_outside.specs.Failing.{none_fails}
-use Rattle.oc_outside.specs.MemDiskView.{MemDiskView, view_of}
-use Rattle.oc_outside.specs.declared.failures.Stop.{Stop}
+use Rattle.oc_io.specs.Failing.{none_fails}
+use Rattle.oc_io.specs.MemDiskView.{MemDiskView, view_of}
+use Rattle.oc_io.specs.declared.failures.Stop.{Stop}
 use Rattle.oc_store.specs.ControlFiles.{at_side}
 use Rattle.oc_store.specs.declared.errors.Side.{Side}
 use Rattle.oc_store.specs.declared.errors.Side.TheVariants.{First, Second}

@@ -7,8 +7,8 @@ use Rattle.oc_keep.specs.Files.{Disks, MayLeave, SameDurable, Survives, recovere
 use Rattle.oc_keep.specs.KeptView.{KeptView, NodeSurvives, disks_of, header_of, node_of}
 use Rattle.oc_keep.specs.Promises.{AreFiles, IsContentFile, LeavesFiles}
 use Rattle.oc_model.specs.Node.{Control, Durable, Header, Node, restarted, started_with}
-use Rattle.oc_outside.specs.DiskPast.{MayLeave as LeavesBytes}
-use Rattle.oc_outside.specs.MemDiskView.{MemDiskView, disk_of, may_leave_seen, view_of}
+use Rattle.oc_io.specs.DiskPast.{MayLeave as LeavesBytes}
+use Rattle.oc_io.specs.MemDiskView.{MemDiskView, disk_of, may_leave_seen, view_of}
 use Rattle.oc_store.specs.ControlFiles.{IsGood}
 use Rattle.oc_world.specs.declared.standing.Files.{Files}
 use Rattle.oc_world.specs.Standing.{IsLeft, IsStopped, disks_in, left_in}

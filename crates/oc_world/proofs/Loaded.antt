@@ -4,7 +4,7 @@ use Rattle.oc_keep.specs.Files.{AreReliable, Disks, Survives, disks}
 use Rattle.oc_keep.specs.KeptView.{KeptView, disks_of, header_of, node_of}
 use Rattle.oc_keep.specs.Promises.{HoldFiles, IsNodeOf, LoadsSafely}
 use Rattle.oc_model.specs.Node.{Header}
-use Rattle.oc_outside.specs.MemDiskView.{MemDiskView, disk_of, view_of}
+use Rattle.oc_io.specs.MemDiskView.{MemDiskView, disk_of, view_of}
 use Rattle.oc_world.specs.declared.standing.Files.{Files}
 use Rattle.oc_world.specs.Standing.{IsRunning, IsStopped, disks_in, left_in}
 use Rattle.oc_world.proofs.Left.{seen_files}

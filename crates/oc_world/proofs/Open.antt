@@ -4,7 +4,7 @@ use Rattle.oc_keep.specs.Files.{AllGoOn, AreReliable, Disks}
 use Rattle.oc_keep.specs.KeptView.{IsHonest, KeptView, disks_of, header_of, node_of}
 use Rattle.oc_keep.specs.Promises.{IsSameNode}
 use Rattle.oc_model.specs.Node.{Control}
-use Rattle.oc_outside.specs.MemDiskView.{MemDiskView, view_of}
+use Rattle.oc_io.specs.MemDiskView.{MemDiskView, view_of}
 use Rattle.oc_world.specs.Standing.{IsOpen}
 
 -- a disk in memory is honest

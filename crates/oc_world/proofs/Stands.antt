@@ -5,7 +5,7 @@ use Rattle.oc_keep.specs.KeptView.{KeptView, disks_of, header_of, node_of}
 use Rattle.oc_keep.specs.Promises.{IsSameNode}
 use Rattle.oc_model.specs.Node.{Header, Node, restarted}
 use Rattle.oc_model.specs.World.{Process}
-use Rattle.oc_outside.specs.MemDiskView.{MemDiskView, view_of}
+use Rattle.oc_io.specs.MemDiskView.{MemDiskView, view_of}
 use Rattle.oc_keep.specs.KeptView.{NodeSurvives}
 use Rattle.oc_world.specs.declared.standing.Files.{Files}
 use Rattle.oc_world.specs.declared.standing.Standing.{Standing}

@@ -5,7 +5,7 @@ use Rattle.oc_keep.specs.KeptView.{KeptView, NodeSurvives, disks_of, header_of, 
 use Rattle.oc_keep.specs.Promises.{LeavesFiles}
 use Rattle.oc_model.specs.Node.{Control, Header, Node, restarted}
 use Rattle.oc_model.specs.World.{Process, down}
-use Rattle.oc_outside.specs.MemDiskView.{MemDiskView, view_of}
+use Rattle.oc_io.specs.MemDiskView.{MemDiskView, view_of}
 use Rattle.oc_world.specs.declared.standing.Files.{Files}
 use Rattle.oc_world.specs.declared.standing.Standing.{Standing}
 use Rattle.oc_world.specs.declared.standing.Standing.TheVariants.{Running, Stopped}

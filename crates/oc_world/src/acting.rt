@@ -9,15 +9,15 @@ ghost use Rattle.oc_keep.specs.ReadyView.{CanCommit, is_written, outcome_of, tol
 ghost use Rattle.oc_model.specs.Lawful.{IsInput, IsMessage};
 ghost use Rattle.oc_model.specs.NextWorld.{writes};
 ghost use Rattle.oc_model.specs.Step.{step};
-ghost use Rattle.oc_outside.specs.MemDiskView.{view_of};
+ghost use Rattle.oc_io.specs.MemDiskView.{view_of};
 ghost use Rattle.oc_world.specs.Standing.{IsOpen};
 
 use crate::net::Net;
 use oc_base::Memory;
+use oc_io::MemDisk;
 use oc_keep::{Kept, Outcome, Ready, ReadyError, TidyError};
 use oc_laws_step::lawful_nodes_stay_lawful;
 use oc_model::{Answer, Input};
-use oc_outside::MemDisk;
 use std::alloc::Global;
 
 /// Turns the control files over, if they are ripe.

@@ -7,8 +7,8 @@ ghost use Rattle.oc_stage.specs.Sight.{sight_of};
 
 use crate::Sight;
 use oc_base::{Cert, CertList, IdList, LineList, Memory};
+use oc_io::Disk;
 use oc_keep::Kept;
-use oc_outside::Disk;
 
 /// What is seen of a node on its files, which is up or not.
 pub fn sight_of<D: Disk>(kept: &Kept<D>, up: bool) -> Result<Sight, Memory>

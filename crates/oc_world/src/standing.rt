@@ -1,11 +1,11 @@
 //! How a node stands: on its files, or down.
 
 ghost use Rattle.std.specs.Prelude.{◌≡◌, [], IfOk};
-ghost use Rattle.oc_outside.specs.MemDiskView.{disk_of};
+ghost use Rattle.oc_io.specs.MemDiskView.{disk_of};
 
 use oc_base::Memory;
+use oc_io::MemDisk;
 use oc_keep::Kept;
-use oc_outside::MemDisk;
 use std::alloc::Global;
 
 /// The disks of the three files of a node.

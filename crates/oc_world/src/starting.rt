@@ -8,8 +8,8 @@ ghost use Rattle.oc_world.specs.Standing.{IsRunning, IsStopped, left_in};
 
 use crate::standing::Files;
 use oc_base::{Memory, NodeId};
+use oc_io::MemDisk;
 use oc_keep::{KeepLoad, Kept};
-use oc_outside::MemDisk;
 use std::alloc::Global;
 
 /// The node that the files recover, on copies of them: so want of memory leaves the files as they are.

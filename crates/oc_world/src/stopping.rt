@@ -11,9 +11,9 @@ ghost use Rattle.oc_world.specs.Standing.{IsLeft, IsOpen};
 use crate::acting::make_ready;
 use crate::standing::Files;
 use oc_base::Memory;
+use oc_io::MemDisk;
 use oc_keep::Kept;
 use oc_model::Input;
-use oc_outside::MemDisk;
 
 /// A node that runs crashes between two inputs.
 pub(crate) fn crash(kept: Kept<MemDisk>) -> Files

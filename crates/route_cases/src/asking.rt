@@ -6,7 +6,7 @@ ghost use Rattle.oc_routes.specs.Lawful.{IsAsked};
 
 use oc_base::MAX_BODY_BYTES;
 use oc_http::{Head, read_body, read_head};
-use oc_outside::MemSource;
+use oc_io::MemSource;
 use oc_policy::{Action, MAX_RULES, Prefix, Rule};
 use oc_routes::{Asks, Refused, RouteFault, route};
 use std::alloc::Global;

@@ -1,8 +1,8 @@
 use crate::fault::Fault;
 use crate::fields::Fields;
 use crate::step::Step;
+use oc_io::{Disk, MemDisk};
 use oc_journal::{Frame, Journal};
-use oc_outside::{Disk, MemDisk};
 use std::alloc::Global;
 
 /// More frames than a row names.

@@ -7,7 +7,7 @@ use oc_http::{
     Head, HttpFault, Reply, ReplyHead, Verb, read_body, read_head, read_response,
     read_response_head,
 };
-use oc_outside::{MemSource, read_all};
+use oc_io::{MemSource, read_all};
 use std::alloc::Global;
 use test_tools::{Cases, Fault, Fields};
 

@@ -1,7 +1,7 @@
 ghost use Rattle.std.specs.Prelude.{◌≤◌};
-ghost use Rattle.oc_outside.specs.SourceView.{GivesFront, FailsBehind, IsEmptied, GivesFront-nothing, GivesFront-then, GivesFront-fails};
+ghost use Rattle.oc_io.specs.SourceView.{GivesFront, FailsBehind, IsEmptied, GivesFront-nothing, GivesFront-then, GivesFront-fails};
 
-use oc_outside::{Failed, MemSource, Source};
+use oc_io::{Failed, MemSource, Source};
 
 /// A source in memory that gives its bytes in pieces.
 #[derive(Drop)]

@@ -1,5 +1,5 @@
 use Rattle.std.proofs.Common.{◌≡◌, ℕ, ◌<◌, IsTrue, List, [], length, get_or, ap, subst, ◌∙◌, arith, rules}
-use Rattle.oc_outside.proofs.DiskMoments.{still_honest}
+use Rattle.oc_io.proofs.DiskMoments.{still_honest}
 use Rattle.oc_content.specs.ContentFile.{IsFirstBad}
 use Rattle.oc_content.proofs.Loading.{IsIndexedTo-start, IsSized-to, IsIndexedTo-more, IsFirstBad-at, IsIndexed-all}
 use Rattle.oc_journal.proofs.ReadRuns.{OnlyReads-none, OnlyReads-then, NoneFailed-none, NoneFailed-then}

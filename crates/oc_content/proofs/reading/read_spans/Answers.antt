@@ -1,6 +1,6 @@
 use Rattle.std.proofs.Common.{◌≡◌, ℕ, ◌+◌, ◌-◌, ◌++◌, min, List, length, take, drop, get_or, flat_map, sym, subst, arith}
 use Rattle.std.proofs.lemmas.List.{get_or_default}
-use Rattle.oc_outside.proofs.DiskMoments.{still_honest}
+use Rattle.oc_io.proofs.DiskMoments.{still_honest}
 use Rattle.oc_content.specs.declared.track.Span.{Span}
 use Rattle.oc_content.specs.Indexes.{bytes_at}
 use Rattle.oc_content.proofs.Across.{read_on, begins_first}

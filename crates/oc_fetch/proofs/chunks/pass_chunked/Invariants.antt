@@ -2,7 +2,7 @@
 use Rattle.std.proofs.Common.{◌+◌, ◌≤◌, length}
 use Rattle.oc_fetch.specs.declared.extent.TheConstants.{MAX_OPEN_BYTES}
 use Rattle.oc_fetch.proofs.ChunkSteps.{HasPassed}
-use Rattle.oc_outside.specs.Faults.{NoFall}
+use Rattle.oc_io.specs.Faults.{NoFall}
 use Rattle.oc_fetch.proofs.chunks.pass_chunked.Given as goal
 
 abbrev pub invariant-bytes : goal.invariant-bytes

@@ -1,7 +1,7 @@
 -- What is not left was moved.
 use Rattle.std.proofs.Common.{◌≤◌, ◌-◌}
 use Rattle.oc_fetch.specs.Passing.{IsMoved}
-use Rattle.oc_outside.specs.Faults.{NoFall}
+use Rattle.oc_io.specs.Faults.{NoFall}
 use Rattle.oc_fetch.proofs.content.pass_counted.Given as goal
 
 abbrev pub invariant-pieces : goal.invariant-pieces

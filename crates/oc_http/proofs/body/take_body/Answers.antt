@@ -1,7 +1,7 @@
 use Rattle.std.proofs.Common.{◌≡◌, ℕ, ◌+◌, ◌<◌, ◌≤◌, List, [], ◌++◌, length, take, vec_len, subst, sym, ap, ◌∙◌, arith}
 use Rattle.std.proofs.lemmas.List.{append-nil, length-take-le}
 use Rattle.std.proofs.lemmas.Result.{err_from_is_err_and}
-use Rattle.oc_outside.proofs.Fronts.{length-rest}
+use Rattle.oc_io.proofs.Fronts.{length-rest}
 use Rattle.oc_http.proofs.Filled.{filled}
 use Rattle.oc_http.proofs.body.take_body.Goals as goal
 

@@ -1,6 +1,6 @@
 -- the bytes that are filled came from the source
 use Rattle.std.proofs.Common.{◌≡◌, ◌≤◌, ◌-◌, take, vec_len}
-use Rattle.oc_outside.specs.Faults.{NoFall}
+use Rattle.oc_io.specs.Faults.{NoFall}
 use Rattle.oc_http.proofs.body.take_body.Given as goal
 
 abbrev pub invariant-pieces : goal.invariant-pieces

@@ -1,7 +1,7 @@
 -- the piece of the line so far came from the source, and stands behind the bytes before it
 use Rattle.std.proofs.Common.{◌≡◌, ℕ, ◌≤◌, ◌-◌, List, ◌++◌, vec_len, vec_capacity}
 use Rattle.oc_base.specs.declared.limits.TheConstants.{MAX_HEAD_BYTES}
-use Rattle.oc_outside.specs.Faults.{NoFall}
+use Rattle.oc_io.specs.Faults.{NoFall}
 use Rattle.oc_http.specs.Lines.{HasNoLineEnd}
 use Rattle.oc_http.proofs.lines.take_line.Given as goal
 

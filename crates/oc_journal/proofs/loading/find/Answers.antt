@@ -1,6 +1,6 @@
 use Rattle.std.proofs.Common.{◌≡◌, ◌≤◌, IsTrue, false, length, ◌∙◌, ap, subst, arith}
 use Rattle.std.proofs.lemmas.Result.{IfOk-weaker}
-use Rattle.oc_outside.proofs.DiskMoments.{still_honest}
+use Rattle.oc_io.proofs.DiskMoments.{still_honest}
 use Rattle.oc_journal.specs.JournalFile.{frames_of, header, IsNoJournal}
 use Rattle.oc_journal.specs.JournalView.{at_spots, IsIndexed}
 use Rattle.oc_journal.specs.Scanning.{IsFound}

@@ -2,7 +2,7 @@ use Rattle.std.proofs.Common.{ℕ, ◌≡◌, ◌+◌, ◌<◌, IsTrue, IfSome, 
 use Rattle.std.specs.Result.{IsErrOf}
 use Rattle.std.proofs.lemmas.Result.{err_from_is_err_and}
 use Rattle.oc_journal.specs.declared.spot.Spot.{Spot}
-use Rattle.oc_outside.proofs.DiskMoments.{still_honest, StaysAsItWas-then, StaysAsItWas-none}
+use Rattle.oc_io.proofs.DiskMoments.{still_honest, StaysAsItWas-then, StaysAsItWas-none}
 use Rattle.oc_journal.specs.Scanning.{IsGate, IsBrokenAt, IsScanned}
 use Rattle.oc_journal.proofs.Gates.{IsGate-earlier, IsScanned-start, IsScanned-more, IsFound-shut, IsNoJournal-broken}
 use Rattle.oc_journal.proofs.loading.find_frames.Goals as goal

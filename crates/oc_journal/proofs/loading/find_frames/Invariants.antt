@@ -1,5 +1,5 @@
 use Rattle.std.proofs.Common.{◌≡◌, ◌-◌}
-use Rattle.oc_outside.specs.DiskView.{StaysAsItWas, HasNoFault}
+use Rattle.oc_io.specs.DiskView.{StaysAsItWas, HasNoFault}
 use Rattle.oc_journal.specs.Scanning.{IsScanned}
 use Rattle.oc_journal.proofs.loading.find_frames.Given as goal
 

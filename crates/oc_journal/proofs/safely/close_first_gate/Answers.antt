@@ -1,6 +1,6 @@
 use Rattle.std.proofs.Common.{[]}
-use Rattle.oc_outside.specs.DiskView.{IsTorn}
-use Rattle.oc_outside.proofs.DiskMoments.{LeavesOnly-weaker, still_honest}
+use Rattle.oc_io.specs.DiskView.{IsTorn}
+use Rattle.oc_io.proofs.DiskMoments.{LeavesOnly-weaker, still_honest}
 use Rattle.oc_journal.specs.JournalFile.{frames_of, IsAllOrNone}
 use Rattle.oc_journal.proofs.Blocks.{frames_of-ended}
 use Rattle.oc_journal.proofs.Writes.{both, IsSettled-from, closing_torn, closing_ends, torn_seen}

@@ -1,7 +1,7 @@
 use Rattle.std.proofs.Common.{ℕ, ◌≡◌, ◌+◌, [], ◌∷◌, ◌++◌, length, take, sym, ◌∙◌, ap, subst, arith}
 use Rattle.std.proofs.lemmas.List.{take-take}
-use Rattle.oc_outside.specs.DiskView.{DiskView, Holds, IsTorn}
-use Rattle.oc_outside.proofs.DiskMoments.{LeavesOnly-weaker, LeavesOnly-then, still_honest}
+use Rattle.oc_io.specs.DiskView.{DiskView, Holds, IsTorn}
+use Rattle.oc_io.proofs.DiskMoments.{LeavesOnly-weaker, LeavesOnly-then, still_honest}
 use Rattle.oc_journal.specs.JournalFile.{frames_of, IsBeforeOrAfter}
 use Rattle.oc_journal.proofs.Blocks.{frames_of-ended}
 use Rattle.oc_journal.proofs.Writes.{both, IsSettled-from, behind_torn, gate_torn, gate_ends, gate_body, torn_seen}

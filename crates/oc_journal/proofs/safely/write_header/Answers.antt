@@ -1,6 +1,6 @@
 use Rattle.std.proofs.Common.{[], arith, ap}
-use Rattle.oc_outside.specs.DiskView.{IsTorn}
-use Rattle.oc_outside.proofs.DiskMoments.{LeavesOnly-weaker}
+use Rattle.oc_io.specs.DiskView.{IsTorn}
+use Rattle.oc_io.proofs.DiskMoments.{LeavesOnly-weaker}
 use Rattle.oc_journal.specs.JournalView.{IsLikeAnImage}
 use Rattle.oc_journal.specs.JournalFile.{frames_of}
 use Rattle.oc_journal.proofs.Steps.{written_header}

@@ -1,5 +1,5 @@
 use Rattle.std.proofs.Common.{List, ℕ, ◌+◌, ap, subst, ◌∙◌}
-use Rattle.oc_outside.specs.MemDiskView.{wrote, synced}
+use Rattle.oc_io.specs.MemDiskView.{wrote, synced}
 use Rattle.oc_journal.specs.Stopped.{IsCut}
 use Rattle.oc_journal.proofs.AfterStop.{cut_behind, cut_gate, not_cut}
 use Rattle.oc_journal.proofs.stopped.write_until_stop.Goals as goal

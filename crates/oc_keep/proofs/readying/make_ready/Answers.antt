@@ -1,7 +1,7 @@
 use Rattle.std.proofs.Common.{ℕ, false, List, ap, ◌∙◌}
 use Rattle.oc_content.specs.ContentFile.{groups_in}
 use Rattle.oc_node.specs.Planned.{PlanView}
-use Rattle.oc_outside.proofs.DiskMoments.{still_honest}
+use Rattle.oc_io.proofs.DiskMoments.{still_honest}
 use Rattle.oc_keep.specs.KeptView.{kept_of}
 use Rattle.oc_keep.specs.ReadyView.{outcome_of}
 use Rattle.oc_keep.specs.Writing.{fetched}

@@ -1,6 +1,6 @@
 use Rattle.std.proofs.Common.{List, ℕ, [], ◌+◌, length, take, get_or, subst, inr, arith}
 use Rattle.std.specs.Borrow.{Bor}
-use Rattle.oc_outside.proofs.Counts.{Rose-after}
+use Rattle.oc_io.proofs.Counts.{Rose-after}
 use Rattle.oc_program.specs.Run.{joined}
 use Rattle.oc_program.proofs.Parts.{joined_more, joined_front}
 use Rattle.oc_program.proofs.telling.write_parts.Goals as goal

@@ -1,5 +1,5 @@
 use Rattle.std.proofs.Common.{take}
-use Rattle.oc_outside.specs.Faults.{NoFall}
+use Rattle.oc_io.specs.Faults.{NoFall}
 use Rattle.oc_program.specs.Run.{joined}
 use Rattle.oc_program.proofs.telling.write_parts.Given as goal
 

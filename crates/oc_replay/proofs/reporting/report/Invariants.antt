@@ -1,5 +1,5 @@
 use Rattle.std.proofs.Common.{◌≡◌, length, drop}
-use Rattle.oc_outside.specs.Faults.{NoFall}
+use Rattle.oc_io.specs.Faults.{NoFall}
 use Rattle.oc_replay.specs.Report.{told_from, run_text}
 use Rattle.oc_replay.proofs.Running.{IsOnTheWay}
 use Rattle.oc_replay.proofs.Written.{IsWritten}

@@ -1,6 +1,6 @@
 use Rattle.std.proofs.Common.{ℕ, None, [], ◌++◌, subst, arith}
 use Rattle.std.proofs.lemmas.Result.{err_from_is_err_and}
-use Rattle.oc_outside.proofs.Counts.{Rose-after}
+use Rattle.oc_io.proofs.Counts.{Rose-after}
 use Rattle.oc_answer.specs.Serving.{terms}
 use Rattle.oc_keep.specs.KeptView.{node_of}
 use Rattle.oc_turn.specs.Deeds.{outside_of, sight_of}

@@ -1,6 +1,6 @@
 use Rattle.std.proofs.Common.{◌∙◌, [], List, ap, subst}
 use Rattle.std.proofs.lemmas.Result.{err_from_is_err_and}
-use Rattle.oc_outside.proofs.Counts.{Rose-after}
+use Rattle.oc_io.proofs.Counts.{Rose-after}
 use Rattle.oc_turn.specs.Deeds.{outside_of}
 use Rattle.oc_turn.specs.Scenes.{Did, scene}
 use Rattle.oc_config.specs.Settings.{Settings}

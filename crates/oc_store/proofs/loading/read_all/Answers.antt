@@ -1,6 +1,6 @@
 use Rattle.std.proofs.Common.{◌≡◌, ℕ, IsErr, List, Ok, [], get_or, subst, arith}
 use Rattle.std.proofs.lemmas.Result.{err_from_is_err_and}
-use Rattle.oc_outside.proofs.DiskMoments.{still_honest}
+use Rattle.oc_io.proofs.DiskMoments.{still_honest}
 use Rattle.oc_model.specs.Lawful.{IsRecord}
 use Rattle.oc_model.proofs.Lists.{all_append}
 use Rattle.oc_record.specs.Reading.{decoded}

@@ -1,5 +1,5 @@
 use Rattle.std.proofs.Common.{◌≡◌, List, ℕ, Some, true, length, refl, sym, ap, subst, ◌∙◌}
-use Rattle.oc_outside.specs.MemDiskView.{MemDiskView, view_of}
+use Rattle.oc_io.specs.MemDiskView.{MemDiskView, view_of}
 use Rattle.oc_journal.specs.JournalFile.{frames_of}
 use Rattle.oc_journal.specs.Stopped.{frames_after}
 use Rattle.oc_base.specs.declared.shelf.Shelf.{Shelf}

@@ -1,5 +1,5 @@
 use Rattle.std.proofs.Common.{IsTrue, sym, subst}
-use Rattle.oc_outside.proofs.DiskMoments.{still_honest}
+use Rattle.oc_io.proofs.DiskMoments.{still_honest}
 use Rattle.oc_content.specs.ContentView.{ContentView, IsPrepared}
 use Rattle.oc_content.proofs.Views.{shelved}
 use Rattle.oc_content.proofs.Causes.{parts_kept, closed_parts}

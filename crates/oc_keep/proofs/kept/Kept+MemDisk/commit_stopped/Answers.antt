@@ -1,6 +1,6 @@
 use Rattle.std.proofs.Common.{◌≡◌, inl, false, refl, ap, ◌∙◌}
 use Rattle.oc_base.specs.Stops.{is_kept_new}
-use Rattle.oc_outside.specs.MemDiskView.{MemDiskView}
+use Rattle.oc_io.specs.MemDiskView.{MemDiskView}
 use Rattle.oc_store.specs.StoreView.{first_disk, second_disk}
 use Rattle.oc_keep.specs.Files.{disks}
 use Rattle.oc_keep.specs.KeptView.{KeptView, disks_of, kept_of}

@@ -1,5 +1,5 @@
 use Rattle.std.proofs.Common.{◌≡◌, false, ℕ, List, refl, sym, subst, ◌∙◌, ap}
-use Rattle.oc_outside.specs.MemDiskView.{MemDiskView, disk_of, view_of, may_leave_seen}
+use Rattle.oc_io.specs.MemDiskView.{MemDiskView, disk_of, view_of, may_leave_seen}
 use Rattle.oc_journal.specs.JournalFile.{frames_of, IsJournalOf, IsNoJournal}
 use Rattle.oc_journal.specs.Stopped.{frames_after}
 use Rattle.oc_store.specs.declared.errors.Side.{Side}

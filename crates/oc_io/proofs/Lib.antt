@@ -1,0 +1,5 @@
+pub mod Counts
+pub mod Fronts
+pub mod DiskCalls
+pub mod Blots
+pub mod DiskMoments

@@ -1,0 +1,10 @@
+pub mod Faults
+pub mod Tally
+pub mod SourceView
+pub mod SinkView
+pub mod DiskView
+pub mod DiskPast
+pub mod Failing
+pub mod MemDiskView
+pub mod DiskLog
+pub mod DiskLogView

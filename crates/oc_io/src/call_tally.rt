@@ -1,0 +1,78 @@
+ghost use Rattle.std.specs.Prelude.{◌≡◌, ◌⊎◌, true, false, OnOk, OnErr};
+ghost use Rattle.oc_io.specs.Faults.{NoFall};
+ghost use Rattle.oc_io.specs.Tally.{called, faulted, fresh, IsListed, Passes, Stops};
+
+use crate::fault::Failed;
+use std::marker::Model;
+
+/// The calls of an object in memory: which of them fail, how many were made and how many failed.
+/// A count stays at its last value.
+#[derive(Debug, Drop)]
+pub struct CallTally {
+    listed: Vec<u64>,
+    made: u64,
+    faults: u64,
+}
+
+impl Model for CallTally {
+    ghost use Rattle.oc_io.specs.Tally.{Tally};
+
+    ghost Value = { Tally };
+
+    ghost view = { λ t. record { listed = t.listed.items; made = t.made; faults = t.faults } };
+}
+
+impl CallTally {
+    /// No calls yet. The calls with these numbers fail, counted from 1.
+    pub fn new(listed: Vec<u64>) -> CallTally
+        ensures { result ≡ fresh listed.items }
+    {
+        CallTally {
+            listed,
+            made: 0,
+            faults: 0,
+        }
+    }
+
+    /// Of the later calls, counted from 1, those with these numbers fail.
+    pub fn list(&mut self, calls: Vec<u64>)
+        ensures { self.new ≡ record self.old { listed = calls.items; made = 0 } }
+    {
+        self.listed = calls;
+        self.made = 0;
+    }
+
+    /// Counts a call, and fails where it is listed.
+    pub fn call(&mut self) -> Result<(), Failed>
+        ensures passed { OnOk result (¬ IsListed self.old × (self.new ≡ called self.old)) }
+        ensures listed { OnErr result (IsListed self.old × (self.new ≡ faulted (called self.old))) }
+        ensures passes { OnOk result (Passes self.old self.new) }
+        ensures stops { OnErr result (Stops self.old self.new) }
+        ensures count { NoFall self.old.faults self.new.faults }
+    {
+        self.made = self.made.saturating_add(1);
+        if self.listed.contains(&self.made) {
+            self.faults = self.faults.saturating_add(1);
+            return Err(Failed);
+        }
+        Ok(())
+    }
+
+    /// Counts a call, which fails where it is listed or cannot be done.
+    pub fn call_if(&mut self, can: bool) -> Result<(), Failed>
+        ensures passed { OnOk result ((can ≡ true) × ¬ IsListed self.old × (self.new ≡ called self.old)) }
+        ensures failed { OnErr result (((can ≡ false) ⊎ IsListed self.old) × (self.new ≡ faulted (called self.old))) }
+    {
+        self.call()?;
+        if can { Ok(()) } else { Err(self.fault()) }
+    }
+
+    /// Counts a fault of the call that was counted last.
+    pub fn fault(&mut self) -> Failed
+        ensures faulted { self.new ≡ faulted self.old }
+        ensures count { NoFall self.old.faults self.new.faults }
+    {
+        self.faults = self.faults.saturating_add(1);
+        Failed
+    }
+}

@@ -1,0 +1,86 @@
+ghost use Rattle.std.specs.Prelude.{◌≡◌, ℕ, ◌+◌, ◌-◌, ◌≤◌, max, min, IsTrue, length, take, drop, IfOk, OnOk, OnErr};
+ghost use Rattle.oc_io.specs.DiskView.{DiskView, Only, Holds, Tears, AddsNoImage, Elapses, StaysAsItWas, Takes, CannotFail, Fails, FailsToRead, HasNoFault, IsConsistent, IsReliable};
+ghost use Rattle.oc_io.specs.Faults.{Rose};
+
+use crate::fault::Failed;
+use std::alloc::AllocError;
+
+/// The most bytes that a reliable disk holds together with its spare room: 2^40.
+pub const MAX_RELIABLE_BYTES: u64 = 1_099_511_627_776;
+
+/// A file of bytes that may crash at any moment.
+///
+/// Between two syncs each written range, and the part past the old end, may hold any bytes after a
+/// crash, and other bytes stay. After a sync that succeeded a crash leaves what a read gives. A disk
+/// that keeps this is *honest*; what a clause says of bytes and crashes it says of an honest disk.
+/// Sizes, spare room and counts are kept by each disk. On a *reliable* disk, which is honest too, no
+/// call fails that keeps within the size and the spare room. Offsets and sizes are in bytes.
+pub trait Disk {
+    /// All that is known of the disk at one time.
+    ghost view: { Self → DiskView };
+
+    /// The size.
+    fn size(&mut self) -> Result<u64, Failed>
+        ensures size { IfOk result (λ size. size ≡ (view self.new).size) }
+        ensures size_err { OnErr result ((view self.new).size ≡ (view self.old).size) }
+        ensures stays { StaysAsItWas (view self.old) (view self.new) }
+        ensures no_fault { OnOk result (HasNoFault (view self.old) (view self.new)) }
+        ensures fails { OnErr result (FailsToRead (view self.old) (view self.new)) };
+
+    /// Fills the buffer from that offset on, as far as the size reaches, and answers how many bytes
+    /// it put there. Past the size it may fail.
+    fn read_at(&mut self, at: u64, buf: &mut [u8]) -> Result<usize, Failed>
+        ensures count { IfOk result (λ n. n ≡ min (length buf.old) ((view self.old).size - at)) }
+        ensures bytes { IfOk result
+            (λ n. IsTrue (view self.old).honest → take n buf.new ≡ take n (drop at (view self.old).seen)) }
+        ensures size { (view self.new).size ≡ (view self.old).size }
+        ensures stays { StaysAsItWas (view self.old) (view self.new) }
+        ensures no_fault { OnOk result (HasNoFault (view self.old) (view self.new)) }
+        ensures cause { OnErr result (Rose (view self.old).faults (view self.new).faults) }
+        ensures fails { OnErr result
+            (at ≤ (view self.old).size → FailsToRead (view self.old) (view self.new)) };
+
+    /// Makes the spare room at least this many bytes and sixteen calls of `write_at` and `sync`.
+    fn reserve(&mut self, bytes: u64) -> Result<(), AllocError>
+        ensures room { OnOk result (bytes ≤ (view self.new).room) }
+        ensures calls { OnOk result (16 ≤ (view self.new).calls) }
+        ensures size { (view self.new).size ≡ (view self.old).size }
+        ensures stays { StaysAsItWas (view self.old) (view self.new) }
+        ensures no_fault { HasNoFault (view self.old) (view self.new) };
+
+    /// Writes over what is there and past the end, from an offset within the size. Until a sync, a
+    /// crash may leave any bytes in the range.
+    fn write_at(&mut self, at: u64, bytes: &[u8]) -> Result<(), Failed>
+        requires { at ≤ (view self.old).size }
+        ensures takes { Takes (length bytes.now) 1 (view self.old) (view self.new) }
+        ensures time { IsTrue (view self.old).honest → Elapses (view self.old) (view self.new) }
+        ensures turn { OnOk result
+            (IsTrue (view self.old).honest → (view self.new).moment ≡ (view self.old).moment + 1) }
+        ensures written { OnOk result
+            (IsTrue (view self.old).honest → Holds (view self.old).seen at bytes.now (view self.new).seen) }
+        ensures torn { IsTrue (view self.old).honest → Tears at (length bytes.now) (view self.old) (view self.new) }
+        ensures size { OnOk result ((view self.new).size ≡ max (view self.old).size (at + length bytes.now)) }
+        ensures no_smaller { (view self.old).size ≤ (view self.new).size }
+        ensures no_fault { OnOk result (HasNoFault (view self.old) (view self.new)) }
+        ensures fails { OnErr result (Fails (length bytes.now) 1 (view self.old) (view self.new)) };
+
+    /// After it a crash leaves what a read gives.
+    fn sync(&mut self) -> Result<(), Failed>
+        ensures takes { Takes 0 1 (view self.old) (view self.new) }
+        ensures time { IsTrue (view self.old).honest → Elapses (view self.old) (view self.new) }
+        ensures turn { OnOk result
+            (IsTrue (view self.old).honest → (view self.new).moment ≡ (view self.old).moment + 1) }
+        ensures durable { OnOk result
+            (IsTrue (view self.old).honest → Only (view self.old).seen (view self.new).may_leave) }
+        ensures seen { IsTrue (view self.old).honest → (view self.new).seen ≡ (view self.old).seen }
+        ensures images { IsTrue (view self.old).honest → AddsNoImage (view self.old) (view self.new) }
+        ensures size { (view self.new).size ≡ (view self.old).size }
+        ensures no_fault { OnOk result (HasNoFault (view self.old) (view self.new)) }
+        ensures fails { OnErr result (Fails 0 1 (view self.old) (view self.new)) };
+
+    /// What each honest disk keeps.
+    ghost consistent: { (disk : Self) → IsTrue (view disk).honest → IsConsistent (view disk) };
+
+    /// What each reliable disk keeps.
+    ghost reliable_keeps: { (disk : Self) → IsTrue (view disk).reliable → IsReliable (view disk) };
+}

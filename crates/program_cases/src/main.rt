@@ -1,16 +1,26 @@
 //! Runs the program itself, as processes on real files and sockets, and prints a line for each case: its name and
-//! `ok`, or what was seen. With words it is the program. With none it starts itself as a node on a free port,
-//! publishes, fetches, checks the node's files, and kills nodes in the midst of publishing.
+//! `ok`, or where it first differs from what has to come.
+//!
+//! With words it is the program. With none it plays the rows of `data/cases.txt`, each a run of the program with its
+//! words and its input; then those of `data/served.txt`, beside a node that it has started; and at last it kills nodes
+//! in the midst of publishing.
 #![tactic(auto)]
 
 mod asking;
+mod case;
+mod ending;
 mod killing;
 mod node;
+mod playing;
 mod serving;
+mod starting;
+mod texts;
 
 use killing::kill_often;
+use node::free_port;
 use oc_start::{given_words, start};
-use serving::{check_of_another, get_elsewhere, publish_and_get};
+use playing::{play_rows, tell};
+use serving::play_served;
 use std::io;
 use std::process::ExitCode;
 
@@ -27,16 +37,7 @@ fn main(rt: HostRuntime) -> io::Result<ExitCode> {
 
 /// Plays the cases, one after another.
 fn play(rt: &HostRuntime) -> io::Result<()> {
-    tell(rt, "a publish is got again", publish_and_get(rt)?)?;
-    tell(rt, "a URL of another scheme", get_elsewhere(rt)?)?;
-    tell(rt, "the first file of an ask", check_of_another(rt)?)?;
-    tell(rt, "fifty kills lose nothing", kill_often(rt)?)
-}
-
-/// Prints the line of a case: what was seen in place of what has to come, or that all is well.
-fn tell(rt: &HostRuntime, name: &str, seen: Option<String>) -> io::Result<()> {
-    match seen {
-        Some(seen) => println!(rt; "{name}: {seen}"),
-        None => println!(rt; "{name} ok"),
-    }
+    play_rows(rt, "cases.txt", free_port(rt)?)?;
+    play_served(rt)?;
+    tell(rt, "fifty kills lose nothing", kill_often(rt))
 }

@@ -1,10 +1,11 @@
 //! A node of a network of one, as a process in a folder of its own.
 
+use crate::starting::program;
 use std::io::{self, Write};
 use std::net::{TcpListener, TcpStream};
-use std::process::{Child, Command, Output, Stdio};
+use std::process::{Child, Output, Stdio};
 use std::time::Duration;
-use std::{env, fs, thread};
+use std::{fs, thread};
 
 /// How often a first connection is tried, and the time between two tries.
 const MOST_TRIES: u32 = 1_000;
@@ -22,10 +23,9 @@ impl Home {
     /// A new folder of that name, and a port on which nobody listens.
     pub fn new(rt: &HostRuntime, name: &str) -> io::Result<Home> {
         fs::create_dir(rt, name)?;
-        let listener = TcpListener::bind(rt, "localhost:0")?;
         Ok(Home {
             folder: String::from_str(rt.alloc(), name)?,
-            port: listener.local_addr()?.port(),
+            port: free_port(rt)?,
         })
     }
 
@@ -75,8 +75,8 @@ impl Home {
     }
 }
 
-/// This very program, which with words is `overcast`.
-fn program(rt: &HostRuntime) -> io::Result<Command> {
-    let path = env::current_exe(rt)?;
-    Ok(Command::new(rt.alloc(), path.as_path())?)
+/// A port on which nobody listens.
+pub fn free_port(rt: &HostRuntime) -> io::Result<u16> {
+    let listener = TcpListener::bind(rt, "localhost:0")?;
+    Ok(listener.local_addr()?.port())
 }

@@ -1,0 +1,98 @@
+//! How a run ends.
+
+use crate::texts::{excerpt, first_difference, from_event};
+use std::process::Output;
+use std::{fs, io};
+
+/// How a run has to end.
+#[derive(Clone, Copy)]
+pub struct Ending<'a> {
+    status: Option<i32>,
+    /// The file with the output, or nothing.
+    output: Option<&'a str>,
+    /// The line on the error output; behind `<` the file with all that stands there; or nothing.
+    errors: Option<&'a str>,
+}
+
+impl<'a> Ending<'a> {
+    /// The end that a row wants: a status, the output, and the error output. `-` is nothing, and so is what a row
+    /// leaves out.
+    pub fn read(text: &'a str) -> Ending<'a> {
+        let (status, rest) = text.split_once(' ').unwrap_or((text, ""));
+        let (output, errors) = rest.split_once(' ').unwrap_or((rest, ""));
+        Ending {
+            status: status.parse::<i32>().ok(),
+            output: given(output),
+            errors: given(errors),
+        }
+    }
+
+    /// Where a run first differs from this end, if it does: in the status, on the error output, or on the output.
+    pub fn difference(&self, rt: &HostRuntime, got: &Output) -> io::Result<Option<String>> {
+        let status = got.status.code();
+        if status != self.status {
+            return Ok(Some(format!(in rt.alloc(); "status {:?}, {}", status, shown(&got.stderr))?));
+        }
+        let errors = self.wanted_errors(rt)?;
+        if let Some(told) = told_difference(rt, "error output", &got.stderr, &errors)? {
+            return Ok(Some(told));
+        }
+        self.output_difference(rt, &got.stdout)
+    }
+
+    /// All that has to stand on the error output.
+    fn wanted_errors(&self, rt: &HostRuntime) -> io::Result<Vec<u8>> {
+        let Some(errors) = self.errors else {
+            return Ok(Vec::new(rt.alloc()));
+        };
+        if let Some(file) = errors.strip_prefix("<") {
+            return fs::read(rt, file);
+        }
+        let mut line = errors.as_bytes().to_vec(rt.alloc())?;
+        line.push(b'\n')?;
+        Ok(line)
+    }
+
+    /// Where the output differs from what has to come. A file `NAME.tail` has the end of the output, from the event
+    /// on with which the file begins; `NAME.excerpt` has its length and some of its lines; any other file all of it.
+    fn output_difference(&self, rt: &HostRuntime, seen: &[u8]) -> io::Result<Option<String>> {
+        let Some(file) = self.output else {
+            return told_difference(rt, "output", seen, b"");
+        };
+        let wanted = fs::read(rt, file)?;
+        if file.ends_with(".excerpt") {
+            let seen = excerpt(rt.alloc(), seen, &wanted)?;
+            return told_difference(rt, "excerpt", &seen, &wanted);
+        }
+        if file.ends_with(".tail") {
+            return told_difference(rt, "tail", from_event(seen, &wanted), &wanted);
+        }
+        told_difference(rt, "output", seen, &wanted)
+    }
+}
+
+/// A field of a row, if it is not left out.
+fn given(field: &str) -> Option<&str> {
+    match field {
+        "" | "-" => None,
+        _ => Some(field),
+    }
+}
+
+/// Tells the first line of a text that is not as wanted.
+fn told_difference(
+    rt: &HostRuntime,
+    name: &str,
+    seen: &[u8],
+    wanted: &[u8],
+) -> io::Result<Option<String>> {
+    let Some((number, line)) = first_difference(seen, wanted) else {
+        return Ok(None);
+    };
+    Ok(Some(format!(in rt.alloc(); "line {} of the {}, {}", number, name, shown(line))?))
+}
+
+/// Bytes as a report shows them.
+fn shown(bytes: &[u8]) -> &str {
+    std::str::from_utf8(bytes).unwrap_or("no text")
+}

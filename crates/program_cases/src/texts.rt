@@ -1,0 +1,87 @@
+//! Texts beside the texts that are wanted.
+
+use std::alloc::Global;
+use std::io;
+
+/// The number, from 1 on, and the text of the first line that is not as wanted.
+pub fn first_difference<'a>(seen: &'a [u8], wanted: &[u8]) -> Option<(usize, &'a [u8])> {
+    if seen == wanted {
+        return None;
+    }
+    let mut number: usize = 1;
+    let mut rest = wanted;
+    for line in seen.split(|byte| *byte == b'\n') {
+        let (other, behind) = cut_line(rest);
+        if line != other {
+            return Some((number, line));
+        }
+        rest = behind;
+        number = number.saturating_add(1);
+    }
+    Some((number, b""))
+}
+
+/// The first line of a text, without its end, and what stands behind it.
+fn cut_line(text: &[u8]) -> (&[u8], &[u8]) {
+    for at in 0..text.len() {
+        if let Some((line, [b'\n', behind @ ..])) = text.split_at_checked(at) {
+            return (line, behind);
+        }
+    }
+    (text, b"")
+}
+
+/// The end of a report, from the event on with which the wanted end begins, or nothing.
+pub fn from_event<'a>(report: &'a [u8], wanted: &[u8]) -> &'a [u8] {
+    let event = first_word(wanted);
+    let mut rest = report;
+    for _ in 0..report.len() {
+        if first_word(rest) == event {
+            return rest;
+        }
+        rest = cut_line(rest).1;
+    }
+    b""
+}
+
+/// The bytes before the first space.
+fn first_word(text: &[u8]) -> &[u8] {
+    text.split(|byte| *byte == b' ').next().unwrap_or(text)
+}
+
+/// The excerpt of a text that has the lines of another excerpt: a line `bytes` with the text's length, and then
+/// lines of it, each behind its number.
+pub fn excerpt(alloc: Global, text: &[u8], like: &[u8]) -> io::Result<Vec<u8>> {
+    let mut out = Vec::new(alloc);
+    let length = format!(in alloc; "bytes {}\n", text.len())?;
+    out.extend_from_slice(length.as_bytes())?;
+    for line in like.split(|byte| *byte == b'\n') {
+        if let Some(number) = number_of(line) {
+            put_line(alloc, &mut out, text, number)?;
+        }
+    }
+    Ok(out)
+}
+
+/// The number with which a line begins.
+fn number_of(line: &[u8]) -> Option<usize> {
+    std::str::from_utf8(first_word(line))
+        .ok()?
+        .parse::<usize>()
+        .ok()
+}
+
+/// Puts a line of a text behind its number. Lines are counted from 1.
+fn put_line(alloc: Global, out: &mut Vec<u8>, text: &[u8], wanted: usize) -> io::Result<()> {
+    let mut number: usize = 1;
+    for line in text.split(|byte| *byte == b'\n') {
+        if number == wanted {
+            let front = format!(in alloc; "{number} ")?;
+            out.extend_from_slice(front.as_bytes())?;
+            out.extend_from_slice(line)?;
+            out.push(b'\n')?;
+        }
+        number = number.saturating_add(1);
+    }
+    Ok(())
+}

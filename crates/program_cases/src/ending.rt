@@ -1,6 +1,7 @@
 //! How a run ends.
 
-use crate::texts::{excerpt, first_difference, from_event};
+use crate::texts::{cut_line, excerpt, first_difference, from_event};
+use std::alloc::{AllocError, Global};
 use std::process::Output;
 use std::{fs, io};
 
@@ -29,9 +30,8 @@ impl<'a> Ending<'a> {
 
     /// Where a run first differs from this end, if it does: in the status, on the error output, or on the output.
     pub fn difference(&self, rt: &HostRuntime, got: &Output) -> io::Result<Option<String>> {
-        let status = got.status.code();
-        if status != self.status {
-            return Ok(Some(format!(in rt.alloc(); "status {:?}, {}", status, shown(&got.stderr))?));
+        if got.status.code() != self.status {
+            return Ok(Some(told_status(rt.alloc(), got)?));
         }
         let errors = self.wanted_errors(rt)?;
         if let Some(told) = told_difference(rt, "error output", &got.stderr, &errors)? {
@@ -76,6 +76,16 @@ fn given(field: &str) -> Option<&str> {
     match field {
         "" | "-" => None,
         _ => Some(field),
+    }
+}
+
+/// Tells the status of a run, and the first line on its error output.
+fn told_status(alloc: Global, got: &Output) -> Result<String, AllocError> {
+    let (line, _) = cut_line(&got.stderr);
+    let line = shown(line);
+    match got.status.code() {
+        Some(status) => format!(in alloc; "status {status}, {line}"),
+        None => format!(in alloc; "ended by a signal, {line}"),
     }
 }
 

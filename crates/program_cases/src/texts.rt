@@ -22,7 +22,7 @@ pub fn first_difference<'a>(seen: &'a [u8], wanted: &[u8]) -> Option<(usize, &'a
 }
 
 /// The first line of a text, without its end, and what stands behind it.
-fn cut_line(text: &[u8]) -> (&[u8], &[u8]) {
+pub fn cut_line(text: &[u8]) -> (&[u8], &[u8]) {
     for at in 0..text.len() {
         if let Some((line, [b'\n', behind @ ..])) = text.split_at_checked(at) {
             return (line, behind);

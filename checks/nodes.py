@@ -21,6 +21,13 @@ def need_program():
         sys.exit("the program is not built; build it by: ./overcast --build")
 
 
+def processor(program):
+    """The processor seconds that a program has taken."""
+    with open(f"/proc/{program.pid}/stat") as it:
+        fields = it.read().rsplit(")", 1)[1].split()
+    return (int(fields[11]) + int(fields[12])) / os.sysconf("SC_CLK_TCK")
+
+
 def free_ports(count):
     """Ports of 127.0.0.1 on which nobody listens, by the system's choice."""
     taken = [socket.socket() for _ in range(count)]

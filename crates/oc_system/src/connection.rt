@@ -1,9 +1,10 @@
 ghost use Rattle.std.specs.Prelude.{◌≡◌, ◌≤◌, length, IfOk};
 
-use crate::limits::PIECE;
+use crate::limits::{PIECE, SEND_BYTES};
 use crate::outgoing::copy_front;
-use crate::request::is_whole;
+use crate::request::{Look, is_probe};
 use mio::net::TcpStream;
+use mio::{Interest, Registry, Token};
 use oc_base::{MAX_BODY_BYTES, MAX_HEAD_BYTES};
 use std::alloc::Global;
 use std::io::{self, ErrorKind, Read, Write};
@@ -15,6 +16,19 @@ const MOST_WAITING: usize = MAX_HEAD_BYTES + MAX_BODY_BYTES as usize + PIECE;
 /// How often a call is made at most, as long as it finds something or is interrupted.
 const MOST_CALLS: u32 = 1_000;
 
+/// What a connection is kept for.
+#[derive(Clone, Copy, PartialEq, Eq)]
+pub(crate) enum Stage {
+    /// Its request still comes.
+    Coming,
+    /// Its request has come.
+    Whole,
+    /// No more of its request will come, or is waited for.
+    Spent,
+    /// It was served, and its reply has still to go out, or its peer to end.
+    Leaving,
+}
+
 /// A connection that came in: what was taken from it and not read yet, and what is still to go out.
 ///
 /// Neither taking in nor sending waits. What the socket does not take at once is kept and sent later.
@@ -23,13 +37,19 @@ pub(crate) struct Connection {
     stream: TcpStream,
     came: Vec<u8>,
     read: usize,
+    /// How many bytes came so far, and what they say of the first request.
+    count: usize,
+    look: Look,
     unsent: Vec<u8>,
     sent: usize,
     ended: bool,
     broken: bool,
     finished: bool,
-    /// Whether what came and was not read is a whole request.
-    whole: bool,
+    /// Whether the system tells when its socket is ready.
+    watched: bool,
+    pub(crate) stage: Stage,
+    /// Where it is kept.
+    pub(crate) place: usize,
     /// When it came, as a number in order.
     pub(crate) number: u64,
     /// Until when it is kept, in milliseconds.
@@ -40,73 +60,100 @@ impl Connection {
     /// A connection of this stream, which does not block.
     pub(crate) fn new(
         stream: TcpStream,
-        came: Vec<u8>,
-        unsent: Vec<u8>,
+        alloc: Global,
+        place: usize,
         number: u64,
         until: u64,
     ) -> Connection {
         Connection {
             stream,
-            came,
+            came: Vec::new(alloc),
             read: 0,
-            unsent,
+            count: 0,
+            look: Look::new(),
+            unsent: Vec::new(alloc),
             sent: 0,
             ended: false,
             broken: false,
             finished: false,
-            whole: false,
+            watched: false,
+            stage: Stage::Coming,
+            place,
             number,
             until,
         }
     }
 
-    /// The stream, to be registered.
-    pub(crate) fn stream_mut(&mut self) -> &mut TcpStream {
-        &mut self.stream
-    }
-
-    /// Takes in what has come, by pieces as long as the buffer.
-    pub(crate) fn take_in(&mut self, piece: &mut [u8]) {
-        if self.take_pieces(piece) {
-            self.whole = is_whole(self.unread());
+    /// Has the system tell when its socket is ready. A connection whose request comes at once, and whose reply
+    /// goes out at once, does without.
+    pub(crate) fn watch(&mut self, registry: &Registry, token: usize) {
+        if self.watched {
+            return;
+        }
+        self.watched = true;
+        let interests = Interest::READABLE | Interest::WRITABLE;
+        if self.stream.set_nodelay(true).is_err()
+            || registry
+                .register(&mut self.stream, Token(token), interests)
+                .is_err()
+        {
+            self.broken = true;
         }
     }
 
-    /// Answers whether anything had come.
-    fn take_pieces(&mut self, piece: &mut [u8]) -> bool {
-        let mut taken = false;
+    /// Takes in what has come of its request, by pieces as long as the buffer, and says how far it is.
+    pub(crate) fn take_request(&mut self, piece: &mut [u8]) {
         for _ in 0..MOST_CALLS {
+            if self.is_whole() {
+                self.stage = Stage::Whole;
+                return;
+            }
             if self.ended || self.broken || self.came.len() >= MOST_WAITING {
-                return taken;
+                self.stage = Stage::Spent;
+                return;
             }
-            match self.stream.read(piece) {
-                Ok(0) => self.ended = true,
-                Ok(count) => {
-                    taken = true;
-                    if self.came.extend_from_slice(&piece[..count]).is_err() {
-                        self.broken = true;
-                    }
-                }
-                Err(error) if error.kind() == ErrorKind::Interrupted => {}
-                Err(error) if error.kind() == ErrorKind::WouldBlock => return taken,
-                Err(_) => self.broken = true,
+            if !self.take_in(piece) {
+                return;
             }
+            self.look.over(self.came.as_slice());
         }
-        taken
     }
 
-    /// Whether its request has come.
-    pub(crate) fn is_whole(&self) -> bool {
-        self.whole
+    /// Takes in a piece, at most as long as the buffer; false where none has come yet.
+    pub(crate) fn take_in(&mut self, piece: &mut [u8]) -> bool {
+        if self.ended || self.broken {
+            return true;
+        }
+        match self.stream.read(piece) {
+            Ok(0) => self.ended = true,
+            Ok(count) => {
+                self.count = self.count.saturating_add(count);
+                if self.came.extend_from_slice(&piece[..count]).is_err() {
+                    self.broken = true;
+                }
+            }
+            Err(error) if error.kind() == ErrorKind::Interrupted => {}
+            Err(error) if error.kind() == ErrorKind::WouldBlock => return false,
+            Err(_) => self.broken = true,
+        }
+        true
     }
 
-    /// Whether it can be served without waiting for it: its request has come, or no more of it will.
-    pub(crate) fn is_ripe(&self, now: u64) -> bool {
-        self.whole
-            || self.ended
-            || self.broken
-            || now >= self.until
-            || self.came.len() >= MOST_WAITING
+    /// Whether its first request has come.
+    fn is_whole(&self) -> bool {
+        self.count > 0 && self.look.is_whole(self.count)
+    }
+
+    /// Whether its request asks for a probe.
+    pub(crate) fn is_probe(&self) -> bool {
+        is_probe(self.unread())
+    }
+
+    /// Whether it can be dropped without harm: all was sent, and all that its peer sends was taken off the
+    /// socket. Were more to come, the system would take back the reply.
+    pub(crate) fn is_done(&self) -> bool {
+        let is_taken = self.ended || self.look.is_all(self.count);
+        self.broken || (is_taken && self.left_to_send() == 0)
     }
 
     /// What came and was not read yet.
@@ -146,38 +193,46 @@ impl Connection {
         self.unsent.len().saturating_sub(self.sent)
     }
 
-    /// Keeps bytes to be sent behind those that are.
-    pub(crate) fn put(&mut self, bytes: &[u8]) -> io::Result<()> {
+    /// Has these bytes go out behind those that are to, and answers how many bytes went out. Few bytes wait for
+    /// more of them; many go out from where they are, and only what is left of them is kept.
+    pub(crate) fn put(&mut self, bytes: &[u8]) -> io::Result<u64> {
+        let mut gone = 0u64;
+        let mut rest = bytes;
+        if self.left_to_send().saturating_add(bytes.len()) >= SEND_BYTES {
+            gone = self.send();
+            if self.left_to_send() == 0 {
+                let count = self.send_now(bytes);
+                gone = gone.saturating_add(count as u64);
+                rest = bytes.get(count..).unwrap_or(&[]);
+            }
+        }
         if self.broken {
             return Err(io::Error::from(ErrorKind::BrokenPipe));
         }
-        match self.unsent.extend_from_slice(bytes) {
-            Ok(()) => Ok(()),
+        match self.unsent.extend_from_slice(rest) {
+            Ok(()) => Ok(gone),
             Err(_) => Err(io::Error::from(ErrorKind::OutOfMemory)),
         }
     }
 
+    /// Sends what the socket takes now of these bytes, and answers how many that were.
+    fn send_now(&mut self, bytes: &[u8]) -> usize {
+        let (count, is_sound) = write_some(&mut self.stream, bytes);
+        self.broken = self.broken || !is_sound;
+        count
+    }
+
     /// Sends what the socket takes now, and answers how many bytes that were.
     pub(crate) fn send(&mut self) -> u64 {
-        let mut gone = 0u64;
-        for _ in 0..MOST_CALLS {
-            let rest = self.unsent.get(self.sent..).unwrap_or(&[]);
-            if self.broken || rest.is_empty() {
-                break;
-            }
-            match self.stream.write(rest) {
-                Ok(0) => self.broken = true,
-                Ok(count) => {
-                    gone = gone.saturating_add(count as u64);
-                    self.sent = self.sent.saturating_add(count);
-                }
-                Err(error) if error.kind() == ErrorKind::Interrupted => {}
-                Err(error) if error.kind() == ErrorKind::WouldBlock => break,
-                Err(_) => self.broken = true,
-            }
+        if self.broken || self.left_to_send() == 0 {
+            return 0;
         }
+        let rest = self.unsent.get(self.sent..).unwrap_or(&[]);
+        let (count, is_sound) = write_some(&mut self.stream, rest);
+        self.broken = self.broken || !is_sound;
+        self.sent = self.sent.saturating_add(count);
         self.forget_sent();
-        gone
+        count as u64
     }
 
     /// Lets go what was sent, once it is the greater part: so what is kept has about the length of what is
@@ -187,9 +242,10 @@ impl Connection {
             self.unsent.clear();
             self.sent = 0;
         } else if self.sent > self.unsent.len() / 2 {
-            let rest = self.unsent.len().saturating_sub(self.sent);
-            self.unsent.rotate_left(self.sent);
-            self.unsent.truncate(rest);
+            let (gone, rest) = self.unsent.split_at_mut(self.sent);
+            let count = rest.len();
+            gone[..count].copy_from_slice(rest);
+            self.unsent.truncate(count);
             self.sent = 0;
         }
     }
@@ -199,14 +255,10 @@ impl Connection {
         self.broken
     }
 
-    /// Whether events of this token are its own.
-    pub(crate) fn is_at(&self, token: usize) -> bool {
-        self.number == token as u64
-    }
-
     /// Nothing more is read from it. Once nothing is left to send, tells the peer that nothing more comes, and
     /// gives it so much time to end; only the socket is kept then.
     pub(crate) fn leave(&mut self, alloc: Global, now: u64, linger: u64) {
+        self.stage = Stage::Leaving;
         self.came = Vec::new(alloc);
         self.read = 0;
         if self.finished || self.left_to_send() > 0 {
@@ -221,8 +273,7 @@ impl Connection {
         }
     }
 
-    /// Whether there is nothing more to do on it: its peer has ended too. Were it dropped before, and more came
-    /// from the peer, the system would take back the reply.
+    /// Whether there is nothing more to do on it: its peer has ended too.
     pub(crate) fn is_gone(&self) -> bool {
         self.broken || (self.finished && self.ended)
     }
@@ -247,4 +298,21 @@ impl Connection {
             }
         }
     }
+}
+
+/// Writes as many of the bytes as the socket takes now; answers how many those were, and whether more can be
+/// written later.
+fn write_some(stream: &mut TcpStream, bytes: &[u8]) -> (usize, bool) {
+    if bytes.is_empty() {
+        return (0, true);
+    }
+    for _ in 0..MOST_CALLS {
+        match stream.write(bytes) {
+            Ok(count) => return (count, count > 0),
+            Err(error) if error.kind() == ErrorKind::Interrupted => {}
+            Err(error) if error.kind() == ErrorKind::WouldBlock => break,
+            Err(_) => return (0, false),
+        }
+    }
+    (0, true)
 }

@@ -9,10 +9,12 @@ mod connection;
 mod file_disk;
 mod limits;
 mod outgoing;
+mod pause;
 mod request;
 mod socket_link;
 mod sockets;
 mod system_clock;
+mod table;
 
 pub use file_disk::FileDisk;
 pub use socket_link::{SocketLink, Traffic};

@@ -5,6 +5,9 @@ pub(crate) const MOST_KEPT: usize = 256;
 /// well below the 1,024 files that a system usually lets a program open.
 pub(crate) const MOST_LEAVING: usize = 512;
 
+/// How many places there are for connections: for those, for one that is being served, and for some to spare.
+pub(crate) const PLACES: usize = 1_024;
+
 /// For how long a connection is kept while its request comes, in milliseconds.
 pub(crate) const KEPT_MILLIS: u64 = 10_000;
 
@@ -35,6 +38,15 @@ pub(crate) const REPLYING_MILLIS: u64 = 1_000;
 /// For how long one look for progress waits, in milliseconds.
 pub(crate) const LOOK_MILLIS: u64 = 20;
 
+/// How often those are looked for whose time has run out, in milliseconds.
+pub(crate) const SWEEP_MILLIS: u64 = 100;
+
+/// How many connections whose requests have come are served at most before the sockets are looked at again.
+pub(crate) const MOST_IN_A_ROW: u32 = 16;
+
+/// How many bytes of a reply wait for more of it before they are sent.
+pub(crate) const SEND_BYTES: usize = 16_384;
+
 /// The most bytes of replies that are kept to be written on, of all connections together.
 pub(crate) const MOST_UNSENT: usize = 67_108_864;
 
@@ -51,5 +63,5 @@ pub(crate) const PIECE: usize = 65_536;
 /// How often a wait is begun again at most.
 pub(crate) const MOST_WAITS: u32 = 1_000_000;
 
-/// The token of the listener. That of a connection is its number.
+/// The token of the listener. That of a connection is its place and one.
 pub(crate) const LISTENER: usize = 0;

@@ -1,63 +1,113 @@
 use oc_base::{MAX_BODY_BYTES, MAX_HEAD_BYTES};
 
-/// What the lines of a head so far say of the body behind it.
+/// What a look at the lines of a request found so far. Each line is looked at once, however slowly they come.
+///
+/// This only says when a request is worth reading: what it says is found out by whoever reads it.
 #[derive(Clone, Copy)]
-struct Said {
+pub(crate) struct Look {
+    /// Where the next line begins, and up to where no end of it was found.
+    line: usize,
+    seen: usize,
+    /// Whether a line of the head came.
     begun: bool,
-    expects: bool,
+    /// Where the body begins, once the head has come.
+    body: Option<usize>,
+    /// What the Content-Length says.
     length: usize,
+    /// Whether the request waits for `100-continue` before it sends its body.
+    expects: bool,
+    /// Whether something else than the Content-Length says where the body ends.
+    is_coded: bool,
 }
 
-impl Said {
-    /// With one more line, which is not empty.
-    fn with(self, line: &[u8]) -> Said {
-        let Some((name, value)) = field(line) else {
-            return Said {
-                begun: true,
-                ..self
-            };
+impl Look {
+    /// A look at nothing.
+    pub(crate) fn new() -> Look {
+        Look {
+            line: 0,
+            seen: 0,
+            begun: false,
+            body: None,
+            length: 0,
+            expects: false,
+            is_coded: false,
+        }
+    }
+
+    /// Looks at what came since the last look; the bytes are all that came.
+    pub(crate) fn over(&mut self, bytes: &[u8]) {
+        for _ in 0..bytes.len() {
+            if self.body.is_some() || !self.step(bytes) {
+                return;
+            }
+        }
+    }
+
+    /// Looks at one line; false where its end has not come.
+    fn step(&mut self, bytes: &[u8]) -> bool {
+        let rest = bytes.get(self.seen..).unwrap_or(&[]);
+        let Some(end) = rest.iter().position(|byte| *byte == b'\n') else {
+            self.seen = bytes.len();
+            return false;
         };
-        Said {
-            begun: true,
-            expects: self.expects || (is_word(name, b"expect") && is_word(value, b"100-continue")),
-            length: if is_word(name, b"content-length") {
-                number(value)
-            } else {
-                self.length
-            },
+        let end = self.seen.saturating_add(end);
+        let line = bytes.get(self.line..end).unwrap_or(&[]);
+        self.take(
+            line.strip_suffix(b"\r").unwrap_or(line),
+            end.saturating_add(1),
+        );
+        true
+    }
+
+    /// Takes a line, behind which the next one begins there. Empty lines before the head are none of it.
+    fn take(&mut self, line: &[u8], next: usize) {
+        self.line = next;
+        self.seen = next;
+        if line.is_empty() {
+            self.body = self.begun.then_some(next);
+            return;
+        }
+        self.begun = true;
+        let Some((name, value)) = field(line) else {
+            return;
+        };
+        if is_word(name, b"content-length") {
+            self.length = number(value);
+        } else if is_word(name, b"expect") {
+            self.expects = self.expects || is_word(value, b"100-continue");
+        } else if is_word(name, b"transfer-encoding") {
+            self.is_coded = true;
         }
     }
 
-    /// Whether so many bytes behind the head are all that is waited for.
-    fn is_enough(self, behind: usize) -> bool {
-        self.expects || self.length > MAX_BODY_BYTES as usize || behind >= self.length
+    /// Whether so many bytes are a whole request: a head, and as many bytes behind it as its Content-Length
+    /// says. Of a request that expects `100-continue` the head is enough, as it is where the body is longer
+    /// than a body may be.
+    pub(crate) fn is_whole(&self, count: usize) -> bool {
+        match self.body {
+            Some(body) => {
+                self.expects
+                    || self.length > MAX_BODY_BYTES as usize
+                    || count >= body.saturating_add(self.length)
+            }
+            None => count >= MAX_HEAD_BYTES,
+        }
+    }
+
+    /// Whether so many bytes are the whole request, and its peer has nothing more to send.
+    pub(crate) fn is_all(&self, count: usize) -> bool {
+        match self.body {
+            Some(body) => {
+                !self.expects && !self.is_coded && count == body.saturating_add(self.length)
+            }
+            None => false,
+        }
     }
 }
 
-/// Whether these bytes are a whole request, as far as a look at its lines tells: a head, and as many bytes
-/// behind it as its Content-Length says. Of a request that expects `100-continue` the head is enough, as it
-/// is where the body is longer than a body may be. This only says when a request is worth reading: what
-/// it says is found out by whoever reads it.
-pub(crate) fn is_whole(bytes: &[u8]) -> bool {
-    let mut said = Said {
-        begun: false,
-        expects: false,
-        length: 0,
-    };
-    let mut at = 0usize;
-    for line in bytes.split(|byte| *byte == b'\n') {
-        at = at.saturating_add(line.len()).saturating_add(1);
-        if at > bytes.len() {
-            break;
-        }
-        let line = line.strip_suffix(b"\r").unwrap_or(line);
-        if !line.is_empty() {
-            said = said.with(line);
-        } else if said.begun {
-            return said.is_enough(bytes.len().saturating_sub(at));
-        }
-    }
-    bytes.len() >= MAX_HEAD_BYTES
+/// Whether these bytes ask for a probe.
+pub(crate) fn is_probe(bytes: &[u8]) -> bool {
+    bytes.starts_with(b"GET /!probe ") || bytes.starts_with(b"HEAD /!probe ")
 }
 
 /// The name and the value of a field, without the blanks round the value.

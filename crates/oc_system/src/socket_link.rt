@@ -9,11 +9,13 @@ use std::io;
 use std::net::{Net, TcpStream};
 use std::rt::Clock;
 
-/// How long a connection that was made may take at least and at most where something listens here, in
-/// milliseconds: of two nodes that dial each other at once, one then gives up first and serves the other.
-const SHORT_DIAL: u64 = 500;
+/// How long a dial may take at least and at most where something listens here, in milliseconds: one that brings
+/// a message, and one that does not, as a probe. Of two nodes of one thread that dial each other at once, one so
+/// gives up first and serves the other, and it is not the one with a message: a node that gives up a message to
+/// its parent leaves it.
+const MESSAGE_DIAL: (u64, u64) = (1_100, 2_000);
 
-const LONG_DIAL: u64 = 2_000;
+const OTHER_DIAL: (u64, u64) = (500, 900);
 
 /// How many bytes passed through the calls of a link.
 #[derive(Clone, Copy, Debug, PartialEq, Eq)]
@@ -118,25 +120,26 @@ impl<R: Net<Stream = TcpStream> + Clock> SocketLink<'_, R> {
     {
         self.outgoing = None;
         self.awaits_reply = bytes.starts_with(b"POST");
-        self.until = self.patience();
+        self.until = self.patience(self.awaits_reply);
         self.outgoing = Some(Outgoing::reach(self.rt, self.alloc, address, self.until)?);
         self.say(bytes)
     }
 
     /// Until when the next dial may last, in milliseconds; none where nothing listens here, and each call has
     /// its own time. The clock's finest digits are as good as drawn.
-    fn patience(&self) -> Option<u64> {
+    fn patience(&self, brings_message: bool) -> Option<u64> {
         self.sockets.as_ref()?;
+        let (short, long) = if brings_message {
+            MESSAGE_DIAL
+        } else {
+            OTHER_DIAL
+        };
         let drawn = match self.rt.monotonic() {
             Ok(time) => u64::from(time.subsec_nanos()) / 64,
             Err(_) => 0,
         };
-        let more = drawn % LONG_DIAL.saturating_sub(SHORT_DIAL).max(1);
-        Some(
-            millis(self.rt)
-                .saturating_add(SHORT_DIAL)
-                .saturating_add(more),
-        )
+        let more = drawn % long.saturating_sub(short).max(1);
+        Some(millis(self.rt).saturating_add(short).saturating_add(more))
     }
 
     /// Writes all these bytes on the outgoing connection.

@@ -3,6 +3,7 @@
 ghost use Rattle.std.specs.Prelude.{◌<◌, ◌≤◌, length, IfOk};
 
 use super::{Awaits, Sockets, millis};
+use crate::connection::{Connection, Stage};
 use crate::limits::{
     BODY_MILLIS, FURTHER_MILLIS, IDLE_MILLIS, LEAVING_MILLIS, LINGER_MILLIS, LOOK_MILLIS,
     MOST_LEAVING, MOST_UNSENT, MOST_WAITS, REPLYING_MILLIS, SILENT_BODY_MILLIS, SILENT_MILLIS,
@@ -15,9 +16,18 @@ impl Sockets {
     pub(crate) fn read<R: Clock>(&mut self, rt: &R, buf: &mut [u8]) -> io::Result<usize>
         ensures within { IfOk result (λ n. n ≤ length buf.old) }
     {
-        let begun = millis(rt);
+        match self.read_now(buf) {
+            Err(error) if error.kind() == ErrorKind::WouldBlock => {}
+            given => {
+                self.has_read = true;
+                return given;
+            }
+        }
+        let mut now = millis(rt);
+        self.watch_current();
+        self.send_current();
+        let begun = now;
         let mut since = begun;
-        let mut now = begun;
         for _ in 0..MOST_WAITS {
             match self.read_now(buf) {
                 Err(error) if error.kind() == ErrorKind::WouldBlock => {}
@@ -31,13 +41,20 @@ impl Sockets {
             } else if self.is_out_of_time(since, now) {
                 break;
             }
-            self.pump(LOOK_MILLIS, now)?;
-            now = millis(rt);
+            now = self.pump(rt, LOOK_MILLIS)?;
         }
         if matches!(self.awaits, Awaits::Further) {
             return Ok(0);
         }
         Err(io::Error::from(ErrorKind::TimedOut))
+    }
+
+    /// Has the system tell when the current connection is ready.
+    fn watch_current(&mut self) {
+        if let Some(current) = &mut self.current {
+            let token = current.place.saturating_add(1);
+            current.watch(self.poll.registry(), token);
+        }
     }
 
     /// Reads what has come on the current connection.
@@ -52,7 +69,7 @@ impl Sockets {
             given => return given,
         }
         // More may have come while nobody looked.
-        current.take_in(&mut self.piece);
+        let _came = current.take_in(&mut self.piece);
         current.read_now(buf)
     }
 
@@ -98,14 +115,15 @@ impl Sockets {
         let mut until = now.saturating_add(LEAVING_MILLIS);
         for _ in 0..MOST_WAITS {
             let before = self.went;
-            let room = MOST_UNSENT.saturating_sub(self.unsent());
+            let room = MOST_UNSENT.saturating_sub(self.unsent);
             let count = bytes.len().min(room);
             if count > 0 {
                 self.put(&bytes[..count], now)?;
                 return Ok(count);
             }
-            self.pump(LOOK_MILLIS, now)?;
-            now = millis(rt);
+            self.watch_current();
+            self.send_current();
+            now = self.pump(rt, LOOK_MILLIS)?;
             if self.went > before {
                 until = now.saturating_add(LEAVING_MILLIS);
             }
@@ -116,32 +134,47 @@ impl Sockets {
         Err(io::Error::from(ErrorKind::TimedOut))
     }
 
-    /// Puts bytes on the current connection, and sends what can go out at once. Behind a reply a further
-    /// request has its time from then on, and so has a body behind the leave to send it.
+    /// Puts bytes on the current connection. Behind a reply a further request has its time from then on, and so
+    /// has a body behind the leave to send it.
     fn put(&mut self, bytes: &[u8], now: u64) -> io::Result<()> {
         let Some(current) = &mut self.current else {
             return Err(io::Error::from(ErrorKind::NotConnected));
         };
-        current.put(bytes)?;
-        self.went = self.went.saturating_add(current.send());
-        if current.is_broken() {
-            return Err(io::Error::from(ErrorKind::BrokenPipe));
-        }
-        // Only what stands first behind a request can be the leave to send its body.
+        let before = current.left_to_send();
+        let put = current.put(bytes);
+        let left = current.left_to_send();
+        self.went = self.went.saturating_add(
+            before.saturating_add(bytes.len()).saturating_sub(left) as u64,
+        );
+        self.unsent = self.unsent.saturating_sub(before).saturating_add(left);
+        put?;
         if self.has_read {
-            self.awaits = if bytes.starts_with(b"HTTP/1.1 100") {
-                Awaits::Body
-            } else {
-                Awaits::Further
-            };
+            self.begin_reply(bytes);
         }
         self.has_read = false;
         let time = match self.awaits {
             Awaits::Request | Awaits::Further => FURTHER_MILLIS,
             Awaits::Body => BODY_MILLIS,
         };
-        current.until = now.saturating_add(time);
+        if let Some(current) = &mut self.current {
+            current.until = now.saturating_add(time);
+        }
         Ok(())
+    }
+
+    /// These bytes stand first behind a request. Only such can be the leave to send its body. A probe is no
+    /// work, and neither is a message that is only acknowledged: who sends it may do so again and again.
+    fn begin_reply(&mut self, bytes: &[u8]) {
+        self.awaits = if bytes.starts_with(b"HTTP/1.1 100") {
+            Awaits::Body
+        } else {
+            Awaits::Further
+        };
+        let is_acknowledged = bytes.starts_with(b"HTTP/1.1 204");
+        if !self.is_probe && !is_acknowledged {
+            self.is_work = true;
+        }
+        self.is_probe = false;
     }
 
     /// Ends the current connection, if there is one. What is still to go out goes out later.
@@ -149,70 +182,82 @@ impl Sockets {
         let Some(mut current) = self.current.take() else {
             return;
         };
-        let now = millis(rt);
-        self.awaits = Awaits::Request;
-        self.has_read = false;
-        self.went = self.went.saturating_add(current.send());
-        current.until = now.saturating_add(LEAVING_MILLIS);
-        current.leave(self.alloc, now, LINGER_MILLIS);
-        if current.is_gone() {
+        if self.is_work {
+            self.pause.skip();
+        }
+        let sent = current.send();
+        self.note_sent(sent);
+        if current.is_done() {
+            self.unsent = self.unsent.saturating_sub(current.left_to_send());
+            self.table.release(current.place);
             return;
         }
-        self.make_room(rt, now);
-        // It was in no list while others were waited for, so that its socket is ready may have gone unseen.
-        self.went = self.went.saturating_add(current.send());
-        // Without the memory to keep it, it is dropped, and what was not sent with it.
-        let _kept = self.leaving.push(current).is_ok();
+        self.see_off(current, millis(rt));
+        self.make_room(rt);
     }
 
-    /// Sees that one more connection can leave: one that has only its peer's end to wait for has to go, or
-    /// else they are waited for.
-    fn make_room<R: Clock>(&mut self, rt: &R, begun: u64) {
-        let until = begun.saturating_add(LEAVING_MILLIS);
-        let mut now = begun;
-        for _ in 0..MOST_WAITS {
-            if self.leaving.len() < MOST_LEAVING {
-                return;
-            }
-            let finished = self
-                .leaving
-                .iter()
-                .position(|connection| connection.is_finished());
-            let place = finished.unwrap_or(0);
-            if (finished.is_some() || now >= until) && place < self.leaving.len() {
-                self.leaving.remove(place);
-                return;
-            }
-            if self.pump(LOOK_MILLIS, now).is_err() {
-                return;
-            }
-            now = millis(rt);
+    /// Keeps a connection until its reply has gone out and its peer has ended.
+    fn see_off(&mut self, mut current: Connection, now: u64) {
+        current.until = now.saturating_add(LEAVING_MILLIS);
+        current.leave(self.alloc, now, LINGER_MILLIS);
+        let place = current.place;
+        current.watch(self.poll.registry(), place.saturating_add(1));
+        let is_gone = current.is_gone();
+        self.table.put(current);
+        self.leaving = self.leaving.saturating_add(1);
+        if is_gone {
+            self.drop_leaving(place);
         }
+    }
+
+    /// Sees that not too many leave: one that has only its peer's end to wait for has to go, or else they are
+    /// waited for.
+    fn make_room<R: Clock>(&mut self, rt: &R) {
+        let mut now = 0;
+        let mut until = u64::MAX;
+        for _ in 0..MOST_WAITS {
+            if self.leaving <= MOST_LEAVING {
+                return;
+            }
+            match self.first_leaving(now >= until) {
+                Some(place) => {
+                    self.drop_leaving(place);
+                    return;
+                }
+                None => match self.pump(rt, LOOK_MILLIS) {
+                    Ok(time) => {
+                        now = time;
+                        until = until.min(now.saturating_add(LEAVING_MILLIS));
+                    }
+                    Err(_) => return,
+                },
+            }
+        }
+    }
+
+    /// The place of a connection that has only its peer's end to wait for, or of any that leaves.
+    fn first_leaving(&self, any: bool) -> Option<usize> {
+        (0..self.table.len()).find(|place| match self.table.get(*place) {
+            Some(connection) => {
+                connection.stage == Stage::Leaving && (any || connection.is_finished())
+            }
+            None => false,
+        })
     }
 
     /// Sends on until all replies have gone out, for as long as any makes progress.
     pub(crate) fn finish<R: Clock>(&mut self, rt: &R) {
         self.close(rt);
         for _ in 0..MOST_WAITS {
-            let is_sent = self
-                .leaving
-                .iter()
-                .all(|connection| connection.is_finished());
-            if is_sent || self.pump(LOOK_MILLIS, millis(rt)).is_err() {
+            let is_sent = (0..self.table.len()).all(|place| match self.table.get(place) {
+                Some(connection) => {
+                    connection.stage != Stage::Leaving || connection.is_finished()
+                }
+                None => true,
+            });
+            if is_sent || self.pump(rt, LOOK_MILLIS).is_err() {
                 return;
             }
         }
-    }
-
-    /// How many bytes are kept to go out.
-    fn unsent(&self) -> usize {
-        let mut sum = match &self.current {
-            Some(current) => current.left_to_send(),
-            None => 0,
-        };
-        for connection in &self.leaving {
-            sum = sum.saturating_add(connection.left_to_send());
-        }
-        sum
     }
 }

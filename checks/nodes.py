@@ -21,9 +21,9 @@ def need_program():
         sys.exit("the program is not built; build it by: ./overcast --build")
 
 
-def processor(program):
-    """The processor seconds that a program has taken."""
-    with open(f"/proc/{program.pid}/stat") as it:
+def processor(pid):
+    """The processor seconds that a process has taken."""
+    with open(f"/proc/{pid}/stat") as it:
         fields = it.read().rsplit(")", 1)[1].split()
     return (int(fields[11]) + int(fields[12])) / os.sysconf("SC_CLK_TCK")
 

@@ -193,16 +193,14 @@ impl Connection {
         self.unsent.len().saturating_sub(self.sent)
     }
 
-    /// Has these bytes go out behind those that are to, and answers how many bytes went out. Few bytes wait for
-    /// more of them; many go out from where they are, and only what is left of them is kept.
-    pub(crate) fn put(&mut self, bytes: &[u8]) -> io::Result<u64> {
-        let mut gone = 0u64;
+    /// Has these bytes go out behind those that are to. Few bytes wait for more of them; many go out from where
+    /// they are, and only what is left of them is kept.
+    pub(crate) fn put(&mut self, bytes: &[u8]) -> io::Result<()> {
         let mut rest = bytes;
         if self.left_to_send().saturating_add(bytes.len()) >= SEND_BYTES {
-            gone = self.send();
+            self.send();
             if self.left_to_send() == 0 {
                 let count = self.send_now(bytes);
-                gone = gone.saturating_add(count as u64);
                 rest = bytes.get(count..).unwrap_or(&[]);
             }
         }
@@ -210,7 +208,7 @@ impl Connection {
             return Err(io::Error::from(ErrorKind::BrokenPipe));
         }
         match self.unsent.extend_from_slice(rest) {
-            Ok(()) => Ok(gone),
+            Ok(()) => Ok(()),
             Err(_) => Err(io::Error::from(ErrorKind::OutOfMemory)),
         }
     }

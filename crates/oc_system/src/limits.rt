@@ -27,7 +27,7 @@ pub(crate) const FURTHER_MILLIS: u64 = 300;
 pub(crate) const SILENT_MILLIS: u64 = 1_000;
 
 /// For how long it may send nothing of a body that it was let send, and how long that body may take, in
-/// milliseconds. The nodes below give up a dial after 500 at the earliest.
+/// milliseconds. The nodes below give up a dial with a message after 1,100 at the earliest.
 pub(crate) const SILENT_BODY_MILLIS: u64 = 400;
 
 pub(crate) const BODY_MILLIS: u64 = 1_000;

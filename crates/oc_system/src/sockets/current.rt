@@ -143,9 +143,8 @@ impl Sockets {
         let before = current.left_to_send();
         let put = current.put(bytes);
         let left = current.left_to_send();
-        self.went = self.went.saturating_add(
-            before.saturating_add(bytes.len()).saturating_sub(left) as u64,
-        );
+        let sent = before.saturating_add(bytes.len()).saturating_sub(left);
+        self.went = self.went.saturating_add(sent as u64);
         self.unsent = self.unsent.saturating_sub(before).saturating_add(left);
         put?;
         if self.has_read {

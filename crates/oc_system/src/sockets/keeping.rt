@@ -109,15 +109,20 @@ impl Sockets {
         }
     }
 
-    /// Takes the connections that wait. Where too many are kept, the oldest of those that are still sending
-    /// has to go; where none is, the others go on waiting.
+    /// Takes the connections that wait. Where too many are kept, the oldest of those that are still sending has
+    /// to go; where the requests of so many have come, the others go on waiting.
     fn accept(&mut self, now: u64) {
         for _ in 0..MOST_KEPT {
-            if !self.knocks || (self.kept >= MOST_KEPT && !self.drop_oldest()) {
+            if !self.knocks || self.whole.len() >= MOST_KEPT {
                 return;
             }
             match self.listener.accept() {
-                Ok((stream, _)) => self.welcome(stream, now),
+                Ok((stream, _)) => {
+                    self.welcome(stream, now);
+                    if self.kept > MOST_KEPT {
+                        self.drop_oldest();
+                    }
+                }
                 Err(error) if error.kind() == ErrorKind::Interrupted => {}
                 Err(error) if error.kind() == ErrorKind::WouldBlock => self.knocks = false,
                 Err(_) => return,
@@ -125,8 +130,8 @@ impl Sockets {
         }
     }
 
-    /// Drops the oldest connection whose request has not come; answers whether there was one.
-    fn drop_oldest(&mut self) -> bool {
+    /// Drops the oldest connection whose request has not come, if there is one.
+    fn drop_oldest(&mut self) {
         let mut oldest = u64::MAX;
         let mut found = None;
         for place in 0..self.table.len() {
@@ -138,12 +143,8 @@ impl Sockets {
                 }
             }
         }
-        match found {
-            Some(place) => {
-                self.drop_kept(place);
-                true
-            }
-            None => false,
+        if let Some(place) = found {
+            self.drop_kept(place);
         }
     }
 

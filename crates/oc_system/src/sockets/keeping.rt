@@ -177,6 +177,10 @@ impl Sockets {
         connection.take_request(&mut self.piece);
         if connection.stage == Stage::Coming {
             connection.watch(self.poll.registry(), place.saturating_add(1));
+            if connection.is_broken() {
+                self.table.release(place);
+                return;
+            }
         }
         let stage = connection.stage;
         self.table.put(connection);

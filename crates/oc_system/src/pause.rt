@@ -27,6 +27,12 @@ impl Pause {
         self.until = None;
     }
 
+    /// The next wait is so long.
+    pub(crate) fn set(&mut self, millis: u64) {
+        self.millis = millis;
+        self.until = None;
+    }
+
     /// Begins the next wait, or goes on with the one that was broken off; answers until when it lasts.
     pub(crate) fn begin(&mut self, now: u64) -> u64 {
         match self.until {

@@ -126,7 +126,7 @@ impl<R: Net<Stream = TcpStream> + Clock> SocketLink<'_, R> {
     }
 
     /// Until when the next dial may last, in milliseconds; none where nothing listens here, and each call has
-    /// its own time. The clock's finest digits are as good as drawn.
+    /// its own time.
     fn patience(&self, brings_message: bool) -> Option<u64> {
         self.sockets.as_ref()?;
         let (short, long) = if brings_message {
@@ -134,12 +134,35 @@ impl<R: Net<Stream = TcpStream> + Clock> SocketLink<'_, R> {
         } else {
             OTHER_DIAL
         };
-        let drawn = match self.rt.monotonic() {
+        let more = self.drawn() % long.saturating_sub(short).max(1);
+        Some(millis(self.rt).saturating_add(short).saturating_add(more))
+    }
+
+    /// A number that is as good as drawn: the clock's finest digits.
+    fn drawn(&self) -> u64 {
+        match self.rt.monotonic() {
             Ok(time) => u64::from(time.subsec_nanos()) / 64,
             Err(_) => 0,
+        }
+    }
+
+    /// A call of a dial failed. Where that was for want of time, its receiver may have been dialling too.
+    fn give_up(&mut self)
+        ensures listening { self.new.listening ≡ self.old.listening }
+        ensures talking { self.new.talking ≡ self.old.talking }
+        ensures dialling { self.new.dialling ≡ self.old.dialling }
+    {
+        let now = millis(self.rt);
+        let is_late = match self.until {
+            Some(until) => now >= until,
+            None => false,
         };
-        let more = drawn % long.saturating_sub(short).max(1);
-        Some(millis(self.rt).saturating_add(short).saturating_add(more))
+        let drawn = self.drawn();
+        if let Some(sockets) = &mut self.sockets {
+            if is_late {
+                sockets.stagger(drawn);
+            }
+        }
     }
 
     /// Writes all these bytes on the outgoing connection.
@@ -292,6 +315,7 @@ impl<R: Net<Stream = TcpStream> + Clock> Link for SocketLink<'_, R> {
             Ok(()) => Ok(()),
             Err(_) => {
                 self.outgoing = None;
+                self.give_up();
                 self.dialling = self.dialling.saturating_add(1);
                 Err(Failed)
             }
@@ -302,6 +326,7 @@ impl<R: Net<Stream = TcpStream> + Clock> Link for SocketLink<'_, R> {
         match self.say(bytes) {
             Ok(()) => Ok(()),
             Err(_) => {
+                self.give_up();
                 self.dialling = self.dialling.saturating_add(1);
                 Err(Failed)
             }
@@ -315,6 +340,7 @@ impl<R: Net<Stream = TcpStream> + Clock> Link for SocketLink<'_, R> {
                 Ok(count)
             }
             Err(_) => {
+                self.give_up();
                 self.dialling = self.dialling.saturating_add(1);
                 Err(Failed)
             }

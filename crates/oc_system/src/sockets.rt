@@ -2,7 +2,10 @@ mod current;
 mod keeping;
 
 use crate::connection::Connection;
-use crate::limits::{EVENTS, KEPT_MILLIS, LISTENER, MOST_IN_A_ROW, MOST_KEPT, MOST_WAITS, PIECE};
+use crate::limits::{
+    EVENTS, KEPT_MILLIS, LISTENER, LONG_WAIT, MOST_IN_A_ROW, MOST_KEPT, MOST_WAITS, PIECE,
+    SHORT_WAIT,
+};
 use crate::pause::Pause;
 use crate::table::Table;
 use mio::net::TcpListener;
@@ -108,6 +111,13 @@ impl Sockets {
     /// There is work at hand: the next wait for a connection is none.
     pub(crate) fn hurry(&mut self) {
         self.pause.skip();
+    }
+
+    /// A dial was given up, perhaps because its receiver was dialling too, and is served now. The next wait is
+    /// drawn, or both would go on in step and dial each other at once again.
+    pub(crate) fn stagger(&mut self, drawn: u64) {
+        let range = LONG_WAIT.saturating_sub(SHORT_WAIT).max(1);
+        self.pause.set(SHORT_WAIT.saturating_add(drawn % range));
     }
 
     /// Makes the connection that is to be served next the current one; answers whether there was one.

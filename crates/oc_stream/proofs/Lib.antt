@@ -12,3 +12,4 @@ pub mod Bodies
 pub mod OneWay
 pub mod Whole
 pub mod Written
+pub mod Wanted

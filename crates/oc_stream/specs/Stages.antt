@@ -1,5 +1,5 @@
 -- How far the reading of a chunked text has come.
-use Rattle.std.specs.Prelude.{ℕ, List, Bool, true, false, Option, Some, None}
+use Rattle.std.specs.Prelude.{◌≡◌, ℕ, ◌+◌, ◌-◌, ◌≤◌, max, List, Bool, true, false, Option, Some, None}
 use Rattle.oc_stream.specs.declared.fault.ChunkFault.{ChunkFault}
 use Rattle.oc_stream.specs.declared.fault.ChunkFault.TheVariants as faults
 use Rattle.oc_stream.specs.declared.place.Place.{Place}
@@ -34,6 +34,17 @@ abbrev pub is_final : Stage → Bool
 is_final ended = true
 is_final (refused fault) = true
 is_final stage = false
+
+-- how many further bytes surely belong to the text: in a chunk those of its content that are still to come, else one, and none at
+-- the end
+abbrev pub wanted_at : Stage → ℕ
+wanted_at (in_chunk left) = max (left - 2) 1
+wanted_at ended = 0
+wanted_at stage = 1
+
+-- so many bytes led from stage to stage: what was wanted at the old one came, or is wanted at the new one too, which is no refusal
+abbrev pub StillWants : Stage → ℕ → Stage → Type 0
+StillWants old count new = fault_in new ≡ None → wanted_at old ≤ count + wanted_at new
 
 abbrev pub fault_of : Refusal → ChunkFault
 fault_of refusals.Bad = faults.Bad

@@ -1,8 +1,8 @@
 //! Chunked transfer coding (RFC 9112, section 7.1): a content as chunks, and back.
 //!
 //! [`chunk_text`] writes a content as chunks. An [`Unchunker`] reads a chunked text in pieces, cut
-//! anywhere. `httparse` reads the size lines and the closing fields; it is asked at the end of each of
-//! their lines.
+//! anywhere, and says how many bytes surely still belong to it. `httparse` reads the size lines and the
+//! closing fields; it is asked at the end of each of their lines.
 //!
 //! `specs/Chunked` says what a chunked text is. `specs/Taken` says how far bytes lead a reader into
 //! such a text (`IsTaken`), and with which content. The layers above rest on this: whatever the pieces,

@@ -24,7 +24,7 @@ pub(crate) struct Progress {
 }
 
 impl Progress {
-    ghost use Rattle.oc_stream.specs.Stages.{in_size, is_ended, is_final, fault_in};
+    ghost use Rattle.oc_stream.specs.Stages.{in_size, is_ended, is_final, fault_in, wanted_at, StillWants};
     ghost use Rattle.oc_stream.specs.Taken.{Takes};
     ghost use Rattle.oc_stream.specs.Views.{stage_of, Advances, IsLine};
     ghost use Rattle.oc_stream.specs.declared.place.Place.TheVariants.{Chunk};
@@ -60,6 +60,17 @@ impl Progress {
         matches!(self.place, Place::End)
     }
 
+    /// How many further bytes surely belong to the text, and one where it is refused.
+    pub(crate) fn wanted(&self) -> usize
+        ensures { result ≡ wanted_at (stage_of self.now) }
+    {
+        match self.place {
+            Place::Chunk { left } => (left as usize).saturating_sub(2).max(1),
+            Place::End => 0,
+            _ => 1,
+        }
+    }
+
     /// Takes of a piece what belongs to the text, up to the byte at which it is refused, and puts its
     /// content at the end of `out`, which has room for it. Gives how many bytes it took.
     pub(crate) fn take(&mut self, piece: &[u8], out: &mut Vec<u8>) -> usize
@@ -67,6 +78,7 @@ impl Progress {
         ensures within { result ≤ length piece.now }
         ensures takes { Advances self.old self.new (take result piece.now) out.old.items out.new.items }
         ensures whole { result < length piece.now → is_final (stage_of self.new) ≡ true }
+        ensures wants { StillWants (stage_of self.old) result (stage_of self.new) }
     {
         let mut taken = 0;
         'bytes: while taken < piece.len() && self.is_open() {
@@ -91,6 +103,7 @@ impl Progress {
         ensures within { result ≤ length rest.now }
         ensures takes { Advances self.old self.new (take result rest.now) out.old.items out.new.items }
         ensures room { vec_len out.new + length rest.now ≤ vec_capacity out.new + result }
+        ensures wants { StillWants (stage_of self.old) result (stage_of self.new) }
     {
         match self.place {
             Place::Chunk { left } if left > 2 => self.take_content(left, rest, out),
@@ -116,6 +129,7 @@ impl Progress {
         ensures given { out.new.items ≡ out.old.items ++ take result rest.now }
         ensures takes { Takes (stage_of self.old) (take result rest.now) (take result rest.now) (stage_of self.new) }
         ensures room { vec_len out.new + length rest.now ≤ vec_capacity out.new + result }
+        ensures wants { wanted_at (stage_of self.old) ≤ result + wanted_at (stage_of self.new) }
     {
         let count = rest.len().min(left as usize - 2);
         put_reserved(out, &rest[..count]);

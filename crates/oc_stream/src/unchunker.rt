@@ -26,7 +26,7 @@ impl Model for Unchunker {
 impl Unchunker {
     ghost use Rattle.std.specs.Prelude.{◌≡◌, ◌≢◌, ◌<◌, ◌≤◌, ℕ, List, [], ◌++◌, length, take, Err, None, IfOk, IfErr, OnOk, OnErr, MatchBool};
     ghost use Rattle.oc_stream.specs.Chunked.{IsChunked};
-    ghost use Rattle.oc_stream.specs.Stages.{ended, refused, fault_in};
+    ghost use Rattle.oc_stream.specs.Stages.{ended, refused, fault_in, wanted_at};
     ghost use Rattle.oc_stream.specs.Taken.{IsTaken, Takes, RefusesPiece};
     ghost use Rattle.oc_stream.specs.declared.fault.ChunkFault.{ChunkFault};
 
@@ -49,6 +49,9 @@ impl Unchunker {
             × Takes self.old (take count piece.now) content self.new) }
         ensures fine { OnOk result (fault_in self.new ≡ None) }
 
+        // A piece of no more bytes than are wanted is taken whole.
+        ensures wanted { IfOk result (λ count. length piece.now ≤ wanted_at self.old → count ≡ length piece.now) }
+
         ensures refused { IfErr result (λ fault. fault ≢ ChunkFault.Memory → (self.new ≡ refused fault) × RefusesPiece self.old piece.now fault) }
         ensures again { (fault : ChunkFault) → self.old ≡ refused fault → result ≡ Err fault }
         ensures unused { OnErr result (out.new.items ≡ out.old.items) }
@@ -65,6 +68,16 @@ impl Unchunker {
             return Err(fault);
         }
         Ok(taken)
+    }
+
+    /// How many further bytes surely belong to the text: within a chunk those of its content that are still
+    /// to come, else one, and none at its end. Where a piece was refused it is one too.
+    pub fn wanted(&self) -> usize
+        ensures said { result ≡ wanted_at self.now }
+        ensures surely { (bytes given more content : List ℕ) → IsTaken bytes given self.now → IsTaken (bytes ++ more) content ended
+            → result ≤ length more }
+    {
+        self.progress.wanted()
     }
 
     /// Whether the bytes taken are a whole chunked text.

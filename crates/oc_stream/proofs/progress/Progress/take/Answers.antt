@@ -1,8 +1,9 @@
 -- What an advance adds to what was taken before it.
-use Rattle.std.proofs.Common.{◌≡◌, ℕ, ◌+◌, ◌-◌, ◌≤◌, List, ◌++◌, length, take, drop, sym, ap, ◌∙◌, arith, length-drop}
+use Rattle.std.proofs.Common.{◌≡◌, ℕ, ◌+◌, ◌-◌, ◌≤◌, true, not, None, List, ◌++◌, length, take, drop, sym, ap, ◌∙◌, refl, arith, length-drop}
 use Rattle.std.proofs.lemmas.List.{append_assoc, take-take, length-take-le}
 use Rattle.std.proofs.Math.Seq.{take-add}
 use Rattle.oc_stream.specs.declared.progress.Progress.{Progress}
+use Rattle.oc_stream.specs.Stages.{Stage, in_size, in_chunk, in_closing, ended, refused, is_final, fault_in, StillWants}
 use Rattle.oc_stream.specs.Views.{stage_of, Advances}
 use Rattle.oc_stream.proofs.Steps.{Takes-then}
 use Rattle.oc_stream.proofs.progress.Progress.take.Goals as goal
@@ -25,6 +26,21 @@ more_taken taken count piece within =
 rest_long : (taken : ℕ) (piece : List ℕ) → length (take (length piece - taken) (drop taken piece)) ≡ length piece - taken
 rest_long taken piece = length-take-le (length piece - taken) (drop taken piece) (omega (arith, length-drop taken piece))
 
+-- where more can be taken nothing is refused
+open_fine : (s : Stage) → true ≡ not (is_final s) → fault_in s ≡ None
+open_fine (in_size line) goes = refl
+open_fine (in_chunk left) goes = refl
+open_fine (in_closing front) goes = refl
+open_fine ended goes = refl
+open_fine (refused fault) goes = cc
+
+-- what is still wanted behind one step and the next
+wants_then : (a b c : Stage) (m n : ℕ) → true ≡ not (is_final b) → StillWants a m b → StillWants b n c → StillWants a (m + n) c
+wants_then a b c m n goes first second = λ fine.
+    let before = first (open_fine b goes) in
+    let after = second fine in
+    omega (arith, before, after)
+
 pub bytes-preserved : goal.bytes-preserved
 bytes-preserved c =
     let step = c.advance-taken.ensures in
@@ -34,4 +50,5 @@ bytes-preserved c =
       within = within;
       advances = rw (more_taken c.bytes.taken c.advance-taken.result c.args.piece.now within) (Advances-then _ _ _ _ _ _ _ _ c.bytes.invariant.advances step.takes);
       room = omega (arith, long, step.room, c.bytes-test.true);
+      wants = wants_then (stage_of c.args.self.now) (stage_of c.bytes.self) (stage_of c.advance-taken.new.self) c.bytes.taken c.advance-taken.result (sym c.if-is_open.true ∙ c.is_open.ensures) c.bytes.invariant.wants step.wants;
     }

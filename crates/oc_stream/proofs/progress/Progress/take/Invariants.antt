@@ -1,5 +1,6 @@
 use Rattle.std.proofs.Common.{◌+◌, ◌-◌, ◌≤◌, length, take, vec_len, vec_capacity}
-use Rattle.oc_stream.specs.Views.{Advances}
+use Rattle.oc_stream.specs.Stages.{StillWants}
+use Rattle.oc_stream.specs.Views.{stage_of, Advances}
 use Rattle.oc_stream.proofs.progress.Progress.take.Given as goal
 
 -- what was taken of the piece led on, and there is room for the rest
@@ -8,6 +9,7 @@ invariant-bytes l = record {
   within : l.taken ≤ length l.piece;
   advances : Advances l.fn.self l.self (take l.taken l.piece) l.fn.out.items l.out.items;
   room : vec_len l.out + length l.piece ≤ vec_capacity l.out + l.taken;
+  wants : StillWants (stage_of l.fn.self) l.taken (stage_of l.self);
 }
 
 abbrev pub decreases-bytes : goal.decreases-bytes

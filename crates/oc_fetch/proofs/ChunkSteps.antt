@@ -1,9 +1,6 @@
 -- A chunked text that is taken piece by piece.
-use Rattle.std.proofs.Common.{◌≡◌, ◌≢◌, ℕ, ◌+◌, ◌<◌, ◌≤◌, Bool, true, false, not, MatchBool, Result, Ok, Err, OnOk, OnErr, List, [], ◌∷◌, ◌++◌, length, take, drop, inl, inr, refl, sym, ap, ◌∙◌, subst, arith, length-append, take-append-drop}
-use Rattle.std.proofs.Math.Nat.{eq-or-lt_of_le}
-use Rattle.std.proofs.lemmas.List.{append-nil, append_assoc, take_all}
-use Rattle.std.specs.List.{AllByRecursion}
-use Rattle.std.specs.Result.{is_err}
+use Rattle.std.proofs.Common.{◌≡◌, ◌≢◌, ℕ, ◌+◌, ◌<◌, ◌≤◌, Bool, true, false, List, [], ◌++◌, length, take, drop, inl, inr, refl, sym, ap, ◌∙◌, subst, arith, length-append, take-append-drop}
+use Rattle.std.proofs.lemmas.List.{append-nil, append_assoc}
 use Rattle.oc_fetch.specs.Chunks.{EndsWritten, IsPut, StopsPiece, TakesPiece}
 use Rattle.oc_fetch.specs.Passing.{IsPassed, StopsPassing}
 use Rattle.oc_fetch.specs.Replies.{BreaksOff}
@@ -12,58 +9,40 @@ use Rattle.oc_fetch.specs.declared.end.GetEnd.TheVariants as ends
 use Rattle.oc_fetch.specs.declared.extent.Extent.TheVariants.{Chunked}
 use Rattle.oc_fetch.specs.declared.extent.TheConstants.{MAX_OPEN_BYTES}
 use Rattle.oc_fetch.proofs.Moving.{Then, front_whole, front_behind, unseen}
-use Rattle.oc_stream.specs.Chunked.{Chunk, IsChunk, IsChunked, print_chunks, content_of}
-use Rattle.oc_stream.specs.Stages.{Stage, in_size, in_chunk, in_closing, ended, refused, is_ended}
-use Rattle.oc_stream.specs.Taken.{IsTaken, IsShortChunk, Takes}
+use Rattle.oc_stream.specs.Stages.{Stage, in_size, in_chunk, in_closing, ended, refused, is_ended, wanted_at}
+use Rattle.oc_stream.specs.Taken.{IsTaken, Takes}
 
--- The law of a text that is taken
+-- What is wanted
 
--- the law that bytes lead to one stage
-abbrev pub OneStage : Type 0
-OneStage = (bytes content other : List ℕ) (s t : Stage) → IsTaken bytes content s → IsTaken bytes other t → (s ≡ t) × (content ≡ other)
+-- nothing is wanted at the end
+pub wanted_none : (s : Stage) → wanted_at s ≡ 0 → is_ended s ≡ true
+wanted_none (in_size line) none = cc
+wanted_none (in_chunk left) none = absurd (omega (arith, none))
+wanted_none (in_closing front) none = cc
+wanted_none ended none = refl
+wanted_none (refused fault) none = cc
 
--- a text that goes on has not ended
-pub not_ended : (s : Stage) → is_ended s ≡ false → s ≢ ended
-not_ended s goes = λ e. let wrong : true ≡ false = sym (ap is_ended e) ∙ goes in cc
+-- and something before it
+pub wanted_some : (s : Stage) → 0 < wanted_at s → is_ended s ≡ false
+wanted_some (in_size line) some = refl
+wanted_some (in_chunk left) some = refl
+wanted_some (in_closing front) some = refl
+wanted_some ended some = absurd (omega (arith, some))
+wanted_some (refused fault) some = refl
 
--- a text that goes on takes a byte
-pub taken_whole : OneStage → (old new : Stage) (piece : List ℕ) (count : ℕ) (content bytes given : List ℕ) → IsTaken bytes given old → Takes old (take count piece) content new → length piece ≡ 1 → is_ended old ≡ false → count ≤ length piece → (count < length piece → new ≡ ended) → take count piece ≡ piece
-taken_whole one old new piece count content bytes given t takes some goes within less = elim (eq-or-lt_of_le within) [
-  | inl whole ↦ take_all count piece (omega (arith, whole))
-  | inr short ↦
-      let none : count ≡ 0 = omega (arith, short, some) in
-      let nothing : take count piece ≡ [] = ap (λ n. take n piece) none in
-      let last : Takes old [] content ended = subst (λ (b : List ℕ). Takes old b content ended) nothing (subst (λ (s : Stage). Takes old (take count piece) content s) (less short) takes) in
-      let after = subst (λ (b : List ℕ). IsTaken b (given ++ content) ended) (append-nil bytes) (last.on bytes given t) in
-      absurd (not_ended old goes (one bytes given (given ++ content) old ended t after).0)
-]
+-- Why no piece was taken
 
--- the chunks of a text are chunks, however long their size lines are
-chunks_of : (chunks : List Chunk) → AllByRecursion IsShortChunk chunks → AllByRecursion IsChunk chunks
-chunks_of [] all = tt
-chunks_of (c ∷ chunks) all = (all.0.chunk, chunks_of chunks all.1)
+-- a call failed
+pub stops_failed : {S : Type 0} (gives fails : S → List ℕ → S → Type 0) (ended_by : S → Type 0) (a b : S) (s : Stage) → fails a [] b → StopsPiece gives fails ended_by a b s ends.Link
+stops_failed gives fails ended_by a b s failed = record { front = []; rest = []; over = false; came = failed; is_over = unseen; cause = refl }
 
--- chunks, a line and what closes them
-closed_text : (text chunks behind line front section : List ℕ) → text ≡ chunks ++ behind → behind ≡ line ++ front → front ≡ section ++ [] → text ≡ chunks ++ (line ++ section)
-closed_text text chunks behind line front section whole closed reads = whole ∙ ap (λ (b : List ℕ). chunks ++ b) (closed ∙ ap (λ (b : List ℕ). line ++ b) (reads ∙ append-nil section))
+-- nothing more came
+pub stops_early : {S : Type 0} (gives fails : S → List ℕ → S → Type 0) (ended_by : S → Type 0) (a b : S) (s : Stage) → gives a [] b → ended_by b → StopsPiece gives fails ended_by a b s ends.Reply
+stops_early gives fails ended_by a b s came end = record { front = []; rest = []; over = true; came = came; is_over = λ _. end; cause = inl (refl, refl) }
 
--- bytes that lead to the end are a chunked text
-pub whole_text : (bytes content : List ℕ) → IsTaken bytes content ended → IsChunked bytes content
-whole_text bytes content t =
-    let whole = t.leads in
-    record {
-      chunks = t.chunks;
-      closing = record { line = whole.closed.line; fields = whole.fields.0; last = whole.fields.1 };
-      all = chunks_of t.chunks t.all;
-      closes = record {
-        line = whole.closed.size.is_line;
-        none = whole.closed.none;
-        fields = whole.reads.0;
-        few = whole.few;
-      };
-      text_is = closed_text bytes (print_chunks t.chunks) t.behind _ whole.front _ t.bytes_are whole.closed.bytes_are whole.reads.1;
-      content_is = t.content_is ∙ ap (λ (b : List ℕ). content_of t.chunks ++ b) whole.closed.content_is ∙ append-nil (content_of t.chunks);
-    }
+-- there was no memory for what came
+pub stops_starved : {S : Type 0} (gives fails : S → List ℕ → S → Type 0) (ended_by : S → Type 0) (a b : S) (s : Stage) (piece : List ℕ) → gives a piece b → StopsPiece gives fails ended_by a b s ends.Memory
+stops_starved gives fails ended_by a b s piece came = record { front = []; rest = piece; over = false; came = came; is_over = unseen; cause = tt }
 
 -- What was passed on so far
 
@@ -286,30 +265,3 @@ passed_starved gives fails ended_by takes breaks a b p q s count gathered has = 
   front = (gathered, refl);
   cause = tt;
 }
-
--- what a reader says of its end is whether it is there
-pub ended_is : ((bytes content given : List ℕ) (s : Stage) → IsChunked bytes content → IsTaken bytes given s → (s ≡ ended) × (given ≡ content)) → (s : Stage) (bytes given : List ℕ) (r : Bool) → IsTaken bytes given s → MatchBool r (IsChunked bytes given) ((other : List ℕ) → ¬ (IsChunked bytes other)) → not r ≡ not (is_ended s)
-ended_is law s bytes given true t said = ap (λ x. not (is_ended x)) (sym (law bytes given given s said t).0)
-ended_is law (in_size line) bytes given false t said = refl
-ended_is law (in_chunk left) bytes given false t said = refl
-ended_is law (in_closing front) bytes given false t said = refl
-ended_is law ended bytes given false t said = absurd (said given (whole_text bytes given t))
-ended_is law (refused fault) bytes given false t said = refl
-
--- whether a text goes on, by what a test says
-pub goes_on_is : (end : Bool) → true ≡ not end → end ≡ false
-goes_on_is true said = cc
-goes_on_is false said = refl
-
-pub goes_on_not : (end : Bool) → false ≡ not end → end ≡ true
-goes_on_not true said = refl
-goes_on_not false said = cc
-
--- what a call that failed, or did not, says
-pub err_holds : {A E : Type 0} (r : Result A E) (P : Type 0) → true ≡ is_err r → OnErr r P → P
-err_holds (Ok x) P failed said = cc
-err_holds (Err e) P failed said = said
-
-pub ok_holds : {A E : Type 0} (r : Result A E) (P : Type 0) → false ≡ is_err r → OnOk r P → P
-ok_holds (Ok x) P went said = said
-ok_holds (Err e) P went said = cc

@@ -1,29 +1,30 @@
 //! A chunked content, passed on as it comes.
 
-ghost use Rattle.std.specs.Prelude.{◌≡◌, ◌⊎◌, ◌++◌, ℕ, List, [], false, not, take, IfOk, IfErr, OnOk, OnErr, IsErrOf};
+ghost use Rattle.std.specs.Prelude.{◌≡◌, ◌⊎◌, ◌++◌, ◌<◌, ◌≤◌, ℕ, List, [], length, take, IfOk, IfErr, OnOk, OnErr, IsErrOf};
 ghost use Rattle.oc_fetch.specs.Chunks.{EndsWritten, IsPut, StopsPiece, TakesPiece};
 ghost use Rattle.oc_fetch.specs.Passing.{IsPassed, StopsPassing};
 ghost use Rattle.oc_fetch.specs.declared.extent.Extent.TheVariants.{Chunked as ChunkedExtent};
 ghost use Rattle.oc_io.specs.Faults.{NoFall, Rose};
-ghost use Rattle.oc_stream.specs.Stages.{is_ended};
-ghost use Rattle.oc_stream.specs.Taken.{IsTaken};
+ghost use Rattle.oc_stream.specs.Stages.{wanted_at};
 
 use crate::end::GetEnd;
 use crate::extent::MAX_OPEN_BYTES;
 use crate::room::PIECE_BYTES;
 use oc_io::{Sink, Source, write_all};
-use oc_stream::{ChunkFault, Unchunker, a_chunked_text_ends, a_text_is_read_in_one_way};
+use oc_stream::{ChunkFault, Unchunker};
 use std::alloc::Global;
 
-/// Passes a chunked content on from a source to a sink, at most `MAX_OPEN_BYTES`. The text is taken byte
-/// by byte, since its end shows only there, and nothing that is behind it may be taken. Its content is
-/// gathered, and written in pieces of `PIECE_BYTES`. Gives the length of the content in bytes.
+/// Passes a chunked content on from a source to a sink, at most `MAX_OPEN_BYTES`. Nothing that is behind the
+/// text may be taken, so no more is read at once than surely belongs to it. The content is gathered, and written
+/// in pieces of `PIECE_BYTES`. Gives its length in bytes.
 pub(crate) fn pass_chunked<S: Source, K: Sink>(
     alloc: Global,
     source: &mut S,
     sink: &mut K,
+    buffer: &mut [u8],
     content: &mut Vec<u8>,
 ) -> Result<u64, GetEnd>
+    requires { length buffer.old ≡ PIECE_BYTES }
     ensures passed { IfOk result (λ count. IsPassed S.gives S.ended K.takes ChunkedExtent source.old source.new sink.old sink.new count) }
     ensures stopped { IfErr result (λ end. StopsPassing S.gives S.fails S.ended K.takes K.fails ChunkedExtent source.old source.new sink.old sink.new end) }
     ensures source_count { NoFall (S.faults source.old) (S.faults source.new) }
@@ -34,12 +35,14 @@ pub(crate) fn pass_chunked<S: Source, K: Sink>(
     let mut unchunker = Unchunker::new(alloc)?;
     let mut passed = 0;
     content.clear();
-    'bytes: for _ in 0..u64::MAX {
-        if !goes_on(&unchunker) {
+    'pieces: for _ in 0..u64::MAX {
+        let wanted = unchunker.wanted();
+        if wanted == 0 {
             let last = put(sink, content)?;
             return Ok(passed + last);
         }
-        if let Err(end) = take_byte(&mut unchunker, source, content) {
+        let most = wanted.min(PIECE_BYTES - content.len());
+        if let Err(end) = take_piece(&mut unchunker, source, &mut buffer[..most], content) {
             return Err(put_before(end, sink, content));
         }
         if content.len() as u64 > MAX_OPEN_BYTES - passed {
@@ -50,9 +53,11 @@ pub(crate) fn pass_chunked<S: Source, K: Sink>(
     Err(GetEnd::Memory)
 }
 
-/// Writes what was gathered, if it is a whole piece. Gives how many bytes were written, and leaves the rest.
+/// Writes what was gathered, if it is a whole piece. Gives how many bytes were written, and leaves the rest,
+/// which is less than a piece.
 fn put_piece<K: Sink>(sink: &mut K, content: &mut Vec<u8>) -> Result<u64, GetEnd>
     ensures put { IfOk result (λ count. IsPut K.takes sink.old sink.new content.old.items content.new.items count) }
+    ensures short { OnOk result (length content.new.items < PIECE_BYTES) }
     ensures unsent { OnErr result ((n : ℕ) × K.fails sink.old (take n content.old.items) sink.new) }
     ensures end { IfErr result (λ end. end ≡ GetEnd.Sink) }
     ensures count { NoFall (K.faults sink.old) (K.faults sink.new) }
@@ -96,23 +101,15 @@ fn put_before<K: Sink>(end: GetEnd, sink: &mut K, content: &[u8]) -> GetEnd
     }
 }
 
-/// Whether a text is not at its end.
-fn goes_on(unchunker: &Unchunker) -> bool
-    requires { (bytes : List ℕ) × (given : List ℕ) × IsTaken bytes given unchunker.now }
-    ensures { result ≡ not (is_ended unchunker.now) }
-{
-    a_chunked_text_ends();
-    !unchunker.ended()
-}
-
-/// Takes the next byte of a chunked text that is not at its end, and gathers its content.
-fn take_byte<S: Source>(
+/// Takes the next bytes of a chunked text, at most as many as the buffer has, and gathers their content.
+fn take_piece<S: Source>(
     unchunker: &mut Unchunker,
     source: &mut S,
+    buffer: &mut [u8],
     content: &mut Vec<u8>,
 ) -> Result<(), GetEnd>
-    requires open { is_ended unchunker.old ≡ false }
-    requires taken { (bytes : List ℕ) × (given : List ℕ) × IsTaken bytes given unchunker.old }
+    requires some { 0 < length buffer.old }
+    requires wanted { length buffer.old ≤ wanted_at unchunker.old }
     ensures takes { OnOk result ((more : List ℕ) × (content.new.items ≡ content.old.items ++ more)
         × TakesPiece S.gives source.old source.new unchunker.old unchunker.new more) }
     ensures unused { OnErr result (content.new.items ≡ content.old.items) }
@@ -120,15 +117,13 @@ fn take_byte<S: Source>(
     ensures count { NoFall (S.faults source.old) (S.faults source.new) }
     ensures cause { IsErrOf result GetEnd.Link → Rose (S.faults source.old) (S.faults source.new) }
 {
-    a_text_is_read_in_one_way();
-    let mut byte = [0; 1];
-    let Ok(count) = source.read(&mut byte) else {
+    let Ok(count) = source.read(buffer) else {
         return Err(GetEnd::Link);
     };
     if count == 0 {
         return Err(GetEnd::Reply);
     }
-    match unchunker.feed(&byte, content) {
+    match unchunker.feed(&buffer[..count], content) {
         Ok(_) => Ok(()),
         Err(ChunkFault::Memory) => Err(GetEnd::Memory),
         Err(ChunkFault::Bad | ChunkFault::Long) => Err(GetEnd::Reply),

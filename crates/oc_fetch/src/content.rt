@@ -33,7 +33,7 @@ pub(crate) fn pass_content<S: Source, K: Sink>(
             pass_counted(count, source, sink, &mut room.buffer)?;
             Ok(count)
         }
-        Extent::Chunked => pass_chunked(alloc, source, sink, &mut room.content),
+        Extent::Chunked => pass_chunked(alloc, source, sink, &mut room.buffer, &mut room.content),
         Extent::ToTheEnd => pass_open(source, sink, &mut room.buffer),
     }
 }

@@ -1,4 +1,5 @@
-ghost use Rattle.std.specs.Prelude.{◌<◌, vec_len};
+ghost use Rattle.std.specs.Prelude.{◌≡◌, vec_len};
+ghost use Rattle.oc_fetch.specs.declared.room.TheConstants.{PIECE_BYTES};
 
 use oc_base::Memory;
 use oc_http::HeadReader;
@@ -15,7 +16,7 @@ pub(crate) struct Room {
     pub(crate) buffer: Vec<u8>,
     /// What is gathered of its content, where that is chunked.
     pub(crate) content: Vec<u8>,
-    ghost some: { 0 < vec_len buffer },
+    ghost whole: { vec_len buffer ≡ PIECE_BYTES },
 }
 
 impl Room {

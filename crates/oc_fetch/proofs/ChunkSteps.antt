@@ -9,8 +9,9 @@ use Rattle.oc_fetch.specs.declared.end.GetEnd.TheVariants as ends
 use Rattle.oc_fetch.specs.declared.extent.Extent.TheVariants.{Chunked}
 use Rattle.oc_fetch.specs.declared.extent.TheConstants.{MAX_OPEN_BYTES}
 use Rattle.oc_fetch.proofs.Moving.{Then, front_whole, front_behind, unseen}
+use Rattle.oc_io.specs.Faults.{NoFall}
 use Rattle.oc_stream.specs.Stages.{Stage, in_size, in_chunk, in_closing, ended, refused, is_ended, wanted_at}
-use Rattle.oc_stream.specs.Taken.{IsTaken, Takes}
+use Rattle.oc_stream.specs.Taken.{IsTaken}
 
 -- What is wanted
 
@@ -44,6 +45,10 @@ stops_early gives fails ended_by a b s came end = record { front = []; rest = []
 pub stops_starved : {S : Type 0} (gives fails : S → List ℕ → S → Type 0) (ended_by : S → Type 0) (a b : S) (s : Stage) (piece : List ℕ) → gives a piece b → StopsPiece gives fails ended_by a b s ends.Memory
 stops_starved gives fails ended_by a b s piece came = record { front = []; rest = piece; over = false; came = came; is_over = unseen; cause = tt }
 
+-- a count that did not fall twice did not fall
+pub still : (a b c : ℕ) → NoFall a b → NoFall b c → NoFall a c
+still a b c first second = omega arith
+
 -- What was passed on so far
 
 -- bytes came that lead to this stage; of their content so much was taken, and this is still gathered
@@ -59,13 +64,13 @@ pub passed_first : {S K : Type 0} (gives : S → List ℕ → S → Type 0) (tak
 passed_first gives takes none_given none_taken s k stage taken = record { bytes = []; content = []; came = none_given s; sent = none_taken k; taken = taken; long = refl }
 
 -- one piece more came
-pub passed_then : {S K : Type 0} (gives : S → List ℕ → S → Type 0) (takes : K → List ℕ → K → Type 0) → Then gives gives → (a b c : S) (p q : K) (s t : Stage) (count : ℕ) (gathered more : List ℕ) → HasPassed gives takes a b p q s count gathered → TakesPiece gives b c s t more → HasPassed gives takes a c p q t count (gathered ++ more)
-passed_then gives takes came a b c p q s t count gathered more has piece = record {
+pub passed_then : {S K : Type 0} (gives : S → List ℕ → S → Type 0) (takes : K → List ℕ → K → Type 0) → Then gives gives → (a b c : S) (p q : K) (s t : Stage) (count : ℕ) (gathered more after : List ℕ) → HasPassed gives takes a b p q s count gathered → after ≡ gathered ++ more → TakesPiece gives b c s t more → HasPassed gives takes a c p q t count after
+passed_then gives takes came a b c p q s t count gathered more after has is piece = record {
   bytes = has.bytes ++ piece.bytes;
   content = has.content;
   came = came a b c has.bytes piece.bytes has.came piece.came;
   sent = has.sent;
-  taken = subst (λ (x : List ℕ). IsTaken (has.bytes ++ piece.bytes) x t) (append_assoc has.content gathered more) (piece.takes.on has.bytes (has.content ++ gathered) has.taken);
+  taken = subst (λ (x : List ℕ). IsTaken (has.bytes ++ piece.bytes) x t) (append_assoc has.content gathered more ∙ ap (λ (x : List ℕ). has.content ++ x) (sym is)) (piece.takes.on has.bytes (has.content ++ gathered) has.taken);
   long = has.long;
 }
 

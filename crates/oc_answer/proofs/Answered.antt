@@ -1,5 +1,5 @@
 -- What an input is answered is the text of its step's outcome.
-use Rattle.std.proofs.Common.{◌≡◌, ◌≤◌, ℕ, ◌-◌, true, false, Bool, Option, List, length, refl, sym, ap, subst, ◌∙◌}
+use Rattle.std.proofs.Common.{◌≡◌, ◌≤◌, ℕ, ◌-◌, true, false, Bool, Some, None, Option, List, length, refl, sym, ap, subst, ◌∙◌}
 use Rattle.oc_base.specs.Groups.{bytes_of, shelf}
 use Rattle.oc_base.specs.declared.group.Group.{Group}
 use Rattle.oc_http.specs.declared.framing.Connection.{Connection}
@@ -23,10 +23,15 @@ use Rattle.oc_routes.specs.declared.asks.Manner.{Manner}
 use Rattle.oc_routes.specs.declared.asks.Manner.TheVariants.{HeadAlone, Once, Follow}
 use Rattle.oc_routes.specs.declared.response.Response.{Response}
 use Rattle.oc_turn.specs.Scenes.{KeepsOne}
+use Rattle.oc_routes.specs.Replies.{message_at, reply_place}
+use Rattle.oc_turn.specs.Sending.{AreSendable}
+use Rattle.oc_turn.proofs.Messages.{one_sendable, text_of_sendable}
+use Rattle.oc_wire.specs.Spelling.{HasSpelling}
+use Rattle.oc_answer.specs.Cuts.{CutsResponse, WritesFront, answer_text}
 use Rattle.oc_answer.specs.Hearing.{SaysOn}
 use Rattle.oc_answer.specs.Replying.{sender_of, sent_back}
 use Rattle.oc_answer.specs.Requests.{Belongs}
-use Rattle.oc_answer.specs.Serving.{Fits, IsSaid, RepliesTo, Responds, SaysResponse, back_to_sender, is_sealed, response_for, sendable, whole_text}
+use Rattle.oc_answer.specs.Serving.{Fits, IsSaid, RepliesTo, Responds, SaysResponse, back_to_sender, is_sealed, response_for, whole_text}
 use Rattle.oc_answer.proofs.Contents.{serves_held}
 
 -- A response
@@ -83,38 +88,75 @@ client_fits (answers.Redirect node) manner g area start sealed addresses last gr
 client_fits answer manner g area start sealed addresses last groups held = tt
 
 -- what a client is sent is there
-fits_step : (asked : Asks) (i : Input) (n : Node) (nodes : ℕ) (addresses : List (List ℕ)) (last : Bool) → Belongs asked i → Fits asked (response_for nodes addresses asked last i n).content (step n i).node.groups
-fits_step asks.Message i n nodes addresses last belongs = tt
-fits_step (asks.Publish g) i n nodes addresses last belongs = tt
-fits_step (asks.Seal g) i n nodes addresses last belongs = tt
-fits_step (asks.Probe manner) i n nodes addresses last belongs = tt
-fits_step (asks.Client g area start manner) i n nodes addresses last belongs =
-    subst (λ (x : Input). Fits (asks.Client g area start manner) (response_for nodes addresses (asks.Client g area start manner) last x n).content (step n x).node.groups) (sym belongs)
+fits_step : (asked : Asks) (i : Input) (n : Node) (addresses : List (List ℕ)) (last : Bool) → Belongs asked i → Fits asked (response_for addresses asked last i n).content (step n i).node.groups
+fits_step asks.Message i n addresses last belongs = tt
+fits_step (asks.Publish g) i n addresses last belongs = tt
+fits_step (asks.Seal g) i n addresses last belongs = tt
+fits_step (asks.Probe manner) i n addresses last belongs = tt
+fits_step (asks.Client g area start manner) i n addresses last belongs =
+    subst (λ (x : Input). Fits (asks.Client g area start manner) (response_for addresses (asks.Client g area start manner) last x n).content (step n x).node.groups) (sym belongs)
     (client_fits (step n (inputs.Client area start g)).answer manner g area start (is_sealed (asks.Client g area start manner) (shelf (step n (inputs.Client area start g)).node.groups)) addresses last (step n (inputs.Client area start g)).node.groups
     (λ count is. serves_held n area start count g is))
 
-replied_with : (nodes : ℕ) (addresses : List (List ℕ)) (asked : Asks) (last said : Bool) (kept : Connection) (n : Node) (i : Input) (groups : List Group) (answer : Answer) (reply : Option Message) (a b : Option Story)
+replied_with : (addresses : List (List ℕ)) (asked : Asks) (last said : Bool) (kept : Connection) (n : Node) (i : Input) (groups : List Group) (answer : Answer) (reply : Option Message) (a b : Option Story)
     → groups ≡ (step n i).node.groups → answer ≡ (step n i).answer → reply ≡ back_to_sender i (step n i).sends → Belongs asked i
-    → SaysResponse asked (response_to asked answer (sendable nodes reply) (is_sealed asked (shelf groups)) addresses last) said kept groups a b
-    → RepliesTo nodes addresses asked last i said kept n a b
-replied_with nodes addresses asked last said kept n i groups answer reply a b same answered back belongs says =
-    let one : SaysResponse asked (response_to asked answer (sendable nodes reply) (is_sealed asked (shelf (step n i).node.groups)) addresses last) said kept (step n i).node.groups a b =
-    subst (λ (ks : List Group). SaysResponse asked (response_to asked answer (sendable nodes reply) (is_sealed asked (shelf ks)) addresses last) said kept ks a b) same says in
-    let two : SaysResponse asked (response_to asked (step n i).answer (sendable nodes reply) (is_sealed asked (shelf (step n i).node.groups)) addresses last) said kept (step n i).node.groups a b =
-    subst (λ (x : Answer). SaysResponse asked (response_to asked x (sendable nodes reply) (is_sealed asked (shelf (step n i).node.groups)) addresses last) said kept (step n i).node.groups a b) answered one in
-    let three : SaysResponse asked (response_for nodes addresses asked last i n) said kept (step n i).node.groups a b =
-    subst (λ (m : Option Message). SaysResponse asked (response_to asked (step n i).answer (sendable nodes m) (is_sealed asked (shelf (step n i).node.groups)) addresses last) said kept (step n i).node.groups a b) back two in
-    three (fits_step asked i n nodes addresses last belongs)
+    → SaysResponse asked (response_to asked answer reply (is_sealed asked (shelf groups)) addresses last) said kept groups a b
+    → RepliesTo addresses asked last i said kept n a b
+replied_with addresses asked last said kept n i groups answer reply a b same answered back belongs says =
+    let one : SaysResponse asked (response_to asked answer reply (is_sealed asked (shelf (step n i).node.groups)) addresses last) said kept (step n i).node.groups a b =
+    subst (λ (ks : List Group). SaysResponse asked (response_to asked answer reply (is_sealed asked (shelf ks)) addresses last) said kept ks a b) same says in
+    let two : SaysResponse asked (response_to asked (step n i).answer reply (is_sealed asked (shelf (step n i).node.groups)) addresses last) said kept (step n i).node.groups a b =
+    subst (λ (x : Answer). SaysResponse asked (response_to asked x reply (is_sealed asked (shelf (step n i).node.groups)) addresses last) said kept (step n i).node.groups a b) answered one in
+    let three : SaysResponse asked (response_for addresses asked last i n) said kept (step n i).node.groups a b =
+    subst (λ (m : Option Message). SaysResponse asked (response_to asked (step n i).answer m (is_sealed asked (shelf (step n i).node.groups)) addresses last) said kept (step n i).node.groups a b) back two in
+    three (fits_step asked i n addresses last belongs)
 
 pub replied_to : {D : Type 0} (view : D → DiskView) (k0 k1 : KeptView D) (i : Input) (outcome : OutcomeView) (addresses : List (List ℕ)) (asked : Asks) (last said : Bool) (kept : Connection) (answer : Answer) (reply : Option Message) (a b : Option Story)
-    → (IsHonest view k1 → Responds k1.node.control.nodes addresses asked last answer reply (node_of k1).groups said kept a b)
+    → (IsHonest view k1 → Responds addresses asked last answer reply (node_of k1).groups said kept a b)
     → KeepsOne view i outcome k0 k1 → answer ≡ outcome.answer → reply ≡ sent_back (sender_of i) outcome.sends → Belongs asked i → IsHonest view k0
-    → RepliesTo k0.node.control.nodes addresses asked last i said kept (node_of k0) a b
+    → RepliesTo addresses asked last i said kept (node_of k0) a b
 replied_to view k0 k1 i outcome addresses asked last said kept answer reply a b says keeps answered back belongs honest =
     let n = node_of k0 in
     let is = keeps.outcome_is honest in
-    replied_with k0.node.control.nodes addresses asked last said kept n i (node_of k1).groups answer reply a b
+    replied_with addresses asked last said kept n i (node_of k1).groups answer reply a b
     (ap (λ (x : Node). x.groups) (keeps.node honest)) (answered ∙ ap (λ (o : OutcomeView). o.answer) is)
     (back ∙ back_is i outcome.sends ∙ ap (λ (o : OutcomeView). back_to_sender i o.sends) is) belongs
-    (subst (λ (nodes : ℕ). SaysResponse asked (response_to asked answer (sendable nodes reply) (is_sealed asked (shelf (node_of k1).groups)) addresses last) said kept (node_of k1).groups a b)
-    (ap (λ (h : Header). h.nodes) keeps.same.header) (says (all_honest view (disks_of k0) (disks_of k1) keeps.goes_on honest)).says)
+    (says (all_honest view (disks_of k0) (disks_of k1) keeps.goes_on honest)).says
+
+-- A reply that was cut
+
+-- a front of the response that was made
+pub response_cut : (asked : Asks) (response wanted : Response) (groups : List Group) (a b : Option Story) → response ≡ wanted → (Fits asked response.content groups → WritesFront (whole_text asked response groups) a b)
+    → Fits asked wanted.content groups → WritesFront (whole_text asked wanted groups) a b
+response_cut asked response wanted groups a b is wrote fits =
+    subst (λ (r : Response). WritesFront (whole_text asked r groups) a b) is (wrote (subst (λ (r : Response). Fits asked r.content groups) (sym is) fits))
+
+cut_with : (addresses : List (List ℕ)) (asked : Asks) (last : Bool) (n : Node) (i : Input) (groups : List Group) (answer : Answer) (reply : Option Message) (a b : Option Story)
+    → groups ≡ (step n i).node.groups → answer ≡ (step n i).answer → reply ≡ back_to_sender i (step n i).sends → Belongs asked i
+    → CutsResponse addresses asked last answer reply groups a b → WritesFront (answer_text addresses asked last i n) a b
+cut_with addresses asked last n i groups answer reply a b same answered back belongs cut =
+    let one : CutsResponse addresses asked last answer reply (step n i).node.groups a b = subst (λ (ks : List Group). CutsResponse addresses asked last answer reply ks a b) same cut in
+    let two : CutsResponse addresses asked last (step n i).answer reply (step n i).node.groups a b = subst (λ (x : Answer). CutsResponse addresses asked last x reply (step n i).node.groups a b) answered one in
+    let three : CutsResponse addresses asked last (step n i).answer (back_to_sender i (step n i).sends) (step n i).node.groups a b =
+    subst (λ (m : Option Message). CutsResponse addresses asked last (step n i).answer m (step n i).node.groups a b) back two in
+    three (fits_step asked i n addresses last belongs)
+
+pub cut_to : {D : Type 0} (view : D → DiskView) (k0 k1 : KeptView D) (i : Input) (outcome : OutcomeView) (addresses : List (List ℕ)) (asked : Asks) (last : Bool) (answer : Answer) (reply : Option Message) (a b : Option Story)
+    → (IsHonest view k1 → CutsResponse addresses asked last answer reply (node_of k1).groups a b)
+    → KeepsOne view i outcome k0 k1 → answer ≡ outcome.answer → reply ≡ sent_back (sender_of i) outcome.sends → Belongs asked i → IsHonest view k0
+    → WritesFront (answer_text addresses asked last i (node_of k0)) a b
+cut_to view k0 k1 i outcome addresses asked last answer reply a b cut keeps answered back belongs honest =
+    let is = keeps.outcome_is honest in
+    cut_with addresses asked last (node_of k0) i (node_of k1).groups answer reply a b
+    (ap (λ (x : Node). x.groups) (keeps.node honest)) (answered ∙ ap (λ (o : OutcomeView). o.answer) is)
+    (back ∙ back_is i outcome.sends ∙ ap (λ (o : OutcomeView). back_to_sender i o.sends) is) belongs
+    (cut (all_honest view (disks_of k0) (disks_of k1) keeps.goes_on honest))
+
+-- the message that goes back to a sender has a text
+pub text_back : (nodes : ℕ) (sender : Option ℕ) (sends : List Message) (back : Option Message) → back ≡ sent_back sender sends → AreSendable nodes sends → (m : Message) → back ≡ Some m → HasSpelling m.body
+text_back nodes None sends back is are m some = let none : None ≡ Some m = sym is ∙ some in absurd cc
+text_back nodes (Some sender) sends back is are m some = at_place (reply_place sends sender) (sym is ∙ some)
+  where
+    at_place : (place : Option ℕ) → message_at sends place ≡ Some m → HasSpelling m.body
+    at_place None none = absurd cc
+    at_place (Some k) there = text_of_sendable nodes m (one_sendable nodes sends k m there are)

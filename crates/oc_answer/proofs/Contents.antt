@@ -32,6 +32,8 @@ use Rattle.oc_io.specs.DiskView.{DiskView}
 use Rattle.oc_turn.specs.Looks.{LooksOnly}
 use Rattle.oc_answer.specs.Hearing.{SaysOn}
 use Rattle.oc_answer.specs.Serving.{Fits, coded, content_text, part_of, pieces, whole_text}
+use Rattle.oc_answer.specs.Cuts.{WritesFront}
+use Rattle.oc_answer.proofs.Written.{front_longer, front_said, text_then}
 use Rattle.oc_answer.proofs.Reading.{says_cut, says_nothing, says_then}
 
 -- Groups that are held
@@ -264,6 +266,24 @@ pub sent_all : (chunked : Bool) (g : List ℕ) (ks : List Group) (start count at
 sent_all chunked g ks start count at left a b none sent =
     subst (λ (x : List ℕ). SaysOn true x a b)
     (sym (sent.whole ∙ ap (λ (n : ℕ). sent.said ++ pieces chunked (part_of g at n ks)) none ∙ ap (λ (x : List ℕ). sent.said ++ x) (none_left chunked g at ks) ∙ append-nil sent.said)) sent.went
+
+-- so much of it is a front
+pub sent_front : (chunked : Bool) (g : List ℕ) (ks : List Group) (start count at left : ℕ) (a b : Option Story) → Sent chunked g ks start count at left a b → WritesFront (pieces chunked (part_of g start count ks)) a b
+sent_front chunked g ks start count at left a b sent =
+    subst (λ (x : List ℕ). WritesFront x a b) (sym sent.whole) (front_longer sent.said (pieces chunked (part_of g at left ks)) a b (front_said true sent.said a b sent.went))
+
+-- a front of the pieces of a content is one of the content
+pub coded_front : (chunked : Bool) (bytes : List ℕ) (a b : Option Story) → WritesFront (pieces chunked bytes) a b → WritesFront (coded chunked bytes) a b
+coded_front true bytes a b wrote = front_longer (pieces true bytes) end_written a b wrote
+coded_front false bytes a b wrote = wrote
+
+-- a front of a content behind the text of its response
+pub text_front : (asked : Asks) (response : Response) (content : Content) (groups : List Group) (whole : Bool) (text : List ℕ) (a b c : Option Story) → response.content ≡ Some content → whole ≡ true → text ≡ response.text → SaysOn whole text a b
+    → (Fits asked (Some content) groups → WritesFront (content_text asked (Some content) groups) b c) → Fits asked response.content groups → WritesFront (whole_text asked response groups) a c
+text_front asked response content groups whole text a b c is went same said behind fits =
+    text_then response.text (content_text asked response.content groups) a b c
+    (subst (λ (t : List ℕ). SaysOn true t a b) same (subst (λ (x : Bool). SaysOn x text a b) went said))
+    (subst (λ (x : Option Content). WritesFront (content_text asked x groups) b c) (sym is) (behind (subst (λ (x : Option Content). Fits asked x groups) is fits)))
 
 -- a piece that is read where there is enough is whole
 pub piece_whole : (g : List ℕ) (ks : List Group) (at w count : ℕ) (buffer : List ℕ) → w ≤ length (bytes_of g ks) - at → count ≤ w → take count buffer ≡ part_of g at w ks → count ≡ w

@@ -1,3 +1,4 @@
+pub mod Written
 pub mod Talking
 pub mod Reading
 pub mod Contents

@@ -23,7 +23,9 @@ use Rattle.oc_routes.specs.declared.refused.Refused.TheVariants as refusals
 use Rattle.oc_turn.specs.Deeds.{Talked}
 use Rattle.oc_answer.specs.Beginning.{Brings, has_some}
 use Rattle.oc_answer.specs.Hearing.{HasEnded, HearsOn, HearsUntil, NoBody, ReadsHead, SaysOn, leave_for, unread}
+use Rattle.oc_answer.specs.Cuts.{WritesNothing}
 use Rattle.oc_answer.proofs.Talking.{talks_talked}
+use Rattle.oc_answer.proofs.Written.{hears_on, until_on}
 
 -- Texts that are said
 
@@ -133,6 +135,15 @@ pub head_talked : {S : Type 0} (view : S → LoanView) (begun : S → Bool) (old
     → st ≡ (view old).story → st2 ≡ (view new).story → f ≡ (view old).faults → f2 ≡ (view new).faults → Talked st st2 f f2
 head_talked view begun old new head st st2 f f2 (bytes, came, says) a b c d = rw (a, b, c, d) (talks_talked (Hears bytes) (view old) (view new) came.talks)
 
+-- what was read of a head wrote nothing
+pub head_silent : {S : Type 0} (view : S → LoanView) (begun : S → Bool) (old new : S) (fault : HttpFault) (st st2 : Option Story)
+    → ((bytes : List ℕ) × Took (λ o given n. Brings (Hears given) given (view o) (begun o) (view n) (begun n)) (λ o given n. Brings (HearsThenBreaks given) given (view o) (begun o) (view n) (begun n)) old bytes new fault × RefusesRequest bytes (IfTold (view new).story IsReadOut) fault)
+    → st ≡ (view old).story → st2 ≡ (view new).story → WritesNothing st st2
+head_silent view begun old new fault st st2 (bytes, took, refuses) a b = rw (a, b) (until_on fault bytes (view old).story (view new).story (took_until view begun old new bytes fault took).0)
+
+pub read_silent : (number : ℕ) (head : Head) (st st2 : Option Story) → ReadsHead number (Ok (Some head)) st st2 → WritesNothing st st2
+read_silent number head st st2 (bytes, heard, says) = hears_on bytes st st2 heard
+
 -- a head that has no fault tells a body within the limit
 fits : (a b c d e : Bool) (x : HttpFault) (y : HttpFault) (z : HttpFault) (u : HttpFault) (v : HttpFault) (n : ℕ) (told head : Head) → told.length ≡ n
     → fault_or told (cond a (Some x) (cond b (Some y) (cond c (Some z) (cond d (Some u) (cond e (Some v) (cond (nat_lt MAX_BODY_BYTES n) (Some http.BodyLong) None)))))) ≡ Ok head → head.length ≤ MAX_BODY_BYTES
@@ -178,6 +189,14 @@ pub body_unheard : {S : Type 0} (view : S → LoanView) (old new : S) (r : Resul
     → IfErr r (λ fault. (bytes : List ℕ) × HearsUntil fault bytes st st2 × RefusesBody count bytes (HasEnded st2) fault)
 body_unheard view old new (Ok body) count st st2 refused a b = tt
 body_unheard view old new (Err fault) count st st2 refused a b = rw (a, b) (body_refused view old new count fault refused)
+
+-- what was read of a body wrote nothing
+pub body_silent : {S : Type 0} (view : S → LoanView) (old new : S) (r : Result (Vec ℕ) HttpFault) (count : ℕ) (st st2 : Option Story) → IfOk r (λ body. Talks (Hears body.items) (view old) (view new))
+    → IfErr r (λ fault. (bytes : List ℕ) × Took (λ o given n. Talks (Hears given) (view o) (view n)) (λ o given n. Talks (HearsThenBreaks given) (view o) (view n)) old bytes new fault × RefusesBody count bytes (IfTold (view new).story IsReadOut) fault)
+    → st ≡ (view old).story → st2 ≡ (view new).story → WritesNothing st st2
+body_silent view old new (Ok body) count st st2 came refused a b = rw (a, b) (hears_on body.items (view old).story (view new).story came.story)
+body_silent view old new (Err fault) count st st2 came refused a b =
+    let r = body_refused view old new count fault refused in rw (a, b) (until_on fault r.0 (view old).story (view new).story r.1)
 
 -- a body that was not read, behind the leave to send it
 pub no_body : (head : Head) (fault : HttpFault) (a b c : Option Story) → SaysOn true (leave_for head) a b

@@ -21,14 +21,16 @@ use Rattle.oc_routes.specs.declared.asks.Asks.TheVariants as asks
 use Rattle.oc_routes.specs.declared.asks.Manner.TheVariants.{HeadAlone, Once, Follow}
 use Rattle.oc_routes.specs.declared.fault.RouteFault.{RouteFault}
 use Rattle.oc_routes.specs.declared.fault.RouteFault.TheVariants as faults
-use Rattle.oc_turn.specs.Deeds.{Deed, IsRequest, Does, DoAll, Outside, Setting, Sight, Talked, TalksOnly, inputs_of, outside_of, sight_of}
+use Rattle.oc_turn.specs.Deeds.{Deed, Under, IsRequest, Does, DoAll, Outside, Setting, Sight, Talked, TalksOnly, inputs_of, outside_of, sight_of}
 use Rattle.oc_turn.specs.Deeds as deeds
 use Rattle.oc_turn.specs.Lines.{input_in}
-use Rattle.oc_turn.specs.Scenes.{Did, Scene, scene, setting}
+use Rattle.oc_turn.specs.Scenes.{Did, EndsStill, Scene, scene, setting}
 use Rattle.oc_turn.proofs.Chains.{after_both}
 use Rattle.oc_turn.proofs.Scenes.{did_node}
 use Rattle.oc_keep.proofs.Stays.{all_honest}
 use Rattle.oc_turn.proofs.Talks.{talked_then}
+use Rattle.oc_turn.specs.declared.ends.TurnEnd.{TurnEnd}
+use Rattle.oc_answer.specs.Cuts.{CutsInput, CutsOff, CutsReply, OnlyLeave, WritesFront, answer_text}
 use Rattle.oc_answer.specs.Hearing.{HearsOn, HearsRequest, Reads, ReadsBehind, ReadsHead, Terms, terms_of}
 use Rattle.oc_model.specs.Step.{step}
 use Rattle.oc_routes.specs.declared.response.Response.{Response}
@@ -74,7 +76,7 @@ reads_as me nodes me2 nodes2 number rules rules2 r r2 a b p q s t reads =
 
 -- a request that was read, and what it is answered
 pub serves_read : (t : Terms) (addresses : List (List ℕ)) (number : ℕ) (request : Request) (d : Deed) (kept : Connection) (n : Node) (a b c : Option Story)
-    → HearsRequest t number request.asks (input_in request.entry) request.last a b → Replies t.nodes addresses request d kept n b c → Serves t addresses number d kept n a c
+    → HearsRequest t number request.asks (input_in request.entry) request.last a b → Replies addresses request d kept n b c → Serves t addresses number d kept n a c
 serves_read t addresses number request (deeds.Answers i failed) kept n a b c heard (is, said) = record {
   asked = request.asks;
   last = request.last;
@@ -95,7 +97,6 @@ serves_read t addresses number request (deeds.Reads x) kept n a b c heard replie
 serves_read t addresses number request (deeds.Takes x) kept n a b c heard replies = absurd replies
 serves_read t addresses number request (deeds.Notes x) kept n a b c heard replies = absurd replies
 serves_read t addresses number request (deeds.Dials m x) kept n a b c heard replies = absurd replies
-serves_read t addresses number request (deeds.Drops m) kept n a b c heard replies = absurd replies
 serves_read t addresses number request deeds.Empties kept n a b c heard replies = absurd replies
 serves_read t addresses number request (deeds.Probes p h x) kept n a b c heard replies = absurd replies
 
@@ -115,7 +116,6 @@ module _ {D K : Type 0} (view : D → DiskView) (takes fails : K → List ℕ �
   does_before s (deeds.Reads x) n o a b c is talked does = absurd is
   does_before s (deeds.Takes x) n o a b c is talked does = absurd is
   does_before s (deeds.Dials m x) n o a b c is talked does = absurd is
-  does_before s (deeds.Drops m) n o a b c is talked does = absurd is
   does_before s deeds.Empties n o a b c is talked does = absurd is
   does_before s (deeds.Probes p h x) n o a b c is talked does = absurd is
 
@@ -128,9 +128,51 @@ module _ {D K : Type 0} (view : D → DiskView) (takes fails : K → List ℕ �
     generation = did.generation;
     counts = did.counts;
     listens = omega (arith, did.listens, talked.talked.counts.listening);
+    keeps = did.keeps;
+    sendable = did.sendable;
     text = did.text;
     done = λ honest. let done = did.done honest in (done.0, does_before (setting k addresses) d (node_of k) o a b done.0 is talked done.1, done.2);
   }
+
+  -- the same where it ended behind the deed
+  pub still_behind : (end : TurnEnd) (under : Under) (d : Deed) (k : KeptView D) (o : List Message) (sink : K) (a b : Outside) (c : Scene D K) → IsRequest d → TalksOnly a b
+      → EndsStill view takes fails count addresses end (d ∷ []) under (scene k o sink b) c → EndsStill view takes fails count addresses end (d ∷ []) under (scene k o sink a) c
+  still_behind end under d k o sink a b c is talked (kept, outbox, after, did, stops, meets) =
+      (kept, outbox, after, did_behind d k o sink a b (scene kept outbox after c.outside) is talked did, stops, meets)
+
+-- a request that was read, and ended in its midst
+pub cuts_read : (t : Terms) (addresses : List (List ℕ)) (number : ℕ) (request : Request) (d : Deed) (n : Node) (a b c : Option Story)
+    → HearsRequest t number request.asks (input_in request.entry) request.last a b → OnlyLeave a b → CutsReply addresses request d n b c → CutsOff t addresses number d n a c
+cuts_read t addresses number request (deeds.Answers i failed) n a b c heard leave (is, wrote) = record {
+  asked = request.asks;
+  last = request.last;
+  between = b;
+  heard = subst (λ (x : Option Input). HearsRequest t number request.asks x request.last a b) is heard;
+  wrote = wrote;
+}
+cuts_read t addresses number request deeds.Talks n a b c heard leave same = subst (λ (x : Option Story). OnlyLeave a x) (sym same) leave
+cuts_read t addresses number request (deeds.Calls x) n a b c heard leave cut = absurd cut
+cuts_read t addresses number request (deeds.Reads x) n a b c heard leave cut = absurd cut
+cuts_read t addresses number request (deeds.Takes x) n a b c heard leave cut = absurd cut
+cuts_read t addresses number request (deeds.Notes x) n a b c heard leave cut = absurd cut
+cuts_read t addresses number request (deeds.Dials m x) n a b c heard leave cut = absurd cut
+cuts_read t addresses number request deeds.Empties n a b c heard leave cut = absurd cut
+cuts_read t addresses number request (deeds.Probes p h x) n a b c heard leave cut = absurd cut
+
+-- an input is that of its request
+pub cuts_input : (addresses : List (List ℕ)) (request : Request) (i : Input) (d : Deed) (n : Node) (a b : Option Story) → input_in request.entry ≡ Some i → CutsInput addresses request.asks request.last i d n a b → CutsReply addresses request d n a b
+cuts_input addresses request i (deeds.Answers j failed) n a b is (same, wrote) = (
+  is ∙ ap (λ (x : Input). Some x) (sym same),
+  subst (λ (x : Input). WritesFront (answer_text addresses request.asks request.last x n) a b) (sym same) wrote,
+)
+cuts_input addresses request i deeds.Talks n a b is same = same
+cuts_input addresses request i (deeds.Calls x) n a b is cut = absurd cut
+cuts_input addresses request i (deeds.Reads x) n a b is cut = absurd cut
+cuts_input addresses request i (deeds.Takes x) n a b is cut = absurd cut
+cuts_input addresses request i (deeds.Notes x) n a b is cut = absurd cut
+cuts_input addresses request i (deeds.Dials m x) n a b is cut = absurd cut
+cuts_input addresses request i deeds.Empties n a b is cut = absurd cut
+cuts_input addresses request i (deeds.Probes p h x) n a b is cut = absurd cut
 
 -- Requests one behind the other
 
@@ -173,7 +215,7 @@ closed_off false text wanted a b closes (went, kept) = cc
 pub none_behind : (t : Terms) (addresses : List (List ℕ)) (d : Deed) (n : Node) (a b : Option Story) → Serves t addresses 16 d Keep n a b → ⊥
 none_behind t addresses (deeds.Answers i failed) n a b serves =
     let last : serves.last ≡ true = sixteenth serves.heard.head.closes serves.last serves.heard.last_is in
-    let r : Bool → Response = λ x. response_for t.nodes addresses serves.asked x i n in
+    let r : Bool → Response = λ x. response_for addresses serves.asked x i n in
     closed_off (not failed) (whole_text serves.asked (r serves.last) (step n i).node.groups) (r serves.last).connection serves.between b
     (subst (λ (x : Bool). (r x).connection ≡ Close) (sym last) (response_closes serves.asked (step n i).answer _ _ addresses)) serves.answered
 none_behind t addresses deeds.Talks n a b (inl serves) =
@@ -186,7 +228,6 @@ none_behind t addresses (deeds.Calls x) n a b serves = absurd serves
 none_behind t addresses (deeds.Reads x) n a b serves = absurd serves
 none_behind t addresses (deeds.Takes x) n a b serves = absurd serves
 none_behind t addresses (deeds.Dials m x) n a b serves = absurd serves
-none_behind t addresses (deeds.Drops m) n a b serves = absurd serves
 none_behind t addresses deeds.Empties n a b serves = absurd serves
 none_behind t addresses (deeds.Probes p h x) n a b serves = absurd serves
 
@@ -229,3 +270,12 @@ module _ {D K : Type 0} (view : D → DiskView) (takes fails : K → List ℕ �
       subst (λ (t : Terms). Serves t addresses number d kept (after_inputs (node_of a.kept) (inputs_of ds)) st st2) (terms_stay a.kept b.kept rules did.same)
       (subst (λ (n : Node). Serves (terms b.kept rules) addresses number d kept n st st2) (did_node view takes fails count [] ds a b did honest)
       (serves (all_honest view (disks_of a.kept) (disks_of b.kept) did.goes_on honest)))
+
+  -- the same of one that ended in its midst
+  pub cuts_then : (rules : List Rule) (addresses : List (List ℕ)) (number : ℕ) (ds : List Deed) (d : Deed) (a b : Scene D K) (st st2 : Option Story) → Did view takes count [] ds a b → IsHonest view a.kept
+      → (IsHonest view b.kept → CutsOff (terms b.kept rules) addresses number d (node_of b.kept) st st2)
+      → CutsOff (terms a.kept rules) addresses number d (after_inputs (node_of a.kept) (inputs_of ds)) st st2
+  cuts_then rules addresses number ds d a b st st2 did honest cuts =
+      subst (λ (t : Terms). CutsOff t addresses number d (after_inputs (node_of a.kept) (inputs_of ds)) st st2) (terms_stay a.kept b.kept rules did.same)
+      (subst (λ (n : Node). CutsOff (terms b.kept rules) addresses number d n st st2) (did_node view takes fails count [] ds a b did honest)
+      (cuts (all_honest view (disks_of a.kept) (disks_of b.kept) did.goes_on honest)))

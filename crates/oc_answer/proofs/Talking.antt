@@ -31,10 +31,12 @@ use Rattle.oc_turn.specs.Deeds.{Deed, Outside, Sight, Talked, TalksOnly, OnlyTal
 use Rattle.oc_turn.specs.Deeds as deeds
 use Rattle.oc_turn.specs.Looks.{LooksOnly, LookStops}
 use Rattle.oc_answer.specs.Replying.{Replied, ReplyStops, kept_back, sender_of}
-use Rattle.oc_turn.specs.Scenes.{Did, LineStops, Scene, Stopped, TakesOne, scene}
+use Rattle.oc_turn.specs.Scenes.{Did, EndsStill, LineStops, MeetsFull, Scene, Stops, TakesOne, scene}
 use Rattle.oc_turn.specs.Deeds.{sight_of}
 use Rattle.oc_turn.specs.Deeds.{AreRequests}
-use Rattle.oc_turn.proofs.Scenes.{did_then, go_on_none}
+use Rattle.oc_turn.specs.Sending.{AreSendable}
+use Rattle.oc_turn.proofs.Messages.{others_sendable, with_sendable}
+use Rattle.oc_turn.proofs.Scenes.{did_then, go_on_none, keeps_one, looks_none}
 use Rattle.oc_turn.proofs.Steps.{did_silent}
 use Rattle.oc_turn.proofs.Takes.{named}
 use Rattle.oc_turn.proofs.Talks.{talks_only}
@@ -75,19 +77,26 @@ back_is (inputs.Seal group) sends = refl
 back_is (inputs.Client area start group) sends = refl
 back_is (inputs.Delivered m) sends = refl
 
+-- what is kept back can be sent
+kept_sendable : (nodes : ℕ) (sender : Option ℕ) (sends : List Message) → AreSendable nodes sends → AreSendable nodes (kept_back sender sends)
+kept_sendable nodes None sends are = are
+kept_sendable nodes (Some sender) sends are = others_sendable nodes sends sender are
+
 module _ {D K : Type 0} (view : D → DiskView) (takes fails : K → List ℕ → K → Type 0) (count : K → ℕ) (addresses : List (List ℕ)) where
   -- an input of a request was taken and answered
   pub did_answer : (takes_then : (a b c : K) (x y : List ℕ) → takes a x b → takes b y c → takes a (x ++ y) c)
       → (i : Input) (outcome : OutcomeView) (failed : Bool) (k0 k1 k2 : KeptView D) (s0 s1 s2 : K) (o : List Message) (st st2 : Option Story) (f f2 : LinkFaults) (seconds millis : Series)
-      → TakesOne view takes count i outcome k0 s0 k1 s1 → Replied view takes count failed k1 k2 s1 s2 → Talked st st2 f f2
+      → k0.closed ≡ false → TakesOne view takes count i outcome k0 s0 k1 s1 → Replied view takes count failed k1 k2 s1 s2 → Talked st st2 f f2
       → Did view takes count addresses (deeds.Answers i failed ∷ []) (scene k0 o s0 (outside_of st f seconds millis)) (scene k2 (with_messages o (kept_back (sender_of i) outcome.sends)) s2 (outside_of st2 f2 seconds millis))
-  did_answer takes_then i outcome failed k0 k1 k2 s0 s1 s2 o st st2 f f2 seconds millis took replied talked = record {
+  did_answer takes_then i outcome failed k0 k1 k2 s0 s1 s2 o st st2 f f2 seconds millis is_open took replied talked = record {
     is_open = replied.looks.is_open;
     same = record { me = replied.looks.same.me ∙ took.kept.same.me; header = replied.looks.same.header ∙ took.kept.same.header };
     goes_on = all_go_on_then view (disks_of k0) (disks_of k1) (disks_of k2) took.kept.goes_on replied.looks.goes_on;
     generation = λ honest. omega (arith, took.kept.generation honest, replied.looks.generation (all_honest view (disks_of k0) (disks_of k1) took.kept.goes_on honest));
     counts = omega (arith, took.counts, replied.counts);
     listens = omega (arith, talked.counts.listening);
+    keeps = keeps_one view i outcome k0 k1 k2 is_open took.kept replied.looks;
+    sendable = λ before. with_sendable k0.node.control.nodes o (kept_back (sender_of i) outcome.sends) before (kept_sendable k0.node.control.nodes (sender_of i) outcome.sends took.kept.sendable);
     text = subst (λ (t : List ℕ). takes s0 t s2) (sym (append-nil (input_line k0.node.control.me i ++ failed_line failed))) (takes_then s0 s1 s2 (input_line k0.node.control.me i) (failed_line failed) took.text replied.text);
     done = λ honest. (sight_of (node_of k2) (with_messages o (kept_back (sender_of i) outcome.sends)) (outside_of st2 f2 seconds millis), (talks_only st st2 f f2 seconds millis talked, now honest), refl);
   }
@@ -100,58 +109,40 @@ module _ {D K : Type 0} (view : D → DiskView) (takes fails : K → List ℕ �
           ∙ ap (λ (ms : List Message). sight_of (step (node_of k0) i).node (with_messages o ms) (outside_of st2 f2 seconds millis)) (back_is i outcome.sends)
           ∙ ap (λ (x : OutcomeView). sight_of (step (node_of k0) i).node (with_messages o (for_outbox i x.sends)) (outside_of st2 f2 seconds millis)) (took.kept.outcome_is honest)
 
+-- what is under way where a reply ends
+abbrev pub reply_under : TurnEnd → Under
+reply_under ends.Sink = Noting (failed_line true)
+reply_under end = Idle
+
+module _ {D K : Type 0} (view : D → DiskView) (takes fails : K → List ℕ → K → Type 0) (count : K → ℕ) where
   -- it ended behind the line of the input
-  pub answer_stops : (takes_then : (a b c : K) (x y : List ℕ) → takes a x b → takes b y c → takes a (x ++ y) c) (takes_fails : (a b c : K) (x y : List ℕ) → takes a x b → fails b y c → fails a (x ++ y) c)
-      → (i : Input) (outcome : OutcomeView) (end : TurnEnd) (k0 k1 k2 : KeptView D) (s0 s1 s2 : K)
-      → TakesOne view takes count i outcome k0 s0 k1 s1 → ReplyStops view takes fails count end k1 k2 s1 s2 → Stopped view takes fails count ⊥ end k0 k2 s0 s2
-  answer_stops takes_then takes_fails i outcome end k0 k1 k2 s0 s1 s2 took stops = by_end end stops where
-    leaves : (e : TurnEnd) → ReplyStops view takes fails count e k1 k2 s1 s2 → IsHonest view k0 → Survives view (header_of k0.node.control) k0.node.control.me (disks_of k2) (step (node_of k0) i).node
-    leaves e so honest =
-        subst (λ (n : Node). Survives view (header_of k0.node.control) k0.node.control.me (disks_of k2) n) (took.kept.node honest)
-        (named (λ h me. Survives view h me (disks_of k2) (node_of k1)) k0 k1 took.kept.same (so.leaves (all_honest view (disks_of k0) (disks_of k1) took.kept.goes_on honest)))
+  pub reply_ends : (takes_nothing : (k : K) → takes k [] k) (end : TurnEnd) (k k2 : KeptView D) (s s2 : K)
+      → ReplyStops view takes fails count end k k2 s s2 → Stops view takes fails count ⊥ end [] (reply_under end) k k2 s s2 × MeetsFull view end (reply_under end) k k2
+  reply_ends takes_nothing ends.Disk k k2 s s2 so = (record { text = subst (λ (x : K). takes s [] x) (sym so.cause.1) (takes_nothing s); leaves = so.leaves; goes_on = so.goes_on; cause = so.cause.0 }, tt)
+  reply_ends takes_nothing ends.Memory k k2 s s2 so = (record { text = subst (λ (x : K). takes s [] x) (sym so.cause.1) (takes_nothing s); leaves = so.leaves; goes_on = so.goes_on; cause = tt }, tt)
+  reply_ends takes_nothing ends.Sink k k2 s s2 so = (record { text = so.cause.0; leaves = so.leaves; goes_on = so.goes_on; cause = so.cause.1 }, tt)
+  reply_ends takes_nothing ends.Served k k2 s s2 so = absurd so.cause.0
+  reply_ends takes_nothing ends.Quiet k k2 s s2 so = absurd so.cause.0
+  reply_ends takes_nothing ends.Link k k2 s s2 so = absurd so.cause.0
+  reply_ends takes_nothing ends.Full k k2 s s2 so = absurd so.cause.0
 
-    wrote : takes s0 (deeds_text k0.node.control.me (deeds.Answers i false ∷ [])) s1
-    wrote = subst (λ (t : List ℕ). takes s0 t s1) (sym (append-nil (input_line k0.node.control.me i ++ []) ∙ append-nil (input_line k0.node.control.me i))) took.text
-
-    on : (e : TurnEnd) → ReplyStops view takes fails count e k1 k2 s1 s2 → AllGoOn view (disks_of k0) (disks_of k2)
-    on e so = all_go_on_then view (disks_of k0) (disks_of k1) (disks_of k2) took.kept.goes_on so.goes_on
-
-    by_end : (e : TurnEnd) → ReplyStops view takes fails count e k1 k2 s1 s2 → Stopped view takes fails count ⊥ e k0 k2 s0 s2
-    by_end ends.Disk so = (
-      deeds.Answers i false ∷ [],
-      Idle,
-      record {
-        text = subst (λ (x : K). takes s0 (deeds_text k0.node.control.me (deeds.Answers i false ∷ [])) x) (sym so.cause.1) wrote;
-        leaves = leaves ends.Disk so;
-        goes_on = on ends.Disk so;
-        cause = one_rose_after view (disks_of k0) (disks_of k1) (disks_of k2) took.kept.goes_on so.cause.0;
-      },
-    )
-    by_end ends.Memory so = (
-      deeds.Answers i false ∷ [],
-      Idle,
-      record {
-        text = subst (λ (x : K). takes s0 (deeds_text k0.node.control.me (deeds.Answers i false ∷ [])) x) (sym so.cause.1) wrote;
-        leaves = leaves ends.Memory so;
-        goes_on = on ends.Memory so;
-        cause = tt;
-      },
-    )
-    by_end ends.Sink so =
-        let line = so.cause.0 in (
-          deeds.Answers i false ∷ [],
-          Noting (failed_line true),
-          record {
-            text = (line.0, line.1, takes_fails s0 s1 s2 (deeds_text k0.node.control.me (deeds.Answers i false ∷ [])) line.0 wrote line.2);
-            leaves = leaves ends.Sink so;
-            goes_on = on ends.Sink so;
-            cause = Rose-after _ _ _ took.counts so.cause.1;
-          },
-        )
-    by_end ends.Served so = absurd so.cause.0
-    by_end ends.Quiet so = absurd so.cause.0
-    by_end ends.Link so = absurd so.cause.0
-    by_end ends.Full so = absurd so.cause.0
+  -- an input was taken, and then its reply ended
+  pub reply_still : (addresses : List (List ℕ)) (takes_nothing : (k : K) → takes k [] k) (takes_then : (a b c : K) (x y : List ℕ) → takes a x b → takes b y c → takes a (x ++ y) c)
+      → (i : Input) (outcome : OutcomeView) (end : TurnEnd) (k0 k1 k2 : KeptView D) (s0 s1 s2 : K) (o o2 : List Message) (st st2 : Option Story) (f f2 : LinkFaults) (seconds millis : Series)
+      → o2 ≡ with_messages o (kept_back (sender_of i) outcome.sends)
+      → k0.closed ≡ false → TakesOne view takes count i outcome k0 s0 k1 s1 → ReplyStops view takes fails count end k1 k2 s1 s2 → Talked st st2 f f2
+      → EndsStill view takes fails count addresses end (deeds.Answers i false ∷ []) (reply_under end) (scene k0 o s0 (outside_of st f seconds millis)) (scene k2 o2 s2 (outside_of st2 f2 seconds millis))
+  reply_still addresses takes_nothing takes_then i outcome end k0 k1 k2 s0 s1 s2 o o2 st st2 f f2 seconds millis is is_open took stops talked =
+      let e = reply_ends takes_nothing end k1 k2 s1 s2 stops in
+      let replied : Replied view takes count false k1 k1 s1 s1 = record { looks = looks_none view k1 took.kept.is_open; text = takes_nothing s1; counts = omega arith } in (
+        k1,
+        o2,
+        s1,
+        subst (λ (x : List Message). Did view takes count addresses (deeds.Answers i false ∷ []) (scene k0 o s0 (outside_of st f seconds millis)) (scene k1 x s1 (outside_of st2 f2 seconds millis))) (sym is)
+            (did_answer view takes fails count addresses takes_then i outcome false k0 k1 k1 s0 s1 s1 o st st2 f f2 seconds millis is_open took replied talked),
+        e.0,
+        e.1,
+      )
 
 -- What is written and read through a loan
 
@@ -174,7 +165,7 @@ module _ {D K : Type 0} (view : D → DiskView) (takes fails : K → List ℕ �
       → Did view takes count addresses (ds ++ deeds.Talks ∷ []) a (scene k o s (outside_of st2 f2 seconds millis))
   talk_behind takes_nothing takes_then ds a k o s st st2 f f2 seconds millis did talked =
       did_then view takes fails count addresses takes_then ds (deeds.Talks ∷ []) a (scene k o s (outside_of st f seconds millis)) (scene k o s (outside_of st2 f2 seconds millis)) did
-      (did_silent view takes fails count addresses takes_nothing deeds.Talks k o o s (outside_of st f seconds millis) (outside_of st2 f2 seconds millis) (λ me. refl) did.is_open (omega (arith, talked.counts.listening))
+      (did_silent view takes fails count addresses takes_nothing deeds.Talks k o o s (outside_of st f seconds millis) (outside_of st2 f2 seconds millis) (λ me. refl) refl did.is_open (omega (arith, talked.counts.listening)) (λ before. before)
       (talks_only st st2 f f2 seconds millis talked, refl))
 
   -- a talk before deeds
@@ -184,15 +175,23 @@ module _ {D K : Type 0} (view : D → DiskView) (takes fails : K → List ℕ �
       → Did view takes count addresses (deeds.Talks ∷ ds) (scene k o s (outside_of st f seconds millis)) c
   talk_before takes_nothing takes_then ds k o s st st2 f f2 seconds millis c is_open talked did =
       did_then view takes fails count addresses takes_then (deeds.Talks ∷ []) ds (scene k o s (outside_of st f seconds millis)) (scene k o s (outside_of st2 f2 seconds millis)) c
-      (did_silent view takes fails count addresses takes_nothing deeds.Talks k o o s (outside_of st f seconds millis) (outside_of st2 f2 seconds millis) (λ me. refl) is_open (omega (arith, talked.counts.listening))
+      (did_silent view takes fails count addresses takes_nothing deeds.Talks k o o s (outside_of st f seconds millis) (outside_of st2 f2 seconds millis) (λ me. refl) refl is_open (omega (arith, talked.counts.listening)) (λ before. before)
       (talks_only st st2 f f2 seconds millis talked, refl)) did
 
   -- a talk alone
   pub talk_did : (takes_nothing : (k : K) → takes k [] k) (k : KeptView D) (o : List Message) (s : K) (st st2 : Option Story) (f f2 : LinkFaults) (seconds millis : Series)
       → k.closed ≡ false → Talked st st2 f f2 → Did view takes count addresses (deeds.Talks ∷ []) (scene k o s (outside_of st f seconds millis)) (scene k o s (outside_of st2 f2 seconds millis))
   talk_did takes_nothing k o s st st2 f f2 seconds millis is_open talked =
-      did_silent view takes fails count addresses takes_nothing deeds.Talks k o o s (outside_of st f seconds millis) (outside_of st2 f2 seconds millis) (λ me. refl) is_open (omega (arith, talked.counts.listening))
+      did_silent view takes fails count addresses takes_nothing deeds.Talks k o o s (outside_of st f seconds millis) (outside_of st2 f2 seconds millis) (λ me. refl) refl is_open (omega (arith, talked.counts.listening)) (λ before. before)
       (talks_only st st2 f f2 seconds millis talked, refl)
+
+-- a talk, and then it ended so
+module _ {D K : Type 0} (view : D → DiskView) (takes fails : K → List ℕ → K → Type 0) (count : K → ℕ) where
+  pub talk_still : (addresses : List (List ℕ)) (takes_nothing : (k : K) → takes k [] k) (end : TurnEnd) (under : Under) (k k2 : KeptView D) (o o2 : List Message) (s s2 : K) (st st2 : Option Story) (f f2 : LinkFaults) (seconds millis : Series)
+      → k.closed ≡ false → Talked st st2 f f2 → Stops view takes fails count ⊥ end [] under k k2 s s2 × MeetsFull view end under k k2
+      → EndsStill view takes fails count addresses end (deeds.Talks ∷ []) under (scene k o s (outside_of st f seconds millis)) (scene k2 o2 s2 (outside_of st2 f2 seconds millis))
+  talk_still addresses takes_nothing end under k k2 o o2 s s2 st st2 f f2 seconds millis is_open talked ended =
+      (k, o, s, talk_did view takes fails count addresses takes_nothing k o s st st2 f f2 seconds millis is_open talked, ended.0, ended.1)
 
 pub closed_by : (st st2 : Option Story) (f f2 : LinkFaults) → st2 ≡ option_map closed st → f2 ≡ f → Talked st st2 f f2
 closed_by st st2 f f2 is same =
@@ -249,8 +248,8 @@ module _ {D K : Type 0} (view : D → DiskView) (takes fails : K → List ℕ �
   pub did_answer_as : (takes_then : (a b c : K) (x y : List ℕ) → takes a x b → takes b y c → takes a (x ++ y) c)
       → (i : Input) (outcome : OutcomeView) (failed : Bool) (k0 k1 k2 : KeptView D) (s0 s1 s2 : K) (o o2 : List Message) (st st2 : Option Story) (f f2 : LinkFaults) (seconds millis : Series)
       → o2 ≡ with_messages o (kept_back (sender_of i) outcome.sends)
-      → TakesOne view takes count i outcome k0 s0 k1 s1 → Replied view takes count failed k1 k2 s1 s2 → Talked st st2 f f2
+      → k0.closed ≡ false → TakesOne view takes count i outcome k0 s0 k1 s1 → Replied view takes count failed k1 k2 s1 s2 → Talked st st2 f f2
       → Did view takes count addresses (deeds.Answers i failed ∷ []) (scene k0 o s0 (outside_of st f seconds millis)) (scene k2 o2 s2 (outside_of st2 f2 seconds millis))
-  did_answer_as takes_then i outcome failed k0 k1 k2 s0 s1 s2 o o2 st st2 f f2 seconds millis is took replied talked =
+  did_answer_as takes_then i outcome failed k0 k1 k2 s0 s1 s2 o o2 st st2 f f2 seconds millis is is_open took replied talked =
       subst (λ (x : List Message). Did view takes count addresses (deeds.Answers i failed ∷ []) (scene k0 o s0 (outside_of st f seconds millis)) (scene k2 x s2 (outside_of st2 f2 seconds millis))) (sym is)
-      (did_answer view takes fails count addresses takes_then i outcome failed k0 k1 k2 s0 s1 s2 o st st2 f f2 seconds millis took replied talked)
+      (did_answer view takes fails count addresses takes_then i outcome failed k0 k1 k2 s0 s1 s2 o st st2 f f2 seconds millis is_open took replied talked)

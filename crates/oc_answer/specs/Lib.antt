@@ -3,3 +3,4 @@ pub mod Hearing
 pub mod Serving
 pub mod Replying
 pub mod Requests
+pub mod Cuts

@@ -29,7 +29,6 @@ use Rattle.oc_routes.specs.declared.response.Response.{Response}
 use Rattle.oc_stream.specs.Texts.{chunked_text, chunks_written}
 use Rattle.oc_turn.specs.Deeds.{Deed, Answers, Notes, Talks, inputs_of}
 use Rattle.oc_turn.specs.Lines.{input_in}
-use Rattle.oc_turn.specs.Sending.{can_send}
 use Rattle.oc_answer.specs.declared.requests.Request.{Request}
 use Rattle.oc_policy.specs.declared.rule.Rule.{Rule}
 use Rattle.oc_answer.specs.Hearing.{Terms, terms_of, HearsRequest, EndsBefore, IsRefused, SaysOn}
@@ -39,11 +38,6 @@ abbrev pub terms : {D : Type 0} → KeptView D → List Rule → Terms
 terms kept rules = terms_of kept.node.control.me kept.node.control.nodes rules
 
 -- Texts
-
--- the message that goes back to the sender of a message, where it can be sent
-abbrev pub sendable : ℕ → Option Message → Option Message
-sendable nodes None = None
-sendable nodes (Some m) = if can_send nodes m then Some m else None
 
 -- the message of a step that goes back to the sender of the input, if it has one
 abbrev pub back_to_sender : Input → List Message → Option Message
@@ -60,9 +54,9 @@ is_sealed (asks.Client group area start manner) lines = is_line_sealed group lin
 is_sealed asked lines = false
 
 -- what a request is answered whose input comes to this node
-abbrev pub response_for : ℕ → List (List ℕ) → Asks → Bool → Input → Node → Response
-response_for nodes addresses asked last i n =
-    response_to asked (step n i).answer (sendable nodes (back_to_sender i (step n i).sends)) (is_sealed asked (shelf (step n i).node.groups)) addresses last
+abbrev pub response_for : List (List ℕ) → Asks → Bool → Input → Node → Response
+response_for addresses asked last i n =
+    response_to asked (step n i).answer (back_to_sender i (step n i).sends) (is_sealed asked (shelf (step n i).node.groups)) addresses last
 
 -- some bytes of a group
 abbrev pub part_of : List ℕ → ℕ → ℕ → List Group → List ℕ
@@ -109,13 +103,13 @@ SaysResponse asked response said kept groups old new =
     Fits asked response.content groups → IsSaid said (whole_text asked response groups) response.connection kept old new
 
 -- the response to this answer of a step, and to this message that goes back to a sender, was written with its content
-pub record Responds (nodes : ℕ) (addresses : List (List ℕ)) (asked : Asks) (last : Bool) (answer : Answer) (reply : Option Message) (groups : List Group) (said : Bool) (kept : Connection) (old new : Option Story) : Type 0 where
-  pub says : SaysResponse asked (response_to asked answer (sendable nodes reply) (is_sealed asked (shelf groups)) addresses last) said kept groups old new
+pub record Responds (addresses : List (List ℕ)) (asked : Asks) (last : Bool) (answer : Answer) (reply : Option Message) (groups : List Group) (said : Bool) (kept : Connection) (old new : Option Story) : Type 0 where
+  pub says : SaysResponse asked (response_to asked answer reply (is_sealed asked (shelf groups)) addresses last) said kept groups old new
 
 -- the input of a request is answered by the text of its step's outcome
-abbrev pub RepliesTo : ℕ → List (List ℕ) → Asks → Bool → Input → Bool → Connection → Node → Option Story → Option Story → Type 0
-RepliesTo nodes addresses asked last i said kept n old new =
-    IsSaid said (whole_text asked (response_for nodes addresses asked last i n) (step n i).node.groups) (response_for nodes addresses asked last i n).connection kept old new
+abbrev pub RepliesTo : List (List ℕ) → Asks → Bool → Input → Bool → Connection → Node → Option Story → Option Story → Type 0
+RepliesTo addresses asked last i said kept n old new =
+    IsSaid said (whole_text asked (response_for addresses asked last i n) (step n i).node.groups) (response_for addresses asked last i n).connection kept old new
 
 -- what a request is answered that is no input
 abbrev pub shown : List (List ℕ) → Asks → Bool → Response
@@ -127,7 +121,7 @@ pub record IsAnswered (t : Terms) (addresses : List (List ℕ)) (number : ℕ) (
   pub last : Bool
   pub between : Option Story
   pub heard : HearsRequest t number asked (Some i) last old between
-  pub answered : RepliesTo t.nodes addresses asked last i said kept n between new
+  pub answered : RepliesTo addresses asked last i said kept n between new
 
 -- a request that is no input was heard, and is answered
 pub record IsShown (t : Terms) (addresses : List (List ℕ)) (number : ℕ) (kept : Connection) (old new : Option Story) : Type 0 where
@@ -160,12 +154,12 @@ Serves t addresses number Talks kept n old new = IsShown t addresses number kept
 Serves t addresses number d kept n old new = ⊥
 
 -- what the deed of a request that was read is on its connection
-abbrev pub Replies : ℕ → List (List ℕ) → Request → Deed → Connection → Node → Option Story → Option Story → Type 0
-Replies nodes addresses request (Answers i failed) kept n old new =
-    (input_in request.entry ≡ Some i) × RepliesTo nodes addresses request.asks request.last i (not failed) kept n old new
-Replies nodes addresses request Talks kept n old new =
+abbrev pub Replies : List (List ℕ) → Request → Deed → Connection → Node → Option Story → Option Story → Type 0
+Replies addresses request (Answers i failed) kept n old new =
+    (input_in request.entry ≡ Some i) × RepliesTo addresses request.asks request.last i (not failed) kept n old new
+Replies addresses request Talks kept n old new =
     (input_in request.entry ≡ None) × ((said : Bool) × IsSaid said (shown addresses request.asks request.last).text (shown addresses request.asks request.last).connection kept old new)
-Replies nodes addresses request d kept n old new = ⊥
+Replies addresses request d kept n old new = ⊥
 
 -- requests from this number on, each of which kept the connection
 abbrev pub KeepOn : Terms → List (List ℕ) → ℕ → List Deed → Node → Option Story → Option Story → Type 0

@@ -7,12 +7,13 @@ ghost use Rattle.oc_outside.specs.LinkCalls.{CountsTalking};
 ghost use Rattle.oc_policy.specs.declared.deciding.TheConstants.{MAX_RULES as MOST_RULES};
 ghost use Rattle.oc_routes.specs.Lawful.{IsAsked};
 ghost use Rattle.oc_routes.specs.Refusals.{refusal_text, why_text};
-ghost use Rattle.oc_turn.specs.Deeds.{Answers, Deed, IsRequest, Talked, outside_of};
+ghost use Rattle.oc_turn.specs.Deeds.{Answers, Deed, IsRequest, Talked, Under, outside_of};
+ghost use Rattle.oc_answer.specs.Cuts.{CutsInput, CutsOff, CutsReply, CutsResponse};
 ghost use Rattle.oc_answer.specs.Replying.{Replied, ReplyStops, kept_back, sender_of, sent_back};
 ghost use Rattle.oc_answer.specs.Requests.{Belongs, IsLawfulRequest};
-ghost use Rattle.oc_answer.specs.Serving.{IsSaid, Replies, RepliesTo, Responds, SaysRefusal, Serves, is_line_sealed, is_sealed, sendable, shown, terms};
+ghost use Rattle.oc_answer.specs.Serving.{IsSaid, Replies, RepliesTo, Responds, SaysRefusal, Serves, is_line_sealed, is_sealed, shown, terms};
 ghost use Rattle.oc_keep.specs.KeptView.{IsHonest, node_of};
-ghost use Rattle.oc_turn.specs.Scenes.{Did, NoteStops, NotesOne, Stopped, scene};
+ghost use Rattle.oc_turn.specs.Scenes.{Did, EndsStill, NoteStops, NotesOne, scene};
 ghost use Rattle.oc_turn.specs.Lines.{IsEntry};
 ghost use Rattle.oc_wire.specs.Spelling.{HasSpelling};
 
@@ -26,7 +27,7 @@ use oc_keep::Kept;
 use oc_model::{Answer, Input, Message};
 use oc_outside::Link;
 use oc_routes::{Asks, Refused, RouteFault, put_refusal_line, refusal_reply, respond, split_reply};
-use oc_turn::{Entry, Outbox, TurnEnd, can_send, put_all, take, write_line};
+use oc_turn::{Entry, Outbox, TurnEnd, put_all, take, write_line};
 use std::alloc::Global;
 
 /// The line of a reply whose write failed.
@@ -53,7 +54,12 @@ pub(crate) fn serve_request<D: Disk, L: Link, K: Sink>(
         (scene kept.new outbox.new sink.new (outside_of (L.story link.new) (L.faults link.new) seconds millis)))
         × (IsHonest D.view kept.old → Serves (terms kept.old config.now.rules) config.now.addresses number deed connection (node_of kept.old)
         (L.story link.old) (L.story link.new))) }
-    ensures stops { IfErr result (λ end. Stopped D.view K.takes K.fails K.faults ⊥ end kept.old kept.new sink.old sink.new) }
+    ensures stops { IfErr result (λ end. (deed : Deed) × (under : Under) × IsRequest deed × ((addresses : List (List ℕ)) (seconds millis : Series)
+        → EndsStill D.view K.takes K.fails K.faults addresses end (deed ∷ []) under
+        (scene kept.old outbox.old sink.old (outside_of (L.story link.old) (L.faults link.old) seconds millis))
+        (scene kept.new outbox.new sink.new (outside_of (L.story link.new) (L.faults link.new) seconds millis)))
+        × (IsHonest D.view kept.old → CutsOff (terms kept.old config.now.rules) config.now.addresses number deed (node_of kept.old)
+        (L.story link.old) (L.story link.new))) }
     ensures count { CountsTalking (L.faults link.old) (L.faults link.new) }
 {
     // While no disk failed, the node is what the files recover.
@@ -115,8 +121,13 @@ fn answer<D: Disk, L: Link, K: Sink>(
         → Did D.view K.takes K.faults addresses (deed ∷ [])
         (scene kept.old outbox.old sink.old (outside_of (L.story link.old) (L.faults link.old) seconds millis))
         (scene kept.new outbox.new sink.new (outside_of (L.story link.new) (L.faults link.new) seconds millis)))
-        × (IsHonest D.view kept.old → Replies kept.old.node.control.nodes config.now.addresses request deed connection (node_of kept.old) (L.story link.old) (L.story link.new))) }
-    ensures stops { IfErr result (λ end. Stopped D.view K.takes K.fails K.faults ⊥ end kept.old kept.new sink.old sink.new) }
+        × (IsHonest D.view kept.old → Replies config.now.addresses request deed connection (node_of kept.old) (L.story link.old) (L.story link.new))) }
+    ensures stops { IfErr result (λ end. (deed : Deed) × (under : Under) × IsRequest deed × ((addresses : List (List ℕ)) (seconds millis : Series)
+        → EndsStill D.view K.takes K.fails K.faults addresses end (deed ∷ []) under
+        (scene kept.old outbox.old sink.old (outside_of (L.story link.old) (L.faults link.old) seconds millis))
+        (scene kept.new outbox.new sink.new (outside_of (L.story link.new) (L.faults link.new) seconds millis)))
+        × (IsHonest D.view kept.old → CutsReply config.now.addresses request deed (node_of kept.old)
+        (L.story link.old) (L.story link.new))) }
     ensures count { CountsTalking (L.faults link.old) (L.faults link.new) }
 {
     // While no disk failed, the node is what the files recover.
@@ -139,6 +150,7 @@ fn show<L: Link>(
     requires { IsAsked asks.now }
     ensures said { IfOk result (λ connection. (said : Bool) × IsSaid said (shown config.now.addresses asks.now last).text
         (shown config.now.addresses asks.now last).connection connection (L.story link.old) (L.story link.new)) }
+    ensures silent { OnErr result (L.story link.new ≡ L.story link.old) }
     ensures memory { IfErr result (λ end. end ≡ TurnEnd.Memory) }
     ensures talked { Talked (L.story link.old) (L.story link.new) (L.faults link.old) (L.faults link.new) }
 {
@@ -178,9 +190,14 @@ fn answer_input<D: Disk, L: Link, K: Sink>(
         → Did D.view K.takes K.faults addresses (Answers entry.input failed ∷ [])
         (scene kept.old outbox.old sink.old (outside_of (L.story link.old) (L.faults link.old) seconds millis))
         (scene kept.new outbox.new sink.new (outside_of (L.story link.new) (L.faults link.new) seconds millis)))
-        × (IsHonest D.view kept.old → RepliesTo kept.old.node.control.nodes config.now.addresses asks.now last entry.input (not failed) connection
+        × (IsHonest D.view kept.old → RepliesTo config.now.addresses asks.now last entry.input (not failed) connection
         (node_of kept.old) (L.story link.old) (L.story link.new))) }
-    ensures stops { IfErr result (λ end. Stopped D.view K.takes K.fails K.faults ⊥ end kept.old kept.new sink.old sink.new) }
+    ensures stops { IfErr result (λ end. (deed : Deed) × (under : Under) × IsRequest deed × ((addresses : List (List ℕ)) (seconds millis : Series)
+        → EndsStill D.view K.takes K.fails K.faults addresses end (deed ∷ []) under
+        (scene kept.old outbox.old sink.old (outside_of (L.story link.old) (L.faults link.old) seconds millis))
+        (scene kept.new outbox.new sink.new (outside_of (L.story link.new) (L.faults link.new) seconds millis)))
+        × (IsHonest D.view kept.old → CutsInput config.now.addresses asks.now last entry.input deed (node_of kept.old)
+        (L.story link.old) (L.story link.new))) }
     ensures count { CountsTalking (L.faults link.old) (L.faults link.new) }
 {
     let sender = sender_of(&entry.input);
@@ -206,15 +223,17 @@ fn reply_to<D: Disk, L: Link, K: Sink>(
 ) -> Result<Connection, TurnEnd>
     requires open { kept.old.closed ≡ false }
     requires asks { IsAsked asks.now }
+    requires text { ForSome reply (λ message. HasSpelling message.body) }
     ensures replied { IfOk result (λ connection. (failed : Bool) × Replied D.view K.takes K.faults failed kept.old kept.new sink.old sink.new
-        × (IsHonest D.view kept.old → Responds kept.old.node.control.nodes config.now.addresses asks.now last answer reply (node_of kept.old).groups
+        × (IsHonest D.view kept.old → Responds config.now.addresses asks.now last answer reply (node_of kept.old).groups
         (not failed) connection (L.story link.old) (L.story link.new))) }
+    ensures cut { OnErr result (IsHonest D.view kept.old → CutsResponse config.now.addresses asks.now last answer reply (node_of kept.old).groups
+        (L.story link.old) (L.story link.new)) }
     ensures stops { IfErr result (λ end. ReplyStops D.view K.takes K.fails K.faults end kept.old kept.new sink.old sink.new) }
     ensures talked { Talked (L.story link.old) (L.story link.new) (L.faults link.old) (L.faults link.new) }
 {
     // While no disk failed, the node is what the files recover.
-    let nodes = kept.node().nodes();
-    let reply = sendable(nodes, reply);
+    let _before = kept.node();
     let sealed = is_sealed(kept.shelf(), asks);
     let response = respond(
         alloc,
@@ -233,17 +252,6 @@ fn reply_to<D: Disk, L: Link, K: Sink>(
     let _node = kept.node();
     write_line(sink, WRITE_LINE)?;
     Ok(Connection::Close)
-}
-
-/// The reply, if it can be sent. Each message of a step can.
-fn sendable(nodes: u32, reply: Option<Message>) -> Option<Message>
-    ensures exact { result ≡ sendable nodes reply }
-    ensures text { ForSome result (λ message. HasSpelling message.body) }
-{
-    match reply {
-        Some(message) if can_send(nodes, &message) => Some(message),
-        _ => None,
-    }
 }
 
 /// The sender of a message that came.

@@ -4,10 +4,11 @@ ghost use Rattle.std.specs.Prelude.{◌≡◌, ◌≤◌, ℕ, List, IfErr, OnOk
 ghost use Rattle.oc_outside.specs.ClockView.{Series};
 ghost use Rattle.oc_outside.specs.LinkCalls.{CountsTalking};
 ghost use Rattle.oc_policy.specs.declared.deciding.TheConstants.{MAX_RULES as MOST_RULES};
-ghost use Rattle.oc_turn.specs.Deeds.{AreRequests, Deed, outside_of};
+ghost use Rattle.oc_turn.specs.Deeds.{AreRequests, Deed, Under, outside_of};
+ghost use Rattle.oc_answer.specs.Cuts.{CutsAll, IsCutConnection};
 ghost use Rattle.oc_answer.specs.Serving.{IsConnection, ServesAll, terms};
 ghost use Rattle.oc_keep.specs.KeptView.{IsHonest, node_of};
-ghost use Rattle.oc_turn.specs.Scenes.{Did, Stopped, scene};
+ghost use Rattle.oc_turn.specs.Scenes.{Did, EndsStill, scene};
 
 use crate::answering::serve_request;
 use oc_config::Config;
@@ -38,7 +39,12 @@ pub fn serve_connection<D: Disk, L: Link, K: Sink>(
         (scene kept.new outbox.new sink.new (outside_of (L.story link.new) (L.faults link.new) seconds millis)))
         × (IsHonest D.view kept.old → IsConnection (terms kept.old config.now.rules) config.now.addresses deeds (node_of kept.old)
         (L.story link.old) (L.story link.new))) }
-    ensures stops { IfErr result (λ end. Stopped D.view K.takes K.fails K.faults ⊥ end kept.old kept.new sink.old sink.new) }
+    ensures stops { IfErr result (λ end. (deeds : List Deed) × (under : Under) × ((addresses : List (List ℕ)) (seconds millis : Series)
+        → EndsStill D.view K.takes K.fails K.faults addresses end deeds under
+        (scene kept.old outbox.old sink.old (outside_of (L.story link.old) (L.faults link.old) seconds millis))
+        (scene kept.new outbox.new sink.new (outside_of (L.story link.new) (L.faults link.new) seconds millis)))
+        × (IsHonest D.view kept.old → IsCutConnection (terms kept.old config.now.rules) config.now.addresses deeds (node_of kept.old)
+        (L.story link.old) (L.story link.new))) }
     ensures count { CountsTalking (L.faults link.old) (L.faults link.new) }
 {
     let served = serve_requests(alloc, reader, kept, outbox, config, link, sink);
@@ -65,7 +71,12 @@ fn serve_requests<D: Disk, L: Link, K: Sink>(
         (scene kept.new outbox.new sink.new (outside_of (L.story link.new) (L.faults link.new) seconds millis)))
         × (IsHonest D.view kept.old → ServesAll (terms kept.old config.now.rules) config.now.addresses deeds (node_of kept.old)
         (L.story link.old) (L.story link.new))) }
-    ensures stops { IfErr result (λ end. Stopped D.view K.takes K.fails K.faults ⊥ end kept.old kept.new sink.old sink.new) }
+    ensures stops { IfErr result (λ end. (deeds : List Deed) × (under : Under) × ((addresses : List (List ℕ)) (seconds millis : Series)
+        → EndsStill D.view K.takes K.fails K.faults addresses end deeds under
+        (scene kept.old outbox.old sink.old (outside_of (L.story link.old) (L.faults link.old) seconds millis))
+        (scene kept.new outbox.new sink.new (outside_of (L.story link.new) (L.faults link.new) seconds millis)))
+        × (IsHonest D.view kept.old → CutsAll (terms kept.old config.now.rules) config.now.addresses deeds (node_of kept.old)
+        (L.story link.old) (L.story link.new))) }
     ensures count { CountsTalking (L.faults link.old) (L.faults link.new) }
 {
     'requests: for served in 0..MAX_REQUESTS {

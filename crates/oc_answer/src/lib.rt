@@ -10,6 +10,10 @@
 //! ask under the access rules, and why it is refused. The answer to an input is the text of its step's
 //! outcome, whole, or a front of it where the write failed; that to a refused request is the text of its
 //! fault, or a front of it. A further request is read only behind a reply that keeps the connection.
+//!
+//! Where it ended in the midst of a request, `specs/Cuts` says what was written of that
+//! (`IsCutConnection`): where its input was taken, with its line, a front of the text of its step's outcome;
+//! and else nothing but the leave to send its body.
 #![tactic(auto)]
 
 mod answering;

@@ -1,6 +1,7 @@
 //! What is written on the connection that came.
 
-ghost use Rattle.std.specs.Prelude.{◌≡◌, ◌≤◌, IfErr, IfOk, OnOk, Some, false, length, take, vec_len};
+ghost use Rattle.std.specs.Prelude.{◌≡◌, ◌≤◌, IfErr, IfOk, OnErr, OnOk, Some, false, length, take, vec_len};
+ghost use Rattle.oc_answer.specs.Cuts.{WritesFront};
 ghost use Rattle.oc_answer.specs.Hearing.{SaysOn};
 ghost use Rattle.oc_answer.specs.Serving.{Fits, FitsIn, coded, content_text, part_of, pieces, whole_text};
 ghost use Rattle.oc_keep.specs.KeptView.{IsHonest, node_of};
@@ -45,6 +46,8 @@ pub(crate) fn send_response<D: Disk, L: Link>(
     ensures talked { Talked (L.story link.old) (L.story link.new) (L.faults link.old) (L.faults link.new) }
     ensures looks { OnOk result (LooksOnly D.view kept.old kept.new) }
     ensures stops { IfErr result (λ end. LookStops D.view end kept.old kept.new) }
+    ensures cut { OnErr result (IsHonest D.view kept.old → Fits asks.now response.now.content (node_of kept.old).groups
+        → WritesFront (whole_text asks.now response.now (node_of kept.old).groups) (L.story link.old) (L.story link.new)) }
 {
     // While no disk failed, the node is what the files recover.
     let _node = kept.node();
@@ -71,6 +74,8 @@ fn send_content_asked<D: Disk, L: Link>(
     ensures talked { Talked (L.story link.old) (L.story link.new) (L.faults link.old) (L.faults link.new) }
     ensures looks { OnOk result (LooksOnly D.view kept.old kept.new) }
     ensures stops { IfErr result (λ end. LookStops D.view end kept.old kept.new) }
+    ensures cut { OnErr result (IsHonest D.view kept.old → Fits asks.now (Some content.now) (node_of kept.old).groups
+        → WritesFront (content_text asks.now (Some content.now) (node_of kept.old).groups) (L.story link.old) (L.story link.new)) }
 {
     match asks {
         Asks::Client { group, .. } => send_content(alloc, kept, link, group, content),
@@ -93,6 +98,8 @@ fn send_content<D: Disk, L: Link>(
     ensures talked { Talked (L.story link.old) (L.story link.new) (L.faults link.old) (L.faults link.new) }
     ensures looks { OnOk result (LooksOnly D.view kept.old kept.new) }
     ensures stops { IfErr result (λ end. LookStops D.view end kept.old kept.new) }
+    ensures cut { OnErr result (IsHonest D.view kept.old → FitsIn group.now content.now (node_of kept.old).groups
+        → WritesFront (coded content.now.chunked (part_of group.now content.now.start content.now.count (node_of kept.old).groups)) (L.story link.old) (L.story link.new)) }
 {
     // While no disk failed, the node is what the files recover.
     let _node = kept.node();
@@ -123,6 +130,8 @@ fn send_pieces<D: Disk, L: Link>(
     ensures talked { Talked (L.story link.old) (L.story link.new) (L.faults link.old) (L.faults link.new) }
     ensures looks { OnOk result (LooksOnly D.view kept.old kept.new) }
     ensures stops { IfErr result (λ end. LookStops D.view end kept.old kept.new) }
+    ensures cut { OnErr result (IsHonest D.view kept.old → FitsIn group.now content.now (node_of kept.old).groups
+        → WritesFront (pieces content.now.chunked (part_of group.now content.now.start content.now.count (node_of kept.old).groups)) (L.story link.old) (L.story link.new)) }
 {
     let mut at = content.start;
     let mut left = content.count;
@@ -175,6 +184,7 @@ fn send_piece<L: Link>(
 ) -> Result<bool, Memory>
     ensures said { IfOk result (λ whole. SaysOn whole (pieces chunked piece.now) (L.story link.old) (L.story link.new)) }
     ensures talked { Talked (L.story link.old) (L.story link.new) (L.faults link.old) (L.faults link.new) }
+    ensures silent { OnErr result (L.story link.new ≡ L.story link.old) }
 {
     if !chunked {
         return Ok(say(link, piece));

@@ -1,6 +1,7 @@
 //! A request, read from the connection that came.
 
 ghost use Rattle.std.specs.Prelude.{◌≡◌, ◌≤◌, ℕ, List, IfErr, IfOk, IfSome, length, vec_len};
+ghost use Rattle.oc_answer.specs.Cuts.{OnlyLeave, WritesNothing};
 ghost use Rattle.oc_answer.specs.Hearing.{HasEnded, HearsBody, HearsOn, HearsUntil, NoBody, Reads, ReadsBehind, ReadsHead, SaysOn, leave_for, terms_of, unread};
 ghost use Rattle.oc_answer.specs.Requests.{EntryOf, IsLawfulRequest};
 ghost use Rattle.oc_base.specs.declared.limits.TheConstants.{MAX_BODY_BYTES as MOST_BODY};
@@ -43,6 +44,7 @@ pub(crate) fn read_request<L: Link>(
     requires rules { length rules.now ≤ MOST_RULES }
     ensures reads { Reads (terms_of me nodes rules.now) number result (L.story link.old) (L.story link.new) }
     ensures talked { Talked (L.story link.old) (L.story link.new) (L.faults link.old) (L.faults link.new) }
+    ensures leave { OnlyLeave (L.story link.old) (L.story link.new) }
     ensures lawful { IfOk result (λ request. IfSome request (IsLawfulRequest nodes me)) }
 {
     let head = read_head(reader, link, number)?;
@@ -60,6 +62,7 @@ fn read_head<L: Link>(
 ) -> Result<Option<Head>, RouteFault>
     ensures reads { ReadsHead number result (L.story link.old) (L.story link.new) }
     ensures talked { Talked (L.story link.old) (L.story link.new) (L.faults link.old) (L.faults link.new) }
+    ensures silent { WritesNothing (L.story link.old) (L.story link.new) }
 {
     let mut source = Begun::new(link);
     let read = reader.read_head(&mut source);
@@ -94,6 +97,7 @@ fn read_behind<L: Link>(
     requires body { head.now.length ≤ MOST_BODY }
     ensures reads { ReadsBehind (terms_of me nodes rules.now) number head.now result (L.story link.old) (L.story link.new) }
     ensures talked { Talked (L.story link.old) (L.story link.new) (L.faults link.old) (L.faults link.new) }
+    ensures leave { OnlyLeave (L.story link.old) (L.story link.new) }
     ensures lawful { IfOk result (λ request. IfSome request (IsLawfulRequest nodes me)) }
 {
     let asks = route(head, rules)?;
@@ -111,6 +115,7 @@ fn take_body<L: Link>(alloc: Global, link: &mut L, head: &Head) -> Result<Vec<u8
     ensures body { IfOk result (λ body. HearsBody head.now body.items (L.story link.old) (L.story link.new)) }
     ensures none { IfErr result (λ fault. NoBody head.now fault (L.story link.old) (L.story link.new)) }
     ensures talked { Talked (L.story link.old) (L.story link.new) (L.faults link.old) (L.faults link.new) }
+    ensures leave { OnlyLeave (L.story link.old) (L.story link.new) }
 {
     if !lets_send(link, head) {
         return Err(RouteFault::Refused(Refused::Source));
@@ -136,6 +141,7 @@ fn read_rest<L: Link>(alloc: Global, link: &mut L, head: &Head) -> Result<Vec<u8
     ensures refused { IfErr result (λ fault. (bytes : List ℕ) × HearsUntil fault bytes (L.story link.old) (L.story link.new)
         × RefusesBody head.now.length bytes (HasEnded (L.story link.new)) fault) }
     ensures talked { Talked (L.story link.old) (L.story link.new) (L.faults link.old) (L.faults link.new) }
+    ensures silent { WritesNothing (L.story link.old) (L.story link.new) }
     ensures whole { IfOk result (λ body. vec_len body ≡ head.now.length) }
 {
     read_body(alloc, &mut Current::new(link), head)

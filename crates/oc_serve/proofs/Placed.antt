@@ -8,6 +8,8 @@ use Rattle.oc_model.specs.Node.{Header}
 use Rattle.oc_probe.specs.declared.probing.Probing.{Probing}
 use Rattle.oc_io.specs.DiskView.{DiskView}
 use Rattle.oc_io.specs.Faults.{NoFall}
+use Rattle.oc_model.specs.declared.message.Message.{Message}
+use Rattle.oc_turn.specs.Sending.{AreSendable}
 use Rattle.oc_serve.specs.Ends.{Renews}
 use Rattle.oc_serve.specs.Sending.{IsPlaced}
 use Rattle.oc_serve.specs.Turns.{IsMadeFor}
@@ -15,6 +17,11 @@ use Rattle.oc_serve.specs.Turns.{IsMadeFor}
 -- each node has an address still
 pub placed_stays : {D : Type 0} → (a b : KeptView D) (addresses : List (List ℕ)) → IsSameNode a.node.control b.node.control → IsPlaced a.node.control.nodes addresses → IsPlaced b.node.control.nodes addresses
 placed_stays a b addresses same placed = subst (λ (h : Header). IsPlaced h.nodes addresses) (sym same.header) placed
+
+-- what is to be sent can be sent still, once some deeds were done
+pub sendable_stays : {D : Type 0} → (a b : KeptView D) (old new : List Message) → IsSameNode a.node.control b.node.control → (AreSendable a.node.control.nodes old → AreSendable a.node.control.nodes new)
+    → AreSendable a.node.control.nodes old → AreSendable b.node.control.nodes new
+sendable_stays a b old new same sends can = subst (λ (h : Header). AreSendable h.nodes new) (sym same.header) (sends can)
 
 -- what is kept to probe was made for this node still
 pub made_stays : {D : Type 0} → (a b : KeptView D) (probing : Probing) → IsSameNode a.node.control b.node.control → IsMadeFor a.node.control.nodes probing → IsMadeFor b.node.control.nodes probing

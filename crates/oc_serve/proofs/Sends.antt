@@ -8,18 +8,22 @@ use Rattle.oc_io.specs.DiskView.{DiskView}
 use Rattle.oc_io.specs.Faults.{NoFall, Rose}
 use Rattle.oc_outside.specs.LinkCalls.{LinkFaults, CountsDialling, Told}
 use Rattle.oc_outside.specs.Story.{Story}
-use Rattle.oc_turn.specs.Dials.{DialsMessage, IsAnswered, Makes, text_of}
+use Rattle.oc_turn.specs.Dials.{DialsMessage, IsAnswered, Makes, MayMake, text_of}
 use Rattle.oc_turn.specs.Lines.{IsEntry, input_in}
 use Rattle.oc_turn.specs.declared.entry.Entry.{Entry}
-use Rattle.oc_turn.specs.Deeds.{Deed, DialledTo, Outside, Setting, Sight, Does, address_in, outside_of}
+use Rattle.oc_turn.specs.Deeds.{Deed, DialledTo, DialsInVain, Outside, Setting, Sight, Does, address_in, outside_of}
 use Rattle.oc_turn.specs.Deeds as deeds
 use Rattle.oc_turn.specs.Scenes.{Did, scene, setting}
-use Rattle.oc_serve.specs.Sending.{BecomesOf, IsLawfulSent, setting_of}
+use Rattle.oc_serve.specs.Sending.{BecomesOf, IsLawfulSent, WantsMemory, setting_of}
 use Rattle.oc_turn.specs.Deeds.{sight_of}
 use Rattle.oc_serve.specs.declared.sending.Sent.{Sent}
 use Rattle.oc_serve.specs.declared.sending.Sent.TheVariants as sents
-use Rattle.oc_serve.specs.Turns.{Lost, Brought, IsOneSent}
+use Rattle.oc_serve.specs.Turns.{IsOneSent}
+use Rattle.oc_turn.specs.Sending.{AreSendable}
+use Rattle.oc_turn.proofs.Messages.{receiver_of_sendable, first_of, rest_of, text_of_sendable}
 use Rattle.oc_turn.proofs.Steps.{did_silent}
+use Rattle.oc_base.specs.Lawful.{IsNode}
+use Rattle.oc_wire.specs.Spelling.{HasSpelling}
 
 -- a dial to an address is one to the receiver's
 pub dialled_to : (s : Setting) (m : Message) (came : Option Input) (address : List ℕ) (st st2 : Option Story) (f f2 : LinkFaults) → address ≡ address_in s m.to
@@ -35,7 +39,6 @@ dialled_to s m came address st st2 f f2 same dialled cause counts = record {
 -- the deeds of what became of the oldest message
 abbrev pub SentDeeds : Sent → List Deed → Type 0
 SentDeeds sents.Empty ds = ds ≡ deeds.Empties ∷ []
-SentDeeds sents.Lost ds = (m : Message) × (ds ≡ deeds.Drops m ∷ [])
 SentDeeds (sents.Brought came) ds = (m : Message) × (ds ≡ deeds.Dials m (input_in came) ∷ [])
 
 module _ {D K : Type 0} (view : D → DiskView) (takes fails : K → List ℕ → K → Type 0) (count : K → ℕ) (addresses : List (List ℕ)) where
@@ -46,29 +49,18 @@ module _ {D K : Type 0} (view : D → DiskView) (takes fails : K → List ℕ �
     deeds.Empties ∷ [],
     refl,
     λ seconds millis.
-        did_silent view takes fails count addresses takes_nothing deeds.Empties k o o2 sink (outside_of st f seconds millis) (outside_of st2 f2 seconds millis) (λ me. refl) is_open listens (
+        did_silent view takes fails count addresses takes_nothing deeds.Empties k o o2 sink (outside_of st f seconds millis) (outside_of st2 f2 seconds millis) (λ me. refl) refl is_open listens (λ before. subst (AreSendable k.node.control.nodes) (sym new) refl) (
           old,
           ap (λ (x : List Message). sight_of (node_of k) x (outside_of st2 f2 seconds millis)) (new ∙ sym old)
               ∙ ap (λ (x : Option Story). sight_of (node_of k) o (outside_of x f2 seconds millis)) story
               ∙ ap (λ (x : LinkFaults). sight_of (node_of k) o (outside_of st x seconds millis)) faults,
         ),
   )
-  sent_did takes_nothing k sents.Lost o o2 sink st st2 f f2 is_open listens (m, oldest, cannot, story, faults) = (
-    deeds.Drops m ∷ [],
-    (m, refl),
-    λ seconds millis.
-        did_silent view takes fails count addresses takes_nothing (deeds.Drops m) k o o2 sink (outside_of st f seconds millis) (outside_of st2 f2 seconds millis) (λ me. refl) is_open listens (
-          cannot,
-          ap (λ (x : List Message). sight_of (node_of k) x (outside_of st f seconds millis)) oldest
-              ∙ ap (λ (x : Option Story). sight_of (node_of k) (m ∷ o2) (outside_of x f seconds millis)) (sym story)
-              ∙ ap (λ (x : LinkFaults). sight_of (node_of k) (m ∷ o2) (outside_of st2 x seconds millis)) (sym faults),
-        ),
-  )
   sent_did takes_nothing k (sents.Brought came) o o2 sink st st2 f f2 is_open listens (m, oldest, dialled) = (
     deeds.Dials m (input_in came) ∷ [],
     (m, refl),
     λ seconds millis.
-        did_silent view takes fails count addresses takes_nothing (deeds.Dials m (input_in came)) k o o2 sink (outside_of st f seconds millis) (outside_of st2 f2 seconds millis) (λ me. refl) is_open listens
+        did_silent view takes fails count addresses takes_nothing (deeds.Dials m (input_in came)) k o o2 sink (outside_of st f seconds millis) (outside_of st2 f2 seconds millis) (λ me. refl) refl is_open listens (λ before. rest_of k.node.control.nodes m o2 (subst (AreSendable k.node.control.nodes) oldest before))
         (record { dialled = dialled; rest = refl }, oldest, refl),
   )
 
@@ -76,14 +68,11 @@ module _ {D K : Type 0} (view : D → DiskView) (takes fails : K → List ℕ �
 pub sent_empty : (ds : List Deed) → SentDeeds sents.Empty ds → IsOneSent false ds
 sent_empty ds is = is
 
-pub sent_lost : (ds : List Deed) → SentDeeds sents.Lost ds → IsOneSent true ds
-sent_lost ds (m, is) = (Lost m, is)
-
 pub sent_none : (ds : List Deed) → SentDeeds (sents.Brought None) ds → IsOneSent true ds
-sent_none ds (m, is) = (Brought m None, is)
+sent_none ds (m, is) = (record { message = m; came = None }, is)
 
 pub sent_some : (e : Entry) (ds : List Deed) → SentDeeds (sents.Brought (Some e)) ds → IsOneSent true (ds ++ deeds.Takes e.input ∷ [])
-sent_some e ds (m, is) = (Brought m (Some e.input), ap (λ (x : List Deed). x ++ deeds.Takes e.input ∷ []) is)
+sent_some e ds (m, is) = (record { message = m; came = Some e.input }, ap (λ (x : List Deed). x ++ deeds.Takes e.input ∷ []) is)
 
 -- what became of the oldest message, told of this node
 pub becomes_here : {D : Type 0} → (k : KeptView D) (addresses : List (List ℕ)) (me nodes : ℕ) (sent is : Sent) (o o2 : List Message) (st st2 : Option Story) (f f2 : LinkFaults)
@@ -99,3 +88,24 @@ entry_here k me nodes sent e same mine all lawful =
     subst (λ (x : ℕ). IsEntry k.node.control.nodes x e) mine
     (subst (λ (x : ℕ). IsEntry x me e) all
     (subst (λ (x : Sent). IsLawfulSent nodes me x) same lawful))
+
+-- the oldest of these messages has a text, and a receiver among the nodes
+pub oldest_text : (nodes : ℕ) (m : Message) (old new : List Message) → old ≡ m ∷ new → AreSendable nodes old → HasSpelling m.body
+oldest_text nodes m old new is are = text_of_sendable nodes m (first_of nodes m new (subst (AreSendable nodes) is are))
+
+pub oldest_receiver : (nodes : ℕ) (m : Message) (old new : List Message) → old ≡ m ∷ new → AreSendable nodes old → IsNode nodes m.to
+oldest_receiver nodes m old new is are = receiver_of_sendable nodes m (first_of nodes m new (subst (AreSendable nodes) is are))
+
+-- a dial to an address that ran out of memory is one to the receiver's
+pub wants_memory : (s : Setting) (m : Message) (old new : List Message) (address : List ℕ) (st st2 : Option Story) (f f2 : LinkFaults) → address ≡ address_in s m.to → old ≡ m ∷ new → MayMake address (text_of address m) st st2 → CountsDialling f f2
+    → WantsMemory s old st st2 f f2
+wants_memory s m old new address st st2 f f2 same oldest made counts = (m, new, oldest, subst (λ (a : List ℕ). MayMake a (text_of a m) st st2) same made, counts)
+
+-- told of this node
+pub dials_here : {D : Type 0} → (k : KeptView D) (addresses : List (List ℕ)) (me nodes : ℕ) (o : List Message) (st st2 : Option Story) (f f2 : LinkFaults) (seconds millis : Series)
+    → me ≡ k.node.control.me → nodes ≡ k.node.control.nodes → WantsMemory (setting_of me nodes addresses) o st st2 f f2
+    → DialsInVain (setting k addresses) (sight_of (node_of k) o (outside_of st f seconds millis)) (outside_of st2 f2 seconds millis)
+dials_here k addresses me nodes o st st2 f f2 seconds millis mine all wants =
+    let w = subst (λ (x : ℕ). WantsMemory (setting_of x k.node.control.nodes addresses) o st st2 f f2) mine
+    (subst (λ (x : ℕ). WantsMemory (setting_of me x addresses) o st st2 f f2) all wants) in
+    record { message = w.0; behind = w.1; oldest = w.2; dialled = w.3; counts = w.4; rest = refl }

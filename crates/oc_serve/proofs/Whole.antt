@@ -12,9 +12,12 @@ use Rattle.oc_outside.specs.declared.link.Arrival.TheVariants as arrivals
 use Rattle.oc_probe.specs.declared.probing.Probing.{Probing}
 use Rattle.oc_turn.specs.declared.ends.TurnEnd.{TurnEnd}
 use Rattle.oc_serve.specs.declared.limits.TheConstants.{MAX_DIALS}
-use Rattle.oc_turn.specs.Deeds.{Calls, Deed, DoAll, Does, Outside, Setting, Sight, outside_of, ticked}
+use Rattle.oc_turn.specs.Deeds.{Calls, Deed, Under, DoAll, Does, Outside, Setting, Sight, outside_of, ticked}
 use Rattle.oc_turn.specs.Looks.{LooksOnly}
-use Rattle.oc_turn.specs.Scenes.{Did, Scene, Stopped, scene, setting, sight}
+use Rattle.oc_turn.specs.Scenes.{Breaks, BreaksOff, Did, Scene, scene, setting, sight}
+use Rattle.oc_io.specs.Faults.{Rose}
+use Rattle.oc_io.proofs.Counts.{Rose-after}
+use Rattle.oc_answer.specs.Cuts.{IsCutConnection}
 use Rattle.oc_answer.specs.Hearing.{Terms, terms_of}
 use Rattle.oc_answer.specs.Serving.{terms}
 use Rattle.oc_keep.specs.Promises.{IsSameNode}
@@ -22,11 +25,11 @@ use Rattle.oc_keep.proofs.Stays.{all_honest}
 use Rattle.oc_model.specs.Node.{Header}
 use Rattle.oc_policy.specs.declared.rule.Rule.{Rule}
 use Rattle.oc_turn.proofs.Chains.{do_then}
-use Rattle.oc_serve.specs.Ends.{MakesTurn}
-use Rattle.oc_serve.specs.Served.{IsServed, ServesOne, ServesTurns}
+use Rattle.oc_serve.specs.Ends.{MakesTurn, StopsTurn, StopsTurns}
+use Rattle.oc_serve.specs.Served.{IsServed, ServesOne, ServesPart, ServesTurns}
 use Rattle.oc_serve.specs.Turns.{AreSent, AreTurns, Errand, IsArrival, IsOneSent, IsTickedAndSent, IsTurn, ProbesAt, ProbesNext, arrival_of, end_with, errand_deeds, errands_deeds}
 use Rattle.oc_turn.specs.Deeds.{ticked}
-use Rattle.oc_turn.proofs.Scenes.{did_then, stopped_then}
+use Rattle.oc_turn.proofs.Scenes.{breaks_as, did_then}
 use Rattle.oc_turn.proofs.Steps.{did_look, did_silent}
 
 -- Messages that are sent
@@ -128,7 +131,7 @@ module _ {D K : Type 0} (view : D → DiskView) (takes fails : K → List ℕ �
       (scene k0 o0 s0 (outside_of st0 f0 seconds millis)) (scene k1 o0 s0 (outside_of st0 f0 seconds millis)) (scene k1 o0 s0 (outside_of st1 f1 seconds millis))
       (did_look view takes fails count addresses takes_nothing k0 k1 o0 s0 (outside_of st0 f0 seconds millis) looks)
       (did_silent view takes fails count addresses takes_nothing (Calls arrival) k1 o0 o0 s0 (outside_of st0 f0 seconds millis) (outside_of st1 f1 seconds millis)
-      (λ me. refl) looks.is_open counts.listening (record { next = asked; counts = counts; rest = refl }, refl))
+      (λ me. refl) refl looks.is_open counts.listening (λ before. before) (record { next = asked; counts = counts; rest = refl }, refl))
 
   -- and the connection is served
   pub arrived_did : (takes_nothing : (k : K) → takes k [] k) (takes_then : (a b c : K) (x y : List ℕ) → takes a x b → takes b y c → takes a (x ++ y) c)
@@ -217,13 +220,93 @@ module _ {D K : Type 0} (view : D → DiskView) (takes fails : K → List ℕ �
       (subst (λ (t : Terms). ServesOne (setting b.kept addresses) t arrival es (sight b) (sight c)) (same_terms a.kept b.kept rules did.same) (serves (all_honest view (disks_of a.kept) (disks_of b.kept) did.goes_on honest))) in
       further (setting a.kept addresses) (terms a.kept rules) old between now n arrival ds es (sight a) (sight b) (sight c) (far honest) turn one
 
-  -- a look before what stopped
-  pub look_then : (takes_nothing : (k : K) → takes k [] k) (takes_then : (a b c : K) (x y : List ℕ) → takes a x b → takes b y c → takes a (x ++ y) c) (takes_fails : (a b c : K) (x y : List ℕ) → takes a x b → fails b y c → fails a (x ++ y) c)
-      → (link linked : Type 0) → (link → linked) → (end : TurnEnd) (old mid new : KeptView D) (o : List Message) (out : Outside) (sink after : K)
-      → LooksOnly view old mid → Stopped view takes fails count link end mid new sink after → Stopped view takes fails count linked end old new sink after
-  look_then takes_nothing takes_then takes_fails link linked so end old mid new o out sink after looks stopped =
-      stopped_then view takes fails count addresses takes_then takes_fails link linked so [] end (scene old o sink out) (scene mid o sink out) new after
-      (did_look view takes fails count addresses takes_nothing old mid o sink out looks) stopped
+-- Turns that ended in their midst
+
+module _ {D K : Type 0} (view : D → DiskView) (takes fails : K → List ℕ → K → Type 0) (count : K → ℕ) (addresses : List (List ℕ)) (rules : List Rule) where
+  -- before the link was asked
+  pub stops_before : (end : TurnEnd) (under : Under) (a at c : Scene D K) → Did view takes count addresses [] a at → Breaks view takes fails count addresses (Rose a.outside.faults.listening c.outside.faults.listening) end under at c
+      → StopsTurn view takes fails count addresses rules end a c
+  stops_before end under a at c did breaks = ([], under, at, did, (λ honest. inl (refl, did.done honest)), breaks)
+
+  -- with its connection
+  pub stops_cut : (takes_then : (a b c : K) (x y : List ℕ) → takes a x b → takes b y c → takes a (x ++ y) c)
+      → (end : TurnEnd) (under : Under) (a b at c : Scene D K) (arrival : Arrival) (requests : List Deed) → arrival ≡ arrivals.Conn
+      → Did view takes count addresses (Calls arrival ∷ []) a b → Did view takes count addresses requests b at
+      → (IsHonest view b.kept → IsCutConnection (terms b.kept rules) addresses requests (node_of b.kept) b.outside.story at.outside.story)
+      → Breaks view takes fails count addresses ⊥ end under at c → StopsTurn view takes fails count addresses rules end a c
+  stops_cut takes_then end under a b at c arrival requests conn asked talked cut breaks = (
+    Calls arrival ∷ requests,
+    under,
+    at,
+    did_then view takes fails count addresses takes_then (Calls arrival ∷ []) requests a b at asked talked,
+    λ honest.
+        let b_honest = all_honest view (disks_of a.kept) (disks_of b.kept) asked.goes_on honest in
+        let calls = asked.done honest in
+        inr (inr (record {
+          requests = requests;
+          called = sight b;
+          deeds_are = ap (λ (x : Arrival). Calls x ∷ requests) conn;
+          calls = subst (λ (x : Arrival). Does (setting a.kept addresses) (Calls x) (sight a) (sight b)) conn (subst (λ (x : Sight). Does (setting a.kept addresses) (Calls arrival) (sight a) x) (sym calls.2) calls.1);
+          talks = subst (λ (s : Setting). DoAll s requests (sight b) (sight at)) (same_setting a.kept b.kept addresses asked.same) (talked.done b_honest);
+          cut = subst (λ (t : Terms). IsCutConnection t addresses requests (node_of b.kept) b.outside.story at.outside.story) (same_terms a.kept b.kept rules asked.same) (cut b_honest);
+        })),
+    breaks_as view takes fails count addresses ⊥ _ (λ none. absurd none) end under at c breaks,
+  )
+
+  -- behind its connection
+  pub stops_behind : (takes_then : (a b c : K) (x y : List ℕ) → takes a x b → takes b y c → takes a (x ++ y) c)
+      → (end : TurnEnd) (a b c d : Scene D K) (arrival : Arrival) (requests next : List Deed) (under : Under)
+      → Did view takes count addresses (Calls arrival ∷ []) a b → Did view takes count addresses requests b c
+      → (IsHonest view b.kept → IsServed (terms b.kept rules) addresses arrival requests (node_of b.kept) b.outside.story c.outside.story)
+      → BreaksOff view takes fails count addresses ⊥ end next under c d → StopsTurn view takes fails count addresses rules end a d
+  stops_behind takes_then end a b c d arrival requests next under asked talked answered (at, sent, breaks) = (
+    (Calls arrival ∷ requests) ++ next,
+    under,
+    at,
+    did_then view takes fails count addresses takes_then (Calls arrival ∷ requests) next a c at
+        (did_then view takes fails count addresses takes_then (Calls arrival ∷ []) requests a b c asked talked) sent,
+    λ honest. inr (inl (arrival, served_one view takes fails count addresses rules a b c at arrival requests next asked talked sent answered honest)),
+    breaks_as view takes fails count addresses ⊥ _ (λ none. absurd none) end under at d breaks,
+  )
+
+  -- in its probe
+  pub stops_probing : (takes_then : (a b c : K) (x y : List ℕ) → takes a x b → takes b y c → takes a (x ++ y) c)
+      → (end : TurnEnd) (a b c : Scene D K) (arrival : Arrival) (ds probe : List Deed) (under : Under)
+      → Did view takes count addresses ds a b → (IsHonest view a.kept → ServesOne (setting a.kept addresses) (terms a.kept rules) arrival ds (sight a) (sight b))
+      → BreaksOff view takes fails count addresses ⊥ end probe under b c → StopsTurn view takes fails count addresses rules end a c
+  stops_probing takes_then end a b c arrival ds probe under first serves (at, probed, breaks) = (
+    ds ++ probe,
+    under,
+    at,
+    did_then view takes fails count addresses takes_then ds probe a b at first probed,
+    λ honest. inr (inl (arrival, serves_behind view takes fails count addresses rules arrival ds probe a b at first serves probed honest)),
+    breaks_as view takes fails count addresses ⊥ _ (λ none. absurd none) end under at c breaks,
+  )
+
+  -- a turn behind so many
+  pub stops_then : (takes_then : (a b c : K) (x y : List ℕ) → takes a x b → takes b y c → takes a (x ++ y) c)
+      → (end : TurnEnd) (had between : Option Probing) (done turns : ℕ) (a b c : Scene D K) (ds : List Deed) → done < turns
+      → Did view takes count addresses ds a b → (IsHonest view a.kept → ServesSoFar (setting a.kept addresses) (terms a.kept rules) had between done ds (sight a) (sight b))
+      → StopsTurn view takes fails count addresses rules end b c → StopsTurns view takes fails count addresses rules had turns end a c
+  stops_then takes_then end had between done turns a b c ds few did far (es, under, at, more, part, breaks) = (
+    ds ++ es,
+    under,
+    at,
+    did_then view takes fails count addresses takes_then ds es a b at did more,
+    λ honest. (
+      done,
+      ds,
+      es,
+      sight b,
+      between,
+      few,
+      serves_all (setting a.kept addresses) (terms a.kept rules) had between done ds (sight a) (sight b) (far honest),
+      subst (λ (s : Setting). ServesPart s (terms a.kept rules) es (sight b) (sight at)) (same_setting a.kept b.kept addresses did.same)
+          (subst (λ (t : Terms). ServesPart (setting b.kept addresses) t es (sight b) (sight at)) (same_terms a.kept b.kept rules did.same) (part (all_honest view (disks_of a.kept) (disks_of b.kept) did.goes_on honest))),
+      refl,
+    ),
+    breaks_as view takes fails count addresses _ _ (λ rose. Rose-after _ _ _ did.listens rose) end under at c breaks,
+  )
 
 -- a turn without a probe, where a connection came
 pub served_too : (had : Probing) (ds : List Deed) → IsTurn None None (end_with arrivals.Conn) ds → IsTurn (Some had) (Some had) (end_with arrivals.Conn) ds

@@ -8,14 +8,14 @@ use Rattle.oc_io.specs.DiskView.{DiskView}
 use Rattle.oc_io.specs.Faults.{Rose}
 use Rattle.oc_turn.specs.declared.ends.TurnEnd.{TurnEnd}
 use Rattle.oc_turn.specs.declared.ends.TurnEnd.TheVariants as ends
-use Rattle.oc_turn.specs.Deeds.{Deed}
-use Rattle.oc_turn.specs.Scenes.{Did, Scene, Stopped, setting, sight}
+use Rattle.oc_turn.specs.Deeds.{Deed, Under}
+use Rattle.oc_turn.specs.Scenes.{Breaks, Did, Scene, setting, sight}
 use Rattle.oc_serve.specs.Turns.{AreTurns, IsTurn, end_with}
 use Rattle.oc_outside.specs.declared.link.Arrival.{Arrival}
 use Rattle.oc_outside.specs.declared.link.Arrival.TheVariants as arrivals
 use Rattle.oc_policy.specs.declared.rule.Rule.{Rule}
 use Rattle.oc_answer.specs.Serving.{terms}
-use Rattle.oc_serve.specs.Served.{ServesOne, ServesTurns}
+use Rattle.oc_serve.specs.Served.{ServesOne, ServesPart, ServesTurns, ServesUpTo}
 
 -- the value that a call left behind a reference, if it was given one
 abbrev pub left_behind : {A : Type 0} → Unit {0} ⊎ ((MutBor A × Unit {0}) ⊎ ⊥) → Option A
@@ -35,6 +35,20 @@ MakesTurns view takes count addresses rules had has turns old new = (deeds : Lis
     × Did view takes count addresses deeds old new
     × (IsHonest view old.kept → ServesTurns (setting old.kept addresses) (terms old.kept rules) had has turns deeds (sight old) (sight new))
 
+-- Some deeds of a turn were done, in whose midst it then ended so: what was answered until then, and what every crash leaves.
+abbrev pub StopsTurn : {D K : Type 0} → (D → DiskView) → (K → List ℕ → K → Type 0) → (K → List ℕ → K → Type 0) → (K → ℕ) → List (List ℕ) → List Rule → TurnEnd → Scene D K → Scene D K → Type 0
+StopsTurn {D} {K} view takes fails count addresses rules end old new = (deeds : List Deed) × (under : Under) × (at : Scene D K)
+    × Did view takes count addresses deeds old at
+    × (IsHonest view old.kept → ServesPart (setting old.kept addresses) (terms old.kept rules) deeds (sight old) (sight at))
+    × Breaks view takes fails count addresses (Rose old.outside.faults.listening new.outside.faults.listening) end under at new
+
+-- the same of so many turns
+abbrev pub StopsTurns : {D K : Type 0} → (D → DiskView) → (K → List ℕ → K → Type 0) → (K → List ℕ → K → Type 0) → (K → ℕ) → List (List ℕ) → List Rule → Option Probing → ℕ → TurnEnd → Scene D K → Scene D K → Type 0
+StopsTurns {D} {K} view takes fails count addresses rules had turns end old new = (deeds : List Deed) × (under : Under) × (at : Scene D K)
+    × Did view takes count addresses deeds old at
+    × (IsHonest view old.kept → ServesUpTo (setting old.kept addresses) (terms old.kept rules) had turns deeds (sight old) (sight at))
+    × Breaks view takes fails count addresses (Rose old.outside.faults.listening new.outside.faults.listening) end under at new
+
 -- files that were ripe have a greater generation
 abbrev pub Renews : {D : Type 0} → (D → DiskView) → KeptView D → KeptView D → Type 0
 Renews view old new = IsHonest view old → IsRipe old → old.store.generation < new.store.generation
@@ -43,13 +57,13 @@ Renews view old new = IsHonest view old → IsRipe old → old.store.generation 
 abbrev pub TurnEnds : {D K : Type 0} → (D → DiskView) → (K → List ℕ → K → Type 0) → (K → List ℕ → K → Type 0) → (K → ℕ) → List (List ℕ) → List Rule → Option Probing → Option Probing → TurnEnd → Scene D K → Scene D K → Type 0
 TurnEnds view takes fails count addresses rules had has ends.Served old new = MakesTurn view takes count addresses rules had has arrivals.Conn old new × Renews view old.kept new.kept
 TurnEnds view takes fails count addresses rules had has ends.Quiet old new = MakesTurn view takes count addresses rules had has arrivals.Quiet old new × Renews view old.kept new.kept
-TurnEnds view takes fails count addresses rules had has end old new = Stopped view takes fails count (Rose old.outside.faults.listening new.outside.faults.listening) end old.kept new.kept old.sink new.sink
+TurnEnds view takes fails count addresses rules had has end old new = StopsTurn view takes fails count addresses rules end old new
 
 -- so many turns ended so
 abbrev pub ServeEnds : {D K : Type 0} → (D → DiskView) → (K → List ℕ → K → Type 0) → (K → List ℕ → K → Type 0) → (K → ℕ) → List (List ℕ) → List Rule → Option Probing → Option Probing → ℕ → TurnEnd → Scene D K → Scene D K → Type 0
 ServeEnds view takes fails count addresses rules had has turns ends.Served old new = MakesTurns view takes count addresses rules had has turns old new
 ServeEnds view takes fails count addresses rules had has turns ends.Quiet old new = ⊥
-ServeEnds view takes fails count addresses rules had has turns end old new = Stopped view takes fails count (Rose old.outside.faults.listening new.outside.faults.listening) end old.kept new.kept old.sink new.sink
+ServeEnds view takes fails count addresses rules had has turns end old new = StopsTurns view takes fails count addresses rules had turns end old new
 
 -- how a turn ends that answered so
 abbrev pub ended_with : Result Arrival TurnEnd → TurnEnd

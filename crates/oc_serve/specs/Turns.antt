@@ -17,19 +17,21 @@ use Rattle.oc_turn.specs.declared.ends.TurnEnd.{TurnEnd}
 use Rattle.oc_turn.specs.declared.ends.TurnEnd.TheVariants as ends
 use Rattle.oc_serve.specs.declared.limits.TheConstants.{MAX_DIALS}
 use Rattle.oc_turn.specs.Deeds.{AreRequests}
-use Rattle.oc_turn.specs.Deeds.{ticked, Deed, Calls, Takes, Notes, Dials, Drops, Empties, Probes}
+use Rattle.oc_turn.specs.Deeds.{ticked, Deed, Calls, Takes, Notes, Dials, Empties, Probes}
 
 -- The messages that are sent
 
--- a message that is taken out of the outbox: it cannot be sent, or this comes of it
-pub data Errand : Type 0 where
-  Lost : Message → Errand
-  Brought : Message → Option Input → Errand
+-- a message that is taken out of the outbox and dialled, and what comes of it
+pub record Errand : Type 0 where
+  pub message : Message
+  pub came : Option Input
+
+abbrev pub came_deeds : Option Input → List Deed
+came_deeds None = []
+came_deeds (Some i) = Takes i ∷ []
 
 abbrev pub errand_deeds : Errand → List Deed
-errand_deeds (Lost m) = Drops m ∷ []
-errand_deeds (Brought m None) = Dials m None ∷ []
-errand_deeds (Brought m (Some i)) = Dials m (Some i) ∷ Takes i ∷ []
+errand_deeds e = Dials e.message e.came ∷ came_deeds e.came
 
 abbrev pub errands_deeds : List Errand → List Deed
 errands_deeds [] = []
@@ -47,23 +49,20 @@ AreSent most ds = (es : List Errand)
 
 -- The probe
 
-abbrev pub probe_word : ProbeFault → List ℕ
-probe_word faults.Link = codes "link"
-probe_word faults.Reply = codes "reply"
-probe_word faults.Memory = []
-
--- `probe ID link` or `probe ID reply`
-abbrev pub probe_note : ℕ → ProbeFault → List ℕ
-probe_note peer fault = codes "probe " ++ decimal peer ++ codes " " ++ probe_word fault
+-- `probe ID WORD`
+abbrev pub probe_note : ℕ → List ℕ → List ℕ
+probe_note peer word = codes "probe " ++ decimal peer ++ codes " " ++ word
 
 -- A probe of a peer whose last record has this many hops: its rate goes to the gauge, whose median is taken with these hops; or its
--- fault is told, and the gauge stays.
+-- fault is told by its word, and the gauge stays. A turn whose probe wants memory ends there.
 abbrev pub IsProbe : List (List ℕ) → List (List ℕ) → ℕ → ℕ → Result ℕ ProbeFault → List Deed → Type 0
 IsProbe gauge after peer hops (Ok rate) ds = (median : ℕ)
     × IsMedian (with_rate (rates_of gauge peer) rate) median
     × (after ≡ slice_set gauge (peer - 1) (with_rate (rates_of gauge peer) rate))
     × (ds ≡ Probes peer hops (Ok rate) ∷ Takes (Measured peer (min median MAX_RATE) hops) ∷ [])
-IsProbe gauge after peer hops (Err fault) ds = (after ≡ gauge) × (ds ≡ Probes peer hops (Err fault) ∷ Notes (probe_note peer fault) ∷ [])
+IsProbe gauge after peer hops (Err faults.Link) ds = (after ≡ gauge) × (ds ≡ Probes peer hops (Err faults.Link) ∷ Notes (probe_note peer (codes "link")) ∷ [])
+IsProbe gauge after peer hops (Err faults.Reply) ds = (after ≡ gauge) × (ds ≡ Probes peer hops (Err faults.Reply) ∷ Notes (probe_note peer (codes "reply")) ∷ [])
+IsProbe gauge after peer hops (Err faults.Memory) ds = ⊥
 
 -- some hops and an answer make these deeds the probe of a peer
 abbrev pub ProbesPeer : List (List ℕ) → List (List ℕ) → ℕ → List Deed → Type 0

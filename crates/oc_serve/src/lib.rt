@@ -4,8 +4,8 @@
 //! dials the messages that are still to be sent, and may probe a peer. [`serve`] does so many times.
 //!
 //! What a turn does is a list of deeds; `specs/Turns` says which deeds make a turn, `specs/Served` that
-//! the requests of its connection were answered by the outcomes of their steps, and `specs/Ends` what was
-//! done by how it ended.
+//! the requests of its connection were answered by the outcomes of their steps, also where it ended in its
+//! midst, and `specs/Ends` what was done by how it ended.
 #![tactic(auto)]
 
 mod limits;

@@ -3,10 +3,10 @@
 ghost use Rattle.std.specs.Prelude.{◌≡◌, List, IfErr, IfOk, OnOk, false, length};
 ghost use Rattle.oc_base.specs.Lawful.{IsNode};
 ghost use Rattle.oc_outside.specs.LinkCalls.{CountsDialling};
-ghost use Rattle.oc_turn.specs.Deeds.{Deed, outside_of};
-ghost use Rattle.oc_turn.specs.Scenes.{Did, Stopped, scene};
+ghost use Rattle.oc_turn.specs.Deeds.{Deed, Under, outside_of};
+ghost use Rattle.oc_turn.specs.Scenes.{BreaksOff, Did, NotesOne, NoteStops, scene};
 ghost use Rattle.oc_serve.specs.Sending.{IsPlaced};
-ghost use Rattle.oc_serve.specs.Turns.{IsMadeFor, ProbesNext, ProbesPeer, probe_note, probe_word};
+ghost use Rattle.oc_serve.specs.Turns.{IsMadeFor, ProbesNext, ProbesPeer, probe_note};
 
 use crate::place::address_of;
 use oc_base::{MAX_RATE, Memory, NodeId, put, put_number};
@@ -39,7 +39,10 @@ pub(crate) fn probe_next<D: Disk, L: Link, C: Clock, K: Sink>(
         × Did D.view K.takes K.faults config.now.addresses probe
         (scene kept.old outbox.old sink.old (outside_of (L.story link.old) (L.faults link.old) (C.seconds clock.old) (C.milliseconds clock.old)))
         (scene kept.new outbox.new sink.new (outside_of (L.story link.new) (L.faults link.new) (C.seconds clock.new) (C.milliseconds clock.new)))) }
-    ensures stops { IfErr result (λ end. Stopped D.view K.takes K.fails K.faults ⊥ end kept.old kept.new sink.old sink.new) }
+    ensures stops { IfErr result (λ end. (deeds : List Deed) × (under : Under)
+        × BreaksOff D.view K.takes K.fails K.faults config.now.addresses ⊥ end deeds under
+        (scene kept.old outbox.old sink.old (outside_of (L.story link.old) (L.faults link.old) (C.seconds clock.old) (C.milliseconds clock.old)))
+        (scene kept.new outbox.new sink.new (outside_of (L.story link.new) (L.faults link.new) (C.seconds clock.new) (C.milliseconds clock.new)))) }
     ensures count { CountsDialling (L.faults link.old) (L.faults link.new) }
     ensures probing { IsMadeFor kept.old.node.control.nodes probing.new }
 {
@@ -84,7 +87,10 @@ fn probe_peer<D: Disk, L: Link, C: Clock, K: Sink>(
         × Did D.view K.takes K.faults config.now.addresses probe
         (scene kept.old outbox.old sink.old (outside_of (L.story link.old) (L.faults link.old) (C.seconds clock.old) (C.milliseconds clock.old)))
         (scene kept.new outbox.new sink.new (outside_of (L.story link.new) (L.faults link.new) (C.seconds clock.new) (C.milliseconds clock.new)))) }
-    ensures stops { IfErr result (λ end. Stopped D.view K.takes K.fails K.faults ⊥ end kept.old kept.new sink.old sink.new) }
+    ensures stops { IfErr result (λ end. (deeds : List Deed) × (under : Under)
+        × BreaksOff D.view K.takes K.fails K.faults config.now.addresses ⊥ end deeds under
+        (scene kept.old outbox.old sink.old (outside_of (L.story link.old) (L.faults link.old) (C.seconds clock.old) (C.milliseconds clock.old)))
+        (scene kept.new outbox.new sink.new (outside_of (L.story link.new) (L.faults link.new) (C.seconds clock.new) (C.milliseconds clock.new)))) }
     ensures count { CountsDialling (L.faults link.old) (L.faults link.new) }
     ensures gauge { length gauge.new ≡ length gauge.old }
 {
@@ -103,32 +109,29 @@ fn probe_peer<D: Disk, L: Link, C: Clock, K: Sink>(
             let entry = input_entry(alloc, me, input)?;
             take_own(kept, outbox, sink, entry)
         }
+        Err(ProbeFault::Link) => tell(alloc, sink, peer, b"link"),
+        Err(ProbeFault::Reply) => tell(alloc, sink, peer, b"reply"),
         Err(ProbeFault::Memory) => Err(TurnEnd::Memory),
-        Err(fault) => {
-            let why = probe_note(alloc, peer, fault)?;
-            write_note(alloc, sink, &why)
-        }
     }
 }
 
+/// Tells by this word why a probe took nothing.
+fn tell<K: Sink>(alloc: Global, sink: &mut K, peer: NodeId, word: &[u8]) -> Result<(), TurnEnd>
+    ensures noted { OnOk result (NotesOne K.takes K.faults (probe_note peer word.now) sink.old sink.new) }
+    ensures stops { IfErr result (λ end. NoteStops K.takes K.fails K.faults end (probe_note peer word.now) sink.old sink.new) }
+{
+    let why = probe_note(alloc, peer, word)?;
+    write_note(alloc, sink, &why)
+}
+
 /// Why a probe took nothing.
-fn probe_note(alloc: Global, peer: NodeId, fault: ProbeFault) -> Result<Vec<u8>, Memory>
-    ensures { IfOk result (λ why. why.items ≡ probe_note peer fault) }
+fn probe_note(alloc: Global, peer: NodeId, word: &[u8]) -> Result<Vec<u8>, Memory>
+    ensures { IfOk result (λ why. why.items ≡ probe_note peer word.now) }
 {
     let mut why = Vec::new(alloc);
     put(&mut why, b"probe ")?;
     put_number(&mut why, u64::from(peer.0))?;
     put(&mut why, b" ")?;
-    put(&mut why, probe_word(fault).as_bytes())?;
+    put(&mut why, word)?;
     Ok(why)
-}
-
-fn probe_word(fault: ProbeFault) -> &'static str
-    ensures { result.now ≡ probe_word fault }
-{
-    match fault {
-        ProbeFault::Link => "link",
-        ProbeFault::Reply => "reply",
-        ProbeFault::Memory => "",
-    }
 }

@@ -1,11 +1,12 @@
 //! The messages that a turn dials.
 
-ghost use Rattle.std.specs.Prelude.{◌≡◌, ℕ, List, IfOk, IfErr, OnOk, false};
+ghost use Rattle.std.specs.Prelude.{◌≡◌, ℕ, List, IfOk, IfErr, OnErr, OnOk, false};
 ghost use Rattle.oc_outside.specs.ClockView.{Series};
 ghost use Rattle.oc_outside.specs.LinkCalls.{CountsDialling};
-ghost use Rattle.oc_turn.specs.Deeds.{Deed, outside_of};
-ghost use Rattle.oc_turn.specs.Scenes.{Did, Stopped, scene};
-ghost use Rattle.oc_serve.specs.Sending.{BecomesOf, IsLawfulSent, IsPlaced, setting_of};
+ghost use Rattle.oc_turn.specs.Deeds.{Deed, Under, outside_of};
+ghost use Rattle.oc_turn.specs.Scenes.{BreaksOff, Did, scene};
+ghost use Rattle.oc_turn.specs.Sending.{AreSendable};
+ghost use Rattle.oc_serve.specs.Sending.{BecomesOf, IsLawfulSent, IsPlaced, WantsMemory, setting_of};
 ghost use Rattle.oc_serve.specs.Turns.{AreSent, IsOneSent};
 ghost use Rattle.oc_serve.specs.declared.limits.TheConstants.{MAX_DIALS};
 
@@ -17,7 +18,7 @@ use oc_http::HeadReader;
 use oc_io::{Disk, Sink};
 use oc_keep::Kept;
 use oc_outside::Link;
-use oc_turn::{Entry, Outbox, TurnEnd, can_send, dial, take_own};
+use oc_turn::{Entry, Outbox, TurnEnd, dial, take_own};
 use std::alloc::Global;
 
 /// What became of the oldest message of an outbox.
@@ -25,8 +26,6 @@ use std::alloc::Global;
 pub enum Sent {
     /// There was none.
     Empty,
-    /// It cannot be sent, and is lost.
-    Lost,
     /// It was dialled, and this comes of it.
     Brought(Option<Entry>),
 }
@@ -45,11 +44,15 @@ pub(crate) fn send_all<D: Disk, L: Link, K: Sink>(
 ) -> Result<(), TurnEnd>
     requires open { kept.old.closed ≡ false }
     requires placed { IsPlaced kept.old.node.control.nodes config.now.addresses }
+    requires sendable { AreSendable kept.old.node.control.nodes outbox.old }
     ensures did { OnOk result ((sent : List Deed) × AreSent MAX_DIALS sent × ((seconds millis : Series)
         → Did D.view K.takes K.faults config.now.addresses sent
         (scene kept.old outbox.old sink.old (outside_of (L.story link.old) (L.faults link.old) seconds millis))
         (scene kept.new outbox.new sink.new (outside_of (L.story link.new) (L.faults link.new) seconds millis)))) }
-    ensures stops { IfErr result (λ end. Stopped D.view K.takes K.fails K.faults ⊥ end kept.old kept.new sink.old sink.new) }
+    ensures stops { IfErr result (λ end. (deeds : List Deed) × (under : Under) × ((seconds millis : Series)
+        → BreaksOff D.view K.takes K.fails K.faults config.now.addresses ⊥ end deeds under
+        (scene kept.old outbox.old sink.old (outside_of (L.story link.old) (L.faults link.old) seconds millis))
+        (scene kept.new outbox.new sink.new (outside_of (L.story link.new) (L.faults link.new) seconds millis)))) }
     ensures count { CountsDialling (L.faults link.old) (L.faults link.new) }
 {
     'messages: for done in 0..MAX_DIALS {
@@ -75,11 +78,15 @@ fn send_one<D: Disk, L: Link, K: Sink>(
 ) -> Result<bool, TurnEnd>
     requires open { kept.old.closed ≡ false }
     requires placed { IsPlaced kept.old.node.control.nodes config.now.addresses }
+    requires sendable { AreSendable kept.old.node.control.nodes outbox.old }
     ensures did { IfOk result (λ more. (sent : List Deed) × IsOneSent more sent × ((seconds millis : Series)
         → Did D.view K.takes K.faults config.now.addresses sent
         (scene kept.old outbox.old sink.old (outside_of (L.story link.old) (L.faults link.old) seconds millis))
         (scene kept.new outbox.new sink.new (outside_of (L.story link.new) (L.faults link.new) seconds millis)))) }
-    ensures stops { IfErr result (λ end. Stopped D.view K.takes K.fails K.faults ⊥ end kept.old kept.new sink.old sink.new) }
+    ensures stops { IfErr result (λ end. (deeds : List Deed) × (under : Under) × ((seconds millis : Series)
+        → BreaksOff D.view K.takes K.fails K.faults config.now.addresses ⊥ end deeds under
+        (scene kept.old outbox.old sink.old (outside_of (L.story link.old) (L.faults link.old) seconds millis))
+        (scene kept.new outbox.new sink.new (outside_of (L.story link.new) (L.faults link.new) seconds millis)))) }
     ensures count { CountsDialling (L.faults link.old) (L.faults link.new) }
 {
     // While no disk failed, the node is what the files recover.
@@ -88,7 +95,6 @@ fn send_one<D: Disk, L: Link, K: Sink>(
     let sent = send_oldest(alloc, reader, me, nodes, outbox, config, link)?;
     match sent {
         Sent::Empty => Ok(false),
-        Sent::Lost => Ok(true),
         Sent::Brought(None) => Ok(true),
         Sent::Brought(Some(entry)) => {
             take_own(kept, outbox, sink, entry)?;
@@ -108,17 +114,19 @@ fn send_oldest<L: Link>(
     link: &mut L,
 ) -> Result<Sent, Memory>
     requires placed { IsPlaced nodes config.now.addresses }
+    requires sendable { AreSendable nodes outbox.old }
     ensures sent { IfOk result (λ sent. BecomesOf (setting_of me nodes config.now.addresses) sent
         outbox.old outbox.new (L.story link.old) (L.story link.new) (L.faults link.old) (L.faults link.new)) }
     ensures lawful { IfOk result (IsLawfulSent nodes me) }
+
+    // Where memory ran out, at most this one dial was made.
+    ensures memory { OnErr result (WantsMemory (setting_of me nodes config.now.addresses)
+        outbox.old (L.story link.old) (L.story link.new) (L.faults link.old) (L.faults link.new)) }
     ensures count { CountsDialling (L.faults link.old) (L.faults link.new) }
 {
     let Some(message) = outbox.take() else {
         return Ok(Sent::Empty);
     };
-    if !can_send(nodes, &message) {
-        return Ok(Sent::Lost);
-    }
     let address = address_of(config, message.to);
     let came = dial(alloc, reader, me, nodes, &message, address, link)?;
     Ok(Sent::Brought(came))

@@ -2,11 +2,11 @@
 
 ghost use Rattle.std.specs.Prelude.{◌≡◌, ◌≤◌, ℕ, List, IfErr, OnOk, None, Some, option_map, false, length};
 ghost use Rattle.std.specs.Option.{ForSome};
-ghost use Rattle.oc_io.specs.Faults.{Rose};
 ghost use Rattle.oc_policy.specs.declared.deciding.TheConstants.{MAX_RULES as MOST_RULES};
 ghost use Rattle.oc_turn.specs.Deeds.{outside_of};
-ghost use Rattle.oc_serve.specs.Ends.{MakesTurns, ServeEnds, TurnEnds, ended_with, left_behind, served_with};
-ghost use Rattle.oc_turn.specs.Scenes.{Stopped, scene};
+ghost use Rattle.oc_serve.specs.Ends.{MakesTurns, ServeEnds, StopsTurns, TurnEnds, ended_with, left_behind, served_with};
+ghost use Rattle.oc_turn.specs.Scenes.{scene};
+ghost use Rattle.oc_turn.specs.Sending.{AreSendable};
 ghost use Rattle.oc_serve.specs.Sending.{IsPlaced};
 ghost use Rattle.oc_serve.specs.Turns.{IsMadeFor};
 
@@ -22,8 +22,9 @@ use std::alloc::Global;
 /// One turn of a running node: `Served` where a connection came, `Quiet` where none waited, and else why
 /// it ended in its midst. It keeps what was done until then.
 ///
-/// The node is open, and each of its nodes has an address in the configuration. With a `Probing`, made for
-/// this node, a quiet turn ends with a probe of the next peer.
+/// The node is open, each of its nodes has an address in the configuration, and each message of the outbox
+/// can be sent, as it can of an empty one and after a turn. With a `Probing`, made for this node, a quiet
+/// turn ends with a probe of the next peer.
 #[allow(clippy::too_many_arguments)]
 pub fn turn<D: Disk, L: Link, C: Clock, K: Sink>(
     alloc: Global,
@@ -37,11 +38,12 @@ pub fn turn<D: Disk, L: Link, C: Clock, K: Sink>(
 ) -> TurnEnd
     requires open { kept.old.closed ≡ false }
     requires placed { IsPlaced kept.old.node.control.nodes config.now.addresses }
+    requires sendable { AreSendable kept.old.node.control.nodes outbox.old }
     requires rules { length config.now.rules ≤ MOST_RULES }
     requires probing { ForSome (option_map (λ p. p.now) probing) (IsMadeFor kept.old.node.control.nodes) }
 
-    // What it did, deed by deed, and what its connection was answered; where it ended in its midst, what
-    // was done until then, and what every crash leaves.
+    // What it did, deed by deed, and what its connection was answered; where it ended in its midst, the
+    // same until then, what every crash leaves, and what else went through the link.
     ensures ends { TurnEnds D.view K.takes K.fails K.faults config.now.addresses config.now.rules (option_map (λ p. p.now) probing.entry) (left_behind probing.exit) result
         (scene kept.old outbox.old sink.old (outside_of (L.story link.old) (L.faults link.old) (C.seconds clock.old) (C.milliseconds clock.old)))
         (scene kept.new outbox.new sink.new (outside_of (L.story link.new) (L.faults link.new) (C.seconds clock.new) (C.milliseconds clock.new))) }
@@ -73,6 +75,7 @@ pub fn serve<D: Disk, L: Link, C: Clock, K: Sink>(
 ) -> TurnEnd
     requires open { kept.old.closed ≡ false }
     requires placed { IsPlaced kept.old.node.control.nodes config.now.addresses }
+    requires sendable { AreSendable kept.old.node.control.nodes outbox.old }
     requires rules { length config.now.rules ≤ MOST_RULES }
     requires probing { ForSome (option_map (λ p. p.now) probing) (IsMadeFor kept.old.node.control.nodes) }
 
@@ -107,12 +110,15 @@ fn serve_probing<D: Disk, L: Link, C: Clock, K: Sink>(
 ) -> Result<(), TurnEnd>
     requires open { kept.old.closed ≡ false }
     requires placed { IsPlaced kept.old.node.control.nodes config.now.addresses }
+    requires sendable { AreSendable kept.old.node.control.nodes outbox.old }
     requires rules { length config.now.rules ≤ MOST_RULES }
     requires probing { IsMadeFor kept.old.node.control.nodes probing.old }
     ensures did { OnOk result (MakesTurns D.view K.takes K.faults config.now.addresses config.now.rules (Some probing.old) (Some probing.new) turns
         (scene kept.old outbox.old sink.old (outside_of (L.story link.old) (L.faults link.old) (C.seconds clock.old) (C.milliseconds clock.old)))
         (scene kept.new outbox.new sink.new (outside_of (L.story link.new) (L.faults link.new) (C.seconds clock.new) (C.milliseconds clock.new)))) }
-    ensures stops { IfErr result (λ end. Stopped D.view K.takes K.fails K.faults (Rose (L.faults link.old).listening (L.faults link.new).listening) end kept.old kept.new sink.old sink.new) }
+    ensures stops { IfErr result (λ end. StopsTurns D.view K.takes K.fails K.faults config.now.addresses config.now.rules (Some probing.old) turns end
+        (scene kept.old outbox.old sink.old (outside_of (L.story link.old) (L.faults link.old) (C.seconds clock.old) (C.milliseconds clock.old)))
+        (scene kept.new outbox.new sink.new (outside_of (L.story link.new) (L.faults link.new) (C.seconds clock.new) (C.milliseconds clock.new)))) }
     ensures probing { IsMadeFor kept.old.node.control.nodes probing.new }
 {
     'turns: for done in 0..turns {
@@ -135,11 +141,14 @@ fn serve_plain<D: Disk, L: Link, C: Clock, K: Sink>(
 ) -> Result<(), TurnEnd>
     requires open { kept.old.closed ≡ false }
     requires placed { IsPlaced kept.old.node.control.nodes config.now.addresses }
+    requires sendable { AreSendable kept.old.node.control.nodes outbox.old }
     requires rules { length config.now.rules ≤ MOST_RULES }
     ensures did { OnOk result (MakesTurns D.view K.takes K.faults config.now.addresses config.now.rules None None turns
         (scene kept.old outbox.old sink.old (outside_of (L.story link.old) (L.faults link.old) (C.seconds clock.old) (C.milliseconds clock.old)))
         (scene kept.new outbox.new sink.new (outside_of (L.story link.new) (L.faults link.new) (C.seconds clock.new) (C.milliseconds clock.new)))) }
-    ensures stops { IfErr result (λ end. Stopped D.view K.takes K.fails K.faults (Rose (L.faults link.old).listening (L.faults link.new).listening) end kept.old kept.new sink.old sink.new) }
+    ensures stops { IfErr result (λ end. StopsTurns D.view K.takes K.fails K.faults config.now.addresses config.now.rules None turns end
+        (scene kept.old outbox.old sink.old (outside_of (L.story link.old) (L.faults link.old) (C.seconds clock.old) (C.milliseconds clock.old)))
+        (scene kept.new outbox.new sink.new (outside_of (L.story link.new) (L.faults link.new) (C.seconds clock.new) (C.milliseconds clock.new)))) }
 {
     'turns: for done in 0..turns {
         turn_plain(alloc, kept, outbox, config, link, clock, sink)?;

@@ -1,16 +1,18 @@
 //! One turn.
 
-ghost use Rattle.std.specs.Prelude.{◌≡◌, ◌≤◌, ℕ, Ok, None, Some, List, IfErr, IfOk, OnOk, false, length};
+ghost use Rattle.std.specs.Prelude.{◌≡◌, ◌≤◌, ℕ, Ok, None, Some, List, IfErr, IfOk, OnErr, OnOk, false, length};
 ghost use Rattle.oc_keep.specs.KeptView.{IsHonest, NodeSurvives, node_of};
 ghost use Rattle.oc_outside.specs.ClockView.{Series};
 ghost use Rattle.oc_io.specs.Faults.{NoFall, Rose};
 ghost use Rattle.oc_outside.specs.LinkCalls.{CountsDialling, CountsListening, CountsTalking, NextGives};
 ghost use Rattle.oc_policy.specs.declared.deciding.TheConstants.{MAX_RULES as MOST_RULES};
-ghost use Rattle.oc_turn.specs.Deeds.{Deed, outside_of};
+ghost use Rattle.oc_turn.specs.Deeds.{Deed, Under, outside_of};
 ghost use Rattle.oc_turn.specs.Looks.{LookStops};
-ghost use Rattle.oc_turn.specs.Scenes.{Did, Stopped, scene};
+ghost use Rattle.oc_turn.specs.Scenes.{BreaksOff, Did, EndsStill, scene};
+ghost use Rattle.oc_turn.specs.Sending.{AreSendable};
+ghost use Rattle.oc_answer.specs.Cuts.{IsCutConnection};
 ghost use Rattle.oc_answer.specs.Serving.{terms};
-ghost use Rattle.oc_serve.specs.Ends.{MakesTurn, Renews};
+ghost use Rattle.oc_serve.specs.Ends.{MakesTurn, Renews, StopsTurn};
 ghost use Rattle.oc_serve.specs.Served.{IsServed};
 ghost use Rattle.oc_serve.specs.Sending.{IsPlaced};
 ghost use Rattle.oc_serve.specs.Turns.{IsArrival, IsMadeFor, IsTickedAndSent};
@@ -41,12 +43,15 @@ pub(crate) fn turn_probing<D: Disk, L: Link, C: Clock, K: Sink>(
 ) -> Result<Arrival, TurnEnd>
     requires open { kept.old.closed ≡ false }
     requires placed { IsPlaced kept.old.node.control.nodes config.now.addresses }
+    requires sendable { AreSendable kept.old.node.control.nodes outbox.old }
     requires rules { length config.now.rules ≤ MOST_RULES }
     requires probing { IsMadeFor kept.old.node.control.nodes probing.old }
     ensures did { IfOk result (λ arrival. MakesTurn D.view K.takes K.faults config.now.addresses config.now.rules (Some probing.old) (Some probing.new) arrival
         (scene kept.old outbox.old sink.old (outside_of (L.story link.old) (L.faults link.old) (C.seconds clock.old) (C.milliseconds clock.old)))
         (scene kept.new outbox.new sink.new (outside_of (L.story link.new) (L.faults link.new) (C.seconds clock.new) (C.milliseconds clock.new)))) }
-    ensures stops { IfErr result (λ end. Stopped D.view K.takes K.fails K.faults (Rose (L.faults link.old).listening (L.faults link.new).listening) end kept.old kept.new sink.old sink.new) }
+    ensures stops { IfErr result (λ end. StopsTurn D.view K.takes K.fails K.faults config.now.addresses config.now.rules end
+        (scene kept.old outbox.old sink.old (outside_of (L.story link.old) (L.faults link.old) (C.seconds clock.old) (C.milliseconds clock.old)))
+        (scene kept.new outbox.new sink.new (outside_of (L.story link.new) (L.faults link.new) (C.seconds clock.new) (C.milliseconds clock.new)))) }
     ensures listens { NoFall (L.faults link.old).listening (L.faults link.new).listening }
     ensures renews { OnOk result (Renews D.view kept.old kept.new) }
     ensures probing { IsMadeFor kept.old.node.control.nodes probing.new }
@@ -75,11 +80,14 @@ pub(crate) fn turn_plain<D: Disk, L: Link, C: Clock, K: Sink>(
 ) -> Result<Arrival, TurnEnd>
     requires open { kept.old.closed ≡ false }
     requires placed { IsPlaced kept.old.node.control.nodes config.now.addresses }
+    requires sendable { AreSendable kept.old.node.control.nodes outbox.old }
     requires rules { length config.now.rules ≤ MOST_RULES }
     ensures did { IfOk result (λ arrival. MakesTurn D.view K.takes K.faults config.now.addresses config.now.rules None None arrival
         (scene kept.old outbox.old sink.old (outside_of (L.story link.old) (L.faults link.old) (C.seconds clock.old) (C.milliseconds clock.old)))
         (scene kept.new outbox.new sink.new (outside_of (L.story link.new) (L.faults link.new) (C.seconds clock.new) (C.milliseconds clock.new)))) }
-    ensures stops { IfErr result (λ end. Stopped D.view K.takes K.fails K.faults (Rose (L.faults link.old).listening (L.faults link.new).listening) end kept.old kept.new sink.old sink.new) }
+    ensures stops { IfErr result (λ end. StopsTurn D.view K.takes K.fails K.faults config.now.addresses config.now.rules end
+        (scene kept.old outbox.old sink.old (outside_of (L.story link.old) (L.faults link.old) (C.seconds clock.old) (C.milliseconds clock.old)))
+        (scene kept.new outbox.new sink.new (outside_of (L.story link.new) (L.faults link.new) (C.seconds clock.new) (C.milliseconds clock.new)))) }
     ensures listens { NoFall (L.faults link.old).listening (L.faults link.new).listening }
     ensures renews { OnOk result (Renews D.view kept.old kept.new) }
 {
@@ -113,6 +121,7 @@ fn make_reader<D: Disk>(alloc: Global, kept: &Kept<D>) -> Result<HeadReader, Tur
 fn ask<D: Disk, L: Link>(kept: &Kept<D>, link: &mut L) -> Result<Arrival, TurnEnd>
     ensures asked { IfOk result (λ arrival. NextGives (Ok arrival) (L.story link.old) (L.story link.new)) }
     ensures fails { IfErr result (λ end. (end ≡ TurnEnd.Link) × Rose (L.faults link.old).listening (L.faults link.new).listening) }
+    ensures silent { OnErr result (L.story link.new ≡ L.story link.old) }
     ensures count { CountsListening (L.faults link.old) (L.faults link.new) }
     ensures survives { kept.now.closed ≡ false → IsHonest D.view kept.now → NodeSurvives D.view kept.now (node_of kept.now) }
 {
@@ -144,7 +153,13 @@ fn serve_arrival<D: Disk, L: Link, K: Sink>(
         (scene kept.new outbox.new sink.new (outside_of (L.story link.new) (L.faults link.new) seconds millis)))
         × (IsHonest D.view kept.old → IsServed (terms kept.old config.now.rules) config.now.addresses arrival deeds (node_of kept.old)
         (L.story link.old) (L.story link.new))) }
-    ensures stops { IfErr result (λ end. Stopped D.view K.takes K.fails K.faults ⊥ end kept.old kept.new sink.old sink.new) }
+    ensures stops { IfErr result (λ end. (deeds : List Deed) × (under : Under) × ((addresses : List (List ℕ)) (seconds millis : Series)
+        → EndsStill D.view K.takes K.fails K.faults addresses end deeds under
+        (scene kept.old outbox.old sink.old (outside_of (L.story link.old) (L.faults link.old) seconds millis))
+        (scene kept.new outbox.new sink.new (outside_of (L.story link.new) (L.faults link.new) seconds millis)))
+        × (IsHonest D.view kept.old → IsCutConnection (terms kept.old config.now.rules) config.now.addresses deeds (node_of kept.old)
+        (L.story link.old) (L.story link.new))) }
+    ensures conn { OnErr result (arrival ≡ Arrival.Conn) }
     ensures count { CountsTalking (L.faults link.old) (L.faults link.new) }
 {
     match arrival {
@@ -167,11 +182,15 @@ fn tick_and_send<D: Disk, L: Link, C: Clock, K: Sink>(
 ) -> Result<(), TurnEnd>
     requires open { kept.old.closed ≡ false }
     requires placed { IsPlaced kept.old.node.control.nodes config.now.addresses }
+    requires sendable { AreSendable kept.old.node.control.nodes outbox.old }
     ensures did { OnOk result ((deeds : List Deed) × IsTickedAndSent deeds
         × Did D.view K.takes K.faults config.now.addresses deeds
         (scene kept.old outbox.old sink.old (outside_of (L.story link.old) (L.faults link.old) (C.seconds clock.old) (C.milliseconds clock.old)))
         (scene kept.new outbox.new sink.new (outside_of (L.story link.new) (L.faults link.new) (C.seconds clock.new) (C.milliseconds clock.new)))) }
-    ensures stops { IfErr result (λ end. Stopped D.view K.takes K.fails K.faults ⊥ end kept.old kept.new sink.old sink.new) }
+    ensures stops { IfErr result (λ end. (deeds : List Deed) × (under : Under)
+        × BreaksOff D.view K.takes K.fails K.faults config.now.addresses ⊥ end deeds under
+        (scene kept.old outbox.old sink.old (outside_of (L.story link.old) (L.faults link.old) (C.seconds clock.old) (C.milliseconds clock.old)))
+        (scene kept.new outbox.new sink.new (outside_of (L.story link.new) (L.faults link.new) (C.seconds clock.new) (C.milliseconds clock.new)))) }
     ensures count { CountsDialling (L.faults link.old) (L.faults link.new) }
 {
     tick(alloc, kept, outbox, clock, sink)?;

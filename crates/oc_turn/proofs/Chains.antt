@@ -42,7 +42,6 @@ does_node s (deeds.Answers i failed) a b does = ap (λ (x : Sight). x.node) does
 does_node s (deeds.Notes why) a b does = ap (λ (x : Sight). x.node) does.1
 does_node s deeds.Talks a b does = ap (λ (x : Sight). x.node) does.1
 does_node s (deeds.Dials m came) a b does = does.2
-does_node s (deeds.Drops m) a b does = sym (ap (λ (x : Sight). x.node) does.1)
 does_node s deeds.Empties a b does = ap (λ (x : Sight). x.node) does.1
 does_node s (deeds.Probes peer hops came) a b does = ap (λ (x : Sight). x.node) does.2
 

@@ -1,6 +1,7 @@
 pub mod Asking
 pub mod Rows
 pub mod Chains
+pub mod Messages
 pub mod Scenes
 pub mod Takes
 pub mod Steps

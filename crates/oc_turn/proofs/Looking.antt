@@ -15,18 +15,6 @@ use Rattle.oc_turn.proofs.Scenes.{go_on_none}
 use Rattle.oc_turn.proofs.Takes.{named}
 
 module _ {D : Type 0} (view : D → DiskView) where
-  pub looks_none : (k : KeptView D) → k.closed ≡ false → LooksOnly view k k
-  looks_none k is_open = record { is_open = is_open; same = record { me = refl; header = refl }; goes_on = go_on_none view (disks_of k); node = λ honest. refl; generation = λ honest. omega arith }
-
-  pub looks_then : (a b c : KeptView D) → LooksOnly view a b → LooksOnly view b c → LooksOnly view a c
-  looks_then a b c p q = record {
-    is_open = q.is_open;
-    same = record { me = q.same.me ∙ p.same.me; header = q.same.header ∙ p.same.header };
-    goes_on = all_go_on_then view (disks_of a) (disks_of b) (disks_of c) p.goes_on q.goes_on;
-    node = λ honest. q.node (all_honest view (disks_of a) (disks_of b) p.goes_on honest) ∙ p.node honest;
-    generation = λ honest. omega (arith, p.generation honest, q.generation (all_honest view (disks_of a) (disks_of b) p.goes_on honest));
-  }
-
   look_cause : (end : TurnEnd) (a b c : KeptView D) → LooksOnly view a b → LookCause view end b c → LookCause view end a c
   look_cause ends.Disk a b c p cause = one_rose_after view (disks_of a) (disks_of b) (disks_of c) p.goes_on cause
   look_cause ends.Memory a b c p cause = tt

@@ -16,23 +16,27 @@ use Rattle.oc_turn.specs.declared.ends.TurnEnd.TheVariants as ends
 use Rattle.oc_turn.specs.Deeds.{Deed, Outside, Setting, Sight, Under, Idle, Taking, Noting, Does, DoAll, deed_text, deeds_text, inputs_of, note_line, under_line}
 use Rattle.oc_turn.specs.Deeds as deeds
 use Rattle.oc_turn.specs.Looks.{LooksOnly, LookStops}
-use Rattle.oc_turn.specs.Scenes.{Did, NotesOne, NoteStops, LineStops, Scene, Stops, Stopped, WritesOne, scene, setting, sight}
+use Rattle.oc_turn.specs.Sending.{AreSendable}
+use Rattle.oc_turn.specs.Scenes.{Did, MeetsFull, NotesOne, NoteStops, LineStops, Scene, Stops, Stopped, WritesOne, scene, setting, sight}
 use Rattle.oc_turn.specs.Deeds.{sight_of}
-use Rattle.oc_turn.proofs.Scenes.{go_on_none}
+use Rattle.oc_turn.proofs.Scenes.{go_on_none, keeps_none, looks_none}
 
 module _ {D K : Type 0} (view : D → DiskView) (takes fails : K → List ℕ → K → Type 0) (count : K → ℕ) (addresses : List (List ℕ)) where
   -- a deed without a line that leaves the node and its output as they are
   pub did_silent : (takes_nothing : (k : K) → takes k [] k) (d : Deed) (k : KeptView D) (o o2 : List Message) (sink : K) (out out2 : Outside)
-      → ((me : ℕ) → deed_text me d ≡ []) → k.closed ≡ false → NoFall out.faults.listening out2.faults.listening
+      → ((me : ℕ) → deed_text me d ≡ []) → inputs_of (d ∷ []) ≡ [] → k.closed ≡ false → NoFall out.faults.listening out2.faults.listening
+      → (AreSendable k.node.control.nodes o → AreSendable k.node.control.nodes o2)
       → Does (setting k addresses) d (sight_of (node_of k) o out) (sight_of (node_of k) o2 out2)
       → Did view takes count addresses (d ∷ []) (scene k o sink out) (scene k o2 sink out2)
-  did_silent takes_nothing d k o o2 sink out out2 silent is_open listens does = record {
+  did_silent takes_nothing d k o o2 sink out out2 silent none is_open listens sendable does = record {
     is_open = is_open;
     same = record { me = refl; header = refl };
     goes_on = go_on_none view (disks_of k);
     counts = omega arith;
     listens = listens;
     generation = λ honest. omega arith;
+    keeps = keeps_none view (inputs_of (d ∷ [])) k none is_open;
+    sendable = sendable;
     text = subst (λ (t : List ℕ). takes sink t sink) (sym (append-nil (deed_text k.node.control.me d) ∙ silent k.node.control.me)) (takes_nothing sink);
     done = λ honest. (sight_of (node_of k) o2 out2, does, refl);
   }
@@ -47,6 +51,8 @@ module _ {D K : Type 0} (view : D → DiskView) (takes fails : K → List ℕ �
     counts = omega arith;
     listens = omega arith;
     generation = looks.generation;
+    keeps = looks;
+    sendable = λ before. before;
     text = takes_nothing sink;
     done = λ honest. ap (λ (n : Node). sight_of n o out) (looks.node honest);
   }
@@ -80,6 +86,8 @@ module _ {D K : Type 0} (view : D → DiskView) (takes fails : K → List ℕ �
     counts = noted.counts;
     listens = omega (arith, talks.talked.counts.listening);
     generation = λ honest. omega arith;
+    keeps = looks_none view k is_open;
+    sendable = λ before. before;
     text = subst (λ (t : List ℕ). takes sink t after) (sym (append-nil (note_line why))) noted.text;
     done = λ honest. (sight_of (node_of k) o out2, (talks, refl), refl);
   }
@@ -115,3 +123,32 @@ module _ {D K : Type 0} (view : D → DiskView) (takes fails : K → List ℕ �
   note_stops takes_nothing ends.Link why k sink after survives stops = absurd stops
   note_stops takes_nothing ends.Disk why k sink after survives stops = absurd stops
   note_stops takes_nothing ends.Full why k sink after survives stops = absurd stops
+
+-- what is under way where a line of no input ends
+abbrev pub note_under : TurnEnd → List ℕ → Under
+note_under ends.Sink line = Noting line
+note_under end line = Idle
+
+module _ {D K : Type 0} (view : D → DiskView) (takes fails : K → List ℕ → K → Type 0) (count : K → ℕ) where
+  -- it ended in a line of no input
+  pub note_ends : (takes_nothing : (k : K) → takes k [] k) (end : TurnEnd) (why : List ℕ) (k : KeptView D) (sink after : K) → (IsHonest view k → NodeSurvives view k (node_of k))
+      → NoteStops takes fails count end why sink after → Stops view takes fails count ⊥ end [] (note_under end (note_line why)) k k sink after × MeetsFull view end (note_under end (note_line why)) k k
+  note_ends takes_nothing ends.Memory why k sink after survives stops =
+      (record { text = subst (λ (x : K). takes sink [] x) (sym stops) (takes_nothing sink); leaves = survives; goes_on = go_on_none view (disks_of k); cause = tt }, tt)
+  note_ends takes_nothing ends.Sink why k sink after survives stops = (record { text = stops.0; leaves = survives; goes_on = go_on_none view (disks_of k); cause = stops.1 }, tt)
+  note_ends takes_nothing ends.Served why k sink after survives stops = absurd stops
+  note_ends takes_nothing ends.Quiet why k sink after survives stops = absurd stops
+  note_ends takes_nothing ends.Link why k sink after survives stops = absurd stops
+  note_ends takes_nothing ends.Disk why k sink after survives stops = absurd stops
+  note_ends takes_nothing ends.Full why k sink after survives stops = absurd stops
+
+  -- a look that ended
+  pub look_ends : (takes_nothing : (k : K) → takes k [] k) (end : TurnEnd) (old new : KeptView D) (sink : K)
+      → LookStops view end old new → Stops view takes fails count ⊥ end [] Idle old new sink sink × MeetsFull view end Idle old new
+  look_ends takes_nothing ends.Disk old new sink stops = (record { text = takes_nothing sink; leaves = stops.leaves; goes_on = stops.goes_on; cause = stops.cause }, tt)
+  look_ends takes_nothing ends.Memory old new sink stops = (record { text = takes_nothing sink; leaves = stops.leaves; goes_on = stops.goes_on; cause = tt }, tt)
+  look_ends takes_nothing ends.Served old new sink stops = absurd stops.cause
+  look_ends takes_nothing ends.Quiet old new sink stops = absurd stops.cause
+  look_ends takes_nothing ends.Link old new sink stops = absurd stops.cause
+  look_ends takes_nothing ends.Full old new sink stops = absurd stops.cause
+  look_ends takes_nothing ends.Sink old new sink stops = absurd stops.cause

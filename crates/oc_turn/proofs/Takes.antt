@@ -2,17 +2,23 @@
 use Rattle.std.proofs.Common.{◌≡◌, ◌≤◌, ℕ, zero, suc, take, drop, IsTrue, false, true, Bool, Some, None, Option, List, [], ◌∷◌, ◌++◌, inl, inr, refl, sym, ap, subst, ◌∙◌, arith}
 use Rattle.std.proofs.lemmas.List.{append-nil}
 use Rattle.oc_keep.specs.Files.{AllGoOn, AreHonest, Leaves, OneRose, SameAsEither, SameDurable, Survives}
-use Rattle.oc_keep.specs.KeptView.{AtAnyMoment, IsFullAt, IsHonest, KeptView, NodeSurvives, disks_of, header_of, node_of}
+use Rattle.oc_keep.specs.KeptView.{AtAnyMoment, IsFullAt, IsFullByPlan, IsHonest, KeptView, NodeSurvives, disks_of, header_of, node_of}
 use Rattle.oc_keep.specs.Promises.{ChangesNothing, Closes, IsSameNode}
 use Rattle.oc_keep.specs.ReadyView.{told_of}
 use Rattle.oc_keep.specs.declared.errors.KeepError.{KeepError}
 use Rattle.oc_keep.specs.declared.errors.KeepError.TheVariants as keeps
 use Rattle.oc_keep.proofs.Stays.{Law, all_honest, leaves_now}
-use Rattle.oc_model.specs.Lawful.{IsInput}
+use Rattle.oc_laws_step.specs.LawfulNode.{IsLawfulOutcome}
+use Rattle.oc_model.specs.Lawful.{IsInput, IsMessage}
+use Rattle.oc_wire.specs.Spelling.{HasSpelling}
+use Rattle.oc_turn.specs.Sending.{AreSendable}
+use Rattle.oc_turn.proofs.Scenes.{keeps_one, looks_none}
+use Rattle.oc_turn.proofs.Messages.{lawful_are, with_sendable}
 use Rattle.oc_model.specs.declared.input.Input.{Input}
 use Rattle.oc_model.specs.declared.message.Message.{Message}
-use Rattle.oc_model.specs.Node.{Header, Node}
-use Rattle.oc_model.specs.Step.{step}
+use Rattle.oc_model.specs.Node.{Control, Header, Node}
+use Rattle.oc_base.specs.declared.shelf.Shelf.{Shelf}
+use Rattle.oc_model.specs.Step.{plan, step}
 use Rattle.oc_node.specs.OutcomeView.{OutcomeView}
 use Rattle.oc_io.specs.DiskView.{DiskView}
 use Rattle.oc_io.specs.Faults.{NoFall, Rose}
@@ -26,6 +32,10 @@ use Rattle.oc_turn.specs.declared.ends.TurnEnd.TheVariants as ends
 use Rattle.oc_turn.specs.Deeds.{Deed, Outside, Sight, Taking, Takes, Answers, for_outbox}
 use Rattle.oc_turn.specs.Deeds.{sight_of}
 use Rattle.oc_turn.specs.Scenes.{Did, KeepCause, KeepStops, KeepsOne, LeavesAt, Scene, Stops, TakesOne, end_of, scene}
+
+-- the messages of the step of a lawful node can be sent
+pub step_sendable : (nodes : ℕ) (n : Node) (i : Input) → ((m : Message) → IsMessage nodes m → HasSpelling m.body) → IsLawfulOutcome nodes (step n i) → AreSendable nodes (step n i).sends
+step_sendable nodes n i text lawful = lawful_are nodes (step n i).sends text lawful.sends
 
 -- what is said of the node of one moment is said of the same node at another
 pub named : (P : Header → ℕ → Type 0) → {D : Type 0} → (old new : KeptView D) → IsSameNode old.node.control new.node.control → P (header_of new.node.control) new.node.control.me → P (header_of old.node.control) old.node.control.me
@@ -41,28 +51,39 @@ module _ {D : Type 0} (view : D → DiskView) (law : Law view) (old new : KeptVi
       (named (λ h me. Survives view h me (disks_of new) (node_of new)) old new same
       (survives is_open (all_honest view (disks_of old) (disks_of new) on honest)))
 
+  -- a file that was full is full still, where nothing changed
+  full_still : ChangesNothing view old new → IsFullAt old i → IsFullAt new i
+  full_still nothing full =
+      subst (λ (n : Control). IsFullByPlan new.store.current.end new.content.journal.end new.content.shelves i (plan n new.content.shelves i)) (sym nothing.control)
+      (subst (λ (lines : List Shelf). IsFullByPlan new.store.current.end new.content.journal.end lines i (plan old.node.control lines i)) (sym nothing.content.shelves)
+      (subst (λ (end : ℕ). IsFullByPlan new.store.current.end end old.content.shelves i (plan old.node.control old.content.shelves i)) (sym nothing.content.journal.end)
+      (subst (λ (end : ℕ). IsFullByPlan end old.content.journal.end old.content.shelves i (plan old.node.control old.content.shelves i)) (sym nothing.store.current.end) full)))
+
   pub keep_stops : (error : KeepError) → old.closed ≡ false → IsSameNode old.node.control new.node.control → AllGoOn view (disks_of old) (disks_of new)
-      → (error ≡ keeps.Closed → IsTrue old.closed) → (error ≡ keeps.Full → IsFullAt old i) → ((error ≡ keeps.Disk → ⊥) → ChangesNothing view old new)
+      → (error ≡ keeps.Closed → IsTrue old.closed) → (error ≡ keeps.Full → IsFullAt old i) → (error ≡ keeps.Disk → ¬ IsFullAt old i) → ((error ≡ keeps.Disk → ⊥) → ChangesNothing view old new)
       → (error ≡ keeps.Disk → Closes view old new) → ((error ≡ keeps.Disk → ⊥) → new.closed ≡ old.closed)
       → (IsHonest view old → AtAnyMoment view old new (SameAsEither (node_of old) (step (node_of old) i).node))
       → (IsHonest view old → node_of new ≡ node_of old) → (new.closed ≡ false → IsHonest view new → NodeSurvives view new (node_of new))
       → KeepStops view (end_of error) i old new
-  keep_stops keeps.Closed is_open same on closed full unchanged disk still moments node survives =
+  keep_stops keeps.Closed is_open same on closed full fits unchanged disk still moments node survives =
       let yes : old.closed ≡ true = closed refl in let no = is_open in absurd cc
-  keep_stops keeps.Memory is_open same on closed full unchanged disk still moments node survives = record {
+  keep_stops keeps.Memory is_open same on closed full fits unchanged disk still moments node survives = record {
     leaves = open_leaves same on node (still (λ e. absurd cc) ∙ is_open) survives;
     goes_on = on;
     cause = tt;
+    meets = tt;
   }
-  keep_stops keeps.Full is_open same on closed full unchanged disk still moments node survives = record {
+  keep_stops keeps.Full is_open same on closed full fits unchanged disk still moments node survives = record {
     leaves = open_leaves same on node (still (λ e. absurd cc) ∙ is_open) survives;
     goes_on = on;
-    cause = (old, unchanged (λ e. absurd cc), full refl);
+    cause = full_still (unchanged (λ e. absurd cc)) (full refl);
+    meets = (full refl, unchanged (λ e. absurd cc));
   }
-  keep_stops keeps.Disk is_open same on closed full unchanged disk still moments node survives = record {
+  keep_stops keeps.Disk is_open same on closed full fits unchanged disk still moments node survives = record {
     leaves = λ honest. leaves_now view (header_of old.node.control) old.node.control.me (disks_of old) (disks_of new) (SameAsEither (node_of old) (step (node_of old) i).node) law (all_honest view (disks_of old) (disks_of new) on honest) (moments honest);
     goes_on = on;
     cause = (disk refl).rose;
+    meets = fits refl;
   }
 
 module _ {D K : Type 0} (view : D → DiskView) (takes fails : K → List ℕ → K → Type 0) (count : K → ℕ) where
@@ -94,15 +115,17 @@ module _ {D K : Type 0} (view : D → DiskView) (takes fails : K → List ℕ �
 
   -- an input was taken, and its messages went to the outbox
   pub did_take : (addresses : List (List ℕ)) (i : Input) (outcome : OutcomeView) (old new : KeptView D) (sink after : K) (outbox : List Message) (out : Outside)
-      → TakesOne view takes count i outcome old sink new after
+      → old.closed ≡ false → TakesOne view takes count i outcome old sink new after
       → Did view takes count addresses (Takes i ∷ []) (scene old outbox sink out) (scene new (with_messages outbox outcome.sends) after out)
-  did_take addresses i outcome old new sink after outbox out took = record {
+  did_take addresses i outcome old new sink after outbox out is_open took = record {
     is_open = took.kept.is_open;
     same = took.kept.same;
     goes_on = took.kept.goes_on;
     counts = took.counts;
     listens = omega arith;
     generation = λ honest. omega (arith, took.kept.generation honest);
+    keeps = keeps_one view i outcome old new new is_open took.kept (looks_none view new took.kept.is_open);
+    sendable = λ before. with_sendable old.node.control.nodes outbox outcome.sends before took.kept.sendable;
     text = subst (λ (t : List ℕ). takes sink t after) (sym (append-nil (input_line old.node.control.me i))) took.text;
     done = λ honest. (sight_of (node_of new) (with_messages outbox outcome.sends) out, now honest, refl);
   }
@@ -124,11 +147,11 @@ front_of n bytes line is = (drop n bytes, sym is ∙ parts n bytes)
 -- the same, where this is what the outbox then has
 module _ {D K : Type 0} (view : D → DiskView) (takes fails : K → List ℕ → K → Type 0) (count : K → ℕ) where
   pub did_take_as : (addresses : List (List ℕ)) (i : Input) (outcome : OutcomeView) (old new : KeptView D) (sink after : K) (outbox more : List Message) (out : Outside)
-      → more ≡ with_messages outbox outcome.sends → TakesOne view takes count i outcome old sink new after
+      → more ≡ with_messages outbox outcome.sends → old.closed ≡ false → TakesOne view takes count i outcome old sink new after
       → Did view takes count addresses (Takes i ∷ []) (scene old outbox sink out) (scene new more after out)
-  did_take_as addresses i outcome old new sink after outbox more out is took =
+  did_take_as addresses i outcome old new sink after outbox more out is is_open took =
       subst (λ (x : List Message). Did view takes count addresses (Takes i ∷ []) (scene old outbox sink out) (scene new x after out)) (sym is)
-      (did_take view takes fails count addresses i outcome old new sink after outbox out took)
+      (did_take view takes fails count addresses i outcome old new sink after outbox out is_open took)
 
 -- an entry that was made for this node
 pub made_entry : (nodes me other : ℕ) (e : Entry) (i : Input) → e.input ≡ i → e.line.items ≡ input_line other i → other ≡ me → IsInput nodes me i → IsEntry nodes me e

@@ -18,10 +18,9 @@ use Rattle.oc_probe.specs.Probes.{Probed, Timed}
 use Rattle.oc_probe.specs.declared.fault.ProbeFault.{ProbeFault}
 use Rattle.oc_probe.specs.declared.fault.ProbeFault.TheVariants as faults
 use Rattle.oc_routes.specs.Replies.{others}
-use Rattle.oc_turn.specs.Dials.{DialsMessage, IsAnswered, Makes, text_of}
+use Rattle.oc_turn.specs.Dials.{DialsMessage, IsAnswered, Makes, MayMake, text_of}
 use Rattle.oc_routes.specs.Inputs.{input_line}
 use Rattle.oc_turn.specs.Outboxes.{with_messages}
-use Rattle.oc_turn.specs.Sending.{can_send}
 
 -- The deeds
 
@@ -40,8 +39,6 @@ pub data Deed : Type 0 where
   Talks : Deed
   -- the oldest message was taken out of the outbox and dialled, and this input comes of it, if any
   Dials : Message → Option Input → Deed
-  -- the oldest message was taken out of the outbox; it has no receiver among the nodes, or no text
-  Drops : Message → Deed
   -- the outbox was found empty
   Empties : Deed
   -- a peer was probed, whose last record has this many hops
@@ -205,7 +202,6 @@ Does s (Answers i failed) a b = TalksOnly a.outside b.outside × (b ≡ record (
 Does s (Notes why) a b = TalksOnly a.outside b.outside × (b ≡ record a { outside = b.outside })
 Does s Talks a b = TalksOnly a.outside b.outside × (b ≡ record a { outside = b.outside })
 Does s (Dials m came) a b = DialsOne s m came a.outside b.outside × (a.outbox ≡ m ∷ b.outbox) × (b.node ≡ a.node)
-Does s (Drops m) a b = (can_send s.nodes m ≡ false) × (a ≡ record b { outbox = m ∷ b.outbox })
 Does s Empties a b = (a.outbox ≡ []) × (b ≡ a)
 Does s (Probes peer hops came) a b = (hops ≡ (reading_of a.node.control.kept.measures peer).hops)
     × ProbesOne s peer came a.outside b.outside × (b ≡ record a { outside = b.outside })
@@ -218,3 +214,20 @@ DoAll s (d ∷ ds) a c = (b : Sight) × Does s d a b × DoAll s ds b c
 -- The tick: the clock gave this number of seconds, and a tick was taken.
 abbrev pub ticked : ℕ → List Deed
 ticked t = Reads t ∷ Takes (Tick (min t MAX_TIME)) ∷ []
+
+-- What else happens outside where it ends
+
+-- the link failed to say whether a connection waits
+pub record AsksInVain (a b : Outside) : Type 0 where
+  pub story : b.story ≡ a.story
+  pub counts : CountsListening a.faults b.faults
+  pub rest : OnlyLink a b
+
+-- the oldest message was taken out of the outbox and dialled at most once; no input comes of it
+pub record DialsInVain (s : Setting) (a : Sight) (b : Outside) : Type 0 where
+  pub message : Message
+  pub behind : List Message
+  pub oldest : a.outbox ≡ message ∷ behind
+  pub dialled : MayMake (address_in s message.to) (text_of (address_in s message.to) message) a.outside.story b.story
+  pub counts : CountsDialling a.outside.faults b.faults
+  pub rest : OnlyLink a.outside b

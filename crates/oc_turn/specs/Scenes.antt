@@ -18,7 +18,9 @@ use Rattle.oc_outside.specs.LinkCalls.{IsFront}
 use Rattle.oc_routes.specs.Inputs.{input_line}
 use Rattle.oc_turn.specs.declared.ends.TurnEnd.{TurnEnd}
 use Rattle.oc_turn.specs.declared.ends.TurnEnd.TheVariants as ends
-use Rattle.oc_turn.specs.Deeds.{Deed, Outside, Setting, Sight, Under, Idle, Taking, Noting, DoAll, deeds_text, inputs_of, note_line, under_line}
+use Rattle.oc_turn.specs.Sending.{AreSendable}
+use Rattle.oc_turn.specs.Looks.{LooksOnly}
+use Rattle.oc_turn.specs.Deeds.{AsksInVain, Deed, DialsInVain, Outside, Setting, Sight, Under, Idle, Taking, Noting, DoAll, deeds_text, inputs_of, note_line, under_line}
 
 -- a node on its files, what it has still to send, its output, and its link and its clock
 pub record Scene (D K : Type 0) : Type 0 where
@@ -38,7 +40,25 @@ sight s = record { node = node_of s.kept; outbox = s.outbox; outside = s.outside
 abbrev pub setting : {D : Type 0} → KeptView D → List (List ℕ) → Setting
 setting k addresses = record { me = k.node.control.me; nodes = k.node.control.nodes; addresses = addresses }
 
--- The deeds were done: their lines were written, and no disk and no output failed.
+-- an input was taken into the files, none of which was full for it, with this outcome, whose messages can be sent
+pub record KeepsOne {D : Type 0} (view : D → DiskView) (i : Input) (outcome : OutcomeView) (old new : KeptView D) : Type 0 where
+  pub is_open : new.closed ≡ false
+  pub same : IsSameNode old.node.control new.node.control
+  pub goes_on : AllGoOn view (disks_of old) (disks_of new)
+  pub fits : ¬ IsFullAt old i
+  pub outcome_is : IsHonest view old → outcome ≡ told_of (step (node_of old) i)
+  pub sendable : AreSendable old.node.control.nodes outcome.sends
+  pub node : IsHonest view old → node_of new ≡ (step (node_of old) i).node
+  pub survives : IsHonest view old → NodeSurvives view new (node_of new)
+  pub generation : IsHonest view old → new.store.generation ≡ old.store.generation
+
+-- these inputs were taken one after another, and between them the files were only looked at or turned over
+abbrev pub KeepsAll : {D : Type 0} → (D → DiskView) → List Input → KeptView D → KeptView D → Type 0
+KeepsAll {D} view [] old new = LooksOnly view old new
+KeepsAll {D} view (i ∷ is) old new = (at next : KeptView D) × (outcome : OutcomeView) × LooksOnly view old at × KeepsOne view i outcome at next × KeepsAll view is next new
+
+-- The deeds were done: their lines were written, no disk and no output failed, no file was full for an input, and where what was to be
+-- sent could be sent, so can what is to be sent now.
 pub record Did {D K : Type 0} (view : D → DiskView) (takes : K → List ℕ → K → Type 0) (count : K → ℕ) (addresses : List (List ℕ)) (deeds : List Deed) (old new : Scene D K) : Type 0 where
   pub is_open : new.kept.closed ≡ false
   pub same : IsSameNode old.kept.node.control new.kept.node.control
@@ -46,6 +66,8 @@ pub record Did {D K : Type 0} (view : D → DiskView) (takes : K → List ℕ �
   pub counts : NoFall (count old.sink) (count new.sink)
   pub listens : NoFall old.outside.faults.listening new.outside.faults.listening
   pub generation : IsHonest view old.kept → NoFall old.kept.store.generation new.kept.store.generation
+  pub keeps : KeepsAll view (inputs_of deeds) old.kept new.kept
+  pub sendable : AreSendable old.kept.node.control.nodes old.outbox → AreSendable old.kept.node.control.nodes new.outbox
   pub text : takes old.sink (deeds_text old.kept.node.control.me deeds) new.sink
   pub done : IsHonest view old.kept → DoAll (setting old.kept addresses) deeds (sight old) (sight new)
 
@@ -65,15 +87,11 @@ abbrev pub WritesAt : {K : Type 0} → (K → List ℕ → K → Type 0) → (K 
 WritesAt takes fails old new ends.Sink text line = (front : List ℕ) × IsFront front line × fails old (text ++ front) new
 WritesAt takes fails old new end text line = takes old text new
 
--- with this input the file would have passed its limit, and nothing changed
-abbrev pub WasFull : {D : Type 0} → (D → DiskView) → Input → KeptView D → Type 0
-WasFull {D} view i new = (before : KeptView D) × ChangesNothing view before new × IsFullAt before i
-
 -- why it ended, where that is why it ends by the link
 abbrev pub HasCause : {D K : Type 0} → (D → DiskView) → (K → ℕ) → Type 0 → TurnEnd → Under → KeptView D → KeptView D → K → K → Type 0
 HasCause view count link ends.Disk under old new sink after = OneRose view (disks_of old) (disks_of new)
 HasCause view count link ends.Sink under old new sink after = Rose (count sink) (count after)
-HasCause view count link ends.Full (Taking i) old new sink after = WasFull view i new
+HasCause view count link ends.Full (Taking i) old new sink after = IsFullAt new i
 HasCause view count link ends.Full under old new sink after = ⊥
 HasCause view count link ends.Served under old new sink after = ⊥
 HasCause view count link ends.Quiet under old new sink after = ⊥
@@ -91,6 +109,37 @@ pub record Stops {D K : Type 0} (view : D → DiskView) (takes fails : K → Lis
 abbrev pub Stopped : {D K : Type 0} → (D → DiskView) → (K → List ℕ → K → Type 0) → (K → List ℕ → K → Type 0) → (K → ℕ) → Type 0 → TurnEnd → KeptView D → KeptView D → K → K → Type 0
 Stopped view takes fails count link end old new sink after = (deeds : List Deed) × (under : Under) × Stops view takes fails count link end deeds under old new sink after
 
+-- A file is full for the input that was under way exactly where it ended so, and then nothing changed.
+abbrev pub MeetsFull : {D : Type 0} → (D → DiskView) → TurnEnd → Under → KeptView D → KeptView D → Type 0
+MeetsFull view ends.Full (Taking i) old new = IsFullAt old i × ChangesNothing view old new
+MeetsFull view ends.Full under old new = ⊥
+MeetsFull view ends.Disk (Taking i) old new = ¬ IsFullAt old i
+MeetsFull view ends.Sink (Taking i) old new = ¬ IsFullAt old i
+MeetsFull view end under old new = Unit {0}
+
+-- What else happened on the link where it ended so: it was asked for a connection in vain; where memory ran out, a message was perhaps
+-- dialled in vain; and else nothing.
+abbrev pub EndsLink : Setting → TurnEnd → Sight → Outside → Type 0
+EndsLink s ends.Link a b = AsksInVain a.outside b
+EndsLink s ends.Memory a b = (b ≡ a.outside) ⊎ DialsInVain s a b
+EndsLink s end a b = b ≡ a.outside
+
+-- it ended so at once, perhaps with one input or one line under way
+pub record Breaks {D K : Type 0} (view : D → DiskView) (takes fails : K → List ℕ → K → Type 0) (count : K → ℕ) (addresses : List (List ℕ)) (link : Type 0) (end : TurnEnd) (under : Under) (old new : Scene D K) : Type 0 where
+  pub stops : Stops view takes fails count link end [] under old.kept new.kept old.sink new.sink
+  pub meets : MeetsFull view end under old.kept new.kept
+  pub outside : EndsLink (setting old.kept addresses) end (sight old) new.outside
+
+-- These deeds were done, and then it ended so at once.
+abbrev pub BreaksOff : {D K : Type 0} → (D → DiskView) → (K → List ℕ → K → Type 0) → (K → List ℕ → K → Type 0) → (K → ℕ) → List (List ℕ) → Type 0 → TurnEnd → List Deed → Under → Scene D K → Scene D K → Type 0
+BreaksOff {D} {K} view takes fails count addresses link end deeds under old new = (at : Scene D K) × Did view takes count addresses deeds old at × Breaks view takes fails count addresses link end under at new
+
+-- the same, where nothing else happened on the link
+abbrev pub EndsStill : {D K : Type 0} → (D → DiskView) → (K → List ℕ → K → Type 0) → (K → List ℕ → K → Type 0) → (K → ℕ) → List (List ℕ) → TurnEnd → List Deed → Under → Scene D K → Scene D K → Type 0
+EndsStill {D} {K} view takes fails count addresses end deeds under old new = (kept : KeptView D) × (outbox : List Message) × (sink : K)
+    × Did view takes count addresses deeds old (scene kept outbox sink new.outside)
+    × Stops view takes fails count ⊥ end [] under kept new.kept sink new.sink × MeetsFull view end under kept new.kept
+
 -- One input
 
 -- why an input is not taken; a node whose disks failed takes none
@@ -100,20 +149,10 @@ end_of keeps.Memory = ends.Memory
 end_of keeps.Full = ends.Full
 end_of keeps.Disk = ends.Disk
 
--- an input was taken into the files, with this outcome
-pub record KeepsOne {D : Type 0} (view : D → DiskView) (i : Input) (outcome : OutcomeView) (old new : KeptView D) : Type 0 where
-  pub is_open : new.closed ≡ false
-  pub same : IsSameNode old.node.control new.node.control
-  pub goes_on : AllGoOn view (disks_of old) (disks_of new)
-  pub outcome_is : IsHonest view old → outcome ≡ told_of (step (node_of old) i)
-  pub node : IsHonest view old → node_of new ≡ (step (node_of old) i).node
-  pub survives : IsHonest view old → NodeSurvives view new (node_of new)
-  pub generation : IsHonest view old → new.store.generation ≡ old.store.generation
-
 -- why an input was not taken into the files
 abbrev pub KeepCause : {D : Type 0} → (D → DiskView) → TurnEnd → Input → KeptView D → KeptView D → Type 0
 KeepCause view ends.Disk i old new = OneRose view (disks_of old) (disks_of new)
-KeepCause view ends.Full i old new = WasFull view i new
+KeepCause view ends.Full i old new = IsFullAt new i
 KeepCause view ends.Memory i old new = Unit {0}
 KeepCause view end i old new = ⊥
 
@@ -122,6 +161,7 @@ pub record KeepStops {D : Type 0} (view : D → DiskView) (end : TurnEnd) (i : I
   pub leaves : IsHonest view old → LeavesAt view old new end (node_of old) (Taking i)
   pub goes_on : AllGoOn view (disks_of old) (disks_of new)
   pub cause : KeepCause view end i old new
+  pub meets : MeetsFull view end (Taking i) old new
 
 -- an input was taken with this outcome, and its line was written
 pub record TakesOne {D K : Type 0} (view : D → DiskView) (takes : K → List ℕ → K → Type 0) (count : K → ℕ) (i : Input) (outcome : OutcomeView) (old : KeptView D) (sink : K) (new : KeptView D) (after : K) : Type 0 where

@@ -1,5 +1,6 @@
 -- Which messages can be sent.
-use Rattle.std.specs.Prelude.{ℕ, Bool, true, ◌&&◌, nat_le, nat_lt, length}
+use Rattle.std.specs.Prelude.{ℕ, Bool, true, ◌&&◌, nat_le, nat_lt, IsTrue, List, length}
+use Rattle.std.specs.List.{list_all}
 use Rattle.oc_model.specs.declared.message.Body.{Body}
 use Rattle.oc_model.specs.declared.message.Body.TheVariants as bodies
 use Rattle.oc_model.specs.declared.message.Message.{Message}
@@ -17,3 +18,7 @@ has_text body = true
 -- the receiver is one of the nodes, and the body has a text
 abbrev pub can_send : ℕ → Message → Bool
 can_send nodes m = nat_le 1 m.to && nat_le m.to nodes && has_text m.body
+
+-- each of these messages can be sent
+abbrev pub AreSendable : ℕ → List Message → Type 0
+AreSendable nodes ms = IsTrue (list_all (can_send nodes) ms)

@@ -8,9 +8,12 @@
 //! clock's time, and [`tidy`] turns ripe files over.
 //!
 //! What a turn does is a list of deeds (`specs/Deeds`): an input that was taken with its line, a message
-//! that was dialled, and so on. `specs/Scenes` says what it means that deeds were done: the lines that were
-//! written, the node and what it has still to send, and what every crash leaves, also where it ended in the
-//! midst of one input more. A [`TurnEnd`] is how a turn ended.
+//! that was dialled, and so on. `specs/Scenes` says what it means that deeds were done (`Did`): the lines
+//! that were written, the node and what it has still to send, what went through the link, and that no file
+//! was full for an input. Where it ended behind them (`Breaks`), it says why, what every crash leaves, and
+//! what else went through the link. A [`TurnEnd`] is how a turn ended.
+//!
+//! Each message of a step can be sent, so that each message of an outbox can (`specs/Sending`).
 #![tactic(auto)]
 
 mod dialling;
@@ -29,7 +32,6 @@ pub use ends::TurnEnd;
 pub use entry::{Entry, fail_entry, input_entry, message_entry};
 pub use notes::{write_line, write_note};
 pub use outbox::{MAX_OUTBOX, Outbox, put_all};
-pub use sendable::can_send;
 pub use taking::{take, take_own};
 pub use ticking::tick;
 pub use tidying::tidy;

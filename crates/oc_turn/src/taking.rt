@@ -4,15 +4,18 @@ ghost use Rattle.std.specs.Prelude.{◌≡◌, ℕ, false, List, [], ◌∷◌, 
 ghost use Rattle.oc_model.specs.declared.message.Message.{Message};
 ghost use Rattle.oc_model.specs.Lawful.{IsInput};
 ghost use Rattle.oc_turn.specs.Deeds.{Outside, Takes, Taking};
-ghost use Rattle.oc_turn.specs.Scenes.{Did, KeepStops, KeepsOne, Stops, TakesOne, end_of, scene};
+ghost use Rattle.oc_turn.specs.Scenes.{Did, KeepStops, KeepsOne, MeetsFull, Stops, TakesOne, end_of, scene};
 ghost use Rattle.oc_turn.specs.Lines.{IsEntry};
 
 use crate::ends::TurnEnd;
 use crate::entry::Entry;
 use crate::outbox::{Outbox, put_all};
+use crate::sendable::sendable;
 use oc_io::{Disk, Sink, write_all};
 use oc_keep::{KeepError, Kept, Outcome};
+use oc_laws_step::lawful_nodes_stay_lawful;
 use oc_model::Input;
+use oc_wire::spellings_are_read;
 
 /// Takes an input: makes its frame safe, changes the node, and then writes the line.
 pub fn take<D: Disk, K: Sink>(
@@ -25,6 +28,7 @@ pub fn take<D: Disk, K: Sink>(
     ensures took { IfOk result (λ outcome. TakesOne D.view K.takes K.faults entry.input outcome kept.old sink.old kept.new sink.new) }
     ensures stops { IfErr result (λ end. Stops D.view K.takes K.fails K.faults ⊥ end [] (Taking entry.input)
         kept.old kept.new sink.old sink.new) }
+    ensures meets { IfErr result (λ end. MeetsFull D.view end (Taking entry.input) kept.old kept.new) }
 {
     let Entry { input, line } = entry;
     let outcome = keep(kept, input)?;
@@ -42,8 +46,12 @@ fn keep<D: Disk>(kept: &mut Kept<D>, input: Input) -> Result<Outcome, TurnEnd>
     ensures kept { IfOk result (λ outcome. KeepsOne D.view input outcome kept.old kept.new) }
     ensures stops { IfErr result (λ end. KeepStops D.view end input kept.old kept.new) }
 {
+    lawful_nodes_stay_lawful();
+    spellings_are_read();
+    // While no disk failed, the node is what the files recover, and lawful.
+    let nodes = kept.node().nodes();
     match kept.take(input) {
-        Ok(outcome) => Ok(outcome),
+        Ok(outcome) => Ok(sendable(nodes, outcome)),
         Err(error) => {
             // While no disk failed, the node is what the files recover.
             let _node = kept.node();
@@ -66,6 +74,7 @@ pub fn take_own<D: Disk, K: Sink>(
         (scene kept.old outbox.old sink.old out) (scene kept.new outbox.new sink.new out)) }
     ensures stops { IfErr result (λ end. Stops D.view K.takes K.fails K.faults ⊥ end [] (Taking entry.input)
         kept.old kept.new sink.old sink.new) }
+    ensures meets { IfErr result (λ end. MeetsFull D.view end (Taking entry.input) kept.old kept.new) }
 {
     let outcome = take(kept, sink, entry)?;
     put_all(outbox, outcome.sends);

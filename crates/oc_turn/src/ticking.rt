@@ -4,8 +4,8 @@ ghost use Rattle.std.specs.Prelude.{◌≡◌, ℕ, List, IfErr, OnOk, false};
 ghost use Rattle.oc_outside.specs.LinkCalls.{LinkFaults};
 ghost use Rattle.oc_outside.specs.Story.{Story};
 ghost use Rattle.std.specs.Prelude.{Option};
-ghost use Rattle.oc_turn.specs.Deeds.{outside_of};
-ghost use Rattle.oc_turn.specs.Scenes.{Did, Stopped, scene};
+ghost use Rattle.oc_turn.specs.Deeds.{Deed, Under, outside_of};
+ghost use Rattle.oc_turn.specs.Scenes.{BreaksOff, Did, scene};
 ghost use Rattle.oc_turn.specs.Deeds.{ticked};
 
 use crate::ends::TurnEnd;
@@ -32,7 +32,10 @@ pub fn tick<D: Disk, C: Clock, K: Sink>(
         → Did D.view K.takes K.faults addresses (ticked t)
         (scene kept.old outbox.old sink.old (outside_of story faults (C.seconds clock.old) (C.milliseconds clock.old)))
         (scene kept.new outbox.new sink.new (outside_of story faults (C.seconds clock.new) (C.milliseconds clock.new))))) }
-    ensures stops { IfErr result (λ end. Stopped D.view K.takes K.fails K.faults ⊥ end kept.old kept.new sink.old sink.new) }
+    ensures stops { IfErr result (λ end. (deeds : List Deed) × (under : Under) × ((addresses : List (List ℕ)) (story : Option Story) (faults : LinkFaults)
+        → BreaksOff D.view K.takes K.fails K.faults addresses ⊥ end deeds under
+        (scene kept.old outbox.old sink.old (outside_of story faults (C.seconds clock.old) (C.milliseconds clock.old)))
+        (scene kept.new outbox.new sink.new (outside_of story faults (C.seconds clock.new) (C.milliseconds clock.new))))) }
 {
     let now = clock.now().min(MAX_TIME);
     // While no disk failed, the node is what the files recover.

@@ -1,17 +1,18 @@
-use Rattle.std.proofs.Common.{true, false, rules}
+use Rattle.std.proofs.Common.{true, false, refl, rules}
 use Rattle.std.proofs.lemmas.Result.{err_from_is_err_and}
 use Rattle.oc_base.specs.Groups.{shelf}
 use Rattle.oc_keep.specs.KeptView.{node_of}
 use Rattle.oc_routes.specs.Responses.{response_to}
-use Rattle.oc_answer.specs.Serving.{is_sealed, sendable}
-use Rattle.oc_answer.proofs.Answered.{reply_cut, reply_said}
+use Rattle.oc_answer.specs.Serving.{is_sealed}
+use Rattle.oc_answer.proofs.Answered.{reply_cut, reply_said, response_cut}
 use Rattle.oc_answer.proofs.Talking.{line_reply, look_reply, memory_reply}
+use Rattle.oc_answer.proofs.Written.{front_none, front_said}
 use Rattle.oc_answer.proofs.answering.reply_to.Goals as goal
 
 pub returns-in_err-response-clause-stops : goal.returns-in_err-response-clause-stops
 returns-in_err-response-clause-stops g c =
     let p = err_from_is_err_and c.from_residual.result c.from_residual.ensures.1 in
-    rw (p.1, p.2) (memory_reply g.D.Disk.view g.K.Sink.takes g.K.Sink.fails g.K.Sink.faults c.args.kept.now c.args.sink.now (c.node.ensures.survives c.requires.open))
+    rw (p.1, p.2) (memory_reply g.D.Disk.view g.K.Sink.takes g.K.Sink.fails g.K.Sink.faults c.args.kept.now c.args.sink.now (c.node-before.ensures.survives c.requires.open))
 
 pub returns-in_err-whole-clause-stops : goal.returns-in_err-whole-clause-stops
 returns-in_err-whole-clause-stops g c =
@@ -23,7 +24,7 @@ returns-then-whole-clause-replied g c = (
   false,
   record { looks = c.in_ok-whole.ensures.looks; text = g.met.K.Sink.takes_nothing c.args.sink.now; counts = search rules },
   λ honest. record {
-    says = reply_said c.args.asks.now c.in_ok-response.response (response_to c.args.asks.now c.args.answer (sendable c.args.kept.now.node.control.nodes c.args.reply) (is_sealed c.args.asks.now (shelf (node_of c.args.kept.now).groups)) c.args.config.now.addresses c.args.last) c.in_ok-whole.whole (node_of c.args.kept.now).groups (g.L.Link.story c.args.link.now) (g.L.Link.story c.send_response.new.link)
+    says = reply_said c.args.asks.now c.in_ok-response.response (response_to c.args.asks.now c.args.answer c.args.reply (is_sealed c.args.asks.now (shelf (node_of c.args.kept.now).groups)) c.args.config.now.addresses c.args.last) c.in_ok-whole.whole (node_of c.args.kept.now).groups (g.L.Link.story c.args.link.now) (g.L.Link.story c.send_response.new.link)
         (let groups = c.shelf.ensures.groups honest in search rules) (search rules) (c.in_ok-whole.ensures.said honest);
   },
 )
@@ -33,7 +34,7 @@ returns-clause-replied g c = (
   true,
   record { looks = c.in_ok-whole.ensures.looks; text = c.in_ok-write_line.ensures.wrote.text; counts = c.in_ok-write_line.ensures.wrote.counts },
   λ honest. record {
-    says = reply_cut c.args.asks.now c.in_ok-response.response (response_to c.args.asks.now c.args.answer (sendable c.args.kept.now.node.control.nodes c.args.reply) (is_sealed c.args.asks.now (shelf (node_of c.args.kept.now).groups)) c.args.config.now.addresses c.args.last) c.in_ok-whole.whole (node_of c.args.kept.now).groups (g.L.Link.story c.args.link.now) (g.L.Link.story c.send_response.new.link)
+    says = reply_cut c.args.asks.now c.in_ok-response.response (response_to c.args.asks.now c.args.answer c.args.reply (is_sealed c.args.asks.now (shelf (node_of c.args.kept.now).groups)) c.args.config.now.addresses c.args.last) c.in_ok-whole.whole (node_of c.args.kept.now).groups (g.L.Link.story c.args.link.now) (g.L.Link.story c.send_response.new.link)
         (let groups = c.shelf.ensures.groups honest in search rules) (search rules) (c.in_ok-whole.ensures.said honest);
   },
 )
@@ -42,3 +43,22 @@ pub returns-in_err-write_line-clause-stops : goal.returns-in_err-write_line-clau
 returns-in_err-write_line-clause-stops g c =
     let p = err_from_is_err_and c.from_residual-in_err-write_line.result c.from_residual-in_err-write_line.ensures.1 in
     rw (p.1, p.2) (line_reply g.D.Disk.view g.K.Sink.takes g.K.Sink.fails g.K.Sink.faults c.in_err-write_line.field-0.0 c.args.kept.now c.send_response.new.kept c.args.sink.now c.write_line.new.sink c.in_ok-whole.ensures.looks c.node-node.ensures.survives c.in_err-write_line.ensures.stops)
+
+pub returns-in_err-response-clause-cut : goal.returns-in_err-response-clause-cut
+returns-in_err-response-clause-cut g c =
+    let p = err_from_is_err_and c.from_residual.result c.from_residual.ensures.1 in
+    rw p.1 (λ honest fits. front_none _ (g.L.Link.story c.args.link.now) (g.L.Link.story c.args.link.now) refl)
+
+pub returns-in_err-whole-clause-cut : goal.returns-in_err-whole-clause-cut
+returns-in_err-whole-clause-cut g c =
+    let p = err_from_is_err_and c.from_residual-in_err-whole.result c.from_residual-in_err-whole.ensures.1 in
+    rw p.1 (λ honest.
+    response_cut c.args.asks.now c.in_ok-response.response (response_to c.args.asks.now c.args.answer c.args.reply (is_sealed c.args.asks.now (shelf (node_of c.args.kept.now).groups)) c.args.config.now.addresses c.args.last) (node_of c.args.kept.now).groups (g.L.Link.story c.args.link.now) (g.L.Link.story c.send_response.new.link)
+    (let groups = c.shelf.ensures.groups honest in search rules) (c.in_err-whole.ensures.cut honest))
+
+pub returns-in_err-write_line-clause-cut : goal.returns-in_err-write_line-clause-cut
+returns-in_err-write_line-clause-cut g c =
+    let p = err_from_is_err_and c.from_residual-in_err-write_line.result c.from_residual-in_err-write_line.ensures.1 in
+    rw p.1 (λ honest.
+    response_cut c.args.asks.now c.in_ok-response.response (response_to c.args.asks.now c.args.answer c.args.reply (is_sealed c.args.asks.now (shelf (node_of c.args.kept.now).groups)) c.args.config.now.addresses c.args.last) (node_of c.args.kept.now).groups (g.L.Link.story c.args.link.now) (g.L.Link.story c.send_response.new.link)
+    (let groups = c.shelf.ensures.groups honest in search rules) (λ fits. front_said c.in_ok-whole.whole _ (g.L.Link.story c.args.link.now) (g.L.Link.story c.send_response.new.link) (c.in_ok-whole.ensures.said honest fits)))

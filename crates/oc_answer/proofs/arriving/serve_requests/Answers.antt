@@ -6,9 +6,10 @@ use Rattle.oc_http.specs.declared.framing.Connection.TheVariants.{Keep}
 use Rattle.oc_keep.specs.Trials.{after_inputs}
 use Rattle.oc_turn.specs.Deeds.{inputs_of, outside_of}
 use Rattle.oc_turn.specs.Scenes.{scene}
-use Rattle.oc_turn.proofs.Scenes.{did_none, did_then, stopped_then, untold}
+use Rattle.oc_turn.proofs.Scenes.{did_none, did_then, still_then, untold}
+use Rattle.oc_answer.specs.Cuts.{CutsOff}
 use Rattle.oc_answer.specs.Serving.{Serves, terms}
-use Rattle.oc_answer.proofs.Served.{closes_all, keeps_one, never_sixteen, serves_then}
+use Rattle.oc_answer.proofs.Served.{closes_all, cuts_then, keeps_one, never_sixteen, serves_then}
 use Rattle.oc_answer.proofs.Talking.{requests_then}
 use Rattle.oc_answer.proofs.arriving.serve_requests.Goals as goal
 
@@ -103,8 +104,25 @@ returns-in_err-next-clause-stops g c =
     let story = g.L.Link.story in
     let faults = g.L.Link.faults in
     let m = c.requests in
+    let new = c.serve_request.new in
     let far = m.invariant.far in
-    rw (p.1, p.2)
-    (stopped_then g.D.Disk.view g.K.Sink.takes g.K.Sink.fails g.K.Sink.faults [] g.met.K.Sink.takes_then g.met.K.Sink.takes_fails _ _ (λ none. none) far.0 c.in_err-next.field-0.0
-    (scene a.kept.now a.outbox.now a.sink.now (outside_of (story a.link.now) (faults a.link.now) untold untold)) (scene m.kept m.outbox m.sink (outside_of (story m.link) (faults m.link) untold untold)) c.serve_request.new.kept c.serve_request.new.sink
-    (far.3 [] untold untold) c.in_err-next.ensures.stops)
+    let d = c.in_err-next.ensures.stops in
+    rw (p.1, p.2) (
+      far.0 ++ d.0 ∷ [],
+      d.1,
+      λ addresses seconds millis.
+          still_then g.D.Disk.view g.K.Sink.takes g.K.Sink.fails g.K.Sink.faults addresses g.met.K.Sink.takes_then far.0 (d.0 ∷ []) d.1 c.in_err-next.field-0.0
+          (scene a.kept.now a.outbox.now a.sink.now (outside_of (story a.link.now) (faults a.link.now) seconds millis)) (scene m.kept m.outbox m.sink (outside_of (story m.link) (faults m.link) seconds millis)) (scene new.kept new.outbox new.sink (outside_of (story new.link) (faults new.link) seconds millis))
+          (far.3 addresses seconds millis) (d.3 addresses seconds millis),
+      λ honest. record {
+        before = far.0;
+        last = d.0;
+        between = story m.link;
+        deeds_are = refl;
+        kept = far.4 honest;
+        cut = subst (λ (k : ℕ). CutsOff (terms a.kept.now a.config.now.rules) a.config.now.addresses k d.0 (after_inputs (node_of a.kept.now) (inputs_of far.0)) (story m.link) (story new.link)) (omega (arith, far.2))
+            (cuts_then g.D.Disk.view g.K.Sink.takes g.K.Sink.fails g.K.Sink.faults a.config.now.rules a.config.now.addresses (m.served + 1) far.0 d.0
+            (scene a.kept.now a.outbox.now a.sink.now (outside_of (story a.link.now) (faults a.link.now) untold untold)) (scene m.kept m.outbox m.sink (outside_of (story m.link) (faults m.link) untold untold)) (story m.link) (story new.link)
+            (far.3 [] untold untold) honest d.4);
+      },
+    )

@@ -4,7 +4,8 @@ use Rattle.oc_turn.proofs.Looking.{memory_looks}
 use Rattle.oc_turn.proofs.Talks.{talked_none, talked_then}
 use Rattle.oc_keep.specs.KeptView.{node_of}
 use Rattle.oc_answer.specs.Serving.{part_of}
-use Rattle.oc_answer.proofs.Contents.{coded_chunks, coded_cut}
+use Rattle.oc_answer.proofs.Contents.{coded_chunks, coded_cut, coded_front}
+use Rattle.oc_answer.proofs.Written.{front_none}
 use Rattle.oc_answer.proofs.replying.send_content.Goals as goal
 
 pub returns-in_err-buffer-clause-stops : goal.returns-in_err-buffer-clause-stops
@@ -31,3 +32,14 @@ returns-clause-said g c = λ honest fits.
     let a = c.args in
     coded_chunks a.content.now.chunked c.in_ok-send_pieces.field-0 c.say.result (part_of a.group.now a.content.now.start a.content.now.count (node_of a.kept.now).groups) _ (g.L.Link.story a.link.now) (g.L.Link.story c.send_pieces.new.link) (g.L.Link.story c.say.new.link)
     (search rules) (search rules) refl (c.in_ok-send_pieces.ensures.said honest fits) c.say.ensures.said
+
+pub returns-in_err-buffer-clause-cut : goal.returns-in_err-buffer-clause-cut
+returns-in_err-buffer-clause-cut g c =
+    let p = err_from_is_err_and c.from_residual.result c.from_residual.ensures.1 in
+    rw p.1 (λ honest fits. front_none _ (g.L.Link.story c.args.link.now) (g.L.Link.story c.args.link.now) refl)
+
+pub returns-in_err-send_pieces-clause-cut : goal.returns-in_err-send_pieces-clause-cut
+returns-in_err-send_pieces-clause-cut g c =
+    let p = err_from_is_err_and c.from_residual-in_err-send_pieces.result c.from_residual-in_err-send_pieces.ensures.1 in
+    let a = c.args in
+    rw p.1 (λ honest fits. coded_front a.content.now.chunked (part_of a.group.now a.content.now.start a.content.now.count (node_of a.kept.now).groups) (g.L.Link.story a.link.now) (g.L.Link.story c.send_pieces.new.link) (c.in_err-send_pieces.ensures.cut honest fits))

@@ -2,10 +2,13 @@ use Rattle.std.proofs.Common.{arith, rules}
 use Rattle.std.proofs.lemmas.List.{take-append-le}
 use Rattle.std.proofs.lemmas.Result.{err_from_is_err_and}
 use Rattle.oc_turn.specs.declared.ends.TurnEnd.TheVariants.{Memory}
-use Rattle.oc_turn.proofs.Looking.{looks_none, looks_then, memory_looks, stops_behind}
+use Rattle.oc_turn.proofs.Looking.{memory_looks, stops_behind}
+use Rattle.oc_turn.proofs.Scenes.{looks_none, looks_then}
 use Rattle.oc_turn.proofs.Talks.{talked_none, talked_then}
 use Rattle.oc_keep.specs.KeptView.{node_of}
-use Rattle.oc_answer.proofs.Contents.{lines_of, piece_cut, piece_sent, piece_some, read_is, sent_all, sent_none}
+use Rattle.oc_answer.proofs.Contents.{lines_of, piece_cut, piece_sent, piece_some, read_is, sent_all, sent_front, sent_none}
+use Rattle.oc_answer.proofs.Written.{front_still}
+use Rattle.oc_answer.specs.Serving.{part_of, pieces}
 use Rattle.oc_answer.proofs.replying.send_pieces.Goals as goal
 
 pub pieces-init : goal.pieces-init
@@ -71,3 +74,19 @@ returns-then-not-branch-clause-said g c = λ honest fits.
     piece_cut a.content.now.chunked a.group.now (node_of a.kept.now).groups a.content.now.start a.content.now.count m.at m.left _ c.in_ok-count.count c.read_piece.new.buffer _ c.in_ok-send_piece.field-0 (g.L.Link.story a.link.now) (g.L.Link.story m.link) (g.L.Link.story c.send_piece.new.link)
     (search rules) (read_is g.D.Disk.view a.kept.now m.kept a.group.now m.at _ _ m.invariant.looks honest c.in_ok-count.ensures.bytes) (take-append-le c.in_ok-count.count c.read_piece.new.buffer _ (omega (arith, c.in_ok-count.ensures.within, c.read_piece.auto.buffer)))
     (search rules) (m.invariant.sent honest fits) c.in_ok-send_piece.ensures.said
+
+pub returns-in_err-count-clause-cut : goal.returns-in_err-count-clause-cut
+returns-in_err-count-clause-cut g c =
+    let p = err_from_is_err_and c.from_residual.result c.from_residual.ensures.1 in
+    let a = c.args in
+    let m = c.pieces in
+    rw p.1 (λ honest fits. sent_front a.content.now.chunked a.group.now (node_of a.kept.now).groups a.content.now.start a.content.now.count m.at m.left (g.L.Link.story a.link.now) (g.L.Link.story m.link) (m.invariant.sent honest fits))
+
+pub returns-in_err-send_piece-clause-cut : goal.returns-in_err-send_piece-clause-cut
+returns-in_err-send_piece-clause-cut g c =
+    let p = err_from_is_err_and c.from_residual-in_err-send_piece.result c.from_residual-in_err-send_piece.ensures.1 in
+    let a = c.args in
+    let m = c.pieces in
+    rw p.1 (λ honest fits. front_still (pieces a.content.now.chunked (part_of a.group.now a.content.now.start a.content.now.count (node_of a.kept.now).groups)) (g.L.Link.story a.link.now) (g.L.Link.story m.link) (g.L.Link.story c.send_piece.new.link)
+    (sent_front a.content.now.chunked a.group.now (node_of a.kept.now).groups a.content.now.start a.content.now.count m.at m.left (g.L.Link.story a.link.now) (g.L.Link.story m.link) (m.invariant.sent honest fits))
+    c.in_err-send_piece.ensures.silent)

@@ -4,8 +4,8 @@ use Rattle.oc_turn.specs.Deeds.{outside_of}
 use Rattle.oc_turn.specs.Scenes.{scene}
 use Rattle.oc_serve.specs.Turns.{IsOneSent}
 use Rattle.oc_serve.specs.declared.limits.TheConstants.{MAX_DIALS}
-use Rattle.oc_turn.proofs.Scenes.{did_none, did_then, stopped_then}
-use Rattle.oc_serve.proofs.Placed.{placed_stays}
+use Rattle.oc_turn.proofs.Scenes.{breaks_then, did_none, did_then}
+use Rattle.oc_serve.proofs.Placed.{placed_stays, sendable_stays}
 use Rattle.oc_turn.proofs.Scenes.{untold}
 use Rattle.oc_serve.proofs.Whole.{AreSoFar, all_sent, no_more, none_sent, one_more}
 use Rattle.oc_serve.proofs.sending.send_all.Goals as goal
@@ -16,11 +16,18 @@ returns-in_err-more-clause-stops g c =
     let a = c.args in
     let story = g.L.Link.story in
     let faults = g.L.Link.faults in
-    let far = c.messages.invariant.far in
-    rw (p.1, p.2)
-    (stopped_then g.D.Disk.view g.K.Sink.takes g.K.Sink.fails g.K.Sink.faults a.config.now.addresses g.met.K.Sink.takes_then g.met.K.Sink.takes_fails _ _ (λ none. none) far.0 c.in_err-more.field-0.0
-    (scene a.kept.now a.outbox.now a.sink.now (outside_of (story a.link.now) (faults a.link.now) untold untold)) (scene c.messages.kept c.messages.outbox c.messages.sink (outside_of (story c.messages.link) (faults c.messages.link) untold untold)) c.send_one.new.kept c.send_one.new.sink
-    (far.2 untold untold) c.in_err-more.ensures.stops)
+    let m = c.messages in
+    let new = c.send_one.new in
+    let far = m.invariant.far in
+    let one = c.in_err-more.ensures.stops in
+    rw (p.1, p.2) (
+      far.0 ++ one.0,
+      one.1,
+      λ seconds millis.
+          breaks_then g.D.Disk.view g.K.Sink.takes g.K.Sink.fails g.K.Sink.faults a.config.now.addresses g.met.K.Sink.takes_then ⊥ ⊥ (λ none. none) far.0 one.0 one.1 c.in_err-more.field-0.0
+          (scene a.kept.now a.outbox.now a.sink.now (outside_of (story a.link.now) (faults a.link.now) seconds millis)) (scene m.kept m.outbox m.sink (outside_of (story m.link) (faults m.link) seconds millis)) (scene new.kept new.outbox new.sink (outside_of (story new.link) (faults new.link) seconds millis))
+          (far.2 seconds millis) (one.2 seconds millis),
+    )
 
 pub messages-preserved : goal.messages-preserved
 messages-preserved g c =
@@ -37,6 +44,7 @@ messages-preserved g c =
     record {
       is_open = did.is_open;
       placed = placed_stays m.kept new.kept a.config.now.addresses did.same m.invariant.placed;
+      sendable = sendable_stays m.kept new.kept m.outbox new.outbox did.same did.sendable m.invariant.sendable;
       far = (
         far.0 ++ one.0,
         one_more m.done far.0 one.0 far.1 yes,
@@ -82,6 +90,7 @@ messages-init g c =
     record {
       is_open = c.requires.open;
       placed = c.requires.placed;
+      sendable = c.requires.sendable;
       far = (
         [],
         none_sent,

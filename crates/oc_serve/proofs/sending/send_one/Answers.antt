@@ -1,27 +1,53 @@
-use Rattle.std.proofs.Common.{[], ◌∷◌, ◌++◌, None, Some, ◌∙◌, ap, rules, arith}
+use Rattle.std.proofs.Common.{[], ◌∷◌, ◌++◌, None, Some, ◌∙◌, ap, refl, rules, arith}
 use Rattle.std.proofs.lemmas.Result.{err_from_is_err_and}
-use Rattle.oc_turn.specs.Deeds.{Takes, outside_of}
+use Rattle.oc_turn.specs.Deeds.{Idle, Takes, Taking, outside_of}
 use Rattle.oc_turn.specs.Scenes.{scene}
 use Rattle.oc_serve.specs.declared.sending.Sent.TheVariants as sents
-use Rattle.oc_turn.proofs.Scenes.{did_then, memory_stops}
-use Rattle.oc_serve.proofs.Sends.{sent_did, sent_lost, sent_none, sent_some, becomes_here, entry_here}
+use Rattle.oc_turn.proofs.Scenes.{breaks_dial, breaks_still, did_none, did_then}
+use Rattle.oc_serve.proofs.Sends.{sent_did, sent_none, sent_some, becomes_here, dials_here, entry_here}
 use Rattle.oc_serve.proofs.sending.send_one.Goals as goal
 
 pub returns-in_err-sent-clause-stops : goal.returns-in_err-sent-clause-stops
 returns-in_err-sent-clause-stops g c =
     let p = err_from_is_err_and c.from_residual.result c.from_residual.ensures.1 in
-    rw (p.1, p.2) (memory_stops g.D.Disk.view g.K.Sink.takes g.K.Sink.fails g.K.Sink.faults [] g.met.K.Sink.takes_nothing _ c.args.kept.now c.args.sink.now (c.node-node.ensures.survives c.requires.open))
-
-pub returns-in-Lost-clause-did : goal.returns-in-Lost-clause-did
-returns-in-Lost-clause-did g c =
     let a = c.args in
     let new = c.send_oldest.new in
     let story = g.L.Link.story in
     let faults = g.L.Link.faults in
-    let d = sent_did g.D.Disk.view g.K.Sink.takes g.K.Sink.fails g.K.Sink.faults a.config.now.addresses g.met.K.Sink.takes_nothing a.kept.now sents.Lost a.outbox.now new.outbox a.sink.now (story a.link.now) (story new.link) (faults a.link.now) (faults new.link)
+    rw (p.1, p.2) (
+      [],
+      Idle,
+      λ seconds millis. (
+        scene a.kept.now a.outbox.now a.sink.now (outside_of (story a.link.now) (faults a.link.now) seconds millis),
+        did_none g.D.Disk.view g.K.Sink.takes g.K.Sink.fails g.K.Sink.faults a.config.now.addresses g.met.K.Sink.takes_nothing (scene a.kept.now a.outbox.now a.sink.now (outside_of (story a.link.now) (faults a.link.now) seconds millis)) c.requires.open,
+        breaks_dial g.D.Disk.view g.K.Sink.takes g.K.Sink.fails g.K.Sink.faults a.config.now.addresses g.met.K.Sink.takes_nothing ⊥ a.kept.now a.outbox.now new.outbox a.sink.now (outside_of (story a.link.now) (faults a.link.now) seconds millis) (outside_of (story new.link) (faults new.link) seconds millis)
+            (c.node-node.ensures.survives c.requires.open)
+            (dials_here a.kept.now a.config.now.addresses c.id-me.result c.nodes-nodes.result a.outbox.now (story a.link.now) (story new.link) (faults a.link.now) (faults new.link) seconds millis (search rules) (search rules) c.in_err-sent.ensures.memory),
+      ),
+    )
+
+pub returns-in_err-take_own-in-Brought-Some-clause-stops : goal.returns-in_err-take_own-in-Brought-Some-clause-stops
+returns-in_err-take_own-in-Brought-Some-clause-stops g c =
+    let p = err_from_is_err_and c.from_residual-in_err-take_own-in-Brought-Some.result c.from_residual-in_err-take_own-in-Brought-Some.ensures.1 in
+    let a = c.args in
+    let new = c.send_oldest.new in
+    let story = g.L.Link.story in
+    let faults = g.L.Link.faults in
+    let e = c.in-Brought-Some.entry in
+    let t = c.in_err-take_own-in-Brought-Some in
+    let d = sent_did g.D.Disk.view g.K.Sink.takes g.K.Sink.fails g.K.Sink.faults a.config.now.addresses g.met.K.Sink.takes_nothing a.kept.now (sents.Brought (Some e)) a.outbox.now new.outbox a.sink.now (story a.link.now) (story new.link) (faults a.link.now) (faults new.link)
     c.requires.open (omega (arith, c.send_oldest.ensures.count.listening))
-    (becomes_here a.kept.now a.config.now.addresses c.id-me.result c.nodes-nodes.result c.in_ok-sent.sent sents.Lost a.outbox.now new.outbox (story a.link.now) (story new.link) (faults a.link.now) (faults new.link) c.in-Lost.is (search rules) (search rules) c.in_ok-sent.ensures.sent) in
-    (d.0, sent_lost d.0 d.1, d.2)
+    (becomes_here a.kept.now a.config.now.addresses c.id-me.result c.nodes-nodes.result c.in_ok-sent.sent (sents.Brought (Some e)) a.outbox.now new.outbox (story a.link.now) (story new.link) (faults a.link.now) (faults new.link) (c.in-Brought-Some.is ∙ ap sents.Brought c.in-Brought-Some.field-0-is) (search rules) (search rules) c.in_ok-sent.ensures.sent) in
+    rw (p.1, p.2) (
+      d.0,
+      Taking e.input,
+      λ seconds millis. (
+        scene a.kept.now new.outbox a.sink.now (outside_of (story new.link) (faults new.link) seconds millis),
+        d.2 seconds millis,
+        breaks_still g.D.Disk.view g.K.Sink.takes g.K.Sink.fails g.K.Sink.faults a.config.now.addresses t.field-0.0 (Taking e.input) a.kept.now c.take_own.new.kept new.outbox c.take_own.new.outbox a.sink.now c.take_own.new.sink (outside_of (story new.link) (faults new.link) seconds millis) (outside_of (story new.link) (faults new.link) seconds millis)
+            t.ensures.stops t.ensures.meets refl,
+      ),
+    )
 
 pub returns-in-Brought-None-clause-did : goal.returns-in-Brought-None-clause-did
 returns-in-Brought-None-clause-did g c =
@@ -56,3 +82,6 @@ returns-in_ok-take_own-in-Brought-Some-clause-did g c =
 pub take_own-requires-clause-entry : goal.take_own-requires-clause-entry
 take_own-requires-clause-entry g c =
     entry_here c.args.kept.now c.id-me.result c.nodes-nodes.result c.in_ok-sent.sent c.in-Brought-Some.entry (c.in-Brought-Some.is ∙ ap sents.Brought c.in-Brought-Some.field-0-is) (search rules) (search rules) c.in_ok-sent.ensures.lawful
+
+pub send_oldest-requires-clause-sendable : goal.send_oldest-requires-clause-sendable
+send_oldest-requires-clause-sendable g c = search rules

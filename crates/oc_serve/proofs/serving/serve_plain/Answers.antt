@@ -1,13 +1,12 @@
 use Rattle.std.proofs.Common.{ℕ, None, [], ◌++◌, subst, arith}
 use Rattle.std.proofs.lemmas.Result.{err_from_is_err_and}
-use Rattle.oc_io.proofs.Counts.{Rose-after}
 use Rattle.oc_answer.specs.Serving.{terms}
 use Rattle.oc_keep.specs.KeptView.{node_of}
 use Rattle.oc_turn.specs.Deeds.{outside_of, sight_of}
 use Rattle.oc_turn.specs.Scenes.{scene, setting}
-use Rattle.oc_turn.proofs.Scenes.{did_none, did_then, stopped_then}
-use Rattle.oc_serve.proofs.Placed.{placed_stays}
-use Rattle.oc_serve.proofs.Whole.{AreTurnsSoFar, ServesSoFar, all_turns, no_turns, serves_all, serves_none, serves_then, turns_then}
+use Rattle.oc_turn.proofs.Scenes.{did_none, did_then}
+use Rattle.oc_serve.proofs.Placed.{placed_stays, sendable_stays}
+use Rattle.oc_serve.proofs.Whole.{AreTurnsSoFar, ServesSoFar, all_turns, no_turns, serves_all, serves_none, serves_then, stops_then, turns_then}
 use Rattle.oc_serve.proofs.serving.serve_plain.Goals as goal
 
 pub returns-in_err-turn_plain-clause-stops : goal.returns-in_err-turn_plain-clause-stops
@@ -19,11 +18,12 @@ returns-in_err-turn_plain-clause-stops g c =
     let seconds = g.C.Clock.seconds in
     let millis = g.C.Clock.milliseconds in
     let t = c.turns in
+    let new = c.turn_plain.new in
     let far = t.invariant.far in
     rw (p.1, p.2)
-    (stopped_then g.D.Disk.view g.K.Sink.takes g.K.Sink.fails g.K.Sink.faults a.config.now.addresses g.met.K.Sink.takes_then g.met.K.Sink.takes_fails _ _ (λ rose. Rose-after _ _ _ far.2.listens rose) far.0 c.in_err-turn_plain.field-0.0
-    (scene a.kept.now a.outbox.now a.sink.now (outside_of (story a.link.now) (faults a.link.now) (seconds a.clock.now) (millis a.clock.now))) (scene t.kept t.outbox t.sink (outside_of (story t.link) (faults t.link) (seconds t.clock) (millis t.clock))) c.turn_plain.new.kept c.turn_plain.new.sink
-    far.2 c.in_err-turn_plain.ensures.stops)
+    (stops_then g.D.Disk.view g.K.Sink.takes g.K.Sink.fails g.K.Sink.faults a.config.now.addresses a.config.now.rules g.met.K.Sink.takes_then c.in_err-turn_plain.field-0.0 None None t.done a.turns
+    (scene a.kept.now a.outbox.now a.sink.now (outside_of (story a.link.now) (faults a.link.now) (seconds a.clock.now) (millis a.clock.now))) (scene t.kept t.outbox t.sink (outside_of (story t.link) (faults t.link) (seconds t.clock) (millis t.clock))) (scene new.kept new.outbox new.sink (outside_of (story new.link) (faults new.link) (seconds new.clock) (millis new.clock)))
+    far.0 (omega arith) far.2 far.3 c.in_err-turn_plain.ensures.stops)
 
 pub turns-preserved : goal.turns-preserved
 turns-preserved g c =
@@ -39,6 +39,7 @@ turns-preserved g c =
     record {
       is_open = one.2.is_open;
       placed = placed_stays t.kept new.kept a.config.now.addresses one.2.same t.invariant.placed;
+      sendable = sendable_stays t.kept new.kept t.outbox new.outbox one.2.same one.2.sendable t.invariant.sendable;
       far = (
         far.0 ++ one.0,
         turns_then None None None t.done _ far.0 one.0 far.1 one.1,
@@ -58,6 +59,7 @@ turns-init g c =
     record {
       is_open = c.requires.open;
       placed = c.requires.placed;
+      sendable = c.requires.sendable;
       far = ([], no_turns None, did_none g.D.Disk.view g.K.Sink.takes g.K.Sink.fails g.K.Sink.faults a.config.now.addresses g.met.K.Sink.takes_nothing (scene a.kept.now a.outbox.now a.sink.now out) c.requires.open, λ honest. serves_none (setting a.kept.now a.config.now.addresses) (terms a.kept.now a.config.now.rules) None (sight_of (node_of a.kept.now) a.outbox.now out));
     }
 

@@ -2,6 +2,7 @@
 use Rattle.std.proofs.Common.{◌≡◌, false, Some, List}
 use Rattle.oc_turn.specs.Deeds.{Deed, outside_of, sight_of}
 use Rattle.oc_turn.specs.Scenes.{Did, scene, setting}
+use Rattle.oc_turn.specs.Sending.{AreSendable}
 use Rattle.oc_answer.specs.Serving.{terms}
 use Rattle.oc_keep.specs.KeptView.{IsHonest, node_of}
 use Rattle.oc_serve.specs.Sending.{IsPlaced}
@@ -18,6 +19,7 @@ invariant-turns g l =
     record {
       is_open : l.kept.closed ≡ false;
       placed : IsPlaced l.kept.node.control.nodes l.config.addresses;
+      sendable : AreSendable l.kept.node.control.nodes l.outbox;
       far : (ds : List Deed) × AreTurnsSoFar (Some l.fn.probing) (Some l.probing) l.done ds × Did g.D.Disk.view g.K.Sink.takes g.K.Sink.faults l.config.addresses ds
           (scene l.fn.kept l.fn.outbox l.fn.sink (outside_of (story l.fn.link) (faults l.fn.link) (seconds l.fn.clock) (millis l.fn.clock)))
           (scene l.kept l.outbox l.sink (outside_of (story l.link) (faults l.link) (seconds l.clock) (millis l.clock)))

@@ -6,6 +6,7 @@ use Rattle.oc_answer.specs.Serving.{terms}
 use Rattle.oc_keep.specs.KeptView.{node_of}
 use Rattle.oc_serve.specs.Served.{IsServed}
 use Rattle.oc_serve.specs.Turns.{IsArrival}
+use Rattle.oc_turn.proofs.Asking.{err_too}
 use Rattle.oc_turn.proofs.Results.{done_then}
 use Rattle.oc_turn.proofs.Scenes.{did_none}
 use Rattle.oc_serve.proofs.turning.serve_arrival.Goals as goal
@@ -24,3 +25,6 @@ returns-in-Quiet-clause-did g c =
           (scene a.kept.now a.outbox.now a.sink.now (outside_of (g.L.Link.story a.link.now) (g.L.Link.faults a.link.now) seconds millis)) c.requires.open,
       λ honest. subst (λ (x : Arrival). IsServed (terms a.kept.now a.config.now.rules) a.config.now.addresses x [] (node_of a.kept.now) (g.L.Link.story a.link.now) (g.L.Link.story a.link.now)) (sym c.in-Quiet.is) refl,
     )
+
+pub returns-in-Conn-clause-conn : goal.returns-in-Conn-clause-conn
+returns-in-Conn-clause-conn g c = err_too c.serve_connection.result c.in-Conn.is

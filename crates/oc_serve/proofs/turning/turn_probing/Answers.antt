@@ -8,9 +8,9 @@ use Rattle.oc_serve.specs.Served.{ServesOne}
 use Rattle.oc_turn.specs.Deeds.{outside_of, sight_of}
 use Rattle.oc_turn.specs.Scenes.{scene, setting}
 use Rattle.oc_serve.specs.Turns.{IsTurn, end_with}
-use Rattle.oc_turn.proofs.Scenes.{did_then, stopped_then}
+use Rattle.oc_turn.proofs.Scenes.{did_then}
 use Rattle.oc_serve.proofs.Placed.{renewed_then}
-use Rattle.oc_serve.proofs.Whole.{probed_too, served_too, serves_behind}
+use Rattle.oc_serve.proofs.Whole.{probed_too, served_too, serves_behind, stops_probing}
 use Rattle.oc_serve.proofs.turning.turn_probing.Goals as goal
 
 pub returns-in_err-arrival-clause-stops : goal.returns-in_err-arrival-clause-stops
@@ -52,12 +52,14 @@ returns-in_err-probe_next-in-Quiet-clause-stops g c =
     let seconds = g.C.Clock.seconds in
     let millis = g.C.Clock.milliseconds in
     let t = c.turn_plain.new in
+    let n = c.probe_next.new in
     let d = c.in_ok-arrival.ensures.did in
+    let q = c.in_err-probe_next-in-Quiet.ensures.stops in
     let p = err_from_is_err_and c.from_residual-in_err-probe_next-in-Quiet.result c.from_residual-in_err-probe_next-in-Quiet.ensures.1 in
     rw (p.1, p.2)
-    (stopped_then g.D.Disk.view g.K.Sink.takes g.K.Sink.fails g.K.Sink.faults a.config.now.addresses g.met.K.Sink.takes_then g.met.K.Sink.takes_fails _ _ (λ none. absurd none) d.0 c.in_err-probe_next-in-Quiet.field-0.0
-    (scene a.kept.now a.outbox.now a.sink.now (outside_of (story a.link.now) (faults a.link.now) (seconds a.clock.now) (millis a.clock.now))) (scene t.kept t.outbox t.sink (outside_of (story t.link) (faults t.link) (seconds t.clock) (millis t.clock))) c.probe_next.new.kept c.probe_next.new.sink
-    d.2 c.in_err-probe_next-in-Quiet.ensures.stops)
+    (stops_probing g.D.Disk.view g.K.Sink.takes g.K.Sink.fails g.K.Sink.faults a.config.now.addresses a.config.now.rules g.met.K.Sink.takes_then c.in_err-probe_next-in-Quiet.field-0.0
+    (scene a.kept.now a.outbox.now a.sink.now (outside_of (story a.link.now) (faults a.link.now) (seconds a.clock.now) (millis a.clock.now))) (scene t.kept t.outbox t.sink (outside_of (story t.link) (faults t.link) (seconds t.clock) (millis t.clock))) (scene n.kept n.outbox n.sink (outside_of (story n.link) (faults n.link) (seconds n.clock) (millis n.clock)))
+    c.in_ok-arrival.arrival d.0 q.0 q.1 d.2 d.3 q.2)
 
 pub returns-in_ok-probe_next-in-Quiet-clause-renews : goal.returns-in_ok-probe_next-in-Quiet-clause-renews
 returns-in_ok-probe_next-in-Quiet-clause-renews g c =

@@ -2,9 +2,9 @@
 use Rattle.std.proofs.Common.{◌≡◌, ◌<◌, ℕ, false, true, Bool, Some, None, Ok, Err, Option, Result, IfOk, IfErr, OnOk, OnErr, List, [], ◌∷◌, ◌++◌, length, take, refl, sym, ap, subst, ◌∙◌, arith}
 use Rattle.std.specs.Global.{Vec}
 use Rattle.std.proofs.lemmas.List.{append-nil}
-use Rattle.oc_keep.specs.Files.{AllGoOn, Survives}
+use Rattle.oc_keep.specs.Files.{Survives}
 use Rattle.oc_keep.specs.KeptView.{IsHonest, KeptView, NodeSurvives, disks_of, header_of, node_of}
-use Rattle.oc_keep.proofs.Runs.{all_go_on_then, one_rose_after}
+use Rattle.oc_keep.proofs.Runs.{all_go_on_then}
 use Rattle.oc_keep.proofs.Stays.{all_honest}
 use Rattle.oc_model.specs.declared.input.Input.{Input}
 use Rattle.oc_model.specs.declared.input.Input.TheVariants as inputs
@@ -21,7 +21,6 @@ use Rattle.oc_http.specs.Taking.{Took}
 use Rattle.oc_http.specs.declared.fault.HttpFault.{HttpFault}
 use Rattle.oc_http.specs.declared.fault.HttpFault.TheVariants as http
 use Rattle.oc_outside.specs.Story.{Connection, Story, closed}
-use Rattle.oc_io.proofs.Counts.{Rose-after}
 use Rattle.std.specs.Option.{option_map}
 use Rattle.oc_routes.specs.Inputs.{input_line}
 use Rattle.oc_turn.specs.Outboxes.{with_messages}

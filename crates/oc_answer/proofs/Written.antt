@@ -1,9 +1,8 @@
 -- What was written on the connection that came.
 use Rattle.std.proofs.Common.{◌≡◌, ℕ, false, true, Bool, Some, None, Option, List, [], ◌∷◌, ◌++◌, refl, sym, ap, subst, ◌∙◌, cond}
-use Rattle.std.specs.Option.{option_map}
 use Rattle.std.proofs.lemmas.List.{append-nil, append_assoc}
 use Rattle.oc_outside.specs.Exchange.{Breaks, Hears, HearsThenBreaks, Says, SaysFrontThenBreaks}
-use Rattle.oc_outside.specs.LinkCalls.{IsFront, OnCurrent, Told}
+use Rattle.oc_outside.specs.LinkCalls.{OnCurrent, Told}
 use Rattle.oc_outside.specs.Story.{Connection, Story, broken}
 use Rattle.oc_http.specs.declared.fault.HttpFault.{HttpFault}
 use Rattle.oc_http.specs.declared.fault.HttpFault.TheVariants as http

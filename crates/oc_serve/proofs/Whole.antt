@@ -12,7 +12,7 @@ use Rattle.oc_outside.specs.declared.link.Arrival.TheVariants as arrivals
 use Rattle.oc_probe.specs.declared.probing.Probing.{Probing}
 use Rattle.oc_turn.specs.declared.ends.TurnEnd.{TurnEnd}
 use Rattle.oc_serve.specs.declared.limits.TheConstants.{MAX_DIALS}
-use Rattle.oc_turn.specs.Deeds.{Calls, Deed, Under, DoAll, Does, Outside, Setting, Sight, outside_of, ticked}
+use Rattle.oc_turn.specs.Deeds.{Calls, Deed, Under, DoAll, Does, Setting, Sight, outside_of, ticked}
 use Rattle.oc_turn.specs.Looks.{LooksOnly}
 use Rattle.oc_turn.specs.Scenes.{Breaks, BreaksOff, Did, Scene, scene, setting, sight}
 use Rattle.oc_io.specs.Faults.{Rose}

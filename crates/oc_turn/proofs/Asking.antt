@@ -1,5 +1,5 @@
 -- A dial that is made, read from and ended.
-use Rattle.std.proofs.Common.{◌≡◌, ◌⊎◌, ℕ, false, true, Option, None, Some, Result, Ok, Err, IfOk, IfErr, OnErr, List, [], ◌∷◌, ◌++◌, IfSome, refl, sym, ap, subst, ◌∙◌, inl, inr}
+use Rattle.std.proofs.Common.{◌≡◌, ◌⊎◌, ℕ, false, true, Option, None, Some, Result, Ok, Err, IfOk, IfErr, OnErr, List, [], ◌++◌, IfSome, refl, sym, ap, subst, ◌∙◌, inl, inr}
 use Rattle.std.proofs.lemmas.List.{append-nil}
 use Rattle.std.specs.Option.{option_map}
 use Rattle.oc_http.specs.Taking.{Took, SaysReply, RefusesReply}
@@ -12,7 +12,7 @@ use Rattle.oc_outside.specs.Exchange.{Hears, HearsThenBreaks}
 use Rattle.oc_outside.specs.LinkCalls.{Told, IfTold, OnOutgoing, DialsTo, DialFails, IsCutDial, connection_of, address_of}
 use Rattle.oc_outside.specs.LinkLoan.{LoanView, Dials}
 use Rattle.oc_outside.specs.Story.{Connection, Dial, Story, hung_up, unused, wrote, broken, IsHeardOut}
-use Rattle.oc_turn.specs.Dials.{AskedFor, IsReading, IsRead, IsReply, IsNoReply, IsOfBytes, IsAnswered, IsFailed, IsDialTo, IsAsked, Makes, MayMake, ComesOf, HearsUntil, input_of_reply}
+use Rattle.oc_turn.specs.Dials.{AskedFor, IsReading, IsRead, IsOfBytes, IsAnswered, IsDialTo, IsAsked, Makes, MayMake, ComesOf, HearsUntil, input_of_reply}
 
 -- the outgoing dial, on which these bytes came
 record Reads (to request bytes : List ℕ) (o : Option Dial) : Type 0 where

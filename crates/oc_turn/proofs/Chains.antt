@@ -1,9 +1,8 @@
 -- Deeds behind deeds.
-use Rattle.std.proofs.Common.{◌≡◌, ℕ, false, true, Bool, Some, None, Option, List, [], ◌∷◌, ◌++◌, refl, sym, ap, subst, ◌∙◌}
-use Rattle.std.proofs.lemmas.List.{append-nil, append_assoc}
+use Rattle.std.proofs.Common.{◌≡◌, ℕ, List, [], ◌∷◌, ◌++◌, refl, sym, ap, subst, ◌∙◌}
+use Rattle.std.proofs.lemmas.List.{append_assoc}
 use Rattle.oc_keep.specs.Trials.{after_inputs}
 use Rattle.oc_model.specs.declared.input.Input.{Input}
-use Rattle.oc_model.specs.declared.message.Message.{Message}
 use Rattle.oc_model.specs.Node.{Node}
 use Rattle.oc_model.specs.Step.{step}
 use Rattle.oc_turn.specs.Deeds.{Deed, Setting, Sight, Does, DoAll, deed_inputs, deed_text, deeds_text, inputs_of, took, answered}

@@ -1,12 +1,12 @@
 -- Looks, one behind another.
-use Rattle.std.proofs.Common.{◌≡◌, ℕ, IsTrue, false, true, Bool, List, refl, sym, ap, subst, ◌∙◌, arith}
+use Rattle.std.proofs.Common.{◌≡◌, ℕ, false, List, ap, subst, ◌∙◌, arith}
 use Rattle.oc_content.specs.ContentFile.{groups_in}
-use Rattle.oc_keep.specs.Files.{AllGoOn, AreHonest, OneRose, Survives}
+use Rattle.oc_keep.specs.Files.{AllGoOn, Survives}
 use Rattle.oc_keep.specs.KeptView.{IsHonest, KeptView, NodeSurvives, disks_of, header_of, node_of}
-use Rattle.oc_keep.specs.Promises.{ChangesNothing, IsSameNode}
+use Rattle.oc_keep.specs.Promises.{ChangesNothing}
 use Rattle.oc_keep.proofs.Runs.{all_go_on_then, one_rose_after}
 use Rattle.oc_keep.proofs.Stays.{all_honest}
-use Rattle.oc_model.specs.Node.{Control, Header, Node}
+use Rattle.oc_model.specs.Node.{Control, Node}
 use Rattle.oc_io.specs.DiskView.{DiskView}
 use Rattle.oc_turn.specs.declared.ends.TurnEnd.{TurnEnd}
 use Rattle.oc_turn.specs.declared.ends.TurnEnd.TheVariants as ends

@@ -1,5 +1,5 @@
 -- Messages that can be sent.
-use Rattle.std.proofs.Common.{◌≡◌, ◌≤◌, ◌<◌, ◌^◌, ℕ, zero, suc, ◌-◌, nat_le, nat_lt, true, false, Bool, IsTrue, ◌&&◌, Option, Some, None, List, [], ◌∷◌, ◌++◌, length, take, drop, slice_get, refl, sym, ap, subst, ◌∙◌, arith, leb-true, ltb-true, le-leb, lt-ltb}
+use Rattle.std.proofs.Common.{◌≡◌, ℕ, zero, suc, nat_le, true, false, Bool, ◌&&◌, Option, Some, None, List, [], ◌∷◌, ◌++◌, length, take, drop, slice_get, refl, subst, arith, leb-true, ltb-true, le-leb, lt-ltb}
 use Rattle.std.specs.List.{AllByRecursion, list_all}
 use Rattle.oc_base.specs.Lawful.{IsNode}
 use Rattle.oc_model.specs.Lawful.{IsMessage}
@@ -7,7 +7,7 @@ use Rattle.oc_model.specs.declared.message.Body.{Body}
 use Rattle.oc_model.specs.declared.message.Body.TheVariants as bodies
 use Rattle.oc_model.specs.declared.message.Message.{Message}
 use Rattle.oc_routes.specs.Replies.{others, reply_place, without}
-use Rattle.oc_turn.specs.Outboxes.{latest, with_message, with_messages}
+use Rattle.oc_turn.specs.Outboxes.{with_message, with_messages}
 use Rattle.oc_turn.specs.Sending.{AreSendable, can_send, has_text}
 use Rattle.oc_wire.specs.Spelling.{HasSpelling}
 

@@ -1,8 +1,7 @@
 -- Messages put one after another.
-use Rattle.std.proofs.Common.{◌≡◌, List, [], ◌∷◌, ◌++◌, reverse, refl, ap, ◌∙◌}
+use Rattle.std.proofs.Common.{◌≡◌, List, [], ◌∷◌, ◌++◌, reverse, ap, ◌∙◌}
 use Rattle.std.proofs.lemmas.List.{reverse-append}
 use Rattle.oc_model.specs.declared.message.Message.{Message}
-use Rattle.oc_turn.specs.Outboxes.{with_message, with_messages}
 
 -- the last of a list is the first of it turned round
 pub last_first : (all rest : List Message) (m : Message) → all ≡ rest ++ m ∷ [] → reverse all ≡ m ∷ reverse rest

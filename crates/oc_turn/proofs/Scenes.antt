@@ -1,7 +1,7 @@
 -- Scenes behind scenes.
-use Rattle.std.proofs.Common.{◌≡◌, ◌≤◌, ℕ, false, true, Bool, Some, None, Option, List, [], ◌∷◌, ◌++◌, inl, inr, refl, sym, ap, subst, ◌∙◌, arith}
-use Rattle.std.proofs.lemmas.List.{append-nil, append_assoc}
-use Rattle.oc_keep.specs.Files.{Disks, AllGoOn, AreHonest, Leaves, OneRose, SameAsEither, SameDurable, Survives}
+use Rattle.std.proofs.Common.{◌≡◌, ℕ, false, None, List, [], ◌∷◌, ◌++◌, inl, inr, refl, sym, ap, subst, ◌∙◌, arith}
+use Rattle.std.proofs.lemmas.List.{append_assoc}
+use Rattle.oc_keep.specs.Files.{Disks, AllGoOn, Leaves, SameAsEither, Survives}
 use Rattle.oc_keep.specs.KeptView.{IsHonest, KeptView, disks_of, header_of, node_of}
 use Rattle.oc_keep.specs.Promises.{IsSameNode}
 use Rattle.oc_keep.specs.Trials.{after_inputs}
@@ -13,13 +13,13 @@ use Rattle.oc_model.specs.Node.{Header, Node}
 use Rattle.oc_model.specs.Step.{step}
 use Rattle.oc_outside.specs.ClockView.{Series}
 use Rattle.oc_io.specs.DiskView.{DiskView}
-use Rattle.oc_io.specs.Faults.{NoFall, Rose}
+use Rattle.oc_io.specs.Faults.{NoFall}
 use Rattle.oc_io.proofs.Counts.{Rose-after}
 use Rattle.oc_turn.specs.declared.ends.TurnEnd.{TurnEnd}
 use Rattle.oc_turn.specs.declared.ends.TurnEnd.TheVariants as ends
 use Rattle.oc_node.specs.OutcomeView.{OutcomeView}
 use Rattle.oc_turn.specs.Looks.{LooksOnly}
-use Rattle.oc_turn.specs.Deeds.{AsksInVain, Deed, DialsInVain, Outside, Setting, sight_of, Sight, Under, Idle, Taking, Noting, DoAll, deeds_text, inputs_of, under_line}
+use Rattle.oc_turn.specs.Deeds.{AsksInVain, Deed, DialsInVain, Outside, Setting, sight_of, Under, Idle, Taking, Noting, DoAll, deeds_text, inputs_of, under_line}
 use Rattle.oc_turn.specs.Sending.{AreSendable}
 use Rattle.oc_turn.specs.Scenes.{Scene, Did, Stops, Stopped, Breaks, BreaksOff, EndsLink, EndsStill, HasCause, KeepsAll, KeepsOne, LeavesAt, MeetsFull, LeavesUnder, WritesAt, scene, setting, sight}
 use Rattle.oc_turn.proofs.Chains.{after_both, do_node, do_then, inputs_append, texts_append}

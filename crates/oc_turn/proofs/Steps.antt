@@ -1,23 +1,18 @@
 -- Steps of a turn as deeds.
-use Rattle.std.proofs.Common.{◌≡◌, ◌≤◌, ℕ, false, true, Bool, Some, None, Option, List, [], ◌∷◌, ◌++◌, inl, inr, refl, sym, ap, subst, ◌∙◌, arith}
-use Rattle.std.proofs.lemmas.List.{append-nil, append_assoc}
-use Rattle.oc_keep.specs.Files.{AllGoOn, Survives}
-use Rattle.oc_keep.specs.KeptView.{IsHonest, KeptView, NodeSurvives, disks_of, header_of, node_of}
-use Rattle.oc_keep.specs.Promises.{IsSameNode}
-use Rattle.oc_keep.specs.Trials.{after_inputs}
-use Rattle.oc_model.specs.declared.input.Input.{Input}
+use Rattle.std.proofs.Common.{◌≡◌, ℕ, false, List, [], ◌∷◌, refl, sym, ap, subst, ◌∙◌, arith}
+use Rattle.std.proofs.lemmas.List.{append-nil}
+use Rattle.oc_keep.specs.KeptView.{IsHonest, KeptView, NodeSurvives, disks_of, node_of}
 use Rattle.oc_model.specs.declared.message.Message.{Message}
-use Rattle.oc_model.specs.Node.{Header, Node}
+use Rattle.oc_model.specs.Node.{Node}
 use Rattle.oc_io.specs.DiskView.{DiskView}
-use Rattle.oc_io.specs.Faults.{NoFall, Rose}
-use Rattle.oc_outside.specs.LinkCalls.{IsFront}
+use Rattle.oc_io.specs.Faults.{NoFall}
 use Rattle.oc_turn.specs.declared.ends.TurnEnd.{TurnEnd}
 use Rattle.oc_turn.specs.declared.ends.TurnEnd.TheVariants as ends
 use Rattle.oc_turn.specs.Deeds.{Deed, Outside, Setting, Sight, Under, Idle, Taking, Noting, Does, DoAll, deed_text, deeds_text, inputs_of, note_line, under_line}
 use Rattle.oc_turn.specs.Deeds as deeds
 use Rattle.oc_turn.specs.Looks.{LooksOnly, LookStops}
 use Rattle.oc_turn.specs.Sending.{AreSendable}
-use Rattle.oc_turn.specs.Scenes.{Did, MeetsFull, NotesOne, NoteStops, LineStops, Scene, Stops, Stopped, WritesOne, scene, setting, sight}
+use Rattle.oc_turn.specs.Scenes.{Did, MeetsFull, NotesOne, NoteStops, LineStops, Stops, Stopped, scene, setting}
 use Rattle.oc_turn.specs.Deeds.{sight_of}
 use Rattle.oc_turn.proofs.Scenes.{go_on_none, keeps_none, looks_none}
 

@@ -1,10 +1,9 @@
 -- One input is taken, or it is not.
-use Rattle.std.proofs.Common.{◌≡◌, ◌≤◌, ℕ, zero, suc, take, drop, IsTrue, false, true, Bool, Some, None, Option, List, [], ◌∷◌, ◌++◌, inl, inr, refl, sym, ap, subst, ◌∙◌, arith}
+use Rattle.std.proofs.Common.{◌≡◌, ℕ, zero, suc, take, drop, IsTrue, false, true, List, [], ◌∷◌, ◌++◌, inr, refl, sym, ap, subst, ◌∙◌, arith}
 use Rattle.std.proofs.lemmas.List.{append-nil}
-use Rattle.oc_keep.specs.Files.{AllGoOn, AreHonest, Leaves, OneRose, SameAsEither, SameDurable, Survives}
+use Rattle.oc_keep.specs.Files.{AllGoOn, SameAsEither, Survives}
 use Rattle.oc_keep.specs.KeptView.{AtAnyMoment, IsFullAt, IsFullByPlan, IsHonest, KeptView, NodeSurvives, disks_of, header_of, node_of}
 use Rattle.oc_keep.specs.Promises.{ChangesNothing, Closes, IsSameNode}
-use Rattle.oc_keep.specs.ReadyView.{told_of}
 use Rattle.oc_keep.specs.declared.errors.KeepError.{KeepError}
 use Rattle.oc_keep.specs.declared.errors.KeepError.TheVariants as keeps
 use Rattle.oc_keep.proofs.Stays.{Law, all_honest, leaves_now}
@@ -21,7 +20,7 @@ use Rattle.oc_base.specs.declared.shelf.Shelf.{Shelf}
 use Rattle.oc_model.specs.Step.{plan, step}
 use Rattle.oc_node.specs.OutcomeView.{OutcomeView}
 use Rattle.oc_io.specs.DiskView.{DiskView}
-use Rattle.oc_io.specs.Faults.{NoFall, Rose}
+use Rattle.oc_io.specs.Faults.{Rose}
 use Rattle.oc_outside.specs.LinkCalls.{IsFront}
 use Rattle.oc_routes.specs.Inputs.{input_line}
 use Rattle.oc_turn.specs.Lines.{IsEntry}
@@ -29,9 +28,9 @@ use Rattle.oc_turn.specs.declared.entry.Entry.{Entry}
 use Rattle.oc_turn.specs.Outboxes.{with_messages}
 use Rattle.oc_turn.specs.declared.ends.TurnEnd.{TurnEnd}
 use Rattle.oc_turn.specs.declared.ends.TurnEnd.TheVariants as ends
-use Rattle.oc_turn.specs.Deeds.{Deed, Outside, Sight, Taking, Takes, Answers, for_outbox}
+use Rattle.oc_turn.specs.Deeds.{Outside, Taking, Takes}
 use Rattle.oc_turn.specs.Deeds.{sight_of}
-use Rattle.oc_turn.specs.Scenes.{Did, KeepCause, KeepStops, KeepsOne, LeavesAt, Scene, Stops, TakesOne, end_of, scene}
+use Rattle.oc_turn.specs.Scenes.{Did, KeepStops, KeepsOne, Stops, TakesOne, end_of, scene}
 
 -- the messages of the step of a lawful node can be sent
 pub step_sendable : (nodes : ℕ) (n : Node) (i : Input) → ((m : Message) → IsMessage nodes m → HasSpelling m.body) → IsLawfulOutcome nodes (step n i) → AreSendable nodes (step n i).sends

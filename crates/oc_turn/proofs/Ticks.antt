@@ -1,5 +1,5 @@
 -- The tick, as deeds.
-use Rattle.std.proofs.Common.{◌≡◌, ◌≤◌, ℕ, false, min, List, [], ◌∷◌, ◌++◌, Option, refl, sym, ap, subst, ◌∙◌, arith}
+use Rattle.std.proofs.Common.{◌≡◌, ℕ, false, min, List, [], ◌∷◌, ◌++◌, Option, refl, ap, subst, ◌∙◌, arith}
 use Rattle.oc_base.specs.declared.limits.TheConstants.{MAX_TIME}
 use Rattle.oc_keep.specs.KeptView.{KeptView, node_of}
 use Rattle.oc_model.specs.declared.input.Input.{Input}
@@ -9,9 +9,9 @@ use Rattle.oc_outside.specs.ClockView.{Series, Ticks}
 use Rattle.oc_io.specs.DiskView.{DiskView}
 use Rattle.oc_outside.specs.LinkCalls.{LinkFaults}
 use Rattle.oc_outside.specs.Story.{Story}
-use Rattle.oc_turn.specs.Deeds.{Deed, Under, Outside, Reads, Takes, outside_of}
+use Rattle.oc_turn.specs.Deeds.{Under, Outside, Reads, Takes, outside_of}
 use Rattle.oc_turn.specs.declared.ends.TurnEnd.{TurnEnd}
-use Rattle.oc_turn.specs.Scenes.{BreaksOff, Did, MeetsFull, Scene, Stops, scene}
+use Rattle.oc_turn.specs.Scenes.{BreaksOff, Did, MeetsFull, Stops, scene}
 use Rattle.oc_turn.specs.Deeds.{sight_of}
 use Rattle.oc_turn.specs.Deeds.{ticked}
 use Rattle.oc_turn.proofs.Scenes.{breaks_still, did_then}

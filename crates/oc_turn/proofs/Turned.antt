@@ -1,10 +1,10 @@
 -- The files are turned over, or not.
-use Rattle.std.proofs.Common.{◌≡◌, ℕ, IsTrue, false, true, Bool, Some, None, Option, List, refl, sym, ap, subst, ◌∙◌, arith, ◌≤◌}
+use Rattle.std.proofs.Common.{◌≡◌, ℕ, IsTrue, false, true, Bool, refl, ap, subst, ◌∙◌, arith}
 use Rattle.oc_content.specs.ContentFile.{groups_in}
 use Rattle.oc_content.specs.ContentView.{ContentView}
-use Rattle.oc_keep.specs.Files.{AllGoOn, AreHonest, OneRose, SameDurable, Survives}
+use Rattle.oc_keep.specs.Files.{AllGoOn, SameDurable, Survives}
 use Rattle.oc_keep.specs.KeptView.{AtAnyMoment, IsHonest, KeptView, NodeSurvives, disks_of, header_of, node_of}
-use Rattle.oc_keep.specs.Promises.{ChangesNothing, Closes, IsSameNode, IsTurnedOver}
+use Rattle.oc_keep.specs.Promises.{Closes, IsSameNode, IsTurnedOver}
 use Rattle.oc_keep.specs.declared.errors.TidyError.{TidyError}
 use Rattle.oc_keep.specs.declared.errors.TidyError.TheVariants as tidies
 use Rattle.oc_keep.proofs.Stays.{Law, all_honest, leaves_now}

@@ -1,5 +1,5 @@
 -- What a running node does, deed by deed.
-use Rattle.std.specs.Prelude.{◌≡◌, ◌⊎◌, ℕ, ◌-◌, ◌≤◌, min, Bool, true, false, ◌==◌, if◌then◌else◌, Option, Some, None, Result, Ok, Err, List, [], ◌∷◌, ◌++◌, codes, slice_index_or}
+use Rattle.std.specs.Prelude.{◌≡◌, ◌⊎◌, ℕ, ◌-◌, min, Bool, true, false, Option, Result, Ok, Err, List, [], ◌∷◌, ◌++◌, codes, slice_index_or}
 use Rattle.oc_base.specs.declared.limits.TheConstants.{MAX_TIME}
 use Rattle.std.specs.List.{AllByRecursion}
 use Rattle.oc_model.specs.declared.input.Input.{Input}

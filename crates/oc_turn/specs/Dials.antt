@@ -1,5 +1,5 @@
 -- A message that is dialled, and what comes of it.
-use Rattle.std.specs.Prelude.{◌≡◌, ℕ, ◌⊎◌, true, false, ◌==◌, if◌then◌else◌, Option, Some, None, Result, Ok, Err, List, [], ◌∷◌, ◌++◌}
+use Rattle.std.specs.Prelude.{◌≡◌, ℕ, ◌⊎◌, false, ◌==◌, if◌then◌else◌, Option, Some, None, Result, Ok, Err, List, [], ◌∷◌, ◌++◌}
 use Rattle.oc_http.specs.Taking.{SaysReply, RefusesReply}
 use Rattle.oc_http.specs.Writing.{request_text}
 use Rattle.oc_http.specs.declared.fault.HttpFault.{HttpFault}

@@ -1,5 +1,5 @@
 -- The messages that a node has still to send, oldest first.
-use Rattle.std.specs.Prelude.{ℕ, ◌-◌, List, [], ◌∷◌, ◌++◌, length, drop}
+use Rattle.std.specs.Prelude.{◌-◌, List, [], ◌∷◌, ◌++◌, length, drop}
 use Rattle.oc_model.specs.declared.message.Message.{Message}
 use Rattle.oc_turn.specs.declared.outbox.TheConstants.{MAX_OUTBOX}
 

@@ -1,5 +1,5 @@
 -- A running node with its files, its outbox, its output and its link, from one moment to a later one.
-use Rattle.std.specs.Prelude.{◌≡◌, ◌⊎◌, ℕ, ◌≤◌, Bool, true, false, Option, Some, None, List, [], ◌∷◌, ◌++◌}
+use Rattle.std.specs.Prelude.{◌≡◌, ◌⊎◌, ℕ, false, List, [], ◌∷◌, ◌++◌}
 use Rattle.oc_keep.specs.Files.{AllGoOn, Leaves, OneRose, SameAsEither, Survives}
 use Rattle.oc_keep.specs.KeptView.{IsFullAt, IsHonest, KeptView, NodeSurvives, disks_of, header_of, node_of}
 use Rattle.oc_keep.specs.Promises.{ChangesNothing, IsSameNode}
@@ -9,7 +9,7 @@ use Rattle.oc_keep.specs.declared.errors.KeepError.{KeepError}
 use Rattle.oc_keep.specs.declared.errors.KeepError.TheVariants as keeps
 use Rattle.oc_model.specs.declared.input.Input.{Input}
 use Rattle.oc_model.specs.declared.message.Message.{Message}
-use Rattle.oc_model.specs.Node.{Header, Node}
+use Rattle.oc_model.specs.Node.{Node}
 use Rattle.oc_model.specs.Step.{step}
 use Rattle.oc_node.specs.OutcomeView.{OutcomeView}
 use Rattle.oc_io.specs.DiskView.{DiskView}
@@ -20,7 +20,7 @@ use Rattle.oc_turn.specs.declared.ends.TurnEnd.{TurnEnd}
 use Rattle.oc_turn.specs.declared.ends.TurnEnd.TheVariants as ends
 use Rattle.oc_turn.specs.Sending.{AreSendable}
 use Rattle.oc_turn.specs.Looks.{LooksOnly}
-use Rattle.oc_turn.specs.Deeds.{AsksInVain, Deed, DialsInVain, Outside, Setting, Sight, Under, Idle, Taking, Noting, DoAll, deeds_text, inputs_of, note_line, under_line}
+use Rattle.oc_turn.specs.Deeds.{AsksInVain, Deed, DialsInVain, Outside, Setting, Sight, Under, Idle, Taking, DoAll, deeds_text, inputs_of, note_line, under_line}
 
 -- a node on its files, what it has still to send, its output, and its link and its clock
 pub record Scene (D K : Type 0) : Type 0 where

@@ -1,5 +1,4 @@
-use Rattle.std.proofs.Common.{List, ℕ, Err, ap, subst, ◌∙◌}
-use Rattle.oc_http.specs.declared.fault.HttpFault.{HttpFault}
+use Rattle.std.proofs.Common.{List, ℕ, subst, ◌∙◌}
 use Rattle.oc_turn.specs.Dials.{AskedFor, text_of}
 use Rattle.oc_turn.specs.Lines.{input_in}
 use Rattle.oc_turn.proofs.Asking.{cause_of, dial_of, err_too, found_too, may_make}

@@ -1,5 +1,5 @@
 use Rattle.std.proofs.Common.{◌≡◌, ℕ, Err, ap, rules, subst, sym, ◌∙◌}
-use Rattle.oc_keep.specs.KeptView.{IsHonest, node_of}
+use Rattle.oc_keep.specs.KeptView.{node_of}
 use Rattle.oc_keep.specs.declared.errors.KeepError.{KeepError}
 use Rattle.oc_node.specs.OutcomeView.{OutcomeView}
 use Rattle.oc_turn.specs.Sending.{AreSendable}

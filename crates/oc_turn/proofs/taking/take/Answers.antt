@@ -1,5 +1,5 @@
 use Rattle.std.proofs.Common.{ℕ, List, take, subst, ◌∙◌}
-use Rattle.oc_turn.proofs.Takes.{front_of, stops_keeping, stops_writing}
+use Rattle.oc_turn.proofs.Takes.{front_of, stops_writing}
 use Rattle.oc_turn.proofs.taking.take.Goals as goal
 
 pub returns-in-Ok-clause-took : goal.returns-in-Ok-clause-took

@@ -1,5 +1,6 @@
 -- What a loaded node did, told of the files from which it was loaded.
 use Rattle.std.proofs.Common.{◌≡◌, ◌∙◌, ℕ, Bool, IsTrue, List, [], length, ap, ap₂, arith, refl, subst}
+use Rattle.oc_answer.specs.Hearing.{terms_of}
 use Rattle.oc_config.specs.Settings.{Settings}
 use Rattle.oc_keep.proofs.Runs.{all_go_on_then, one_rose_after}
 use Rattle.oc_keep.proofs.Stays.{all_honest}
@@ -17,36 +18,40 @@ use Rattle.oc_turn.specs.Scenes.{HasCause, LeavesAt, LeavesUnder, Stops, WritesA
 use Rattle.oc_turn.specs.declared.ends.TurnEnd.{TurnEnd}
 use Rattle.oc_turn.specs.declared.ends.TurnEnd.TheVariants as ends
 use Rattle.oc_service.specs.OnFiles.{DidOnFiles, HasCauseOnFiles, LeavesBehind, LeavesOne, NodeEnds, StopsOnFiles, Writes, header_of_settings}
-use Rattle.oc_service.specs.Runs.{IsRun, Ran, RunEnds}
+use Rattle.oc_service.specs.Runs.{IsRun, Ran, RunEnds, ServesRun}
 use Rattle.oc_service.specs.declared.starting.NodeEnd.{NodeEnd}
 use Rattle.oc_service.specs.declared.starting.NodeEnd.TheVariants.{Load, Turned}
 
-module _ {D K : Type 0} (view : D → DiskView) (takes fails : K → List ℕ → K → Type 0) (count : K → ℕ) (h : Header) (me : ℕ) (d : Disks D) (k l : KeptView D) (sink after : K) (before out : Outside)
-    (loaded : IsNodeOf view h me d k) (safely : LoadsSafely view h me d (disks_of k)) where
+module _ {D K : Type 0} (view : D → DiskView) (takes fails : K → List ℕ → K → Type 0) (count : K → ℕ) (s : Settings) (nodes me : ℕ) (probes : Bool) (turns : ℕ) (d : Disks D) (k l : KeptView D) (sink after : K) (before out : Outside)
+    (loaded : IsNodeOf view (header_of_settings nodes s) me d k) (safely : LoadsSafely view (header_of_settings nodes s) me d (disks_of k)) where
+  abbrev h : Header
+  h = header_of_settings nodes s
+
   honest_kept : AreHonest view d → IsHonest view k
   honest_kept honest = all_honest view d (disks_of k) safely.goes_on honest
-
-  -- its setting is that of the files
-  setting_is : (addresses : List (List ℕ)) → setting_of k.node.control.me k.node.control.nodes addresses ≡ setting_of me h.nodes addresses
-  setting_is addresses =
-      ap (λ x. setting_of x k.node.control.nodes addresses) loaded.id ∙ ap (λ x. setting_of me x.nodes addresses) loaded.header
 
   -- what is said of every crash under its own name is said under that of the files
   named : (P : Header → ℕ → Type 0) → P (header_of k.node.control) k.node.control.me → P h me
   named P p = subst (λ x. P x me) loaded.header (subst (λ x. P (header_of k.node.control) x) loaded.id p)
 
-  did_on_files : (addresses : List (List ℕ)) (deeds : List Deed) → Ran view takes count addresses deeds k l sink after before out
-      → DidOnFiles view h me addresses deeds d (disks_of l) before out
-  did_on_files addresses deeds r = record {
+  -- what is said of the loaded node is said of the one that the files recover
+  found : (P : ℕ → ℕ → Node → Type 0) → AreHonest view d → P k.node.control.me k.node.control.nodes (node_of k) → P me nodes (first_node view h me d)
+  found P honest p = subst (λ n. P me nodes n) (loaded.node honest) (named (λ x y. P y x.nodes (node_of k)) p)
+
+  did_on_files : (deeds : List Deed) → Ran view takes count s probes turns deeds k l sink after before out
+      → DidOnFiles view s nodes me probes turns deeds d (disks_of l) before out
+  did_on_files deeds r = record {
     goes_on = all_go_on_then view d (disks_of k) (disks_of l) safely.goes_on r.did.goes_on;
     listened = r.listened;
     counts = r.counts;
     node = node_of l;
     last = r.last;
     done = λ honest.
-        subst (λ s. DoAll s deeds (sight_of (first_node view h me d) [] (record before { faults = r.listened })) (sight_of (node_of l) r.last out)) (setting_is addresses)
-        (subst (λ n. DoAll (setting_of k.node.control.me k.node.control.nodes addresses) deeds (sight_of n [] (record before { faults = r.listened })) (sight_of (node_of l) r.last out)) (loaded.node honest)
-        (r.did.done (honest_kept honest)));
+        found (λ x many n. DoAll (setting_of x many s.addresses) deeds (sight_of n [] (record before { faults = r.listened })) (sight_of (node_of l) r.last out)) honest
+        (r.did.done (honest_kept honest));
+    answered = λ honest.
+        found (λ x many n. ServesRun (setting_of x many s.addresses) (terms_of x many s.rules) s.measures probes turns deeds (sight_of n [] (record before { faults = r.listened })) (sight_of (node_of l) r.last out)) honest
+        (r.answered (honest_kept honest));
     survives = λ honest.
         named (λ x y. Survives view x y (disks_of l) (node_of l))
         (subst (λ x. Survives view x k.node.control.me (disks_of l) (node_of l)) r.did.same.header
@@ -89,8 +94,6 @@ module _ {D K : Type 0} (view : D → DiskView) (takes fails : K → List ℕ �
     cause = cause_on_files end under s.cause;
   }
 
-module _ {D K : Type 0} (view : D → DiskView) (takes fails : K → List ℕ → K → Type 0) (count : K → ℕ) (s : Settings) (nodes me : ℕ) (probes : Bool) (turns : ℕ) (d : Disks D) (k l : KeptView D) (sink after : K) (before out : Outside)
-    (loaded : IsNodeOf view (header_of_settings nodes s) me d k) (safely : LoadsSafely view (header_of_settings nodes s) me d (disks_of k)) where
   -- what was written
   writes : (end : TurnEnd) (deeds : List Deed) (under : Under) → Stops view takes fails count (Rose before.faults.listening out.faults.listening) end deeds under k l sink after
       → Writes takes fails count end (deeds_text me deeds) (under_line me under) sink after
@@ -108,17 +111,17 @@ module _ {D K : Type 0} (view : D → DiskView) (takes fails : K → List ℕ �
 
   stopped : (end : TurnEnd) → (deeds : List Deed) × (under : Under) × Stops view takes fails count (Rose before.faults.listening out.faults.listening) end deeds under k l sink after
       → (deeds : List Deed) × (under : Under) × Writes takes fails count end (deeds_text me deeds) (under_line me under) sink after
-      × StopsOnFiles view (header_of_settings nodes s) me end deeds under d (disks_of l) before out
-  stopped end (deeds, under, stops) =
-      (deeds, under, writes end deeds under stops, stops_on_files view takes fails count (header_of_settings nodes s) me d k l sink after before out loaded safely end deeds under stops)
+      × StopsOnFiles view h me end deeds under d (disks_of l) before out
+  stopped end (deeds, under, stops) = (deeds, under, writes end deeds under stops, stops_on_files end deeds under stops)
 
-  pub node_ends : (end : TurnEnd) → RunEnds view takes fails count s.addresses s.measures probes turns end k l sink after before out
+  pub node_ends : (end : TurnEnd) → RunEnds view takes fails count s probes turns end k l sink after before out
       → NodeEnds view takes fails count s nodes me probes turns (Turned end) d (disks_of l) sink after before out
   node_ends ends.Served (deeds, run, ran) = (
     deeds,
-    subst (λ x. IsRun x s.measures probes turns deeds) loaded.id run,
+    named (λ x y. IsRun y x.nodes s.measures probes turns deeds) run,
     subst (λ x. takes sink (deeds_text x deeds) after) loaded.id ran.did.text,
-    did_on_files view takes fails count (header_of_settings nodes s) me d k l sink after before out loaded safely s.addresses deeds ran,
+    ran.did.counts,
+    did_on_files deeds ran,
   )
   node_ends ends.Quiet h = absurd h
   node_ends ends.Link h = stopped ends.Link h
@@ -131,7 +134,7 @@ module _ {D K : Type 0} (view : D → DiskView) (takes fails : K → List ℕ �
 pub ends_go_on : {D K : Type 0} (view : D → DiskView) (takes fails : K → List ℕ → K → Type 0) (count : K → ℕ) (s : Settings) (nodes me : ℕ) (probes : Bool) (turns : ℕ) (end : NodeEnd) (old new : Disks D) (sink after : K) (before out : Outside)
     → NodeEnds view takes fails count s nodes me probes turns end old new sink after before out → AllGoOn view old new
 ends_go_on view takes fails count s nodes me probes turns (Load error) old new sink after before out h = h.1.goes_on
-ends_go_on view takes fails count s nodes me probes turns (Turned ends.Served) old new sink after before out h = h.3.goes_on
+ends_go_on view takes fails count s nodes me probes turns (Turned ends.Served) old new sink after before out h = h.4.goes_on
 ends_go_on view takes fails count s nodes me probes turns (Turned ends.Quiet) old new sink after before out h = h.3.goes_on
 ends_go_on view takes fails count s nodes me probes turns (Turned ends.Link) old new sink after before out h = h.3.goes_on
 ends_go_on view takes fails count s nodes me probes turns (Turned ends.Disk) old new sink after before out h = h.3.goes_on

@@ -13,21 +13,22 @@ use Rattle.oc_io.specs.DiskView.{DiskView}
 use Rattle.oc_turn.specs.Deeds.{Deed, Idle, Noting, Outside, Taking, Under}
 use Rattle.oc_turn.specs.declared.ends.TurnEnd.{TurnEnd}
 use Rattle.oc_turn.specs.declared.ends.TurnEnd.TheVariants as ends
-use Rattle.oc_service.specs.OnFiles.{DidOnFiles, HasCauseOnFiles, LeavesBehind, LeavesOne, NodeEnds, StopsOnFiles}
+use Rattle.oc_service.specs.OnFiles.{DidOnFiles, HasCauseOnFiles, LeavesBehind, LeavesOne, NodeEnds, StopsOnFiles, header_of_settings}
 use Rattle.oc_service.specs.declared.starting.NodeEnd.{NodeEnd}
 use Rattle.oc_service.specs.declared.starting.NodeEnd.TheVariants.{Load, Turned}
 
 module _ {D : Type 0} (view : D → DiskView) (h : Header) (me : ℕ) (a b c x y z : MutBor D) (before out : Outside) where
-  did_of : (addresses : List (List ℕ)) (deeds : List Deed) → DidOnFiles (loan_view view) h me addresses deeds (loans a b c) (loans x y z) before out
-      → DidOnFiles view h me addresses deeds (lenders a b c) (lenders x y z) before out
-  did_of addresses deeds d = record {
+  did_of : (s : Settings) (nodes : ℕ) (probes : Bool) (turns : ℕ) (deeds : List Deed) → DidOnFiles (loan_view view) s nodes me probes turns deeds (loans a b c) (loans x y z) before out
+      → DidOnFiles view s nodes me probes turns deeds (lenders a b c) (lenders x y z) before out
+  did_of s nodes probes turns deeds d = record {
     goes_on = all_go_on_of view a b c x y z d.goes_on;
     listened = d.listened;
     counts = d.counts;
     node = d.node;
     last = d.last;
     done = λ honest. d.done (honest_lent view a b c x y z honest);
-    survives = λ honest. leaves_lent view x y z h me (SameDurable d.node) (d.survives (honest_lent view a b c x y z honest));
+    answered = λ honest. d.answered (honest_lent view a b c x y z honest);
+    survives = λ honest. leaves_lent view x y z (header_of_settings nodes s) me (SameDurable d.node) (d.survives (honest_lent view a b c x y z honest));
   }
 
   one_of : (n : Node) (under : Under) → LeavesOne (loan_view view) h me (loans x y z) n under → LeavesOne view h me (lenders x y z) n under
@@ -68,7 +69,7 @@ module _ {D K : Type 0} (view : D → DiskView) (takes fails : K → List ℕ �
   pub node_ends_of : (end : NodeEnd) → NodeEnds (loan_view view) takes fails count s nodes me probes turns end (loans a b c) (loans x y z) sink after before out
       → NodeEnds view takes fails count s nodes me probes turns end (lenders a b c) (lenders x y z) sink after before out
   node_ends_of (Load error) h = (refuses_of view a b c x y z nodes error h.0, safely_of view a b c x y z _ me h.1, h.2, h.3)
-  node_ends_of (Turned ends.Served) h = (h.0, h.1, h.2, did_of view _ me a b c x y z before out s.addresses h.0 h.3)
+  node_ends_of (Turned ends.Served) h = (h.0, h.1, h.2, h.3, did_of view (header_of_settings nodes s) me a b c x y z before out s nodes probes turns h.0 h.4)
   node_ends_of (Turned ends.Quiet) h = (h.0, h.1, h.2, stops_of view _ me a b c x y z before out ends.Quiet h.0 h.1 h.3)
   node_ends_of (Turned ends.Link) h = (h.0, h.1, h.2, stops_of view _ me a b c x y z before out ends.Link h.0 h.1 h.3)
   node_ends_of (Turned ends.Disk) h = (h.0, h.1, h.2, stops_of view _ me a b c x y z before out ends.Disk h.0 h.1 h.3)

@@ -5,3 +5,4 @@ mod Measured
 mod Places
 mod Probes
 mod Served
+mod Unfailed

@@ -1,11 +1,12 @@
 -- What is kept to probe, as it is made for so many nodes.
-use Rattle.std.proofs.Common.{◌≡◌, ℕ, zero, suc, ◌+◌, ◌-◌, ◌≤◌, List, [], ◌∷◌, ◌++◌, length, replicate, sym, subst, arith}
+use Rattle.std.proofs.Common.{◌≡◌, ℕ, zero, suc, ◌+◌, ◌-◌, ◌≤◌, List, [], ◌∷◌, ◌++◌, length, replicate, ap₂, sym, subst, arith}
 use Rattle.std.proofs.lemmas.List.{length-replicate}
 use Rattle.std.specs.List.{AllByRecursion}
 use Rattle.oc_base.specs.Lawful.{IsNode}
 use Rattle.oc_probe.specs.Turns.{RotationView, ids, others}
 use Rattle.oc_probe.specs.declared.probing.Probing.{Probing}
 use Rattle.oc_serve.specs.Turns.{IsMadeFor}
+use Rattle.oc_service.specs.Runs.{first_probing}
 
 -- what holds of each of two lists
 all_append : {A : Type 0} (P : A → Type 0) (xs ys : List A) → AllByRecursion P xs → AllByRecursion P ys → AllByRecursion P (xs ++ ys)
@@ -27,3 +28,10 @@ made_for me nodes p is gauge rotation = record {
   rates = subst (λ (g : List (List ℕ)). length g ≡ nodes) (sym gauge) (length-replicate nodes []);
   peers = subst (λ (r : RotationView). AllByRecursion (IsNode nodes) r.coming) (sym rotation) (all_others me nodes is);
 }
+
+abbrev probing_of : List (List ℕ) → RotationView → Probing
+probing_of gauge rotation = record { gauge = gauge; rotation = rotation }
+
+-- and it is what a node begins with
+pub first_is : (me nodes : ℕ) (p : Probing) → p.gauge ≡ replicate nodes [] → p.rotation ≡ record { me = me; nodes = nodes; coming = others me nodes } → p ≡ first_probing me nodes
+first_is me nodes p gauge rotation = ap₂ probing_of gauge rotation

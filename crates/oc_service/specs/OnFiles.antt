@@ -1,18 +1,20 @@
 -- What a run of a node does to its three files, its output, its link and its clock.
 use Rattle.std.specs.Prelude.{◌≡◌, ℕ, Bool, List, []}
+use Rattle.oc_answer.specs.Hearing.{terms_of}
 use Rattle.oc_config.specs.Settings.{Settings}
 use Rattle.oc_keep.specs.Files.{Disks, AllGoOn, AreHonest, Leaves, OneRose, SameAsEither, Survives}
 use Rattle.oc_keep.specs.KeptView.{header}
 use Rattle.oc_keep.specs.Promises.{LoadsSafely, RefusesNode}
 use Rattle.oc_keep.specs.Trials.{after_inputs, first_node}
+use Rattle.oc_keep.specs.declared.errors.KeepLoad.TheVariants as loads
 use Rattle.oc_model.specs.Node.{Header, Node}
 use Rattle.oc_model.specs.Step.{step}
 use Rattle.oc_model.specs.declared.message.Message.{Message}
 use Rattle.oc_io.specs.DiskView.{DiskView}
-use Rattle.oc_io.specs.Faults.{Rose}
+use Rattle.oc_io.specs.Faults.{NoFall, Rose}
 use Rattle.oc_outside.specs.LinkCalls.{CountsListening, LinkFaults}
 use Rattle.oc_serve.specs.Sending.{setting_of}
-use Rattle.oc_service.specs.Runs.{IsRun}
+use Rattle.oc_service.specs.Runs.{IsRun, ServesRun}
 use Rattle.oc_service.specs.declared.starting.NodeEnd.{NodeEnd}
 use Rattle.oc_service.specs.declared.starting.NodeEnd.TheVariants.{Load, Turned}
 use Rattle.oc_turn.specs.Deeds.{Deed, DoAll, Idle, Noting, Outside, Taking, Under, deeds_text, inputs_of, sight_of, under_line}
@@ -24,17 +26,20 @@ use Rattle.oc_turn.specs.declared.ends.TurnEnd.TheVariants as ends
 abbrev pub header_of_settings : ℕ → Settings → Header
 header_of_settings nodes c = header nodes c.chain c.areas
 
--- The deeds were done by the node that the files recovered: the link and the clock are as they leave them, and every crash leaves the node
--- behind them. Its link waited at its address, and nothing was to be sent at first.
-pub record DidOnFiles {D : Type 0} (view : D → DiskView) (h : Header) (me : ℕ) (addresses : List (List ℕ)) (deeds : List Deed) (old new : Disks D) (before out : Outside) : Type 0 where
+-- The deeds were done by the node that the files recovered: the link and the clock are as they leave them, every crash leaves the node
+-- behind them, and so it answered the connections that came. Its link waited at its address, and nothing was to be sent at first.
+pub record DidOnFiles {D : Type 0} (view : D → DiskView) (c : Settings) (nodes me : ℕ) (probes : Bool) (turns : ℕ) (deeds : List Deed) (old new : Disks D) (before out : Outside) : Type 0 where
   pub goes_on : AllGoOn view old new
   pub listened : LinkFaults
   pub counts : CountsListening before.faults listened
   pub node : Node
   pub last : List Message
   pub done : AreHonest view old
-      → DoAll (setting_of me h.nodes addresses) deeds (sight_of (first_node view h me old) [] (record before { faults = listened })) (sight_of node last out)
-  pub survives : AreHonest view old → Survives view h me new node
+      → DoAll (setting_of me nodes c.addresses) deeds (sight_of (first_node view (header_of_settings nodes c) me old) [] (record before { faults = listened })) (sight_of node last out)
+  pub answered : AreHonest view old
+      → ServesRun (setting_of me nodes c.addresses) (terms_of me nodes c.rules) c.measures probes turns deeds
+      (sight_of (first_node view (header_of_settings nodes c) me old) [] (record before { faults = listened })) (sight_of node last out)
+  pub survives : AreHonest view old → Survives view (header_of_settings nodes c) me new node
 
 -- what every crash leaves where it ended so with this under way: where a disk or the output failed, perhaps with one input more
 abbrev pub LeavesOne : {D : Type 0} → (D → DiskView) → Header → ℕ → Disks D → Node → Under → Type 0
@@ -73,8 +78,16 @@ abbrev pub NodeEnds : {D K : Type 0} → (D → DiskView) → (K → List ℕ �
 NodeEnds view takes fails count c nodes me probes turns (Load error) old new sink after before out =
     RefusesNode view nodes old new error × LoadsSafely view (header_of_settings nodes c) me old new × (after ≡ sink) × (out ≡ before)
 NodeEnds view takes fails count c nodes me probes turns (Turned ends.Served) old new sink after before out =
-    (deeds : List Deed) × IsRun me c.measures probes turns deeds × takes sink (deeds_text me deeds) after
-    × DidOnFiles view (header_of_settings nodes c) me c.addresses deeds old new before out
+    (deeds : List Deed) × IsRun me nodes c.measures probes turns deeds × takes sink (deeds_text me deeds) after × NoFall (count sink) (count after)
+    × DidOnFiles view c nodes me probes turns deeds old new before out
 NodeEnds view takes fails count c nodes me probes turns (Turned end) old new sink after before out =
     (deeds : List Deed) × (under : Under) × Writes takes fails count end (deeds_text me deeds) (under_line me under) sink after
     × StopsOnFiles view (header_of_settings nodes c) me end deeds under old new before out
+
+-- all turns were served, or memory ran out, or a file was full
+abbrev pub EndsUnfailed : NodeEnd → Type 0
+EndsUnfailed (Load error) = error ≡ loads.Memory
+EndsUnfailed (Turned ends.Served) = Unit {0}
+EndsUnfailed (Turned ends.Full) = Unit {0}
+EndsUnfailed (Turned ends.Memory) = Unit {0}
+EndsUnfailed (Turned end) = ⊥

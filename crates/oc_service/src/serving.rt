@@ -9,7 +9,7 @@ ghost use Rattle.oc_outside.specs.LinkCalls.{CountsListening};
 ghost use Rattle.oc_policy.specs.declared.deciding.TheConstants.{MAX_RULES as MOST_RULES};
 ghost use Rattle.oc_serve.specs.Sending.{IsPlaced};
 ghost use Rattle.oc_serve.specs.Turns.{IsMadeFor};
-ghost use Rattle.oc_service.specs.Runs.{IsRun, Ran, ServesSo};
+ghost use Rattle.oc_service.specs.Runs.{IsRun, Ran, ServesSo, first_probing};
 ghost use Rattle.oc_turn.specs.Deeds.{Deed, outside_of};
 ghost use Rattle.oc_turn.specs.Scenes.{Stopped, scene};
 
@@ -42,8 +42,8 @@ pub(crate) fn run_loaded<D: Disk, L: Link, C: Clock, K: Sink>(
     requires placed { IsPlaced kept.old.node.control.nodes config.now.addresses }
     requires rules { length config.now.rules ≤ MOST_RULES }
     requires measures { All (IsMeasure kept.old.node.control.nodes) config.now.measures }
-    ensures did { OnOk result ((deeds : List Deed) × IsRun kept.old.node.control.me config.now.measures probes turns deeds
-        × Ran D.view K.takes K.faults config.now.addresses deeds kept.old kept.new sink.old sink.new
+    ensures did { OnOk result ((deeds : List Deed) × IsRun kept.old.node.control.me kept.old.node.control.nodes config.now.measures probes turns deeds
+        × Ran D.view K.takes K.faults config.now probes turns deeds kept.old kept.new sink.old sink.new
         (outside_of (L.story link.old) (L.faults link.old) (C.seconds clock.old) (C.milliseconds clock.old))
         (outside_of (L.story link.new) (L.faults link.new) (C.seconds clock.new) (C.milliseconds clock.new))) }
     ensures stops { IfErr result (λ end. Stopped D.view K.takes K.fails K.faults (Rose (L.faults link.old).listening (L.faults link.new).listening) end kept.old kept.new sink.old sink.new) }
@@ -125,7 +125,7 @@ fn serve_so<D: Disk, L: Link, C: Clock, K: Sink>(
     requires open { kept.old.closed ≡ false }
     requires placed { IsPlaced kept.old.node.control.nodes config.now.addresses }
     requires rules { length config.now.rules ≤ MOST_RULES }
-    ensures did { OnOk result (ServesSo D.view K.takes K.faults config.now.addresses probes turns
+    ensures did { OnOk result (ServesSo D.view K.takes K.faults config.now probes turns
         (scene kept.old outbox.old sink.old (outside_of (L.story link.old) (L.faults link.old) (C.seconds clock.old) (C.milliseconds clock.old)))
         (scene kept.new outbox.new sink.new (outside_of (L.story link.new) (L.faults link.new) (C.seconds clock.new) (C.milliseconds clock.new)))) }
     ensures stops { IfErr result (λ end. Stopped D.view K.takes K.fails K.faults (Rose (L.faults link.old).listening (L.faults link.new).listening) end kept.old kept.new sink.old sink.new) }
@@ -153,7 +153,7 @@ fn serve_probing<D: Disk, L: Link, C: Clock, K: Sink>(
     requires open { kept.old.closed ≡ false }
     requires placed { IsPlaced kept.old.node.control.nodes config.now.addresses }
     requires rules { length config.now.rules ≤ MOST_RULES }
-    ensures did { OnOk result (ServesSo D.view K.takes K.faults config.now.addresses true turns
+    ensures did { OnOk result (ServesSo D.view K.takes K.faults config.now true turns
         (scene kept.old outbox.old sink.old (outside_of (L.story link.old) (L.faults link.old) (C.seconds clock.old) (C.milliseconds clock.old)))
         (scene kept.new outbox.new sink.new (outside_of (L.story link.new) (L.faults link.new) (C.seconds clock.new) (C.milliseconds clock.new)))) }
     ensures stops { IfErr result (λ end. Stopped D.view K.takes K.fails K.faults (Rose (L.faults link.old).listening (L.faults link.new).listening) end kept.old kept.new sink.old sink.new) }
@@ -173,6 +173,7 @@ fn serve_probing<D: Disk, L: Link, C: Clock, K: Sink>(
 
 /// What the node keeps to probe its peers.
 fn probing_for<D: Disk>(alloc: Global, kept: &Kept<D>) -> Result<Probing, TurnEnd>
+    ensures first { IfOk result (λ probing. probing ≡ first_probing kept.now.node.control.me kept.now.node.control.nodes) }
     ensures made { IfOk result (IsMadeFor kept.now.node.control.nodes) }
     ensures memory { IfErr result (λ end. end ≡ TurnEnd.Memory) }
     ensures survives { kept.now.closed ≡ false → IsHonest D.view kept.now → NodeSurvives D.view kept.now (node_of kept.now) }
@@ -196,7 +197,7 @@ fn serve_plain<D: Disk, L: Link, C: Clock, K: Sink>(
     requires open { kept.old.closed ≡ false }
     requires placed { IsPlaced kept.old.node.control.nodes config.now.addresses }
     requires rules { length config.now.rules ≤ MOST_RULES }
-    ensures did { OnOk result (ServesSo D.view K.takes K.faults config.now.addresses false turns
+    ensures did { OnOk result (ServesSo D.view K.takes K.faults config.now false turns
         (scene kept.old outbox.old sink.old (outside_of (L.story link.old) (L.faults link.old) (C.seconds clock.old) (C.milliseconds clock.old)))
         (scene kept.new outbox.new sink.new (outside_of (L.story link.new) (L.faults link.new) (C.seconds clock.new) (C.milliseconds clock.new)))) }
     ensures stops { IfErr result (λ end. Stopped D.view K.takes K.fails K.faults (Rose (L.faults link.old).listening (L.faults link.new).listening) end kept.old kept.new sink.old sink.new) }

@@ -5,11 +5,13 @@ ghost use Rattle.std.specs.List.{AllByRecursion};
 ghost use Rattle.oc_base.specs.Lawful.{IsNode};
 ghost use Rattle.oc_base.specs.declared.limits.TheConstants.{MAX_AREA, MAX_NODES};
 ghost use Rattle.oc_config.specs.Reading.{IsConfig};
-ghost use Rattle.oc_keep.specs.Files.{AllGoOn, disks};
+ghost use Rattle.oc_io.specs.Faults.{Rose};
+ghost use Rattle.oc_keep.specs.Files.{AllGoOn, AreHonest, OneRose, disks};
+ghost use Rattle.oc_keep.specs.Promises.{HoldFiles};
 ghost use Rattle.oc_measure.specs.MeasureLines.{IsMeasure};
 ghost use Rattle.oc_policy.specs.declared.deciding.TheConstants.{MAX_RULES as MOST_RULES};
 ghost use Rattle.oc_serve.specs.Sending.{IsPlaced};
-ghost use Rattle.oc_service.specs.OnFiles.{NodeEnds};
+ghost use Rattle.oc_service.specs.OnFiles.{EndsUnfailed, NodeEnds};
 ghost use Rattle.oc_service.specs.Runs.{RunEnds};
 ghost use Rattle.oc_turn.specs.Deeds.{outside_of};
 
@@ -67,6 +69,15 @@ pub fn run_node<D: Disk, L: Link, C: Clock, K: Sink>(
         (disks control.old alternate.old content.old) (disks control.new alternate.new content.new) sink.old sink.new
         (outside_of (L.story link.old) (L.faults link.old) (C.seconds clock.old) (C.milliseconds clock.old))
         (outside_of (L.story link.new) (L.faults link.new) (C.seconds clock.new) (C.milliseconds clock.new)) }
+
+    // Over the files of a node on honest disks, where neither a disk nor the output fails, nor the link in
+    // waiting for connections, all turns are served, unless there is no memory or a file is full.
+    ensures unfailed { AreHonest D.view (disks control.old alternate.old content.old)
+        → HoldFiles D.view (length config.now.addresses) (disks control.old alternate.old content.old)
+        → (OneRose D.view (disks control.old alternate.old content.old) (disks control.new alternate.new content.new) → ⊥)
+        → (Rose (L.faults link.old).listening (L.faults link.new).listening → ⊥)
+        → (Rose (K.faults sink.old) (K.faults sink.new) → ⊥)
+        → EndsUnfailed result }
 {
     let Left {
         control,
@@ -209,7 +220,7 @@ fn run_to_end<D: Disk, L: Link, C: Clock, K: Sink>(
     requires placed { IsPlaced kept.old.node.control.nodes config.now.addresses }
     requires rules { length config.now.rules ≤ MOST_RULES }
     requires measures { All (IsMeasure kept.old.node.control.nodes) config.now.measures }
-    ensures ends { RunEnds D.view K.takes K.fails K.faults config.now.addresses config.now.measures probes turns result
+    ensures ends { RunEnds D.view K.takes K.fails K.faults config.now probes turns result
         kept.old kept.new sink.old sink.new
         (outside_of (L.story link.old) (L.faults link.old) (C.seconds clock.old) (C.milliseconds clock.old))
         (outside_of (L.story link.new) (L.faults link.new) (C.seconds clock.new) (C.milliseconds clock.new)) }

@@ -62,7 +62,7 @@ returns-clause-did g c =
     (subst (λ (box : List Message). Did g.D.Disk.view g.K.Sink.takes g.K.Sink.faults a.config.now.addresses (measured a.kept.now.node.control.me c.deref.result.now) (scene a.kept.now box a.sink.now out) (scene t.kept t.outbox t.sink out)) c.in_ok-outbox.ensures.empty
     (c.in_ok-take_measures.ensures.did a.config.now.addresses out)) in
     both_then c.serve_so.result (λ serves survives.
-    ran g.D.Disk.view g.K.Sink.takes g.K.Sink.fails g.K.Sink.faults a.config.now.addresses g.met.K.Sink.takes_then a.config.now.measures a.probes a.turns a.kept.now t.kept s.kept t.outbox s.outbox a.sink.now t.sink s.sink
+    ran g.D.Disk.view g.K.Sink.takes g.K.Sink.fails g.K.Sink.faults a.config.now g.met.K.Sink.takes_then a.probes a.turns a.kept.now t.kept s.kept t.outbox s.outbox a.sink.now t.sink s.sink
     (story a.link.now) (story c.wait.new.link) (faults a.link.now) (faults c.wait.new.link) (seconds a.clock.now) (millis a.clock.now) (outside_of (story s.link) (faults s.link) (seconds s.clock) (millis s.clock))
     c.in_ok-wait.ensures.waits c.wait.ensures.count took serves survives) c.serve_so.ensures.did c.serve_so.ensures.survives
 

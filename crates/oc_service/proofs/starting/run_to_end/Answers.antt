@@ -11,6 +11,6 @@ returns-in-Err g c =
     let seconds = g.C.Clock.seconds in
     let millis = g.C.Clock.milliseconds in
     record {
-      ends = stopped_running g.D.Disk.view g.K.Sink.takes g.K.Sink.fails g.K.Sink.faults a.config.now.addresses a.config.now.measures a.probes a.turns c.in-Err.end a.kept.now t.kept a.sink.now t.sink
+      ends = stopped_running g.D.Disk.view g.K.Sink.takes g.K.Sink.fails g.K.Sink.faults a.config.now a.probes a.turns c.in-Err.end a.kept.now t.kept a.sink.now t.sink
           (outside_of (story a.link.now) (faults a.link.now) (seconds a.clock.now) (millis a.clock.now)) (outside_of (story t.link) (faults t.link) (seconds t.clock) (millis t.clock)) c.in-Err.ensures.stops;
     }

@@ -8,3 +8,4 @@ mod Completes
 mod Gotten
 mod Noded
 mod Works
+mod Serves

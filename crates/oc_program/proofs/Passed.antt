@@ -147,7 +147,7 @@ module _ {W : Type 0} (old new : WriterSink W) (contents : W → Option (List �
 
   pub output_told : TellsOutput (at_sink (writers.Went contents) (writers.WentAndFailed contents) (λ s. s.faults) old new) (at_output traffic)
   output_told = record {
-    written = λ text h. was_written text h.passed;
+    written = λ text h. (was_written text h.passed, faults_are ∙ h.faults ∙ sound);
     cut_off = λ text h. (was_written text h.0.passed, has_failed h.1);
   }
 

@@ -1,7 +1,13 @@
 -- What had happened at each end of `node`.
-use Rattle.std.specs.Prelude.{◌≡◌, ℕ, Option, Some, None, Result, Ok, Err, List, [], ◌++◌, length, ⊤}
+use Rattle.std.specs.Prelude.{◌≡◌, ℕ, ◌<◌, ◌⊎◌, Option, Some, None, Result, Ok, Err, List, [], ◌++◌, length, ⊤}
 use Rattle.oc_base.specs.Lawful.{IsNode}
+use Rattle.oc_base.specs.declared.limits.TheConstants.{MAX_SCHEDULE_BYTES}
+use Rattle.oc_config.specs.Reading.{settings_of}
 use Rattle.oc_config.specs.Settings.{Settings}
+use Rattle.oc_config.specs.declared.fault.ConfigFault.{ConfigFault}
+use Rattle.oc_io.specs.DiskView.{DiskView}
+use Rattle.oc_keep.specs.Files.{Disks}
+use Rattle.oc_keep.specs.Promises.{HoldFiles}
 use Rattle.oc_model.specs.Node.{Header}
 use Rattle.oc_outside.specs.LinkCalls.{IsFront}
 use Rattle.oc_service.specs.OnFiles.{header_of_settings}
@@ -13,6 +19,7 @@ use Rattle.oc_turn.specs.declared.ends.TurnEnd.{TurnEnd}
 use Rattle.oc_turn.specs.declared.ends.TurnEnd.TheVariants as ends
 use Rattle.oc_words.specs.declared.request.Service.{Service}
 use Rattle.oc_program.specs.AtConfig.{ReadsConfig}
+use Rattle.oc_program.specs.AtRules.{status_of_settings}
 use Rattle.oc_program.specs.Outside.{Input, OnFiles, OnNode, Output}
 use Rattle.oc_program.specs.declared.serving.ServiceEnd.{ServiceEnd}
 use Rattle.oc_program.specs.declared.serving.ServiceEnd.TheVariants.{Config, Stranger, Ran}
@@ -36,7 +43,7 @@ abbrev pub RunsNode : OnFiles → OnNode → Output → Settings → Service →
 RunsNode files node output s v (Load error) =
     files.are_refused (length s.addresses) error × files.load_safely (header_of s) v.id × output.written [] × node.idle
 RunsNode files node output s v (Turned ends.Served) =
-    (deeds : List Deed) × IsRun v.id s.measures v.probes v.turns deeds × output.written (deeds_text v.id deeds) × node.did (header_of s) v.id s.addresses deeds
+    (deeds : List Deed) × IsRun v.id (length s.addresses) s.measures v.probes v.turns deeds × output.written (deeds_text v.id deeds) × node.did s v.id v.probes v.turns deeds
 RunsNode files node output s v (Turned end) =
     (deeds : List Deed) × (under : Under) × WritesDeeds output v.id end deeds under × node.stopped (header_of s) v.id end deeds under
 
@@ -60,3 +67,22 @@ UnlessRan end so = so
 abbrev pub IsMemberOf : ℕ → ℕ → Option ℕ → Type 0
 IsMemberOf nodes id (Some me) = IsNode nodes id × (me ≡ id)
 IsMemberOf nodes id None = IsNode nodes id → ⊥
+
+-- ---- which status has to come
+
+-- Of a configuration that has no node of this id the status is 3. Where it has, over the files of a node it is 0, or 5 where a file is
+-- full.
+abbrev pub IsStatusOver : {D : Type 0} → (D → DiskView) → Disks D → Settings → Service → ℕ → Type 0
+IsStatusOver view d s v status =
+    ((HasNode s v → ⊥) × (status ≡ 3)) ⊎ (HasNode s v × (HoldFiles view (length s.addresses) d → (status ≡ 0) ⊎ (status ≡ 5)))
+
+-- the status of what a text says
+abbrev pub IsStatusOf : {D : Type 0} → (D → DiskView) → Disks D → Service → Result Settings ConfigFault → ℕ → Type 0
+IsStatusOf view d v (Ok s) status = IsStatusOver view d s v status
+IsStatusOf view d v (Err fault) status = status ≡ status_of_settings (Err fault)
+
+-- these bytes came, which are all that the input had; or more came than a configuration may have
+pub record HasServiceStatus {S D : Type 0} (gives : S → List ℕ → S → Type 0) (ended : S → Type 0) (view : D → DiskView) (d : Disks D) (v : Service) (old new : S) (status : ℕ) : Type 0 where
+  pub bytes : List ℕ
+  pub came : gives old bytes new
+  pub status_is : (ended new × IsStatusOf view d v (settings_of bytes) status) ⊎ ((MAX_SCHEDULE_BYTES < length bytes) × (status ≡ 5))

@@ -3,6 +3,7 @@
 use Rattle.std.specs.Prelude.{◌≡◌, ℕ, ◌<◌, Bool, Option, Result, List, length}
 use Rattle.oc_base.specs.declared.limits.TheConstants.{MAX_SCHEDULE_BYTES}
 use Rattle.oc_check.specs.Checks.{Shows}
+use Rattle.oc_config.specs.Settings.{Settings}
 use Rattle.oc_fetch.specs.Completeness.{Completes}
 use Rattle.oc_fetch.specs.Turns.{Makes, Turn}
 use Rattle.oc_fetch.specs.declared.end.GetEnd.{GetEnd}
@@ -91,8 +92,9 @@ pub record OnClock : Type 1 where
 
 -- of a node that runs on the files, the link and the clock
 pub record OnNode : Type 1 where
-  -- the node that the files recovered, of this header and this id, did these deeds at these addresses, and every crash leaves it behind them
-  pub did : Header → ℕ → List (List ℕ) → List Deed → Type 0
+  -- the node that the files recovered, which this configuration has under this id, did these deeds, with probes or without, in so many
+  -- turns, in which it answered the connections that came, and every crash leaves it behind them
+  pub did : Settings → ℕ → Bool → ℕ → List Deed → Type 0
   -- behind these deeds it ended so, perhaps with one more input under way
   pub stopped : Header → ℕ → TurnEnd → List Deed → Under → Type 0
   -- nothing was done on the link and the clock
@@ -167,7 +169,7 @@ seen story faults seconds millis link clock = record { story = story link; fault
 module _ {D : Type 0} (view : D → DiskView) where
   abbrev pub at_node : Disks D → Disks D → deeds.Outside → deeds.Outside → OnNode
   at_node old new before out = record {
-    did = λ h me addresses ds. DidOnFiles view h me addresses ds old new before out;
+    did = λ s me probes turns ds. DidOnFiles view s (length s.addresses) me probes turns ds old new before out;
     stopped = λ h me end ds under. StopsOnFiles view h me end ds under old new before out;
     idle = out ≡ before;
   }

@@ -51,10 +51,10 @@ at_input traffic = record {
   unread = (traffic.bytes ≡ 0) × (traffic.faults ≡ 0);
 }
 
--- as many bytes were written as this text has
+-- as many bytes were written as this text has, and no call failed; or they were, and then one did
 abbrev pub at_output : Traffic → Output
 at_output traffic = record {
-  written = λ text. IsCountOf traffic text;
+  written = λ text. IsCountOf traffic text × (traffic.faults ≡ 0);
   cut_off = λ text. IsCountOf traffic text × HasFailed traffic;
 }
 

@@ -4,6 +4,7 @@ ghost use Rattle.std.specs.Prelude.{◌≡◌, ◌≢◌, ℕ, Bool, ◌⊎◌, 
 ghost use Rattle.oc_keep.specs.Files.{AreHonest, OneRose, disks};
 ghost use Rattle.oc_keep.specs.Promises.{HoldFiles};
 ghost use Rattle.oc_io.specs.Faults.{NoFall, Rose};
+ghost use Rattle.oc_program.specs.AtNode.{HasServiceStatus};
 ghost use Rattle.oc_program.specs.AtReplay.{HasStatus};
 ghost use Rattle.oc_program.specs.AtRules.{HasConfigStatus};
 ghost use Rattle.oc_program.specs.Complete.{IsDoneOrMemory, IsServed, once};
@@ -15,6 +16,7 @@ ghost use Rattle.oc_program.specs.Status.{number_of};
 ghost use Rattle.oc_words.specs.Words.{IsPlain, asked, texts_of};
 ghost use Rattle.oc_words.specs.declared.request.Member.{Member};
 ghost use Rattle.oc_words.specs.declared.request.Sample.{Sample};
+ghost use Rattle.oc_words.specs.declared.request.Service.{Service};
 
 use crate::checking::check_files;
 use crate::ending::End;
@@ -105,9 +107,25 @@ pub fn run<S: Source, K: Sink, E: Sink, T: Stage, D: Disk, L: Link, C: Clock>(
         → (Rose (K.faults out.old) (K.faults out.new) → ⊥)
         → IsDoneOrMemory result }
 
+    // Where nothing fails that `node` names in its status, and it runs on honest disks: its status is that of
+    // what its configuration says, and over the files of a node it is done, or a file is full, or memory is
+    // wanting.
+    ensures served { (service : Service) → asked (texts_of words.now) ≡ Some (Request.Node service)
+        → AreHonest D.view (disks control_a.old control_b.old content.old)
+        → (OneRose D.view (disks control_a.old control_b.old content.old) (disks control_a.new control_b.new content.new) → ⊥)
+        → (Rose (L.faults link.old).listening (L.faults link.new).listening → ⊥)
+        → (Rose (S.faults input.old) (S.faults input.new) → ⊥)
+        → (Rose (K.faults out.old) (K.faults out.new) → ⊥)
+        → HasServiceStatus S.gives S.ended D.view (disks control_a.old control_b.old content.old) service input.old input.new result
+        ⊎ (result ≡ 4) }
+
     ensures input_count { NoFall (S.faults input.old) (S.faults input.new) }
-    ensures output_count { IsNoNode (asked (texts_of words.now)) → NoFall (K.faults out.old) (K.faults out.new) }
     ensures error_count { NoFall (E.faults err.old) (E.faults err.new) }
+
+    // The output's count of faults never falls where the work is done, nor where the words ask for no node. Of a
+    // node that ends before, `serve` tells nothing of it.
+    ensures output_count { IsNoNode (asked (texts_of words.now)) → NoFall (K.faults out.old) (K.faults out.new) }
+    ensures done_count { result ≡ 0 → NoFall (K.faults out.old) (K.faults out.new) }
 {
     let end = perform(
         alloc, words, input, out, stage, control_a, control_b, content, link, clock,
@@ -145,6 +163,7 @@ fn perform<S: Source, K: Sink, T: Stage, D: Disk, L: Link, C: Clock>(
     ensures misused { asked (texts_of words.now) ≡ None → (result ≡ End.Misused) ⊎ (result ≡ End.NoMemory) }
     ensures input_count { NoFall (S.faults input.old) (S.faults input.new) }
     ensures output_count { IsNoNode (asked (texts_of words.now)) → NoFall (K.faults out.old) (K.faults out.new) }
+    ensures done_count { number_of (status_of result) ≡ 0 → NoFall (K.faults out.old) (K.faults out.new) }
 {
     match read_words(alloc, words) {
         Ok(Request::Replay { summary }) => {

@@ -4,7 +4,9 @@ ghost use Rattle.oc_config.specs.Reading.{IsConfig};
 ghost use Rattle.oc_keep.specs.Files.{disks};
 ghost use Rattle.oc_io.specs.Faults.{NoFall};
 ghost use Rattle.oc_program.specs.AtNode.{HappenedAtNode, IsMemberOf, RunsService, UnlessRan};
+ghost use Rattle.oc_program.specs.Ends.{status_of_service};
 ghost use Rattle.oc_program.specs.Outside.{at_files, at_node, at_sink, at_source, seen};
+ghost use Rattle.oc_program.specs.Status.{number_of};
 
 use crate::configuring::{ConfigEnd, read_config};
 use oc_base::NodeId;
@@ -50,6 +52,7 @@ pub(crate) fn run_service<S: Source, K: Sink, D: Disk, L: Link, C: Clock>(
     ensures link { UnlessRan result (link.new ≡ link.old) }
     ensures clock { UnlessRan result (clock.new ≡ clock.old) }
     ensures input_count { NoFall (S.faults input.old) (S.faults input.new) }
+    ensures done_count { number_of (status_of_service result) ≡ 0 → NoFall (K.faults out.old) (K.faults out.new) }
 {
     match read_config(alloc, input) {
         Ok(config) => serve_config(
@@ -82,6 +85,7 @@ fn serve_config<K: Sink, D: Disk, L: Link, C: Clock>(
     ensures files { UnlessRan result (disks control_a.new control_b.new content.new ≡ disks control_a.old control_b.old content.old) }
     ensures link { UnlessRan result (link.new ≡ link.old) }
     ensures clock { UnlessRan result (clock.new ≡ clock.old) }
+    ensures done_count { number_of (status_of_service result) ≡ 0 → NoFall (K.faults out.old) (K.faults out.new) }
 {
     match member_of(config, service.id) {
         Some(me) => ServiceEnd::Ran(run_node(

@@ -36,7 +36,9 @@ pub struct MemoryRun {
     pub error: Vec<u8>,
 }
 
-/// [`run`] over the bytes of an input, into memory.
+/// [`run`] over the bytes of an input, into memory. A read of bytes never fails, but a [`ReaderSource`] is
+/// proved for every reader, of which its relations don't say that; so the ends at which the input failed
+/// are not excluded here.
 #[allow(clippy::too_many_arguments)]
 pub fn run_in_memory<T: Stage, D: Disk, L: Link, C: Clock>(
     alloc: Global,
@@ -108,7 +110,8 @@ pub struct StreamsRun {
 
 /// [`run`] over the standard streams. Which bytes pass there no contract can say; how many, this one
 /// does: as many were read as some text has that says what the end tells, and exactly as many were
-/// written as the text has that had to be written.
+/// written as the text has that had to be written, of `node` as many as the lines of its deeds have. Where
+/// no end blames the output, no write of it failed.
 #[allow(clippy::too_many_arguments)]
 pub fn run_on_streams<T: Stage, D: Disk, L: Link, C: Clock>(
     alloc: Global,

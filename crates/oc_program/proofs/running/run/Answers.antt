@@ -1,5 +1,6 @@
 use Rattle.std.proofs.Common.{◌≡◌, ◌⊎◌, ◌∙◌, ap, subst, sym}
 use Rattle.oc_keep.specs.Files.{disks}
+use Rattle.oc_program.specs.AtNode.{HasServiceStatus}
 use Rattle.oc_program.specs.AtReplay.{HasStatus}
 use Rattle.oc_program.specs.AtRules.{HasConfigStatus}
 use Rattle.oc_program.specs.Complete.{IsDoneOrMemory}
@@ -8,6 +9,7 @@ use Rattle.oc_program.specs.Status.{number_of}
 use Rattle.oc_words.specs.Words.{asked, texts_of}
 use Rattle.oc_words.proofs.PlainWords.{plain_asks}
 use Rattle.oc_program.proofs.Completes.{checked, fetched}
+use Rattle.oc_program.proofs.Serves.{served}
 use Rattle.oc_program.proofs.Statuses.{only_misused}
 use Rattle.oc_program.proofs.Works.{helped, listed, replayed}
 use Rattle.oc_program.proofs.running.run.Goals as goal
@@ -69,3 +71,15 @@ returns-clause-listed g c = λ asks unfailed sound.
     (at_sink g.K.Sink.takes g.K.Sink.fails g.K.Sink.faults c.args.out.now c.perform-end.new.out)
     (at_stage g.T.Stage.first g.T.Stage.after g.T.Stage.word g.T.Stage.world c.args.stage.now c.perform-end.new.stage) unfailed (λ text cut. sound cut.1)
     (asked (texts_of c.args.words.now)) _ _ _ _ c.perform-end.result asks c.perform-end.ensures.happened)
+
+pub returns-clause-served : goal.returns-clause-served
+returns-clause-served g c = λ service asks honest unfailed waiting sourced sound.
+    subst (λ n. HasServiceStatus g.S.Source.gives g.S.Source.ended g.D.Disk.view (disks c.args.control_a.now c.args.control_b.now c.args.content.now) service c.args.input.now c.perform-end.new.input n ⊎ (n ≡ 4)) (sym (c.number.ensures ∙ ap number_of c.status.ensures))
+    (served g.S.Source.gives g.S.Source.fails g.S.Source.ended g.S.Source.faults c.args.input.now c.perform-end.new.input
+    g.D.Disk.view (disks c.args.control_a.now c.args.control_b.now c.args.content.now) (disks c.perform-end.new.control_a c.perform-end.new.control_b c.perform-end.new.content)
+    (seen g.L.Link.story g.L.Link.faults g.C.Clock.seconds g.C.Clock.milliseconds c.args.link.now c.args.clock.now) (seen g.L.Link.story g.L.Link.faults g.C.Clock.seconds g.C.Clock.milliseconds c.perform-end.new.link c.perform-end.new.clock)
+    (at_sink g.K.Sink.takes g.K.Sink.fails g.K.Sink.faults c.args.out.now c.perform-end.new.out) honest unfailed waiting sourced (λ text cut. sound cut.1)
+    _ _ _ (asked (texts_of c.args.words.now)) service c.perform-end.result asks c.perform-end.ensures.happened)
+
+pub returns-clause-done_count : goal.returns-clause-done_count
+returns-clause-done_count g c = λ is. c.perform-end.ensures.done_count (sym (c.number.ensures ∙ ap number_of c.status.ensures) ∙ is)

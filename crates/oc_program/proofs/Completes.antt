@@ -1,5 +1,5 @@
 -- What had happened leaves no other end to a command that has what it needs.
-use Rattle.std.proofs.Common.{◌≡◌, ◌∙◌, ℕ, ◌⊎◌, inl, inr, refl, sym, subst, ap, List, Option, Some, None}
+use Rattle.std.proofs.Common.{◌≡◌, ℕ, inl, inr, refl, subst, ap, List, Option, Some}
 use Rattle.oc_check.proofs.Complete.{only_memory}
 use Rattle.oc_fetch.specs.Completeness.{Completes, IsUnrefused}
 use Rattle.oc_fetch.specs.declared.end.GetEnd.{GetEnd}
@@ -18,7 +18,7 @@ use Rattle.oc_program.specs.AtGet.{HappenedAtGet}
 use Rattle.oc_program.specs.AtCheck.{HappenedAtCheck}
 use Rattle.oc_program.specs.Complete.{IsDoneOrMemory, IsServed, once}
 use Rattle.oc_program.specs.Ends.{status_of, status_of_check, status_of_get, status_of_load}
-use Rattle.oc_program.specs.Outside.{Input, OnClock, OnFiles, OnLink, OnNode, OnStage, Outside, Output, at_files, at_link}
+use Rattle.oc_program.specs.Outside.{Input, OnClock, OnFiles, OnLink, OnNode, OnStage, Output, at_files, at_link}
 use Rattle.oc_program.specs.Run.{Happened}
 use Rattle.oc_program.specs.Status.{number_of}
 use Rattle.oc_program.specs.declared.checking.CheckEnd.{CheckEnd}

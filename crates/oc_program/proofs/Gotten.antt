@@ -3,7 +3,6 @@ use Rattle.std.proofs.Common.{◌≡◌, ℕ, Option, Some, None, List, refl, su
 use Rattle.oc_fetch.specs.Addresses.{IsAddressOf, IsBadAddress}
 use Rattle.oc_fetch.specs.Downloads.{Downloads, IsUnasked, content_of, news_of}
 use Rattle.oc_fetch.specs.Passing.{IsTalked, Sent}
-use Rattle.oc_fetch.specs.Turns.{Turn}
 use Rattle.oc_fetch.specs.declared.end.GetEnd.{GetEnd}
 use Rattle.oc_fetch.specs.declared.end.GetEnd.TheVariants as gets
 use Rattle.oc_io.specs.Faults.{Rose}
@@ -11,7 +10,7 @@ use Rattle.oc_outside.specs.LinkCalls.{LinkFaults}
 use Rattle.oc_outside.specs.Story.{Story}
 use Rattle.oc_words.specs.declared.request.Download.{Download}
 use Rattle.oc_program.specs.AtGet.{Blames, CompletesOnce, HappenedAtGet, Wrote, replies_for, wish_for}
-use Rattle.oc_program.specs.Outside.{OnLink, Output, at_link, at_sink}
+use Rattle.oc_program.specs.Outside.{OnLink, at_link, at_sink}
 use Rattle.url.specs.Parts.{Parts}
 
 module _ {K : Type 0} (takes fails : K → List ℕ → K → Type 0) (count : K → ℕ) (old new : K) where

@@ -19,7 +19,7 @@ use Rattle.oc_schedule.specs.declared.fault.What.{What}
 use Rattle.oc_schedule.specs.declared.fault.What.TheVariants as limits
 use Rattle.oc_program.specs.Outside.{at_sink, at_source}
 use Rattle.oc_program.specs.Run.{IsWrittenOrCut}
-use Rattle.oc_program.specs.Streams.{HasFailed, IsCountOf, IsCountOfLineOrFront, IsLineOrFront, at_bytes, at_input, at_output, at_text}
+use Rattle.oc_program.specs.Streams.{HasFailed, IsCountOf, IsCountOfLineOrFront, IsLineOrFront, IsSoundCountOf, at_bytes, at_input, at_output, at_text}
 use Rattle.oc_program.proofs.Told.{TellsInput, TellsOutput}
 
 -- a counter that began at 0 and is a u64 is the number of the bytes, where a u64 has it
@@ -126,14 +126,17 @@ module _ {R : Type 0} (old new : ReaderSource R) (remaining : R → Option (List
   was_read : (bytes : List ℕ) → readers.Passed remaining old bytes new → IsCountOf traffic bytes
   was_read bytes p = count_is old.passed (length bytes) traffic.bytes began fits (subst (λ n. Rises old.passed (length bytes) n) (sym bytes_are) p.counts)
 
+  all_came : (bytes : List ℕ) → readers.Came remaining old bytes new → IsSoundCountOf traffic bytes
+  all_came bytes h = (was_read bytes h.passed, faults_are ∙ h.faults ∙ sound)
+
   pub input_told : TellsInput (at_source (readers.Came remaining) (readers.CameAndFailed remaining) (readers.HasEnded remaining) (λ s. s.faults) old new) (at_input traffic)
   input_told = record {
-    says = λ r h. (h.bytes, was_read h.bytes h.came.passed, h.read);
-    passes = λ what h. let (bytes, came, refused) = passing _ _ old new what h in (bytes, was_read bytes came.passed, refused);
-    whole = λ bytes h. was_read bytes h.0.passed;
-    long = λ h. let (bytes, came, more) = h in (bytes, was_read bytes came.passed, more);
+    says = λ r h. (h.bytes, all_came h.bytes h.came, h.read);
+    passes = λ what h. let (bytes, came, refused) = passing _ _ old new what h in (bytes, all_came bytes came, refused);
+    whole = λ bytes h. all_came bytes h.0;
+    long = λ h. let (bytes, came, more) = h in (bytes, all_came bytes came, more);
     failed = λ h. subst (λ n. 0 < n) (sym faults_are) (failed_since old.faults new.faults sound h.1);
-    came = λ h. (h.0, was_read h.0 h.1.passed);
+    came = λ h. (h.0, all_came h.0 h.1);
     unread = λ same. (bytes_are ∙ ap (λ s. s.passed) same ∙ began, faults_are ∙ ap (λ s. s.faults) same ∙ sound);
   }
 

@@ -16,7 +16,6 @@ use Rattle.oc_turn.specs.declared.ends.TurnEnd.TheVariants as turns
 use Rattle.oc_words.specs.declared.request.Request.{Request}
 use Rattle.oc_words.specs.declared.request.Request.TheVariants.{Node}
 use Rattle.oc_words.specs.declared.request.Service.{Service}
-use Rattle.oc_program.specs.AtConfig.{ReadsConfig}
 use Rattle.oc_program.specs.AtNode.{HappenedAtNode, HasNode, HasServiceStatus, IsStatusOf, IsStatusOver, RunsNode}
 use Rattle.oc_program.specs.Ends.{status_of, status_of_run, status_of_service}
 use Rattle.oc_program.specs.Outside.{OnClock, OnLink, OnStage, Output, at_files, at_node, at_source}

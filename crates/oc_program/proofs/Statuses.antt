@@ -10,7 +10,7 @@ use Rattle.oc_fetch.specs.declared.end.GetEnd.TheVariants as gets
 use Rattle.oc_keep.specs.declared.errors.KeepLoad.TheVariants as loads
 use Rattle.oc_words.specs.declared.request.Request.{Request}
 use Rattle.oc_words.specs.declared.request.Request.TheVariants.{Replay}
-use Rattle.oc_program.specs.Ends.{status_of, status_of_check, status_of_config, status_of_gen, status_of_get, status_of_load, status_of_replay, status_of_rules, status_of_run, status_of_service, status_of_turns}
+use Rattle.oc_program.specs.Ends.{status_of, status_of_check, status_of_gen, status_of_get, status_of_replay, status_of_rules, status_of_service, status_of_turns}
 use Rattle.oc_program.specs.Outside.{OnClock, OnFiles, OnLink, OnNode, OnStage, Outside, Output}
 use Rattle.oc_program.specs.Run.{Happened}
 use Rattle.oc_program.specs.Status.{number_of}
@@ -26,7 +26,6 @@ use Rattle.oc_program.specs.declared.listing.RulesEnd.{RulesEnd}
 use Rattle.oc_program.specs.declared.listing.RulesEnd.TheVariants as lists
 use Rattle.oc_program.specs.declared.serving.ServiceEnd.{ServiceEnd}
 use Rattle.oc_program.specs.declared.serving.ServiceEnd.TheVariants as services
-use Rattle.oc_service.specs.declared.starting.NodeEnd.{NodeEnd}
 use Rattle.oc_service.specs.declared.starting.NodeEnd.TheVariants as nodes
 use Rattle.oc_turn.specs.declared.ends.TurnEnd.{TurnEnd}
 use Rattle.oc_turn.specs.declared.ends.TurnEnd.TheVariants as turns

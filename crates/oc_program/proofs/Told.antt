@@ -37,7 +37,6 @@ use Rattle.oc_program.specs.declared.serving.ServiceEnd.{ServiceEnd}
 use Rattle.oc_program.specs.declared.serving.ServiceEnd.TheVariants as services
 use Rattle.oc_service.specs.declared.starting.NodeEnd.{NodeEnd}
 use Rattle.oc_service.specs.declared.starting.NodeEnd.TheVariants as nodes
-use Rattle.oc_turn.specs.declared.ends.TurnEnd.{TurnEnd}
 use Rattle.oc_turn.specs.declared.ends.TurnEnd.TheVariants as turns
 
 -- all that the first says of an input the second says too

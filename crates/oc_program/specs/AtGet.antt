@@ -1,5 +1,5 @@
 -- What had happened at each end of `get`.
-use Rattle.std.specs.Prelude.{◌≡◌, ℕ, Option, Some, None, List, ⊤}
+use Rattle.std.specs.Prelude.{ℕ, Option, Some, None, List, ⊤}
 use Rattle.oc_fetch.specs.Addresses.{IsAddressOf, IsBadAddress}
 use Rattle.oc_fetch.specs.Downloads.{Downloads, IsUnasked, content_of, news_of}
 use Rattle.oc_fetch.specs.Turns.{Turn}

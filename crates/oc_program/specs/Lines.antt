@@ -1,5 +1,5 @@
 -- The line on the error output with which each end is told.
-use Rattle.std.specs.Prelude.{ℕ, List, [], ◌∷◌, ◌++◌, codes, decimal}
+use Rattle.std.specs.Prelude.{ℕ, List, [], ◌++◌, codes, decimal}
 use Rattle.oc_base.specs.Why.{why_text}
 use Rattle.oc_config.specs.Keys.{key_text}
 use Rattle.oc_config.specs.declared.key.Key.TheVariants.{Id}

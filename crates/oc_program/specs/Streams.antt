@@ -39,22 +39,26 @@ IsCountOf traffic bytes = traffic.bytes ≡ min (length bytes) (2 ^ 64 - 1)
 abbrev pub HasFailed : Traffic → Type 0
 HasFailed traffic = 0 < traffic.faults
 
--- as many bytes were read as some text has that says this
+-- the same, and no call failed
+abbrev pub IsSoundCountOf : Traffic → List ℕ → Type 0
+IsSoundCountOf traffic bytes = IsCountOf traffic bytes × (traffic.faults ≡ 0)
+
+-- as many bytes were read as some text has that says this, and no call failed; or one did
 abbrev pub at_input : Traffic → Input
 at_input traffic = record {
-  says = λ says. (bytes : List ℕ) × IsCountOf traffic bytes × (schedule_of bytes ≡ says);
-  passes = λ what. (bytes : List ℕ) × IsCountOf traffic bytes × (schedule_of bytes ≡ Err (Limit what));
-  whole = λ bytes. IsCountOf traffic bytes;
-  long = (bytes : List ℕ) × IsCountOf traffic bytes × (MAX_SCHEDULE_BYTES < length bytes);
+  says = λ says. (bytes : List ℕ) × IsSoundCountOf traffic bytes × (schedule_of bytes ≡ says);
+  passes = λ what. (bytes : List ℕ) × IsSoundCountOf traffic bytes × (schedule_of bytes ≡ Err (Limit what));
+  whole = λ bytes. IsSoundCountOf traffic bytes;
+  long = (bytes : List ℕ) × IsSoundCountOf traffic bytes × (MAX_SCHEDULE_BYTES < length bytes);
   failed = HasFailed traffic;
-  came = (bytes : List ℕ) × IsCountOf traffic bytes;
+  came = (bytes : List ℕ) × IsSoundCountOf traffic bytes;
   unread = (traffic.bytes ≡ 0) × (traffic.faults ≡ 0);
 }
 
 -- as many bytes were written as this text has, and no call failed; or they were, and then one did
 abbrev pub at_output : Traffic → Output
 at_output traffic = record {
-  written = λ text. IsCountOf traffic text × (traffic.faults ≡ 0);
+  written = λ text. IsSoundCountOf traffic text;
   cut_off = λ text. IsCountOf traffic text × HasFailed traffic;
 }
 

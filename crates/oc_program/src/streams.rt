@@ -111,7 +111,7 @@ pub struct StreamsRun {
 /// [`run`] over the standard streams. Which bytes pass there no contract can say; how many, this one
 /// does: as many were read as some text has that says what the end tells, and exactly as many were
 /// written as the text has that had to be written, of `node` as many as the lines of its deeds have. Where
-/// no end blames the output, no write of it failed.
+/// no end blames the input or the output, no call on it failed.
 #[allow(clippy::too_many_arguments)]
 pub fn run_on_streams<T: Stage, D: Disk, L: Link, C: Clock>(
     alloc: Global,

@@ -1,5 +1,5 @@
 -- The files of a node on honest disks are refused only where memory is wanting.
-use Rattle.std.proofs.Common.{◌≡◌, ◌≢◌, ◌∙◌, ℕ, suc, ◌⊎◌, inl, inr, refl, sym, subst, ap, List, [], ◌∷◌, ◌++◌, take, drop, fold, Option, Some, None, IsTrue, IsSome}
+use Rattle.std.proofs.Common.{◌≡◌, ◌∙◌, ℕ, suc, inl, inr, refl, sym, subst, ap, List, [], ◌∷◌, ◌++◌, take, drop, fold, Option, Some, None, IsSome}
 use Rattle.std.proofs.lemmas.List.{take-append-drop}
 use Rattle.oc_base.specs.declared.group.Group.{Group}
 use Rattle.oc_content.specs.ContentFile.{content_of, IsFirstBad, more}

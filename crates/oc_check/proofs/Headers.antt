@@ -3,7 +3,6 @@ use Rattle.std.proofs.Common.{◌≡◌, ◌≤◌, ℕ, zero, suc, arith, repli
 use Rattle.std.proofs.lemmas.List.{length-replicate}
 use Rattle.std.specs.List.{AllByRecursion}
 use Rattle.oc_base.specs.declared.limits.TheConstants.{MAX_AREA, MAX_CHAIN, MAX_NODES}
-use Rattle.oc_check.specs.Checks.{header_without_areas}
 use Rattle.oc_keep.specs.KeptView.{header}
 use Rattle.oc_model.specs.Lawful.{IsHeader}
 

@@ -1,5 +1,5 @@
 -- What is told of disks that are lent, told of the lender's.
-use Rattle.std.proofs.Common.{◌≡◌, ℕ, List, ◌⊎◌, inl, inr, ap, drop, subst, sym}
+use Rattle.std.proofs.Common.{◌≡◌, ℕ, List, inl, inr, ap, drop, subst, sym}
 use Rattle.std.specs.Borrow.{MutBor}
 use Rattle.std.specs.Prelude.{slice_index_or}
 use Rattle.oc_keep.specs.Files.{Disks, AllGoOn, AreHonest, IsLeft, Leaves, disks}

@@ -1,4 +1,4 @@
-mod Safely
+pub mod Safely
 mod Headers
 mod Shown
 pub mod Lenders

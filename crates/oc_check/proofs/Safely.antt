@@ -1,6 +1,6 @@
 -- Disks that are left as they are.
-use Rattle.std.proofs.Common.{◌≡◌, ℕ, List, IsTrue, refl, inl, arith}
-use Rattle.oc_keep.specs.Files.{Disks, AllGoOn, AreHonest, IsLeft, MayLeave, HadLeft, AlwaysLeaves}
+use Rattle.std.proofs.Common.{ℕ, IsTrue, refl, arith}
+use Rattle.oc_keep.specs.Files.{Disks}
 use Rattle.oc_keep.specs.Promises.{LoadsSafely}
 use Rattle.oc_model.specs.Node.{Header}
 use Rattle.oc_io.specs.DiskView.{DiskView, GoesOn, IsConsistent}

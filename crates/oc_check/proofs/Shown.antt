@@ -1,11 +1,9 @@
 -- What a loaded node shows.
-use Rattle.std.proofs.Common.{◌≡◌, ◌∙◌, ◌++◌, ℕ, false, ap, subst, List, Result, Ok, Err}
-use Rattle.std.specs.Prelude.{IfOk}
+use Rattle.std.proofs.Common.{◌≡◌, ◌∙◌, ◌++◌, ℕ, false, ap, List}
 use Rattle.oc_base.specs.Groups.{shelf}
-use Rattle.oc_keep.specs.Files.{Disks, AreHonest}
+use Rattle.oc_keep.specs.Files.{Disks}
 use Rattle.oc_keep.specs.KeptView.{IsHonest, KeptView, disks_of, node_of}
 use Rattle.oc_keep.specs.Promises.{IsNodeOf, LoadsSafely}
-use Rattle.oc_keep.specs.Trials.{first_node}
 use Rattle.oc_keep.proofs.Stays.{all_honest}
 use Rattle.oc_model.specs.Node.{Header}
 use Rattle.oc_io.specs.DiskView.{DiskView}

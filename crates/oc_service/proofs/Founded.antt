@@ -1,5 +1,5 @@
 -- What a loaded node did, told of the files from which it was loaded.
-use Rattle.std.proofs.Common.{◌≡◌, ◌∙◌, ℕ, Bool, IsTrue, List, [], length, ap, ap₂, arith, refl, subst}
+use Rattle.std.proofs.Common.{◌≡◌, ◌∙◌, ℕ, Bool, List, [], length, ap, ap₂, subst}
 use Rattle.oc_answer.specs.Hearing.{terms_of}
 use Rattle.oc_config.specs.Settings.{Settings}
 use Rattle.oc_keep.proofs.Runs.{all_go_on_then, one_rose_after}
@@ -10,7 +10,7 @@ use Rattle.oc_keep.specs.Promises.{IsNodeOf, LoadsSafely}
 use Rattle.oc_keep.specs.Trials.{after_inputs, first_node}
 use Rattle.oc_model.specs.Node.{Header, Node}
 use Rattle.oc_model.specs.Step.{step}
-use Rattle.oc_io.specs.DiskView.{DiskView, GoesOn, IsConsistent}
+use Rattle.oc_io.specs.DiskView.{DiskView}
 use Rattle.oc_io.specs.Faults.{Rose}
 use Rattle.oc_serve.specs.Sending.{setting_of}
 use Rattle.oc_turn.specs.Deeds.{Deed, DoAll, Idle, Noting, Outside, Taking, Under, deeds_text, inputs_of, sight_of, under_line}
@@ -141,29 +141,6 @@ ends_go_on view takes fails count s nodes me probes turns (Turned ends.Disk) old
 ends_go_on view takes fails count s nodes me probes turns (Turned ends.Full) old new sink after before out h = h.3.goes_on
 ends_go_on view takes fails count s nodes me probes turns (Turned ends.Sink) old new sink after before out h = h.3.goes_on
 ends_go_on view takes fails count s nodes me probes turns (Turned ends.Memory) old new sink after before out h = h.3.goes_on
-
--- disks that nothing was done to
-goes_on_same : (v : DiskView) → GoesOn v v
-goes_on_same v = record { honest = refl; reliable = refl; name = refl; listed = refl; count = omega arith }
-
-pub untouched : {D : Type 0} (view : D → DiskView) → ((x : D) → IsTrue (view x).honest → IsConsistent (view x)) → (h : Header) (me : ℕ) (d : Disks D) → LoadsSafely view h me d d
-untouched view consistent h me d = record {
-  goes_on = record { control = goes_on_same (view d.control); alternate = goes_on_same (view d.alternate); content = goes_on_same (view d.content) };
-  any_moment = λ honest. record {
-    later = record { control = omega arith; alternate = omega arith; content = omega arith };
-    each = λ a b c had. record {
-      a = a;
-      b = b;
-      c = c;
-      left = record {
-        control = (consistent d.control honest.control).only_now a had.control;
-        alternate = (consistent d.alternate honest.alternate).only_now b had.alternate;
-        content = (consistent d.content honest.content).only_now c had.content;
-      };
-      is = refl;
-    };
-  };
-}
 
 -- the header of a node that was loaded with what the settings say
 pub settings_header : (s : Settings) (nodes chain : ℕ) (areas : List ℕ) → nodes ≡ length s.addresses → chain ≡ s.chain → areas ≡ s.areas → header nodes chain areas ≡ header_of_settings (length s.addresses) s

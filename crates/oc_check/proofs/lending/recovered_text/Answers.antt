@@ -1,4 +1,4 @@
-use Rattle.std.proofs.Common.{◌≡◌, rules}
+use Rattle.std.proofs.Common.{rules}
 use Rattle.std.proofs.lemmas.Result.{IfErr-weaker}
 use Rattle.oc_check.specs.Checks.{header_without_areas}
 use Rattle.oc_check.proofs.Complete.{only_memory}

@@ -1,9 +1,9 @@
-use Rattle.std.proofs.Common.{◌≡◌, ◌≤◌, ap, subst, sym, arith, rules}
+use Rattle.std.proofs.Common.{subst, arith, rules}
 use Rattle.std.proofs.lemmas.Result.{IfOk-weaker}
-use Rattle.oc_check.specs.Checks.{Shows, header_without_areas}
+use Rattle.oc_check.specs.Checks.{header_without_areas}
 use Rattle.oc_keep.specs.Files.{disks}
 use Rattle.oc_keep.specs.KeptView.{header}
-use Rattle.oc_keep.specs.Promises.{IsNodeOf, LoadsSafely}
+use Rattle.oc_keep.specs.Promises.{IsNodeOf}
 use Rattle.oc_check.proofs.Headers.{lawful_header}
 use Rattle.oc_check.proofs.Shown.{shown}
 use Rattle.oc_check.proofs.Safely.{safely_same}

@@ -1,4 +1,4 @@
-use Rattle.std.proofs.Common.{◌≡◌, ◌∙◌, ◌++◌, false, ap, ap₂}
+use Rattle.std.proofs.Common.{◌∙◌, ◌++◌, ap, ap₂}
 use Rattle.oc_replay.specs.Lines.{held_text}
 use Rattle.oc_replay.specs.Shows.{show_text}
 use Rattle.oc_check.proofs.showing.show.Goals as goal

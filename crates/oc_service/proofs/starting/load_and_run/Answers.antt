@@ -1,5 +1,6 @@
 use Rattle.std.proofs.Common.{◌∙◌, ap, length, refl, subst, sym}
 use Rattle.std.specs.Prelude.{All}
+use Rattle.oc_check.proofs.Safely.{safely_same}
 use Rattle.oc_config.specs.Settings.{Settings}
 use Rattle.oc_keep.specs.Files.{Disks, disks}
 use Rattle.oc_keep.specs.KeptView.{disks_of, header}
@@ -11,7 +12,7 @@ use Rattle.oc_serve.specs.Sending.{IsPlaced}
 use Rattle.oc_turn.specs.Deeds.{outside_of}
 use Rattle.oc_service.specs.OnFiles.{NodeEnds, header_of_settings}
 use Rattle.oc_service.specs.declared.starting.NodeEnd.TheVariants.{Turned}
-use Rattle.oc_service.proofs.Founded.{ends_go_on, node_ends, settings_header, untouched}
+use Rattle.oc_service.proofs.Founded.{ends_go_on, node_ends, settings_header}
 use Rattle.oc_service.proofs.Headers.{lawful_header}
 use Rattle.oc_service.proofs.Places.{placed}
 use Rattle.oc_service.proofs.starting.load_and_run.Goals as goal
@@ -19,12 +20,12 @@ use Rattle.oc_service.proofs.starting.load_and_run.Goals as goal
 pub returns-in-Err-clause-ends : goal.returns-in-Err-clause-ends
 returns-in-Err-clause-ends g c =
     let a = c.args in
-    (tt, untouched g.D.Disk.view g.met.D.Disk.consistent (header_of_settings (length a.config.now.addresses) a.config.now) a.me (disks a.control a.alternate a.content), refl, refl)
+    (tt, safely_same g.D.Disk.view g.met.D.Disk.consistent (header_of_settings (length a.config.now.addresses) a.config.now) a.me (disks a.control a.alternate a.content), refl, refl)
 
 pub returns-in-Err-clause-goes_on : goal.returns-in-Err-clause-goes_on
 returns-in-Err-clause-goes_on g c =
     let a = c.args in
-    (untouched g.D.Disk.view g.met.D.Disk.consistent (header_of_settings (length a.config.now.addresses) a.config.now) a.me (disks a.control a.alternate a.content)).goes_on
+    (safely_same g.D.Disk.view g.met.D.Disk.consistent (header_of_settings (length a.config.now.addresses) a.config.now) a.me (disks a.control a.alternate a.content)).goes_on
 
 pub load-requires-clause-header : goal.load-requires-clause-header
 load-requires-clause-header g c =

@@ -13,10 +13,10 @@ use Rattle.oc_io.specs.DiskView.{DiskView}
 use Rattle.oc_io.specs.Faults.{Rose}
 use Rattle.oc_outside.specs.LinkCalls.{CountsListening, LinkFaults}
 use Rattle.oc_outside.specs.Story.{Story}
-use Rattle.oc_turn.proofs.Scenes.{did_then, go_on_none}
+use Rattle.oc_turn.proofs.Scenes.{did_then, go_on_none, stopped_of}
 use Rattle.oc_turn.specs.Deeds.{Deed, Idle, Outside, outside_of}
 use Rattle.oc_turn.specs.Scenes.{Did, Scene, Stopped, scene, sight}
-use Rattle.oc_serve.specs.Ends.{MakesTurns, ServeEnds}
+use Rattle.oc_serve.specs.Ends.{MakesTurns, ServeEnds, StopsTurns}
 use Rattle.oc_serve.specs.Sending.{setting_of}
 use Rattle.oc_serve.specs.Served.{ServesTurns}
 use Rattle.oc_serve.specs.Turns.{AreTurns}
@@ -87,16 +87,25 @@ link_stops view takes fails count takes_nothing link k sink rose survives = (
 )
 
 -- turns that were not all served ended so
-pub stopped_serving : {D K : Type 0} (view : D → DiskView) (takes fails : K → List ℕ → K → Type 0) (count : K → ℕ) (addresses : List (List ℕ)) (rules : List Rule) (had has : Option Probing) (turns : ℕ) (end : TurnEnd) (old new : Scene D K)
-    → (end ≡ ends.Served → ⊥) → ServeEnds view takes fails count addresses rules had has turns end old new
-    → Stopped view takes fails count (Rose old.outside.faults.listening new.outside.faults.listening) end old.kept new.kept old.sink new.sink
-stopped_serving view takes fails count addresses rules had has turns ends.Served old new other h = absurd (other refl)
-stopped_serving view takes fails count addresses rules had has turns ends.Quiet old new other h = absurd h
-stopped_serving view takes fails count addresses rules had has turns ends.Link old new other h = h
-stopped_serving view takes fails count addresses rules had has turns ends.Disk old new other h = h
-stopped_serving view takes fails count addresses rules had has turns ends.Full old new other h = h
-stopped_serving view takes fails count addresses rules had has turns ends.Sink old new other h = h
-stopped_serving view takes fails count addresses rules had has turns ends.Memory old new other h = h
+module _ {D K : Type 0} (view : D → DiskView) (takes fails : K → List ℕ → K → Type 0) (count : K → ℕ) (addresses : List (List ℕ)) (rules : List Rule)
+    (takes_then : (a b c : K) (x y : List ℕ) → takes a x b → takes b y c → takes a (x ++ y) c) (takes_fails : (a b c : K) (x y : List ℕ) → takes a x b → fails b y c → fails a (x ++ y) c)
+    (had has : Option Probing) (turns : ℕ) (old new : Scene D K) where
+  abbrev Waiting : Type 0
+  Waiting = Rose old.outside.faults.listening new.outside.faults.listening
+
+  stopped_in : (end : TurnEnd) → StopsTurns view takes fails count addresses rules had turns end old new → Stopped view takes fails count Waiting end old.kept new.kept old.sink new.sink
+  stopped_in end (deeds, under, at, did, part, breaks) =
+      stopped_of view takes fails count addresses takes_then takes_fails Waiting Waiting (λ rose. rose) deeds under end old new (at, did, breaks)
+
+  pub stopped_serving : (end : TurnEnd) → (end ≡ ends.Served → ⊥) → ServeEnds view takes fails count addresses rules had has turns end old new
+      → Stopped view takes fails count (Rose old.outside.faults.listening new.outside.faults.listening) end old.kept new.kept old.sink new.sink
+  stopped_serving ends.Served other h = absurd (other refl)
+  stopped_serving ends.Quiet other h = absurd h
+  stopped_serving ends.Link other h = stopped_in ends.Link h
+  stopped_serving ends.Disk other h = stopped_in ends.Disk h
+  stopped_serving ends.Full other h = stopped_in ends.Full h
+  stopped_serving ends.Sink other h = stopped_in ends.Sink h
+  stopped_serving ends.Memory other h = stopped_in ends.Memory h
 
 -- turns that were all served were so from the first on, by what was kept to probe at first
 pub served_so : {D K : Type 0} (view : D → DiskView) (takes fails : K → List ℕ → K → Type 0) (count : K → ℕ) (c : Settings) (probes : Bool) (turns : ℕ) (had has : Option Probing) (end : TurnEnd) (old new : Scene D K)

@@ -12,6 +12,7 @@ ghost use Rattle.oc_serve.specs.Turns.{IsMadeFor};
 ghost use Rattle.oc_service.specs.Runs.{IsRun, Ran, ServesSo, first_probing};
 ghost use Rattle.oc_turn.specs.Deeds.{Deed, outside_of};
 ghost use Rattle.oc_turn.specs.Scenes.{Stopped, scene};
+ghost use Rattle.oc_turn.specs.Sending.{AreSendable};
 
 use crate::measuring::take_measures;
 use crate::probing::make_probing;
@@ -124,6 +125,7 @@ fn serve_so<D: Disk, L: Link, C: Clock, K: Sink>(
 ) -> Result<(), TurnEnd>
     requires open { kept.old.closed ≡ false }
     requires placed { IsPlaced kept.old.node.control.nodes config.now.addresses }
+    requires sendable { AreSendable kept.old.node.control.nodes outbox.old }
     requires rules { length config.now.rules ≤ MOST_RULES }
     ensures did { OnOk result (ServesSo D.view K.takes K.faults config.now probes turns
         (scene kept.old outbox.old sink.old (outside_of (L.story link.old) (L.faults link.old) (C.seconds clock.old) (C.milliseconds clock.old)))
@@ -152,6 +154,7 @@ fn serve_probing<D: Disk, L: Link, C: Clock, K: Sink>(
 ) -> Result<(), TurnEnd>
     requires open { kept.old.closed ≡ false }
     requires placed { IsPlaced kept.old.node.control.nodes config.now.addresses }
+    requires sendable { AreSendable kept.old.node.control.nodes outbox.old }
     requires rules { length config.now.rules ≤ MOST_RULES }
     ensures did { OnOk result (ServesSo D.view K.takes K.faults config.now true turns
         (scene kept.old outbox.old sink.old (outside_of (L.story link.old) (L.faults link.old) (C.seconds clock.old) (C.milliseconds clock.old)))
@@ -196,6 +199,7 @@ fn serve_plain<D: Disk, L: Link, C: Clock, K: Sink>(
 ) -> Result<(), TurnEnd>
     requires open { kept.old.closed ≡ false }
     requires placed { IsPlaced kept.old.node.control.nodes config.now.addresses }
+    requires sendable { AreSendable kept.old.node.control.nodes outbox.old }
     requires rules { length config.now.rules ≤ MOST_RULES }
     ensures did { OnOk result (ServesSo D.view K.takes K.faults config.now false turns
         (scene kept.old outbox.old sink.old (outside_of (L.story link.old) (L.faults link.old) (C.seconds clock.old) (C.milliseconds clock.old)))

@@ -1,15 +1,16 @@
-use Rattle.std.proofs.Common.{◌∙◌, [], List, ap, subst}
+use Rattle.std.proofs.Common.{◌∙◌, [], List, ap, refl, subst, sym}
 use Rattle.std.proofs.lemmas.Result.{err_from_is_err_and}
 use Rattle.oc_io.proofs.Counts.{Rose-after}
 use Rattle.oc_turn.specs.Deeds.{outside_of}
 use Rattle.oc_turn.specs.Scenes.{Did, scene}
+use Rattle.oc_turn.specs.Sending.{AreSendable}
 use Rattle.oc_config.specs.Settings.{Settings}
 use Rattle.oc_measure.specs.declared.lines.Measure.{Measure}
 use Rattle.oc_model.specs.declared.message.Message.{Message}
 use Rattle.oc_turn.proofs.Results.{err_then}
 use Rattle.oc_turn.proofs.Scenes.{did_none, memory_stops, stopped_then}
 use Rattle.oc_service.specs.Runs.{measured}
-use Rattle.oc_serve.proofs.Placed.{placed_stays}
+use Rattle.oc_serve.proofs.Placed.{placed_stays, sendable_stays}
 use Rattle.oc_service.proofs.Served.{both_then, link_stops, ran}
 use Rattle.oc_service.proofs.serving.run_loaded.Goals as goal
 
@@ -76,3 +77,11 @@ serve_so-requires-clause-placed g c =
     let a = c.args in
     placed_stays a.kept.now c.take_measures.new.kept a.config.now.addresses
     (c.in_ok-take_measures.ensures.did a.config.now.addresses (outside_of (g.L.Link.story a.link.now) (g.L.Link.faults a.link.now) (g.C.Clock.seconds a.clock.now) (g.C.Clock.milliseconds a.clock.now))).same c.requires.placed
+
+pub serve_so-requires-clause-sendable : goal.serve_so-requires-clause-sendable
+serve_so-requires-clause-sendable g c =
+    let a = c.args in
+    let t = c.take_measures.new in
+    let did = c.in_ok-take_measures.ensures.did a.config.now.addresses (outside_of (g.L.Link.story a.link.now) (g.L.Link.faults a.link.now) (g.C.Clock.seconds a.clock.now) (g.C.Clock.milliseconds a.clock.now)) in
+    sendable_stays a.kept.now t.kept c.in_ok-outbox.outbox t.outbox did.same did.sendable
+    (subst (λ (box : List Message). AreSendable a.kept.now.node.control.nodes box) (sym c.in_ok-outbox.ensures.empty) refl)

@@ -23,10 +23,10 @@ returns g c =
     record {
       did = tt;
       stops =
-          stopped_serving g.D.Disk.view g.K.Sink.takes g.K.Sink.fails g.K.Sink.faults a.config.now.addresses a.config.now.rules _ _ a.turns c.serve.result
+          stopped_serving g.D.Disk.view g.K.Sink.takes g.K.Sink.fails g.K.Sink.faults a.config.now.addresses a.config.now.rules g.met.K.Sink.takes_then g.met.K.Sink.takes_fails _ _ a.turns
           (scene a.kept.now a.outbox.now a.sink.now (outside_of (story a.link.now) (faults a.link.now) (seconds a.clock.now) (millis a.clock.now)))
           (scene t.kept t.outbox t.sink (outside_of (story t.link) (faults t.link) (seconds t.clock) (millis t.clock)))
-          c.in_default.not-Served c.serve.ensures.ends;
+          c.serve.result c.in_default.not-Served c.serve.ensures.ends;
       survives = tt;
     }
 

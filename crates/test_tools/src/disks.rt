@@ -1,6 +1,7 @@
 use crate::fault::Fault;
 use crate::fields::Fields;
 use crate::step::Step;
+use crate::texts::put_hex;
 use oc_io::{Disk, MemDisk};
 use oc_journal::{Frame, Journal};
 use std::alloc::Global;
@@ -8,15 +9,15 @@ use std::alloc::Global;
 /// More frames than a row names.
 const MOST_FRAMES: u32 = 1000;
 
-/// The bytes that a disk reads.
-pub fn bytes_of(alloc: Global, disk: &mut MemDisk) -> Result<Vec<u8>, Fault> {
+/// Puts the bytes that a disk reads, in hexadecimal.
+pub fn put_disk<D: Disk + Drop>(alloc: Global, out: &mut String, mut disk: D) -> Result<(), Fault> {
     let Ok(size) = disk.size() else {
         return Err(Fault::Unready);
     };
     let mut bytes = Vec::new(alloc);
     bytes.resize(size as usize, 0)?;
     match disk.read_at(0, &mut bytes) {
-        Ok(count) if count == bytes.len() => Ok(bytes),
+        Ok(count) if count == bytes.len() => put_hex(out, &bytes),
         _ => Err(Fault::Unready),
     }
 }
@@ -33,7 +34,7 @@ pub fn disk_with(alloc: Global, bodies: &[Vec<u8>]) -> Result<MemDisk, Fault> {
 }
 
 /// Appends a frame of this body.
-fn append(alloc: Global, journal: &mut Journal<MemDisk>, body: &[u8]) -> Result<(), Fault> {
+fn append<D: Disk>(alloc: Global, journal: &mut Journal<D>, body: &[u8]) -> Result<(), Fault> {
     let Ok(frame) = Frame::new(alloc, body) else {
         return Err(Fault::Unready);
     };
@@ -80,8 +81,7 @@ fn filled(alloc: Global, step: Step<'_>) -> Result<MemDisk, Fault> {
     }
 }
 
-fn bodies_in(alloc: Global, fields: Fields<'_>) -> Result<Vec<Vec<u8>>, Fault> {
-    let mut fields = fields;
+fn bodies_in(alloc: Global, mut fields: Fields<'_>) -> Result<Vec<Vec<u8>>, Fault> {
     let mut bodies = Vec::new(alloc);
     for _ in 0..MOST_FRAMES {
         if fields.is_empty() {

@@ -100,6 +100,19 @@ impl<'a> Fields<'a> {
         Ok(ids)
     }
 
+    /// The next field, numbers with commas between them, or `-` for none.
+    pub fn numbers(&mut self, alloc: Global) -> Result<Vec<u64>, Fault> {
+        let mut numbers = Vec::new(alloc);
+        let mut list = self.list();
+        for _ in 0..MOST_FIELDS {
+            if list.is_empty() {
+                break;
+            }
+            numbers.push(list.number()?)?;
+        }
+        Ok(numbers)
+    }
+
     /// The fields of the next field, which has commas between them; of `-` there are none.
     pub fn list(&mut self) -> Fields<'a> {
         match self.text() {

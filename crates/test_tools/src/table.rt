@@ -4,20 +4,28 @@ use std::alloc::Global;
 use std::rt::Files;
 use std::{fs, io};
 
-/// What the rows of a table come to.
+/// What the rows of tables come to.
 pub trait Cases {
-    /// The words that come of what a row is given.
-    fn answer(alloc: Global, given: &str) -> Result<String, Fault>;
+    /// The words that come of what a row of this table is given.
+    fn words(alloc: Global, table: &str, given: &str) -> Result<String, Fault>;
 }
 
-/// Plays a table, which is the file of its name with `.txt` behind it. Prints for each row the names of the
-/// table and of the row and `ok`, or the words that came in place of those that are wanted.
-pub fn play<T: Cases, R: Files + Print + AllocGlobal>(rt: &R, name: &str) -> io::Result<()> {
-    let file = format!(in rt.alloc(); "{name}.txt")?;
+/// Plays the tables of these names, one after another. Each is the file of its name with `.txt` behind it.
+/// Prints for each row the names of the table and of the row and `ok`, or the words that came in place of
+/// those that are wanted.
+pub fn play<T: Cases, R: Files + Print + AllocGlobal>(rt: &R, tables: &[&str]) -> io::Result<()> {
+    for table in tables {
+        play_table::<T, R>(rt, table)?;
+    }
+    Ok(())
+}
+
+fn play_table<T: Cases, R: Files + Print + AllocGlobal>(rt: &R, table: &str) -> io::Result<()> {
+    let file = format!(in rt.alloc(); "{table}.txt")?;
     let rows = fs::read_to_string(rt, file.as_str())?;
     for line in rows.lines() {
         if let Some(row) = Row::read(line) {
-            tell(rt, name, &row, T::answer(rt.alloc(), row.given))?;
+            tell(rt, table, &row, T::words(rt.alloc(), table, row.given))?;
         }
     }
     Ok(())

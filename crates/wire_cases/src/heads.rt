@@ -1,15 +1,14 @@
 //! Heads of HTTP messages, and what is read of them, however their bytes come.
 
 use crate::pieces::Pieces;
-use crate::spelled::{put_spelled, spelled_in};
 use oc_base::Text;
 use oc_http::{
     Head, HttpFault, Reply, ReplyHead, Verb, read_body, read_head, read_response,
     read_response_head,
 };
-use oc_io::{MemSource, read_all};
+use oc_io::{MemSource, Source, read_all};
 use std::alloc::Global;
-use test_tools::{Cases, Fault, Fields};
+use test_tools::{Fault, Fields, put_spelled, spelled_in};
 
 /// A longer source is cut at its first and its last places alone.
 const MOST_PLACES: usize = 1000;
@@ -39,22 +38,18 @@ struct Reader {
 }
 
 /// The words of a row: what is read, and what is read otherwise where the bytes come in other pieces.
-pub struct Rows;
-
-impl Cases for Rows {
-    fn answer(alloc: Global, given: &str) -> Result<String, Fault> {
-        let (word, text) = given.split_once(' ').unwrap_or((given, ""));
-        let reader = reader_of(word)?;
-        let bytes = spelled_in(alloc, text)?;
-        let mut said = words_of(alloc, reader, &bytes, MOST_BYTES, MOST_BYTES)?;
-        let alone = words_of(alloc, reader, &bytes, 1, 1)?;
-        if alone.as_str() != said.as_str() {
-            said.push_str(", and byte by byte ")?;
-            said.push_str(alone.as_str())?;
-        }
-        put_cuts(alloc, &mut said, reader, &bytes)?;
-        Ok(said)
+pub fn words(alloc: Global, given: &str) -> Result<String, Fault> {
+    let (word, text) = given.split_once(' ').unwrap_or((given, ""));
+    let reader = reader_of(word)?;
+    let bytes = spelled_in(alloc, text)?;
+    let mut said = words_of(alloc, reader, &bytes, MOST_BYTES, MOST_BYTES)?;
+    let alone = words_of(alloc, reader, &bytes, 1, 1)?;
+    if alone.as_str() != said.as_str() {
+        said.push_str(", and byte by byte ")?;
+        said.push_str(alone.as_str())?;
     }
+    put_cuts(alloc, &mut said, reader, &bytes)?;
+    Ok(said)
 }
 
 /// The reader of a word such as `request`, or `request/7`, where call 7 fails.
@@ -110,72 +105,98 @@ fn words_of(
     if let Form::Flood = reader.form {
         return Ok(said);
     }
-    let Ok(rest) = read_all(alloc, &mut pieces, MOST_BYTES) else {
-        return Err(Fault::Unready);
-    };
-    let rest = rest.len();
-    write!(said, " rest={rest}")?;
+    put_rest(alloc, &mut said, &mut pieces)?;
     Ok(said)
 }
 
+/// Puts how many bytes are left of a source.
+fn put_rest<S: Source>(alloc: Global, said: &mut String, source: &mut S) -> Result<(), Fault> {
+    match read_all(alloc, source, MOST_BYTES) {
+        Ok(rest) => Ok(write!(said, " rest={}", rest.len())?),
+        Err(_) => Err(Fault::Unready),
+    }
+}
+
 /// Puts what is read of a source.
-fn put_read(
+fn put_read<S: Source>(
     alloc: Global,
     said: &mut String,
     form: Form,
-    source: &mut Pieces,
+    source: &mut S,
 ) -> Result<(), Fault> {
     match form {
-        Form::Request => match read_head(alloc, source) {
-            Ok(head) => put_head(said, &head),
-            Err(fault) => put_fault(said, fault),
-        },
-        Form::Message => put_request(alloc, said, source),
-        Form::Response => match read_response_head(alloc, source) {
-            Ok(head) => put_reply_head(said, &head),
-            Err(fault) => put_fault(said, fault),
-        },
-        Form::Reply | Form::Flood => match read_response(alloc, source) {
-            Ok(reply) => put_reply(said, &reply),
-            Err(fault) => put_fault(said, fault),
-        },
+        Form::Request => put_request(alloc, said, source),
+        Form::Message => put_message(alloc, said, source),
+        Form::Response => put_response(alloc, said, source),
+        Form::Reply | Form::Flood => put_whole_response(alloc, said, source),
+    }
+}
+
+/// Puts the head of a request.
+fn put_request<S: Source>(alloc: Global, said: &mut String, source: &mut S) -> Result<(), Fault> {
+    match read_head(alloc, source) {
+        Ok(head) => put_head(said, &head),
+        Err(fault) => put_fault(said, fault),
     }
 }
 
 /// Puts the head and the body of a request.
-fn put_request(alloc: Global, said: &mut String, source: &mut Pieces) -> Result<(), Fault> {
+fn put_message<S: Source>(alloc: Global, said: &mut String, source: &mut S) -> Result<(), Fault> {
     match read_head(alloc, source) {
-        Ok(head) => match read_body(alloc, source, &head) {
-            Ok(body) => {
-                put_head(said, &head)?;
-                said.push_str(" body=")?;
-                put_spelled(said, &body)
-            }
-            Err(fault) => put_fault(said, fault),
-        },
+        Ok(head) => put_body(alloc, said, source, &head),
+        Err(fault) => put_fault(said, fault),
+    }
+}
+
+/// Puts the head of a request and the body behind it.
+fn put_body<S: Source>(
+    alloc: Global,
+    said: &mut String,
+    source: &mut S,
+    head: &Head,
+) -> Result<(), Fault> {
+    match read_body(alloc, source, head) {
+        Ok(body) => {
+            put_head(said, head)?;
+            said.push_str(" body=")?;
+            put_spelled(said, &body)
+        }
+        Err(fault) => put_fault(said, fault),
+    }
+}
+
+/// Puts the head of a response.
+fn put_response<S: Source>(alloc: Global, said: &mut String, source: &mut S) -> Result<(), Fault> {
+    match read_response_head(alloc, source) {
+        Ok(head) => put_reply_head(said, &head),
+        Err(fault) => put_fault(said, fault),
+    }
+}
+
+/// Puts a response with its body.
+fn put_whole_response<S: Source>(
+    alloc: Global,
+    said: &mut String,
+    source: &mut S,
+) -> Result<(), Fault> {
+    match read_response(alloc, source) {
+        Ok(reply) => put_reply(said, &reply),
         Err(fault) => put_fault(said, fault),
     }
 }
 
 fn put_head(said: &mut String, head: &Head) -> Result<(), Fault> {
-    let method = match head.method {
-        Verb::Get => "GET",
-        Verb::Head => "HEAD",
-        Verb::Post => "POST",
-        Verb::Other => "OTHER",
-    };
-    write!(said, "method={method} path=")?;
+    said.push_str(match head.method {
+        Verb::Get => "method=GET path=",
+        Verb::Head => "method=HEAD path=",
+        Verb::Post => "method=POST path=",
+        Verb::Other => "method=OTHER path=",
+    })?;
     put_spelled(said, head.path.items())?;
     said.push_str(" query=")?;
     put_spelled(said, head.query.items())?;
-    let length = head.length;
-    let expects = head.expects;
-    let minor = head.minor;
-    let closes = head.closes;
-    Ok(write!(
-        said,
-        " length={length} expects={expects} minor={minor} closes={closes}"
-    )?)
+    write!(said, " length={} expects={}", head.length, head.expects)?;
+    Ok(write!(said, " minor={} closes={}", head.minor, head.closes)?)
 }
 
 fn put_reply_head(said: &mut String, head: &ReplyHead) -> Result<(), Fault> {
@@ -184,9 +205,7 @@ fn put_reply_head(said: &mut String, head: &ReplyHead) -> Result<(), Fault> {
         Some(length) => write!(said, " length={length}")?,
         None => said.push_str(" length=none")?,
     }
-    let chunked = head.chunked;
-    let closes = head.closes;
-    Ok(write!(said, " chunked={chunked} closes={closes}")?)
+    Ok(write!(said, " chunked={} closes={}", head.chunked, head.closes)?)
 }
 
 /// Puts a reply, of which reading tells neither a content type nor a rule.
@@ -210,16 +229,25 @@ fn put_status(said: &mut String, status: u16, location: &Option<Text>) -> Result
 
 fn put_fault(said: &mut String, fault: HttpFault) -> Result<(), Fault> {
     match fault {
-        HttpFault::Source => said.push_str("fault=source")?,
-        HttpFault::Ended => said.push_str("fault=ended")?,
-        HttpFault::Head => said.push_str("fault=head")?,
-        HttpFault::HeadLong => said.push_str("fault=headlong")?,
-        HttpFault::Fields => said.push_str("fault=fields")?,
-        HttpFault::Host => said.push_str("fault=host")?,
-        HttpFault::Coding { both } => write!(said, "fault=coding both={both}")?,
-        HttpFault::Length { missing } => write!(said, "fault=length missing={missing}")?,
-        HttpFault::BodyLong => said.push_str("fault=bodylong")?,
-        HttpFault::Memory => return Err(Fault::Memory),
+        HttpFault::Coding { both } => Ok(write!(said, "fault=coding both={both}")?),
+        HttpFault::Length { missing } => Ok(write!(said, "fault=length missing={missing}")?),
+        HttpFault::Memory => Err(Fault::Memory),
+        _ => Ok(said.push_str(plain_fault(fault))?),
     }
-    Ok(())
+}
+
+/// The words of a fault without its fields.
+fn plain_fault(fault: HttpFault) -> &'static str {
+    match fault {
+        HttpFault::Source => "fault=source",
+        HttpFault::Ended => "fault=ended",
+        HttpFault::Head => "fault=head",
+        HttpFault::HeadLong => "fault=headlong",
+        HttpFault::Fields => "fault=fields",
+        HttpFault::Host => "fault=host",
+        HttpFault::Coding { .. } => "fault=coding",
+        HttpFault::Length { .. } => "fault=length",
+        HttpFault::BodyLong => "fault=bodylong",
+        HttpFault::Memory => "fault=memory",
+    }
 }

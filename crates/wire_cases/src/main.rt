@@ -9,16 +9,28 @@ mod heads;
 mod messages;
 mod pieces;
 mod requests;
-mod spelled;
 mod texts;
 mod words;
 
+use std::alloc::Global;
 use std::io;
-use test_tools::play;
+use test_tools::{Cases, Fault, play};
+
+/// The words of the rows, by table.
+struct Rows;
+
+impl Cases for Rows {
+    fn words(alloc: Global, table: &str, given: &str) -> Result<String, Fault> {
+        match table {
+            "messages" => messages::words(alloc, given),
+            "requests" => requests::words(alloc, given),
+            "texts" => texts::words(alloc, given),
+            "heads" => heads::words(alloc, given),
+            _ => Err(Fault::Field),
+        }
+    }
+}
 
 fn main(rt: HostRuntime) -> io::Result<()> {
-    play::<messages::Rows, _>(&rt, "messages")?;
-    play::<requests::Rows, _>(&rt, "requests")?;
-    play::<texts::Rows, _>(&rt, "texts")?;
-    play::<heads::Rows, _>(&rt, "heads")
+    play::<Rows, _>(&rt, &["messages", "requests", "texts", "heads"])
 }

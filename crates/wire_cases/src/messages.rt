@@ -5,27 +5,23 @@ ghost use Rattle.oc_wire.specs.Spelling.{HasSpelling};
 use crate::words::{put_message, put_wire_fault};
 use oc_wire::{Message, decode, encode, from_http, to_http};
 use std::alloc::Global;
-use test_tools::{Cases, Fault, Fields, put_hex};
+use test_tools::{Fault, Fields, put_hex};
 
 /// The words of a row: the message of the bytes, or their fault. Where it is written as other bytes, these
 /// follow, and where its request brings another message, that.
-pub struct Rows;
-
-impl Cases for Rows {
-    fn answer(alloc: Global, given: &str) -> Result<String, Fault> {
-        let mut fields = Fields::of(given, ' ');
-        let nodes = fields.small()?;
-        let bytes = fields.bytes(alloc)?;
-        let mut said = String::new(alloc);
-        match decode(alloc, &bytes, nodes) {
-            Ok(message) => {
-                put_message(&mut said, &message)?;
-                put_others(alloc, &mut said, &message, &bytes, nodes)?;
-            }
-            Err(fault) => put_wire_fault(&mut said, fault)?,
+pub fn words(alloc: Global, given: &str) -> Result<String, Fault> {
+    let mut fields = Fields::of(given, ' ');
+    let nodes = fields.small()?;
+    let bytes = fields.bytes(alloc)?;
+    let mut said = String::new(alloc);
+    match decode(alloc, &bytes, nodes) {
+        Ok(message) => {
+            put_message(&mut said, &message)?;
+            put_others(alloc, &mut said, &message, &bytes, nodes)?;
         }
-        Ok(said)
+        Err(fault) => put_wire_fault(&mut said, fault)?,
     }
+    Ok(said)
 }
 
 /// Puts what comes of the message when it is written, where that is other bytes, and of its request, where

@@ -2,29 +2,23 @@
 
 ghost use Rattle.oc_wire.specs.Spelling.{HasSpelling};
 
-use crate::spelled::{put_spelled, spelled_in};
 use crate::words::{put_message, put_wire_fault};
 use oc_wire::{HttpWireFault, Message, decode, from_http, to_http};
 use std::alloc::Global;
-use test_tools::{Cases, Fault, Fields};
+use test_tools::{Fault, Fields, put_spelled, spelled_in};
 
 /// The words of a row: what a request brings, or the request of a message.
-pub struct Rows;
-
-impl Cases for Rows {
-    fn answer(alloc: Global, given: &str) -> Result<String, Fault> {
-        let (word, rest) = given.split_once(' ').unwrap_or((given, ""));
-        match word {
-            "to" => written(alloc, Fields::of(rest, ' ')),
-            "from" => read(alloc, rest),
-            _ => Err(Fault::Field),
-        }
+pub fn words(alloc: Global, given: &str) -> Result<String, Fault> {
+    let (word, rest) = given.split_once(' ').unwrap_or((given, ""));
+    match word {
+        "to" => written(alloc, Fields::of(rest, ' ')),
+        "from" => read(alloc, rest),
+        _ => Err(Fault::Field),
     }
 }
 
 /// The request to a host that brings the message of these bytes.
-fn written(alloc: Global, fields: Fields<'_>) -> Result<String, Fault> {
-    let mut fields = fields;
+fn written(alloc: Global, mut fields: Fields<'_>) -> Result<String, Fault> {
     let host = fields.text();
     let bytes = fields.bytes(alloc)?;
     match decode(alloc, &bytes, 1024) {

@@ -3,25 +3,20 @@
 ghost use Rattle.std.specs.Prelude.{IsTrue};
 ghost use Rattle.oc_http.specs.Writing.{HasPhrase};
 
-use crate::spelled::{put_spelled, spelled_in};
 use oc_base::{Bytes, Text};
 use oc_http::{
     Connection, Framing, Reply, write_follow, write_get, write_probe, write_reply_head,
     write_request, write_response, write_response_head,
 };
 use std::alloc::Global;
-use test_tools::{Cases, Fault, Fields};
+use test_tools::{Fault, Fields, put_spelled, spelled_in};
 
 /// The words of a row: the text that is written.
-pub struct Rows;
-
-impl Cases for Rows {
-    fn answer(alloc: Global, given: &str) -> Result<String, Fault> {
-        let text = text_of(alloc, given)?;
-        let mut said = String::new(alloc);
-        put_spelled(&mut said, &text)?;
-        Ok(said)
-    }
+pub fn words(alloc: Global, given: &str) -> Result<String, Fault> {
+    let text = text_of(alloc, given)?;
+    let mut said = String::new(alloc);
+    put_spelled(&mut said, &text)?;
+    Ok(said)
 }
 
 fn text_of(alloc: Global, given: &str) -> Result<Vec<u8>, Fault> {
@@ -38,8 +33,7 @@ fn text_of(alloc: Global, given: &str) -> Result<Vec<u8>, Fault> {
     }
 }
 
-fn request(alloc: Global, fields: Fields<'_>) -> Result<Vec<u8>, Fault> {
-    let mut fields = fields;
+fn request(alloc: Global, mut fields: Fields<'_>) -> Result<Vec<u8>, Fault> {
     let host = fields.text();
     let body = spelled_in(alloc, fields.text())?;
     match host {
@@ -48,23 +42,20 @@ fn request(alloc: Global, fields: Fields<'_>) -> Result<Vec<u8>, Fault> {
     }
 }
 
-fn get(alloc: Global, fields: Fields<'_>) -> Result<Vec<u8>, Fault> {
-    let mut fields = fields;
+fn get(alloc: Global, mut fields: Fields<'_>) -> Result<Vec<u8>, Fault> {
     let path = fields.text();
     let query = some_text(fields.text());
     Ok(write_get(alloc, path, query, fields.text())?)
 }
 
-fn follow(alloc: Global, fields: Fields<'_>) -> Result<Vec<u8>, Fault> {
-    let mut fields = fields;
+fn follow(alloc: Global, mut fields: Fields<'_>) -> Result<Vec<u8>, Fault> {
     let path = fields.text();
     let start = fields.number()?;
     let area = some_text(fields.text());
     Ok(write_follow(alloc, path, start, area, fields.text())?)
 }
 
-fn reply(alloc: Global, fields: Fields<'_>) -> Result<Vec<u8>, Fault> {
-    let mut fields = fields;
+fn reply(alloc: Global, mut fields: Fields<'_>) -> Result<Vec<u8>, Fault> {
     let reply = reply_in(alloc, &mut fields)?;
     if !has_phrase(reply.status) {
         return Err(Fault::Field);
@@ -72,8 +63,7 @@ fn reply(alloc: Global, fields: Fields<'_>) -> Result<Vec<u8>, Fault> {
     Ok(write_response(alloc, &reply)?)
 }
 
-fn head(alloc: Global, fields: Fields<'_>) -> Result<Vec<u8>, Fault> {
-    let mut fields = fields;
+fn head(alloc: Global, mut fields: Fields<'_>) -> Result<Vec<u8>, Fault> {
     let length = fields.number()?;
     let reply = reply_in(alloc, &mut fields)?;
     if !has_phrase(reply.status) {
@@ -82,8 +72,7 @@ fn head(alloc: Global, fields: Fields<'_>) -> Result<Vec<u8>, Fault> {
     Ok(write_response_head(alloc, &reply, length)?)
 }
 
-fn stream(alloc: Global, fields: Fields<'_>) -> Result<Vec<u8>, Fault> {
-    let mut fields = fields;
+fn stream(alloc: Global, mut fields: Fields<'_>) -> Result<Vec<u8>, Fault> {
     let framing = match fields.text() {
         "chunked" => Framing::Chunked,
         length => Framing::Length(Fields::of(length, ' ').number()?),

@@ -1,11 +1,10 @@
 //! The words of messages and of faults.
 
-use crate::spelled::put_spelled;
 use oc_base::{
     Cert, CertList, Child, ChildList, GroupName, IdList, NodeId, Rank, Refusal, Shelf, ShelfList,
 };
 use oc_wire::{Body, Message, WireFault};
-use test_tools::{Fault, put_hex};
+use test_tools::{Fault, put_hex, put_spelled};
 
 /// Puts the words of a message: its sender, its receiver, its kind, and its fields in the order of the
 /// bytes.
@@ -109,18 +108,18 @@ fn put_check_ack(
 
 fn put_no(out: &mut String, seq: u64, why: Refusal) -> Result<(), Fault> {
     write!(out, "no {seq} ")?;
+    out.push_str(match why {
+        Refusal::Own => "own",
+        Refusal::NotJoined => "notjoined",
+        Refusal::Ancestor => "ancestor",
+        Refusal::Depth => "depth",
+        Refusal::Chain(_) => "chain",
+        Refusal::Rank => "rank",
+    })?;
     match why {
-        Refusal::Own => out.push_str("own")?,
-        Refusal::NotJoined => out.push_str("notjoined")?,
-        Refusal::Ancestor => out.push_str("ancestor")?,
-        Refusal::Depth => out.push_str("depth")?,
-        Refusal::Chain(member) => {
-            out.push_str("chain")?;
-            put_id(out, member)?;
-        }
-        Refusal::Rank => out.push_str("rank")?,
+        Refusal::Chain(member) => put_id(out, member),
+        _ => Ok(()),
     }
-    Ok(())
 }
 
 fn put_certs(out: &mut String, certs: &CertList) -> Result<(), Fault> {
@@ -199,12 +198,19 @@ fn put_rank(out: &mut String, rank: Rank) -> Result<(), Fault> {
 /// Puts the words of a fault.
 pub fn put_wire_fault(out: &mut String, fault: WireFault) -> Result<(), Fault> {
     match fault {
-        WireFault::Stranger => out.push_str("stranger")?,
-        WireFault::Kind(code) => write!(out, "kind {code}")?,
-        WireFault::Short => out.push_str("short")?,
-        WireFault::Value => out.push_str("value")?,
-        WireFault::Trailing => out.push_str("trailing")?,
-        WireFault::Memory => out.push_str("memory")?,
+        WireFault::Kind(code) => Ok(write!(out, "kind {code}")?),
+        _ => Ok(out.push_str(plain_fault(fault))?),
     }
-    Ok(())
+}
+
+/// The word of a fault that has no field.
+fn plain_fault(fault: WireFault) -> &'static str {
+    match fault {
+        WireFault::Stranger => "stranger",
+        WireFault::Kind(_) => "kind",
+        WireFault::Short => "short",
+        WireFault::Value => "value",
+        WireFault::Trailing => "trailing",
+        WireFault::Memory => "memory",
+    }
 }

@@ -1,8 +1,8 @@
 //! Bytes as printable text: what is no printable character is spelled by a `\`, as `\r`, `\n`, `\t`, `\\`,
 //! `\xHH` in hexadecimal, and `\{N:BYTES}` for N times these bytes.
 
+use crate::fault::Fault;
 use std::alloc::Global;
-use test_tools::Fault;
 
 /// A byte that comes more often than this, and alone, is spelled once.
 const LONG: usize = 64;

@@ -2,25 +2,20 @@
 
 use oc_climb::{Host, may_adopt, take_rank};
 use std::alloc::Global;
-use test_tools::{Cases, Fault, Fields};
+use test_tools::{Fault, Fields};
 
 /// The words of a row: the refusal or `ok`, or the rank that is taken.
-pub struct Rows;
-
-impl Cases for Rows {
-    fn answer(alloc: Global, given: &str) -> Result<String, Fault> {
-        let mut fields = Fields::of(given, ' ');
-        match fields.text() {
-            "adopt" => adopt(alloc, fields),
-            "take" => take(alloc, fields),
-            _ => Err(Fault::Field),
-        }
+pub fn words(alloc: Global, given: &str) -> Result<String, Fault> {
+    let mut fields = Fields::of(given, ' ');
+    match fields.text() {
+        "adopt" => adopt(alloc, fields),
+        "take" => take(alloc, fields),
+        _ => Err(Fault::Field),
     }
 }
 
 /// The answer of a host to one that asks it.
-fn adopt(alloc: Global, fields: Fields<'_>) -> Result<String, Fault> {
-    let mut fields = fields;
+fn adopt(alloc: Global, mut fields: Fields<'_>) -> Result<String, Fault> {
     let id = fields.node()?;
     let in_tree = fields.text() == "in";
     let rank = fields.rank()?;
@@ -40,8 +35,7 @@ fn adopt(alloc: Global, fields: Fields<'_>) -> Result<String, Fault> {
 }
 
 /// The rank that is taken, or `-` for none.
-fn take(alloc: Global, fields: Fields<'_>) -> Result<String, Fault> {
-    let mut fields = fields;
+fn take(alloc: Global, mut fields: Fields<'_>) -> Result<String, Fault> {
     match take_rank(fields.some_rank()?, fields.rank()?) {
         Some(rank) => {
             let epoch = rank.epoch;

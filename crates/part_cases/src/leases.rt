@@ -7,7 +7,7 @@ use oc_base::NodeId;
 use oc_cert::Table;
 use oc_updown::Leases;
 use std::alloc::Global;
-use test_tools::{Cases, Fault, Fields, Step, cert_in};
+use test_tools::{Fault, Fields, Step, cert_in};
 
 /// The number of nodes.
 const NODES: u32 = 6;
@@ -25,23 +25,19 @@ struct Parent {
 }
 
 /// The words of a row: what each step says. The first field has the certificates of the table.
-pub struct Rows;
-
-impl Cases for Rows {
-    fn answer(alloc: Global, given: &str) -> Result<String, Fault> {
-        let mut fields = given.split_ascii_whitespace();
-        let mut table = Table::new(alloc, NODES)?;
-        put_all(&mut table, Fields::of(fields.next().unwrap_or(""), ','))?;
-        let mut parent = Parent {
-            table,
-            leases: Leases::new(alloc, NODES)?,
-        };
-        let mut said = String::new(alloc);
-        for field in fields {
-            act(&mut parent, Step::of(field), &mut said)?;
-        }
-        Ok(said)
+pub fn words(alloc: Global, given: &str) -> Result<String, Fault> {
+    let mut fields = given.split_ascii_whitespace();
+    let mut table = Table::new(alloc, NODES)?;
+    put_all(&mut table, Fields::of(fields.next().unwrap_or(""), ','))?;
+    let mut parent = Parent {
+        table,
+        leases: Leases::new(alloc, NODES)?,
+    };
+    let mut said = String::new(alloc);
+    for field in fields {
+        act(&mut parent, Step::of(field), &mut said)?;
     }
+    Ok(said)
 }
 
 /// Does a step, and puts what it says.

@@ -7,7 +7,7 @@ use oc_base::{Cert, NodeId};
 use oc_cert::Table;
 use oc_updown::ChangeLog;
 use std::alloc::Global;
-use test_tools::{Cases, Fault, Fields, Step, cert_in, put_cert};
+use test_tools::{Fault, Fields, Step, cert_in, put_cert};
 
 /// The number of nodes.
 const NODES: u32 = 6;
@@ -23,19 +23,15 @@ struct Told {
 }
 
 /// The words of a row: what each step on a new log says.
-pub struct Rows;
-
-impl Cases for Rows {
-    fn answer(alloc: Global, given: &str) -> Result<String, Fault> {
-        let mut told = Told {
-            log: ChangeLog::new(alloc, NODES)?,
-        };
-        let mut said = String::new(alloc);
-        for field in given.split_ascii_whitespace() {
-            act(alloc, &mut told, Step::of(field), &mut said)?;
-        }
-        Ok(said)
+pub fn words(alloc: Global, given: &str) -> Result<String, Fault> {
+    let mut told = Told {
+        log: ChangeLog::new(alloc, NODES)?,
+    };
+    let mut said = String::new(alloc);
+    for field in given.split_ascii_whitespace() {
+        act(alloc, &mut told, Step::of(field), &mut said)?;
     }
+    Ok(said)
 }
 
 /// Does a step, and puts what it says.

@@ -14,16 +14,41 @@ mod redirects;
 mod roots;
 mod tables;
 
+use std::alloc::Global;
 use std::io;
-use test_tools::play;
+use test_tools::{Cases, Fault, play};
+
+/// The words of the rows, by table.
+struct Rows;
+
+impl Cases for Rows {
+    fn words(alloc: Global, table: &str, given: &str) -> Result<String, Fault> {
+        match table {
+            "tables" => tables::words(alloc, given),
+            "logs" => logs::words(alloc, given),
+            "leases" => leases::words(alloc, given),
+            "adoptions" => adoptions::words(alloc, given),
+            "places" => places::words(alloc, given),
+            "roots" => roots::words(alloc, given),
+            "measures" => measures::words(alloc, given),
+            "redirects" => redirects::words(alloc, given),
+            _ => Err(Fault::Field),
+        }
+    }
+}
 
 fn main(rt: HostRuntime) -> io::Result<()> {
-    play::<tables::Rows, _>(&rt, "tables")?;
-    play::<logs::Rows, _>(&rt, "logs")?;
-    play::<leases::Rows, _>(&rt, "leases")?;
-    play::<adoptions::Rows, _>(&rt, "adoptions")?;
-    play::<places::Rows, _>(&rt, "places")?;
-    play::<roots::Rows, _>(&rt, "roots")?;
-    play::<measures::Rows, _>(&rt, "measures")?;
-    play::<redirects::Rows, _>(&rt, "redirects")
+    play::<Rows, _>(
+        &rt,
+        &[
+            "tables",
+            "logs",
+            "leases",
+            "adoptions",
+            "places",
+            "roots",
+            "measures",
+            "redirects",
+        ],
+    )
 }

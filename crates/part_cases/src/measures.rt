@@ -4,7 +4,7 @@ ghost use Rattle.std.specs.Prelude.{◌≡◌, length};
 
 use oc_measure::Measures;
 use std::alloc::Global;
-use test_tools::{Cases, Fault, Step};
+use test_tools::{Fault, Step};
 
 /// The number of peers.
 const PEERS: u32 = 3;
@@ -17,19 +17,15 @@ struct Readings {
 }
 
 /// The words of a row: what each step says.
-pub struct Rows;
-
-impl Cases for Rows {
-    fn answer(alloc: Global, given: &str) -> Result<String, Fault> {
-        let mut readings = Readings {
-            measures: Measures::new(alloc, PEERS)?,
-        };
-        let mut said = String::new(alloc);
-        for field in given.split_ascii_whitespace() {
-            act(&mut readings, Step::of(field), &mut said)?;
-        }
-        Ok(said)
+pub fn words(alloc: Global, given: &str) -> Result<String, Fault> {
+    let mut readings = Readings {
+        measures: Measures::new(alloc, PEERS)?,
+    };
+    let mut said = String::new(alloc);
+    for field in given.split_ascii_whitespace() {
+        act(&mut readings, Step::of(field), &mut said)?;
     }
+    Ok(said)
 }
 
 /// Does a step, and puts what it says.

@@ -3,33 +3,28 @@
 use oc_base::NodeId;
 use oc_place::{Candidate, View, choose, review};
 use std::alloc::Global;
-use test_tools::{Cases, Fault, Fields};
+use test_tools::{Fault, Fields};
 
 /// More candidates than a row names.
 const MOST: u32 = 1000;
 
 /// The words of a row: the node that is chosen, or what a review says.
-pub struct Rows;
-
-impl Cases for Rows {
-    fn answer(alloc: Global, given: &str) -> Result<String, Fault> {
-        let mut fields = Fields::of(given, ' ');
-        match fields.text() {
-            "choose" => {
-                let direct = fields.number()?;
-                let candidates = candidates_in(alloc, fields.list())?;
-                let chosen = choose(direct, &candidates);
-                Ok(format!(in alloc; "{chosen:?}")?)
-            }
-            "review" => reviewed(alloc, fields),
-            _ => Err(Fault::Field),
+pub fn words(alloc: Global, given: &str) -> Result<String, Fault> {
+    let mut fields = Fields::of(given, ' ');
+    match fields.text() {
+        "choose" => {
+            let direct = fields.number()?;
+            let candidates = candidates_in(alloc, fields.list())?;
+            let chosen = choose(direct, &candidates);
+            Ok(format!(in alloc; "{chosen:?}")?)
         }
+        "review" => reviewed(alloc, fields),
+        _ => Err(Fault::Field),
     }
 }
 
 /// What a review says.
-fn reviewed(alloc: Global, fields: Fields<'_>) -> Result<String, Fault> {
-    let mut fields = fields;
+fn reviewed(alloc: Global, mut fields: Fields<'_>) -> Result<String, Fault> {
     let direct = fields.number()?;
     let up = fields.number()?;
     let grand = grand_in(fields.text())?;
@@ -53,8 +48,7 @@ fn grand_in(text: &str) -> Result<Option<(NodeId, u64)>, Fault> {
 }
 
 /// The candidates of the fields: each has its id, the own rate to it, its rate to the root, and the hops.
-fn candidates_in(alloc: Global, fields: Fields<'_>) -> Result<Vec<Candidate>, Fault> {
-    let mut fields = fields;
+fn candidates_in(alloc: Global, mut fields: Fields<'_>) -> Result<Vec<Candidate>, Fault> {
     let mut list = Vec::new(alloc);
     for _ in 0..MOST {
         if fields.is_empty() {

@@ -6,39 +6,40 @@ use crate::tables::put_all;
 use oc_cert::Table;
 use oc_redirect::select;
 use std::alloc::Global;
-use test_tools::{Cases, Fault, Fields};
+use test_tools::{Fault, Fields};
 
 /// More nodes than there are.
 const MOST: u32 = 2000;
 
 /// The words of a row: the node, or `None`.
-pub struct Rows;
-
-impl Cases for Rows {
-    fn answer(alloc: Global, given: &str) -> Result<String, Fault> {
-        let mut fields = Fields::of(given, ' ');
-        let nodes = fields.small()?;
-        if nodes < 1 || 1024 < nodes {
-            return Err(Fault::Field);
-        }
-        let mut table = Table::new(alloc, nodes)?;
-        put_all(&mut table, fields.list())?;
-        let me = fields.node()?;
-        let chain = fields.small()?;
-        let areas = bytes_in(alloc, fields.list())?;
-        let counts = numbers_in(alloc, fields.list())?;
-        let area = fields.byte()?;
-        if areas.len() != table.rows().len() || counts.len() != table.rows().len() {
-            return Err(Fault::Field);
-        }
-        let node = select(&table, me, chain, &areas, &counts, area);
-        Ok(format!(in alloc; "{node:?}")?)
+pub fn words(alloc: Global, given: &str) -> Result<String, Fault> {
+    let mut fields = Fields::of(given, ' ');
+    let table = table_in(alloc, &mut fields)?;
+    let me = fields.node()?;
+    let chain = fields.small()?;
+    let areas = bytes_in(alloc, fields.list())?;
+    let counts = fields.numbers(alloc)?;
+    let area = fields.byte()?;
+    if areas.len() != table.rows().len() || counts.len() != table.rows().len() {
+        return Err(Fault::Field);
     }
+    let node = select(&table, me, chain, &areas, &counts, area);
+    Ok(format!(in alloc; "{node:?}")?)
+}
+
+/// The table of the next two fields: the number of nodes, and certificates.
+fn table_in(alloc: Global, fields: &mut Fields<'_>) -> Result<Table, Fault> {
+    let nodes = fields.small()?;
+    if nodes < 1 || 1024 < nodes {
+        return Err(Fault::Field);
+    }
+    let mut table = Table::new(alloc, nodes)?;
+    put_all(&mut table, fields.list())?;
+    Ok(table)
 }
 
 /// The numbers of the fields, each of 8 bits.
-fn bytes_in(alloc: Global, fields: Fields<'_>) -> Result<Vec<u8>, Fault> {
-    let mut fields = fields;
+fn bytes_in(alloc: Global, mut fields: Fields<'_>) -> Result<Vec<u8>, Fault> {
     let mut bytes = Vec::new(alloc);
     for _ in 0..MOST {
         if fields.is_empty() {
@@ -47,17 +48,4 @@ fn bytes_in(alloc: Global, fields: Fields<'_>) -> Result<Vec<u8>, Fault> {
         bytes.push(fields.byte()?)?;
     }
     Ok(bytes)
-}
-
-/// The numbers of the fields.
-fn numbers_in(alloc: Global, fields: Fields<'_>) -> Result<Vec<u64>, Fault> {
-    let mut fields = fields;
-    let mut numbers = Vec::new(alloc);
-    for _ in 0..MOST {
-        if fields.is_empty() {
-            break;
-        }
-        numbers.push(fields.number()?)?;
-    }
-    Ok(numbers)
 }

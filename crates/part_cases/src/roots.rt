@@ -3,28 +3,23 @@
 use oc_base::NodeId;
 use oc_roots::{ask_order, raise};
 use std::alloc::Global;
-use test_tools::{Cases, Fault, Fields};
+use test_tools::{Fault, Fields};
 
 /// The words of a row: the nodes that are asked, or the next epoch.
-pub struct Rows;
-
-impl Cases for Rows {
-    fn answer(alloc: Global, given: &str) -> Result<String, Fault> {
-        let mut fields = Fields::of(given, ' ');
-        match fields.text() {
-            "order" => order(alloc, fields),
-            "raise" => {
-                let epoch = raise(fields.number()?);
-                Ok(format!(in alloc; "{epoch:?}")?)
-            }
-            _ => Err(Fault::Field),
+pub fn words(alloc: Global, given: &str) -> Result<String, Fault> {
+    let mut fields = Fields::of(given, ' ');
+    match fields.text() {
+        "order" => order(alloc, fields),
+        "raise" => {
+            let epoch = raise(fields.number()?);
+            Ok(format!(in alloc; "{epoch:?}")?)
         }
+        _ => Err(Fault::Field),
     }
 }
 
 /// The nodes that are asked, in order.
-fn order(alloc: Global, fields: Fields<'_>) -> Result<String, Fault> {
-    let mut fields = fields;
+fn order(alloc: Global, mut fields: Fields<'_>) -> Result<String, Fault> {
     // What stood in the list before is no part of the answer.
     let mut asked = vec![in alloc; NodeId(77)]?;
     let me = fields.node()?;

@@ -6,28 +6,24 @@ ghost use Rattle.oc_base.specs.Lawful.{IsNode};
 use oc_base::{Cert, NodeId};
 use oc_cert::Table;
 use std::alloc::Global;
-use test_tools::{Cases, Fault, Fields, Step, cert_in, put_cert};
+use test_tools::{Fault, Fields, Step, cert_in, put_cert};
 
 /// More certificates than a row names.
 const MOST: u32 = 10_000;
 
 /// The words of a row: what each step on a new table says.
-pub struct Rows;
-
-impl Cases for Rows {
-    fn answer(alloc: Global, given: &str) -> Result<String, Fault> {
-        let mut fields = given.split_ascii_whitespace();
-        let nodes = Fields::of(fields.next().unwrap_or(""), ' ').small()?;
-        if nodes < 1 || 1024 < nodes {
-            return Err(Fault::Field);
-        }
-        let mut table = Table::new(alloc, nodes)?;
-        let mut said = String::new(alloc);
-        for field in fields {
-            act(&mut table, Step::of(field), &mut said)?;
-        }
-        Ok(said)
+pub fn words(alloc: Global, given: &str) -> Result<String, Fault> {
+    let mut fields = given.split_ascii_whitespace();
+    let nodes = Fields::of(fields.next().unwrap_or(""), ' ').small()?;
+    if nodes < 1 || 1024 < nodes {
+        return Err(Fault::Field);
     }
+    let mut table = Table::new(alloc, nodes)?;
+    let mut said = String::new(alloc);
+    for field in fields {
+        act(&mut table, Step::of(field), &mut said)?;
+    }
+    Ok(said)
 }
 
 /// Does a step, and puts what it says.
@@ -82,10 +78,9 @@ fn is_node(nodes: usize, id: NodeId) -> bool
 }
 
 /// Merges the certificates of the fields.
-pub fn put_all(table: &mut Table, fields: Fields<'_>) -> Result<(), Fault>
+pub fn put_all(table: &mut Table, mut fields: Fields<'_>) -> Result<(), Fault>
     ensures { table.new.nodes ≡ table.old.nodes }
 {
-    let mut fields = fields;
     for _ in 0..MOST {
         if fields.is_empty() {
             break;

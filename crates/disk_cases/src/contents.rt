@@ -1,13 +1,11 @@
 //! The content log of a disk: what is put, sealed, read and recovered.
 
-ghost use Rattle.std.specs.Prelude.{◌≤◌, length};
-ghost use Rattle.oc_base.specs.Names.{IsGroupName};
-
-use oc_base::{GroupName, Shelf};
+use oc_base::Shelf;
 use oc_content::{Content, ContentError};
-use oc_io::MemDisk;
+use oc_io::Disk;
 use std::alloc::Global;
-use test_tools::{Cases, Fault, Step, bytes_of, disk_in, group_in, put_hex};
+use std::str::SplitAsciiWhitespace;
+use test_tools::{Fault, Fields, Step, disk_in, group_in, put_disk, put_hex};
 
 /// The most bytes that a piece has.
 const MOST: usize = 1_000_000;
@@ -16,154 +14,139 @@ const MOST: usize = 1_000_000;
 const MOST_READS: u32 = 1000;
 
 /// The words of a row: what each step says, and then what the disk holds after a crash.
-pub struct Rows;
+pub fn words(alloc: Global, given: &str) -> Result<String, Fault> {
+    let mut fields = given.split_ascii_whitespace();
+    let shown = fields.next().unwrap_or("");
+    let disk = disk_in(alloc, fields.next().unwrap_or(""))?;
+    let mut said = String::new(alloc);
+    if let Some(disk) = play(alloc, disk, fields, &mut said)? {
+        show(alloc, shown, disk.crash(), &mut said)?;
+    }
+    Ok(said)
+}
 
-impl Cases for Rows {
-    fn answer(alloc: Global, given: &str) -> Result<String, Fault> {
-        let mut fields = given.split_ascii_whitespace();
-        let shown = fields.next().unwrap_or("");
-        let disk = disk_in(alloc, fields.next().unwrap_or(""))?;
-        let mut said = String::new(alloc);
-        match Content::load(alloc, disk) {
-            Ok(mut content) => {
-                for field in fields {
-                    act(alloc, &mut content, Step::of(field), &mut said)?;
-                }
-                show(alloc, shown, content.into_disk().crash(), &mut said)?;
+/// Loads the content log of a disk and does the steps. The disk comes back, unless it holds no such log.
+fn play<D: Disk + Drop>(
+    alloc: Global,
+    disk: D,
+    steps: SplitAsciiWhitespace<'_>,
+    said: &mut String,
+) -> Result<Option<D>, Fault> {
+    match Content::load(alloc, disk) {
+        Ok(mut content) => {
+            for step in steps {
+                act(alloc, &mut content, Step::of(step), said)?;
             }
-            Err((disk, ContentError::Disk)) => {
-                said.push_str("Disk ")?;
-                show(alloc, shown, disk.crash(), &mut said)?;
-            }
-            Err((_disk, error)) => write!(said, "{error:?}")?,
+            Ok(Some(content.into_disk()))
         }
-        Ok(said)
+        Err((disk, ContentError::Disk)) => {
+            said.push_str("Disk ")?;
+            Ok(Some(disk))
+        }
+        Err((_disk, error)) => {
+            write!(said, "{error:?}")?;
+            Ok(None)
+        }
     }
 }
 
 /// Does a step, and puts what it says.
-fn act(
+fn act<D: Disk>(
     alloc: Global,
-    content: &mut Content<MemDisk>,
+    content: &mut Content<D>,
     step: Step<'_>,
     said: &mut String,
 ) -> Result<(), Fault> {
-    let mut fields = step.fields;
-    let group = group_in(fields.text())?;
-    let start = fields.number()?;
     match step.word {
-        "put" => put(
-            alloc,
-            content,
-            &group,
-            start,
-            &fields.bytes(alloc)?,
-            false,
-            said,
-        ),
-        "seal" => put(
-            alloc,
-            content,
-            &group,
-            start,
-            &fields.bytes(alloc)?,
-            true,
-            said,
-        ),
-        "spot" => put_spot(content, &group, start, said),
-        "read" => read(alloc, content, &group, start, fields.byte()?, said),
-        _ => Err(Fault::Field),
+        "put" => put(alloc, content, step.fields, false, said)?,
+        "seal" => put(alloc, content, step.fields, true, said)?,
+        "spot" => put_spot(content, step.fields, said)?,
+        "read" => read(alloc, content, step.fields, said)?,
+        _ => return Err(Fault::Field),
     }
+    Ok(said.push_str(" ")?)
 }
 
 /// Puts bytes to a group, and puts how many are held, or the error.
-fn put(
+fn put<D: Disk>(
     alloc: Global,
-    content: &mut Content<MemDisk>,
-    group: &GroupName,
-    start: u64,
-    bytes: &[u8],
+    content: &mut Content<D>,
+    mut fields: Fields<'_>,
     last: bool,
     said: &mut String,
-) -> Result<(), Fault>
-    requires { IsGroupName group.now }
-{
+) -> Result<(), Fault> {
+    let group = group_in(fields.text())?;
+    let start = fields.number()?;
+    let bytes = fields.bytes(alloc)?;
     if bytes.len() > MOST {
         return Err(Fault::Field);
     }
-    match content.prepare(alloc, group, start, bytes, last) {
+    match content.prepare(alloc, &group, start, &bytes, last) {
         Ok(piece) if piece.adds() => match content.commit(piece) {
-            Ok(held) => write!(said, "{held} ")?,
-            Err(error) => write!(said, "{error:?} ")?,
+            Ok(held) => write!(said, "{held}")?,
+            Err(error) => write!(said, "{error:?}")?,
         },
-        Ok(_piece) => said.push_str("nothing ")?,
-        Err(error) => write!(said, "{error:?} ")?,
+        Ok(_piece) => said.push_str("nothing")?,
+        Err(error) => write!(said, "{error:?}")?,
     }
     Ok(())
 }
 
 /// Puts the frame that holds a byte of a group, and the place in its bytes, or `-`.
-fn put_spot(
-    content: &Content<MemDisk>,
-    group: &GroupName,
-    at: u64,
+fn put_spot<D: Disk>(
+    content: &Content<D>,
+    mut fields: Fields<'_>,
     said: &mut String,
 ) -> Result<(), Fault> {
-    match content.spot(group, at) {
-        Some(spot) => {
-            let frame = spot.frame;
-            let skip = spot.skip;
-            Ok(write!(said, "{frame}/{skip} ")?)
-        }
-        None => Ok(said.push_str("- ")?),
+    let group = group_in(fields.text())?;
+    match content.spot(&group, fields.number()?) {
+        Some(spot) => Ok(write!(said, "{}/{}", spot.frame, spot.skip)?),
+        None => Ok(said.push_str("-")?),
     }
 }
 
-/// Puts the bytes of a group from a place on, read in pieces of at most so many.
-fn read(
+/// Puts the bytes of a group from a place on, read in pieces of at most so many, or the error.
+fn read<D: Disk>(
     alloc: Global,
-    content: &mut Content<MemDisk>,
-    group: &GroupName,
-    start: u64,
-    most: u8,
+    content: &mut Content<D>,
+    mut fields: Fields<'_>,
     said: &mut String,
 ) -> Result<(), Fault> {
-    let mut buf = vec![in alloc; 0; most as usize]?;
+    let group = group_in(fields.text())?;
+    let start = fields.number()?;
+    let mut buf = vec![in alloc; 0; fields.byte()? as usize]?;
     let mut bytes = Vec::new(alloc);
     for _ in 0..MOST_READS {
         let at = start.saturating_add(bytes.len() as u64);
-        match content.read(group, at, &mut buf) {
+        match content.read(&group, at, &mut buf) {
             Ok(0) => break,
             Ok(count) => bytes.extend_from_slice(&buf[..count])?,
-            Err(error) => return Ok(write!(said, "{error:?} ")?),
+            Err(error) => return Ok(write!(said, "{error:?}")?),
         }
     }
-    put_hex(said, &bytes)?;
-    Ok(said.push_str(" ")?)
+    put_hex(said, &bytes)
 }
 
 /// Puts the bytes of a disk, or the lines of the groups that it holds.
-fn show(alloc: Global, shown: &str, disk: MemDisk, said: &mut String) -> Result<(), Fault> {
-    let mut disk = disk;
+fn show<D: Disk + Drop>(
+    alloc: Global,
+    shown: &str,
+    disk: D,
+    said: &mut String,
+) -> Result<(), Fault> {
     if shown == "bytes" {
-        return put_hex(said, &bytes_of(alloc, &mut disk)?);
+        return put_disk(alloc, said, disk);
     }
     match Content::load(alloc, disk) {
-        Ok(content) => {
-            for line in content.groups() {
-                put_line(line, said)?;
-            }
-            Ok(())
-        }
+        Ok(content) => put_lines(content.groups(), said),
         Err(_) => Err(Fault::Unready),
     }
 }
 
-fn put_line(line: &Shelf, said: &mut String) -> Result<(), Fault> {
-    for byte in line.group.bytes() {
-        said.push(*byte as char)?;
+fn put_lines(lines: &[Shelf], said: &mut String) -> Result<(), Fault> {
+    for line in lines {
+        let mark = if line.sealed { "!" } else { "" };
+        write!(said, "{}@{}{mark} ", line.group, line.held)?;
     }
-    let held = line.held;
-    let mark = if line.sealed { "!" } else { "" };
-    Ok(write!(said, "@{held}{mark} ")?)
+    Ok(())
 }

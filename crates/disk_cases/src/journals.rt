@@ -1,40 +1,52 @@
 //! The journal of a disk: what is appended, restarted, read and recovered.
 
-use oc_io::MemDisk;
+use oc_io::Disk;
 use oc_journal::{Frame, Journal, LoadError};
 use std::alloc::Global;
-use test_tools::{Cases, Fault, Step, bytes_of, disk_in, put_hex};
+use std::str::SplitAsciiWhitespace;
+use test_tools::{Fault, Step, disk_in, put_disk, put_hex};
 
 /// The words of a row: what each step says, and then what the disk holds after a crash.
-pub struct Rows;
+pub fn words(alloc: Global, given: &str) -> Result<String, Fault> {
+    let mut fields = given.split_ascii_whitespace();
+    let shown = fields.next().unwrap_or("");
+    let disk = disk_in(alloc, fields.next().unwrap_or(""))?;
+    let mut said = String::new(alloc);
+    if let Some(disk) = play(alloc, disk, fields, &mut said)? {
+        show(alloc, shown, disk.crash(), &mut said)?;
+    }
+    Ok(said)
+}
 
-impl Cases for Rows {
-    fn answer(alloc: Global, given: &str) -> Result<String, Fault> {
-        let mut fields = given.split_ascii_whitespace();
-        let shown = fields.next().unwrap_or("");
-        let disk = disk_in(alloc, fields.next().unwrap_or(""))?;
-        let mut said = String::new(alloc);
-        match Journal::load(alloc, disk) {
-            Ok(mut journal) => {
-                for field in fields {
-                    act(alloc, &mut journal, Step::of(field), &mut said)?;
-                }
-                show(alloc, shown, journal.into_disk().crash(), &mut said)?;
+/// Loads the journal of a disk and does the steps. The disk comes back, unless it holds no journal.
+fn play<D: Disk + Drop>(
+    alloc: Global,
+    disk: D,
+    steps: SplitAsciiWhitespace<'_>,
+    said: &mut String,
+) -> Result<Option<D>, Fault> {
+    match Journal::load(alloc, disk) {
+        Ok(mut journal) => {
+            for step in steps {
+                act(alloc, &mut journal, Step::of(step), said)?;
             }
-            Err((disk, LoadError::Disk)) => {
-                said.push_str("Disk ")?;
-                show(alloc, shown, disk.crash(), &mut said)?;
-            }
-            Err((_disk, error)) => write!(said, "{error:?}")?,
+            Ok(Some(journal.into_disk()))
         }
-        Ok(said)
+        Err((disk, LoadError::Disk)) => {
+            said.push_str("Disk ")?;
+            Ok(Some(disk))
+        }
+        Err((_disk, error)) => {
+            write!(said, "{error:?}")?;
+            Ok(None)
+        }
     }
 }
 
 /// Does a step, and puts what it says.
-fn act(
+fn act<D: Disk>(
     alloc: Global,
-    journal: &mut Journal<MemDisk>,
+    journal: &mut Journal<D>,
     step: Step<'_>,
     said: &mut String,
 ) -> Result<(), Fault> {
@@ -48,9 +60,9 @@ fn act(
 }
 
 /// Appends a frame, and puts the error, if there is one.
-fn append(
+fn append<D: Disk>(
     alloc: Global,
-    journal: &mut Journal<MemDisk>,
+    journal: &mut Journal<D>,
     body: &[u8],
     said: &mut String,
 ) -> Result<(), Fault> {
@@ -65,7 +77,7 @@ fn append(
 }
 
 /// Restarts a journal, and where that fails does it again; puts each error.
-fn restart(journal: &mut Journal<MemDisk>, said: &mut String) -> Result<(), Fault> {
+fn restart<D: Disk>(journal: &mut Journal<D>, said: &mut String) -> Result<(), Fault> {
     if let Err(error) = journal.restart() {
         write!(said, "{error:?} ")?;
         if let Err(error) = journal.restart() {
@@ -76,9 +88,9 @@ fn restart(journal: &mut Journal<MemDisk>, said: &mut String) -> Result<(), Faul
 }
 
 /// Puts the bytes of the body of a frame, from a place on, at most so many.
-fn peek(
+fn peek<D: Disk>(
     alloc: Global,
-    journal: &mut Journal<MemDisk>,
+    journal: &mut Journal<D>,
     step: Step<'_>,
     said: &mut String,
 ) -> Result<(), Fault> {
@@ -94,10 +106,14 @@ fn peek(
 }
 
 /// Puts the bytes of a disk, or the frames of its journal.
-fn show(alloc: Global, shown: &str, disk: MemDisk, said: &mut String) -> Result<(), Fault> {
-    let mut disk = disk;
+fn show<D: Disk + Drop>(
+    alloc: Global,
+    shown: &str,
+    disk: D,
+    said: &mut String,
+) -> Result<(), Fault> {
     if shown == "bytes" {
-        return put_hex(said, &bytes_of(alloc, &mut disk)?);
+        return put_disk(alloc, said, disk);
     }
     match Journal::load(alloc, disk) {
         Ok(mut journal) => put_frames(alloc, &mut journal, said),
@@ -106,9 +122,9 @@ fn show(alloc: Global, shown: &str, disk: MemDisk, said: &mut String) -> Result<
 }
 
 /// Puts the frames of a journal, each in brackets.
-fn put_frames(
+fn put_frames<D: Disk>(
     alloc: Global,
-    journal: &mut Journal<MemDisk>,
+    journal: &mut Journal<D>,
     said: &mut String,
 ) -> Result<(), Fault> {
     let mut body = Vec::new(alloc);

@@ -10,12 +10,25 @@ mod journals;
 mod records;
 mod stores;
 
+use std::alloc::Global;
 use std::io;
-use test_tools::play;
+use test_tools::{Cases, Fault, play};
+
+/// The words of the rows, by table.
+struct Rows;
+
+impl Cases for Rows {
+    fn words(alloc: Global, table: &str, given: &str) -> Result<String, Fault> {
+        match table {
+            "journals" => journals::words(alloc, given),
+            "records" => records::words(alloc, given),
+            "stores" => stores::words(alloc, given),
+            "contents" => contents::words(alloc, given),
+            _ => Err(Fault::Field),
+        }
+    }
+}
 
 fn main(rt: HostRuntime) -> io::Result<()> {
-    play::<journals::Rows, _>(&rt, "journals")?;
-    play::<records::Rows, _>(&rt, "records")?;
-    play::<stores::Rows, _>(&rt, "stores")?;
-    play::<contents::Rows, _>(&rt, "contents")
+    play::<Rows, _>(&rt, &["journals", "records", "stores", "contents"])
 }

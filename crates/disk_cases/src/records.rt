@@ -5,30 +5,26 @@ ghost use Rattle.oc_record.specs.Spelling.{records_bytes};
 
 use oc_record::{Record, decode, encode, spellings_are_read};
 use std::alloc::Global;
-use test_tools::{Cases, Fault, Fields, put_hex};
+use test_tools::{Fault, Fields, put_hex};
 
 /// The words of a row: the records of the bytes, or their fault. Where they are written otherwise, the
 /// bytes follow.
-pub struct Rows;
-
-impl Cases for Rows {
-    fn answer(alloc: Global, given: &str) -> Result<String, Fault> {
-        let mut fields = Fields::of(given, ' ');
-        let nodes = fields.small()?;
-        let bytes = fields.bytes(alloc)?;
-        let mut said = String::new(alloc);
-        match decode(alloc, &bytes, nodes) {
-            Ok(list) => {
-                write!(said, "{list:?}")?;
-                let written = written_again(alloc, &bytes, nodes)?;
-                if written.as_slice() != bytes.as_slice() {
-                    put_hex(&mut said, &written)?;
-                }
+pub fn words(alloc: Global, given: &str) -> Result<String, Fault> {
+    let mut fields = Fields::of(given, ' ');
+    let nodes = fields.small()?;
+    let bytes = fields.bytes(alloc)?;
+    let mut said = String::new(alloc);
+    match decode(alloc, &bytes, nodes) {
+        Ok(list) => {
+            write!(said, "{list:?}")?;
+            let written = written_again(alloc, &bytes, nodes)?;
+            if written.as_slice() != bytes.as_slice() {
+                put_hex(&mut said, &written)?;
             }
-            Err(fault) => write!(said, "{fault:?}")?,
         }
-        Ok(said)
+        Err(fault) => write!(said, "{fault:?}")?,
     }
+    Ok(said)
 }
 
 /// The bytes of the records of these bytes.

@@ -1,43 +1,55 @@
 //! The store of a node's control records on two disks.
 
-use oc_io::MemDisk;
+use oc_io::Disk;
 use oc_store::{Record, Store, StoreError};
 use std::alloc::Global;
-use test_tools::{Cases, Fault, Step, bytes_of, disk_in, put_hex};
+use std::str::SplitAsciiWhitespace;
+use test_tools::{Fault, Step, disk_in, put_disk};
 
 /// How many nodes there are.
 const NODES: u32 = 2;
 
 /// The words of a row: what each step says, and then what the disks hold after a crash.
-pub struct Rows;
+pub fn words(alloc: Global, given: &str) -> Result<String, Fault> {
+    let mut fields = given.split_ascii_whitespace();
+    let shown = fields.next().unwrap_or("");
+    let first = disk_in(alloc, fields.next().unwrap_or(""))?;
+    let second = disk_in(alloc, fields.next().unwrap_or(""))?;
+    let mut said = String::new(alloc);
+    if let Some((first, second)) = play(alloc, first, second, fields, &mut said)? {
+        show(alloc, shown, first.crash(), second.crash(), &mut said)?;
+    }
+    Ok(said)
+}
 
-impl Cases for Rows {
-    fn answer(alloc: Global, given: &str) -> Result<String, Fault> {
-        let mut fields = given.split_ascii_whitespace();
-        let shown = fields.next().unwrap_or("");
-        let first = disk_in(alloc, fields.next().unwrap_or(""))?;
-        let second = disk_in(alloc, fields.next().unwrap_or(""))?;
-        let mut said = String::new(alloc);
-        match Store::load(alloc, first, second, NODES) {
-            Ok((mut store, _list)) => {
-                for field in fields {
-                    act(&mut store, Step::of(field), &mut said)?;
-                }
-                let (first, second) = store.into_disks();
-                show(alloc, shown, first.crash(), second.crash(), &mut said)?;
+/// Loads the store of two disks and does the steps. The disks come back, unless they hold no store.
+fn play<D: Disk + Drop>(
+    alloc: Global,
+    first: D,
+    second: D,
+    steps: SplitAsciiWhitespace<'_>,
+    said: &mut String,
+) -> Result<Option<(D, D)>, Fault> {
+    match Store::load(alloc, first, second, NODES) {
+        Ok((mut store, _list)) => {
+            for step in steps {
+                act(&mut store, Step::of(step), said)?;
             }
-            Err((first, second, StoreError::Disk)) => {
-                said.push_str("Disk ")?;
-                show(alloc, shown, first.crash(), second.crash(), &mut said)?;
-            }
-            Err((_first, _second, error)) => write!(said, "{error:?}")?,
+            Ok(Some(store.into_disks()))
         }
-        Ok(said)
+        Err((first, second, StoreError::Disk)) => {
+            said.push_str("Disk ")?;
+            Ok(Some((first, second)))
+        }
+        Err((_first, _second, error)) => {
+            write!(said, "{error:?}")?;
+            Ok(None)
+        }
     }
 }
 
 /// Does a step, and puts what it says.
-fn act(store: &mut Store<MemDisk>, step: Step<'_>, said: &mut String) -> Result<(), Fault> {
+fn act<D: Disk>(store: &mut Store<D>, step: Step<'_>, said: &mut String) -> Result<(), Fault> {
     match step.word {
         "ask" => ask(store, step, said),
         "lost" => lose(store, said),
@@ -55,7 +67,7 @@ fn act(store: &mut Store<MemDisk>, step: Step<'_>, said: &mut String) -> Result<
 }
 
 /// Commits an ask, and puts the error, if there is one.
-fn ask(store: &mut Store<MemDisk>, step: Step<'_>, said: &mut String) -> Result<(), Fault> {
+fn ask<D: Disk>(store: &mut Store<D>, step: Step<'_>, said: &mut String) -> Result<(), Fault> {
     let mut fields = step.fields;
     let seq = fields.number()?;
     let peer = fields.node()?;
@@ -67,7 +79,7 @@ fn ask(store: &mut Store<MemDisk>, step: Step<'_>, said: &mut String) -> Result<
 }
 
 /// Commits that the parent was lost, and puts the error, if there is one.
-fn lose(store: &mut Store<MemDisk>, said: &mut String) -> Result<(), Fault> {
+fn lose<D: Disk>(store: &mut Store<D>, said: &mut String) -> Result<(), Fault> {
     let frame = store.prepare(&[Record::Lost])?;
     if let Err(error) = store.commit(&frame) {
         write!(said, "{error:?} ")?;
@@ -76,7 +88,7 @@ fn lose(store: &mut Store<MemDisk>, said: &mut String) -> Result<(), Fault> {
 }
 
 /// Turns over to the next generation, and puts the error, if there is one.
-fn turn_over(store: &mut Store<MemDisk>, said: &mut String) -> Result<(), Fault> {
+fn turn_over<D: Disk>(store: &mut Store<D>, said: &mut String) -> Result<(), Fault> {
     let generation = store.generation();
     if generation == u64::MAX {
         return Err(Fault::Unready);
@@ -92,28 +104,23 @@ fn turn_over(store: &mut Store<MemDisk>, said: &mut String) -> Result<(), Fault>
 }
 
 /// Puts the bytes of both disks, or the records that they recover.
-fn show(
+fn show<D: Disk + Drop>(
     alloc: Global,
     shown: &str,
-    first: MemDisk,
-    second: MemDisk,
+    first: D,
+    second: D,
     said: &mut String,
 ) -> Result<(), Fault> {
     if shown == "nothing" {
         return Ok(());
     }
     if shown == "bytes" {
-        put_bytes(alloc, first, said)?;
+        put_disk(alloc, said, first)?;
         said.push_str(" ")?;
-        return put_bytes(alloc, second, said);
+        return put_disk(alloc, said, second);
     }
     match Store::load(alloc, first, second, NODES) {
         Ok((_store, list)) => Ok(write!(said, "{list:?}")?),
         Err(_) => Err(Fault::Unready),
     }
-}
-
-fn put_bytes(alloc: Global, disk: MemDisk, said: &mut String) -> Result<(), Fault> {
-    let mut disk = disk;
-    put_hex(said, &bytes_of(alloc, &mut disk)?)
 }

@@ -1,28 +1,33 @@
 //! Clocks that give the numbers of two lists.
 
-use crate::lists::numbers_in;
 use oc_outside::{Clock, FixedClock};
 use std::alloc::Global;
-use test_tools::{Cases, Fault};
+use test_tools::{Fault, Fields};
+
+/// More calls than a row has.
+const MOST_CALLS: u32 = 100;
 
 /// The words of a row: the number of each call.
-pub struct Rows;
-
-impl Cases for Rows {
-    fn answer(alloc: Global, given: &str) -> Result<String, Fault> {
-        let mut fields = given.split_ascii_whitespace();
-        let times = numbers_in(alloc, fields.next().unwrap_or(""))?;
-        let millis = numbers_in(alloc, fields.next().unwrap_or(""))?;
-        let mut clock = FixedClock::new(times, millis);
-        let mut said = String::new(alloc);
-        for call in fields {
-            let number = match call {
-                "now" => clock.now(),
-                "millis" => clock.millis(),
-                _ => return Err(Fault::Field),
-            };
-            write!(said, "{number} ")?;
+pub fn words(alloc: Global, given: &str) -> Result<String, Fault> {
+    let mut fields = Fields::of(given, ' ');
+    let times = fields.numbers(alloc)?;
+    let mut clock = FixedClock::new(times, fields.numbers(alloc)?);
+    let mut said = String::new(alloc);
+    for _ in 0..MOST_CALLS {
+        if fields.is_empty() {
+            break;
         }
-        Ok(said)
+        let number = number_of(&mut clock, fields.text())?;
+        write!(said, "{number} ")?;
+    }
+    Ok(said)
+}
+
+/// The number that a call gives.
+fn number_of<C: Clock>(clock: &mut C, call: &str) -> Result<u64, Fault> {
+    match call {
+        "now" => Ok(clock.now()),
+        "millis" => Ok(clock.millis()),
+        _ => Err(Fault::Field),
     }
 }

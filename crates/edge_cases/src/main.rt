@@ -7,18 +7,30 @@
 
 mod clocks;
 mod links;
-mod lists;
 mod peers;
 mod probes;
 mod rates;
 
+use std::alloc::Global;
 use std::io;
-use test_tools::play;
+use test_tools::{Cases, Fault, play};
+
+/// The words of the rows, by table.
+struct Rows;
+
+impl Cases for Rows {
+    fn words(alloc: Global, table: &str, given: &str) -> Result<String, Fault> {
+        match table {
+            "clocks" => clocks::words(alloc, given),
+            "links" => links::words(alloc, given),
+            "rates" => rates::words(alloc, given),
+            "peers" => peers::words(alloc, given),
+            "probes" => probes::words(alloc, given),
+            _ => Err(Fault::Field),
+        }
+    }
+}
 
 fn main(rt: HostRuntime) -> io::Result<()> {
-    play::<clocks::Rows, _>(&rt, "clocks")?;
-    play::<links::Rows, _>(&rt, "links")?;
-    play::<rates::Rows, _>(&rt, "rates")?;
-    play::<peers::Rows, _>(&rt, "peers")?;
-    play::<probes::Rows, _>(&rt, "probes")
+    play::<Rows, _>(&rt, &["clocks", "links", "rates", "peers", "probes"])
 }

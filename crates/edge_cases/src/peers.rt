@@ -5,7 +5,7 @@ ghost use Rattle.std.specs.Prelude.{◌≡◌, length};
 use oc_base::NodeId;
 use oc_probe::{Gauge, Rotation};
 use std::alloc::Global;
-use test_tools::{Cases, Fault, Fields, Step};
+use test_tools::{Fault, Fields, Step};
 
 /// The number of peers of the gauge.
 const PEERS: u32 = 3;
@@ -18,29 +18,24 @@ struct Rates {
 }
 
 /// The words of a row: what each step says.
-pub struct Rows;
-
-impl Cases for Rows {
-    fn answer(alloc: Global, given: &str) -> Result<String, Fault> {
-        let mut rates = Rates {
-            gauge: Gauge::new(alloc, PEERS)?,
-        };
-        let mut said = String::new(alloc);
-        for field in given.split_ascii_whitespace() {
-            let step = Step::of(field);
-            match step.word {
-                "put" => put(&mut rates, step.fields, &mut said)?,
-                "turns" => turn(step.fields, &mut said)?,
-                _ => return Err(Fault::Field),
-            }
+pub fn words(alloc: Global, given: &str) -> Result<String, Fault> {
+    let mut rates = Rates {
+        gauge: Gauge::new(alloc, PEERS)?,
+    };
+    let mut said = String::new(alloc);
+    for field in given.split_ascii_whitespace() {
+        let step = Step::of(field);
+        match step.word {
+            "put" => put(&mut rates, step.fields, &mut said)?,
+            "turns" => turn(step.fields, &mut said)?,
+            _ => return Err(Fault::Field),
         }
-        Ok(said)
     }
+    Ok(said)
 }
 
 /// Puts a rate of a peer, and says the median.
-fn put(rates: &mut Rates, fields: Fields<'_>, said: &mut String) -> Result<(), Fault> {
-    let mut fields = fields;
+fn put(rates: &mut Rates, mut fields: Fields<'_>, said: &mut String) -> Result<(), Fault> {
     let peer = fields.node()?;
     let rate = fields.number()?;
     if peer.0 < 1 || peer.0 > PEERS {
@@ -51,8 +46,7 @@ fn put(rates: &mut Rates, fields: Fields<'_>, said: &mut String) -> Result<(), F
 }
 
 /// Says the first peers of a node.
-fn turn(fields: Fields<'_>, said: &mut String) -> Result<(), Fault> {
-    let mut fields = fields;
+fn turn(mut fields: Fields<'_>, said: &mut String) -> Result<(), Fault> {
     let me = fields.node()?;
     let nodes = fields.small()?;
     let count = fields.byte()?;

@@ -2,13 +2,12 @@
 
 ghost use Rattle.oc_http.specs.Writing.{HasPhrase};
 
-use crate::lists::numbers_in;
 use oc_base::Bytes;
 use oc_http::{Reply, write_response};
-use oc_outside::{FixedClock, MemLink};
+use oc_outside::{Clock, FixedClock, Link, MemLink};
 use oc_probe::probe;
 use std::alloc::Global;
-use test_tools::{Cases, Fault, Fields};
+use test_tools::{Fault, Fields};
 
 /// The bytes that the link keeps.
 const ROOM: usize = 1_024;
@@ -17,30 +16,36 @@ const ROOM: usize = 1_024;
 const ADDRESS: &str = "node2:8080";
 
 /// The words of a row: the rate or the fault, and what was dialled.
-pub struct Rows;
+pub fn words(alloc: Global, given: &str) -> Result<String, Fault> {
+    let mut fields = Fields::of(given, ' ');
+    let millis = fields.numbers(alloc)?;
+    let fails = fields.numbers(alloc)?;
+    let cut = fields.small()? as usize;
+    let replies = replies_in(alloc, &mut fields)?;
+    if cut < 1 {
+        return Err(Fault::Field);
+    }
+    let mut link = MemLink::new(alloc, Vec::new(alloc), replies, ROOM, cut, fails)?;
+    let mut clock = FixedClock::new(Vec::new(alloc), millis);
+    let mut said = String::new(alloc);
+    put_probe(alloc, &mut said, &mut link, &mut clock)?;
+    match link.dialled(0) {
+        Some(request) => put_lines(&mut said, request)?,
+        None => said.push_str(" no dial")?,
+    }
+    Ok(said)
+}
 
-impl Cases for Rows {
-    fn answer(alloc: Global, given: &str) -> Result<String, Fault> {
-        let mut fields = Fields::of(given, ' ');
-        let millis = numbers_in(alloc, fields.text())?;
-        let fails = numbers_in(alloc, fields.text())?;
-        let cut = fields.small()? as usize;
-        let replies = replies_in(alloc, &mut fields)?;
-        if cut < 1 {
-            return Err(Fault::Field);
-        }
-        let mut link = MemLink::new(alloc, Vec::new(alloc), replies, ROOM, cut, fails)?;
-        let mut clock = FixedClock::new(Vec::new(alloc), millis);
-        let mut said = String::new(alloc);
-        match probe(alloc, ADDRESS, &mut link, &mut clock) {
-            Ok(rate) => write!(said, "{rate}")?,
-            Err(fault) => write!(said, "{fault:?}")?,
-        }
-        match link.dialled(0) {
-            Some(request) => put_lines(&mut said, request)?,
-            None => said.push_str(" no dial")?,
-        }
-        Ok(said)
+/// Makes a probe, and puts the rate or the fault.
+fn put_probe<L: Link, C: Clock>(
+    alloc: Global,
+    said: &mut String,
+    link: &mut L,
+    clock: &mut C,
+) -> Result<(), Fault> {
+    match probe(alloc, ADDRESS, link, clock) {
+        Ok(rate) => Ok(write!(said, "{rate}")?),
+        Err(fault) => Ok(write!(said, "{fault:?}")?),
     }
 }
 

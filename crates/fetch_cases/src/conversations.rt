@@ -1,12 +1,12 @@
 //! Downloads over a link and onto a sink in memory.
 
-use crate::texts::{numbers_in, put_text, text_in, texts_in};
+use crate::texts::{put_text, text_in, texts_in};
 use oc_fetch::{GetEnd, follow, get};
-use oc_io::MemSink;
-use oc_outside::MemLink;
+use oc_io::{MemSink, Sink};
+use oc_outside::{Link, MemLink};
 use std::alloc::Global;
 use std::str;
-use test_tools::{Cases, Fault, Fields, Step};
+use test_tools::{Fault, Fields, Step};
 
 /// The room of a link and of a sink.
 const ROOM: usize = 1_000_000;
@@ -15,42 +15,36 @@ const ROOM: usize = 1_000_000;
 const MOST_DIALS: u64 = 20;
 
 /// The words of a row: how the download ended, what was written, and what each dial was sent.
-pub struct Rows;
-
-impl Cases for Rows {
-    fn answer(alloc: Global, given: &str) -> Result<String, Fault> {
-        let mut fields = given.split_ascii_whitespace();
-        let call = Step::of(fields.next().unwrap_or(""));
-        let address = text_in(alloc, fields.next().unwrap_or(""))?;
-        let cut = Fields::of(fields.next().unwrap_or(""), ' ').small()? as usize;
-        let link_fails = numbers_in(alloc, fields.next().unwrap_or(""))?;
-        let sink_fails = numbers_in(alloc, fields.next().unwrap_or(""))?;
-        let replies = texts_in(alloc, fields.next().unwrap_or(""))?;
-        if cut < 1 {
-            return Err(Fault::Field);
-        }
-        let mut link = MemLink::new(alloc, Vec::new(alloc), replies, ROOM, cut, link_fails)?;
-        let mut sink = MemSink::new(alloc, ROOM, sink_fails)?;
-        let end = download(alloc, call, &address, &mut link, &mut sink)?;
-        tell(alloc, end, &link, &sink)
+pub fn words(alloc: Global, given: &str) -> Result<String, Fault> {
+    let mut fields = Fields::of(given, ' ');
+    let call = Step::of(fields.text());
+    let address = text_in(alloc, fields.text())?;
+    let cut = fields.small()? as usize;
+    let link_fails = fields.numbers(alloc)?;
+    let mut sink = MemSink::new(alloc, ROOM, fields.numbers(alloc)?)?;
+    let replies = texts_in(alloc, fields.list())?;
+    if cut < 1 {
+        return Err(Fault::Field);
     }
+    let mut link = MemLink::new(alloc, Vec::new(alloc), replies, ROOM, cut, link_fails)?;
+    let end = download(alloc, call, &address, &mut link, &mut sink)?;
+    tell(alloc, end, &link, &sink)
 }
 
 /// Makes the call of a row.
-fn download(
+fn download<L: Link, S: Sink>(
     alloc: Global,
-    call: Step<'_>,
+    mut call: Step<'_>,
     address: &[u8],
-    link: &mut MemLink,
-    sink: &mut MemSink,
+    link: &mut L,
+    sink: &mut S,
 ) -> Result<GetEnd, Fault> {
     let Ok(address) = str::from_utf8(address) else {
         return Err(Fault::Field);
     };
-    let mut fields = call.fields;
     match call.word {
         "get" => Ok(get(alloc, address, link, sink)),
-        "follow" => Ok(follow(alloc, address, fields.number()?, link, sink)),
+        "follow" => Ok(follow(alloc, address, call.fields.number()?, link, sink)),
         _ => Err(Fault::Field),
     }
 }

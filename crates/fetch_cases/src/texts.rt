@@ -30,9 +30,8 @@ pub fn text_in(alloc: Global, field: &str) -> Result<Vec<u8>, Fault> {
     Ok(text)
 }
 
-/// Texts, with commas between them; `-` is none.
-pub fn texts_in(alloc: Global, field: &str) -> Result<Vec<Vec<u8>>, Fault> {
-    let mut list = Fields::of(field, ' ').list();
+/// The texts of a list.
+pub fn texts_in(alloc: Global, mut list: Fields<'_>) -> Result<Vec<Vec<u8>>, Fault> {
     let mut texts = Vec::new(alloc);
     for _ in 0..MOST {
         if list.is_empty() {
@@ -41,19 +40,6 @@ pub fn texts_in(alloc: Global, field: &str) -> Result<Vec<Vec<u8>>, Fault> {
         texts.push(text_in(alloc, list.text())?)?;
     }
     Ok(texts)
-}
-
-/// Numbers, with commas between them; `-` is none.
-pub fn numbers_in(alloc: Global, field: &str) -> Result<Vec<u64>, Fault> {
-    let mut list = Fields::of(field, ' ').list();
-    let mut numbers = Vec::new(alloc);
-    for _ in 0..MOST {
-        if list.is_empty() {
-            break;
-        }
-        numbers.push(list.number()?)?;
-    }
-    Ok(numbers)
 }
 
 /// Puts a text as rows write it, save that `=` stands for itself, and of a long one its length.

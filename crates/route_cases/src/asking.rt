@@ -54,8 +54,7 @@ pub fn rules_in(alloc: Global, text: &str) -> Result<Vec<Rule>, Fault>
     Ok(rules)
 }
 
-fn rule_in(fields: Fields<'_>) -> Result<Rule, Fault> {
-    let mut fields = fields;
+fn rule_in(mut fields: Fields<'_>) -> Result<Rule, Fault> {
     let allow = match fields.text() {
         "allow" => true,
         "deny" => false,

@@ -10,14 +10,26 @@ mod lines;
 mod replies;
 mod requests;
 mod responses;
-mod spelled;
 
+use std::alloc::Global;
 use std::io;
-use test_tools::play;
+use test_tools::{Cases, Fault, play};
+
+/// The words of the rows, by table.
+struct Rows;
+
+impl Cases for Rows {
+    fn words(alloc: Global, table: &str, given: &str) -> Result<String, Fault> {
+        match table {
+            "requests" => requests::words(alloc, given),
+            "responses" => responses::words(alloc, given),
+            "replies" => replies::words(alloc, given),
+            "lines" => lines::words(alloc, given),
+            _ => Err(Fault::Field),
+        }
+    }
+}
 
 fn main(rt: HostRuntime) -> io::Result<()> {
-    play::<requests::Rows, _>(&rt, "requests")?;
-    play::<responses::Rows, _>(&rt, "responses")?;
-    play::<replies::Rows, _>(&rt, "replies")?;
-    play::<lines::Rows, _>(&rt, "lines")
+    play::<Rows, _>(&rt, &["requests", "responses", "replies", "lines"])
 }

@@ -4,44 +4,39 @@ use oc_base::NodeId;
 use oc_model::{Body, Message};
 use oc_routes::split_reply;
 use std::alloc::Global;
-use test_tools::{Cases, Fault, Fields};
+use test_tools::{Fault, Fields};
 
 /// More messages than a row has.
 const MOST_MESSAGES: u32 = 100;
 
 /// The words of a row: the reply, and the other messages.
-pub struct Rows;
-
-impl Cases for Rows {
-    fn answer(alloc: Global, given: &str) -> Result<String, Fault> {
-        let mut fields = Fields::of(given, ' ');
-        let sender = fields.node()?;
-        let mut sends = Vec::new(alloc);
-        let mut list = fields.list();
-        for _ in 0..MOST_MESSAGES {
-            if list.is_empty() {
-                break;
-            }
-            sends.push(message_in(Fields::of(list.text(), ':'))?)?;
+pub fn words(alloc: Global, given: &str) -> Result<String, Fault> {
+    let mut fields = Fields::of(given, ' ');
+    let sender = fields.node()?;
+    let mut sends = Vec::new(alloc);
+    let mut list = fields.list();
+    for _ in 0..MOST_MESSAGES {
+        if list.is_empty() {
+            break;
         }
-        let (reply, others) = split_reply(sends, sender);
-        let mut said = String::new(alloc);
-        match reply {
-            Some(reply) => put_message(&mut said, &reply)?,
-            None => said.push_str("none")?,
-        }
-        said.push_str(" and")?;
-        for message in &others {
-            said.push(' ')?;
-            put_message(&mut said, message)?;
-        }
-        Ok(said)
+        sends.push(message_in(Fields::of(list.text(), ':'))?)?;
     }
+    let (reply, others) = split_reply(sends, sender);
+    let mut said = String::new(alloc);
+    match reply {
+        Some(reply) => put_message(&mut said, &reply)?,
+        None => said.push_str("none")?,
+    }
+    said.push_str(" and")?;
+    for message in &others {
+        said.push(' ')?;
+        put_message(&mut said, message)?;
+    }
+    Ok(said)
 }
 
 /// The message of a text `FROM:TO:SEQ`.
-fn message_in(fields: Fields<'_>) -> Result<Message, Fault> {
-    let mut fields = fields;
+fn message_in(mut fields: Fields<'_>) -> Result<Message, Fault> {
     Ok(Message {
         from: fields.node()?,
         to: fields.node()?,

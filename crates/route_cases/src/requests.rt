@@ -5,34 +5,29 @@ ghost use Rattle.std.specs.Prelude.{◌≤◌, length};
 ghost use Rattle.oc_policy.specs.declared.deciding.TheConstants.{MAX_RULES as RULE_LIMIT};
 
 use crate::asking::{request_in, rules_in};
-use crate::spelled::{put_spelled, spelled_in};
 use oc_base::NodeId;
 use oc_policy::Rule;
 use oc_routes::{Refused, RouteFault, input_of, put_input_line, put_refusal_line, refusal_reply};
 use std::alloc::Global;
-use test_tools::{Cases, Fault, Fields};
+use test_tools::{Fault, Fields, put_spelled, spelled_in};
 
 /// The number of nodes.
 const NODES: u32 = 3;
 
 /// The words of a row: the line, and of a refused request the reply.
-pub struct Rows;
-
-impl Cases for Rows {
-    fn answer(alloc: Global, given: &str) -> Result<String, Fault> {
-        let (rules, rest) = given.split_once(' ').unwrap_or((given, ""));
-        let (me, text) = rest.split_once(' ').unwrap_or((rest, ""));
-        let rules = rules_in(alloc, rules)?;
-        let me = Fields::of(me, ' ').node()?;
-        let bytes = spelled_in(alloc, text)?;
-        let mut said = String::new(alloc);
-        match line_of(alloc, bytes, &rules, me) {
-            Ok(line) => put_line(&mut said, &line)?,
-            Err(RouteFault::Refused(refused)) => put_refusal(alloc, &mut said, refused)?,
-            Err(RouteFault::Memory) => return Err(Fault::Memory),
-        }
-        Ok(said)
+pub fn words(alloc: Global, given: &str) -> Result<String, Fault> {
+    let (rules, rest) = given.split_once(' ').unwrap_or((given, ""));
+    let (me, text) = rest.split_once(' ').unwrap_or((rest, ""));
+    let rules = rules_in(alloc, rules)?;
+    let me = Fields::of(me, ' ').node()?;
+    let bytes = spelled_in(alloc, text)?;
+    let mut said = String::new(alloc);
+    match line_of(alloc, bytes, &rules, me) {
+        Ok(line) => put_line(&mut said, &line)?,
+        Err(RouteFault::Refused(refused)) => put_refusal(alloc, &mut said, refused)?,
+        Err(RouteFault::Memory) => return Err(Fault::Memory),
     }
+    Ok(said)
 }
 
 /// The line of the input that comes of a request; empty where none comes.

@@ -6,16 +6,22 @@ ghost use Rattle.oc_routes.specs.Lawful.{IsAsked};
 ghost use Rattle.oc_wire.specs.Spelling.{HasSpelling};
 
 use crate::asking::{Request, request_in};
-use crate::spelled::{put_spelled, spelled_in};
 use oc_base::NodeId;
 use oc_model::{Answer, Message};
 use oc_routes::{Connection, Response, is_last, respond};
 use oc_wire::decode;
 use std::alloc::Global;
-use test_tools::{Cases, Fault, Fields};
+use test_tools::{Fault, Fields, put_spelled, spelled_in};
 
 /// The words of a row: what becomes of the connection, the content that is sent, and the text.
-pub struct Rows;
+pub fn words(alloc: Global, given: &str) -> Result<String, Fault> {
+    let (turn, rest) = given.split_once(' ').unwrap_or((given, ""));
+    let (reply, text) = rest.split_once(' ').unwrap_or((rest, ""));
+    match turn_in(Fields::of(turn, ',')) {
+        Ok(turn) => answer_for(alloc, turn, reply, text),
+        Err(fault) => Err(fault),
+    }
+}
 
 /// What comes to a request besides its bytes.
 #[derive(Clone, Copy)]
@@ -24,17 +30,6 @@ struct Turn {
     number: u64,
     answer: Answer,
     sealed: bool,
-}
-
-impl Cases for Rows {
-    fn answer(alloc: Global, given: &str) -> Result<String, Fault> {
-        let (turn, rest) = given.split_once(' ').unwrap_or((given, ""));
-        let (reply, text) = rest.split_once(' ').unwrap_or((rest, ""));
-        match turn_in(Fields::of(turn, ',')) {
-            Ok(turn) => answer_for(alloc, turn, reply, text),
-            Err(fault) => Err(fault),
-        }
-    }
 }
 
 /// The words of the row of this turn.
@@ -48,8 +43,7 @@ fn answer_for(alloc: Global, turn: Turn, reply: &str, text: &str) -> Result<Stri
 }
 
 /// The turn of a text such as `1,serve:3,open`.
-fn turn_in(fields: Fields<'_>) -> Result<Turn, Fault> {
-    let mut fields = fields;
+fn turn_in(mut fields: Fields<'_>) -> Result<Turn, Fault> {
     let number = fields.number()?;
     let answer = answer_in(Fields::of(fields.text(), ':'))?;
     let sealed = match fields.text() {
@@ -64,8 +58,7 @@ fn turn_in(fields: Fields<'_>) -> Result<Turn, Fault> {
     })
 }
 
-fn answer_in(fields: Fields<'_>) -> Result<Answer, Fault> {
-    let mut fields = fields;
+fn answer_in(mut fields: Fields<'_>) -> Result<Answer, Fault> {
     match fields.text() {
         "ok" => Ok(Answer::Ok),
         "ignored" => Ok(Answer::Ignored),

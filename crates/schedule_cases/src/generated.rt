@@ -3,24 +3,20 @@
 use oc_base::MAX_NODES;
 use oc_schedule::{MAX_GENERATED_EVENTS, generate, print};
 use std::alloc::Global;
-use test_tools::{Cases, Fault, Fields};
+use test_tools::{Fault, Fields};
 
 /// The words of a row: how long the text is, and some of its lines.
-pub struct Rows;
-
-impl Cases for Rows {
-    fn answer(alloc: Global, given: &str) -> Result<String, Fault> {
-        let mut fields = Fields::of(given, ' ');
-        let text = text_of(alloc, &mut fields)?;
-        let mut said = String::new(alloc);
-        let bytes = text.len();
-        let lines = text.iter().filter(|byte| **byte == b'\n').count();
-        write!(said, "{bytes} bytes, {lines} lines")?;
-        for number in fields.text().split(',') {
-            put_line(&mut said, &text, Fields::of(number, ' ').number()?)?;
-        }
-        Ok(said)
+pub fn words(alloc: Global, given: &str) -> Result<String, Fault> {
+    let mut fields = Fields::of(given, ' ');
+    let text = text_of(alloc, &mut fields)?;
+    let mut said = String::new(alloc);
+    let bytes = text.len();
+    let lines = text.iter().filter(|byte| **byte == b'\n').count();
+    write!(said, "{bytes} bytes, {lines} lines")?;
+    for number in fields.text().split(',') {
+        put_line(&mut said, &text, Fields::of(number, ' ').number()?)?;
     }
+    Ok(said)
 }
 
 /// The text of the schedule of a seed, with this number of nodes and of events.

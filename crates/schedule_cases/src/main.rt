@@ -4,9 +4,22 @@
 
 mod generated;
 
+use std::alloc::Global;
 use std::io;
-use test_tools::play;
+use test_tools::{Cases, Fault, play};
+
+/// The words of the rows, by table.
+struct Rows;
+
+impl Cases for Rows {
+    fn words(alloc: Global, table: &str, given: &str) -> Result<String, Fault> {
+        match table {
+            "generated" => generated::words(alloc, given),
+            _ => Err(Fault::Field),
+        }
+    }
+}
 
 fn main(rt: HostRuntime) -> io::Result<()> {
-    play::<generated::Rows, _>(&rt, "generated")
+    play::<Rows, _>(&rt, &["generated"])
 }

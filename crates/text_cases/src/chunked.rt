@@ -2,37 +2,39 @@
 
 use oc_stream::{ChunkFault, Unchunker, chunk_text};
 use std::alloc::Global;
-use test_tools::{Cases, Fault, Fields, put_hex};
+use test_tools::{Fault, Fields, put_hex};
 
 /// The words of a row: what was written, or what came of the text.
-pub struct Rows;
+pub fn words(alloc: Global, given: &str) -> Result<String, Fault> {
+    let mut fields = Fields::of(given, ' ');
+    let kind = fields.text();
+    let text = bytes_in(alloc, fields.list())?;
+    let mut said = String::new(alloc);
+    put_words(alloc, &mut said, kind, &text)?;
+    Ok(said)
+}
 
-impl Cases for Rows {
-    fn answer(alloc: Global, given: &str) -> Result<String, Fault> {
-        let mut fields = Fields::of(given, ' ');
-        let kind = fields.text();
-        let text = bytes_in(alloc, fields.list())?;
-        let mut said = String::new(alloc);
-        match kind {
-            "write" => put_hex(&mut said, &chunk_text(alloc, &text)?)?,
-            "size" => put_size(&mut said, &chunk_text(alloc, &text)?)?,
-            "whole" => put_fed(&mut said, &fed_in_pieces(alloc, &text, text.len())?)?,
-            "bytes" => put_fed(&mut said, &fed_in_pieces(alloc, &text, 1)?)?,
-            "every" => put_every(&mut said, alloc, &text)?,
-            "back" => put_fed(
-                &mut said,
-                &fed_in_pieces(alloc, &chunk_text(alloc, &text)?, 7)?,
-            )?,
-            "again" => put_again(&mut said, alloc, &text)?,
-            _ => return Err(Fault::Field),
-        }
-        Ok(said)
+fn put_words(alloc: Global, said: &mut String, kind: &str, text: &[u8]) -> Result<(), Fault> {
+    match kind {
+        "write" => put_hex(said, &chunk_text(alloc, text)?),
+        "size" => put_size(said, &chunk_text(alloc, text)?),
+        "whole" => put_fed(said, &fed_in_pieces(alloc, text, text.len())?),
+        "bytes" => put_fed(said, &fed_in_pieces(alloc, text, 1)?),
+        "every" => put_every(said, alloc, text),
+        "back" => put_back(said, alloc, text),
+        "again" => put_again(said, alloc, text),
+        _ => Err(Fault::Field),
     }
 }
 
+/// Puts what comes of a text that is written, and fed in pieces of seven bytes.
+fn put_back(said: &mut String, alloc: Global, text: &[u8]) -> Result<(), Fault> {
+    let written = chunk_text(alloc, text)?;
+    put_fed(said, &fed_in_pieces(alloc, &written, 7)?)
+}
+
 /// The bytes of the fields, each in hexadecimal, with `N*` before it where it stands N times.
-fn bytes_in(alloc: Global, fields: Fields<'_>) -> Result<Vec<u8>, Fault> {
-    let mut fields = fields;
+fn bytes_in(alloc: Global, mut fields: Fields<'_>) -> Result<Vec<u8>, Fault> {
     let mut bytes = Vec::new(alloc);
     for _ in 0..100u8 {
         if fields.is_empty() {

@@ -4,22 +4,18 @@ use crate::rules::put_rules;
 use crate::texts::text_in;
 use oc_config::{Config, ConfigFault, read};
 use std::alloc::Global;
-use test_tools::{Cases, Fault};
+use test_tools::Fault;
 
 /// The words of a row: what the text says, or its fault.
-pub struct Rows;
-
-impl Cases for Rows {
-    fn answer(alloc: Global, given: &str) -> Result<String, Fault> {
-        let text = text_in(alloc, given)?;
-        let mut said = String::new(alloc);
-        match read(alloc, &text) {
-            Ok(config) => put_config(&mut said, &config)?,
-            Err(ConfigFault::Memory) => return Err(Fault::Memory),
-            Err(fault) => write!(said, "{fault}")?,
-        }
-        Ok(said)
+pub fn words(alloc: Global, given: &str) -> Result<String, Fault> {
+    let text = text_in(alloc, given)?;
+    let mut said = String::new(alloc);
+    match read(alloc, &text) {
+        Ok(config) => put_config(&mut said, &config)?,
+        Err(ConfigFault::Memory) => return Err(Fault::Memory),
+        Err(fault) => write!(said, "{fault}")?,
     }
+    Ok(said)
 }
 
 /// Puts what a configuration says: the chain, the address and the area of each node, the measures and the

@@ -13,13 +13,35 @@ mod requests;
 mod rules;
 mod texts;
 
+use std::alloc::Global;
 use std::io;
-use test_tools::play;
+use test_tools::{Cases, Fault, play};
+
+/// The words of the rows, by table.
+struct Rows;
+
+impl Cases for Rows {
+    fn words(alloc: Global, table: &str, given: &str) -> Result<String, Fault> {
+        match table {
+            "configurations" => configurations::words(alloc, given),
+            "requests" => requests::words(alloc, given),
+            "chunked" => chunked::words(alloc, given),
+            "measure_lines" => measure_lines::words(alloc, given),
+            "locations" => locations::words(alloc, given),
+            _ => Err(Fault::Field),
+        }
+    }
+}
 
 fn main(rt: HostRuntime) -> io::Result<()> {
-    play::<configurations::Rows, _>(&rt, "configurations")?;
-    play::<requests::Rows, _>(&rt, "requests")?;
-    play::<chunked::Rows, _>(&rt, "chunked")?;
-    play::<measure_lines::Rows, _>(&rt, "measure_lines")?;
-    play::<locations::Rows, _>(&rt, "locations")
+    play::<Rows, _>(
+        &rt,
+        &[
+            "configurations",
+            "requests",
+            "chunked",
+            "measure_lines",
+            "locations",
+        ],
+    )
 }

@@ -5,7 +5,7 @@ use oc_base::{NodeId, Shelf};
 use oc_io::{Disk, MemDisk};
 use oc_keep::{KeepLoad, Kept, Node};
 use std::alloc::Global;
-use test_tools::{Fault, Fields, bytes_of, disk_in, put_hex};
+use test_tools::{Fault, Fields, disk_in, put_disk};
 
 /// The disks of a node's three files.
 #[derive(Drop)]
@@ -74,16 +74,11 @@ pub fn show(
 ) -> Result<(), Fault> {
     match shown {
         "node" => put_node(alloc, me, files.crash(), said),
-        "control" => put_bytes(alloc, files.control.crash(), said),
-        "alternate" => put_bytes(alloc, files.alternate.crash(), said),
-        "content" => put_bytes(alloc, files.content.crash(), said),
+        "control" => put_disk(alloc, said, files.control.crash()),
+        "alternate" => put_disk(alloc, said, files.alternate.crash()),
+        "content" => put_disk(alloc, said, files.content.crash()),
         _ => Ok(()),
     }
-}
-
-fn put_bytes(alloc: Global, disk: MemDisk, said: &mut String) -> Result<(), Fault> {
-    let mut disk = disk;
-    put_hex(said, &bytes_of(alloc, &mut disk)?)
 }
 
 /// Puts what is durable of the node that these files recover.

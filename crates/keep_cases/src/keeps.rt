@@ -6,26 +6,22 @@ use oc_base::NodeId;
 use oc_io::Disk;
 use oc_keep::Kept;
 use std::alloc::Global;
-use test_tools::{Cases, Fault, Fields, Step, group_in, put_hex};
+use test_tools::{Fault, Fields, Step, group_in, put_hex};
 
 /// More steps than a row has.
 const MOST_STEPS: u32 = 100;
 
 /// The words of a row: what each step says, or why the node was not loaded, and then what the disks hold
 /// after a crash.
-pub struct Rows;
-
-impl Cases for Rows {
-    fn answer(alloc: Global, given: &str) -> Result<String, Fault> {
-        let mut fields = Fields::of(given, ' ');
-        let shown = fields.text();
-        let me = fields.node()?;
-        let files = Files::of(alloc, &mut fields)?;
-        let mut said = String::new(alloc);
-        let files = play(alloc, me, files, fields, &mut said)?;
-        show(alloc, shown, me, files, &mut said)?;
-        Ok(said)
-    }
+pub fn words(alloc: Global, given: &str) -> Result<String, Fault> {
+    let mut fields = Fields::of(given, ' ');
+    let shown = fields.text();
+    let me = fields.node()?;
+    let files = Files::of(alloc, &mut fields)?;
+    let mut said = String::new(alloc);
+    let files = play(alloc, me, files, fields, &mut said)?;
+    show(alloc, shown, me, files, &mut said)?;
+    Ok(said)
 }
 
 /// Loads the node, and does the steps.
@@ -57,10 +53,9 @@ fn play<D: Disk + Drop>(
 fn act_all<D: Disk>(
     alloc: Global,
     kept: &mut Kept<D>,
-    steps: Fields<'_>,
+    mut steps: Fields<'_>,
     said: &mut String,
 ) -> Result<(), Fault> {
-    let mut steps = steps;
     for _ in 0..MOST_STEPS {
         if steps.is_empty() {
             break;
@@ -122,10 +117,9 @@ fn tidy<D: Disk>(kept: &mut Kept<D>, said: &mut String) -> Result<(), Fault> {
 fn measure<D: Disk>(
     alloc: Global,
     kept: &mut Kept<D>,
-    fields: Fields<'_>,
+    mut fields: Fields<'_>,
     said: &mut String,
 ) -> Result<(), Fault> {
-    let mut fields = fields;
     let count = fields.small()?;
     let mut words = String::new(alloc);
     for number in 0..count {
@@ -143,10 +137,9 @@ fn measure<D: Disk>(
 fn read<D: Disk>(
     alloc: Global,
     kept: &mut Kept<D>,
-    fields: Fields<'_>,
+    mut fields: Fields<'_>,
     said: &mut String,
 ) -> Result<(), Fault> {
-    let mut fields = fields;
     let group = group_in(fields.text())?;
     let start = fields.number()?;
     let mut buf = vec![in alloc; 0; fields.byte()? as usize]?;

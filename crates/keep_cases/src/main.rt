@@ -11,11 +11,24 @@ mod keeps;
 mod stops;
 mod trials;
 
+use std::alloc::Global;
 use std::io;
-use test_tools::play;
+use test_tools::{Cases, Fault, play};
+
+/// The words of the rows, by table.
+struct Rows;
+
+impl Cases for Rows {
+    fn words(alloc: Global, table: &str, given: &str) -> Result<String, Fault> {
+        match table {
+            "keeps" => keeps::words(alloc, given),
+            "trials" => trials::words(alloc, given),
+            "stops" => stops::words(alloc, given),
+            _ => Err(Fault::Field),
+        }
+    }
+}
 
 fn main(rt: HostRuntime) -> io::Result<()> {
-    play::<keeps::Rows, _>(&rt, "keeps")?;
-    play::<trials::Rows, _>(&rt, "trials")?;
-    play::<stops::Rows, _>(&rt, "stops")
+    play::<Rows, _>(&rt, &["keeps", "trials", "stops"])
 }

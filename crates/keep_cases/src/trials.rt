@@ -11,26 +11,22 @@ use oc_io::Disk;
 use oc_keep::{Trial, trial};
 use oc_model::Input;
 use std::alloc::Global;
-use test_tools::{Cases, Fault, Fields, Step};
+use test_tools::{Fault, Fields, Step};
 
 /// More inputs than a row has.
 const MOST_INPUTS: u32 = 100;
 
 /// The words of a row: how many inputs were taken, why the trial ended, and then what the disks hold after a
 /// crash.
-pub struct Rows;
-
-impl Cases for Rows {
-    fn answer(alloc: Global, given: &str) -> Result<String, Fault> {
-        let mut fields = Fields::of(given, ' ');
-        let shown = fields.text();
-        let me = fields.node()?;
-        let files = Files::of(alloc, &mut fields)?;
-        let (files, trial) = tried(alloc, me, files, fields)?;
-        let mut said = format!(in alloc; "{} {:?} ", trial.done, trial.end)?;
-        show(alloc, shown, me, files, &mut said)?;
-        Ok(said)
-    }
+pub fn words(alloc: Global, given: &str) -> Result<String, Fault> {
+    let mut fields = Fields::of(given, ' ');
+    let shown = fields.text();
+    let me = fields.node()?;
+    let files = Files::of(alloc, &mut fields)?;
+    let (files, trial) = tried(alloc, me, files, fields)?;
+    let mut said = format!(in alloc; "{} {:?} ", trial.done, trial.end)?;
+    show(alloc, shown, me, files, &mut said)?;
+    Ok(said)
 }
 
 /// The files after a trial of the inputs of these steps, and how it ended.
@@ -65,10 +61,9 @@ fn tried<D: Disk + Drop>(
 
 /// The inputs of steps.
 #[tactic(auto, using(crate::proofs::Lists::inputs_push))]
-fn inputs_in(alloc: Global, steps: Fields<'_>, me: NodeId) -> Result<Vec<Input>, Fault>
+fn inputs_in(alloc: Global, mut steps: Fields<'_>, me: NodeId) -> Result<Vec<Input>, Fault>
     ensures { IfOk result (λ inputs. AllByRecursion (IsInput 3 me) inputs.items) }
 {
-    let mut steps = steps;
     let mut inputs = Vec::new(alloc);
     for _ in 0..MOST_INPUTS {
         if steps.is_empty() {

@@ -1,102 +1,25 @@
-//! The inputs of steps. Those that are no messages are read as the lines of a schedule.
+//! The inputs of steps.
 
-ghost use Rattle.std.specs.Prelude.{ℕ, IfOk};
-ghost use Rattle.oc_model.specs.Lawful.{IsAct, IsInput};
+ghost use Rattle.std.specs.Prelude.{IfOk};
+ghost use Rattle.oc_model.specs.Lawful.{IsInput};
 
 use crate::spelled::spelled;
+use input_tools::{act_in, delivery_in};
 use oc_base::NodeId;
-use oc_model::{Act, Event, Input};
-use oc_schedule::read;
-use oc_wire::decode;
+use oc_model::Input;
 use std::alloc::Global;
-use test_tools::{Fault, Fields, Step};
+use test_tools::{Fault, Step};
 
 /// How many nodes there are.
 pub const NODES: u32 = 5;
 
-/// The input of a step such as `move:1`, to this node: an act line of a schedule without the node, with
-/// commas for spaces, or `recv:BYTES`, a message.
+/// The input of a step such as `move:1`, to this node: an act, or `recv:BYTES`, a message.
 pub fn input_in(alloc: Global, step: Step<'_>, me: NodeId) -> Result<Input, Fault>
     ensures { IfOk result (λ input. IsInput 5 me input) }
 {
     if step.word == "recv" {
-        delivery_in(alloc, step.fields, me)
+        delivery_in::<NODES>(alloc, &spelled(alloc, step.fields)?, me)
     } else {
-        act_in(alloc, step, me)
+        act_in::<NODES>(alloc, step, me)
     }
-}
-
-/// The message of these bytes, which is to this node.
-fn delivery_in(alloc: Global, fields: Fields<'_>, me: NodeId) -> Result<Input, Fault>
-    ensures { IfOk result (λ input. IsInput 5 me input) }
-{
-    let bytes = spelled(alloc, fields)?;
-    match decode(alloc, &bytes, NODES) {
-        Ok(message) if message.to == me => Ok(Input::Delivered(message)),
-        _ => Err(Fault::Field),
-    }
-}
-
-/// The input of an act line.
-fn act_in(alloc: Global, step: Step<'_>, me: NodeId) -> Result<Input, Fault>
-    ensures { IfOk result (λ input. IsInput 5 me input) }
-{
-    let text = schedule_of(alloc, step, me)?;
-    let Ok(schedule) = read(alloc, text.as_str().as_bytes()) else {
-        return Err(Fault::Field);
-    };
-    match schedule.events.as_slice() {
-        [Event::Do(act)] if schedule.nodes == NODES => input_of(act),
-        _ => Err(Fault::Field),
-    }
-}
-
-/// The schedule of this one act.
-fn schedule_of(alloc: Global, step: Step<'_>, me: NodeId) -> Result<String, Fault> {
-    let mut fields = step.fields;
-    let mut text = format!(in alloc; "overcast 1 nodes {NODES} chain 1\n{} {}", step.word, me.0)?;
-    for _ in 0..4 {
-        write!(text, " {}", fields.text())?;
-    }
-    Ok(text)
-}
-
-/// The input that an act brings to its node.
-fn input_of(act: &Act) -> Result<Input, Fault>
-    requires { IsAct 5 act.now }
-    ensures { (me : ℕ) → IfOk result (λ input. IsInput 5 me input) }
-{
-    Ok(match act {
-        Act::Tick { now, .. } => Input::Tick(*now),
-        Act::Check { .. } => Input::CheckNow,
-        Act::Move { peer, .. } => Input::Relocate(*peer),
-        Act::Fail { peer, .. } => Input::Unreachable(*peer),
-        Act::Pull { peer, .. } => Input::Pull(*peer),
-        Act::Measure {
-            peer,
-            rate,
-            hops,
-            ..
-        } => Input::Measured {
-            peer: *peer,
-            rate: *rate,
-            hops: *hops,
-        },
-        Act::Publish { group, bytes, .. } => Input::Publish {
-            group: *group,
-            bytes: bytes.clone()?,
-        },
-        Act::Seal { group, .. } => Input::Seal { group: *group },
-        Act::Client {
-            area,
-            start,
-            group,
-            ..
-        } => Input::Client {
-            area: *area,
-            start: *start,
-            group: *group,
-        },
-        Act::Deliver { .. } => return Err(Fault::Field),
-    })
 }

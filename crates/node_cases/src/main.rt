@@ -9,9 +9,22 @@ mod inputs;
 mod spelled;
 mod steps;
 
+use std::alloc::Global;
 use std::io;
-use test_tools::play;
+use test_tools::{Cases, Fault, play};
+
+/// The words of the rows, by table.
+struct Rows;
+
+impl Cases for Rows {
+    fn words(alloc: Global, table: &str, given: &str) -> Result<String, Fault> {
+        match table {
+            "steps" => steps::words(alloc, given),
+            _ => Err(Fault::Field),
+        }
+    }
+}
 
 fn main(rt: HostRuntime) -> io::Result<()> {
-    play::<steps::Rows, _>(&rt, "steps")
+    play::<Rows, _>(&rt, &["steps"])
 }

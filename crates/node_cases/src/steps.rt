@@ -15,29 +15,25 @@ use oc_model::Record;
 use oc_node::{Node, Plan};
 use oc_record::decode;
 use std::alloc::Global;
-use test_tools::{Cases, Fault, Fields, Step, group_in};
+use test_tools::{Fault, Fields, Step, group_in};
 
 /// More steps than a row has.
 const MOST_STEPS: u32 = 100;
 
 /// The words of a row: what each step says.
-pub struct Rows;
-
-impl Cases for Rows {
-    fn answer(alloc: Global, given: &str) -> Result<String, Fault> {
-        let mut fields = Fields::of(given, ' ');
-        let mut node = node_in(alloc, &mut fields)?;
-        let mut said = String::new(alloc);
-        let held = Step::of(fields.text());
-        for _ in 0..MOST_STEPS {
-            if fields.is_empty() {
-                break;
-            }
-            act(alloc, &mut node, held, Step::of(fields.text()), &mut said)?;
-            said.push_str(" ")?;
+pub fn words(alloc: Global, given: &str) -> Result<String, Fault> {
+    let mut fields = Fields::of(given, ' ');
+    let mut node = node_in(alloc, &mut fields)?;
+    let mut said = String::new(alloc);
+    let held = Step::of(fields.text());
+    for _ in 0..MOST_STEPS {
+        if fields.is_empty() {
+            break;
         }
-        Ok(said)
+        act(alloc, &mut node, held, Step::of(fields.text()), &mut said)?;
+        said.push_str(" ")?;
     }
+    Ok(said)
 }
 
 /// The node of the first fields: its id, the length of the chain, and the records that it recovers from.

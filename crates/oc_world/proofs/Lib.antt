@@ -1,10 +1,6 @@
 pub mod ReadBack
-pub mod Open
-pub mod Left
-pub mod Loaded
-pub mod Stands
 pub mod Source
 pub mod Turns
+pub mod Sites
 pub mod NetLists
 pub mod Leases
-pub mod Cuts

@@ -1,5 +1,5 @@
 -- The text of a message is read as that message.
-use Rattle.std.proofs.Common.{◌≡◌, ℕ, ◌^◌, ◌<◌, ◌≤◌, Bool, true, false, ◌==◌, if◌then◌else◌, List, [], ◌∷◌, ◌++◌, length, Err, refl, sym, ap, subst, ◌∙◌, arith, length-append}
+use Rattle.std.proofs.Common.{◌≡◌, ℕ, ◌^◌, ◌<◌, ◌≤◌, Bool, true, false, ◌==◌, if◌then◌else◌, List, [], ◌∷◌, ◌++◌, length, Ok, Err, refl, sym, ap, subst, ◌∙◌, arith, length-append}
 use Rattle.std.specs.Prelude.{codes, decimal}
 use Rattle.std.specs.Char.{is_ascii_digit}
 use Rattle.std.specs.List.{list_all}
@@ -13,10 +13,9 @@ use Rattle.oc_http.proofs.Numbers.{numerals}
 use Rattle.oc_http.proofs.Tests.{list_all-weaker}
 use Rattle.oc_model.specs.declared.message.Message.{Message}
 use Rattle.oc_model.specs.Lawful.{IsMessage}
-use Rattle.oc_wire.specs.declared.http_fault.HttpWireFault.{HttpWireFault}
-use Rattle.oc_wire.specs.declared.http_fault.HttpWireFault.TheVariants as faults
-use Rattle.oc_wire.specs.Reading.{decoded}
-use Rattle.oc_wire.specs.Requests.{IsGiven}
+use Rattle.oc_wire.specs.declared.fault.WireFault.{WireFault}
+use Rattle.oc_wire.specs.declared.fault.WireFault.TheVariants as faults
+use Rattle.oc_wire.specs.Reading.{Gives, decoded}
 use Rattle.oc_wire.specs.Spelling.{spelling}
 use Rattle.oc_wire.proofs.MessageReads.{is_its_spelling, is_read}
 use Rattle.oc_wire.proofs.Sizes.{fits_a_request}
@@ -106,9 +105,25 @@ text_written nodes m few lawful = record {
   exact = ap text_of (sym (read_back nodes m few lawful));
 }
 
--- what is given of a message that was written is a fault only for want of memory
-pub given_err : (fault : HttpWireFault) (m : Message) → IsGiven (Err fault) m → fault ≡ faults.Memory
-given_err faults.NotHttp m given = absurd cc
-given_err faults.Route m given = absurd cc
-given_err (faults.Wire why) m given = absurd cc
+-- what a text of the net brings is its message
+pub text_decoded : (nodes : ℕ) (text : List ℕ) → nodes ≤ MAX_NODES → IsText nodes text → decoded nodes (body_in text) ≡ Ok (message_in nodes text)
+text_decoded nodes text few is =
+    let m = message_in nodes text in
+    let host : IsHost (host_of m.to) = good_host m.to (omega (arith, few, is.lawful.to.1)) in
+    let short : length (spelling m) < 2 ^ 64 = omega (arith, fits_a_request nodes m few is.lawful) in
+    ap (λ (t : List ℕ). decoded nodes (body_in t)) is.exact
+    ∙ (ap (λ (b : List ℕ). decoded nodes b) (written_body (host_of m.to) (spelling m) host short)
+    ∙ is_read nodes (spelling m) m (omega (arith, few)) (is_its_spelling nodes m few is.lawful))
+
+-- a fault where a message was to be given is one for want of memory
+pub given_err : (fault : WireFault) (m : Message) → Gives (Err fault) (Ok m) → fault ≡ faults.Memory
 given_err faults.Memory m given = refl
+given_err faults.Stranger m given = absurd cc
+given_err (faults.Kind code) m given = absurd cc
+given_err faults.Short m given = absurd cc
+given_err faults.Value m given = absurd cc
+given_err faults.Trailing m given = absurd cc
+
+-- and a message is that message
+pub given_ok : (n m : Message) → Gives (Ok n) (Ok m) → n ≡ m
+given_ok n m given = cc

@@ -6,7 +6,7 @@ use oc_calm::Cluster;
 use oc_model::{Act, Mode};
 
 impl Cluster for World {
-    ghost world = { λ w. w };
+    ghost world = { λ w. w.world };
 
     fn act(&mut self, act: &Act) -> Result<(), Memory> {
         self.play(act)

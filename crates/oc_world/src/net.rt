@@ -126,6 +126,14 @@ impl Net {
         self.len() == 0
     }
 
+    /// How many nodes there are.
+    pub(crate) fn nodes(&self) -> u32
+        ensures nodes { result ≡ self.now.nodes }
+        ensures few { result ≤ MAX_NODES }
+    {
+        self.nodes
+    }
+
     /// How many messages there are.
     pub(crate) fn len(&self) -> usize
         ensures length { result ≡ length self.now.messages }

@@ -13,7 +13,7 @@ impl Stage for World {
     ghost use Rattle.oc_model.specs.World.{new_world};
     ghost use Rattle.oc_stage.specs.WorldLaws.{world_ids, world_keeps_limits, world_keeps_time, world_later, world_opens};
 
-    ghost world = { λ w. w };
+    ghost world = { λ w. w.world };
 
     ghost first = { new_world };
 
@@ -24,7 +24,7 @@ impl Stage for World {
     /// Where memory is wanted, the world stays as it was.
     fn open(&mut self, nodes: u32, chain: u32, areas: &[u8]) -> Result<(), Memory>
         requires { IsHeader (record { nodes = nodes; chain = chain; areas = areas.now }) }
-        ensures opened { OnOk result (self.new ≡ opened_world (record { nodes = nodes; chain = chain; areas = areas.now })) }
+        ensures opened { OnOk result (self.new.world ≡ opened_world (record { nodes = nodes; chain = chain; areas = areas.now })) }
         ensures err { OnErr result (self.new ≡ self.old) }
     {
         *self = World::new(self.alloc, nodes, chain, areas)?;

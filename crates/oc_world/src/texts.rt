@@ -3,11 +3,11 @@
 ghost use Rattle.std.specs.Prelude.{◌≡◌, ◌≤◌, string_bytes, IfOk};
 ghost use Rattle.oc_base.specs.declared.limits.TheConstants.{MAX_NODES};
 ghost use Rattle.oc_model.specs.Lawful.{IsMessage};
-ghost use Rattle.oc_world.specs.Net.{IsText, host_of, message_in};
+ghost use Rattle.oc_world.specs.Net.{IsText, body_in, host_of, message_in};
 
 use oc_base::{Memory, NodeId};
 use oc_model::Message;
-use oc_wire::{HttpWireFault, from_http, spellings_are_read, to_http};
+use oc_wire::{WireFault, decode, spellings_are_read, to_http};
 use std::alloc::Global;
 
 /// The host that the request to a node names: `node` and the node's id.
@@ -31,24 +31,40 @@ pub(crate) fn text_of(alloc: Global, nodes: u32, message: &Message) -> Result<Ve
     Ok(text)
 }
 
-/// The message between `nodes` nodes that a text is read as.
+/// The message between `nodes` nodes that a text brings. It is read from the body of the text: that the head
+/// is one of a request between nodes is known of each text that is kept.
 pub(crate) fn message_in(alloc: Global, text: &[u8], nodes: u32) -> Result<Message, Memory>
     requires few { nodes ≤ MAX_NODES }
     requires text { IsText nodes text.now }
     ensures { IfOk result (λ message. message ≡ message_in nodes text.now) }
 {
-    match from_http(alloc, text, nodes) {
+    spellings_are_read();
+    match decode(alloc, body_in(text), nodes) {
         Ok(message) => Ok(message),
         Err(fault) => Err(memory_of(fault)),
     }
 }
 
+/// What is behind the first empty line.
+fn body_in(text: &[u8]) -> &[u8]
+    ensures { result.now ≡ body_in text.now }
+{
+    let mut rest = text;
+    while let [_, after @ ..] = rest {
+        if let [b'\r', b'\n', b'\r', b'\n', body @ ..] = rest {
+            return body;
+        }
+        rest = after;
+    }
+    rest
+}
+
 /// Want of memory, which alone keeps a text of the net from being read.
-fn memory_of(fault: HttpWireFault) -> Memory
-    requires { fault ≡ HttpWireFault.Memory }
+fn memory_of(fault: WireFault) -> Memory
+    requires { fault ≡ WireFault.Memory }
 {
     match fault {
-        HttpWireFault::Memory => Memory,
+        WireFault::Memory => Memory,
         _ => unreachable!(),
     }
 }

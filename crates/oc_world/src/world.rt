@@ -20,10 +20,11 @@ ghost use Rattle.oc_stage.specs.Sight.{sight_in};
 ghost use Rattle.oc_stage.specs.Stage.{HasTimeFor, IsSaid};
 ghost use Rattle.oc_world.specs.Inside.{IsLeftBy};
 ghost use Rattle.oc_world.specs.Net.{IsTextOf};
+ghost use Rattle.oc_world.specs.World.{RenewsAt, RenewsBy, processes_of};
 
+use crate::acting::act;
 use crate::aims::{Aim, aim_of, message_place};
 use crate::net::Net;
-use crate::process::Process;
 use crate::{Said, Sight};
 use oc_base::{Memory, NodeId, Shelf};
 use oc_calm::{heal, is_settled, settle};
@@ -31,13 +32,15 @@ use oc_io::MemDisk;
 use oc_keep::Node;
 use oc_laws_world::tests_decide;
 use oc_model::{Act, Answer, Event, Input, Message, Word};
+use oc_process::Process;
 use std::alloc::Global;
 use std::marker::Model;
 
 /// All nodes of a network on their files, and every message between them.
 ///
-/// It is seen as a world of the model: a node that is down is what its files recover, and the source is
-/// what node 1 holds. Every crash leaves what is durable of each node.
+/// It is seen as a world of the model, where a node that is down is what its files recover and the source
+/// what node 1 holds; and as the nodes on their files, where they are up. Every crash leaves what is durable
+/// of each node.
 #[derive(Drop)]
 pub struct World {
     pub(crate) alloc: Global,
@@ -48,20 +51,19 @@ pub struct World {
 }
 
 impl Model for World {
-    ghost use Rattle.oc_model.specs.World.{World as WorldState};
-    ghost use Rattle.oc_world.specs.World.{IsNetwork, world_of};
+    ghost use Rattle.oc_world.specs.World.{IsNetwork, WorldView, processes_of, seen_as};
 
-    ghost Value = { WorldState };
+    ghost Value = { WorldView };
 
-    ghost view = { λ w. world_of w.processes.items w.net.messages };
+    ghost view = { λ w. seen_as w.processes.items w.net.messages };
 
-    ghost invariant = { λ w. IsNetwork w.chain w.processes.items w.net.nodes };
+    ghost invariant = { λ w. IsNetwork w.chain (processes_of w.processes.items) w.net.nodes };
 }
 
 impl World {
     /// A world of no node and no message. It takes no memory.
     pub fn empty(alloc: Global) -> World
-        ensures { result ≡ record { processes = []; net = []; source = [] } }
+        ensures { result ≡ record { world = record { processes = []; net = []; source = [] }; kept = [] } }
     {
         World {
             alloc,
@@ -75,7 +77,7 @@ impl World {
     /// to 1,024 nodes, a chain of 1 to 16 and no more than the nodes, and an area for each node.
     pub fn new(alloc: Global, nodes: u32, chain: u32, areas: &[u8]) -> Result<World, Memory>
         requires { IsHeader (header nodes chain areas.now) }
-        ensures { IfOk result (λ world. world ≡ new_world (header nodes chain areas.now)) }
+        ensures { IfOk result (λ world. world.world ≡ new_world (header nodes chain areas.now)) }
     {
         Ok(World {
             alloc,
@@ -92,11 +94,14 @@ impl World {
     /// the acts that they are made of; the files of a node may have been turned over. It is wanted, too,
     /// once 2^63 - 2 messages were sent.
     pub fn event(&mut self, event: &Event) -> Result<Said, Memory>
-        requires event { IsEvent (length (ids self.old)) event.now }
-        requires time { HasTimeFor self.old event.now }
-        ensures world { OnOk result (self.new ≡ next_world self.old event.now) }
-        ensures said { IfOk result (λ said. IsSaid (word_of self.old event.now) self.old self.new said) }
-        ensures err { OnErr result (IsLeftBy event.now self.old self.new) }
+        requires event { IsEvent (length (ids self.old.world)) event.now }
+        requires time { HasTimeFor self.old.world event.now }
+        ensures world { OnOk result (self.new.world ≡ next_world self.old.world event.now) }
+        ensures said { IfOk result (λ said. IsSaid (word_of self.old.world event.now) self.old.world self.new.world said) }
+
+        // A node to which an act comes has its control files turned over first, where they are ripe.
+        ensures renews { OnOk result (RenewsBy event.now self.old self.new) }
+        ensures err { OnErr result (IsLeftBy event.now self.old.world self.new.world) }
     {
         let sent = self.net.len();
         let word = self.happen(event)?;
@@ -109,11 +114,12 @@ impl World {
 
     /// Does what an event does, and answers its word.
     fn happen(&mut self, event: &Event) -> Result<Word, Memory>
-        requires event { IsEvent (length (ids self.old)) event.now }
-        requires time { HasTimeFor self.old event.now }
-        ensures world { OnOk result (self.new ≡ next_world self.old event.now) }
-        ensures word { IfOk result (λ word. word ≡ word_of self.old event.now) }
-        ensures err { OnErr result (IsLeftBy event.now self.old self.new) }
+        requires event { IsEvent (length (ids self.old.world)) event.now }
+        requires time { HasTimeFor self.old.world event.now }
+        ensures world { OnOk result (self.new.world ≡ next_world self.old.world event.now) }
+        ensures word { IfOk result (λ word. word ≡ word_of self.old.world event.now) }
+        ensures renews { OnOk result (RenewsBy event.now self.old self.new) }
+        ensures err { OnErr result (IsLeftBy event.now self.old.world self.new.world) }
     {
         match event {
             Event::Up(node) => self.start(*node),
@@ -128,10 +134,10 @@ impl World {
 
     /// The node starts from its files.
     fn start(&mut self, node: NodeId) -> Result<Word, Memory>
-        requires { IsNode (length (ids self.old)) node }
-        ensures world { OnOk result (self.new ≡ started self.old (process self.old node)) }
-        ensures word { IfOk result (λ word. word ≡ word_of self.old (Up node)) }
-        ensures err { OnErr result (self.new ≡ self.old) }
+        requires { IsNode (length (ids self.old.world)) node }
+        ensures world { OnOk result (self.new.world ≡ started self.old.world (process self.old.world node)) }
+        ensures word { IfOk result (λ word. word ≡ word_of self.old.world (Up node)) }
+        ensures err { OnErr result (self.new.world ≡ self.old.world) }
     {
         let at = node.index();
         if self.processes[at].is_up() {
@@ -144,9 +150,9 @@ impl World {
 
     /// The node stops between two inputs.
     fn crash(&mut self, node: NodeId) -> Word
-        requires { IsNode (length (ids self.old)) node }
-        ensures world { self.new ≡ crashed self.old (process self.old node) }
-        ensures word { result ≡ word_of self.old (Crash node) }
+        requires { IsNode (length (ids self.old.world)) node }
+        ensures world { self.new.world ≡ crashed self.old.world (process self.old.world node) }
+        ensures word { result ≡ word_of self.old.world (Crash node) }
     {
         let at = node.index();
         if !self.processes[at].is_up() {
@@ -159,10 +165,11 @@ impl World {
 
     /// An act, and the word of its node.
     pub(crate) fn take(&mut self, act: &Act) -> Result<Word, Memory>
-        requires { IsStepOf self.old act.now }
-        ensures world { OnOk result (self.new ≡ after_act self.old act.now) }
-        ensures word { IfOk result (λ word. word ≡ word_of_act self.old (aimed self.old act.now)) }
-        ensures err { OnErr result (self.new ≡ self.old) }
+        requires { IsStepOf self.old.world act.now }
+        ensures world { OnOk result (self.new.world ≡ after_act self.old.world act.now) }
+        ensures word { IfOk result (λ word. word ≡ word_of_act self.old.world (aimed self.old.world act.now)) }
+        ensures renews { OnOk result (RenewsAt (aimed self.old.world act.now) self.old self.new) }
+        ensures err { OnErr result (self.new.world ≡ self.old.world) }
     {
         match aim_of(&self.net, act)? {
             None => Ok(Word::NoMessage),
@@ -172,9 +179,10 @@ impl World {
 
     /// Does what an act does.
     pub(crate) fn play(&mut self, act: &Act) -> Result<(), Memory>
-        requires { IsStepOf self.old act.now }
-        ensures world { OnOk result (self.new ≡ after_act self.old act.now) }
-        ensures err { OnErr result (self.new ≡ self.old) }
+        requires { IsStepOf self.old.world act.now }
+        ensures world { OnOk result (self.new.world ≡ after_act self.old.world act.now) }
+        ensures renews { OnOk result (RenewsAt (aimed self.old.world act.now) self.old self.new) }
+        ensures err { OnErr result (self.new.world ≡ self.old.world) }
     {
         match self.take(act) {
             Ok(_) => Ok(()),
@@ -184,28 +192,29 @@ impl World {
 
     /// An input comes to a node.
     fn act_at(&mut self, node: NodeId, input: Input) -> Result<Word, Memory>
-        requires node { IsNode (length (ids self.old)) node }
-        requires input { IsInput (length (ids self.old)) node input }
-        ensures world { OnOk result (self.new ≡ acted self.old (Some (record { at = node; input = input }))) }
-        ensures word { IfOk result (λ word. word ≡ word_of_act self.old (Some (record { at = node; input = input }))) }
-        ensures err { OnErr result (self.new ≡ self.old) }
+        requires node { IsNode (length (ids self.old.world)) node }
+        requires input { IsInput (length (ids self.old.world)) node input }
+        ensures world { OnOk result (self.new.world ≡ acted self.old.world (Some (record { at = node; input = input }))) }
+        ensures word { IfOk result (λ word. word ≡ word_of_act self.old.world (Some (record { at = node; input = input }))) }
+        ensures renews { OnOk result (RenewsAt (Some (record { at = node; input = input })) self.old self.new) }
+        ensures err { OnErr result (self.new.world ≡ self.old.world) }
     {
         let at = node.index();
         if !self.processes[at].is_up() {
             return Ok(Word::Down);
         }
         let process = &mut self.processes[at];
-        let answer = process.act(&mut self.net, input)?;
+        let answer = act(self.alloc, process, &mut self.net, input)?;
         Ok(Word::Node(answer))
     }
 
     /// An act, in which the node stops once so many calls on its disk have worked.
     fn stop(&mut self, act: &Act, calls: u8, image: u8) -> Result<Word, Memory>
-        requires act { IsStepOf self.old act.now }
+        requires act { IsStepOf self.old.world act.now }
         requires calls { calls ≤ 4 }
-        ensures world { OnOk result (self.new ≡ stopped_at self.old calls image (aimed self.old act.now)) }
-        ensures word { IfOk result (λ word. word ≡ word_of_stop self.old calls image (aimed self.old act.now)) }
-        ensures err { OnErr result (self.new ≡ self.old) }
+        ensures world { OnOk result (self.new.world ≡ stopped_at self.old.world calls image (aimed self.old.world act.now)) }
+        ensures word { IfOk result (λ word. word ≡ word_of_stop self.old.world calls image (aimed self.old.world act.now)) }
+        ensures err { OnErr result (self.new.world ≡ self.old.world) }
     {
         match aim_of(&self.net, act)? {
             None => Ok(Word::NoMessage),
@@ -215,12 +224,12 @@ impl World {
 
     /// An input comes to a node, which stops in it.
     fn stop_at(&mut self, node: NodeId, input: Input, calls: u8, image: u8) -> Result<Word, Memory>
-        requires node { IsNode (length (ids self.old)) node }
-        requires input { IsInput (length (ids self.old)) node input }
+        requires node { IsNode (length (ids self.old.world)) node }
+        requires input { IsInput (length (ids self.old.world)) node input }
         requires calls { calls ≤ 4 }
-        ensures world { OnOk result (self.new ≡ stopped_at self.old calls image (Some (record { at = node; input = input }))) }
-        ensures word { IfOk result (λ word. word ≡ word_of_stop self.old calls image (Some (record { at = node; input = input }))) }
-        ensures err { OnErr result (self.new ≡ self.old) }
+        ensures world { OnOk result (self.new.world ≡ stopped_at self.old.world calls image (Some (record { at = node; input = input }))) }
+        ensures word { IfOk result (λ word. word ≡ word_of_stop self.old.world calls image (Some (record { at = node; input = input }))) }
+        ensures err { OnErr result (self.new.world ≡ self.old.world) }
     {
         let at = node.index();
         if !self.processes[at].is_up() {
@@ -234,7 +243,7 @@ impl World {
     /// The message of this number, counted from 1 over all that were sent; none where there is none. It is
     /// read from its text.
     pub fn message(&self, number: u64) -> Result<Option<Message>, Memory>
-        ensures { IfOk result (λ found. found ≡ message_at self.now.net number) }
+        ensures { IfOk result (λ found. found ≡ message_at self.now.world.net number) }
     {
         match message_place(number, self.net.len()) {
             None => Ok(None),
@@ -245,7 +254,7 @@ impl World {
     /// The text of the message of this number, the request that brings it to its receiver; none where
     /// there is no such message.
     pub fn text(&self, number: u64) -> Option<&[u8]>
-        ensures { IsTextOf (message_at self.now.net number) (option_map (λ t. t.now) result) }
+        ensures { IsTextOf (message_at self.now.world.net number) (option_map (λ t. t.now) result) }
     {
         let at = message_place(number, self.net.len())?;
         Some(self.net.text(at))
@@ -254,8 +263,8 @@ impl World {
     /// The groups of a node with their lengths and seals, ascending by name; those that the files recover,
     /// where the node is down.
     pub fn held(&self, node: NodeId) -> Result<Vec<Shelf>, Memory>
-        requires { IsNode (length (ids self.now)) node }
-        ensures { IfOk result (λ lines. lines.items ≡ shelf (node_in self.now node).groups) }
+        requires { IsNode (length (ids self.now.world)) node }
+        ensures { IfOk result (λ lines. lines.items ≡ shelf (node_in self.now.world node).groups) }
     {
         let at = node.index();
         let process = &self.processes[at];
@@ -265,8 +274,8 @@ impl World {
 
     /// How a node stands; what its files recover, where it is down.
     pub fn sight(&self, node: NodeId) -> Result<Sight, Memory>
-        requires { IsNode (length (ids self.now)) node }
-        ensures { IfOk result (λ sight. sight ≡ sight_in self.now node) }
+        requires { IsNode (length (ids self.now.world)) node }
+        ensures { IfOk result (λ sight. sight ≡ sight_in self.now.world node) }
     {
         let at = node.index();
         let process = &self.processes[at];
@@ -277,13 +286,13 @@ impl World {
     /// The disks of a node's files, those of the control files before that of the content; none where there
     /// is no such node.
     pub fn into_disks(self, node: NodeId) -> Option<(MemDisk, MemDisk, MemDisk)>
-        ensures found { IsSome result ↔ IsNode (length (ids self)) node }
+        ensures found { IsSome result ↔ IsNode (length (ids self.world)) node }
 
         // Every crash of them leaves what is durable of the node, and of node 1 the source.
-        ensures survives { IfSome result (λ left. let n = node_in self node in
+        ensures survives { IfSome result (λ left. let n = node_in self.world node in
             Survives view_of (header_of n.control) node (disks left.0 left.1 left.2) n) }
         ensures source { IfSome result (λ left. node ≡ 1 → (content : List ℕ)
-            → (view_of left.2).may_leave content → groups_in (frames_of content) ≡ self.source) }
+            → (view_of left.2).may_leave content → groups_in (frames_of content) ≡ self.world.source) }
     {
         if !self.has(node) {
             return None;
@@ -301,7 +310,7 @@ impl World {
 
     /// Whether there is a node of this number.
     fn has(&self, node: NodeId) -> bool
-        ensures { IsTrue result ↔ IsNode (length (ids self.now)) node }
+        ensures { IsTrue result ↔ IsNode (length (ids self.now.world)) node }
     {
         1 <= node.0 && node.0 <= self.count()
     }
@@ -309,7 +318,7 @@ impl World {
     /// Whether the world is settled: one node that is up acts as root, every other one that is up has a true
     /// chain to it and its lease, no other lease stands, and nothing waits to be told. It takes no memory.
     pub fn settled(&self) -> bool
-        ensures { IsTrue result ↔ IsSettled self.now }
+        ensures { IsTrue result ↔ IsSettled self.now.world }
     {
         tests_decide();
         is_settled(self)
@@ -317,9 +326,9 @@ impl World {
 
     /// A node that is up.
     pub(crate) fn node(&self, node: NodeId) -> &Node
-        requires { IsUpNode self.now node }
-        ensures control { result.now.control ≡ (node_in self.now node).control }
-        ensures lawful { IsLawfulControl (length (ids self.now)) (node_in self.now node).control }
+        requires { IsUpNode self.now.world node }
+        ensures control { result.now.control ≡ (node_in self.now.world node).control }
+        ensures lawful { IsLawfulControl (length (ids self.now.world)) (node_in self.now.world node).control }
     {
         let at = node.index();
         let process = &self.processes[at];
@@ -328,8 +337,8 @@ impl World {
 
     /// Whether a node is up.
     pub(crate) fn runs(&self, node: NodeId) -> bool
-        requires { IsNode (length (ids self.now)) node }
-        ensures { result ≡ is_up self.now node }
+        requires { IsNode (length (ids self.now.world)) node }
+        ensures { result ≡ is_up self.now.world node }
     {
         let at = node.index();
         self.processes[at].is_up()
@@ -337,7 +346,7 @@ impl World {
 
     /// How many nodes there are.
     pub(crate) fn count(&self) -> u32
-        ensures ids { ids self.now ≡ range_with_len 1 result }
+        ensures ids { ids self.now.world ≡ range_with_len 1 result }
         ensures few { result ≤ MAX_NODES }
     {
         self.processes.len() as u32
@@ -345,21 +354,21 @@ impl World {
 
     /// How many messages were ever sent.
     pub(crate) fn sent_count(&self) -> u64
-        ensures { result ≡ length self.now.net }
+        ensures { result ≡ length self.now.world.net }
     {
         self.net.len() as u64
     }
 
     /// Whether the message that was sent last acknowledges a check-in.
     pub(crate) fn ends_with_ack(&self) -> bool
-        ensures { result ≡ is_ack (last_body self.now) }
+        ensures { result ≡ is_ack (last_body self.now.world) }
     {
         self.net.ends_with_ack()
     }
 
     /// The length of the chain.
     pub(crate) fn chain_length(&self) -> u32
-        ensures { HasChain self.now result }
+        ensures { HasChain self.now.world result }
     {
         self.chain
     }
@@ -384,7 +393,7 @@ fn new_processes(
     areas: &[u8],
 ) -> Result<Vec<Process>, Memory>
     requires { IsHeader (header nodes chain areas.now) }
-    ensures { IfOk result (λ processes. processes.items ≡ (new_world (header nodes chain areas.now)).processes) }
+    ensures { IfOk result (λ processes. processes_of processes.items ≡ (new_world (header nodes chain areas.now)).processes) }
 {
     let mut processes = Vec::with_capacity(alloc, nodes as usize)?;
     for before in 0..nodes {

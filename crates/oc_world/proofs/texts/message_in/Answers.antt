@@ -1,17 +1,17 @@
-use Rattle.std.proofs.Common.{◌≡◌, Ok, arith}
-use Rattle.oc_world.specs.Net.{host_of, message_in}
-use Rattle.oc_world.proofs.ReadBack.{given_err, good_host}
+use Rattle.std.proofs.Common.{◌≡◌, Ok, Err, List, ℕ, ap, subst, ◌∙◌}
+use Rattle.oc_wire.specs.Reading.{Gives, decoded}
+use Rattle.oc_world.specs.Net.{message_in}
+use Rattle.oc_world.proofs.ReadBack.{given_err, given_ok, text_decoded}
 use Rattle.oc_world.proofs.texts.message_in.Goals as goal
 
 pub memory_of-requires : goal.memory_of-requires
 memory_of-requires c =
     let m = message_in c.args.nodes c.args.text.now in
-    let lawful = c.requires.text.lawful in
-    given_err c.in-Err.fault m (c.in-Err.ensures.again (host_of m.to) m c.requires.few (good_host m.to (omega (arith, c.requires.few, lawful.to.1))) lawful c.requires.text.exact)
+    let is : decoded c.args.nodes c.body_in.result.now ≡ Ok m = ap (λ (b : List ℕ). decoded c.args.nodes b) c.body_in.ensures ∙ text_decoded c.args.nodes c.args.text.now c.requires.few c.requires.text in
+    given_err c.in-Err.fault m (subst (Gives (Err c.in-Err.fault)) is c.in-Err.ensures.exact)
 
 pub returns-in-Ok : goal.returns-in-Ok
 returns-in-Ok c =
     let m = message_in c.args.nodes c.args.text.now in
-    let lawful = c.requires.text.lawful in
-    let given : Ok c.in-Ok.message ≡ Ok m = c.in-Ok.ensures.again (host_of m.to) m c.requires.few (good_host m.to (omega (arith, c.requires.few, lawful.to.1))) lawful c.requires.text.exact in
-    cc
+    let is : decoded c.args.nodes c.body_in.result.now ≡ Ok m = ap (λ (b : List ℕ). decoded c.args.nodes b) c.body_in.ensures ∙ text_decoded c.args.nodes c.args.text.now c.requires.few c.requires.text in
+    given_ok c.in-Ok.message m (subst (Gives (Ok c.in-Ok.message)) is c.in-Ok.ensures.exact)

@@ -5,97 +5,189 @@ use Rattle.oc_model.specs.declared.word.Word.TheVariants as words
 use Rattle.oc_model.specs.NextWorld.{word_of_act}
 use Rattle.oc_model.specs.Step.{step}
 use Rattle.oc_model.specs.World.{Process, World, acted}
-use Rattle.oc_world.specs.World.{IsNetwork, world_of}
+use Rattle.oc_world.specs.World.{IsNetwork, RenewsAt, WorldView, processes_of, seen_as, world_of}
+use Rattle.oc_world.proofs.Sites.{got, idle, on_err, put, renewed, unchanged}
 use Rattle.oc_world.proofs.Turns.{among_at, input_here, network_acted, read_twice, turn_acted, turn_idle, up_here, within_of, word_acted, word_idle}
 use Rattle.oc_world.proofs.world.World.act_at.Goals as goal
 
 pub returns-then-not-is_up-clause-world : goal.returns-then-not-is_up-clause-world
 returns-then-not-is_up-clause-world c =
     let s = c.self.inside in
-    let ps = s.processes.items in
+    let sites = s.processes.items in
+    let ps = processes_of sites in
     let net = s.net.messages in
     let x = c.args.node in
     let i = c.index-at.result in
     let at = c.index-at.ensures.next in
     let is = c.self.invariant in
+    let world_is = ap (λ (v : WorldView). v.world) c.self.view_is in
     let node = within_of ps net x (rw (← c.self.view_is) at c.requires.node) in
-    let off = up_here ps x i c.index.result.now false is.numbered at node.1 c.index.ensures (sym c.is_up.ensures ∙ c.if-not-is_up.true) in
-    subst (λ (w : World). w ≡ acted w (Some (record { at = x; input = c.args.input }))) c.self.view_is (turn_idle ps net x c.args.input off)
+    let off = up_here ps x i c.index.result.now.process false is.numbered at node.1 (got sites i c.index.result.now c.index.ensures) (sym c.is_up.ensures.up ∙ c.if-not-is_up.true) in
+    subst (λ (w : World). w ≡ acted w (Some (record { at = x; input = c.args.input }))) world_is (turn_idle ps net x c.args.input off)
 
 pub returns-then-not-is_up-clause-word : goal.returns-then-not-is_up-clause-word
 returns-then-not-is_up-clause-word c =
     let s = c.self.inside in
-    let ps = s.processes.items in
+    let sites = s.processes.items in
+    let ps = processes_of sites in
     let net = s.net.messages in
     let x = c.args.node in
     let i = c.index-at.result in
     let at = c.index-at.ensures.next in
     let is = c.self.invariant in
+    let world_is = ap (λ (v : WorldView). v.world) c.self.view_is in
     let node = within_of ps net x (rw (← c.self.view_is) at c.requires.node) in
-    let off = up_here ps x i c.index.result.now false is.numbered at node.1 c.index.ensures (sym c.is_up.ensures ∙ c.if-not-is_up.true) in
-    subst (λ (w : World). words.Down ≡ word_of_act w (Some (record { at = x; input = c.args.input }))) c.self.view_is (word_idle ps net x c.args.input off)
+    let off = up_here ps x i c.index.result.now.process false is.numbered at node.1 (got sites i c.index.result.now c.index.ensures) (sym c.is_up.ensures.up ∙ c.if-not-is_up.true) in
+    subst (λ (w : World). words.Down ≡ word_of_act w (Some (record { at = x; input = c.args.input }))) world_is (word_idle ps net x c.args.input off)
 
 pub act-requires-clause-input : goal.act-requires-clause-input
 act-requires-clause-input c =
     let s = c.self.inside in
-    let ps = s.processes.items in
+    let sites = s.processes.items in
+    let ps = processes_of sites in
     let net = s.net.messages in
     let x = c.args.node in
     let i = c.index-at.result in
     let at = c.index-at.ensures.next in
     let is = c.self.invariant in
+    let world_is = ap (λ (v : WorldView). v.world) c.self.view_is in
     let node = within_of ps net x (rw (← c.self.view_is) at c.requires.node) in
-    input_here s.chain s.net.nodes ps net x i c.index_mut-process.result.now c.args.input is at node.1 c.index_mut-process.ensures.value (rw (← c.self.view_is) at c.requires.input)
+    let site = c.index_mut-process.result.now in
+    let p = site.process in
+    let here = got sites i site c.index_mut-process.ensures.value in
+    input_here s.chain s.net.nodes ps net x i p c.args.input is at node.1 here (rw (← c.self.view_is) at c.requires.input)
 
 pub invariant_of-self-2 : goal.invariant_of-self-2
 invariant_of-self-2 c =
     let s = c.self.inside in
-    let ps = s.processes.items in
+    let sites = s.processes.items in
+    let ps = processes_of sites in
     let net = s.net.messages in
     let x = c.args.node in
     let i = c.index-at.result in
     let at = c.index-at.ensures.next in
     let is = c.self.invariant in
+    let world_is = ap (λ (v : WorldView). v.world) c.self.view_is in
     let node = within_of ps net x (rw (← c.self.view_is) at c.requires.node) in
-    let p = c.index_mut-process.result.now in
+    let site = c.index_mut-process.result.now in
+    let p = site.process in
+    let here = got sites i site c.index_mut-process.ensures.value in
     let done = c.in_ok-answer.ensures in
-    subst (λ (n : ℕ). IsNetwork s.chain (slice_set ps i c.act.new.self) n) (sym done.nodes)
-    (network_acted s.chain s.net.nodes ps x i p c.act.new.self c.args.input is at node.1 c.index_mut-process.ensures.value done.same (ap (λ (r : Process). r.node.groups) done.process))
+    subst (λ (n : ℕ). IsNetwork s.chain (processes_of (slice_set sites i c.act.new.process)) n) (sym done.nodes)
+    (subst (λ (l : List Process). IsNetwork s.chain l s.net.nodes) (sym (put sites i c.act.new.process))
+    (network_acted s.chain s.net.nodes ps x i p c.act.new.process.process c.args.input is at node.1 here done.same (ap (λ (r : Process). r.node.groups) done.process)))
 
 pub returns-clause-world : goal.returns-clause-world
 returns-clause-world c =
     let s = c.self.inside in
-    let ps = s.processes.items in
+    let sites = s.processes.items in
+    let ps = processes_of sites in
     let net = s.net.messages in
     let x = c.args.node in
     let i = c.index-at.result in
     let at = c.index-at.ensures.next in
     let is = c.self.invariant in
+    let world_is = ap (λ (v : WorldView). v.world) c.self.view_is in
     let node = within_of ps net x (rw (← c.self.view_is) at c.requires.node) in
-    let p = c.index_mut-process.result.now in
-    let here = c.index_mut-process.ensures.value in
-    let on : p.up ≡ true = ap (λ (r : Process). r.up) (read_twice ps x i p c.index.result.now is.numbered at node.1 here c.index.ensures) ∙ (sym c.is_up.ensures ∙ c.if-not-is_up.false) in
+    let site = c.index_mut-process.result.now in
+    let p = site.process in
+    let here = got sites i site c.index_mut-process.ensures.value in
+    let on : p.up ≡ true = ap (λ (r : Process). r.up) (read_twice ps x i p c.index.result.now.process is.numbered at node.1 here (got sites i c.index.result.now c.index.ensures)) ∙ (sym c.is_up.ensures.up ∙ c.if-not-is_up.false) in
     let done = c.in_ok-answer.ensures in
     let was = among_at s.chain s.net.nodes ps x i p is at node.1 here in
     let q : Process = record { node = (step p.node c.args.input).node; up = true } in
-    let turned : world_of (slice_set ps i c.act.new.self) c.act.new.net.messages ≡ acted (world_of ps net) (Some (record { at = x; input = c.args.input })) =
-    ap (λ (r : Process). world_of (slice_set ps i r) c.act.new.net.messages) done.process
-    ∙ (ap (λ (ms : List Message). world_of (slice_set ps i q) ms) done.messages ∙ turn_acted ps net x i p c.args.input is.numbered at node.1 here on was.limits.0) in
-    subst (λ (w : World). world_of (slice_set ps i c.act.new.self) c.act.new.net.messages ≡ acted w (Some (record { at = x; input = c.args.input }))) c.self.view_is turned
+    let turned : world_of (processes_of (slice_set sites i c.act.new.process)) c.act.new.net.messages ≡ acted (world_of ps net) (Some (record { at = x; input = c.args.input })) =
+    ap (λ (l : List Process). world_of l c.act.new.net.messages) (put sites i c.act.new.process)
+    ∙ (ap (λ (r : Process). world_of (slice_set ps i r) c.act.new.net.messages) done.process
+    ∙ (ap (λ (ms : List Message). world_of (slice_set ps i q) ms) done.messages ∙ turn_acted ps net x i p c.args.input is.numbered at node.1 here on was.limits.0)) in
+    subst (λ (w : World). world_of (processes_of (slice_set sites i c.act.new.process)) c.act.new.net.messages ≡ acted w (Some (record { at = x; input = c.args.input }))) world_is turned
 
 pub returns-clause-word : goal.returns-clause-word
 returns-clause-word c =
     let s = c.self.inside in
-    let ps = s.processes.items in
+    let sites = s.processes.items in
+    let ps = processes_of sites in
     let net = s.net.messages in
     let x = c.args.node in
     let i = c.index-at.result in
     let at = c.index-at.ensures.next in
     let is = c.self.invariant in
+    let world_is = ap (λ (v : WorldView). v.world) c.self.view_is in
     let node = within_of ps net x (rw (← c.self.view_is) at c.requires.node) in
-    let p = c.index_mut-process.result.now in
-    let here = c.index_mut-process.ensures.value in
-    let on : p.up ≡ true = ap (λ (r : Process). r.up) (read_twice ps x i p c.index.result.now is.numbered at node.1 here c.index.ensures) ∙ (sym c.is_up.ensures ∙ c.if-not-is_up.false) in
+    let site = c.index_mut-process.result.now in
+    let p = site.process in
+    let here = got sites i site c.index_mut-process.ensures.value in
+    let on : p.up ≡ true = ap (λ (r : Process). r.up) (read_twice ps x i p c.index.result.now.process is.numbered at node.1 here (got sites i c.index.result.now c.index.ensures)) ∙ (sym c.is_up.ensures.up ∙ c.if-not-is_up.false) in
     let said : words.Node c.in_ok-answer.answer ≡ word_of_act (world_of ps net) (Some (record { at = x; input = c.args.input })) =
     ap (λ (a : Answer). words.Node a) c.in_ok-answer.ensures.answer ∙ word_acted ps net x i p c.args.input is.numbered at node.1 here on in
-    subst (λ (w : World). words.Node c.in_ok-answer.answer ≡ word_of_act w (Some (record { at = x; input = c.args.input }))) c.self.view_is said
+    subst (λ (w : World). words.Node c.in_ok-answer.answer ≡ word_of_act w (Some (record { at = x; input = c.args.input }))) world_is said
+
+pub returns-clause-renews : goal.returns-clause-renews
+returns-clause-renews c =
+    let s = c.self.inside in
+    let sites = s.processes.items in
+    let ps = processes_of sites in
+    let net = s.net.messages in
+    let x = c.args.node in
+    let i = c.index-at.result in
+    let at = c.index-at.ensures.next in
+    let is = c.self.invariant in
+    let world_is = ap (λ (v : WorldView). v.world) c.self.view_is in
+    let node = within_of ps net x (rw (← c.self.view_is) at c.requires.node) in
+    let site = c.index_mut-process.result.now in
+    let p = site.process in
+    let here = got sites i site c.index_mut-process.ensures.value in
+    subst (λ (v : WorldView). RenewsAt (Some (record { at = x; input = c.args.input })) v (seen_as (slice_set sites i c.act.new.process) c.act.new.net.messages)) c.self.view_is
+    (renewed sites net c.act.new.net.messages x i site c.act.new.process c.args.input at node.1 c.index_mut-process.ensures.value c.in_ok-answer.ensures.renews)
+
+pub returns-then-not-is_up-clause-renews : goal.returns-then-not-is_up-clause-renews
+returns-then-not-is_up-clause-renews c =
+    let s = c.self.inside in
+    let sites = s.processes.items in
+    let ps = processes_of sites in
+    let net = s.net.messages in
+    let x = c.args.node in
+    let i = c.index-at.result in
+    let at = c.index-at.ensures.next in
+    let is = c.self.invariant in
+    let world_is = ap (λ (v : WorldView). v.world) c.self.view_is in
+    let node = within_of ps net x (rw (← c.self.view_is) at c.requires.node) in
+    subst (λ (v : WorldView). RenewsAt (Some (record { at = x; input = c.args.input })) v v) c.self.view_is
+    (idle sites net x i c.index.result.now c.args.input at node.1 c.index.ensures (sym c.is_up.ensures.kept ∙ c.if-not-is_up.true))
+
+pub act-requires-clause-nodes : goal.act-requires-clause-nodes
+act-requires-clause-nodes c =
+    let s = c.self.inside in
+    let sites = s.processes.items in
+    let ps = processes_of sites in
+    let net = s.net.messages in
+    let x = c.args.node in
+    let i = c.index-at.result in
+    let at = c.index-at.ensures.next in
+    let is = c.self.invariant in
+    let world_is = ap (λ (v : WorldView). v.world) c.self.view_is in
+    let node = within_of ps net x (rw (← c.self.view_is) at c.requires.node) in
+    let site = c.index_mut-process.result.now in
+    let p = site.process in
+    let here = got sites i site c.index_mut-process.ensures.value in
+    sym (among_at s.chain s.net.nodes ps x i p is at node.1 here).among
+
+pub invariant_of-self : goal.invariant_of-self
+invariant_of-self c =
+    let s = c.self.inside in
+    let sites = s.processes.items in
+    let i = c.index-at.result in
+    let failed = c.in_err-answer.ensures in
+    subst (λ (n : ℕ). IsNetwork s.chain (processes_of (slice_set sites i c.act.new.process)) n) (sym failed.nodes)
+    (subst (λ (l : List Process). IsNetwork s.chain l s.net.nodes) (sym (unchanged sites i c.index_mut-process.result.now c.act.new.process c.index_mut-process.ensures.value failed.process_err)) c.self.invariant)
+
+pub returns-in_err-answer-clause-err : goal.returns-in_err-answer-clause-err
+returns-in_err-answer-clause-err c =
+    let s = c.self.inside in
+    let sites = s.processes.items in
+    let i = c.index-at.result in
+    let failed = c.in_err-answer.ensures in
+    let same : world_of (processes_of (slice_set sites i c.act.new.process)) c.act.new.net.messages ≡ c.args.self.now.world =
+    ap (λ (l : List Process). world_of l c.act.new.net.messages) (unchanged sites i c.index_mut-process.result.now c.act.new.process c.index_mut-process.ensures.value failed.process_err)
+    ∙ (ap (λ (ms : List Message). world_of (processes_of sites) ms) failed.messages_err ∙ ap (λ (v : WorldView). v.world) c.self.view_is) in
+    on_err c.from_residual.result (world_of (processes_of (slice_set sites i c.act.new.process)) c.act.new.net.messages ≡ c.args.self.now.world) same

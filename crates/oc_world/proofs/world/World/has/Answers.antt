@@ -6,7 +6,7 @@ use Rattle.oc_world.proofs.world.World.has.Goals as goal
 
 pub returns-then-node-ge1 : goal.returns-then-node-ge1
 returns-then-node-ge1 c =
-    let count : length (ids c.args.self.now) ≡ c.count.result = ap length c.count.ensures.ids ∙ length-range_with_len 1 c.count.result in
+    let count : length (ids c.args.self.now.world) ≡ c.count.result = ap length c.count.ensures.ids ∙ length-range_with_len 1 c.count.result in
     let some = c.if-node-ge1.true in (
       λ h.
           let within = leb-true c.node.inside.0 c.count.result h in

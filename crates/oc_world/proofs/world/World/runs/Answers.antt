@@ -1,17 +1,21 @@
 use Rattle.std.proofs.Common.{◌≡◌, sym, ap, subst, ◌∙◌}
 use Rattle.oc_model.specs.World.{Process, World, is_up}
+use Rattle.oc_world.specs.World.{WorldView, processes_of}
+use Rattle.oc_world.proofs.Sites.{got}
 use Rattle.oc_world.proofs.Turns.{read_process, within_of}
 use Rattle.oc_world.proofs.world.World.runs.Goals as goal
 
 pub returns : goal.returns
 returns c =
     let s = c.self.inside in
-    let ps = s.processes.items in
+    let sites = s.processes.items in
+    let ps = processes_of sites in
+    let world_is = ap (λ (v : WorldView). v.world) c.self.view_is in
     let net = s.net.messages in
     let x = c.args.node in
     let i = c.index-at.result in
     let at = c.index-at.ensures.next in
     let is = c.self.invariant in
     let node = within_of ps net x (rw (← c.self.view_is) at c.requires) in
-    let read = read_process ps x i c.index.result.now is.numbered at node.1 c.index.ensures in
-    subst (λ (w : World). c.is_up.result ≡ is_up w x) c.self.view_is (c.is_up.ensures ∙ ap (λ (r : Process). r.up) (sym read))
+    let read = read_process ps x i c.index.result.now.process is.numbered at node.1 (got sites i c.index.result.now c.index.ensures) in
+    subst (λ (w : World). c.is_up.result ≡ is_up w x) world_is (c.is_up.ensures.up ∙ ap (λ (r : Process). r.up) (sym read))

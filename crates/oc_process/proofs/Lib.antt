@@ -1,0 +1,5 @@
+pub mod Open
+pub mod Left
+pub mod Loaded
+pub mod Stands
+pub mod Cuts

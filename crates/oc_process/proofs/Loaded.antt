@@ -1,5 +1,5 @@
 -- A node that was loaded from copies of its files.
-use Rattle.std.proofs.Common.{◌≡◌, ℕ, refl, sym, ap, subst, ◌∙◌}
+use Rattle.std.proofs.Common.{◌≡◌, ℕ, refl, sym, ap, subst}
 use Rattle.oc_keep.specs.Files.{AreHonest, AreReliable, Disks, Survives, disks}
 use Rattle.oc_keep.proofs.Stays.{all_honest}
 use Rattle.oc_io.specs.DiskView.{DiskView}

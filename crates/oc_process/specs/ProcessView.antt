@@ -1,5 +1,5 @@
 -- A process as contracts see it: the model's, and the node on its files where it is up.
-use Rattle.std.specs.Prelude.{◌≡◌, ℕ, ◌<◌, Option, Some, None}
+use Rattle.std.specs.Prelude.{ℕ, ◌<◌, Option, Some, None}
 use Rattle.oc_keep.specs.KeptView.{IsRipe, KeptView}
 use Rattle.oc_keep.specs.ReadyView.{CanCommit, ReadyView}
 use Rattle.oc_model.specs.World.{Process}

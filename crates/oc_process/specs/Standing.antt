@@ -1,10 +1,10 @@
 -- A node that runs on its files, or whose files are all that is left of it.
-use Rattle.std.specs.Prelude.{◌≡◌, ℕ, Bool, true, false, Option, Some, None}
+use Rattle.std.specs.Prelude.{◌≡◌, ℕ, Bool, true, false, Some}
 use Rattle.oc_keep.specs.Files.{AreReliable, Disks, Survives, disks, recovered}
 use Rattle.oc_keep.specs.KeptView.{IsHonest, KeptView, NodeSurvives, disks_of, header_of, node_of}
 use Rattle.oc_keep.specs.Promises.{LeavesFiles}
 use Rattle.oc_model.specs.Node.{Control, Header, Node, restarted}
-use Rattle.oc_model.specs.World.{Process, down}
+use Rattle.oc_model.specs.World.{down}
 use Rattle.oc_io.specs.DiskView.{DiskView}
 use Rattle.oc_io.specs.MemDiskView.{MemDiskView, view_of}
 use Rattle.oc_process.specs.declared.standing.Files.{Files}

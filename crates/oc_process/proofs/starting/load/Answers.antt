@@ -1,6 +1,6 @@
-use Rattle.std.proofs.Common.{◌≡◌, List, ℕ, ap, subst, ◌∙◌}
+use Rattle.std.proofs.Common.{List, ℕ, ap, subst, ◌∙◌}
 use Rattle.oc_keep.specs.Files.{disks, recovered}
-use Rattle.oc_keep.specs.KeptView.{header, node_of}
+use Rattle.oc_keep.specs.KeptView.{header}
 use Rattle.oc_process.specs.Standing.{IsRunning}
 use Rattle.oc_process.proofs.Loaded.{loaded_runs}
 use Rattle.oc_process.proofs.starting.load.Goals as goal

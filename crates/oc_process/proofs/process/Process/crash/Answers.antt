@@ -1,12 +1,11 @@
-use Rattle.std.proofs.Common.{◌≡◌, true, ap, sym, subst, ◌∙◌}
-use Rattle.oc_io.specs.MemDiskView.{MemDiskView, view_of}
+use Rattle.std.proofs.Common.{◌≡◌, ap, sym, subst, ◌∙◌}
+use Rattle.oc_io.specs.MemDiskView.{MemDiskView}
 use Rattle.oc_keep.specs.KeptView.{header, node_of}
 use Rattle.oc_model.specs.NextWorld.{stopped}
-use Rattle.oc_model.specs.Node.{Node}
 use Rattle.oc_model.specs.World.{down}
 use Rattle.oc_process.specs.declared.standing.Standing.{Standing}
 use Rattle.oc_process.specs.ProcessView.{ProcessView}
-use Rattle.oc_process.specs.Standing.{IsRunning, Stands, process_of}
+use Rattle.oc_process.specs.Standing.{Stands, process_of}
 use Rattle.oc_process.proofs.Stands.{is_up, left_as, left_node, running_is}
 use Rattle.oc_process.proofs.process.Process.crash.Goals as goal
 

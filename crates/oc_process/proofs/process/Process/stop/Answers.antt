@@ -1,14 +1,14 @@
-use Rattle.std.proofs.Common.{◌≡◌, ◌&&◌, if◌then◌else◌, Option, Some, true, ap, sym, subst, ◌∙◌}
+use Rattle.std.proofs.Common.{◌≡◌, ◌&&◌, if◌then◌else◌, ap, sym, subst, ◌∙◌}
 use Rattle.oc_base.specs.Stops.{is_kept_new}
-use Rattle.oc_io.specs.MemDiskView.{MemDiskView, view_of}
-use Rattle.oc_keep.specs.KeptView.{KeptView, header, node_of}
+use Rattle.oc_io.specs.MemDiskView.{MemDiskView}
+use Rattle.oc_keep.specs.KeptView.{header, node_of}
 use Rattle.oc_keep.specs.ReadyView.{is_written, outcome_of}
 use Rattle.oc_model.specs.NextWorld.{stopped}
 use Rattle.oc_model.specs.Node.{Node}
 use Rattle.oc_model.specs.World.{Process, down}
 use Rattle.oc_process.specs.declared.standing.Standing.{Standing}
 use Rattle.oc_process.specs.ProcessView.{CanCommitTo, ProcessView}
-use Rattle.oc_process.specs.Standing.{IsRunning, Stands, process_of}
+use Rattle.oc_process.specs.Standing.{Stands, process_of}
 use Rattle.oc_process.proofs.Cuts.{kept_as}
 use Rattle.oc_process.proofs.Stands.{can_commit, is_up, left_as, left_node, running_is}
 use Rattle.oc_process.proofs.process.Process.stop.Goals as goal

@@ -5,9 +5,9 @@
 //!
 //! The contract used above: [`World::event`] leaves exactly the model's `next_world`, and says the model's
 //! word and which messages were sent; an act at a node whose control files are ripe leaves them with a
-//! greater generation. At each moment between two calls every crash of a node's disks leaves
-//! what is durable of the node that a contract sees: [`World::into_disks`] hands the disks out and says so.
-//! So a [`World`] is a [`Stage`] whose three functions are those of the model: `new_world`, `next_world` and
+//! greater generation. At each moment between two calls every crash of a node's disks leaves what is
+//! durable of the node that a contract sees: [`World::into_disks`] hands the disks out and says so. So a
+//! [`World`] is a [`Stage`] whose three functions are those of the model: `new_world`, `next_world` and
 //! `word_of`.
 #![tactic(auto)]
 

@@ -5,7 +5,7 @@ ghost use Rattle.oc_base.specs.Lawful.{IsNode};
 ghost use Rattle.oc_keep.specs.Files.{Survives, disks};
 ghost use Rattle.oc_keep.specs.KeptView.{header_of};
 ghost use Rattle.oc_model.specs.NextWorld.{next_world, word_of};
-ghost use Rattle.oc_model.specs.World.{World as WorldState, ids, new_world, node as node_in};
+ghost use Rattle.oc_model.specs.World.{ids, new_world, node as node_in};
 ghost use Rattle.oc_io.specs.MemDiskView.{view_of};
 ghost use Rattle.oc_program.specs.Ends.{status_of};
 ghost use Rattle.oc_program.specs.Lines.{line_of};
@@ -14,6 +14,7 @@ ghost use Rattle.oc_program.specs.Run.{Happened, IsWrittenOrCut};
 ghost use Rattle.oc_program.specs.Status.{number_of};
 ghost use Rattle.oc_program.specs.declared.ending.End.{End};
 ghost use Rattle.oc_words.specs.Words.{asked, texts_of};
+ghost use Rattle.oc_world.specs.World.{WorldView};
 
 use oc_base::NodeId;
 use oc_io::{Disk, MemDisk, Sink, Source};
@@ -41,14 +42,15 @@ pub fn run_to_disks<S: Source, K: Sink, E: Sink, D: Disk, L: Link, C: Clock>(
     clock: &mut C,
     node: NodeId,
 ) -> (u8, Option<(MemDisk, MemDisk, MemDisk)>)
-    ensures { (end : End) × (usage : List ℕ) × (last : WorldState)
+    ensures { (end : End) × (usage : List ℕ) × (last : WorldView)
         × (result.0 ≡ number_of (status_of end))
         × IsWrittenOrCut E.takes E.fails E.faults err.old err.new (line_of end usage)
         × Happened (record {
           asked = asked (texts_of words.now);
           input = at_source S.gives S.fails S.ended S.faults input.old input.new;
           output = at_sink K.takes K.fails K.faults out.old out.new;
-          stage = at_stage new_world next_world word_of (λ (w : WorldState). w) (record { processes = []; net = []; source = [] }) last;
+          stage = at_stage new_world next_world word_of (λ (w : WorldView). w.world)
+              (record { world = record { processes = []; net = []; source = [] }; kept = [] }) last;
           files = at_files D.view (disks control_a.old control_b.old content.old) (disks control_a.new control_b.new content.new);
           link = at_link L.story L.faults link.old link.new;
           clock = at_clock clock.old clock.new;
@@ -56,8 +58,8 @@ pub fn run_to_disks<S: Source, K: Sink, E: Sink, D: Disk, L: Link, C: Clock>(
               (seen L.story L.faults C.seconds C.milliseconds link.old clock.old)
               (seen L.story L.faults C.seconds C.milliseconds link.new clock.new);
         }) end
-        × (IsSome result.1 ↔ IsNode (length (ids last)) node)
-        × IfSome result.1 (λ left. let n = node_in last node in
+        × (IsSome result.1 ↔ IsNode (length (ids last.world)) node)
+        × IfSome result.1 (λ left. let n = node_in last.world node in
         Survives view_of (header_of n.control) node (disks left.0 left.1 left.2) n) }
 {
     let mut world = World::empty(alloc);

@@ -1,0 +1,40 @@
+//! Connections that end behind each of their bytes.
+
+use crate::requests::words_of;
+use crate::runs::Runs;
+use crate::settings::Setting;
+use crate::spelled::spelled_in;
+use crate::table::Scenes;
+use std::alloc::Global;
+use test_tools::{Fault, put_hex};
+
+/// The words of a row: behind how many numbers of bytes, from none to all, one behind another, the connection
+/// comes to the same lines and replies, and to which.
+pub struct Rows;
+
+impl Scenes for Rows {
+    fn answer(alloc: Global, setting: &Setting, text: &str) -> Result<String, Fault> {
+        let bytes = spelled_in(alloc, text)?;
+        let mut runs = Runs::new(alloc);
+        put_all(alloc, setting, &bytes, &mut runs)?;
+        runs.finish()
+    }
+}
+
+/// Puts the words of the connection that ends behind each number of these bytes.
+fn put_all(alloc: Global, setting: &Setting, bytes: &[u8], runs: &mut Runs) -> Result<(), Fault> {
+    for count in 0..bytes.len().saturating_add(1) {
+        let front = bytes.get(..count).unwrap_or(bytes);
+        runs.put(words_of_front(alloc, setting, front)?)?;
+    }
+    Ok(())
+}
+
+/// The words of a connection that brings these bytes alone.
+fn words_of_front(alloc: Global, setting: &Setting, bytes: &[u8]) -> Result<String, Fault> {
+    let mut scene = String::new(alloc);
+    scene.push_str("come:{#")?;
+    put_hex(&mut scene, bytes)?;
+    scene.push_str("}")?;
+    words_of(alloc, setting, scene.as_str())
+}

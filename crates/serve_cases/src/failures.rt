@@ -1,0 +1,45 @@
+//! Scenes in which each call of an object fails in turn.
+
+use crate::outcome::{Outcome, outcome_of, put_end, put_lines};
+use crate::runs::Runs;
+use crate::settings::Setting;
+use crate::table::Scenes;
+use std::alloc::Global;
+use test_tools::{Fault, Fields};
+
+/// The words of a row: how often, one behind another, it comes to the same end and lines, and to which.
+pub struct Rows;
+
+impl Scenes for Rows {
+    fn answer(alloc: Global, setting: &Setting, given: &str) -> Result<String, Fault> {
+        let mut runs = Runs::new(alloc);
+        put_all(alloc, setting, given, &mut runs)?;
+        runs.finish()
+    }
+}
+
+/// Puts the words of the scene as each call of its object fails.
+fn put_all(alloc: Global, setting: &Setting, given: &str, runs: &mut Runs) -> Result<(), Fault> {
+    let (object, rest) = given.split_once(' ').unwrap_or((given, ""));
+    let (calls, scene) = rest.split_once(' ').unwrap_or((rest, ""));
+    let calls = Fields::of(calls, ' ').small()?;
+    for call in 1..calls.saturating_add(1) {
+        let scene = format!(in alloc; "{object}:{call} ^ {scene}")?;
+        runs.put(words_of(alloc, setting, scene.as_str())?)?;
+    }
+    Ok(())
+}
+
+/// The end and the lines of a scene.
+fn words_of(alloc: Global, setting: &Setting, scene: &str) -> Result<String, Fault> {
+    let outcome = outcome_of(alloc, setting, scene)?;
+    let mut said = String::new(alloc);
+    put_words(&mut said, &outcome)?;
+    Ok(said)
+}
+
+fn put_words(said: &mut String, outcome: &Outcome) -> Result<(), Fault> {
+    put_end(said, outcome)?;
+    said.push_str(": ")?;
+    put_lines(said, outcome)
+}

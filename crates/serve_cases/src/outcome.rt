@@ -1,0 +1,121 @@
+//! What comes of a scene.
+
+use crate::objects::{clock_in, fail_in, link_in, new_disk, sink_in};
+use crate::running::run;
+use crate::settings::Setting;
+use crate::spelled::put_spelled;
+use crate::steps::{number_in, said_by};
+use oc_io::{MemDisk, MemSink};
+use oc_outside::MemLink;
+use oc_service::NodeEnd;
+use std::alloc::Global;
+use test_tools::Fault;
+
+/// More connections or dials than a scene has.
+const MOST_CONNECTIONS: u64 = 100;
+
+/// What came of a scene: how the run of the node ended, its lines, and what was written on the link.
+#[derive(Drop)]
+pub struct Outcome {
+    pub end: NodeEnd,
+    pub sink: MemSink,
+    pub link: MemLink,
+}
+
+/// What comes of a scene in a setting.
+pub fn outcome_of(alloc: Global, setting: &Setting, scene: &str) -> Result<Outcome, Fault> {
+    let mut control = new_disk(alloc);
+    let mut alternate = new_disk(alloc);
+    let mut content = new_disk(alloc);
+    let before = setting.before.as_str();
+    if !before.is_empty() {
+        live(
+            alloc,
+            setting,
+            before,
+            &mut control,
+            &mut alternate,
+            &mut content,
+        )?;
+    }
+    live(
+        alloc,
+        setting,
+        scene,
+        &mut control,
+        &mut alternate,
+        &mut content,
+    )
+}
+
+/// Has the node of these files live through a scene: `turns:N` turns, 1 where that step is absent, with probes
+/// where there is a step `probes`.
+fn live(
+    alloc: Global,
+    setting: &Setting,
+    scene: &str,
+    control: &mut MemDisk,
+    alternate: &mut MemDisk,
+    content: &mut MemDisk,
+) -> Result<Outcome, Fault> {
+    let turns = number_in(scene, "turns", 1)?;
+    let probes = said_by(scene, "probes").is_some();
+    fail_in(alloc, scene, "control", control)?;
+    fail_in(alloc, scene, "alternate", alternate)?;
+    fail_in(alloc, scene, "content", content)?;
+    let mut clock = clock_in(alloc, scene)?;
+    let mut sink = sink_in(alloc, scene)?;
+    let mut link = link_in(alloc, scene)?;
+    let node = setting.node;
+    let end = run(
+        alloc,
+        &setting.config,
+        node,
+        turns,
+        probes,
+        control,
+        alternate,
+        content,
+        &mut link,
+        &mut clock,
+        &mut sink,
+    )?;
+    Ok(Outcome { end, sink, link })
+}
+
+/// Puts how the run of the node ended.
+pub fn put_end(said: &mut String, outcome: &Outcome) -> Result<(), Fault> {
+    match outcome.end {
+        NodeEnd::Load(error) => Ok(write!(said, "load {error:?}")?),
+        NodeEnd::Turned(end) => Ok(write!(said, "{end:?}")?),
+    }
+}
+
+/// Puts the lines of a scene.
+pub fn put_lines(said: &mut String, outcome: &Outcome) -> Result<(), Fault> {
+    put_spelled(said, outcome.sink.text())
+}
+
+/// Puts what was written on each connection, with a `>` before it.
+pub fn put_written(said: &mut String, outcome: &Outcome) -> Result<(), Fault> {
+    for at in 0..MOST_CONNECTIONS {
+        let Some(text) = outcome.link.written(at) else {
+            break;
+        };
+        said.push_str(" > ")?;
+        put_spelled(said, text)?;
+    }
+    Ok(())
+}
+
+/// Puts what was written on each dial, with a `@` before it.
+pub fn put_dialled(said: &mut String, outcome: &Outcome) -> Result<(), Fault> {
+    for at in 0..MOST_CONNECTIONS {
+        let Some(text) = outcome.link.dialled(at) else {
+            break;
+        };
+        said.push_str(" @ ")?;
+        put_spelled(said, text)?;
+    }
+    Ok(())
+}

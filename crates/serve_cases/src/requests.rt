@@ -1,0 +1,58 @@
+//! Single connections: the lines of their turn, and what they are answered.
+
+use crate::outcome::{Outcome, outcome_of, put_lines, put_written};
+use crate::settings::Setting;
+use crate::table::Scenes;
+use std::alloc::Global;
+use test_tools::Fault;
+
+/// More bytes than a body of a row has.
+const MOST_CUTS: usize = 24;
+
+/// The words of a row: the lines, and what is written on the connection. Where they are others as the link
+/// gives the bytes of the connection one by one, two by two and so on, those.
+///
+/// A head is read byte by byte however it comes, so what is cut is what stands behind the first head.
+pub struct Rows;
+
+impl Scenes for Rows {
+    fn answer(alloc: Global, setting: &Setting, text: &str) -> Result<String, Fault> {
+        let scene = format!(in alloc; "come:{text}")?;
+        let whole = words_of(alloc, setting, scene.as_str())?;
+        match first_other(alloc, setting, text, &whole)? {
+            Some(other) => Ok(other),
+            None => Ok(whole),
+        }
+    }
+}
+
+/// The first other words of a connection that is cut, with how it is cut.
+fn first_other(
+    alloc: Global,
+    setting: &Setting,
+    text: &str,
+    whole: &String,
+) -> Result<Option<String>, Fault> {
+    let (_head, behind) = text.split_once("||").unwrap_or((text, ""));
+    for cut in 1..behind.len().clamp(2, MOST_CUTS) {
+        let scene = format!(in alloc; "come:{text} ^ cut:{cut}")?;
+        let words = words_of(alloc, setting, scene.as_str())?;
+        if words != *whole {
+            return Ok(Some(format!(in alloc; "cut into {cut}: {words}")?));
+        }
+    }
+    Ok(None)
+}
+
+/// The words of a scene: the lines, and what is written on its connection.
+pub fn words_of(alloc: Global, setting: &Setting, scene: &str) -> Result<String, Fault> {
+    let outcome = outcome_of(alloc, setting, scene)?;
+    let mut said = String::new(alloc);
+    put_words(&mut said, &outcome)?;
+    Ok(said)
+}
+
+fn put_words(said: &mut String, outcome: &Outcome) -> Result<(), Fault> {
+    put_lines(said, outcome)?;
+    put_written(said, outcome)
+}

@@ -1,0 +1,68 @@
+//! The steps of a scene, with `^` between them, such as `come:TEXT` or `seconds:5,7`: a word, and behind a
+//! `:` what it says.
+
+use crate::spelled::spelled_in;
+use std::alloc::Global;
+use test_tools::{Fault, Fields};
+
+/// More steps than a scene has.
+const MOST_STEPS: u32 = 200;
+
+/// More numbers than a step has.
+const MOST_NUMBERS: u32 = 100;
+
+/// What the first of the steps with this word says, or nothing.
+pub fn said_by<'a>(scene: &'a str, word: &str) -> Option<&'a str> {
+    let mut steps = Fields::of(scene, '^');
+    for _ in 0..MOST_STEPS {
+        if steps.is_empty() {
+            break;
+        }
+        if let Some(said) = said_in(steps.text(), word) {
+            return Some(said);
+        }
+    }
+    None
+}
+
+/// What a step says, if it has this word.
+fn said_in<'a>(step: &'a str, word: &str) -> Option<&'a str> {
+    let (first, said) = step.split_once(':').unwrap_or((step, ""));
+    if first == word { Some(said) } else { None }
+}
+
+/// The bytes that each of the steps with this word spells.
+pub fn texts_in(alloc: Global, scene: &str, word: &str) -> Result<Vec<Vec<u8>>, Fault> {
+    let mut steps = Fields::of(scene, '^');
+    let mut texts = Vec::new(alloc);
+    for _ in 0..MOST_STEPS {
+        if steps.is_empty() {
+            break;
+        }
+        if let Some(said) = said_in(steps.text(), word) {
+            texts.push(spelled_in(alloc, said)?)?;
+        }
+    }
+    Ok(texts)
+}
+
+/// The numbers of the step with this word, with commas between them.
+pub fn numbers_in(alloc: Global, scene: &str, word: &str) -> Result<Vec<u64>, Fault> {
+    let mut fields = Fields::of(said_by(scene, word).unwrap_or(""), ',');
+    let mut numbers = Vec::new(alloc);
+    for _ in 0..MOST_NUMBERS {
+        if fields.is_empty() {
+            break;
+        }
+        numbers.push(fields.number()?)?;
+    }
+    Ok(numbers)
+}
+
+/// The number of the step with this word, or this one where there is no such step.
+pub fn number_in(scene: &str, word: &str, otherwise: u32) -> Result<u32, Fault> {
+    match said_by(scene, word) {
+        Some(said) => Fields::of(said, ',').small(),
+        None => Ok(otherwise),
+    }
+}

@@ -1,0 +1,58 @@
+//! Tables whose rows name a setting.
+
+use crate::settings::Setting;
+use std::alloc::Global;
+use std::rt::Files;
+use std::{fs, io};
+use test_tools::{Fault, Row};
+
+/// What the rows of a table come to.
+pub trait Scenes {
+    /// The words that come of what a row is given behind its setting.
+    fn answer(alloc: Global, setting: &Setting, given: &str) -> Result<String, Fault>;
+}
+
+/// Plays a table, which is the file of its name with `.txt` behind it. Prints for each row the names of the
+/// table and of the row and `ok`, or the words that came in place of those that are wanted.
+pub fn play<T: Scenes, R: Files + Print + AllocGlobal>(
+    rt: &R,
+    settings: &str,
+    name: &str,
+) -> io::Result<()> {
+    let file = format!(in rt.alloc(); "{name}.txt")?;
+    let rows = fs::read_to_string(rt, file.as_str())?;
+    for line in rows.lines() {
+        if let Some(row) = Row::read(line) {
+            tell(rt, name, &row, answer::<T>(rt.alloc(), settings, row.given))?;
+        }
+    }
+    Ok(())
+}
+
+/// The words that come of a row.
+fn answer<T: Scenes>(alloc: Global, settings: &str, given: &str) -> Result<String, Fault> {
+    let (name, given) = given.split_once(' ').unwrap_or((given, ""));
+    let setting = Setting::find(alloc, settings, name)?;
+    T::answer(alloc, &setting, given)
+}
+
+/// Prints the line of a row.
+fn tell<R: Print>(
+    rt: &R,
+    table: &str,
+    row: &Row<'_>,
+    answer: Result<String, Fault>,
+) -> io::Result<()> {
+    let name = row.name;
+    match answer {
+        Ok(words) => {
+            let words = words.as_str().trim();
+            if words == row.wanted {
+                println!(rt; "{table} {name} ok")
+            } else {
+                println!(rt; "{table} {name} gives {words}")
+            }
+        }
+        Err(fault) => println!(rt; "{table} {name} gives nothing: {fault}"),
+    }
+}

@@ -99,7 +99,7 @@ pub fn put_lines(said: &mut String, outcome: &Outcome) -> Result<(), Fault> {
 /// Puts what was written on each connection, with a `>` before it.
 pub fn put_written(said: &mut String, outcome: &Outcome) -> Result<(), Fault> {
     for at in 0..MOST_CONNECTIONS {
-        let Some(text) = outcome.link.written(at) else {
+        let Some(text) = written(outcome, at) else {
             break;
         };
         said.push_str(" > ")?;
@@ -111,11 +111,21 @@ pub fn put_written(said: &mut String, outcome: &Outcome) -> Result<(), Fault> {
 /// Puts what was written on each dial, with a `@` before it.
 pub fn put_dialled(said: &mut String, outcome: &Outcome) -> Result<(), Fault> {
     for at in 0..MOST_CONNECTIONS {
-        let Some(text) = outcome.link.dialled(at) else {
+        let Some(text) = dialled(outcome, at) else {
             break;
         };
         said.push_str(" @ ")?;
         put_spelled(said, text)?;
     }
     Ok(())
+}
+
+/// What was written on the connection at this place, counted from 0.
+fn written(outcome: &Outcome, at: u64) -> Option<&[u8]> {
+    outcome.link.written(at)
+}
+
+/// What was written on the dial at this place, counted from 0.
+fn dialled(outcome: &Outcome, at: u64) -> Option<&[u8]> {
+    outcome.link.dialled(at)
 }

@@ -35,13 +35,23 @@ fn first_other(
 ) -> Result<Option<String>, Fault> {
     let (_head, behind) = text.split_once("||").unwrap_or((text, ""));
     for cut in 1..behind.len().clamp(2, MOST_CUTS) {
-        let scene = format!(in alloc; "come:{text} ^ cut:{cut}")?;
-        let words = words_of(alloc, setting, scene.as_str())?;
+        let words = words_of_pieces(alloc, setting, text, cut)?;
         if words != *whole {
             return Ok(Some(format!(in alloc; "cut into {cut}: {words}")?));
         }
     }
     Ok(None)
+}
+
+/// The words of a connection that gives so many bytes at a time at most.
+fn words_of_pieces(
+    alloc: Global,
+    setting: &Setting,
+    text: &str,
+    cut: usize,
+) -> Result<String, Fault> {
+    let scene = format!(in alloc; "come:{text} ^ cut:{cut}")?;
+    words_of(alloc, setting, scene.as_str())
 }
 
 /// The words of a scene: the lines, and what is written on its connection.

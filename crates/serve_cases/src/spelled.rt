@@ -161,10 +161,12 @@ fn put_run<'a>(
 
 /// How often a byte stands in front.
 fn run_of(first: u8, bytes: &[u8]) -> usize {
-    match bytes.iter().position(|byte| *byte != first) {
-        Some(place) => place,
-        None => bytes.len(),
+    for (place, byte) in bytes.iter().enumerate() {
+        if *byte != first {
+            return place;
+        }
     }
+    bytes.len()
 }
 
 fn put_byte(out: &mut String, byte: u8) -> Result<(), Fault> {

@@ -39,11 +39,17 @@ pub fn texts_in(alloc: Global, scene: &str, word: &str) -> Result<Vec<Vec<u8>>, 
         if steps.is_empty() {
             break;
         }
-        if let Some(said) = said_in(steps.text(), word) {
-            texts.push(spelled_in(alloc, said)?)?;
-        }
+        take_text(alloc, steps.text(), word, &mut texts)?;
     }
     Ok(texts)
+}
+
+/// Takes the bytes that a step spells, if it has this word.
+fn take_text(alloc: Global, step: &str, word: &str, texts: &mut Vec<Vec<u8>>) -> Result<(), Fault> {
+    match said_in(step, word) {
+        Some(said) => Ok(texts.push(spelled_in(alloc, said)?)?),
+        None => Ok(()),
+    }
 }
 
 /// The numbers of the step with this word, with commas between them.

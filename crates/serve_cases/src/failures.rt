@@ -33,8 +33,12 @@ fn put_all(alloc: Global, setting: &Setting, given: &str, runs: &mut Runs) -> Re
 /// The end and the lines of a scene.
 fn words_of(alloc: Global, setting: &Setting, scene: &str) -> Result<String, Fault> {
     let outcome = outcome_of(alloc, setting, scene)?;
+    words_in(alloc, &outcome)
+}
+
+fn words_in(alloc: Global, outcome: &Outcome) -> Result<String, Fault> {
     let mut said = String::new(alloc);
-    put_words(&mut said, &outcome)?;
+    put_words(&mut said, outcome)?;
     Ok(said)
 }
 

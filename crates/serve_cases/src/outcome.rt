@@ -22,65 +22,81 @@ pub struct Outcome {
     pub link: MemLink,
 }
 
-/// What comes of a scene in a setting.
-pub fn outcome_of(alloc: Global, setting: &Setting, scene: &str) -> Result<Outcome, Fault> {
-    let mut control = new_disk(alloc);
-    let mut alternate = new_disk(alloc);
-    let mut content = new_disk(alloc);
-    let before = setting.before.as_str();
-    if !before.is_empty() {
-        live(
-            alloc,
-            setting,
-            before,
-            &mut control,
-            &mut alternate,
-            &mut content,
-        )?;
-    }
-    live(
-        alloc,
-        setting,
-        scene,
-        &mut control,
-        &mut alternate,
-        &mut content,
-    )
+/// The disks of a node's three files.
+#[derive(Drop)]
+struct Files {
+    control: MemDisk,
+    alternate: MemDisk,
+    content: MemDisk,
 }
 
-/// Has the node of these files live through a scene: `turns:N` turns, 1 where that step is absent, with probes
-/// where there is a step `probes`.
+/// What comes of a scene in a setting.
+pub fn outcome_of(alloc: Global, setting: &Setting, scene: &str) -> Result<Outcome, Fault> {
+    let mut files = Files {
+        control: new_disk(alloc),
+        alternate: new_disk(alloc),
+        content: new_disk(alloc),
+    };
+    outcome_on(alloc, setting, scene, &mut files)
+}
+
+/// The same, on new files.
+fn outcome_on(
+    alloc: Global,
+    setting: &Setting,
+    scene: &str,
+    files: &mut Files,
+) -> Result<Outcome, Fault> {
+    let before = setting.before.as_str();
+    if !before.is_empty() {
+        live(alloc, setting, before, files)?;
+    }
+    live(alloc, setting, scene, files)
+}
+
+/// Has the node of these files live through a scene.
 fn live(
     alloc: Global,
     setting: &Setting,
     scene: &str,
-    control: &mut MemDisk,
-    alternate: &mut MemDisk,
-    content: &mut MemDisk,
+    files: &mut Files,
 ) -> Result<Outcome, Fault> {
-    let turns = number_in(scene, "turns", 1)?;
-    let probes = said_by(scene, "probes").is_some();
-    fail_in(alloc, scene, "control", control)?;
-    fail_in(alloc, scene, "alternate", alternate)?;
-    fail_in(alloc, scene, "content", content)?;
-    let mut clock = clock_in(alloc, scene)?;
     let mut sink = sink_in(alloc, scene)?;
     let mut link = link_in(alloc, scene)?;
+    let end = live_over(alloc, setting, scene, files, &mut link, &mut sink)?;
+    Ok(Outcome { end, sink, link })
+}
+
+/// The same, over the link and the output of the scene: `turns:N` turns, 1 where that step is absent, with probes
+/// where there is a step `probes`.
+fn live_over(
+    alloc: Global,
+    setting: &Setting,
+    scene: &str,
+    files: &mut Files,
+    link: &mut MemLink,
+    sink: &mut MemSink,
+) -> Result<NodeEnd, Fault> {
     let node = setting.node;
-    let end = run(
+    let turns = number_in(scene, "turns", 1)?;
+    let probes = said_by(scene, "probes").is_some();
+    fail_in(alloc, scene, "control", &mut files.control)?;
+    fail_in(alloc, scene, "alternate", &mut files.alternate)?;
+    fail_in(alloc, scene, "content", &mut files.content)?;
+    let mut clock = clock_in(alloc, scene)?;
+    run(
         alloc,
         &setting.config,
         node,
         turns,
         probes,
-        control,
-        alternate,
-        content,
-        &mut link,
+        &mut files.control,
+        &mut files.alternate,
+        &mut files.content,
+        link,
         &mut clock,
-        &mut sink,
-    )?;
-    Ok(Outcome { end, sink, link })
+        sink,
+    )
 }
 
 /// Puts how the run of the node ended.

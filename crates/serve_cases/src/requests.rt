@@ -57,8 +57,12 @@ fn words_of_pieces(
 /// The words of a scene: the lines, and what is written on its connection.
 pub fn words_of(alloc: Global, setting: &Setting, scene: &str) -> Result<String, Fault> {
     let outcome = outcome_of(alloc, setting, scene)?;
+    words_in(alloc, &outcome)
+}
+
+fn words_in(alloc: Global, outcome: &Outcome) -> Result<String, Fault> {
     let mut said = String::new(alloc);
-    put_words(&mut said, &outcome)?;
+    put_words(&mut said, outcome)?;
     Ok(said)
 }
 

@@ -13,10 +13,14 @@ pub struct Rows;
 impl Scenes for Rows {
     fn answer(alloc: Global, setting: &Setting, scene: &str) -> Result<String, Fault> {
         let outcome = outcome_of(alloc, setting, scene)?;
-        let mut said = String::new(alloc);
-        put_words(&mut said, &outcome)?;
-        Ok(said)
+        words_in(alloc, &outcome)
     }
+}
+
+fn words_in(alloc: Global, outcome: &Outcome) -> Result<String, Fault> {
+    let mut said = String::new(alloc);
+    put_words(&mut said, outcome)?;
+    Ok(said)
 }
 
 fn put_words(said: &mut String, outcome: &Outcome) -> Result<(), Fault> {

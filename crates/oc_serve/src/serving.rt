@@ -51,11 +51,12 @@ pub fn turn<D: Disk, L: Link, C: Clock, K: Sink>(
     // What it probes with stands for a further turn.
     ensures made { ForSome (left_behind probing.exit) (IsMadeFor kept.old.node.control.nodes) }
 {
+    let mut heads = None;
     match probing {
         Some(probing) => ended_with(turn_probing(
-            alloc, kept, outbox, config, link, clock, sink, probing,
+            alloc, &mut heads, kept, outbox, config, link, clock, sink, probing,
         )),
-        None => ended_with(turn_plain(alloc, kept, outbox, config, link, clock, sink)),
+        None => ended_with(turn_plain(alloc, &mut heads, kept, outbox, config, link, clock, sink)),
     }
 }
 
@@ -121,8 +122,11 @@ fn serve_probing<D: Disk, L: Link, C: Clock, K: Sink>(
         (scene kept.new outbox.new sink.new (outside_of (L.story link.new) (L.faults link.new) (C.seconds clock.new) (C.milliseconds clock.new)))) }
     ensures probing { IsMadeFor kept.old.node.control.nodes probing.new }
 {
+    let mut heads = None;
     'turns: for done in 0..turns {
-        turn_probing(alloc, kept, outbox, config, link, clock, sink, probing)?;
+        turn_probing(
+            alloc, &mut heads, kept, outbox, config, link, clock, sink, probing,
+        )?;
     }
     Ok(())
 }
@@ -150,8 +154,9 @@ fn serve_plain<D: Disk, L: Link, C: Clock, K: Sink>(
         (scene kept.old outbox.old sink.old (outside_of (L.story link.old) (L.faults link.old) (C.seconds clock.old) (C.milliseconds clock.old)))
         (scene kept.new outbox.new sink.new (outside_of (L.story link.new) (L.faults link.new) (C.seconds clock.new) (C.milliseconds clock.new)))) }
 {
+    let mut heads = None;
     'turns: for done in 0..turns {
-        turn_plain(alloc, kept, outbox, config, link, clock, sink)?;
+        turn_plain(alloc, &mut heads, kept, outbox, config, link, clock, sink)?;
     }
     Ok(())
 }

@@ -33,6 +33,7 @@ use std::alloc::Global;
 #[allow(clippy::too_many_arguments)]
 pub(crate) fn turn_probing<D: Disk, L: Link, C: Clock, K: Sink>(
     alloc: Global,
+    heads: &mut Option<HeadReader>,
     kept: &mut Kept<D>,
     outbox: &mut Outbox,
     config: &Config,
@@ -56,7 +57,7 @@ pub(crate) fn turn_probing<D: Disk, L: Link, C: Clock, K: Sink>(
     ensures renews { OnOk result (Renews D.view kept.old kept.new) }
     ensures probing { IsMadeFor kept.old.node.control.nodes probing.new }
 {
-    let arrival = turn_plain(alloc, kept, outbox, config, link, clock, sink)?;
+    let arrival = turn_plain(alloc, heads, kept, outbox, config, link, clock, sink)?;
     match arrival {
         Arrival::Conn => Ok(Arrival::Conn),
         Arrival::Quiet => {
@@ -71,6 +72,7 @@ pub(crate) fn turn_probing<D: Disk, L: Link, C: Clock, K: Sink>(
 #[allow(clippy::too_many_arguments)]
 pub(crate) fn turn_plain<D: Disk, L: Link, C: Clock, K: Sink>(
     alloc: Global,
+    heads: &mut Option<HeadReader>,
     kept: &mut Kept<D>,
     outbox: &mut Outbox,
     config: &Config,
@@ -92,29 +94,27 @@ pub(crate) fn turn_plain<D: Disk, L: Link, C: Clock, K: Sink>(
     ensures renews { OnOk result (Renews D.view kept.old kept.new) }
 {
     tidy(kept)?;
-    let mut reader = make_reader(alloc, kept)?;
+    let reader = reader_in(alloc, heads, kept)?;
     let arrival = ask(kept, link)?;
-    serve_arrival(
-        alloc,
-        &mut reader,
-        kept,
-        outbox,
-        config,
-        link,
-        sink,
-        arrival,
-    )?;
-    tick_and_send(alloc, &mut reader, kept, outbox, config, link, clock, sink)?;
+    serve_arrival(alloc, reader, kept, outbox, config, link, sink, arrival)?;
+    tick_and_send(alloc, reader, kept, outbox, config, link, clock, sink)?;
     Ok(arrival)
 }
 
-/// The room for the heads of a turn.
-fn make_reader<D: Disk>(alloc: Global, kept: &Kept<D>) -> Result<HeadReader, TurnEnd>
+/// The reader of heads, which is made for the first turn and then kept.
+fn reader_in<'a, D: Disk>(
+    alloc: Global,
+    heads: &'a mut Option<HeadReader>,
+    kept: &Kept<D>,
+) -> Result<&'a mut HeadReader, TurnEnd>
     ensures { IfErr result (λ end. (kept.now.closed ≡ false → LookStops D.view end kept.now kept.now)) }
 {
     // While no disk failed, the node is what the files recover.
     let _node = kept.node();
-    Ok(HeadReader::new(alloc)?)
+    if heads.is_none() {
+        *heads = Some(HeadReader::new(alloc)?);
+    }
+    heads.as_mut().ok_or(TurnEnd::Memory)
 }
 
 /// Asks the link for a connection that waits.

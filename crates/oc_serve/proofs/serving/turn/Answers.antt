@@ -21,8 +21,8 @@ returns-in-Some-clause-ends g c =
     (scene t.new.kept t.new.outbox t.new.sink (outside_of (story t.new.link) (faults t.new.link) (seconds t.new.clock) (millis t.new.clock)))
     t.result t.ensures.did t.ensures.stops t.ensures.renews)
 
-pub returns-in-None-clause-ends : goal.returns-in-None-clause-ends
-returns-in-None-clause-ends g c =
+pub returns-clause-ends : goal.returns-clause-ends
+returns-clause-ends g c =
     let a = c.args in
     let story = g.L.Link.story in
     let faults = g.L.Link.faults in
@@ -38,8 +38,8 @@ returns-in-None-clause-ends g c =
 pub returns-in-Some-clause-made : goal.returns-in-Some-clause-made
 returns-in-Some-clause-made g c = rw c.in-Some.is (for_some (IsMadeFor c.args.kept.now.node.control.nodes) c.turn_probing.new.probing c.turn_probing.ensures.probing)
 
-pub returns-in-None-clause-made : goal.returns-in-None-clause-made
-returns-in-None-clause-made g c = rw c.in-None.is (for_none (IsMadeFor c.args.kept.now.node.control.nodes))
+pub returns-clause-made : goal.returns-clause-made
+returns-clause-made g c = rw c.in-None.is (for_none (IsMadeFor c.args.kept.now.node.control.nodes))
 
 pub turn_probing-requires-clause-probing : goal.turn_probing-requires-clause-probing
 turn_probing-requires-clause-probing g c = c.requires.probing c.in-Some.probing.now (ap (option_map (λ (p : MutBor Probing). p.now)) c.in-Some.is)

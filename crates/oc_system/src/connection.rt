@@ -42,6 +42,8 @@ pub(crate) struct Connection {
     look: Look,
     unsent: Vec<u8>,
     sent: usize,
+    /// How many bytes went out so far.
+    went: usize,
     ended: bool,
     broken: bool,
     finished: bool,
@@ -73,6 +75,7 @@ impl Connection {
             look: Look::new(),
             unsent: Vec::new(alloc),
             sent: 0,
+            went: 0,
             ended: false,
             broken: false,
             finished: false,
@@ -149,11 +152,12 @@ impl Connection {
         is_probe(self.unread())
     }
 
-    /// Whether it can be dropped without harm: all was sent, and all that its peer sends was taken off the
-    /// socket. Were more to come, the system would take back the reply.
+    /// Whether it can be dropped without harm: all was sent, and its peer sends nothing more. Were more to come,
+    /// the system would take back what the peer has not taken of the reply; of a short one that is nothing, so
+    /// there it is enough that the whole request came.
     pub(crate) fn is_done(&self) -> bool {
-        let is_taken = self.ended || self.look.is_all(self.count);
-        self.broken || (is_taken && self.left_to_send() == 0)
+        let is_taken = self.look.is_all(self.count) && self.went <= SEND_BYTES;
+        self.broken || ((self.ended || is_taken) && self.left_to_send() == 0)
     }
 
     /// What came and was not read yet.
@@ -214,9 +218,10 @@ impl Connection {
     }
 
     /// Sends what the socket takes now of these bytes, and answers how many that were.
-    fn send_now(&mut self, bytes: &[u8]) -> usize {
+    pub(crate) fn send_now(&mut self, bytes: &[u8]) -> usize {
         let (count, is_sound) = write_some(&mut self.stream, bytes);
         self.broken = self.broken || !is_sound;
+        self.went = self.went.saturating_add(count);
         count
     }
 
@@ -228,6 +233,7 @@ impl Connection {
         let rest = self.unsent.get(self.sent..).unwrap_or(&[]);
         let (count, is_sound) = write_some(&mut self.stream, rest);
         self.broken = self.broken || !is_sound;
+        self.went = self.went.saturating_add(count);
         self.sent = self.sent.saturating_add(count);
         self.forget_sent();
         count as u64

@@ -8,8 +8,9 @@ pub(crate) struct Look {
     /// Where the next line begins, and up to where no end of it was found.
     line: usize,
     seen: usize,
-    /// Whether a line of the head came.
+    /// Whether a line of the head came, and whether it says a version in which a request may wait for leave.
     begun: bool,
+    may_wait: bool,
     /// Where the body begins, once the head has come.
     body: Option<usize>,
     /// What the Content-Length says.
@@ -27,6 +28,7 @@ impl Look {
             line: 0,
             seen: 0,
             begun: false,
+            may_wait: false,
             body: None,
             length: 0,
             expects: false,
@@ -67,14 +69,18 @@ impl Look {
             self.body = self.begun.then_some(next);
             return;
         }
-        self.begun = true;
+        if !self.begun {
+            self.begun = true;
+            self.may_wait = line.ends_with(b"HTTP/1.1");
+            return;
+        }
         let Some((name, value)) = field(line) else {
             return;
         };
         if is_word(name, b"content-length") {
             self.length = number(value);
         } else if is_word(name, b"expect") {
-            self.expects = self.expects || is_word(value, b"100-continue");
+            self.expects = self.expects || (self.may_wait && is_word(value, b"100-continue"));
         } else if is_word(name, b"transfer-encoding") {
             self.is_coded = true;
         }

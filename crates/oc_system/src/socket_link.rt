@@ -5,7 +5,8 @@ use crate::sockets::{Sockets, millis};
 use oc_io::Failed;
 use oc_outside::{Arrival, Link};
 use std::alloc::Global;
-use std::io;
+use std::io::{self, ErrorKind};
+use std::mem;
 use std::net::{Net, TcpStream};
 use std::rt::Clock;
 
@@ -35,6 +36,10 @@ pub struct SocketLink<'a, R> {
     outgoing: Option<Outgoing>,
     /// Whether the reply to a message is still to come on the outgoing connection.
     awaits_reply: bool,
+    /// Where the outgoing connection leads, where it may be kept for further requests; and the further request
+    /// on it of whose reply no byte has come.
+    address: String,
+    asked: Vec<u8>,
     /// When the outgoing connection is given up, in milliseconds; none where each call has its own time.
     until: Option<u64>,
     came: u64,
@@ -57,6 +62,8 @@ impl<'a, R: Net<Stream = TcpStream> + Clock> SocketLink<'a, R> {
             sockets: None,
             outgoing: None,
             awaits_reply: false,
+            address: String::new(alloc),
+            asked: Vec::new(alloc),
             until: None,
             came: 0,
             went: 0,
@@ -119,10 +126,41 @@ impl<R: Net<Stream = TcpStream> + Clock> SocketLink<'_, R> {
         ensures dialling { self.new.dialling ≡ self.old.dialling }
     {
         self.outgoing = None;
+        self.asked.clear();
         self.awaits_reply = bytes.starts_with(b"POST");
         self.until = self.patience(self.awaits_reply);
         self.outgoing = Some(Outgoing::reach(self.rt, self.alloc, address, self.until)?);
+        self.address.clear();
+        self.address.push_str(address)?;
         self.say(bytes)
+    }
+
+    /// Asks further on the outgoing connection. Its peer may have ended it meanwhile; then the request is made
+    /// on a new one (RFC 9112, section 9.3.1).
+    fn ask(&mut self, bytes: &[u8]) -> io::Result<()>
+        ensures listening { self.new.listening ≡ self.old.listening }
+        ensures talking { self.new.talking ≡ self.old.talking }
+        ensures dialling { self.new.dialling ≡ self.old.dialling }
+    {
+        self.asked.clear();
+        self.asked.extend_from_slice(bytes)?;
+        match self.say(bytes) {
+            Err(error) if is_end(&error) => self.ask_anew(),
+            said => said,
+        }
+    }
+
+    /// Makes the further request on a new connection, once.
+    fn ask_anew(&mut self) -> io::Result<()>
+        ensures listening { self.new.listening ≡ self.old.listening }
+        ensures talking { self.new.talking ≡ self.old.talking }
+        ensures dialling { self.new.dialling ≡ self.old.dialling }
+    {
+        let asked = mem::replace(&mut self.asked, Vec::new(self.alloc));
+        self.outgoing = None;
+        let made = Outgoing::reach(self.rt, self.alloc, self.address.as_str(), self.until)?;
+        self.outgoing = Some(made);
+        self.say(asked.as_slice())
     }
 
     /// Until when the next dial may last, in milliseconds; none where nothing listens here, and each call has
@@ -172,7 +210,7 @@ impl<R: Net<Stream = TcpStream> + Clock> SocketLink<'_, R> {
         ensures dialling { self.new.dialling ≡ self.old.dialling }
     {
         let Some(outgoing) = &mut self.outgoing else {
-            return Err(io::Error::from(io::ErrorKind::NotConnected));
+            return Err(io::Error::from(ErrorKind::NotConnected));
         };
         outgoing.write_all(self.rt, bytes, self.until)?;
         self.went = self.went.saturating_add(bytes.len() as u64);
@@ -193,22 +231,43 @@ impl<R: Net<Stream = TcpStream> + Clock> SocketLink<'_, R> {
         if count > 0 || buf.is_empty() {
             return Ok(count);
         }
-        self.refill()?;
+        self.refill_asked()?;
         match &mut self.outgoing {
             Some(outgoing) => Ok(outgoing.give(buf)),
             None => Ok(0),
         }
     }
 
-    /// Reads a further piece from the outgoing connection. A reply that is more than an acknowledgement is
+    /// Reads a further piece, from a new connection where this one ended before a further request was answered.
+    fn refill_asked(&mut self) -> io::Result<()>
+        ensures listening { self.new.listening ≡ self.old.listening }
+        ensures talking { self.new.talking ≡ self.old.talking }
+        ensures dialling { self.new.dialling ≡ self.old.dialling }
+    {
+        let is_further = !self.asked.is_empty();
+        match self.refill() {
+            Ok(0) if is_further => {}
+            Err(error) if is_further && is_end(&error) => {}
+            Ok(_) => {
+                self.asked.clear();
+                return Ok(());
+            }
+            Err(error) => return Err(error),
+        }
+        self.ask_anew()?;
+        let _count = self.refill()?;
+        Ok(())
+    }
+
+    /// Reads a further piece from the outgoing connection, and answers its length. A reply that is more than an acknowledgement is
     /// work: there may be more of it, so the next wait for a connection is none.
-    fn refill(&mut self) -> io::Result<()>
+    fn refill(&mut self) -> io::Result<usize>
         ensures listening { self.new.listening ≡ self.old.listening }
         ensures talking { self.new.talking ≡ self.old.talking }
         ensures dialling { self.new.dialling ≡ self.old.dialling }
     {
         let Some(outgoing) = &mut self.outgoing else {
-            return Ok(());
+            return Ok(0);
         };
         let count = outgoing.fill(self.rt, self.until)?;
         let is_work = self.awaits_reply
@@ -220,7 +279,7 @@ impl<R: Net<Stream = TcpStream> + Clock> SocketLink<'_, R> {
                 sockets.hurry();
             }
         }
-        Ok(())
+        Ok(count)
     }
 
     /// Reads from the current connection.
@@ -246,7 +305,7 @@ impl<R: Net<Stream = TcpStream> + Clock> SocketLink<'_, R> {
     {
         match &mut self.sockets {
             Some(sockets) => sockets.write(self.rt, bytes),
-            None => Err(io::Error::from(io::ErrorKind::NotConnected)),
+            None => Err(io::Error::from(ErrorKind::NotConnected)),
         }
     }
 }
@@ -323,7 +382,7 @@ impl<R: Net<Stream = TcpStream> + Clock> Link for SocketLink<'_, R> {
     }
 
     fn dial_more(&mut self, bytes: &[u8]) -> Result<(), Failed> {
-        match self.say(bytes) {
+        match self.ask(bytes) {
             Ok(()) => Ok(()),
             Err(_) => {
                 self.give_up();
@@ -350,4 +409,12 @@ impl<R: Net<Stream = TcpStream> + Clock> Link for SocketLink<'_, R> {
     fn hang_up(&mut self) {
         self.outgoing = None;
     }
+}
+
+/// Whether the peer ended the connection.
+fn is_end(error: &io::Error) -> bool {
+    matches!(
+        error.kind(),
+        ErrorKind::ConnectionReset | ErrorKind::ConnectionAborted | ErrorKind::BrokenPipe
+    )
 }

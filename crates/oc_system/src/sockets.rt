@@ -3,7 +3,7 @@ mod keeping;
 
 use crate::connection::Connection;
 use crate::limits::{
-    EVENTS, KEPT_MILLIS, LISTENER, LONG_WAIT, MOST_IN_A_ROW, MOST_KEPT, MOST_WAITS, PIECE,
+    BODY_MILLIS, EVENTS, LISTENER, LONG_WAIT, MOST_IN_A_ROW, MOST_KEPT, MOST_WAITS, PIECE,
     SHORT_WAIT,
 };
 use crate::pause::Pause;
@@ -27,8 +27,8 @@ pub(crate) enum Awaits {
 /// The listening side of a program's sockets.
 ///
 /// A connection is kept aside while its request comes, then it is the current one, and then it is kept until
-/// its reply has gone out. None of them holds up another, and only those are looked at that are ready; those
-/// whose time has run out are looked for a few times a second.
+/// its reply has gone out. Only those are looked at that are ready; those whose time has run out are looked for
+/// a few times a second. What is waited for on the current one is bounded in `limits`.
 #[derive(Drop)]
 pub(crate) struct Sockets {
     alloc: Global,
@@ -157,7 +157,7 @@ impl Sockets {
         self.kept = self.kept.saturating_sub(1);
         self.in_a_row = self.in_a_row.saturating_add(1);
         if now < connection.until {
-            connection.until = now.saturating_add(KEPT_MILLIS);
+            connection.until = now.saturating_add(BODY_MILLIS);
         }
         self.awaits = Awaits::Request;
         self.has_read = false;

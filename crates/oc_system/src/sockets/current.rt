@@ -38,7 +38,7 @@ impl Sockets {
             }
             if self.is_replying(begun, now) {
                 since = now;
-            } else if self.is_out_of_time(since, now) {
+            } else if self.is_out_of_time(since, now) || self.is_wanted_elsewhere() {
                 break;
             }
             now = self.pump(rt, LOOK_MILLIS)?;
@@ -102,6 +102,12 @@ impl Sockets {
         now >= until || now >= since.saturating_add(silent)
     }
 
+    /// Whether another connection can be served while a further request is waited for, which may come on a new
+    /// connection just as well.
+    fn is_wanted_elsewhere(&self) -> bool {
+        matches!(self.awaits, Awaits::Further) && !self.whole.is_empty()
+    }
+
     /// Writes a front of the bytes on the current connection: what cannot go out at once is kept. It waits
     /// only where too much is kept.
     pub(crate) fn write<R: Clock>(&mut self, rt: &R, bytes: &[u8]) -> io::Result<usize>
@@ -118,7 +124,13 @@ impl Sockets {
             let room = MOST_UNSENT.saturating_sub(self.unsent);
             let count = bytes.len().min(room);
             if count > 0 {
-                self.put(&bytes[..count], now)?;
+                self.put(&bytes[..count])?;
+                self.note_reply(bytes, now);
+                return Ok(count);
+            }
+            let count = self.pass(bytes);
+            if count > 0 {
+                self.note_reply(bytes, now);
                 return Ok(count);
             }
             self.watch_current();
@@ -134,9 +146,24 @@ impl Sockets {
         Err(io::Error::from(ErrorKind::TimedOut))
     }
 
-    /// Puts bytes on the current connection. Behind a reply a further request has its time from then on, and so
-    /// has a body behind the leave to send it.
-    fn put(&mut self, bytes: &[u8], now: u64) -> io::Result<()> {
+    /// Sends what the socket of the current connection takes now of these bytes, where nothing is to go out
+    /// before them, and keeps none. Answers how many those were.
+    fn pass(&mut self, bytes: &[u8]) -> usize
+        ensures within { result ≤ length bytes.now }
+    {
+        let Some(current) = &mut self.current else {
+            return 0;
+        };
+        if current.left_to_send() > 0 {
+            return 0;
+        }
+        let count = current.send_now(bytes).min(bytes.len());
+        self.went = self.went.saturating_add(count as u64);
+        count
+    }
+
+    /// Puts bytes on the current connection.
+    fn put(&mut self, bytes: &[u8]) -> io::Result<()> {
         let Some(current) = &mut self.current else {
             return Err(io::Error::from(ErrorKind::NotConnected));
         };
@@ -146,7 +173,12 @@ impl Sockets {
         let sent = before.saturating_add(bytes.len()).saturating_sub(left);
         self.went = self.went.saturating_add(sent as u64);
         self.unsent = self.unsent.saturating_sub(before).saturating_add(left);
-        put?;
+        put
+    }
+
+    /// These bytes were put on the current connection. Behind a reply a further request has its time from then
+    /// on, and so has a body behind the leave to send it.
+    fn note_reply(&mut self, bytes: &[u8], now: u64) {
         if self.has_read {
             self.begin_reply(bytes);
         }
@@ -158,7 +190,6 @@ impl Sockets {
         if let Some(current) = &mut self.current {
             current.until = now.saturating_add(time);
         }
-        Ok(())
     }
 
     /// These bytes stand first behind a request. Only such can be the leave to send its body. A probe is no

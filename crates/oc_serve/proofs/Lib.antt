@@ -3,3 +3,4 @@ pub mod Sends
 pub mod Whole
 pub mod Ending
 pub mod Probed
+pub mod Still

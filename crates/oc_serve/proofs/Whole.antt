@@ -26,7 +26,9 @@ use Rattle.oc_model.specs.Node.{Header}
 use Rattle.oc_policy.specs.declared.rule.Rule.{Rule}
 use Rattle.oc_turn.proofs.Chains.{do_then}
 use Rattle.oc_serve.specs.Ends.{MakesTurn, StopsTurn, StopsTurns}
-use Rattle.oc_serve.specs.Served.{IsServed, ServesOne, ServesPart, ServesTurns}
+use Rattle.oc_model.proofs.Lists.{all_append}
+use Rattle.oc_serve.proofs.Still.{all_own, do_aside, probes_own, same_then, ticked_aside}
+use Rattle.oc_serve.specs.Served.{IsOwn, IsServed, SameConnections, ServesOne, ServesPart, ServesThen, ServesTurns}
 use Rattle.oc_serve.specs.Turns.{AreSent, AreTurns, Errand, IsArrival, IsOneSent, IsTickedAndSent, IsTurn, ProbesAt, ProbesNext, arrival_of, end_with, errand_deeds, errands_deeds}
 use Rattle.oc_turn.specs.Deeds.{ticked}
 use Rattle.oc_turn.proofs.Scenes.{breaks_as, did_then}
@@ -145,24 +147,38 @@ module _ {D K : Type 0} (view : D → DiskView) (takes fails : K → List ℕ �
       (asked_did takes_nothing takes_then k0 k1 o0 s0 st0 st1 f0 f1 seconds millis arrival looks asked counts) talked
 
   -- where the connection was answered, it is so in the turn
-  served_one : (rules : List Rule) (a b c d : Scene D K) (arrival : Arrival) (requests next : List Deed)
+  served_then : (rules : List Rule) (a b c d : Scene D K) (arrival : Arrival) (requests next : List Deed)
       → Did view takes count addresses (Calls arrival ∷ []) a b → Did view takes count addresses requests b c → Did view takes count addresses next c d
       → (IsHonest view b.kept → IsServed (terms b.kept rules) addresses arrival requests (node_of b.kept) b.outside.story c.outside.story)
-      → IsHonest view a.kept → ServesOne (setting a.kept addresses) (terms a.kept rules) arrival ((Calls arrival ∷ requests) ++ next) (sight a) (sight d)
-  served_one rules a b c d arrival requests next asked talked sent answered honest =
+      → IsHonest view a.kept → ServesThen (setting a.kept addresses) (terms a.kept rules) arrival ((Calls arrival ∷ requests) ++ next) next (sight a) (sight c) (sight d)
+  served_then rules a b c d arrival requests next asked talked sent answered honest =
       let b_honest = all_honest view (disks_of a.kept) (disks_of b.kept) asked.goes_on honest in
       let c_honest = all_honest view (disks_of b.kept) (disks_of c.kept) talked.goes_on b_honest in
       let calls = asked.done honest in
       record {
         requests = requests;
-        rest = next;
         called = sight b;
-        served = sight c;
         deeds_are = refl;
         calls = subst (λ (x : Sight). Does (setting a.kept addresses) (Calls arrival) (sight a) x) (sym calls.2) calls.1;
         talks = subst (λ (s : Setting). DoAll s requests (sight b) (sight c)) (same_setting a.kept b.kept addresses asked.same) (talked.done b_honest);
         answered = subst (λ (t : Terms). IsServed t addresses arrival requests (node_of b.kept) b.outside.story c.outside.story) (same_terms a.kept b.kept rules asked.same) (answered b_honest);
         goes_on = subst (λ (s : Setting). DoAll s next (sight c) (sight d)) (same_setting b.kept c.kept addresses talked.same ∙ same_setting a.kept b.kept addresses asked.same) (sent.done c_honest);
+      }
+
+  -- and the tick and the messages behind it leave the connection as it is
+  served_one : (rules : List Rule) (a b c d : Scene D K) (arrival : Arrival) (requests next : List Deed) → IsTickedAndSent next
+      → Did view takes count addresses (Calls arrival ∷ []) a b → Did view takes count addresses requests b c → Did view takes count addresses next c d
+      → (IsHonest view b.kept → IsServed (terms b.kept rules) addresses arrival requests (node_of b.kept) b.outside.story c.outside.story)
+      → IsHonest view a.kept → ServesOne (setting a.kept addresses) (terms a.kept rules) arrival ((Calls arrival ∷ requests) ++ next) (sight a) (sight d)
+  served_one rules a b c d arrival requests next ticks asked talked sent answered honest =
+      let serves = served_then rules a b c d arrival requests next asked talked sent answered honest in
+      let aside = ticked_aside next ticks in
+      record {
+        rest = next;
+        served = sight c;
+        serves = serves;
+        own = all_own next aside;
+        still = do_aside (setting a.kept addresses) next (sight c) (sight d) aside serves.goes_on;
       }
 
   pub turn_did : (takes_nothing : (k : K) → takes k [] k) (takes_then : (a b c : K) (x y : List ℕ) → takes a x b → takes b y c → takes a (x ++ y) c)
@@ -186,26 +202,38 @@ module _ {D K : Type 0} (view : D → DiskView) (takes fails : K → List ℕ �
     },
     did_then view takes fails count addresses takes_then (Calls arrival ∷ requests) next a c d
         (did_then view takes fails count addresses takes_then (Calls arrival ∷ []) requests a b c asked talked) done,
-    served_one rules a b c d arrival requests next asked talked done answered,
+    served_one rules a b c d arrival requests next sent asked talked done answered,
   )
 
   -- a probe behind a turn
-  pub serves_behind : (rules : List Rule) (arrival : Arrival) (ds probe : List Deed) (a b c : Scene D K)
-      → Did view takes count addresses ds a b → (IsHonest view a.kept → ServesOne (setting a.kept addresses) (terms a.kept rules) arrival ds (sight a) (sight b)) → Did view takes count addresses probe b c
-      → IsHonest view a.kept → ServesOne (setting a.kept addresses) (terms a.kept rules) arrival (ds ++ probe) (sight a) (sight c)
-  serves_behind rules arrival ds probe a b c first serves probed honest =
-      let one = serves honest in
+  probes_then : (rules : List Rule) (arrival : Arrival) (ds probe : List Deed) (a b c : Scene D K)
+      → Did view takes count addresses ds a b → Did view takes count addresses probe b c → IsHonest view a.kept → (one : ServesOne (setting a.kept addresses) (terms a.kept rules) arrival ds (sight a) (sight b))
+      → ServesThen (setting a.kept addresses) (terms a.kept rules) arrival (ds ++ probe) (one.rest ++ probe) (sight a) one.served (sight c)
+  probes_then rules arrival ds probe a b c first probed honest one =
       let does = subst (λ (s : Setting). DoAll s probe (sight b) (sight c)) (same_setting a.kept b.kept addresses first.same) (probed.done (all_honest view (disks_of a.kept) (disks_of b.kept) first.goes_on honest)) in
       record {
-        requests = one.requests;
+        requests = one.serves.requests;
+        called = one.serves.called;
+        deeds_are = ap (λ (x : List Deed). x ++ probe) one.serves.deeds_are ∙ append_assoc (Calls arrival ∷ one.serves.requests) one.rest probe;
+        calls = one.serves.calls;
+        talks = one.serves.talks;
+        answered = one.serves.answered;
+        goes_on = do_then (setting a.kept addresses) one.rest probe one.served (sight b) (sight c) one.serves.goes_on does;
+      }
+
+  -- which leaves the connection as it is
+  pub serves_behind : (rules : List Rule) (arrival : Arrival) (had has : Probing) (ds probe : List Deed) (a b c : Scene D K)
+      → Did view takes count addresses ds a b → (IsHonest view a.kept → ServesOne (setting a.kept addresses) (terms a.kept rules) arrival ds (sight a) (sight b)) → Did view takes count addresses probe b c
+      → ProbesNext had has probe → SameConnections b.outside.story c.outside.story
+      → IsHonest view a.kept → ServesOne (setting a.kept addresses) (terms a.kept rules) arrival (ds ++ probe) (sight a) (sight c)
+  serves_behind rules arrival had has ds probe a b c first serves probed probes still honest =
+      let one = serves honest in
+      record {
         rest = one.rest ++ probe;
-        called = one.called;
         served = one.served;
-        deeds_are = ap (λ (x : List Deed). x ++ probe) one.deeds_are ∙ append_assoc (Calls arrival ∷ one.requests) one.rest probe;
-        calls = one.calls;
-        talks = one.talks;
-        answered = one.answered;
-        goes_on = do_then (setting a.kept addresses) one.rest probe one.served (sight b) (sight c) one.goes_on does;
+        serves = probes_then rules arrival ds probe a b c first probed honest one;
+        own = all_append IsOwn one.rest probe one.own (probes_own had has probe probes);
+        still = same_then one.served.outside.story b.outside.story c.outside.story one.still still;
       }
 
   -- the same of so many turns with a further one
@@ -265,7 +293,7 @@ module _ {D K : Type 0} (view : D → DiskView) (takes fails : K → List ℕ �
     at,
     did_then view takes fails count addresses takes_then (Calls arrival ∷ requests) next a c at
         (did_then view takes fails count addresses takes_then (Calls arrival ∷ []) requests a b c asked talked) sent,
-    λ honest. inr (inl (arrival, served_one view takes fails count addresses rules a b c at arrival requests next asked talked sent answered honest)),
+    λ honest. inr (inl (arrival, next, sight c, served_then view takes fails count addresses rules a b c at arrival requests next asked talked sent answered honest)),
     breaks_as view takes fails count addresses ⊥ _ (λ none. absurd none) end under at d breaks,
   )
 
@@ -279,7 +307,9 @@ module _ {D K : Type 0} (view : D → DiskView) (takes fails : K → List ℕ �
     under,
     at,
     did_then view takes fails count addresses takes_then ds probe a b at first probed,
-    λ honest. inr (inl (arrival, serves_behind view takes fails count addresses rules arrival ds probe a b at first serves probed honest)),
+    λ honest.
+        let one = serves honest in
+        inr (inl (arrival, one.rest ++ probe, one.served, probes_then view takes fails count addresses rules arrival ds probe a b at first probed honest one)),
     breaks_as view takes fails count addresses ⊥ _ (λ none. absurd none) end under at c breaks,
   )
 

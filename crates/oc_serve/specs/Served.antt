@@ -1,14 +1,16 @@
 -- What the connection of a turn was answered.
 use Rattle.std.specs.Prelude.{◌≡◌, ◌⊎◌, ◌<◌, ℕ, zero, suc, Option, List, [], ◌∷◌, ◌++◌}
+use Rattle.std.specs.List.{AllByRecursion}
 use Rattle.oc_answer.specs.Cuts.{IsCutConnection}
 use Rattle.oc_answer.specs.Hearing.{Terms}
 use Rattle.oc_answer.specs.Serving.{IsConnection}
 use Rattle.oc_model.specs.Node.{Node}
+use Rattle.oc_outside.specs.LinkCalls.{Told}
 use Rattle.oc_outside.specs.Story.{Story}
 use Rattle.oc_outside.specs.declared.link.Arrival.{Arrival}
 use Rattle.oc_outside.specs.declared.link.Arrival.TheVariants as arrivals
 use Rattle.oc_probe.specs.declared.probing.Probing.{Probing}
-use Rattle.oc_turn.specs.Deeds.{Calls, Deed, DoAll, Does, Setting, Sight}
+use Rattle.oc_turn.specs.Deeds.{Answers, Calls, Deed, DoAll, Does, Setting, Sight, Talks}
 use Rattle.oc_serve.specs.Turns.{IsTurn, end_with}
 
 -- the requests of the connection were answered, where one came
@@ -16,18 +18,39 @@ abbrev pub IsServed : Terms → List (List ℕ) → Arrival → List Deed → No
 IsServed t addresses arrivals.Conn ds n old new = IsConnection t addresses ds n old new
 IsServed t addresses arrivals.Quiet ds n old new = ds ≡ []
 
+-- a deed that a turn does by itself: it neither asks for a connection nor answers one
+abbrev pub IsOwn : Deed → Type 0
+IsOwn (Calls arrival) = ⊥
+IsOwn (Answers i failed) = ⊥
+IsOwn Talks = ⊥
+IsOwn d = Unit {0}
+
+-- the connections that were taken are the same
+abbrev pub SameTaken : Story → Story → Type 0
+SameTaken old new = (new.past ≡ old.past) × (new.current ≡ old.current)
+
+-- the same of a link, as far as it is told
+abbrev pub SameConnections : Option Story → Option Story → Type 0
+SameConnections old new = Told SameTaken old new
+
 -- The deeds of a turn, from a sight to another: behind the link's answer the requests of the connection are answered, and the rest
--- follows.
-pub record ServesOne (s : Setting) (t : Terms) (arrival : Arrival) (ds : List Deed) (a c : Sight) : Type 0 where
+-- follows once it is served.
+pub record ServesThen (s : Setting) (t : Terms) (arrival : Arrival) (ds rest : List Deed) (a served c : Sight) : Type 0 where
   pub requests : List Deed
-  pub rest : List Deed
   pub called : Sight
-  pub served : Sight
   pub deeds_are : ds ≡ Calls arrival ∷ requests ++ rest
   pub calls : Does s (Calls arrival) a called
   pub talks : DoAll s requests called served
   pub answered : IsServed t s.addresses arrival requests called.node called.outside.story served.outside.story
   pub goes_on : DoAll s rest served c
+
+-- The same of a whole turn, in which the rest is its own, and leaves the connections that were taken as they were once served.
+pub record ServesOne (s : Setting) (t : Terms) (arrival : Arrival) (ds : List Deed) (a c : Sight) : Type 0 where
+  pub rest : List Deed
+  pub served : Sight
+  pub serves : ServesThen s t arrival ds rest a served c
+  pub own : AllByRecursion IsOwn rest
+  pub still : SameConnections served.outside.story c.outside.story
 
 -- turns one after another, each of which answers the connection that came
 abbrev pub ServesTurns : Setting → Terms → Option Probing → Option Probing → ℕ → List Deed → Sight → Sight → Type 0
@@ -49,7 +72,8 @@ pub record CutsOne (s : Setting) (t : Terms) (ds : List Deed) (a c : Sight) : Ty
 -- The deeds of a turn that ended in its midst: there are none; or its connection, where one came, was answered, and some of the rest
 -- follows; or it ended with its connection.
 abbrev pub ServesPart : Setting → Terms → List Deed → Sight → Sight → Type 0
-ServesPart s t ds a c = ((ds ≡ []) × (c ≡ a)) ⊎ ((arrival : Arrival) × ServesOne s t arrival ds a c) ⊎ CutsOne s t ds a c
+ServesPart s t ds a c = ((ds ≡ []) × (c ≡ a))
+    ⊎ ((arrival : Arrival) × (rest : List Deed) × (served : Sight) × ServesThen s t arrival ds rest a served c) ⊎ CutsOne s t ds a c
 
 -- fewer than so many turns, and then one that ended in its midst
 abbrev pub ServesUpTo : Setting → Terms → Option Probing → ℕ → List Deed → Sight → Sight → Type 0

@@ -6,6 +6,7 @@ ghost use Rattle.oc_outside.specs.LinkCalls.{CountsDialling};
 ghost use Rattle.oc_turn.specs.Deeds.{Deed, Under, outside_of};
 ghost use Rattle.oc_turn.specs.Scenes.{BreaksOff, Did, NotesOne, NoteStops, scene};
 ghost use Rattle.oc_serve.specs.Sending.{IsPlaced};
+ghost use Rattle.oc_serve.specs.Served.{SameConnections};
 ghost use Rattle.oc_serve.specs.Turns.{IsMadeFor, ProbesNext, ProbesPeer, probe_note};
 
 use crate::place::address_of;
@@ -44,6 +45,9 @@ pub(crate) fn probe_next<D: Disk, L: Link, C: Clock, K: Sink>(
         (scene kept.old outbox.old sink.old (outside_of (L.story link.old) (L.faults link.old) (C.seconds clock.old) (C.milliseconds clock.old)))
         (scene kept.new outbox.new sink.new (outside_of (L.story link.new) (L.faults link.new) (C.seconds clock.new) (C.milliseconds clock.new)))) }
     ensures count { CountsDialling (L.faults link.old) (L.faults link.new) }
+
+    // A note of a fault is written only on the output.
+    ensures still { SameConnections (L.story link.old) (L.story link.new) }
     ensures probing { IsMadeFor kept.old.node.control.nodes probing.new }
 {
     match probing.rotation.next() {
@@ -92,6 +96,9 @@ fn probe_peer<D: Disk, L: Link, C: Clock, K: Sink>(
         (scene kept.old outbox.old sink.old (outside_of (L.story link.old) (L.faults link.old) (C.seconds clock.old) (C.milliseconds clock.old)))
         (scene kept.new outbox.new sink.new (outside_of (L.story link.new) (L.faults link.new) (C.seconds clock.new) (C.milliseconds clock.new)))) }
     ensures count { CountsDialling (L.faults link.old) (L.faults link.new) }
+
+    // A note of a fault is written only on the output.
+    ensures still { SameConnections (L.story link.old) (L.story link.new) }
     ensures gauge { length gauge.new ≡ length gauge.old }
 {
     // While no disk failed, the node is what the files recover.

@@ -4,6 +4,7 @@ use Rattle.oc_turn.specs.Scenes.{scene}
 use Rattle.oc_turn.proofs.Scenes.{did_none}
 use Rattle.oc_serve.proofs.Probed.{made_next, probed_next, probed_none}
 use Rattle.oc_turn.proofs.Results.{done_then}
+use Rattle.oc_serve.proofs.Still.{same_story}
 use Rattle.oc_serve.proofs.probing.probe_next.Goals as goal
 
 pub returns-in-None-clause-did : goal.returns-in-None-clause-did
@@ -21,3 +22,6 @@ returns-in-Some-clause-did g c =
 
 pub returns-in-Some-clause-probing : goal.returns-in-Some-clause-probing
 returns-in-Some-clause-probing g c = made_next c.args.kept.now.node.control.nodes c.args.probing.now c.probe_peer.new.gauge c.next.new.self c.requires.probing c.probe_peer.ensures.gauge c.next.ensures.turns
+
+pub returns-in-None-clause-still : goal.returns-in-None-clause-still
+returns-in-None-clause-still g c = same_story (g.L.Link.story c.args.link.now)

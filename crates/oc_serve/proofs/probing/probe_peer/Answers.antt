@@ -6,6 +6,7 @@ use Rattle.oc_turn.specs.Scenes.{scene}
 use Rattle.oc_serve.proofs.Probed.{fault_did, link_did, measured_did, probe_did, reply_did, told_breaks}
 use Rattle.oc_turn.proofs.Results.{done_then, err_both, err_then}
 use Rattle.oc_turn.proofs.Scenes.{breaks_memory, breaks_still}
+use Rattle.oc_serve.proofs.Still.{probed_same}
 use Rattle.oc_serve.proofs.probing.probe_peer.Goals as goal
 
 pub returns-in_ok-entry-in-Ok-clause-did : goal.returns-in_ok-entry-in-Ok-clause-did
@@ -143,3 +144,18 @@ returns-in-Err-Reply-clause-stops g c =
     let e = told_breaks g.D.Disk.view g.K.Sink.takes g.K.Sink.fails g.K.Sink.faults a.config.now.addresses g.met.K.Sink.takes_nothing (Probes a.peer c.get-rate.result.1 (Err probes.Reply) ∷ []) end _
     (scene a.kept.now a.outbox.now a.sink.now (outside_of (story a.link.now) (faults a.link.now) (seconds a.clock.now) (millis a.clock.now))) a.kept.now a.outbox.now a.sink.now c.tell-in-Err-Reply.new.sink out did (c.node-node.ensures.survives c.requires.open) stops in
     (Probes a.peer c.get-rate.result.1 (Err probes.Reply) ∷ [], e.0, e.1)) c.tell-in-Err-Reply.ensures.stops
+
+pub returns-in_ok-entry-in-Ok-clause-still : goal.returns-in_ok-entry-in-Ok-clause-still
+returns-in_ok-entry-in-Ok-clause-still g c = probed_same (Ok c.in-Ok.rate) c.address_of.result.now (g.L.Link.story c.args.link.now) (g.L.Link.story c.probe.new.link) c.in-Ok.ensures.link
+
+pub returns-in_err-entry-in-Ok-clause-still : goal.returns-in_err-entry-in-Ok-clause-still
+returns-in_err-entry-in-Ok-clause-still g c = probed_same (Ok c.in-Ok.rate) c.address_of.result.now (g.L.Link.story c.args.link.now) (g.L.Link.story c.probe.new.link) c.in-Ok.ensures.link
+
+pub returns-in-Err-Link-clause-still : goal.returns-in-Err-Link-clause-still
+returns-in-Err-Link-clause-still g c = probed_same (Err c.in-Err-Link.field-0) c.address_of.result.now (g.L.Link.story c.args.link.now) (g.L.Link.story c.probe.new.link) c.in-Err-Link.ensures.link
+
+pub returns-in-Err-Reply-clause-still : goal.returns-in-Err-Reply-clause-still
+returns-in-Err-Reply-clause-still g c = probed_same (Err c.in-Err-Reply.field-0) c.address_of.result.now (g.L.Link.story c.args.link.now) (g.L.Link.story c.probe.new.link) c.in-Err-Reply.ensures.link
+
+pub returns-in-Err-Memory-clause-still : goal.returns-in-Err-Memory-clause-still
+returns-in-Err-Memory-clause-still g c = probed_same (Err c.in-Err-Memory.field-0) c.address_of.result.now (g.L.Link.story c.args.link.now) (g.L.Link.story c.probe.new.link) c.in-Err-Memory.ensures.link

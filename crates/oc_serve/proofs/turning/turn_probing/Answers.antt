@@ -39,9 +39,9 @@ returns-in_ok-probe_next-in-Quiet-clause-did g c =
       did_then g.D.Disk.view g.K.Sink.takes g.K.Sink.fails g.K.Sink.faults a.config.now.addresses g.met.K.Sink.takes_then d.0 q.0
           (scene a.kept.now a.outbox.now a.sink.now (outside_of (story a.link.now) (faults a.link.now) (seconds a.clock.now) (millis a.clock.now))) (scene t.kept t.outbox t.sink (outside_of (story t.link) (faults t.link) (seconds t.clock) (millis t.clock))) (scene n.kept n.outbox n.sink (outside_of (story n.link) (faults n.link) (seconds n.clock) (millis n.clock)))
           d.2 q.2,
-      serves_behind g.D.Disk.view g.K.Sink.takes g.K.Sink.fails g.K.Sink.faults a.config.now.addresses a.config.now.rules arrivals.Quiet d.0 q.0
+      serves_behind g.D.Disk.view g.K.Sink.takes g.K.Sink.fails g.K.Sink.faults a.config.now.addresses a.config.now.rules arrivals.Quiet a.probing.now n.probing d.0 q.0
           (scene a.kept.now a.outbox.now a.sink.now (outside_of (story a.link.now) (faults a.link.now) (seconds a.clock.now) (millis a.clock.now))) (scene t.kept t.outbox t.sink (outside_of (story t.link) (faults t.link) (seconds t.clock) (millis t.clock))) (scene n.kept n.outbox n.sink (outside_of (story n.link) (faults n.link) (seconds n.clock) (millis n.clock)))
-          d.2 (λ honest. subst (λ (x : Arrival). ServesOne (setting a.kept.now a.config.now.addresses) (terms a.kept.now a.config.now.rules) x d.0 (sight_of (node_of a.kept.now) a.outbox.now (outside_of (story a.link.now) (faults a.link.now) (seconds a.clock.now) (millis a.clock.now))) (sight_of (node_of t.kept) t.outbox (outside_of (story t.link) (faults t.link) (seconds t.clock) (millis t.clock)))) c.in-Quiet.is (d.3 honest)) q.2,
+          d.2 (λ honest. subst (λ (x : Arrival). ServesOne (setting a.kept.now a.config.now.addresses) (terms a.kept.now a.config.now.rules) x d.0 (sight_of (node_of a.kept.now) a.outbox.now (outside_of (story a.link.now) (faults a.link.now) (seconds a.clock.now) (millis a.clock.now))) (sight_of (node_of t.kept) t.outbox (outside_of (story t.link) (faults t.link) (seconds t.clock) (millis t.clock)))) c.in-Quiet.is (d.3 honest)) q.2 q.1 c.probe_next.ensures.still,
     )
 
 pub returns-in_err-probe_next-in-Quiet-clause-stops : goal.returns-in_err-probe_next-in-Quiet-clause-stops

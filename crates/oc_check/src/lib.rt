@@ -9,6 +9,5 @@
 mod lending;
 mod loading;
 mod showing;
-mod sight;
 
 pub use lending::recovered_text;

@@ -5,11 +5,11 @@ ghost use Rattle.oc_replay.specs.Lines.{held_text};
 ghost use Rattle.oc_replay.specs.Shows.{show_text};
 ghost use Rattle.oc_stage.specs.Sight.{sight_of};
 
-use crate::sight::sight_of;
 use oc_base::{Memory, NodeId, put};
 use oc_io::Disk;
 use oc_keep::Kept;
 use oc_replay::{held_text, show_text};
+use oc_sight::sight_of;
 use std::alloc::Global;
 
 /// The block of `show` of a node that is down, and its block of `held`.

@@ -19,4 +19,3 @@ mod starting;
 mod stopping;
 
 pub use process::Process;
-pub use sight::sight_of;

@@ -19,13 +19,14 @@ ghost use Rattle.oc_stage.specs.Sight.{sight_of};
 ghost use Rattle.oc_process.specs.ProcessView.{CanCommitTo, Renews, generation_of, resting};
 ghost use Rattle.oc_process.specs.Standing.{IsOpen, IsRunning};
 
-use crate::sight::{groups_of, groups_recovered, lawful_node, sight_of, sight_recovered};
+use crate::sight::{groups_of, groups_recovered, lawful_node, sight_recovered};
 use crate::standing::{Files, Standing};
 use crate::{acting, starting, stopping};
 use oc_base::{Memory, NodeId, Shelf};
 use oc_io::MemDisk;
 use oc_keep::{Kept, Node, Outcome, Ready};
 use oc_model::Input;
+use oc_sight::sight_of;
 use oc_stage::Sight;
 use std::alloc::Global;
 use std::marker::Model;

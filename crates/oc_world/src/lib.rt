@@ -19,6 +19,6 @@ mod stage;
 mod texts;
 mod world;
 
-pub use oc_process::sight_of;
+pub use oc_sight::sight_of;
 pub use oc_stage::{Said, Sight, Stage};
 pub use world::World;

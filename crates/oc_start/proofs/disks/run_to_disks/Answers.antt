@@ -1,4 +1,3 @@
-use Rattle.std.proofs.Common.{◌≡◌}
 use Rattle.oc_start.proofs.disks.run_to_disks.Goals as goal
 
 pub returns : goal.returns

@@ -1,6 +1,6 @@
 use Rattle.std.proofs.Common.{◌≡◌, ◌++◌, drop}
 use Rattle.oc_cert.specs.TableView.{entries_of}
-use Rattle.oc_check.proofs.sight.push_entries.Given as goal
+use Rattle.oc_sight.proofs.sight.push_entries.Given as goal
 
 -- the certificates so far and those to come are all
 abbrev pub invariant-loop-row : goal.invariant-loop-row

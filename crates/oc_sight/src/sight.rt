@@ -11,7 +11,7 @@ use oc_keep::Kept;
 use oc_stage::Sight;
 
 /// What is seen of a node on its files, which is up or not.
-pub(crate) fn sight_of<D: Disk>(kept: &Kept<D>, up: bool) -> Result<Sight, Memory>
+pub fn sight_of<D: Disk>(kept: &Kept<D>, up: bool) -> Result<Sight, Memory>
     ensures { IfOk result (λ sight. sight ≡ sight_of kept.now.node.control up) }
 {
     let node = kept.node();

@@ -1,12 +1,12 @@
 //! Connections that end behind each of their bytes.
 
-use crate::requests::words_of;
+use crate::outcome::words_of;
+use crate::requests::PARTS;
 use crate::runs::Runs;
 use crate::settings::Setting;
-use crate::spelled::spelled_in;
 use crate::table::Scenes;
 use std::alloc::Global;
-use test_tools::{Fault, put_hex};
+use test_tools::{Fault, spelled_in};
 
 /// The words of a row: behind how many numbers of bytes, from none to all, one behind another, the connection
 /// comes to the same lines and replies, and to which.
@@ -33,8 +33,9 @@ fn put_all(alloc: Global, setting: &Setting, bytes: &[u8], runs: &mut Runs) -> R
 /// The words of a connection that brings these bytes alone.
 fn words_of_front(alloc: Global, setting: &Setting, bytes: &[u8]) -> Result<String, Fault> {
     let mut scene = String::new(alloc);
-    scene.push_str("come:{#")?;
-    put_hex(&mut scene, bytes)?;
-    scene.push_str("}")?;
-    words_of(alloc, setting, scene.as_str())
+    scene.push_str("come:")?;
+    for byte in bytes {
+        write!(scene, "\\x{byte:02x}")?;
+    }
+    words_of(alloc, setting, scene.as_str(), &PARTS)
 }

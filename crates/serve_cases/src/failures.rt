@@ -1,6 +1,6 @@
 //! Scenes in which each call of an object fails in turn.
 
-use crate::outcome::{Outcome, outcome_of, put_end, put_lines};
+use crate::outcome::{Part, words_of};
 use crate::runs::Runs;
 use crate::settings::Setting;
 use crate::table::Scenes;
@@ -25,25 +25,8 @@ fn put_all(alloc: Global, setting: &Setting, given: &str, runs: &mut Runs) -> Re
     let calls = Fields::of(calls, ' ').small()?;
     for call in 1..calls.saturating_add(1) {
         let scene = format!(in alloc; "{object}:{call} ^ {scene}")?;
-        runs.put(words_of(alloc, setting, scene.as_str())?)?;
+        let parts = [Part::End(": "), Part::Lines];
+        runs.put(words_of(alloc, setting, scene.as_str(), &parts)?)?;
     }
     Ok(())
-}
-
-/// The end and the lines of a scene.
-fn words_of(alloc: Global, setting: &Setting, scene: &str) -> Result<String, Fault> {
-    let outcome = outcome_of(alloc, setting, scene)?;
-    words_in(alloc, &outcome)
-}
-
-fn words_in(alloc: Global, outcome: &Outcome) -> Result<String, Fault> {
-    let mut said = String::new(alloc);
-    put_words(&mut said, outcome)?;
-    Ok(said)
-}
-
-fn put_words(said: &mut String, outcome: &Outcome) -> Result<(), Fault> {
-    put_end(said, outcome)?;
-    said.push_str(": ")?;
-    put_lines(said, outcome)
 }

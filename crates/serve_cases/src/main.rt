@@ -14,7 +14,6 @@ mod requests;
 mod running;
 mod runs;
 mod settings;
-mod spelled;
 mod steps;
 mod table;
 mod turns;

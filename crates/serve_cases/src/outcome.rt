@@ -3,23 +3,22 @@
 use crate::objects::{clock_in, fail_in, link_in, new_disk, sink_in};
 use crate::running::run;
 use crate::settings::Setting;
-use crate::spelled::put_spelled;
 use crate::steps::{number_in, said_by};
 use oc_io::{MemDisk, MemSink};
 use oc_outside::MemLink;
 use oc_service::NodeEnd;
 use std::alloc::Global;
-use test_tools::Fault;
+use test_tools::{Fault, put_spelled};
 
 /// More connections or dials than a scene has.
 const MOST_CONNECTIONS: u64 = 100;
 
 /// What came of a scene: how the run of the node ended, its lines, and what was written on the link.
 #[derive(Drop)]
-pub struct Outcome {
-    pub end: NodeEnd,
-    pub sink: MemSink,
-    pub link: MemLink,
+struct Outcome {
+    end: NodeEnd,
+    sink: MemSink,
+    link: MemLink,
 }
 
 /// The disks of a node's three files.
@@ -31,7 +30,7 @@ struct Files {
 }
 
 /// What comes of a scene in a setting.
-pub fn outcome_of(alloc: Global, setting: &Setting, scene: &str) -> Result<Outcome, Fault> {
+fn outcome_of(alloc: Global, setting: &Setting, scene: &str) -> Result<Outcome, Fault> {
     let mut files = Files {
         control: new_disk(alloc),
         alternate: new_disk(alloc),
@@ -99,21 +98,60 @@ fn live_over(
     )
 }
 
+/// What the words of a row tell of an outcome.
+#[derive(Clone, Copy)]
+pub enum Part<'a> {
+    /// How the run of the node ended, and this behind it.
+    End(&'a str),
+    /// The lines.
+    Lines,
+    /// What was written on each connection.
+    Written,
+    /// What was written on each dial.
+    Dialled,
+}
+
+/// The words of what comes of a scene: these parts, one behind another.
+pub fn words_of(
+    alloc: Global,
+    setting: &Setting,
+    scene: &str,
+    parts: &[Part<'_>],
+) -> Result<String, Fault> {
+    let outcome = outcome_of(alloc, setting, scene)?;
+    words_in(alloc, &outcome, parts)
+}
+
+fn words_in(alloc: Global, outcome: &Outcome, parts: &[Part<'_>]) -> Result<String, Fault> {
+    let mut said = String::new(alloc);
+    for part in parts {
+        put_part(&mut said, outcome, *part)?;
+    }
+    Ok(said)
+}
+
+fn put_part(said: &mut String, outcome: &Outcome, part: Part<'_>) -> Result<(), Fault> {
+    match part {
+        Part::End(behind) => {
+            put_end(said, outcome)?;
+            Ok(said.push_str(behind)?)
+        }
+        Part::Lines => put_spelled(said, outcome.sink.text()),
+        Part::Written => put_written(said, outcome),
+        Part::Dialled => put_dialled(said, outcome),
+    }
+}
+
 /// Puts how the run of the node ended.
-pub fn put_end(said: &mut String, outcome: &Outcome) -> Result<(), Fault> {
+fn put_end(said: &mut String, outcome: &Outcome) -> Result<(), Fault> {
     match outcome.end {
         NodeEnd::Load(error) => Ok(write!(said, "load {error:?}")?),
         NodeEnd::Turned(end) => Ok(write!(said, "{end:?}")?),
     }
 }
 
-/// Puts the lines of a scene.
-pub fn put_lines(said: &mut String, outcome: &Outcome) -> Result<(), Fault> {
-    put_spelled(said, outcome.sink.text())
-}
-
 /// Puts what was written on each connection, with a `>` before it.
-pub fn put_written(said: &mut String, outcome: &Outcome) -> Result<(), Fault> {
+fn put_written(said: &mut String, outcome: &Outcome) -> Result<(), Fault> {
     for at in 0..MOST_CONNECTIONS {
         let Some(text) = written(outcome, at) else {
             break;
@@ -125,7 +163,7 @@ pub fn put_written(said: &mut String, outcome: &Outcome) -> Result<(), Fault> {
 }
 
 /// Puts what was written on each dial, with a `@` before it.
-pub fn put_dialled(said: &mut String, outcome: &Outcome) -> Result<(), Fault> {
+fn put_dialled(said: &mut String, outcome: &Outcome) -> Result<(), Fault> {
     for at in 0..MOST_CONNECTIONS {
         let Some(text) = dialled(outcome, at) else {
             break;

@@ -1,6 +1,6 @@
 //! Single connections: the lines of their turn, and what they are answered.
 
-use crate::outcome::{Outcome, outcome_of, put_lines, put_written};
+use crate::outcome::{Part, words_of};
 use crate::settings::Setting;
 use crate::table::Scenes;
 use std::alloc::Global;
@@ -8,6 +8,9 @@ use test_tools::Fault;
 
 /// More bytes than a body of a row has.
 const MOST_CUTS: usize = 24;
+
+/// What the words of a row tell.
+pub const PARTS: [Part<'static>; 2] = [Part::Lines, Part::Written];
 
 /// The words of a row: the lines, and what is written on the connection. Where they are others as the link
 /// gives the bytes of the connection one by one, two by two and so on, those.
@@ -18,7 +21,7 @@ pub struct Rows;
 impl Scenes for Rows {
     fn answer(alloc: Global, setting: &Setting, text: &str) -> Result<String, Fault> {
         let scene = format!(in alloc; "come:{text}")?;
-        let whole = words_of(alloc, setting, scene.as_str())?;
+        let whole = words_of(alloc, setting, scene.as_str(), &PARTS)?;
         match first_other(alloc, setting, text, &whole)? {
             Some(other) => Ok(other),
             None => Ok(whole),
@@ -33,7 +36,7 @@ fn first_other(
     text: &str,
     whole: &String,
 ) -> Result<Option<String>, Fault> {
-    let (_head, behind) = text.split_once("||").unwrap_or((text, ""));
+    let (_head, behind) = text.split_once(r"\r\n\r\n").unwrap_or((text, ""));
     for cut in 1..behind.len().clamp(2, MOST_CUTS) {
         let words = words_of_pieces(alloc, setting, text, cut)?;
         if words != *whole {
@@ -51,22 +54,5 @@ fn words_of_pieces(
     cut: usize,
 ) -> Result<String, Fault> {
     let scene = format!(in alloc; "come:{text} ^ cut:{cut}")?;
-    words_of(alloc, setting, scene.as_str())
-}
-
-/// The words of a scene: the lines, and what is written on its connection.
-pub fn words_of(alloc: Global, setting: &Setting, scene: &str) -> Result<String, Fault> {
-    let outcome = outcome_of(alloc, setting, scene)?;
-    words_in(alloc, &outcome)
-}
-
-fn words_in(alloc: Global, outcome: &Outcome) -> Result<String, Fault> {
-    let mut said = String::new(alloc);
-    put_words(&mut said, outcome)?;
-    Ok(said)
-}
-
-fn put_words(said: &mut String, outcome: &Outcome) -> Result<(), Fault> {
-    put_lines(said, outcome)?;
-    put_written(said, outcome)
+    words_of(alloc, setting, scene.as_str(), &PARTS)
 }

@@ -1,9 +1,8 @@
 //! The settings of the rows, which stand in a table of their own.
 
-use crate::spelled::spelled_in;
 use oc_base::NodeId;
 use std::alloc::Global;
-use test_tools::{Fault, Fields, Row};
+use test_tools::{Fault, Fields, Row, spelled_in};
 
 /// A node of a configuration, and what it lived through before.
 #[derive(Drop)]

@@ -1,9 +1,8 @@
 //! The steps of a scene, with `^` between them, such as `come:TEXT` or `seconds:5,7`: a word, and behind a
 //! `:` what it says.
 
-use crate::spelled::spelled_in;
 use std::alloc::Global;
-use test_tools::{Fault, Fields};
+use test_tools::{Fault, Fields, spelled_in};
 
 /// More steps than a scene has.
 const MOST_STEPS: u32 = 200;

@@ -1,6 +1,6 @@
 //! Turns one behind another, with the dials and the probes of a node.
 
-use crate::outcome::{Outcome, outcome_of, put_dialled, put_end, put_lines, put_written};
+use crate::outcome::{Part, words_of};
 use crate::settings::Setting;
 use crate::table::Scenes;
 use std::alloc::Global;
@@ -12,21 +12,7 @@ pub struct Rows;
 
 impl Scenes for Rows {
     fn answer(alloc: Global, setting: &Setting, scene: &str) -> Result<String, Fault> {
-        let outcome = outcome_of(alloc, setting, scene)?;
-        words_in(alloc, &outcome)
+        let parts = [Part::End(" > "), Part::Lines, Part::Written, Part::Dialled];
+        words_of(alloc, setting, scene, &parts)
     }
-}
-
-fn words_in(alloc: Global, outcome: &Outcome) -> Result<String, Fault> {
-    let mut said = String::new(alloc);
-    put_words(&mut said, outcome)?;
-    Ok(said)
-}
-
-fn put_words(said: &mut String, outcome: &Outcome) -> Result<(), Fault> {
-    put_end(said, outcome)?;
-    said.push_str(" > ")?;
-    put_lines(said, outcome)?;
-    put_written(said, outcome)?;
-    put_dialled(said, outcome)
 }

@@ -1,8 +1,6 @@
 -- Rules that go by the mode and the search, as choices by tests.
-use Rattle.std.proofs.Common.{◌≡◌, ℕ, Bool, true, false, ◌&&◌, ◌==◌, if◌then◌else◌, nat_lt, Option, Some, None, refl, sym, subst, ◌∙◌}
-use Rattle.std.proofs.lemmas.Bool.{and_parts}
+use Rattle.std.proofs.Common.{◌≡◌, ℕ, Bool, true, false, ◌&&◌, ◌==◌, if◌then◌else◌, Option, Some, None, refl}
 use Rattle.oc_base.specs.declared.cert.Cert.{Cert}
-use Rattle.oc_base.specs.declared.limits.TheConstants.{MAX_DEPTH}
 use Rattle.oc_base.specs.declared.rank.Rank.{Rank}
 use Rattle.oc_base.specs.Rank.{beneath_of}
 use Rattle.oc_model.specs.declared.mode.Mode.{Mode}
@@ -11,12 +9,11 @@ use Rattle.oc_model.specs.declared.soft.Search.{Search}
 use Rattle.oc_model.specs.declared.soft.Search.TheVariants as searches
 use Rattle.oc_model.specs.Asking.{is_asking, lost, next_try, not_seen, not_reached, round, unreachable}
 use Rattle.oc_model.specs.declared.record.Record.TheVariants as records
-use Rattle.oc_model.specs.Adoption.{precedes, is_better, take_rank}
+use Rattle.oc_model.specs.Adoption.{is_better}
 use Rattle.oc_model.specs.Checking.{is_joined_to, dies, merges, takes_rank}
 use Rattle.oc_model.specs.Looking.{Stand, descends, reviews_place, keeps_line, sees_as, sees}
 use Rattle.oc_model.specs.Plan.{Plan, searching, ignored, write}
-use Rattle.oc_laws_step.proofs.RankOrder.{precedes_fact, precedes_irreflexive}
-use Rattle.oc_node.specs.Modes.{is_idle, is_descending, is_reviewing, better_rank}
+use Rattle.oc_state.specs.Modes.{is_idle, is_descending, is_reviewing, better_rank}
 
 -- what is not so is not so, whatever else holds
 and_no : (b : Bool) → (b && false) ≡ false
@@ -79,27 +76,6 @@ rank_taken o told r e = takes_rank_some o.node.kept.rank told o r e
 
 pub rank_left : (o : Plan) (told : Rank) → better_rank o.node.kept.rank told ≡ None → takes_rank o told ≡ o
 rank_left o told e = takes_rank_none o.node.kept.rank told o e
-
--- a better rank is another than the own
-better_is_other : (own : Option Rank) (told : Rank) → is_better own told ≡ true → Some (beneath_of told) ≡ own → ⊥
-better_is_other None told better same = cc
-better_is_other (Some r) told better same =
-    let own : beneath_of told ≡ r = cc in
-    let before : precedes (beneath_of told) r ≡ true = (and_parts (nat_lt told.depth MAX_DEPTH) (precedes (beneath_of told) r) better).1 in
-    precedes_irreflexive r (precedes_fact r r (subst (λ (q : Rank). precedes q r ≡ true) own before))
-
--- the rank that is taken is the own, or a better one
-pub better_left : (own taken : Option Rank) (told : Rank) → taken ≡ take_rank own told → taken ≡ own → better_rank own told ≡ None
-better_left own taken told e same = by_test (is_better own told) refl where
-  by_test : (b : Bool) → is_better own told ≡ b → better_rank own told ≡ None
-  by_test true h = let some : take_rank own told ≡ Some (beneath_of told) = rw h in absurd (better_is_other own told h (sym some ∙ (sym e ∙ same)))
-  by_test false h = rw h
-
-pub better_found : (own taken : Option Rank) (told : Rank) → taken ≡ take_rank own told → (taken ≡ own → ⊥) → better_rank own told ≡ taken
-better_found own taken told e other = by_test (is_better own told) refl where
-  by_test : (b : Bool) → is_better own told ≡ b → better_rank own told ≡ taken
-  by_test true h = let some : take_rank own told ≡ Some (beneath_of told) = rw h in let found : better_rank own told ≡ Some (beneath_of told) = rw h in found ∙ sym (e ∙ some)
-  by_test false h = let none : take_rank own told ≡ own = rw h in absurd (other (e ∙ none))
 
 -- Deaths
 

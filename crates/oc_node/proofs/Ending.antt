@@ -14,7 +14,7 @@ use Rattle.oc_model.specs.Plan.{Plan}
 use Rattle.oc_model.specs.Table.{is_lease_of, leased_children, newest}
 use Rattle.oc_laws_step.specs.Sound.{IsTable, AreAbove}
 use Rattle.oc_laws_step.proofs.Ranges.{all_filter, all_map, children_nodes}
-use Rattle.oc_node.specs.NodeView.{IsReached}
+use Rattle.oc_draft.specs.NodeView.{IsReached}
 
 -- Ascending lists
 

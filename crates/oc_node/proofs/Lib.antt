@@ -1,7 +1,3 @@
-pub mod Lists
-pub mod Told
-pub mod NextCerts
-pub mod ChildRows
 pub mod Candidates
 pub mod Ending
 pub mod Ticks
@@ -10,12 +6,8 @@ pub mod MergeAll
 pub mod SameIds
 pub mod Drafts
 pub mod ByMode
-pub mod Servers
-pub mod ShelfLines
 pub mod Plans
 pub mod Filling
-pub mod Folding
-pub mod Touching
-pub mod Snapshotting
 pub mod Reaching
-pub mod LawfulSnapshots
+pub use Rattle.oc_state.proofs.Folding
+pub use Rattle.oc_state.proofs.LawfulSnapshots

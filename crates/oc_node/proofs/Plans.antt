@@ -1,5 +1,5 @@
 -- What a plan wants.
-use Rattle.std.proofs.Common.{◌≡◌, ℕ, ◌≤◌, Option, Some, None, IfSome, List, [], ◌∷◌, Bool, true, false, if◌then◌else◌, ◌==◌, nat_lt, ◌&&◌, ◌+◌, length, refl, ap, sym, ◌∙◌, arith}
+use Rattle.std.proofs.Common.{◌≡◌, ℕ, ◌≤◌, Option, Some, None, IfSome, List, [], ◌∷◌, Bool, true, false, if◌then◌else◌, ◌==◌, nat_lt, ◌&&◌, ◌+◌, length, refl, ap, sym, ◌∙◌}
 use Rattle.oc_base.specs.declared.shelf.Shelf.{Shelf}
 use Rattle.oc_base.specs.Shelves.{line_of}
 use Rattle.oc_model.specs.declared.answer.Answer.{Answer}
@@ -24,12 +24,7 @@ use Rattle.oc_laws_step.proofs.Checks.{goes_checks, goes_tick, goes_checked_in, 
 use Rattle.oc_laws_step.proofs.Looks.{goes_looked, goes_sees}
 use Rattle.oc_laws_step.proofs.Serves.{goes_client, goes_measured}
 use Rattle.oc_laws_step.proofs.Steps.{goes_pulled}
-use Rattle.oc_node.specs.Planned.{PlanView, IsWanting, planned}
-
--- more room is enough for what less was enough for
-pub room_grows : (o : Option Want) (a b : ℕ) → a ≤ b → IfSome o (λ w. w.count ≤ a) → IfSome o (λ w. w.count ≤ b)
-room_grows None a b more fits = tt
-room_grows (Some w) a b more fits = omega (arith, more, fits)
+use Rattle.oc_draft.specs.Planned.{PlanView, IsWanting, planned}
 
 -- A step that wants bytes sends one message
 

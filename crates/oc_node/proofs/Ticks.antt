@@ -9,7 +9,7 @@ use Rattle.oc_model.specs.Plan.{Plan, write}
 use Rattle.oc_model.specs.Table.{newest, is_news}
 use Rattle.oc_model.proofs.Lists.{all_append}
 use Rattle.oc_laws_step.proofs.Goes.{either}
-use Rattle.oc_node.specs.Since.{IsTold, AreTold}
+use Rattle.oc_draft.specs.Since.{IsTold, AreTold}
 
 -- it told certificates alone, and left what a start clears
 record Tells (s : Soft) (o : Plan) : Type 0 where

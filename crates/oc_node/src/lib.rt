@@ -13,37 +13,22 @@
 //!
 //! The rules are those of the model, each in the file of its name and in the order of its definitions:
 //! `asking`, `adopting`, `checking`, `looking`, `content` and `serving`. A rule leads from one draft of
-//! the step to the next. A draft lends the node and holds what the step changes, so a step costs what its
-//! rules look at.
+//! the step to the next.
 #![tactic(auto)]
 
 mod adopting;
 mod asking;
 mod checking;
-mod children;
 mod content;
-mod draft;
-mod durable;
 mod looking;
-mod modes;
-mod next_certs;
 mod node;
 mod outcome;
-mod plan;
-mod ranks;
 mod serving;
-mod shelves;
-mod since;
-mod snapshot;
 mod stand;
-mod standing;
 mod step;
-mod touch;
-mod tries;
-mod volatile;
 
 pub use node::Node;
 pub use oc_base::Bytes;
+pub use oc_draft::Plan;
 pub use oc_model::{Answer, Input, Mode, Want};
 pub use outcome::Outcome;
-pub use plan::Plan;

@@ -8,34 +8,25 @@ ghost use Rattle.oc_model.specs.Lawful.{AreRecords, IsHeader, IsInput};
 ghost use Rattle.oc_model.specs.Records.{folded};
 ghost use Rattle.oc_model.specs.Snapshot.{snapshot};
 ghost use Rattle.oc_model.specs.Step.{plan, step};
-ghost use Rattle.oc_node.specs.Applying.{CanApply, HasParts, IsPlanOf, IsStepOf};
-ghost use Rattle.oc_node.specs.Planned.{IsWanting, control_after, planned};
-ghost use Rattle.oc_node.specs.Touched.{IsTouch};
+ghost use Rattle.oc_draft.specs.Applying.{CanApply, HasParts, IsPlanOf, IsStepOf};
+ghost use Rattle.oc_draft.specs.Planned.{IsWanting, control_after, planned};
+ghost use Rattle.oc_state.specs.Touched.{IsTouch};
 ghost use Rattle.oc_base.specs.Lawful.{IsCount, IsNode};
-ghost use Rattle.oc_base.specs.declared.limits.TheConstants.{LAST_SECOND, MAX_BASE_ACKED, MAX_LOG_LENGTH};
+ghost use Rattle.oc_base.specs.declared.limits.TheConstants.{MAX_BASE_ACKED, MAX_LOG_LENGTH};
 ghost use Rattle.oc_model.specs.Node.{new_control, new_durable, Durable as State, Node as Whole};
-ghost use Rattle.oc_model.specs.Leases.{next_ended};
-ghost use Rattle.oc_model.specs.Looking.{children, parent_of};
-ghost use Rattle.oc_model.specs.Selected.{selected};
-ghost use Rattle.oc_node.specs.NodeView.{IsReached};
-ghost use Rattle.oc_node.specs.Standing.{standing_of};
-ghost use Rattle.oc_node.specs.Volatile.{volatile_of};
+ghost use Rattle.oc_model.specs.Looking.{parent_of};
+ghost use Rattle.oc_draft.specs.NodeView.{IsReached};
+ghost use Rattle.oc_state.specs.Standing.{standing_of};
 
-use crate::children::children;
-use crate::draft::Draft;
-use crate::durable::Durable;
 use crate::outcome::Outcome;
-use crate::plan::Plan;
-use crate::standing::Standing;
-use crate::touch::touch_all;
-use crate::tries::Tries;
-use crate::volatile::Volatile;
-use oc_base::{Child, Memory, NodeId, Rank, Shelf};
+use crate::step::take;
+use oc_base::{Memory, NodeId, Rank, Shelf};
 use oc_cert::Table;
+use oc_draft::{Before, Changes, Draft, Plan};
 use oc_laws_step::{folding_is_stepping, lawful_nodes_stay_lawful, snapshots_stand_for_all};
 use oc_measure::Measures;
 use oc_model::{Input, Mode, Record};
-use oc_redirect::select;
+use oc_state::{Durable, Standing, Tries, Volatile, touch_all};
 use oc_updown::{ChangeLog, Leases};
 use std::alloc::Global;
 use std::marker::Model;
@@ -63,8 +54,8 @@ pub struct Node {
 impl Model for Node {
     ghost use Rattle.std.specs.Prelude.{◌≡◌};
     ghost use Rattle.oc_model.specs.Node.{Control};
-    ghost use Rattle.oc_node.specs.NodeView.{NodeView, IsReached, control_of};
-    ghost use Rattle.oc_node.specs.Volatile.{soft_of};
+    ghost use Rattle.oc_draft.specs.NodeView.{NodeView, IsReached, control_of};
+    ghost use Rattle.oc_state.specs.Volatile.{soft_of};
 
     ghost Value = { NodeView };
 
@@ -109,7 +100,7 @@ impl Node {
 
     /// Recovers a new node from its records, those of its control file in their order. Where memory is
     /// wanted the node stays new.
-    #[tactic(auto, using(crate::proofs::Reaching::reached_kept, crate::proofs::Reaching::reached_with, crate::proofs::Folding::kept_all))]
+    #[tactic(auto, using(crate::proofs::Reaching::reached_kept))]
     pub fn recover(&mut self, list: &[Record]) -> Result<(), Memory>
         requires new { self.old.control.kept ≡ new_durable self.old.control.nodes }
         requires lawful { AreRecords self.old.control.nodes list.now }
@@ -117,9 +108,7 @@ impl Node {
         ensures length { OnOk result (self.new.control.kept.log.length ≤ MAX_BASE_ACKED + length list.now) }
         ensures err { OnErr result (self.new ≡ self.old) }
     {
-        let mut durable = Durable::new(self.alloc, self.nodes)?;
-        durable.fold_list(list)?;
-        self.durable = durable;
+        self.durable.recover(list)?;
         Ok(())
     }
 
@@ -159,9 +148,28 @@ impl Node {
         ensures touches { IfOk result (λ made. AllByRecursion (IsTouch self.now.control.nodes) made.touches) }
         ensures room { IfOk result (λ made. IfSome made.wants (λ w. w.count ≤ made.room)) }
     {
-        let mut draft = Draft::of(self);
-        draft.take(shelf, input)?;
+        let mut draft = Draft::of(self.lend());
+        take(&mut draft, shelf, input)?;
         Ok(draft.done())
+    }
+
+    /// The node as it is, for a step to look at.
+    fn lend(&self) -> Before<'_>
+        ensures { result ≡ self.now.control }
+    {
+        Before {
+            id: self.id,
+            nodes: self.nodes,
+            chain: self.chain,
+            areas: &self.areas,
+            durable: &self.durable,
+            volatile: self.volatile,
+            tries: &self.tries,
+            leases: &self.leases,
+            rates: &self.rates,
+            counts: &self.counts,
+            alloc: self.alloc,
+        }
     }
 
     /// Does what a plan says, and gives its answer and its messages. The plan was made of this node as it
@@ -172,7 +180,7 @@ impl Node {
         ensures outcome { result ≡ record { answer = plan.answer; sends = plan.sends } }
         ensures step { (n : Whole) (i : Input) → n.control ≡ self.old.control → IsStepOf n i plan → (self.new.control ≡ (step n i).node.control) × (result ≡ record { answer = (step n i).answer; sends = (step n i).sends }) }
     {
-        let Plan {
+        let Changes {
             records,
             volatile,
             tries,
@@ -180,8 +188,7 @@ impl Node {
             touches,
             sends,
             answer,
-            ..
-        } = plan;
+        } = plan.into_changes();
         touch_all(
             &touches,
             self.durable.table(),
@@ -311,63 +318,9 @@ impl Node {
         self.volatile.clock
     }
 
-    /// The leased children, ascending, with the rates that they told last.
-    pub(crate) fn children(&self) -> Result<Vec<Child>, Memory>
-        ensures { IfOk result (λ made. made.items ≡ children self.now.control) }
-    {
-        children(
-            self.alloc,
-            self.durable.table().rows(),
-            self.id,
-            &self.rates,
-        )
-    }
-
-    /// The least leased child past a number whose lease has ended.
-    pub(crate) fn next_ended(&self, after: u32, now: u64) -> Option<NodeId>
-        ensures { result ≡ next_ended self.now.control.kept.table self.now.control.me self.now.control.leases after now }
-    {
-        self.leases
-            .next_ended(self.durable.table(), self.id, after, now)
-    }
-
-    /// The node to which a client of this area is sent, if there is one for it.
-    #[tactic(auto, using(crate::proofs::Servers::server_is_node))]
-    pub(crate) fn select(&self, area: u8) -> Option<NodeId>
-        ensures server { result ≡ selected self.now.control.kept.table self.now.control.me self.now.control.chain self.now.control.areas self.now.control.counts area }
-        ensures fits { IfSome result (λ node. IsNode self.now.control.nodes node) }
-    {
-        select(
-            self.durable.table(),
-            self.id,
-            self.chain,
-            &self.areas,
-            &self.counts,
-            area,
-        )
-    }
-
-    pub(crate) fn standing(&self) -> Standing
-        ensures standing { result ≡ standing_of self.now.control.kept }
-        ensures reached { IsReached self.now.control }
+    fn standing(&self) -> Standing
+        ensures { result ≡ standing_of self.now.control.kept }
     {
         self.durable.standing()
-    }
-
-    pub(crate) fn volatile(&self) -> Volatile
-        ensures volatile { result ≡ volatile_of self.now.control.soft }
-        ensures clock { result.clock ≤ LAST_SECOND }
-    {
-        self.volatile
-    }
-
-    pub(crate) fn tries(&self) -> &Tries
-        ensures { result.now ≡ self.now.control.soft.tries }
-    {
-        &self.tries
-    }
-
-    pub(crate) fn alloc(&self) -> Global {
-        self.alloc
     }
 }

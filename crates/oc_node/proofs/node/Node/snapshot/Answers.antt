@@ -1,5 +1,5 @@
-use Rattle.oc_node.proofs.LawfulSnapshots.{lawful_list}
-use Rattle.oc_node.proofs.Snapshotting.{if_ok_then, stands_by}
+use Rattle.oc_state.proofs.LawfulSnapshots.{lawful_list}
+use Rattle.oc_state.proofs.Snapshotting.{if_ok_then, stands_by}
 use Rattle.oc_node.proofs.node.Node.snapshot.Goals as goal
 
 pub returns-clause-stands : goal.returns-clause-stands

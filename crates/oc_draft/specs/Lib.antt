@@ -1,0 +1,5 @@
+pub mod NodeView
+pub mod Planned
+pub mod Applying
+pub mod DraftView
+pub mod Since

@@ -1,6 +1,0 @@
-use Rattle.std.specs.Vec.Iter.{into_iter_items}
-use Rattle.oc_node.proofs.Folding.{FoldsOn}
-use Rattle.oc_node.proofs.durable.Durable.fold_all.Given as goal
-
-abbrev pub invariant-loop-change : goal.invariant-loop-change
-invariant-loop-change l = FoldsOn l.initial.self l.self l.fn.changes.items (into_iter_items l.change-iterator)

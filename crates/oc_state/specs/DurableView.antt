@@ -1,0 +1,42 @@
+-- What a contract sees of the durable parts of a node.
+use Rattle.std.specs.Prelude.{ℕ, ◌+◌, ◌≤◌, ◌<◌, ◌^◌, List, length}
+use Rattle.oc_base.specs.declared.cert.Cert.{Cert}
+use Rattle.oc_base.specs.declared.limits.TheConstants.{MAX_NODES, MAX_BASE_ACKED}
+use Rattle.oc_model.specs.declared.reading.Reading.{Reading}
+use Rattle.oc_model.specs.Node.{Durable, Log}
+use Rattle.oc_laws_step.specs.LawfulNode.{IsLawfulDurable}
+use Rattle.oc_laws_step.specs.Sound.{IsSoundDurable}
+use Rattle.oc_state.specs.declared.standing.Standing.{Standing}
+
+-- the number of nodes, the durable state, and how many certificates there is room for among those that wait
+pub record DurableView : Type 0 where
+  pub nodes : ℕ
+  pub kept : Durable
+  pub room : ℕ
+
+-- the durable state of these parts
+abbrev pub durable_of : Standing → List Cert → Log → List ℕ → List Reading → Durable
+durable_of s table log ancestors measures = record {
+  seq = s.seq;
+  mode = s.mode;
+  rank = s.rank;
+  number = s.number;
+  clients = s.clients;
+  table = table;
+  log = log;
+  ancestors = ancestors;
+  measures = measures;
+}
+
+-- there is room to fold this many records: each lets at most one more certificate wait, or the whole table
+pub record HasRoom (v : DurableView) (more : ℕ) : Type 0 where
+  pub waiting : length v.kept.log.waiting + more ≤ v.room
+  pub rows : v.nodes + more ≤ v.room
+  pub places : v.kept.log.length + more < 2 ^ 63
+  pub based : MAX_BASE_ACKED + more < 2 ^ 63
+
+-- what is durable of a node among so many, as it may be
+pub record IsKept (nodes : ℕ) (d : Durable) : Type 0 where
+  pub few : nodes ≤ MAX_NODES
+  pub sound : IsSoundDurable nodes d
+  pub lawful : IsLawfulDurable nodes d

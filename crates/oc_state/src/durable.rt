@@ -1,0 +1,264 @@
+ghost use Rattle.std.specs.Prelude.{◌≡◌, ◌+◌, ◌<◌, ◌≤◌, ◌^◌, length, IfOk, OnOk, OnErr};
+ghost use Rattle.oc_base.specs.Lawful.{IsCert};
+ghost use Rattle.oc_base.specs.declared.limits.TheConstants.{MAX_BASE_ACKED, MAX_NODES};
+ghost use Rattle.oc_model.specs.Lawful.{AreRecords, IsRecord};
+ghost use Rattle.oc_model.specs.Node.{new_durable};
+ghost use Rattle.oc_model.specs.Records.{fold_one, folded, noted};
+ghost use Rattle.oc_model.specs.Table.{merge};
+ghost use Rattle.oc_state.specs.DurableView.{DurableView, HasRoom, IsKept};
+ghost use Rattle.oc_state.specs.Standing.{standing_of};
+
+use crate::standing::Standing;
+use oc_base::{Cert, IdList, Memory, NodeId};
+use oc_cert::Table;
+use oc_measure::Measures;
+use oc_model::{Mode, Record};
+use oc_updown::ChangeLog;
+use std::alloc::Global;
+use std::marker::Model;
+
+/// What a stop leaves of a node: all of its control state that is in its records. Contracts see the
+/// model's record, the number of nodes, and how many certificates there is room for in the log.
+#[derive(Drop)]
+pub struct Durable {
+    nodes: u32,
+    standing: Standing,
+    table: Table,
+    log: ChangeLog,
+    /// For how many certificates room was made in the log. A recovery that wants memory leaves it as it was,
+    /// though the log keeps the memory that it has.
+    room: usize,
+    /// Nearest first.
+    ancestors: IdList,
+    measures: Measures,
+    alloc: Global,
+}
+
+impl Model for Durable {
+    ghost use Rattle.std.specs.Prelude.{◌≡◌, ◌≤◌};
+    ghost use Rattle.oc_state.specs.DurableView.{DurableView, durable_of};
+
+    ghost Value = { DurableView };
+
+    ghost view = { λ d. record {
+      nodes = d.nodes;
+      kept = durable_of d.standing d.table.entries d.log.log d.ancestors d.measures;
+      room = d.room;
+    } };
+
+    ghost invariant = { λ d. (d.log.nodes ≡ d.nodes) × (d.table.nodes ≡ d.nodes) × (d.room ≤ d.log.room) };
+}
+
+impl Durable {
+    /// The durable parts of a new node, among this many.
+    pub fn new(alloc: Global, nodes: u32) -> Result<Durable, Memory>
+        requires least { 1 ≤ nodes }
+        requires most { nodes ≤ MAX_NODES }
+        ensures nodes { IfOk result (λ made. made.nodes ≡ nodes) }
+        ensures kept { IfOk result (λ made. made.kept ≡ new_durable nodes) }
+    {
+        Ok(Durable {
+            nodes,
+            standing: Standing::new(),
+            table: Table::new(alloc, nodes)?,
+            log: ChangeLog::new(alloc, nodes)?,
+            room: 0,
+            ancestors: IdList::of(Vec::new(alloc)),
+            measures: Measures::new(alloc, nodes)?,
+            alloc,
+        })
+    }
+
+    /// The number of nodes.
+    pub fn nodes(&self) -> u32
+        ensures { result ≡ self.now.nodes }
+    {
+        self.nodes
+    }
+
+    pub fn standing(&self) -> Standing
+        ensures { result ≡ standing_of self.now.kept }
+    {
+        self.standing
+    }
+
+    pub fn table(&self) -> &Table
+        ensures nodes { result.now.nodes ≡ self.now.nodes }
+        ensures entries { result.now.entries ≡ self.now.kept.table }
+    {
+        &self.table
+    }
+
+    pub fn log(&self) -> &ChangeLog
+        ensures nodes { result.now.nodes ≡ self.now.nodes }
+        ensures log { result.now.log ≡ self.now.kept.log }
+        ensures room { self.now.room ≤ result.now.room }
+    {
+        &self.log
+    }
+
+    pub fn ancestors(&self) -> &[NodeId]
+        ensures { result.now ≡ self.now.kept.ancestors }
+    {
+        self.ancestors.items()
+    }
+
+    pub fn measures(&self) -> &Measures
+        ensures { result.now ≡ self.now.kept.measures }
+    {
+        &self.measures
+    }
+
+    /// Makes room for this many certificates more in the log.
+    pub fn reserve(&mut self, more: usize) -> Result<(), Memory>
+        ensures room { OnOk result (length self.new.kept.log.waiting + more ≤ self.new.room) }
+        ensures stays { self.old.room ≤ self.new.room }
+        ensures kept { self.new.kept ≡ self.old.kept }
+        ensures nodes { self.new.nodes ≡ self.old.nodes }
+    {
+        self.log.reserve(more)?;
+        let waiting = (self.log.length() - self.log.acked()) as usize;
+        let room = waiting.checked_add(more).ok_or(Memory)?;
+        self.room = self.room.max(room);
+        Ok(())
+    }
+
+    /// Does what these records say to what is durable of a new node. Where memory is wanted it stays new.
+    pub fn recover(&mut self, list: &[Record]) -> Result<(), Memory>
+        requires new { self.old.kept ≡ new_durable self.old.nodes }
+        requires most { self.old.nodes ≤ MAX_NODES }
+        requires lawful { AreRecords self.old.nodes list.now }
+        ensures kept { OnOk result (self.new.kept ≡ folded self.old.kept list.now) }
+        ensures length { OnOk result (self.new.kept.log.length ≤ MAX_BASE_ACKED + length list.now) }
+        ensures nodes { self.new.nodes ≡ self.old.nodes }
+        ensures err { OnErr result (self.new ≡ self.old) }
+    {
+        let room = self.room;
+        let folded = self.fold_list(list);
+        if folded.is_err() {
+            self.clear();
+            self.room = room;
+        }
+        folded
+    }
+
+    /// Makes it what is durable of a new node. Takes no memory.
+    fn clear(&mut self)
+        ensures { self.new ≡ record self.old { kept = new_durable (length self.old.kept.measures) } }
+    {
+        self.standing = Standing::new();
+        self.table.clear();
+        self.log.clear();
+        self.ancestors = IdList::of(Vec::new(self.alloc));
+        self.measures.clear();
+    }
+
+    /// Does what these records say, one after another, of a log that is short yet.
+    fn fold_list(&mut self, list: &[Record]) -> Result<(), Memory>
+        requires lawful { AreRecords self.old.nodes list.now }
+        requires kept { IsKept self.old.nodes self.old.kept }
+        requires length { self.old.kept.log.length ≤ MAX_BASE_ACKED }
+        ensures kept { OnOk result (self.new.kept ≡ folded self.old.kept list.now) }
+        ensures length { OnOk result (self.new.kept.log.length ≤ MAX_BASE_ACKED + length list.now) }
+        ensures nodes { self.new.nodes ≡ self.old.nodes }
+        ensures stays { self.old.room ≤ self.new.room }
+        ensures measures { length self.new.kept.measures ≡ self.new.nodes }
+    {
+        for change in list {
+            self.fold_copy(change)?;
+        }
+        Ok(())
+    }
+
+    /// Does what a record says, and takes the memory for that.
+    #[tactic(auto, using(crate::proofs::Folding::length_one))]
+    fn fold_copy(&mut self, change: &Record) -> Result<(), Memory>
+        requires lawful { IsRecord self.old.nodes change.now }
+        requires kept { IsKept self.old.nodes self.old.kept }
+        requires places { self.old.kept.log.length + 1 < 2 ^ 63 }
+        ensures kept { OnOk result (self.new.kept ≡ fold_one self.old.kept change.now) }
+        ensures nodes { self.new.nodes ≡ self.old.nodes }
+        ensures stays { self.old.room ≤ self.new.room }
+        ensures err { OnErr result (self.new.kept ≡ self.old.kept) }
+    {
+        let change = change.clone()?;
+        self.reserve(self.nodes as usize + 1)?;
+        self.fold(change);
+        Ok(())
+    }
+
+    /// Does what these records say, one after another. Takes no memory.
+    pub fn fold_all(&mut self, changes: Vec<Record>)
+        requires lawful { AreRecords self.old.nodes changes.items }
+        requires kept { IsKept self.old.nodes self.old.kept }
+        requires room { HasRoom self.old (length changes.items) }
+        ensures { self.new ≡ record self.old { kept = folded self.old.kept changes.items } }
+    {
+        for change in changes {
+            self.fold(change);
+        }
+    }
+
+    /// Does what a record says. Takes no memory.
+    #[tactic(auto, using(crate::proofs::Folding::rows_few))]
+    pub fn fold(&mut self, change: Record)
+        requires lawful { IsRecord self.old.nodes change }
+        requires kept { IsKept self.old.nodes self.old.kept }
+        requires room { HasRoom self.old 1 }
+        ensures { self.new ≡ record self.old { kept = fold_one self.old.kept change } }
+    {
+        let mode = self.standing.mode;
+        let has_asked = self.standing.seq != 0;
+        let is_joined = self.standing.is_joined();
+        self.standing = self.standing.after(&change);
+        match change {
+            Record::Ask { .. } | Record::Lost => self.log.clear(),
+            Record::Joined { .. } if has_asked => self.log.begin(&self.table),
+            Record::Acting => {
+                self.log.clear();
+                self.ancestors = IdList::of(Vec::new(self.alloc));
+            }
+            Record::OldEntry {
+                subject,
+                seq,
+                parent,
+                dead,
+            } => {
+                let cert = Cert {
+                    subject,
+                    seq,
+                    parent,
+                    dead,
+                    number: 0,
+                    clients: 0,
+                };
+                enter(&mut self.table, &mut self.log, mode, &cert);
+            }
+            Record::Entry { cert } => enter(&mut self.table, &mut self.log, mode, &cert),
+            Record::Acked { upto } => self.log.ack(upto),
+            Record::Ancestors { ids } => self.ancestors = ids,
+            Record::Rate { peer, rate, hops } => self.measures.put(peer, rate, hops),
+            Record::Base { acked } if is_joined => self.log.rebase(acked),
+            Record::Snapshot { .. } => self.clear(),
+            _ => {}
+        }
+    }
+}
+
+/// Merges a certificate into the table. The log takes it where the node is joined.
+fn enter(table: &mut Table, log: &mut ChangeLog, mode: Mode, cert: &Cert)
+    requires cert { IsCert table.old.nodes cert.now }
+    requires nodes { log.old.nodes ≡ table.old.nodes }
+    requires room { length log.old.log.waiting < log.old.room }
+    requires places { log.old.log.length + 1 < 2 ^ 63 }
+    ensures entries { table.new.entries ≡ merge table.old.entries cert.now }
+    ensures rows { table.new.nodes ≡ table.old.nodes }
+    ensures log { log.new.log ≡ noted mode log.old.log cert.now }
+    ensures nodes { log.new.nodes ≡ log.old.nodes }
+    ensures room { log.new.room ≡ log.old.room }
+{
+    table.merge(cert);
+    if let Mode::Joined(_) = mode {
+        log.note(cert);
+    }
+}

@@ -1,0 +1,123 @@
+ghost use Rattle.std.specs.Prelude.{◌≡◌, ◌<◌, ◌≤◌, length, set, insert, IfOk};
+ghost use Rattle.oc_base.specs.Named.{same_name};
+ghost use Rattle.oc_base.specs.Shelves.{line_of, IsShelf};
+ghost use Rattle.oc_model.specs.Shelves.{line_at, with_line, limit, is_behind, first_behind};
+
+use oc_base::{GroupName, MAX_GROUP_BYTES, MAX_GROUPS, Memory, Place, Shelf, place_of};
+use oc_model::Answer;
+use std::alloc::Global;
+
+// What one shelf lacks of another.
+
+/// Whether a line is that of a group.
+fn is_line_of(line: &Shelf, group: &GroupName) -> bool
+    ensures { result ≡ same_name group.now line.now.group }
+{
+    group.cmp(&line.group).is_eq()
+}
+
+/// The line of a group.
+pub fn line_of(shelf: &[Shelf], group: &GroupName) -> Option<Shelf>
+    ensures { result ≡ line_of group.now shelf.now }
+{
+    for line in shelf {
+        if is_line_of(line, group) {
+            return Some(*line);
+        }
+    }
+    None
+}
+
+/// The line of a group, where an absent one has no bytes.
+pub fn line_at(shelf: &[Shelf], group: &GroupName) -> Shelf
+    ensures { result ≡ line_at group.now shelf.now }
+{
+    match line_of(shelf, group) {
+        Some(line) => line,
+        None => Shelf {
+            group: *group,
+            held: 0,
+            sealed: false,
+        },
+    }
+}
+
+/// The shelf with this line in place of the one at an index.
+fn replace_line(
+    alloc: Global,
+    shelf: &[Shelf],
+    index: usize,
+    line: &Shelf,
+) -> Result<Vec<Shelf>, Memory>
+    requires { index < length shelf.now }
+    ensures { IfOk result (λ made. made.items ≡ set shelf.now index line.now) }
+{
+    let mut made = shelf.to_vec(alloc)?;
+    made[index] = *line;
+    Ok(made)
+}
+
+/// The shelf with this line at an index, before those from there on.
+fn insert_line(
+    alloc: Global,
+    shelf: &[Shelf],
+    index: usize,
+    line: &Shelf,
+) -> Result<Vec<Shelf>, Memory>
+    requires { index ≤ length shelf.now }
+    ensures { IfOk result (λ made. made.items ≡ insert shelf.now index line.now) }
+{
+    let mut made = shelf.to_vec(alloc)?;
+    made.insert(index, *line)?;
+    Ok(made)
+}
+
+/// The shelf with this line in place of that of its group.
+#[tactic(auto, using(crate::proofs::ShelfLines::lines_ascend, crate::proofs::ShelfLines::with_found, crate::proofs::ShelfLines::with_free, crate::proofs::ShelfLines::found_within, crate::proofs::ShelfLines::free_within))]
+pub fn with_line(alloc: Global, shelf: &[Shelf], line: &Shelf) -> Result<Vec<Shelf>, Memory>
+    requires { IsShelf shelf.now }
+    ensures { IfOk result (λ made. made.items ≡ with_line line.now shelf.now) }
+{
+    match place_of(shelf, &line.group) {
+        Place::Found(index) => replace_line(alloc, shelf, index, line),
+        Place::Free(index) => insert_line(alloc, shelf, index, line),
+    }
+}
+
+/// The limit that a group would pass, if it grew to this length.
+pub fn limit(shelf: &[Shelf], group: &GroupName, end: u64) -> Option<Answer>
+    ensures { result ≡ limit shelf.now group.now end }
+{
+    if line_of(shelf, group).is_none() && shelf.len() >= MAX_GROUPS {
+        Some(Answer::Groups)
+    } else if end > MAX_GROUP_BYTES {
+        Some(Answer::TooLong)
+    } else {
+        None
+    }
+}
+
+/// Whether the other has less than this line: it lacks the group, holds less of it, or as much without
+/// the seal that is here.
+fn is_behind(other: &Option<Shelf>, line: &Shelf) -> bool
+    ensures { result ≡ is_behind other.now line.now }
+{
+    match other {
+        Some(other) => {
+            other.held < line.held || (other.held == line.held && line.sealed && !other.sealed)
+        }
+        None => true,
+    }
+}
+
+/// The first line in which the other is behind.
+pub fn first_behind(have: &[Shelf], shelf: &[Shelf]) -> Option<Shelf>
+    ensures { result ≡ first_behind have.now shelf.now }
+{
+    for line in shelf {
+        if is_behind(&line_of(have, &line.group), line) {
+            return Some(*line);
+        }
+    }
+    None
+}

@@ -1,0 +1,70 @@
+ghost use Rattle.std.specs.Prelude.{◌≡◌, length};
+ghost use Rattle.std.specs.List.{AllByRecursion};
+ghost use Rattle.oc_state.specs.Touched.{IsTouch, leases_by, rates_by, counts_by, leases_after, rates_after, counts_after};
+
+use oc_base::NodeId;
+use oc_cert::Table;
+use oc_updown::Leases;
+
+/// What a step touches of the lists that have an item for each node.
+#[derive(Clone, Copy)]
+pub enum Touch {
+    /// Each leased child without a lease end gets one, a lease's time from now.
+    Start { now: u64 },
+    /// The lease of a child begins anew.
+    Renew { child: NodeId, now: u64 },
+    /// A child told this rate.
+    Tell { child: NodeId, rate: u64 },
+    /// A client is sent to this node.
+    Redirect { node: NodeId },
+}
+
+/// Touches the lists of the node `me`, which has this table, one after another.
+pub fn touch_all(
+    touches: &[Touch],
+    table: &Table,
+    me: NodeId,
+    leases: &mut Leases,
+    rates: &mut [u64],
+    counts: &mut [u64],
+)
+    requires touches { AllByRecursion (IsTouch table.now.nodes) touches.now }
+    requires leases { length leases.old.ends ≡ table.now.nodes }
+    requires rates { length rates.old ≡ table.now.nodes }
+    requires counts { length counts.old ≡ table.now.nodes }
+    ensures leases { leases.new.ends ≡ leases_after table.now.entries me leases.old.ends touches.now }
+    ensures rates { rates.new ≡ rates_after rates.old touches.now }
+    ensures counts { counts.new ≡ counts_after counts.old touches.now }
+{
+    for touch in touches {
+        touch_one(touch, table, me, leases, rates, counts);
+    }
+}
+
+fn touch_one(
+    touch: &Touch,
+    table: &Table,
+    me: NodeId,
+    leases: &mut Leases,
+    rates: &mut [u64],
+    counts: &mut [u64],
+)
+    requires touch { IsTouch table.now.nodes touch.now }
+    requires leases { length leases.old.ends ≡ table.now.nodes }
+    requires rates { length rates.old ≡ table.now.nodes }
+    requires counts { length counts.old ≡ table.now.nodes }
+    ensures leases { leases.new.ends ≡ leases_by table.now.entries me leases.old.ends touch.now }
+    ensures length { length leases.new.ends ≡ length leases.old.ends }
+    ensures rates { rates.new ≡ rates_by rates.old touch.now }
+    ensures counts { counts.new ≡ counts_by counts.old touch.now }
+{
+    match touch {
+        Touch::Start { now } => leases.start_all(table, me, *now),
+        Touch::Renew { child, now } => leases.renew(*child, *now),
+        Touch::Tell { child, rate } => rates[child.index()] = *rate,
+        Touch::Redirect { node } => {
+            let index = node.index();
+            counts[index] = counts[index].saturating_add(1);
+        }
+    }
+}

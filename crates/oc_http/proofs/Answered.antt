@@ -1,14 +1,14 @@
 -- What a whole head says is the answer, or what it is refused for.
 use Rattle.std.proofs.Common.{◌≡◌, ℕ, ◌≤◌, Bool, true, false, cond, List, [], ◌++◌, length, Option, Some, None, Result, Ok, Err, subst}
-use Rattle.std.specs.Prelude.{IfOk, IfErr, ⊤, ◌&&◌, not, nat_lt, unwrap_or}
+use Rattle.std.specs.Prelude.{IfOk, IfErr, IsErrOf, ⊤, ◌&&◌, not, nat_lt, unwrap_or}
 use Rattle.oc_base.specs.declared.limits.TheConstants.{MAX_HEAD_BYTES, MAX_FIELDS, MAX_BODY_BYTES}
 use Rattle.oc_http.specs.Fields.{Named, named, fault_or, is_present, is_unusable, length_of, hosts, codings, lengths}
 use Rattle.oc_http.specs.Gives.{Gives}
 use Rattle.oc_http.specs.Requests.{read_request, head_fault, verb_of, is_post, has_host_fault}
 use Rattle.oc_http.specs.Responses.{read_reply_head, read_reply_start, reply_head_fault, reply_fault, is_chunked}
-use Rattle.oc_http.specs.Taking.{Took, IsAnswered, RefusesHead}
+use Rattle.oc_http.specs.Taking.{Took, IsAnswered, StopsInHead, RefusesHead}
 use Rattle.oc_http.specs.declared.fault.HttpFault.{HttpFault}
-use Rattle.oc_http.specs.declared.fault.HttpFault.TheVariants.{Source, Fields, Host, Coding, Length, BodyLong, Memory}
+use Rattle.oc_http.specs.declared.fault.HttpFault.TheVariants.{Source, Ended, Head, HeadLong, Fields, Host, Coding, Length, BodyLong, Memory}
 use Rattle.oc_http.specs.declared.head.Verb.{Verb}
 use Rattle.oc_http.proofs.Stops.{Joins}
 
@@ -87,6 +87,21 @@ refuses gives fails Reads read good old new done bytes head (Ok value) came whol
 refuses gives fails Reads read good old new done bytes head (Err Memory) came whole fits said = (bytes, came, tt)
 refuses gives fails Reads read good old new done bytes head (Err fault) came whole fits said =
     refusal gives fails Reads read old new done bytes head came whole fits fault (good head fault said) said
+
+-- where reading stopped before a whole head, that is what the head is refused for
+pub RefusesHead-stopped : {H A : Type 0} (Reads : List ℕ → H → List ℕ → Type 0) (read : H → Result A HttpFault) (bytes : List ℕ) (done : Type 0) (fault : HttpFault) → StopsInHead Reads bytes done fault → RefusesHead Reads read bytes done fault
+RefusesHead-stopped Reads read bytes done Source stops = stops
+RefusesHead-stopped Reads read bytes done Ended stops = stops
+RefusesHead-stopped Reads read bytes done Head stops = stops
+RefusesHead-stopped Reads read bytes done HeadLong stops = stops
+RefusesHead-stopped Reads read bytes done Memory stops = tt
+RefusesHead-stopped Reads read bytes done fault stops = absurd stops
+
+-- what a whole head says is no failure of the source
+pub never_source : {H A : Type 0} (read : H → Result A HttpFault) → RefusesFields read → (head : H) (answer : Result A HttpFault) → Gives answer (read head) → IsErrOf answer Source → ⊥
+never_source read good head (Ok value) said is = cc
+never_source read good head (Err Source) said is = good head Source said
+never_source read good head (Err fault) said is = cc
 
 -- bytes, and then bytes before a fault
 pub took_then : {S : Type 0} {gives fails : S → List ℕ → S → Type 0} → Joins gives fails → (old middle new : S) (before behind : List ℕ) → gives old before middle → (fault : HttpFault) → Took gives fails middle behind new fault → Took gives fails old (before ++ behind) new fault

@@ -12,3 +12,4 @@ pub mod Tests
 pub mod Written
 pub mod Answered
 pub mod OneReply
+pub mod Parts

@@ -9,3 +9,4 @@ pub mod Lines
 pub mod Answers
 pub mod Reads
 pub mod Examples
+pub mod Parts

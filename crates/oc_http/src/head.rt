@@ -10,7 +10,7 @@ pub enum Verb {
 }
 
 /// What the head of a request says.
-#[derive(Clone, Debug, Drop)]
+#[derive(Debug, Drop)]
 pub struct Head {
     pub method: Verb,
     /// The target up to the first `?`, without scheme and authority.

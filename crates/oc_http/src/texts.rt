@@ -1,51 +1,39 @@
-//! Texts put at the end of a buffer.
+//! Texts that are made of parts.
 
-ghost use Rattle.std.specs.Prelude.{◌≡◌, ◌++◌, OnOk, decimal};
-ghost use Rattle.oc_http.specs.Writing.{host_line, length_line, connection_line};
+ghost use Rattle.std.specs.Prelude.{◌≡◌, ◌++◌, IfOk};
+ghost use Rattle.oc_http.specs.Parts.{joined};
+ghost use Rattle.oc_http.specs.Writing.{connection_line};
 
 use crate::framing::Connection;
 use oc_base::Memory;
-use std::io::Write;
+use std::alloc::Global;
 
-/// Puts a text.
-pub(crate) fn put(out: &mut Vec<u8>, text: &[u8]) -> Result<(), Memory>
-    ensures { OnOk result (out.new.items ≡ out.old.items ++ text.now) }
+/// The parts, one behind the other. The memory for all of them is taken at once.
+pub(crate) fn join(alloc: Global, parts: &[&[u8]]) -> Result<Vec<u8>, Memory>
+    ensures { IfOk result (λ text. text.items ≡ joined parts.now) }
 {
-    out.extend_from_slice(text)?;
-    Ok(())
+    let mut text = Vec::with_capacity(alloc, room_for(parts))?;
+    for part in parts {
+        text.extend_from_slice(part)?;
+    }
+    Ok(text)
 }
 
-/// Puts a number.
-pub(crate) fn put_number(out: &mut Vec<u8>, number: u64) -> Result<(), Memory>
-    ensures { OnOk result (out.new.items ≡ out.old.items ++ decimal number) }
-{
-    write!(out, "{number}").map_err(|_| Memory)
+/// How many bytes the parts have. No more fit into memory than can be counted.
+fn room_for(parts: &[&[u8]]) -> usize {
+    let mut room = 0_usize;
+    for part in parts {
+        room = room.saturating_add(part.len());
+    }
+    room
 }
 
-/// Puts `Host: H`.
-pub(crate) fn put_host(out: &mut Vec<u8>, host: &str) -> Result<(), Memory>
-    ensures { OnOk result (out.new.items ≡ out.old.items ++ host_line host.now) }
-{
-    put(out, b"Host: ")?;
-    put(out, host.as_bytes())?;
-    put(out, b"\r\n")
-}
-
-/// Puts `Content-Length: N`.
-pub(crate) fn put_length(out: &mut Vec<u8>, count: u64) -> Result<(), Memory>
-    ensures { OnOk result (out.new.items ≡ out.old.items ++ length_line count) }
-{
-    put(out, b"Content-Length: ")?;
-    put_number(out, count)?;
-    put(out, b"\r\n")
-}
-
-/// Puts `Connection: close`, save where the connection is kept.
-pub(crate) fn put_connection(out: &mut Vec<u8>, connection: Connection) -> Result<(), Memory>
-    ensures { OnOk result (out.new.items ≡ out.old.items ++ connection_line connection) }
+/// `Connection: close`, and nothing where the connection is kept.
+pub(crate) fn connection_line<'a>(connection: Connection) -> &'a [u8]
+    ensures { result.now ≡ connection_line connection }
 {
     match connection {
-        Connection::Close => put(out, b"Connection: close\r\n"),
-        Connection::Keep => Ok(()),
+        Connection::Close => b"Connection: close\r\n",
+        Connection::Keep => b"",
     }
 }

@@ -1,16 +1,17 @@
 //! The replies of a node.
 
-ghost use Rattle.std.specs.Prelude.{◌≡◌, ◌++◌, OnOk, IfOk, Some};
-ghost use Rattle.oc_http.specs.Writing.{HasPhrase, phrase, head_text, response_text, status_line, location_line, allow_line, rule_line, content_type_line, content_line};
+ghost use Rattle.std.specs.Prelude.{◌≡◌, [], ◌++◌, IfOk, Some};
+ghost use Rattle.oc_http.specs.Parts.{line_text};
+ghost use Rattle.oc_http.specs.Writing.{HasPhrase, phrase, head_text, response_text, location_line, allow_line, rule_line, content_type_line, content_line, line_end};
 ghost use Rattle.oc_http.specs.declared.framing.Framing.TheVariants.{Length as OfLength};
 ghost use Rattle.oc_http.specs.declared.framing.Connection.TheVariants.{Close as Closing};
 
 use crate::framing::{Connection, Framing};
 use crate::reply::Reply;
-use crate::texts::{put, put_connection, put_length, put_number};
+use crate::texts::{connection_line, join};
+use itoa::Buffer;
 use oc_base::{Memory, Text};
 use std::alloc::Global;
-use std::io::Write;
 
 /// A reply with its body, which ends the connection.
 pub fn write_response(alloc: Global, reply: &Reply) -> Result<Vec<u8>, Memory>
@@ -19,7 +20,7 @@ pub fn write_response(alloc: Global, reply: &Reply) -> Result<Vec<u8>, Memory>
 {
     let body = reply.body.items();
     let mut out = write_response_head(alloc, reply, body.len() as u64)?;
-    put(&mut out, body)?;
+    out.extend_from_slice(body)?;
     Ok(out)
 }
 
@@ -43,20 +44,70 @@ pub fn write_reply_head(
     requires { HasPhrase reply.now.status }
     ensures { IfOk result (λ text. text.items ≡ head_text reply.now framing connection) }
 {
-    let mut out = Vec::new(alloc);
-    put_status(&mut out, reply.status)?;
-    put_location(&mut out, reply.status, &reply.location)?;
-    put_allow(&mut out, reply.status)?;
-    put_rule(&mut out, reply.rule)?;
-    put_content_type(&mut out, reply.content_type)?;
-    put_content(&mut out, reply.status, framing)?;
-    put_connection(&mut out, connection)?;
-    put(&mut out, b"\r\n")?;
-    Ok(out)
+    let mut status = Buffer::new();
+    let mut rule = Buffer::new();
+    let mut length = Buffer::new();
+    let status = status.format(reply.status);
+    let location = location_line(reply.status, &reply.location);
+    let rule = rule_line(reply.rule, &mut rule);
+    let content = content_line(reply.status, framing, &mut length);
+    join(
+        alloc,
+        &[
+            b"HTTP/1.1 ",
+            status.as_bytes(),
+            b" ",
+            phrase_of(reply.status).as_bytes(),
+            b"\r\n",
+            location.name,
+            location.value,
+            location.end,
+            allow_line(reply.status),
+            rule.name,
+            rule.value,
+            rule.end,
+            content_type_line(reply.content_type),
+            content.name,
+            content.value,
+            content.end,
+            connection_line(connection),
+            b"\r\n",
+        ],
+    )
+}
+
+/// A line of a head, all of it empty where the head has no such line.
+#[derive(Clone, Copy)]
+struct Line<'a> {
+    /// The name, with the colon and the space behind it.
+    name: &'a [u8],
+    value: &'a [u8],
+    /// The end of the line.
+    end: &'a [u8],
+}
+
+fn full_line<'a>(name: &'a [u8], value: &'a [u8]) -> Line<'a>
+    ensures { line_text result ≡ name.now ++ value.now ++ line_end }
+{
+    Line {
+        name,
+        value,
+        end: b"\r\n",
+    }
+}
+
+fn no_line<'a>() -> Line<'a>
+    ensures { line_text result ≡ [] }
+{
+    Line {
+        name: b"",
+        value: b"",
+        end: b"",
+    }
 }
 
 /// What a status is called.
-fn phrase_of(status: u16) -> &'static str
+fn phrase_of<'a>(status: u16) -> &'a str
     requires { HasPhrase status }
     ensures { phrase status ≡ Some result.now }
 {
@@ -76,71 +127,57 @@ fn phrase_of(status: u16) -> &'static str
     }
 }
 
-/// Puts the status line.
-fn put_status(out: &mut Vec<u8>, status: u16) -> Result<(), Memory>
-    requires { HasPhrase status }
-    ensures { OnOk result (out.new.items ≡ out.old.items ++ status_line status) }
-{
-    put(out, b"HTTP/1.1 ")?;
-    put_number(out, u64::from(status))?;
-    put(out, b" ")?;
-    put(out, phrase_of(status).as_bytes())?;
-    put(out, b"\r\n")
-}
-
-/// Puts `Location`, of a 302.
-fn put_location(out: &mut Vec<u8>, status: u16, location: &Option<Text>) -> Result<(), Memory>
-    ensures { OnOk result (out.new.items ≡ out.old.items ++ location_line status location.now) }
+/// `Location`, of a 302.
+fn location_line(status: u16, location: &Option<Text>) -> Line<'_>
+    ensures { line_text result ≡ location_line status location.now }
 {
     match location {
-        Some(location) if status == 302 => {
-            put(out, b"Location: ")?;
-            put(out, location.items())?;
-            put(out, b"\r\n")
-        }
-        _ => Ok(()),
+        Some(location) if status == 302 => full_line(b"Location: ", location.items()),
+        _ => no_line(),
     }
 }
 
-/// Puts `Allow`, of a 405.
-fn put_allow(out: &mut Vec<u8>, status: u16) -> Result<(), Memory>
-    ensures { OnOk result (out.new.items ≡ out.old.items ++ allow_line status) }
+/// `Allow`, of a 405.
+fn allow_line<'a>(status: u16) -> &'a [u8]
+    ensures { result.now ≡ allow_line status }
 {
     if status == 405 {
-        put(out, b"Allow: GET, HEAD, POST\r\n")
+        b"Allow: GET, HEAD, POST\r\n"
     } else {
-        Ok(())
+        b""
     }
 }
 
-/// Puts `Overcast-Rule`, where a rule denied the request.
-fn put_rule(out: &mut Vec<u8>, rule: Option<u32>) -> Result<(), Memory>
-    ensures { OnOk result (out.new.items ≡ out.old.items ++ rule_line rule) }
+/// `Overcast-Rule`, where a rule denied the request.
+fn rule_line(rule: Option<u32>, digits: &mut Buffer) -> Line<'_>
+    ensures { line_text result ≡ rule_line rule }
 {
     match rule {
-        Some(number) => write!(out, "Overcast-Rule: {number}\r\n").map_err(|_| Memory),
-        None => Ok(()),
+        Some(number) => full_line(b"Overcast-Rule: ", digits.format(number).as_bytes()),
+        None => no_line(),
     }
 }
 
-/// Puts `Content-Type`, where it is told.
-fn put_content_type(out: &mut Vec<u8>, told: bool) -> Result<(), Memory>
-    ensures { OnOk result (out.new.items ≡ out.old.items ++ content_type_line told) }
+/// `Content-Type`, where it is told.
+fn content_type_line<'a>(told: bool) -> &'a [u8]
+    ensures { result.now ≡ content_type_line told }
 {
     if told {
-        put(out, b"Content-Type: application/octet-stream\r\n")
+        b"Content-Type: application/octet-stream\r\n"
     } else {
-        Ok(())
+        b""
     }
 }
 
-/// Puts where the content ends, save of a 204.
-fn put_content(out: &mut Vec<u8>, status: u16, framing: Framing) -> Result<(), Memory>
-    ensures { OnOk result (out.new.items ≡ out.old.items ++ content_line status framing) }
+/// Where the content ends, save of a 204.
+fn content_line(status: u16, framing: Framing, digits: &mut Buffer) -> Line<'_>
+    ensures { line_text result ≡ content_line status framing }
 {
+    if status == 204 {
+        return no_line();
+    }
     match framing {
-        _ if status == 204 => Ok(()),
-        Framing::Length(count) => put_length(out, count),
-        Framing::Chunked => put(out, b"Transfer-Encoding: chunked\r\n"),
+        Framing::Length(count) => full_line(b"Content-Length: ", digits.format(count).as_bytes()),
+        Framing::Chunked => full_line(b"Transfer-Encoding: ", b"chunked"),
     }
 }

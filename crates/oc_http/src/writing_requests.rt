@@ -1,10 +1,11 @@
 //! The requests that a node and a client send.
 
-ghost use Rattle.std.specs.Prelude.{◌≡◌, ◌++◌, OnOk, IfOk, option_map};
+ghost use Rattle.std.specs.Prelude.{◌≡◌, ◌++◌, IfOk, option_map};
 ghost use Rattle.oc_http.specs.Writing.{IsHost, request_text, get_request_text, get_text, probe_text, follow_text, query_text, area_text};
 
 use crate::framing::Connection;
-use crate::texts::{put, put_connection, put_host, put_length, put_number};
+use crate::texts::{connection_line, join};
+use itoa::Buffer;
 use oc_base::Memory;
 use std::alloc::Global;
 
@@ -13,15 +14,19 @@ pub fn write_request(alloc: Global, host: &str, body: &[u8]) -> Result<Vec<u8>, 
     requires { IsHost host.now }
     ensures { IfOk result (λ text. text.items ≡ request_text host.now body.now) }
 {
-    let mut out = Vec::new(alloc);
-    put(&mut out, b"POST /!overcast HTTP/1.1\r\n")?;
-    put_host(&mut out, host)?;
-    put(&mut out, b"Content-Type: application/octet-stream\r\n")?;
-    put_length(&mut out, body.len() as u64)?;
-    put_connection(&mut out, Connection::Close)?;
-    put(&mut out, b"\r\n")?;
-    put(&mut out, body)?;
-    Ok(out)
+    let mut length = Buffer::new();
+    let length = length.format(body.len());
+    join(
+        alloc,
+        &[
+            b"POST /!overcast HTTP/1.1\r\nHost: ",
+            host.as_bytes(),
+            b"\r\nContent-Type: application/octet-stream\r\nContent-Length: ",
+            length.as_bytes(),
+            b"\r\nConnection: close\r\n\r\n",
+            body,
+        ],
+    )
 }
 
 /// The request of a download: a GET of a path, and of a query where there is one. `host` has its port
@@ -34,9 +39,8 @@ pub fn write_get(
 ) -> Result<Vec<u8>, Memory>
     ensures { IfOk result (λ text. text.items ≡ get_text path.now (option_map (λ q. q.now) query.entry) host.now) }
 {
-    let mut target = Vec::new(alloc);
-    put(&mut target, path.as_bytes())?;
-    put_query(&mut target, query)?;
+    let (mark, query) = query_parts(query);
+    let target = join(alloc, &[path.as_bytes(), mark, query])?;
     write_get_request(alloc, &target, host, Connection::Close)
 }
 
@@ -58,12 +62,20 @@ pub fn write_follow(
 ) -> Result<Vec<u8>, Memory>
     ensures { IfOk result (λ text. text.items ≡ follow_text path.now start (option_map (λ a. a.now) area.entry) host.now) }
 {
-    let mut target = Vec::new(alloc);
-    put(&mut target, path.as_bytes())?;
-    put(&mut target, b"?start=")?;
-    put_number(&mut target, start)?;
-    put(&mut target, b"&follow")?;
-    put_area(&mut target, area)?;
+    let mut digits = Buffer::new();
+    let start = digits.format(start);
+    let (mark, area) = area_parts(area);
+    let target = join(
+        alloc,
+        &[
+            path.as_bytes(),
+            b"?start=",
+            start.as_bytes(),
+            b"&follow",
+            mark,
+            area,
+        ],
+    )?;
     write_get_request(alloc, &target, host, Connection::Keep)
 }
 
@@ -76,34 +88,36 @@ fn write_get_request(
 ) -> Result<Vec<u8>, Memory>
     ensures { IfOk result (λ text. text.items ≡ get_request_text target.now host.now connection) }
 {
-    let mut out = Vec::new(alloc);
-    put(&mut out, b"GET ")?;
-    put(&mut out, target)?;
-    put(&mut out, b" HTTP/1.1\r\n")?;
-    put_host(&mut out, host)?;
-    put_connection(&mut out, connection)?;
-    put(&mut out, b"\r\n")?;
-    Ok(out)
+    join(
+        alloc,
+        &[
+            b"GET ",
+            target,
+            b" HTTP/1.1\r\nHost: ",
+            host.as_bytes(),
+            b"\r\n",
+            connection_line(connection),
+            b"\r\n",
+        ],
+    )
 }
 
-/// Puts `?` and a query, where there is one.
-fn put_query(out: &mut Vec<u8>, query: Option<&str>) -> Result<(), Memory>
-    ensures { OnOk result (out.new.items ≡ out.old.items ++ query_text (option_map (λ q. q.now) query.entry)) }
+/// `?` and a query, where there is one.
+fn query_parts(query: Option<&str>) -> (&[u8], &[u8])
+    ensures { result.0.now ++ result.1.now ≡ query_text (option_map (λ q. q.now) query.entry) }
 {
-    if let Some(query) = query {
-        put(out, b"?")?;
-        put(out, query.as_bytes())?;
+    match query {
+        Some(query) => (b"?", query.as_bytes()),
+        None => (b"", b""),
     }
-    Ok(())
 }
 
-/// Puts `&area=A`, where there is one.
-fn put_area(out: &mut Vec<u8>, area: Option<&str>) -> Result<(), Memory>
-    ensures { OnOk result (out.new.items ≡ out.old.items ++ area_text (option_map (λ a. a.now) area.entry)) }
+/// `&area=` and an area, where there is one.
+fn area_parts(area: Option<&str>) -> (&[u8], &[u8])
+    ensures { result.0.now ++ result.1.now ≡ area_text (option_map (λ a. a.now) area.entry) }
 {
-    if let Some(area) = area {
-        put(out, b"&area=")?;
-        put(out, area.as_bytes())?;
+    match area {
+        Some(area) => (b"&area=", area.as_bytes()),
+        None => (b"", b""),
     }
-    Ok(())
 }

@@ -1,8 +1,9 @@
-use Rattle.std.proofs.Common.{ℕ, ◌≡◌, ◌+◌, ◌<◌, List, [], ◌++◌, length, Option, vec_len, subst, ap, arith, length-append}
+use Rattle.std.proofs.Common.{ℕ, ◌≡◌, ◌≢◌, ◌+◌, ◌<◌, List, [], ◌∷◌, ◌++◌, length, Option, vec_len, subst, ap, ◌∙◌, arith, length-append, append_assoc}
 use Rattle.std.proofs.lemmas.List.{append-nil}
 use Rattle.std.proofs.lemmas.Result.{err_from_is_err_and}
 use Rattle.oc_base.specs.declared.limits.TheConstants.{MAX_HEAD_BYTES}
-use Rattle.oc_http.specs.Lines.{bytes_of}
+use Rattle.httparse.specs.Ascii.{line_feed}
+use Rattle.oc_http.specs.Lines.{bytes_of, HasNoLineEnd}
 use Rattle.oc_http.proofs.lines.take_line.Goals as goal
 
 -- behind the bytes before it a piece is as long as the bytes that are shorter than the most
@@ -33,4 +34,40 @@ returns-in_default-clause-cut g c =
       one = before.one;
       came = subst (λ (x : List ℕ). g.S.Source.gives c.args.source.now x c.take_byte.new.source) (append-nil before.piece) both;
       cause = (short c.args.bytes.now.items before.piece c.bytes.bytes.items (vec_len c.bytes.bytes) before.grown c.bytes.bytes.ok.0 (omega arith), c.in_ok-byte.ensures.end c.in_default.is);
+    }
+
+-- a byte that ends no line is one more of the piece
+one_more : (piece : List ℕ) (b : ℕ) → HasNoLineEnd piece → b ≢ line_feed → HasNoLineEnd (piece ++ b ∷ [])
+one_more [] b one none = (none, tt)
+one_more (x ∷ piece) b one none = (one.0, one_more piece b one.1 none)
+
+pub bytes-preserved : goal.bytes-preserved
+bytes-preserved g c =
+    let before = c.bytes.invariant in
+    let byte = c.in-Some.byte in
+    let came = subst (λ (next : Option ℕ). g.S.Source.gives c.bytes.source (bytes_of next) c.take_byte.new.source) c.in-Some.is c.in_ok-byte.ensures.gives in
+    record {
+      piece = before.piece ++ byte ∷ [];
+      one = one_more before.piece byte before.one c.if-byte-eq10.false;
+      came = g.met.S.Source.gives_then c.args.source.now c.bytes.source c.take_byte.new.source before.piece (byte ∷ []) before.came came;
+      grown = c.in_ok-push.ensures.items ∙ (ap (λ (x : List ℕ). x ++ byte ∷ []) before.grown ∙ append_assoc c.args.bytes.now.items before.piece (byte ∷ []));
+      fits = omega (arith, c.in_ok-push.ensures.len);
+      room = omega (arith, before.room);
+      count = omega (arith, before.count);
+    }
+
+-- the line feed ends the line
+pub returns-then-byte-eq10-clause-line : goal.returns-then-byte-eq10-clause-line
+returns-then-byte-eq10-clause-line g c =
+    let before = c.bytes.invariant in
+    let byte = c.in-Some.byte in
+    let came = subst (λ (next : Option ℕ). g.S.Source.gives c.bytes.source (bytes_of next) c.take_byte.new.source) c.in-Some.is c.in_ok-byte.ensures.gives in
+    let both = g.met.S.Source.gives_then c.args.source.now c.bytes.source c.take_byte.new.source before.piece (byte ∷ []) before.came came in
+    let grown = c.in_ok-push.ensures.items ∙ (ap (λ (x : List ℕ). x ++ byte ∷ []) before.grown ∙ append_assoc c.args.bytes.now.items before.piece (byte ∷ [])) in
+    record {
+      line = before.piece;
+      one = before.one;
+      came = subst (λ (b : ℕ). g.S.Source.gives c.args.source.now (before.piece ++ b ∷ []) c.take_byte.new.source) c.if-byte-eq10.true both;
+      grown = subst (λ (b : ℕ). c.push.new.self.items ≡ c.args.bytes.now.items ++ (before.piece ++ b ∷ [])) c.if-byte-eq10.true grown;
+      fits = omega (arith, c.push.new.self.ok.0, c.in_ok-push.ensures.len);
     }

@@ -1,8 +1,16 @@
 -- What the whole head says is the answer.
+use Rattle.std.proofs.lemmas.Result.{err_from_is_err_and}
 use Rattle.httparse.specs.Grammar.{ReadsRequest}
 use Rattle.oc_http.specs.Requests.{read_request}
-use Rattle.oc_http.proofs.Answered.{request_fields, says, refuses}
+use Rattle.oc_http.proofs.Answered.{request_fields, says, refuses, never_source, RefusesHead-stopped}
 use Rattle.oc_http.proofs.head_reader.HeadReader.read_head.Goals as goal
+
+-- where no whole head came, it is refused for that
+pub returns-in_err-parts-clause-refused : goal.returns-in_err-parts-clause-refused
+returns-in_err-parts-clause-refused g c =
+    let p = err_from_is_err_and c.from_residual.result c.from_residual.ensures.1 in
+    let stopped = c.in_err-parts.ensures.stops in
+    rw (p.1, p.2) (stopped.0, stopped.1, RefusesHead-stopped ReadsRequest read_request stopped.0 _ c.in_err-parts.field-0.0 stopped.2)
 
 pub returns-clause-read : goal.returns-clause-read
 returns-clause-read g c =
@@ -15,3 +23,7 @@ returns-clause-refused g c =
     let taken = c.in_ok-parts.ensures.whole in
     let answered = rw c.deref.ensures.value at c.read_request.ensures in
     refuses g.S.Source.gives g.S.Source.fails ReadsRequest read_request request_fields c.args.source.now c.take_request.new.source _ c.take_request.new.bytes.items answered.0 c.read_request.result taken.0 answered.1 taken.1.fits answered.2
+
+-- no failed call is told behind a whole head
+pub returns-clause-cause : goal.returns-clause-cause
+returns-clause-cause g c = λ is. absurd (never_source read_request request_fields c.read_request.ensures.0 c.read_request.result c.read_request.ensures.2 is)

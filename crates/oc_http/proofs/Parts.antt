@@ -1,0 +1,37 @@
+-- Parts of a text, one behind the other.
+use Rattle.std.proofs.Common.{◌≡◌, ℕ, ◌+◌, ◌<◌, List, [], ◌∷◌, ◌++◌, length, take, get_or, refl, sym, ap, ◌∙◌, append_assoc, append-nil}
+use Rattle.std.specs.Borrow.{Bor}
+use Rattle.std.proofs.lemmas.List.{take_more}
+use Rattle.oc_http.specs.Parts.{joined}
+
+joined-append : (xs ys : List (Bor (List ℕ))) → joined (xs ++ ys) ≡ joined xs ++ joined ys
+joined-append [] ys = refl
+joined-append (x ∷ xs) ys = ap (λ (l : List ℕ). x.now ++ l) (joined-append xs ys) ∙ sym (append_assoc x.now (joined xs) (joined ys))
+
+-- one part more
+pub joined_more : (parts : List (Bor (List ℕ))) (i : ℕ) (d : Bor (List ℕ)) → i < length parts → joined (take i parts) ++ (get_or parts i d).now ≡ joined (take (i + 1) parts)
+joined_more parts i d inside =
+    ap (λ (l : List ℕ). joined (take i parts) ++ l) (sym (append-nil (get_or parts i d).now))
+    ∙ (sym (joined-append (take i parts) (get_or parts i d ∷ [])) ∙ ap joined (sym (take_more parts i d inside)))
+
+-- a request in parts, of which some are several texts
+pub request_joined : (first name end type count close host digits body one two three : List ℕ) → one ≡ first ++ name → two ≡ end ++ type ++ count → three ≡ end ++ close ++ end →
+    one ++ (host ++ (two ++ (digits ++ (three ++ (body ++ []))))) ≡ (first ++ (name ++ host ++ end) ++ type ++ (count ++ digits ++ end) ++ close ++ end) ++ body
+request_joined first name end type count close host digits body one two three a b c = rw (a, b, c) (simp (append_assoc, append-nil))
+
+-- a GET request in parts
+pub get_joined : (get target version name host end close two : List ℕ) → two ≡ version ++ name →
+    get ++ (target ++ (two ++ (host ++ (end ++ (close ++ (end ++ [])))))) ≡ get ++ target ++ version ++ (name ++ host ++ end) ++ close ++ end
+get_joined get target version name host end close two a = rw a (simp (append_assoc, append-nil))
+
+-- a reply's head in parts
+head_joined : (v d s p e l1 l2 l3 a r1 r2 r3 t c1 c2 c3 k : List ℕ) →
+    v ++ (d ++ (s ++ (p ++ (e ++ (l1 ++ (l2 ++ (l3 ++ (a ++ (r1 ++ (r2 ++ (r3 ++ (t ++ (c1 ++ (c2 ++ (c3 ++ (k ++ (e ++ []))))))))))))))))) ≡ (v ++ d ++ s ++ p ++ e) ++ (l1 ++ l2 ++ l3) ++ a ++ (r1 ++ r2 ++ r3) ++ t ++ (c1 ++ c2 ++ c3) ++ k ++ e
+head_joined v d s p e l1 l2 l3 a r1 r2 r3 t c1 c2 c3 k = simp (append_assoc, append-nil)
+
+-- the same with the lines that the parts make
+pub head_is : (v d s p e l1 l2 l3 a r1 r2 r3 t c1 c2 c3 k number phrase location allow rule type content connection : List ℕ) →
+    d ≡ number → p ≡ phrase → l1 ++ l2 ++ l3 ≡ location → a ≡ allow → r1 ++ r2 ++ r3 ≡ rule → t ≡ type → c1 ++ c2 ++ c3 ≡ content → k ≡ connection →
+    v ++ (d ++ (s ++ (p ++ (e ++ (l1 ++ (l2 ++ (l3 ++ (a ++ (r1 ++ (r2 ++ (r3 ++ (t ++ (c1 ++ (c2 ++ (c3 ++ (k ++ (e ++ []))))))))))))))))) ≡ (v ++ number ++ s ++ phrase ++ e) ++ location ++ allow ++ rule ++ type ++ content ++ connection ++ e
+head_is v d s p e l1 l2 l3 a r1 r2 r3 t c1 c2 c3 k number phrase location allow rule type content connection e1 e2 e3 e4 e5 e6 e7 e8 =
+    head_joined v d s p e l1 l2 l3 a r1 r2 r3 t c1 c2 c3 k ∙ rw (e1, e2, e3, e4, e5, e6, e7, e8)

@@ -34,7 +34,7 @@ good_journal : (nodes : ℕ) (bodies : List (List ℕ)) (file : List ℕ) → Is
 good_journal nodes bodies file is good = (is.journal, ap (first_bad nodes) is.frames ∙ good)
 
 -- frames that lines tell mean something
-told : (bodies : List (List ℕ)) (lines : List Shelf) → IsShelved bodies lines → IsSome (content_of bodies)
+pub told : (bodies : List (List ℕ)) (lines : List Shelf) → IsShelved bodies lines → IsSome (content_of bodies)
 told bodies lines shelved = by_content (content_of bodies) shelved where
   by_content : (found : Option (List Group)) → option_map shelf found ≡ Some lines → IsSome found
   by_content None h = absurd cc

@@ -1,5 +1,5 @@
 -- Calls that wrote nothing to the disks of a node.
-use Rattle.std.proofs.Common.{◌≡◌, ℕ, false, IsTrue, Bool, List, refl, sym, ap, subst, ◌∙◌, ⊎_elim, arith}
+use Rattle.std.proofs.Common.{◌≡◌, inl, ◌≤◌, ℕ, true, false, IsTrue, Bool, List, refl, sym, ap, subst, ◌∙◌, ⊎_elim, arith}
 use Rattle.oc_io.specs.DiskView.{DiskView, GoesOn, StaysAsItWas, IsConsistent}
 use Rattle.oc_io.proofs.DiskMoments.{StaysAsItWas-none, still_honest}
 use Rattle.oc_journal.specs.JournalView.{JournalView}
@@ -8,16 +8,17 @@ use Rattle.oc_journal.proofs.ReadRuns.{HasFrames-reads, OnlyReads-none}
 use Rattle.oc_content.specs.ContentFile.{IsShelved, groups_in}
 use Rattle.oc_content.specs.ContentView.{ContentView}
 use Rattle.oc_content.specs.Promises.{PutsNothing}
-use Rattle.oc_model.specs.Node.{Control, Header, Node, new_durable}
+use Rattle.oc_model.specs.Node.{Control, Header, Node, Outcome, new_durable}
 use Rattle.oc_model.specs.Records.{folded}
 use Rattle.oc_store.specs.ControlFiles.{at_side, first_bad, records_of}
 use Rattle.oc_store.specs.declared.errors.Side.{Side}
 use Rattle.oc_store.specs.Promises.{ReservesCurrent, ReservesOther}
 use Rattle.oc_store.specs.StoreView.{StoreView, first_disk, second_disk}
-use Rattle.oc_keep.specs.Files.{Disks, AllGoOn, AlwaysLeaves, AreHonest, HadLeft, Leaves, MayLeave, SameDurable}
-use Rattle.oc_keep.specs.KeptView.{AtAnyMoment, IsHonest, IsKept, KeptView, NodeSurvives, disks_of, header_of, node_of}
+use Rattle.oc_keep.specs.Files.{Disks, AllGoOn, AlwaysLeaves, AreHonest, HadLeft, Leaves, MayLeave, SameAsEither, SameDurable}
+use Rattle.oc_keep.specs.KeptView.{AtAnyMoment, IsHonest, IsKept, KeptView, NodeSurvives, disks_of, header_of, kept_of, node_of}
 use Rattle.oc_keep.specs.Promises.{ChangesNothing}
-use Rattle.oc_node.specs.NodeView.{IsReached}
+use Rattle.oc_keep.specs.ReadyView.{ReadyView, outcome_of}
+use Rattle.oc_node.specs.NodeView.{IsReached, NodeView}
 use Rattle.oc_keep.specs.Writing.{KeepsStore}
 use Rattle.oc_keep.proofs.Sides.{honest_store, related_sides}
 
@@ -76,7 +77,7 @@ all_honest view old new on honest = record {
   content = still_honest (view old.content) (view new.content) on.content honest.content;
 }
 
-was_honest : (u v : DiskView) → GoesOn u v → IsTrue v.honest → IsTrue u.honest
+pub was_honest : (u v : DiskView) → GoesOn u v → IsTrue v.honest → IsTrue u.honest
 was_honest u v goes honest = subst (λ (b : Bool). IsTrue b) goes.honest honest
 
 pub all_were_honest : {D : Type 0} (view : D → DiskView) (old new : Disks D) → AllGoOn view old new → AreHonest view new → AreHonest view old
@@ -133,6 +134,10 @@ pub nothing_node : {D : Type 0} (view : D → DiskView) (k k2 : KeptView D) → 
 nothing_node view k k2 same honest =
     ap (λ (n : Control). record { control = n; groups = groups_in k2.content.journal.frames }) same.control
     ∙ ap (λ (bodies : List (List ℕ)). record { control = k.node.control; groups = groups_in bodies }) (same.content.journal.frames honest)
+
+-- a node whose content file alone was read
+pub only_read : {D : Type 0} (view : D → DiskView) (node : NodeView) (s : StoreView D) (c c2 : ContentView D) (closed closed2 : Bool) → PutsNothing view c c2 → ChangesNothing view (kept_of node s c closed) (kept_of node s c2 closed2)
+only_read view node s c c2 closed closed2 same = record { control = refl; store = keeps_none view s; content = same }
 
 -- Every crash leaves an open node
 
@@ -196,3 +201,56 @@ nothing_kept view k k2 is same still = record {
 
     other_honest : IsHonest view k → IsTrue (view k.store.other.disk).honest
     other_honest honest = (honest_store view k.store honest.control honest.alternate).1
+
+-- a closed node keeps what it says of its control state and its groups
+pub closed_kept : {D : Type 0} (view : D → DiskView) (k : KeptView D) (s : StoreView D) → IsKept view k → IsKept view (kept_of k.node s k.content true)
+closed_kept view k s is = record {
+  reached = is.reached;
+  open_store = λ is_open. absurd cc;
+  open_content = λ is_open. absurd cc;
+  folds = λ is_open honest. absurd cc;
+  control_files = λ is_open honest. absurd cc;
+  good = λ is_open honest. absurd cc;
+  content_file = λ is_open honest. absurd cc;
+  shelved = is.shelved;
+  log = λ is_open. absurd cc;
+  short = is.short;
+}
+
+-- Calls behind one that wrote nothing
+
+-- what every crash leaves at any moment since such a call it leaves at any moment since the start
+since_stays : {D : Type 0} (view : D → DiskView) (h : Header) (me : ℕ) (old mid new : Disks D) (P : Node → Type 0) → AreHonest view old → AllStay view old mid → AlwaysLeaves view h me mid new P → AlwaysLeaves view h me old new P
+since_stays view h me old mid new P honest stay always =
+    let first = stay.control.moment honest.control in
+    let second = stay.alternate.moment honest.alternate in
+    let third = stay.content.moment honest.content in
+    record {
+      later = record {
+        control = subst (λ (t : ℕ). t ≤ (view new.control).moment) first always.later.control;
+        alternate = subst (λ (t : ℕ). t ≤ (view new.alternate).moment) second always.later.alternate;
+        content = subst (λ (t : ℕ). t ≤ (view new.content).moment) third always.later.content;
+      };
+      each = λ a b c left. always.each a b c (record {
+        control = subst (λ (t : ℕ). (view new.control).since t a) (sym first) left.control;
+        alternate = subst (λ (t : ℕ). (view new.alternate).since t b) (sym second) left.alternate;
+        content = subst (λ (t : ℕ). (view new.content).since t c) (sym third) left.content;
+      });
+    }
+
+-- an input that was made ready, and was then taken or not
+pub ready_moments : {D : Type 0} (view : D → DiskView) (old mid new : KeptView D) (ready : ReadyView) (after : Outcome) → ChangesNothing view old mid → IsHonest view old
+    → node_of mid ≡ node_of old → outcome_of (node_of old) ready ≡ after
+    → (IsHonest view mid → AtAnyMoment view mid new (SameAsEither (node_of mid) (outcome_of (node_of mid) ready).node)) → AtAnyMoment view old new (SameAsEither (node_of old) after.node)
+ready_moments view old mid new ready after same honest node is moments =
+    let stay = nothing_stays view old mid same in
+    let m = moments (all_honest view (disks_of old) (disks_of mid) (all_go_on view (disks_of old) (disks_of mid) stay) honest) in
+    let there : AlwaysLeaves view (header_of mid.node.control) mid.node.control.me (disks_of mid) (disks_of new) (SameAsEither (node_of old) (outcome_of (node_of old) ready).node) =
+    subst (λ (n : Node). AlwaysLeaves view (header_of mid.node.control) mid.node.control.me (disks_of mid) (disks_of new) (SameAsEither n (outcome_of n ready).node)) node m in
+    subst (λ (o : Outcome). AtAnyMoment view old new (SameAsEither (node_of old) o.node)) is
+    (subst (λ (n : Control). AlwaysLeaves view (header_of n) n.me (disks_of old) (disks_of new) (SameAsEither (node_of old) (outcome_of (node_of old) ready).node)) same.control
+    (since_stays view (header_of mid.node.control) mid.node.control.me (disks_of old) (disks_of mid) (disks_of new) (SameAsEither (node_of old) (outcome_of (node_of old) ready).node) honest stay there))
+
+-- an input that was not made ready
+pub unready_moments : {D : Type 0} (view : D → DiskView) (old new : KeptView D) (before after : Node) → AtAnyMoment view old new (SameDurable before) → AtAnyMoment view old new (SameAsEither before after)
+unready_moments view old new before after moments = record { later = moments.later; each = λ a b c left. inl (moments.each a b c left) }

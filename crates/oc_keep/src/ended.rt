@@ -1,7 +1,7 @@
 use crate::errors::{KeepError, KeepLoad};
 
 /// How far a trial came.
-#[derive(Clone, Copy, Debug, PartialEq, Eq)]
+#[derive(Clone, Copy, Debug)]
 pub struct Trial {
     /// How many inputs were taken.
     pub done: u64,
@@ -9,7 +9,7 @@ pub struct Trial {
 }
 
 /// How a trial ended.
-#[derive(Clone, Copy, Debug, PartialEq, Eq)]
+#[derive(Clone, Copy, Debug)]
 pub enum TrialEnd {
     /// All inputs were taken.
     All,

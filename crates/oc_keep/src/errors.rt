@@ -7,8 +7,6 @@ use oc_base::Memory;
 use oc_content::ContentError;
 use oc_store::{Side, StoreError};
 use std::alloc::AllocError;
-use std::error::Error;
-use std::fmt;
 
 /// One of the three files of a node.
 #[derive(Clone, Copy, Debug, PartialEq, Eq)]
@@ -34,7 +32,7 @@ pub enum KeepLoad {
 }
 
 /// Why an input was not taken.
-#[derive(Clone, Copy, Debug, PartialEq, Eq)]
+#[derive(Clone, Copy, Debug)]
 pub enum KeepError {
     /// A disk failed in an earlier call.
     Closed,
@@ -47,7 +45,7 @@ pub enum KeepError {
 }
 
 /// Why an input was not made ready.
-#[derive(Clone, Copy, Debug, PartialEq, Eq)]
+#[derive(Clone, Copy, Debug)]
 pub enum ReadyError {
     /// A disk failed in an earlier call.
     Closed,
@@ -58,7 +56,7 @@ pub enum ReadyError {
 }
 
 /// Why an input that was made ready was not taken.
-#[derive(Clone, Copy, Debug, PartialEq, Eq)]
+#[derive(Clone, Copy, Debug)]
 pub enum CommitError {
     /// The file would pass 2^40 bytes, and nothing was changed.
     Full,
@@ -67,7 +65,7 @@ pub enum CommitError {
 }
 
 /// Why the control files were not turned over.
-#[derive(Clone, Copy, Debug, PartialEq, Eq)]
+#[derive(Clone, Copy, Debug)]
 pub enum TidyError {
     /// A disk failed in an earlier call.
     Closed,
@@ -78,7 +76,7 @@ pub enum TidyError {
 }
 
 /// Why bytes were not read.
-#[derive(Clone, Copy, Debug, PartialEq, Eq)]
+#[derive(Clone, Copy, Debug)]
 pub enum KeptRead {
     /// A disk failed in an earlier call.
     Closed,
@@ -87,34 +85,6 @@ pub enum KeptRead {
     /// A disk failed.
     Disk,
 }
-
-impl fmt::Display for Which {
-    fn fmt<W: fmt::Write>(&self, f: &mut fmt::Formatter<W>) -> fmt::Result {
-        match self {
-            Which::Control => write!(f, "control"),
-            Which::Alternate => write!(f, "alternate"),
-            Which::Content => write!(f, "content"),
-        }
-    }
-}
-
-impl fmt::Display for KeepLoad {
-    fn fmt<W: fmt::Write>(&self, f: &mut fmt::Formatter<W>) -> fmt::Result {
-        match self {
-            KeepLoad::Disk => write!(f, "a call on a disk failed"),
-            KeepLoad::NotJournal(which) => write!(f, "the {which} file is no journal"),
-            KeepLoad::BadFrame(which, number) => {
-                write!(
-                    f,
-                    "frame {number} of the {which} file does not belong there"
-                )
-            }
-            KeepLoad::Memory => write!(f, "out of memory"),
-        }
-    }
-}
-
-impl Error for KeepLoad {}
 
 impl From<StoreError> for KeepLoad {
     ghost from_gives = { λ error made. made ≡ of_store error };

@@ -5,7 +5,7 @@ ghost use Rattle.oc_base.specs.Shelves.{held_of};
 ghost use Rattle.oc_base.specs.Stops.{is_kept_new};
 ghost use Rattle.oc_base.specs.declared.limits.TheConstants.{DUE_BYTES, MAX_LOG_LENGTH};
 ghost use Rattle.oc_keep.specs.Files.{AllGoOn, AreReliable, SameAsEither, SameDurable, Survives, disks};
-ghost use Rattle.oc_keep.specs.KeptView.{AtAnyMoment, IsFullAt, IsFullOn, IsHonest, IsRipe, NodeSurvives, disks_of, header, header_of, node_of};
+ghost use Rattle.oc_keep.specs.KeptView.{AtAnyMoment, IsFullAt, IsFullOn, IsHonest, IsKept, IsRipe, NodeSurvives, disks_of, header, header_of, node_of};
 ghost use Rattle.oc_keep.specs.Promises.{ChangesNothing, Closes, HoldFiles, IsNodeOf, IsSameNode, IsTurnedOver, LeavesFiles, LoadsSafely, RefusesNode};
 ghost use Rattle.oc_keep.specs.ReadyView.{AreLeftAs, CanCommit, CanStopWrite, IsFullToWrite, is_written, outcome_of, told_of};
 ghost use Rattle.oc_laws_step.specs.LawfulNode.{IsLawfulNode};
@@ -186,16 +186,20 @@ impl<D: Disk> Kept<D> {
         ensures works { self.old.closed ≡ false → AreReliable D.view (disks_of self.old)
             → IfErr result (λ error. error ≡ ReadyError.Memory) }
     {
+        // Let go by a call, the input costs one proof; out of scope it costs one at each return.
         if self.closed {
+            drop(input);
             return Err(ReadyError::Closed);
         }
-        match make_ready(
+        let made = make_ready(
             self.alloc,
             &mut self.node,
             &mut self.store,
             &mut self.content,
             &input,
-        ) {
+        );
+        drop(input);
+        match made {
             Ok(ready) => Ok(ready),
             Err(ReadyError::Disk) => {
                 self.closed = true;
@@ -414,14 +418,7 @@ impl Kept<MemDisk> {
         ensures disks { AreLeftAs (disks_of self) (disks result.0 result.1 result.2) }
     {
         frames_add_their_records();
-        let Ready { plan: _, write } = ready;
-        let Kept {
-            alloc: _,
-            node: _,
-            store,
-            content,
-            closed: _,
-        } = self;
+        let (store, content, write) = files_of(self, ready);
         match write {
             Write::Nothing => {
                 let (control, alternate) = store.into_disks();
@@ -441,4 +438,25 @@ impl Kept<MemDisk> {
             }
         }
     }
+}
+
+/// The files of a node, and what an input that was made ready writes to them. The rest is let go here, where
+/// the disk is a parameter: of a disk that is known there is far more to prove.
+fn files_of<D: Disk>(kept: Kept<D>, ready: Ready) -> (Store<D>, Content<D>, Write)
+    ensures store { result.0 ≡ kept.store }
+    ensures content { result.1 ≡ kept.content }
+    ensures write { result.2 ≡ ready.write }
+    ensures kept { IsKept D.view kept }
+{
+    let Ready { plan, write } = ready;
+    let Kept {
+        alloc: _,
+        node,
+        store,
+        content,
+        closed: _,
+    } = kept;
+    drop(plan);
+    drop(node);
+    (store, content, write)
 }

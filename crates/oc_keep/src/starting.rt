@@ -36,6 +36,12 @@ pub fn start(
         return Err(Memory);
     }
     let mut node = Node::new(alloc, me, nodes, chain, areas)?;
-    node.recover(list)?;
-    Ok(node)
+    match node.recover(list) {
+        Ok(()) => Ok(node),
+        Err(Memory) => {
+            // A call lets it go with less to prove than the end of its scope.
+            drop(node);
+            Err(Memory)
+        }
+    }
 }

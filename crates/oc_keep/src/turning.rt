@@ -35,8 +35,13 @@ pub fn replace<D: Disk>(node: &Node, store: &mut Store<D>) -> Result<bool, TidyE
     let Some(list) = short_snapshot(node, store.generation() + 1)? else {
         return Ok(false);
     };
-    let frame = store.prepare_snapshot(&list)?;
-    match store.turn_over(&frame) {
+    let prepared = store.prepare_snapshot(&list);
+    // A call lets the list, and then the frame, go with less to prove than the end of its scope.
+    drop(list);
+    let frame = prepared?;
+    let turned = store.turn_over(&frame);
+    drop(frame);
+    match turned {
         Ok(()) => Ok(true),
         Err(RestartError::Disk) => Err(TidyError::Disk),
         Err(RestartError::Closed) => unreachable!(),

@@ -68,3 +68,8 @@ returns-in-Ok-clause-generation g c =
     let can = rw (← c.self.view_is, ← c.ready.view_is) at c.requires.ready in
     rw (← c.self.view_is)
     (commit_generation g.D.Disk.view c.frames_add_their_records.ensures.read k c.self.invariant was_open k2 c.ready.inside.plan c.ready.inside.write can.applies.records can.plain can.writes c.in-Ok.ensures.writes c.put.ensures.safely)
+
+pub invariant_of-self-in-Err-Full : goal.invariant_of-self-in-Err-Full
+invariant_of-self-in-Err-Full g c =
+    let same = c.in-Err-Full.ensures.unchanged (ap (λ (e : CommitError). Err e) c.in-Err-Full.field-0-is) in
+    rw (same.0, same.1) c.self.invariant

@@ -1,0 +1,55 @@
+use Rattle.std.proofs.Common.{true}
+use Rattle.oc_keep.specs.KeptView.{kept_of}
+use Rattle.oc_keep.proofs.Stays.{nothing_kept, nothing_moments, only_read}
+use Rattle.oc_keep.proofs.kept.Kept.read.Goals as goal
+
+pub invariant_of-self : goal.invariant_of-self
+invariant_of-self g c =
+    let s = c.self.inside in
+    nothing_kept g.D.Disk.view (kept_of s.node s.store s.content s.closed) (kept_of s.node s.store c.read.new.self s.closed) c.self.invariant (only_read g.D.Disk.view s.node s.store s.content c.read.new.self s.closed s.closed c.read.ensures.same)
+    (λ is_open. (is_open, (c.in-Ok.ensures.none_failed (λ failed. absurd cc)).closed))
+
+pub invariant_of-self-in-Err-NoGroup : goal.invariant_of-self-in-Err-NoGroup
+invariant_of-self-in-Err-NoGroup g c =
+    let s = c.self.inside in
+    nothing_kept g.D.Disk.view (kept_of s.node s.store s.content s.closed) (kept_of s.node s.store c.read.new.self s.closed) c.self.invariant (only_read g.D.Disk.view s.node s.store s.content c.read.new.self s.closed s.closed c.read.ensures.same)
+    (λ is_open. (is_open, (c.in-Err-NoGroup.ensures.none_failed (λ failed. absurd cc)).closed))
+
+pub invariant_of-self-in-Err-Disk : goal.invariant_of-self-in-Err-Disk
+invariant_of-self-in-Err-Disk g c =
+    let s = c.self.inside in
+    nothing_kept g.D.Disk.view (kept_of s.node s.store s.content s.closed) (kept_of s.node s.store c.read.new.self true) c.self.invariant (only_read g.D.Disk.view s.node s.store s.content c.read.new.self s.closed true c.read.ensures.same)
+    (λ is_open. absurd cc)
+
+pub returns-in-Ok-clause-same : goal.returns-in-Ok-clause-same
+returns-in-Ok-clause-same g c =
+    let s = c.self.inside in
+    rw (← c.self.view_is) (only_read g.D.Disk.view s.node s.store s.content c.read.new.self s.closed s.closed c.read.ensures.same)
+
+pub returns-in-Err-NoGroup-clause-same : goal.returns-in-Err-NoGroup-clause-same
+returns-in-Err-NoGroup-clause-same g c =
+    let s = c.self.inside in
+    rw (← c.self.view_is) (only_read g.D.Disk.view s.node s.store s.content c.read.new.self s.closed s.closed c.read.ensures.same)
+
+pub returns-in-Err-Disk-clause-same : goal.returns-in-Err-Disk-clause-same
+returns-in-Err-Disk-clause-same g c =
+    let s = c.self.inside in
+    rw (← c.self.view_is) (only_read g.D.Disk.view s.node s.store s.content c.read.new.self s.closed true c.read.ensures.same)
+
+pub returns-in-Ok-clause-any_moment : goal.returns-in-Ok-clause-any_moment
+returns-in-Ok-clause-any_moment g c =
+    let s = c.self.inside in
+    rw (← c.self.view_is) (nothing_moments g.D.Disk.view (kept_of s.node s.store s.content s.closed) (kept_of s.node s.store c.read.new.self s.closed) (λ x h. g.met.D.Disk.consistent x h) c.self.invariant
+    (only_read g.D.Disk.view s.node s.store s.content c.read.new.self s.closed s.closed c.read.ensures.same))
+
+pub returns-in-Err-NoGroup-clause-any_moment : goal.returns-in-Err-NoGroup-clause-any_moment
+returns-in-Err-NoGroup-clause-any_moment g c =
+    let s = c.self.inside in
+    rw (← c.self.view_is) (nothing_moments g.D.Disk.view (kept_of s.node s.store s.content s.closed) (kept_of s.node s.store c.read.new.self s.closed) (λ x h. g.met.D.Disk.consistent x h) c.self.invariant
+    (only_read g.D.Disk.view s.node s.store s.content c.read.new.self s.closed s.closed c.read.ensures.same))
+
+pub returns-in-Err-Disk-clause-any_moment : goal.returns-in-Err-Disk-clause-any_moment
+returns-in-Err-Disk-clause-any_moment g c =
+    let s = c.self.inside in
+    rw (← c.self.view_is) (nothing_moments g.D.Disk.view (kept_of s.node s.store s.content s.closed) (kept_of s.node s.store c.read.new.self true) (λ x h. g.met.D.Disk.consistent x h) c.self.invariant
+    (only_read g.D.Disk.view s.node s.store s.content c.read.new.self s.closed true c.read.ensures.same))

@@ -6,4 +6,5 @@ pub mod Tables
 pub mod Places
 pub mod Said
 pub mod Settled
+pub mod Walks
 pub mod Lawful

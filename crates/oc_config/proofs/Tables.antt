@@ -1,13 +1,17 @@
 -- The tables of an array.
-use Rattle.std.proofs.Common.{◌≡◌, ℕ, ℤ, pos, negsuc, ◌+◌, ◌<◌, ◌≤◌, ◌&&◌, inl, inr, nat_le, Option, Some, None, List, [], ◌∷◌, ◌++◌, length, get_or, drop, suc, refl, sym, ap, ◌∙◌, arith}
+use Rattle.std.proofs.Common.{◌≡◌, ℕ, ℤ, pos, negsuc, ◌+◌, ◌<◌, ◌≤◌, ◌&&◌, inl, inr, nat_le, Option, Some, None, List, [], ◌∷◌, ◌++◌, length, get_or, drop, zero, suc, refl, sym, ap, ◌∙◌, arith}
 use Rattle.std.proofs.Math.Numerals.{add-one}
 use Rattle.std.proofs.Math.Seq.{drop-cons}
-use Rattle.std.proofs.lemmas.List.{append_assoc}
+use Rattle.std.proofs.lemmas.List.{append_assoc, append-nil}
+use Rattle.std.specs.Borrow.{Bor}
+use Rattle.std.specs.BTreeMap.{BTreeMap}
+use Rattle.std.specs.Prelude.{String}
+use Rattle.std.specs.declared.alloc.Global.{Global}
 use Rattle.std.proofs.lemmas.Bool.{cases_Bool, and_parts, and_from, and_left, and_right, cond-true, cond-false, le-leb, lt-leb, leb-true}
 use Rattle.toml.specs.Data.{Items, no_items, item, Members, as_table}
-use Rattle.toml.specs.View.{view, items_view}
+use Rattle.toml.specs.View.{view, items_view, table_view}
 use Rattle.toml.specs.declared.value.Value.{Value}
-use Rattle.oc_config.specs.Values.{within, count_items, table_before, all_tables, tables_of}
+use Rattle.oc_config.specs.Values.{within, count_items, table_before, all_tables, tables_at, tables_of}
 
 -- a number that is read is from the least to the most
 pub within_range : (least most : ℕ) (o : Option ℤ) (n : ℕ) → within least most o ≡ Some n → (least ≤ n) × (n ≤ most)
@@ -102,3 +106,24 @@ pub no_table : (vs : List Value) (i : ℕ) (v : Value) → i < length vs → v �
 no_table vs i v inside is none =
     ap (λ (xs : List Value). all_tables (items_view xs)) (next_value vs i v inside is)
     ∙ ap (λ (o : Option Members). table_before o (all_tables (items_view (drop (i + 1) vs)))) none
+
+-- nothing in front
+pub front_none : (o : Option (List Members)) → with_front [] o ≡ o
+front_none None = refl
+front_none (Some others) = refl
+
+-- a table more in front
+pub front_more : (refs : List (Bor (BTreeMap (String Global) Value))) (t : Bor (BTreeMap (String Global) Value)) → tables_at (refs ++ t ∷ []) ≡ tables_at refs ++ table_view t.now ∷ []
+front_more [] t = refl
+front_more (r ∷ refs) t = ap (λ (ts : List Members). table_view r.now ∷ ts) (front_more refs t)
+
+-- behind the last value
+values_end : (vs : List Value) (i : ℕ) → length vs ≤ i → all_tables (items_view (drop i vs)) ≡ Some []
+values_end [] zero past = refl
+values_end [] (suc i) past = refl
+values_end (v ∷ vs) zero past = absurd (omega (arith, past))
+values_end (v ∷ vs) (suc i) past = values_end vs i (omega (arith, past))
+
+-- all tables are in front
+pub all_found : (front : List Members) (vs : List Value) (i : ℕ) → length vs ≤ i → with_front front (all_tables (items_view (drop i vs))) ≡ Some front
+all_found front vs i past = ap (with_front front) (values_end vs i past) ∙ ap Some (append-nil front)

@@ -11,8 +11,8 @@ ghost use Rattle.oc_draft.specs.DraftView.{goes};
 ghost use Rattle.oc_draft.specs.NodeView.{IsReached};
 ghost use Rattle.oc_draft.specs.Since.{AreTold};
 
-use crate::adopting::{has_lease, send_rejoin, set_epoch};
-use crate::asking::{ask_before, round, send_ask};
+use oc_asks::adopting::{has_lease, send_rejoin, set_epoch};
+use oc_asks::asking::{ask_before, round, send_ask};
 use oc_base::{Cert, CertList, IdList, Memory, NodeId, Rank, Shelf, ShelfList};
 use oc_draft::Draft;
 use oc_model::{Body, Mode, Record, Search};

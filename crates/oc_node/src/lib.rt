@@ -12,12 +12,10 @@
 //! step.
 //!
 //! The rules are those of the model, each in the file of its name and in the order of its definitions:
-//! `asking`, `adopting`, `checking`, `looking`, `content` and `serving`. A rule leads from one draft of
-//! the step to the next.
+//! `checking`, `looking`, `content` and `serving`, over `asking` and `adopting` of `oc_asks`. A rule leads
+//! from one draft of the step to the next.
 #![tactic(auto)]
 
-mod adopting;
-mod asking;
 mod checking;
 mod content;
 mod looking;

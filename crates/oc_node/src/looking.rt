@@ -5,8 +5,8 @@ ghost use Rattle.oc_model.specs.Plan.{begun};
 ghost use Rattle.oc_draft.specs.DraftView.{goes};
 ghost use Rattle.oc_draft.specs.Since.{AreTold};
 
-use crate::asking::{ask, ask_before, descend, next_try};
 use crate::stand::Stand;
+use oc_asks::asking::{ask, ask_before, descend, next_try};
 use oc_base::{Child, ChildList, Memory, NodeId};
 use oc_draft::Draft;
 use oc_model::{Body, Candidate, Review};

@@ -7,13 +7,13 @@ ghost use Rattle.oc_model.specs.Step.{received, taken};
 ghost use Rattle.oc_draft.specs.DraftView.{goes};
 ghost use Rattle.oc_draft.specs.NodeView.{IsReached};
 
-use crate::adopting::asked;
-use crate::asking::{relocate, took_no, took_yes, unreachable};
 use crate::checking::{check, checked_in, tick, took_ack, took_rejoin};
 use crate::content::{fetched, published, pulled, sealed_at, took_chunk};
 use crate::looking::{looked, sees};
 use crate::serving::{client, measured};
 use crate::stand::Stand;
+use oc_asks::adopting::asked;
+use oc_asks::asking::{relocate, took_no, took_yes, unreachable};
 use oc_base::{Memory, NodeId, Shelf};
 use oc_draft::Draft;
 use oc_model::{Body, Input};

@@ -15,7 +15,7 @@ use oc_state::ranks::{ancestors_by, next_epoch, precedes_any, rank_or_last};
 // The rule Ask
 
 /// The node has no parent, nor asks for one.
-pub(crate) fn lose(draft: &mut Draft) -> Result<(), Memory>
+pub fn lose(draft: &mut Draft) -> Result<(), Memory>
     ensures { OnOk result (draft.new ≡ goes draft.old (lost draft.old.step)) }
 {
     match draft.standing().mode {
@@ -25,7 +25,7 @@ pub(crate) fn lose(draft: &mut Draft) -> Result<(), Memory>
 }
 
 /// The ask that stands goes to p.
-pub(crate) fn send_ask(draft: &mut Draft, peer: NodeId) -> Result<(), Memory>
+pub fn send_ask(draft: &mut Draft, peer: NodeId) -> Result<(), Memory>
     ensures { OnOk result (draft.new ≡ goes draft.old (send_ask draft.old.step peer)) }
 {
     let standing = draft.standing();
@@ -39,7 +39,7 @@ pub(crate) fn send_ask(draft: &mut Draft, peer: NodeId) -> Result<(), Memory>
 }
 
 /// A peer is asked to be the parent, by the next number if there is one.
-pub(crate) fn ask(draft: &mut Draft, peer: NodeId) -> Result<(), Memory>
+pub fn ask(draft: &mut Draft, peer: NodeId) -> Result<(), Memory>
     ensures { OnOk result (draft.new ≡ goes draft.old (ask draft.old.step peer)) }
 {
     match draft.standing().seq.checked_add(1) {
@@ -58,7 +58,7 @@ pub(crate) fn ask(draft: &mut Draft, peer: NodeId) -> Result<(), Memory>
 // The rule Become acting
 
 /// The node is a root, of the epoch after its own.
-pub(crate) fn act(draft: &mut Draft) -> Result<(), Memory>
+pub fn act(draft: &mut Draft) -> Result<(), Memory>
     ensures { OnOk result (draft.new ≡ goes draft.old (act draft.old.step)) }
 {
     let epoch = next_epoch(rank_or_last(draft.standing().rank));
@@ -69,7 +69,7 @@ pub(crate) fn act(draft: &mut Draft) -> Result<(), Memory>
 // The rule Next try
 
 /// A node is asked how it stands, on the way down to a place.
-pub(crate) fn descend(draft: &mut Draft, peer: NodeId) -> Result<(), Memory>
+pub fn descend(draft: &mut Draft, peer: NodeId) -> Result<(), Memory>
     ensures { OnOk result (draft.new ≡ goes draft.old (descend draft.old.step peer)) }
 {
     draft.search(Some(Search::Descend(peer)));
@@ -98,7 +98,7 @@ fn try_first(draft: &mut Draft) -> Result<(), Memory>
     }
 }
 
-pub(crate) fn next_try(draft: &mut Draft) -> Result<(), Memory>
+pub fn next_try(draft: &mut Draft) -> Result<(), Memory>
     ensures { OnOk result (draft.new ≡ goes draft.old (next_try draft.old.step)) }
 {
     if draft.id().0 == 1 {
@@ -111,7 +111,7 @@ pub(crate) fn next_try(draft: &mut Draft) -> Result<(), Memory>
 // The rule Round
 
 /// A fresh attempt to find a parent, but for one node.
-pub(crate) fn round(draft: &mut Draft, without: Option<NodeId>) -> Result<(), Memory>
+pub fn round(draft: &mut Draft, without: Option<NodeId>) -> Result<(), Memory>
     ensures { OnOk result (draft.new ≡ goes draft.old (round draft.old.step without)) }
 {
     draft.set_tries(without)?;
@@ -119,7 +119,7 @@ pub(crate) fn round(draft: &mut Draft, without: Option<NodeId>) -> Result<(), Me
 }
 
 /// A node is asked, and after it all others.
-pub(crate) fn ask_before(draft: &mut Draft, peer: NodeId) -> Result<(), Memory>
+pub fn ask_before(draft: &mut Draft, peer: NodeId) -> Result<(), Memory>
     ensures { OnOk result (draft.new ≡ goes draft.old (ask_before draft.old.step peer)) }
 {
     draft.set_tries(Some(peer))?;
@@ -149,7 +149,7 @@ fn join(draft: &mut Draft, parent: NodeId, rank: Rank, above: &[NodeId]) -> Resu
     Ok(())
 }
 
-pub(crate) fn took_yes(
+pub fn took_yes(
     draft: &mut Draft,
     from: NodeId,
     seq: u64,
@@ -189,8 +189,8 @@ fn refused(draft: &mut Draft, why: Refusal) -> Result<(), Memory>
     }
 }
 
-#[tactic(auto, using(crate::proofs::Drafts::lost_soft))]
-pub(crate) fn took_no(draft: &mut Draft, from: NodeId, seq: u64, why: Refusal) -> Result<(), Memory>
+#[tactic(auto, using(crate::proofs::Leaving::lost_soft))]
+pub fn took_no(draft: &mut Draft, from: NodeId, seq: u64, why: Refusal) -> Result<(), Memory>
     ensures { OnOk result (draft.new ≡ goes draft.old (took_no draft.old.step from seq why)) }
 {
     let standing = draft.standing();
@@ -223,7 +223,7 @@ fn not_seen(draft: &mut Draft, peer: NodeId) -> Result<(), Memory>
 }
 
 #[tactic(auto, using(crate::proofs::ByMode::unreachable_is))]
-pub(crate) fn unreachable(draft: &mut Draft, peer: NodeId) -> Result<(), Memory>
+pub fn unreachable(draft: &mut Draft, peer: NodeId) -> Result<(), Memory>
     ensures { OnOk result (draft.new ≡ goes draft.old (unreachable draft.old.step peer)) }
 {
     if is_joined_to(draft.standing().mode, peer) {
@@ -239,7 +239,7 @@ pub(crate) fn unreachable(draft: &mut Draft, peer: NodeId) -> Result<(), Memory>
 
 // The rule Relocate
 
-pub(crate) fn relocate(draft: &mut Draft, peer: NodeId) -> Result<(), Memory>
+pub fn relocate(draft: &mut Draft, peer: NodeId) -> Result<(), Memory>
     ensures { OnOk result (draft.new ≡ goes draft.old (relocate draft.old.step peer)) }
 {
     let id = draft.id();

@@ -30,7 +30,7 @@ fn birth(child: NodeId, seq: u64, parent: NodeId) -> Cert
 }
 
 /// The epoch becomes this one, if there is one.
-pub(crate) fn set_epoch(draft: &mut Draft, epoch: Option<u64>) -> Result<(), Memory>
+pub fn set_epoch(draft: &mut Draft, epoch: Option<u64>) -> Result<(), Memory>
     ensures { OnOk result (draft.new ≡ goes draft.old (raises draft.old.step epoch)) }
 {
     match epoch {
@@ -70,7 +70,7 @@ fn refusal(draft: &Draft, asker: NodeId, rank: Option<Rank>) -> Option<Refusal>
 }
 
 /// Whether a node has a lease of this one at that number of an ask.
-pub(crate) fn has_lease(draft: &Draft, child: NodeId, seq: u64) -> bool
+pub fn has_lease(draft: &Draft, child: NodeId, seq: u64) -> bool
     ensures { result ≡ has_lease draft.now.step.node child seq }
 {
     match draft.entry(child) {
@@ -99,7 +99,7 @@ fn grant(draft: &mut Draft, child: NodeId, seq: u64) -> Result<(), Memory>
 }
 
 /// There is no lease at that number of an ask.
-pub(crate) fn send_rejoin(draft: &mut Draft, child: NodeId, seq: u64) -> Result<(), Memory>
+pub fn send_rejoin(draft: &mut Draft, child: NodeId, seq: u64) -> Result<(), Memory>
     ensures { OnOk result (draft.new ≡ goes draft.old (sends_rejoin draft.old.step child seq)) }
 {
     draft.send(child, Body::Rejoin { seq })
@@ -133,13 +133,8 @@ fn asked_at(draft: &mut Draft, asker: NodeId, seq: u64, rank: Option<Rank>) -> R
 }
 
 /// An ask came, of a node with this rank.
-#[tactic(auto, using(crate::proofs::Drafts::raised_table))]
-pub(crate) fn asked(
-    draft: &mut Draft,
-    asker: NodeId,
-    seq: u64,
-    rank: Option<Rank>,
-) -> Result<(), Memory>
+#[tactic(auto, using(crate::proofs::Leaving::raised_table))]
+pub fn asked(draft: &mut Draft, asker: NodeId, seq: u64, rank: Option<Rank>) -> Result<(), Memory>
     requires asker { IsNode draft.old.base.nodes asker }
     requires table { draft.old.step.node.kept.table ≡ draft.old.base.kept.table }
     ensures { OnOk result (draft.new ≡ goes draft.old (asked draft.old.step asker seq rank)) }

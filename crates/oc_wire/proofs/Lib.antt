@@ -11,3 +11,4 @@ pub mod RequestReads
 pub mod OneAnswer
 pub mod Sizes
 pub mod Puts
+pub mod Rows

@@ -1,6 +1,7 @@
 -- Items that are put one behind the other.
-use Rattle.std.proofs.Common.{◌≡◌, ℕ, ◌+◌, ◌<◌, List, [], ◌∷◌, ◌++◌, length, get_or, take, sym, ap, ◌∙◌, append_assoc, add-one}
+use Rattle.std.proofs.Common.{◌≡◌, ℕ, ◌+◌, ◌<◌, List, [], ◌∷◌, ◌++◌, length, get_or, take, Result, Ok, Err, OnOk, sym, ap, ◌∙◌, append_assoc, add-one}
 use Rattle.std.specs.List.{flat_map}
+use Rattle.oc_base.proofs.Puts.{more}
 use Rattle.std.proofs.Math.Seq.{take-suc}
 use Rattle.std.proofs.lemmas.Grind.{flat_map-append}
 use Rattle.std.proofs.lemmas.List.{append-nil}
@@ -22,3 +23,8 @@ pub item_more : {A : Type 0} (text : A → List ℕ) (xs : List A) (i : ℕ) (x 
 item_more text xs i x start front before after lt is so_far put =
     let whole : (start ++ (front ++ flat_map text (take i xs))) ++ text x ≡ start ++ (front ++ (flat_map text (take i xs) ++ text x)) = simp append_assoc in
     put ∙ ap (λ (y : List ℕ). y ++ text x) so_far ∙ whole ∙ ap (λ (y : List ℕ). start ++ (front ++ y)) (sym (texts_more text xs i x lt is))
+
+-- the last text is put behind what was put, where that goes well
+pub more_if_ok : {T E : Type 0} (out text last before after : List ℕ) (done : Result T E) → before ≡ out ++ text → OnOk done (after ≡ before ++ last) → OnOk done (after ≡ out ++ (text ++ last))
+more_if_ok out text last before after (Ok x) e f = more out text last before after e f
+more_if_ok out text last before after (Err x) e f = tt

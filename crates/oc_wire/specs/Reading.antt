@@ -144,6 +144,20 @@ chunk_at bytes at =
     four_fields (name_at bytes) (within_at w64 0 MAX_GROUP_BYTES bytes) (flag_at bytes) (chunk_bytes_at bytes)
     (λ group start last bytes. Chunk group start bytes last) at
 
+-- the body of the kind in this row of the codes
+unfoldable pub fields_at : ℕ → ℕ → List ℕ → ℕ → Reading Body
+fields_at row nodes bytes at =
+    if row == 0 then Ok (Look, at)
+    else if row == 1 then look_is_at nodes bytes at
+    else if row == 2 then ask_at bytes at
+    else if row == 3 then yes_at nodes bytes at
+    else if row == 4 then no_at nodes bytes at
+    else if row == 5 then check_in_at nodes bytes at
+    else if row == 6 then check_ack_at nodes bytes at
+    else if row == 7 then rejoin_at bytes at
+    else if row == 8 then fetch_at bytes at
+    else chunk_at bytes at
+
 -- the body of the kind with this code
 unfoldable pub body_at : ℕ → ℕ → List ℕ → ℕ → Result (Body × ℕ) WireFault
 body_at code nodes bytes at =

@@ -1,14 +1,15 @@
 ghost use Rattle.std.specs.Prelude.{◌≡◌, IfOk};
 ghost use Rattle.oc_model.specs.declared.message.Message.{Message};
 ghost use Rattle.oc_wire.specs.Messages.{Spells};
-ghost use Rattle.oc_wire.specs.Reading.{Gives, is_node, body_at, decoded};
+ghost use Rattle.oc_base.specs.Reading as fields;
+ghost use Rattle.oc_wire.specs.Reading.{Gives, is_node, body_at, fields_at, decoded};
 
 use crate::WireFault;
 use crate::codes::CODES;
 use crate::kinds::{
     ask_at, check_ack_at, check_in_at, chunk_at, fetch_at, look_is_at, no_at, rejoin_at, yes_at,
 };
-use oc_base::{NodeId, row_of, take_u8, take_u32};
+use oc_base::{FieldFault, NodeId, row_of, take_u8, take_u32};
 use oc_model::{Body, Message};
 use std::alloc::Global;
 
@@ -53,8 +54,7 @@ fn is_node(nodes: u32, id: u32) -> bool
     1 <= id && id <= nodes
 }
 
-/// The body of the kind with this code, by the row that the code has.
-#[tactic(auto, using(crate::proofs::Lifts::fault_given), unfolding(crate::specs::Reading::body_at))]
+/// The body of the kind with this code.
 fn body_at(
     alloc: Global,
     code: u8,
@@ -64,25 +64,33 @@ fn body_at(
 ) -> Result<(Body, usize), WireFault>
     ensures { Gives result (body_at code nodes bytes.now at) }
 {
-    macro_rules! by_row {
-        ($row:expr; $($index:literal => $body:expr,)*) => {
-            match $row {
-                $(Some($index) => Ok($body),)*
-                _ => Err(WireFault::Kind(code)),
-            }
-        };
+    match row_of(&CODES, code) {
+        Some(row) => Ok(fields_at(alloc, row, nodes, bytes, at)?),
+        None => Err(WireFault::Kind(code)),
     }
-    by_row! {
-        row_of(&CODES, code);
-        0 => (Body::Look, at),
-        1 => look_is_at(alloc, nodes, bytes, at)?,
-        2 => ask_at(bytes, at)?,
-        3 => yes_at(alloc, nodes, bytes, at)?,
-        4 => no_at(nodes, bytes, at)?,
-        5 => check_in_at(alloc, nodes, bytes, at)?,
-        6 => check_ack_at(alloc, nodes, bytes, at)?,
-        7 => rejoin_at(bytes, at)?,
-        8 => fetch_at(alloc, bytes, at)?,
-        9 => chunk_at(alloc, bytes, at)?,
+}
+
+/// The body of the kind in this row of [`CODES`].
+#[tactic(auto, using(crate::proofs::Lifts::given_same), unfolding(crate::specs::Reading::fields_at))]
+fn fields_at(
+    alloc: Global,
+    row: usize,
+    nodes: u32,
+    bytes: &[u8],
+    at: usize,
+) -> Result<(Body, usize), FieldFault>
+    ensures { fields.Gives result (fields_at row nodes bytes.now at) }
+{
+    match row {
+        0 => Ok((Body::Look, at)),
+        1 => look_is_at(alloc, nodes, bytes, at),
+        2 => ask_at(bytes, at),
+        3 => yes_at(alloc, nodes, bytes, at),
+        4 => no_at(nodes, bytes, at),
+        5 => check_in_at(alloc, nodes, bytes, at),
+        6 => check_ack_at(alloc, nodes, bytes, at),
+        7 => rejoin_at(bytes, at),
+        8 => fetch_at(alloc, bytes, at),
+        _ => chunk_at(alloc, bytes, at),
     }
 }

@@ -1,20 +1,25 @@
 ghost use Rattle.std.specs.Prelude.{◌≡◌, ◌<◌, ◌^◌, ◌∷◌, ◌++◌, length, OnOk, IfOk};
-ghost use Rattle.oc_wire.specs.Spelling.{parent_bytes, rank_or_none_bytes, why_bytes, child_bytes, children_bytes, certs_bytes, name_bytes, line_bytes, have_bytes, text_bytes, code_of, fields_bytes, spelling, HasSpelling};
+ghost use Rattle.oc_base.specs.Spelling.{eight, flag, rank_bytes, ids_bytes};
+ghost use Rattle.oc_wire.specs.Spelling.{parent_bytes, rank_or_none_bytes, why_code, why_bytes, child_bytes, children_bytes, certs_bytes, name_bytes, line_bytes, have_bytes, text_bytes, code_of, fields_bytes, spelling, HasSpelling};
 
 use crate::codes::{CODES, REFUSALS};
 use oc_base::writing::{put_cert, put_flag, put_id, put_ids, put_long, put_rank};
 use oc_base::{
-    Bytes, CertList, Child, ChildList, GroupName, Memory, NodeId, Rank, Refusal, Shelf, ShelfList,
+    Bytes, CertList, Child, ChildList, GroupName, IdList, Memory, NodeId, Rank, Refusal, Shelf,
+    ShelfList,
 };
 use oc_model::{Body, Message};
 use std::alloc::{AllocError, Global};
+
+/// Most messages have no more bytes, so the memory for one is taken at once.
+const ROOM: usize = 256;
 
 /// The one spelling of the message.
 pub fn encode(alloc: Global, message: &Message) -> Result<Vec<u8>, Memory>
     requires { HasSpelling message.now.body }
     ensures { IfOk result (λ bytes. bytes.items ≡ spelling message.now) }
 {
-    let mut out = Vec::new(alloc);
+    let mut out = Vec::with_capacity(alloc, ROOM)?;
     put_id(&mut out, &message.from)?;
     put_id(&mut out, &message.to)?;
     put_body(&mut out, &message.body)?;
@@ -26,29 +31,153 @@ fn put_body(out: &mut Vec<u8>, body: &Body) -> Result<(), AllocError>
     requires { HasSpelling body.now }
     ensures { OnOk result (out.new.items ≡ out.old.items ++ (code_of body.now ∷ fields_bytes body.now)) }
 {
-    macro_rules! by_kind {
-        ($($row:literal $kind:ident { $($field:ident: $put:ident),* })*) => {
-            match body {
-                $(Body::$kind { $($field),* } => {
-                    out.push(CODES[$row].code)?;
-                    $($put(out, $field)?;)*
-                })*
-            }
-        };
+    out.push(code_of(body))?;
+    put_fields(out, body)
+}
+
+/// The code of the kind.
+fn code_of(body: &Body) -> u8
+    ensures { result ≡ code_of body.now }
+{
+    match body {
+        Body::Look => CODES[0].code,
+        Body::LookIs { .. } => CODES[1].code,
+        Body::Ask { .. } => CODES[2].code,
+        Body::Yes { .. } => CODES[3].code,
+        Body::No { .. } => CODES[4].code,
+        Body::CheckIn { .. } => CODES[5].code,
+        Body::CheckAck { .. } => CODES[6].code,
+        Body::Rejoin { .. } => CODES[7].code,
+        Body::Fetch { .. } => CODES[8].code,
+        Body::Chunk { .. } => CODES[9].code,
     }
-    by_kind! {
-        0 Look {}
-        1 LookIs { in_tree: put_flag, parent: put_parent, rate: put_long, children: put_children }
-        2 Ask { seq: put_long, rank: put_rank_or_none }
-        3 Yes { seq: put_long, rank: put_rank, ancestors: put_ids }
-        4 No { seq: put_long, why: put_refusal }
-        5 CheckIn { seq: put_long, upto: put_long, rate: put_long, number: put_long, clients: put_long, certs: put_certs }
-        6 CheckAck { seq: put_long, upto: put_long, rank: put_rank, ancestors: put_ids }
-        7 Rejoin { seq: put_long }
-        8 Fetch { have: put_have }
-        9 Chunk { group: put_name, start: put_long, last: put_flag, bytes: put_text }
+}
+
+/// The fields, one behind the other.
+fn put_fields(out: &mut Vec<u8>, body: &Body) -> Result<(), AllocError>
+    requires { HasSpelling body.now }
+    ensures { OnOk result (out.new.items ≡ out.old.items ++ fields_bytes body.now) }
+{
+    match body {
+        Body::Look => Ok(()),
+        Body::LookIs {
+            in_tree,
+            parent,
+            rate,
+            children,
+        } => put_look_is(out, in_tree, parent, rate, children),
+        Body::Ask { seq, rank } => {
+            put_long(out, seq)?;
+            put_rank_or_none(out, rank)
+        }
+        Body::Yes {
+            seq,
+            rank,
+            ancestors,
+        } => put_standing(out, seq, rank, ancestors),
+        Body::No { seq, why } => {
+            put_long(out, seq)?;
+            put_refusal(out, why)
+        }
+        Body::CheckIn {
+            seq,
+            upto,
+            rate,
+            number,
+            clients,
+            certs,
+        } => {
+            put_numbers(out, seq, upto, rate, number, clients)?;
+            put_certs(out, certs)
+        }
+        Body::CheckAck {
+            seq,
+            upto,
+            rank,
+            ancestors,
+        } => {
+            put_long(out, seq)?;
+            put_standing(out, upto, rank, ancestors)
+        }
+        Body::Rejoin { seq } => put_long(out, seq),
+        Body::Fetch { have } => put_have(out, have),
+        Body::Chunk {
+            group,
+            start,
+            bytes,
+            last,
+        } => put_chunk(out, group, start, last, bytes),
     }
-    Ok(())
+}
+
+/// The fields of a `LookIs`.
+fn put_look_is(
+    out: &mut Vec<u8>,
+    in_tree: &bool,
+    parent: &Option<NodeId>,
+    rate: &u64,
+    children: &ChildList,
+) -> Result<(), AllocError>
+    requires { length children.now < 2 ^ 16 }
+    ensures { OnOk result (out.new.items
+        ≡ out.old.items ++ (flag in_tree.now ++ parent_bytes parent.now ++ eight rate.now ++ children_bytes children.now)) }
+{
+    put_flag(out, in_tree)?;
+    put_parent(out, parent)?;
+    put_long(out, rate)?;
+    put_children(out, children)
+}
+
+/// A number, a rank and ancestors.
+fn put_standing(
+    out: &mut Vec<u8>,
+    number: &u64,
+    rank: &Rank,
+    ancestors: &IdList,
+) -> Result<(), AllocError>
+    requires { length ancestors.now < 2 ^ 16 }
+    ensures { OnOk result (out.new.items ≡ out.old.items ++ (eight number.now ++ rank_bytes rank.now ++ ids_bytes ancestors.now)) }
+{
+    put_long(out, number)?;
+    put_rank(out, rank)?;
+    put_ids(out, ancestors)
+}
+
+/// The numbers of a `CheckIn`.
+fn put_numbers(
+    out: &mut Vec<u8>,
+    seq: &u64,
+    upto: &u64,
+    rate: &u64,
+    number: &u64,
+    clients: &u64,
+) -> Result<(), AllocError>
+    ensures { OnOk result (out.new.items
+        ≡ out.old.items ++ (eight seq.now ++ eight upto.now ++ eight rate.now ++ eight number.now ++ eight clients.now)) }
+{
+    put_long(out, seq)?;
+    put_long(out, upto)?;
+    put_long(out, rate)?;
+    put_long(out, number)?;
+    put_long(out, clients)
+}
+
+/// The fields of a `Chunk`.
+fn put_chunk(
+    out: &mut Vec<u8>,
+    group: &GroupName,
+    start: &u64,
+    last: &bool,
+    bytes: &Bytes,
+) -> Result<(), AllocError>
+    requires { length bytes.now < 2 ^ 16 }
+    ensures { OnOk result (out.new.items
+        ≡ out.old.items ++ (name_bytes group.now ++ eight start.now ++ flag last.now ++ text_bytes bytes.now)) }
+{
+    put_name(out, group)?;
+    put_long(out, start)?;
+    put_flag(out, last)?;
+    put_text(out, bytes)
 }
 
 /// A parent's id, or 0 for none.
@@ -78,25 +207,25 @@ fn put_rank_or_none(out: &mut Vec<u8>, rank: &Option<Rank>) -> Result<(), AllocE
 fn put_refusal(out: &mut Vec<u8>, why: &Refusal) -> Result<(), AllocError>
     ensures { OnOk result (out.new.items ≡ out.old.items ++ why_bytes why.now) }
 {
-    macro_rules! by_refusal {
-        ($($row:literal $refusal:ident $(($node:ident))?)*) => {
-            match why {
-                $(Refusal::$refusal $(($node))? => {
-                    out.push(REFUSALS[$row].code)?;
-                    $(put_id(out, $node)?;)?
-                })*
-            }
-        };
+    out.push(why_code(why))?;
+    match why {
+        Refusal::Chain(member) => put_id(out, member),
+        _ => Ok(()),
     }
-    by_refusal! {
-        0 Own
-        1 NotJoined
-        2 Ancestor
-        3 Depth
-        4 Chain(member)
-        5 Rank
+}
+
+/// The code of a refusal.
+fn why_code(why: &Refusal) -> u8
+    ensures { result ≡ why_code why.now }
+{
+    match why {
+        Refusal::Own => REFUSALS[0].code,
+        Refusal::NotJoined => REFUSALS[1].code,
+        Refusal::Ancestor => REFUSALS[2].code,
+        Refusal::Depth => REFUSALS[3].code,
+        Refusal::Chain(_) => REFUSALS[4].code,
+        Refusal::Rank => REFUSALS[5].code,
     }
-    Ok(())
 }
 
 /// The count of children in two bytes, and each of them.

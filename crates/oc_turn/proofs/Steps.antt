@@ -1,5 +1,5 @@
 -- Steps of a turn as deeds.
-use Rattle.std.proofs.Common.{◌≡◌, ℕ, false, List, [], ◌∷◌, refl, sym, ap, subst, ◌∙◌, arith}
+use Rattle.std.proofs.Common.{◌≡◌, ℕ, false, List, [], ◌∷◌, inl, inr, refl, sym, ap, subst, ◌∙◌, arith}
 use Rattle.std.proofs.lemmas.List.{append-nil}
 use Rattle.oc_keep.specs.KeptView.{IsHonest, KeptView, NodeSurvives, disks_of, node_of}
 use Rattle.oc_model.specs.declared.message.Message.{Message}
@@ -123,6 +123,16 @@ module _ {D K : Type 0} (view : D → DiskView) (takes fails : K → List ℕ �
 abbrev pub note_under : TurnEnd → List ℕ → Under
 note_under ends.Sink line = Noting line
 note_under end line = Idle
+
+-- which was next
+pub note_at : {K : Type 0} (takes fails : K → List ℕ → K → Type 0) (count : K → ℕ) (end : TurnEnd) (why : List ℕ) (sink after : K) → NoteStops takes fails count end why sink after → deeds.EndsAt end (Noting (note_line why)) (note_under end (note_line why))
+note_at takes fails count ends.Memory why sink after stops = inr (refl, refl)
+note_at takes fails count ends.Sink why sink after stops = inl refl
+note_at takes fails count ends.Served why sink after stops = absurd stops
+note_at takes fails count ends.Quiet why sink after stops = absurd stops
+note_at takes fails count ends.Link why sink after stops = absurd stops
+note_at takes fails count ends.Disk why sink after stops = absurd stops
+note_at takes fails count ends.Full why sink after stops = absurd stops
 
 module _ {D K : Type 0} (view : D → DiskView) (takes fails : K → List ℕ → K → Type 0) (count : K → ℕ) where
   -- it ended in a line of no input

@@ -18,6 +18,8 @@ use Rattle.oc_probe.specs.Probes.{Probed, Timed}
 use Rattle.oc_probe.specs.declared.fault.ProbeFault.{ProbeFault}
 use Rattle.oc_probe.specs.declared.fault.ProbeFault.TheVariants as faults
 use Rattle.oc_routes.specs.Replies.{others}
+use Rattle.oc_turn.specs.declared.ends.TurnEnd.{TurnEnd}
+use Rattle.oc_turn.specs.declared.ends.TurnEnd.TheVariants as ends
 use Rattle.oc_turn.specs.Dials.{DialsMessage, IsAnswered, Makes, MayMake, text_of}
 use Rattle.oc_routes.specs.Inputs.{input_line}
 use Rattle.oc_turn.specs.Outboxes.{with_messages}
@@ -101,6 +103,10 @@ abbrev pub under_line : ℕ → Under → List ℕ
 under_line me Idle = []
 under_line me (Taking i) = input_line me i
 under_line me (Noting line) = line
+
+-- It ended so at what was next: in it, or before it for want of memory.
+abbrev pub EndsAt : TurnEnd → Under → Under → Type 0
+EndsAt end next under = (under ≡ next) ⊎ ((under ≡ Idle) × (end ≡ ends.Memory))
 
 -- What they do
 
@@ -214,6 +220,10 @@ DoAll s (d ∷ ds) a c = (b : Sight) × Does s d a b × DoAll s ds b c
 -- The tick: the clock gave this number of seconds, and a tick was taken.
 abbrev pub ticked : ℕ → List Deed
 ticked t = Reads t ∷ Takes (Tick (min t MAX_TIME)) ∷ []
+
+-- A tick that ended so: the clock was read, and the input of what it gave was next.
+abbrev pub CutsTick : TurnEnd → List Deed → Under → Type 0
+CutsTick end ds under = (t : ℕ) × (ds ≡ Reads t ∷ []) × EndsAt end (Taking (Tick (min t MAX_TIME))) under
 
 -- What else happens outside where it ends
 

@@ -6,7 +6,7 @@ ghost use Rattle.oc_outside.specs.Story.{Story};
 ghost use Rattle.std.specs.Prelude.{Option};
 ghost use Rattle.oc_turn.specs.Deeds.{Deed, Under, outside_of};
 ghost use Rattle.oc_turn.specs.Scenes.{BreaksOff, Did, scene};
-ghost use Rattle.oc_turn.specs.Deeds.{ticked};
+ghost use Rattle.oc_turn.specs.Deeds.{CutsTick, ticked};
 
 use crate::ends::TurnEnd;
 use crate::entry::input_entry;
@@ -32,7 +32,7 @@ pub fn tick<D: Disk, C: Clock, K: Sink>(
         → Did D.view K.takes K.faults addresses (ticked t)
         (scene kept.old outbox.old sink.old (outside_of story faults (C.seconds clock.old) (C.milliseconds clock.old)))
         (scene kept.new outbox.new sink.new (outside_of story faults (C.seconds clock.new) (C.milliseconds clock.new))))) }
-    ensures stops { IfErr result (λ end. (deeds : List Deed) × (under : Under) × ((addresses : List (List ℕ)) (story : Option Story) (faults : LinkFaults)
+    ensures stops { IfErr result (λ end. (deeds : List Deed) × (under : Under) × CutsTick end deeds under × ((addresses : List (List ℕ)) (story : Option Story) (faults : LinkFaults)
         → BreaksOff D.view K.takes K.fails K.faults addresses ⊥ end deeds under
         (scene kept.old outbox.old sink.old (outside_of story faults (C.seconds clock.old) (C.milliseconds clock.old)))
         (scene kept.new outbox.new sink.new (outside_of story faults (C.seconds clock.new) (C.milliseconds clock.new))))) }

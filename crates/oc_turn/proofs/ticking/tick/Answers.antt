@@ -1,4 +1,4 @@
-use Rattle.std.proofs.Common.{[], ◌∷◌, rules, arith}
+use Rattle.std.proofs.Common.{[], ◌∷◌, inl, inr, refl, ap, ◌∙◌, rules, arith}
 use Rattle.std.proofs.lemmas.Result.{err_from_is_err_and}
 use Rattle.oc_model.specs.declared.input.Input.TheVariants.{Tick}
 use Rattle.oc_turn.specs.Deeds.{Idle, Reads, Taking}
@@ -26,6 +26,7 @@ returns-clause-stops g c =
     err_then c.take_own.result (λ end both. (
       Reads c.now.result ∷ [],
       Taking c.in_ok-entry.entry.input,
+      (c.now.result, refl, inl (ap Taking (c.in_ok-entry.ensures.input ∙ ap Tick c.min-now.ensures))),
       λ addresses story faults.
           tick_breaks g.D.Disk.view g.K.Sink.takes g.K.Sink.fails g.K.Sink.faults addresses g.met.K.Sink.takes_nothing end (Taking c.in_ok-entry.entry.input) a.kept.now c.take_own.new.kept a.outbox.now c.take_own.new.outbox a.sink.now c.take_own.new.sink story faults
           (g.C.Clock.seconds a.clock.now) (g.C.Clock.seconds c.now.new.self) (g.C.Clock.milliseconds a.clock.now) (g.C.Clock.milliseconds c.now.new.self) c.now.result c.requires.open c.now.ensures.ticks c.now.ensures.others both.0 both.1,
@@ -39,6 +40,7 @@ returns-in_err-entry-clause-stops g c =
     rw (p.1, p.2) (
       Reads c.now.result ∷ [],
       Idle,
+      (c.now.result, refl, inr (refl, refl)),
       λ addresses story faults.
           tick_breaks g.D.Disk.view g.K.Sink.takes g.K.Sink.fails g.K.Sink.faults addresses g.met.K.Sink.takes_nothing ends.Memory Idle a.kept.now a.kept.now a.outbox.now a.outbox.now a.sink.now a.sink.now story faults
           (g.C.Clock.seconds a.clock.now) (g.C.Clock.seconds c.now.new.self) (g.C.Clock.milliseconds a.clock.now) (g.C.Clock.milliseconds c.now.new.self) c.now.result c.requires.open c.now.ensures.ticks c.now.ensures.others

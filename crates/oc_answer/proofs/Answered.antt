@@ -22,12 +22,15 @@ use Rattle.oc_routes.specs.declared.asks.Asks.TheVariants as asks
 use Rattle.oc_routes.specs.declared.asks.Manner.{Manner}
 use Rattle.oc_routes.specs.declared.asks.Manner.TheVariants.{HeadAlone, Once, Follow}
 use Rattle.oc_routes.specs.declared.response.Response.{Response}
-use Rattle.oc_turn.specs.Scenes.{KeepsOne}
+use Rattle.oc_turn.specs.Scenes.{KeepsOne, LineStops}
 use Rattle.oc_routes.specs.Replies.{message_at, reply_place}
 use Rattle.oc_turn.specs.Sending.{AreSendable}
 use Rattle.oc_turn.proofs.Messages.{one_sendable, text_of_sendable}
 use Rattle.oc_wire.specs.Spelling.{HasSpelling}
-use Rattle.oc_answer.specs.Cuts.{CutsResponse, WritesFront, answer_text}
+use Rattle.oc_turn.specs.declared.ends.TurnEnd.{TurnEnd}
+use Rattle.oc_turn.specs.declared.ends.TurnEnd.TheVariants as ends
+use Rattle.oc_turn.specs.Looks.{LookStops}
+use Rattle.oc_answer.specs.Cuts.{CutsResponse, WritesFront, WritesUntil, answer_text}
 use Rattle.oc_answer.specs.Hearing.{SaysOn}
 use Rattle.oc_answer.specs.Replying.{sender_of, sent_back}
 use Rattle.oc_answer.specs.Requests.{Belongs}
@@ -126,31 +129,52 @@ replied_to view k0 k1 i outcome addresses asked last said kept answer reply a b 
 -- A reply that was cut
 
 -- a front of the response that was made
-pub response_cut : (asked : Asks) (response wanted : Response) (groups : List Group) (a b : Option Story) → response ≡ wanted → (Fits asked response.content groups → WritesFront (whole_text asked response groups) a b)
-    → Fits asked wanted.content groups → WritesFront (whole_text asked wanted groups) a b
-response_cut asked response wanted groups a b is wrote fits =
-    subst (λ (r : Response). WritesFront (whole_text asked r groups) a b) is (wrote (subst (λ (r : Response). Fits asked r.content groups) (sym is) fits))
+pub response_cut : (asked : Asks) (response wanted : Response) (groups : List Group) (end : TurnEnd) (a b : Option Story) → response ≡ wanted → (Fits asked response.content groups → WritesUntil end (whole_text asked response groups) a b)
+    → Fits asked wanted.content groups → WritesUntil end (whole_text asked wanted groups) a b
+response_cut asked response wanted groups end a b is wrote fits =
+    subst (λ (r : Response). WritesUntil end (whole_text asked r groups) a b) is (wrote (subst (λ (r : Response). Fits asked r.content groups) (sym is) fits))
 
-cut_with : (addresses : List (List ℕ)) (asked : Asks) (last : Bool) (n : Node) (i : Input) (groups : List Group) (answer : Answer) (reply : Option Message) (a b : Option Story)
+cut_with : (addresses : List (List ℕ)) (asked : Asks) (last : Bool) (n : Node) (i : Input) (groups : List Group) (answer : Answer) (reply : Option Message) (end : TurnEnd) (a b : Option Story)
     → groups ≡ (step n i).node.groups → answer ≡ (step n i).answer → reply ≡ back_to_sender i (step n i).sends → Belongs asked i
-    → CutsResponse addresses asked last answer reply groups a b → WritesFront (answer_text addresses asked last i n) a b
-cut_with addresses asked last n i groups answer reply a b same answered back belongs cut =
-    let one : CutsResponse addresses asked last answer reply (step n i).node.groups a b = subst (λ (ks : List Group). CutsResponse addresses asked last answer reply ks a b) same cut in
-    let two : CutsResponse addresses asked last (step n i).answer reply (step n i).node.groups a b = subst (λ (x : Answer). CutsResponse addresses asked last x reply (step n i).node.groups a b) answered one in
-    let three : CutsResponse addresses asked last (step n i).answer (back_to_sender i (step n i).sends) (step n i).node.groups a b =
-    subst (λ (m : Option Message). CutsResponse addresses asked last (step n i).answer m (step n i).node.groups a b) back two in
+    → CutsResponse addresses asked last answer reply groups end a b → WritesUntil end (answer_text addresses asked last i n) a b
+cut_with addresses asked last n i groups answer reply end a b same answered back belongs cut =
+    let one : CutsResponse addresses asked last answer reply (step n i).node.groups end a b = subst (λ (ks : List Group). CutsResponse addresses asked last answer reply ks end a b) same cut in
+    let two : CutsResponse addresses asked last (step n i).answer reply (step n i).node.groups end a b = subst (λ (x : Answer). CutsResponse addresses asked last x reply (step n i).node.groups end a b) answered one in
+    let three : CutsResponse addresses asked last (step n i).answer (back_to_sender i (step n i).sends) (step n i).node.groups end a b =
+    subst (λ (m : Option Message). CutsResponse addresses asked last (step n i).answer m (step n i).node.groups end a b) back two in
     three (fits_step asked i n addresses last belongs)
 
-pub cut_to : {D : Type 0} (view : D → DiskView) (k0 k1 : KeptView D) (i : Input) (outcome : OutcomeView) (addresses : List (List ℕ)) (asked : Asks) (last : Bool) (answer : Answer) (reply : Option Message) (a b : Option Story)
-    → (IsHonest view k1 → CutsResponse addresses asked last answer reply (node_of k1).groups a b)
+pub cut_to : {D : Type 0} (view : D → DiskView) (k0 k1 : KeptView D) (i : Input) (outcome : OutcomeView) (addresses : List (List ℕ)) (asked : Asks) (last : Bool) (answer : Answer) (reply : Option Message) (end : TurnEnd) (a b : Option Story)
+    → (IsHonest view k1 → CutsResponse addresses asked last answer reply (node_of k1).groups end a b)
     → KeepsOne view i outcome k0 k1 → answer ≡ outcome.answer → reply ≡ sent_back (sender_of i) outcome.sends → Belongs asked i → IsHonest view k0
-    → WritesFront (answer_text addresses asked last i (node_of k0)) a b
-cut_to view k0 k1 i outcome addresses asked last answer reply a b cut keeps answered back belongs honest =
+    → WritesUntil end (answer_text addresses asked last i (node_of k0)) a b
+cut_to view k0 k1 i outcome addresses asked last answer reply end a b cut keeps answered back belongs honest =
     let is = keeps.outcome_is honest in
-    cut_with addresses asked last (node_of k0) i (node_of k1).groups answer reply a b
+    cut_with addresses asked last (node_of k0) i (node_of k1).groups answer reply end a b
     (ap (λ (x : Node). x.groups) (keeps.node honest)) (answered ∙ ap (λ (o : OutcomeView). o.answer) is)
     (back ∙ back_is i outcome.sends ∙ ap (λ (o : OutcomeView). back_to_sender i o.sends) is) belongs
     (cut (all_honest view (disks_of k0) (disks_of k1) keeps.goes_on honest))
+
+-- a reply was cut by a disk or for want of memory
+pub looks_cut : {D : Type 0} (view : D → DiskView) (end : TurnEnd) (k k2 : KeptView D) (text : List ℕ) (a b : Option Story) → LookStops view end k k2 → WritesFront text a b → WritesUntil end text a b
+looks_cut view ends.Disk k k2 text a b stops wrote = wrote
+looks_cut view ends.Memory k k2 text a b stops wrote = wrote
+looks_cut view ends.Served k k2 text a b stops wrote = absurd stops.cause
+looks_cut view ends.Quiet k k2 text a b stops wrote = absurd stops.cause
+looks_cut view ends.Link k k2 text a b stops wrote = absurd stops.cause
+looks_cut view ends.Full k k2 text a b stops wrote = absurd stops.cause
+looks_cut view ends.Sink k k2 text a b stops wrote = absurd stops.cause
+
+-- or by a write that failed, and then the output failed in the line that tells it
+pub line_cut : {K : Type 0} (takes fails : K → List ℕ → K → Type 0) (count : K → ℕ) (end : TurnEnd) (line : List ℕ) (sink after : K) (whole : Bool) (text : List ℕ) (a b : Option Story)
+    → LineStops takes fails count end line sink after → whole ≡ false → SaysOn whole text a b → WritesUntil end text a b
+line_cut takes fails count ends.Sink line sink after whole text a b stops cut said = subst (λ (x : Bool). SaysOn x text a b) cut said
+line_cut takes fails count ends.Disk line sink after whole text a b stops cut said = absurd stops
+line_cut takes fails count ends.Memory line sink after whole text a b stops cut said = absurd stops
+line_cut takes fails count ends.Served line sink after whole text a b stops cut said = absurd stops
+line_cut takes fails count ends.Quiet line sink after whole text a b stops cut said = absurd stops
+line_cut takes fails count ends.Link line sink after whole text a b stops cut said = absurd stops
+line_cut takes fails count ends.Full line sink after whole text a b stops cut said = absurd stops
 
 -- the message that goes back to a sender has a text
 pub text_back : (nodes : ℕ) (sender : Option ℕ) (sends : List Message) (back : Option Message) → back ≡ sent_back sender sends → AreSendable nodes sends → (m : Message) → back ≡ Some m → HasSpelling m.body

@@ -21,17 +21,21 @@ use Rattle.oc_routes.specs.declared.asks.Asks.TheVariants as asks
 use Rattle.oc_routes.specs.declared.asks.Manner.TheVariants.{HeadAlone, Once, Follow}
 use Rattle.oc_routes.specs.declared.fault.RouteFault.{RouteFault}
 use Rattle.oc_routes.specs.declared.fault.RouteFault.TheVariants as faults
-use Rattle.oc_turn.specs.Deeds.{Deed, Under, IsRequest, Does, DoAll, Outside, Setting, Sight, Talked, TalksOnly, inputs_of, outside_of, sight_of}
+use Rattle.oc_turn.specs.Deeds.{Deed, Under, IsRequest, Does, DoAll, Outside, Setting, Sight, Talked, TalksOnly, inputs_of, note_line, outside_of, sight_of}
 use Rattle.oc_turn.specs.Deeds as deeds
 use Rattle.oc_turn.specs.Lines.{input_in}
-use Rattle.oc_turn.specs.Scenes.{Did, EndsStill, Scene, scene, setting}
+use Rattle.oc_turn.specs.Scenes.{Did, EndsStill, NoteStops, Scene, scene, setting}
 use Rattle.oc_turn.proofs.Chains.{after_both}
 use Rattle.oc_turn.proofs.Scenes.{did_node}
 use Rattle.oc_keep.proofs.Stays.{all_honest}
 use Rattle.oc_turn.proofs.Talks.{talked_then}
 use Rattle.oc_turn.specs.declared.ends.TurnEnd.{TurnEnd}
-use Rattle.oc_answer.specs.Cuts.{CutsInput, CutsOff, CutsReply, OnlyLeave, WritesFront, answer_text}
-use Rattle.oc_answer.specs.Hearing.{HearsOn, HearsRequest, Reads, ReadsBehind, ReadsHead, Terms, terms_of}
+use Rattle.oc_turn.specs.declared.ends.TurnEnd.TheVariants as ends
+use Rattle.oc_turn.proofs.Steps.{note_under}
+use Rattle.oc_routes.specs.Refusals.{why_text}
+use Rattle.oc_routes.specs.declared.refused.Refused.{Refused}
+use Rattle.oc_answer.specs.Cuts.{CutsHearing, CutsInput, CutsOff, CutsReply, IsUnderOf, OnlyLeave, WritesUntil, answer_text}
+use Rattle.oc_answer.specs.Hearing.{HearsOn, HearsRequest, IsRefused, Reads, ReadsBehind, ReadsHead, Terms, terms_of}
 use Rattle.oc_model.specs.Step.{step}
 use Rattle.oc_routes.specs.declared.response.Response.{Response}
 use Rattle.oc_answer.specs.Serving.{IsSaid, KeepOn, Replies, Serves, ServesAll, response_for, shown, whole_text, terms}
@@ -141,38 +145,65 @@ module _ {D K : Type 0} (view : D → DiskView) (takes fails : K → List ℕ �
       (kept, outbox, after, did_behind d k o sink a b (scene kept outbox after c.outside) is talked did, stops, meets)
 
 -- a request that was read, and ended in its midst
-pub cuts_read : (t : Terms) (addresses : List (List ℕ)) (number : ℕ) (request : Request) (d : Deed) (n : Node) (a b c : Option Story)
-    → HearsRequest t number request.asks (input_in request.entry) request.last a b → OnlyLeave a b → CutsReply addresses request d n b c → CutsOff t addresses number d n a c
-cuts_read t addresses number request (deeds.Answers i failed) n a b c heard leave (is, wrote) = record {
-  asked = request.asks;
-  last = request.last;
-  between = b;
-  heard = subst (λ (x : Option Input). HearsRequest t number request.asks x request.last a b) is heard;
-  wrote = wrote;
-}
-cuts_read t addresses number request deeds.Talks n a b c heard leave same = subst (λ (x : Option Story). OnlyLeave a x) (sym same) leave
-cuts_read t addresses number request (deeds.Calls x) n a b c heard leave cut = absurd cut
-cuts_read t addresses number request (deeds.Reads x) n a b c heard leave cut = absurd cut
-cuts_read t addresses number request (deeds.Takes x) n a b c heard leave cut = absurd cut
-cuts_read t addresses number request (deeds.Notes x) n a b c heard leave cut = absurd cut
-cuts_read t addresses number request (deeds.Dials m x) n a b c heard leave cut = absurd cut
-cuts_read t addresses number request deeds.Empties n a b c heard leave cut = absurd cut
-cuts_read t addresses number request (deeds.Probes p h x) n a b c heard leave cut = absurd cut
+
+-- what was read of it, by what was under way
+hearing_read : (t : Terms) (number : ℕ) (request : Request) (end : TurnEnd) (under : Under) (a b : Option Story)
+    → HearsRequest t number request.asks (input_in request.entry) request.last a b → IsUnderOf request end under → CutsHearing t number end under a b
+hearing_read t number request end deeds.Idle a b heard is = is
+hearing_read t number request end (deeds.Taking i) a b heard is = (request.asks, request.last, subst (λ (x : Option Input). HearsRequest t number request.asks x request.last a b) is heard)
+hearing_read t number request end (deeds.Noting line) a b heard is = absurd is
+
+pub cuts_read : (t : Terms) (addresses : List (List ℕ)) (number : ℕ) (request : Request) (end : TurnEnd) (under : Under) (d : Deed) (n : Node) (a b c : Option Story)
+    → HearsRequest t number request.asks (input_in request.entry) request.last a b → OnlyLeave a b → CutsReply addresses request end under d n b c → CutsOff t addresses number end under d n a c
+cuts_read t addresses number request end under (deeds.Answers i failed) n a b c heard leave (is, wrote, line) = (
+  record {
+    asked = request.asks;
+    last = request.last;
+    between = b;
+    heard = subst (λ (x : Option Input). HearsRequest t number request.asks x request.last a b) is heard;
+    wrote = wrote;
+  },
+  line,
+)
+cuts_read t addresses number request end under deeds.Talks n a b c heard leave (same, is) = (
+  subst (λ (x : Option Story). OnlyLeave a x) (sym same) leave,
+  subst (λ (x : Option Story). CutsHearing t number end under a x) (sym same) (hearing_read t number request end under a b heard is),
+)
+cuts_read t addresses number request end under (deeds.Calls x) n a b c heard leave cut = absurd cut
+cuts_read t addresses number request end under (deeds.Reads x) n a b c heard leave cut = absurd cut
+cuts_read t addresses number request end under (deeds.Takes x) n a b c heard leave cut = absurd cut
+cuts_read t addresses number request end under (deeds.Notes x) n a b c heard leave cut = absurd cut
+cuts_read t addresses number request end under (deeds.Dials m x) n a b c heard leave cut = absurd cut
+cuts_read t addresses number request end under deeds.Empties n a b c heard leave cut = absurd cut
+cuts_read t addresses number request end under (deeds.Probes p h x) n a b c heard leave cut = absurd cut
 
 -- an input is that of its request
-pub cuts_input : (addresses : List (List ℕ)) (request : Request) (i : Input) (d : Deed) (n : Node) (a b : Option Story) → input_in request.entry ≡ Some i → CutsInput addresses request.asks request.last i d n a b → CutsReply addresses request d n a b
-cuts_input addresses request i (deeds.Answers j failed) n a b is (same, wrote) = (
+pub cuts_input : (addresses : List (List ℕ)) (request : Request) (i : Input) (end : TurnEnd) (under : Under) (d : Deed) (n : Node) (a b : Option Story) → input_in request.entry ≡ Some i
+    → CutsInput addresses request.asks request.last i end under d n a b → CutsReply addresses request end under d n a b
+cuts_input addresses request i end under (deeds.Answers j failed) n a b is (same, wrote, line) = (
   is ∙ ap (λ (x : Input). Some x) (sym same),
-  subst (λ (x : Input). WritesFront (answer_text addresses request.asks request.last x n) a b) (sym same) wrote,
+  subst (λ (x : Input). WritesUntil end (answer_text addresses request.asks request.last x n) a b) (sym same) wrote,
+  line,
 )
-cuts_input addresses request i deeds.Talks n a b is same = same
-cuts_input addresses request i (deeds.Calls x) n a b is cut = absurd cut
-cuts_input addresses request i (deeds.Reads x) n a b is cut = absurd cut
-cuts_input addresses request i (deeds.Takes x) n a b is cut = absurd cut
-cuts_input addresses request i (deeds.Notes x) n a b is cut = absurd cut
-cuts_input addresses request i (deeds.Dials m x) n a b is cut = absurd cut
-cuts_input addresses request i deeds.Empties n a b is cut = absurd cut
-cuts_input addresses request i (deeds.Probes p h x) n a b is cut = absurd cut
+cuts_input addresses request i end under deeds.Talks n a b is (same, taking) = (same, subst (λ (u : Under). IsUnderOf request end u) (sym taking) is)
+cuts_input addresses request i end under (deeds.Calls x) n a b is cut = absurd cut
+cuts_input addresses request i end under (deeds.Reads x) n a b is cut = absurd cut
+cuts_input addresses request i end under (deeds.Takes x) n a b is cut = absurd cut
+cuts_input addresses request i end under (deeds.Notes x) n a b is cut = absurd cut
+cuts_input addresses request i end under (deeds.Dials m x) n a b is cut = absurd cut
+cuts_input addresses request i end under deeds.Empties n a b is cut = absurd cut
+cuts_input addresses request i end under (deeds.Probes p h x) n a b is cut = absurd cut
+
+-- a request that is refused, and ended in the line that tells it, behind which nothing was written yet
+pub refused_at : {K : Type 0} (t : Terms) (number : ℕ) (refused : Refused) (takes fails : K → List ℕ → K → Type 0) (count : K → ℕ) (end : TurnEnd) (a b c : Option Story) (sink after : K) → c ≡ b
+    → IsRefused t number refused a b → NoteStops takes fails count end (why_text refused) sink after → CutsHearing t number end (note_under end (note_line (why_text refused))) a c
+refused_at t number refused takes fails count ends.Sink a b c sink after same is stops = (refused, subst (λ (x : Option Story). IsRefused t number refused a x) (sym same) is, refl)
+refused_at t number refused takes fails count ends.Memory a b c sink after same is stops = refl
+refused_at t number refused takes fails count ends.Served a b c sink after same is stops = absurd stops
+refused_at t number refused takes fails count ends.Quiet a b c sink after same is stops = absurd stops
+refused_at t number refused takes fails count ends.Link a b c sink after same is stops = absurd stops
+refused_at t number refused takes fails count ends.Disk a b c sink after same is stops = absurd stops
+refused_at t number refused takes fails count ends.Full a b c sink after same is stops = absurd stops
 
 -- Requests one behind the other
 
@@ -272,10 +303,10 @@ module _ {D K : Type 0} (view : D → DiskView) (takes fails : K → List ℕ �
       (serves (all_honest view (disks_of a.kept) (disks_of b.kept) did.goes_on honest)))
 
   -- the same of one that ended in its midst
-  pub cuts_then : (rules : List Rule) (addresses : List (List ℕ)) (number : ℕ) (ds : List Deed) (d : Deed) (a b : Scene D K) (st st2 : Option Story) → Did view takes count [] ds a b → IsHonest view a.kept
-      → (IsHonest view b.kept → CutsOff (terms b.kept rules) addresses number d (node_of b.kept) st st2)
-      → CutsOff (terms a.kept rules) addresses number d (after_inputs (node_of a.kept) (inputs_of ds)) st st2
-  cuts_then rules addresses number ds d a b st st2 did honest cuts =
-      subst (λ (t : Terms). CutsOff t addresses number d (after_inputs (node_of a.kept) (inputs_of ds)) st st2) (terms_stay a.kept b.kept rules did.same)
-      (subst (λ (n : Node). CutsOff (terms b.kept rules) addresses number d n st st2) (did_node view takes fails count [] ds a b did honest)
+  pub cuts_then : (rules : List Rule) (addresses : List (List ℕ)) (number : ℕ) (end : TurnEnd) (under : Under) (ds : List Deed) (d : Deed) (a b : Scene D K) (st st2 : Option Story) → Did view takes count [] ds a b → IsHonest view a.kept
+      → (IsHonest view b.kept → CutsOff (terms b.kept rules) addresses number end under d (node_of b.kept) st st2)
+      → CutsOff (terms a.kept rules) addresses number end under d (after_inputs (node_of a.kept) (inputs_of ds)) st st2
+  cuts_then rules addresses number end under ds d a b st st2 did honest cuts =
+      subst (λ (t : Terms). CutsOff t addresses number end under d (after_inputs (node_of a.kept) (inputs_of ds)) st st2) (terms_stay a.kept b.kept rules did.same)
+      (subst (λ (n : Node). CutsOff (terms b.kept rules) addresses number end under d n st st2) (did_node view takes fails count [] ds a b did honest)
       (cuts (all_honest view (disks_of a.kept) (disks_of b.kept) did.goes_on honest)))

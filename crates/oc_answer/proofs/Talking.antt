@@ -29,6 +29,7 @@ use Rattle.oc_turn.specs.declared.ends.TurnEnd.TheVariants as ends
 use Rattle.oc_turn.specs.Deeds.{Deed, Outside, Sight, Talked, TalksOnly, OnlyTalks, Under, Idle, Noting, failed_line, for_outbox, deeds_text, inputs_of, outside_of}
 use Rattle.oc_turn.specs.Deeds as deeds
 use Rattle.oc_turn.specs.Looks.{LooksOnly, LookStops}
+use Rattle.oc_answer.specs.Cuts.{reply_under}
 use Rattle.oc_answer.specs.Replying.{Replied, ReplyStops, kept_back, sender_of}
 use Rattle.oc_turn.specs.Scenes.{Did, EndsStill, LineStops, MeetsFull, Scene, Stops, TakesOne, scene}
 use Rattle.oc_turn.specs.Deeds.{sight_of}
@@ -107,11 +108,6 @@ module _ {D K : Type 0} (view : D → DiskView) (takes fails : K → List ℕ �
           (replied.looks.node (all_honest view (disks_of k0) (disks_of k1) took.kept.goes_on honest) ∙ took.kept.node honest)
           ∙ ap (λ (ms : List Message). sight_of (step (node_of k0) i).node (with_messages o ms) (outside_of st2 f2 seconds millis)) (back_is i outcome.sends)
           ∙ ap (λ (x : OutcomeView). sight_of (step (node_of k0) i).node (with_messages o (for_outbox i x.sends)) (outside_of st2 f2 seconds millis)) (took.kept.outcome_is honest)
-
--- what is under way where a reply ends
-abbrev pub reply_under : TurnEnd → Under
-reply_under ends.Sink = Noting (failed_line true)
-reply_under end = Idle
 
 module _ {D K : Type 0} (view : D → DiskView) (takes fails : K → List ℕ → K → Type 0) (count : K → ℕ) where
   -- it ended behind the line of the input

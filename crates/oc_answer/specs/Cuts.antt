@@ -1,5 +1,5 @@
 -- A connection that ended in the midst of a request.
-use Rattle.std.specs.Prelude.{◌≡◌, ℕ, ◌+◌, Bool, Option, Some, None, List, [], ◌∷◌, ◌++◌, length}
+use Rattle.std.specs.Prelude.{◌≡◌, ℕ, ◌+◌, Bool, true, false, Option, Some, None, List, [], ◌∷◌, ◌++◌, length}
 use Rattle.std.specs.Option.{option_map}
 use Rattle.oc_keep.specs.Trials.{after_inputs}
 use Rattle.oc_model.specs.declared.input.Input.{Input}
@@ -14,10 +14,14 @@ use Rattle.oc_outside.specs.LinkCalls.{IsFront, OnCurrent, Told}
 use Rattle.oc_outside.specs.Story.{Connection, Story, closed}
 use Rattle.oc_routes.specs.declared.asks.Asks.{Asks}
 use Rattle.oc_routes.specs.declared.connections.TheConstants.{CONTINUE}
-use Rattle.oc_turn.specs.Deeds.{Deed, Answers, Talks, inputs_of}
+use Rattle.oc_routes.specs.Refusals.{why_text}
+use Rattle.oc_routes.specs.declared.refused.Refused.{Refused}
+use Rattle.oc_turn.specs.declared.ends.TurnEnd.{TurnEnd}
+use Rattle.oc_turn.specs.declared.ends.TurnEnd.TheVariants as ends
+use Rattle.oc_turn.specs.Deeds.{Deed, Answers, Talks, Under, Idle, Noting, Taking, failed_line, inputs_of, note_line}
 use Rattle.oc_turn.specs.Lines.{input_in}
 use Rattle.oc_answer.specs.declared.requests.Request.{Request}
-use Rattle.oc_answer.specs.Hearing.{Terms, HearsRequest}
+use Rattle.oc_answer.specs.Hearing.{Terms, HearsRequest, IsRefused, SaysOn}
 use Rattle.oc_answer.specs.Serving.{Fits, KeepOn, is_sealed, response_for, whole_text}
 
 -- these bytes were written on a connection, if there is one, whatever was read
@@ -42,52 +46,77 @@ OnlyLeave old new = WritesFront CONTINUE.now old new
 abbrev pub answer_text : List (List ℕ) → Asks → Bool → Input → Node → List ℕ
 answer_text addresses asked last i n = whole_text asked (response_for addresses asked last i n) (step n i).node.groups
 
--- the input of a request was heard and taken, and a front of the text of its step's outcome was written
-pub record IsCutReply (t : Terms) (addresses : List (List ℕ)) (number : ℕ) (i : Input) (n : Node) (old new : Option Story) : Type 0 where
+-- some front of a reply was written on the current connection, whose writing ended so; where the output failed, in the line of a write
+-- that failed, that write did
+abbrev pub WritesUntil : TurnEnd → List ℕ → Option Story → Option Story → Type 0
+WritesUntil ends.Sink text old new = SaysOn false text old new
+WritesUntil end text old new = WritesFront text old new
+
+-- the input of a request was heard and taken, and a front of the text of its step's outcome was written until it ended so
+pub record IsCutReply (t : Terms) (addresses : List (List ℕ)) (number : ℕ) (i : Input) (end : TurnEnd) (n : Node) (old new : Option Story) : Type 0 where
   pub asked : Asks
   pub last : Bool
   pub between : Option Story
   pub heard : HearsRequest t number asked (Some i) last old between
-  pub wrote : WritesFront (answer_text addresses asked last i n) between new
+  pub wrote : WritesUntil end (answer_text addresses asked last i n) between new
 
--- What the deed of a request that ended in its midst is on its connection: its input was taken, and a front of its reply was written; or
--- none was taken, and nothing was written but the leave to send its body.
-abbrev pub CutsOff : Terms → List (List ℕ) → ℕ → Deed → Node → Option Story → Option Story → Type 0
-CutsOff t addresses number (Answers i failed) n old new = IsCutReply t addresses number i n old new
-CutsOff t addresses number Talks n old new = OnlyLeave old new
-CutsOff t addresses number d n old new = ⊥
+-- what is under way where a reply ends so: the line of a write that failed, where the output failed, and else nothing
+abbrev pub reply_under : TurnEnd → Under
+reply_under ends.Sink = Noting (failed_line true)
+reply_under end = Idle
+
+-- What was read of a request of which no input was taken, by what was under way where it ended so: the input that it asks for, the line
+-- of what refuses it, or nothing, for want of memory.
+abbrev pub CutsHearing : Terms → ℕ → TurnEnd → Under → Option Story → Option Story → Type 0
+CutsHearing t number end Idle old new = end ≡ ends.Memory
+CutsHearing t number end (Taking i) old new = (asked : Asks) × (last : Bool) × HearsRequest t number asked (Some i) last old new
+CutsHearing t number end (Noting line) old new = (refused : Refused) × IsRefused t number refused old new × (line ≡ note_line (why_text refused))
+
+-- What the deed of a request that ended so in its midst, with this under way, is on its connection: its input was taken, and a front of
+-- its reply was written; or none was taken, and nothing was written but the leave to send its body.
+abbrev pub CutsOff : Terms → List (List ℕ) → ℕ → TurnEnd → Under → Deed → Node → Option Story → Option Story → Type 0
+CutsOff t addresses number end under (Answers i failed) n old new = IsCutReply t addresses number i end n old new × (under ≡ reply_under end)
+CutsOff t addresses number end under Talks n old new = OnlyLeave old new × CutsHearing t number end under old new
+CutsOff t addresses number end under d n old new = ⊥
 
 -- the same of an input, from the moment on at which its request was read
-abbrev pub CutsInput : List (List ℕ) → Asks → Bool → Input → Deed → Node → Option Story → Option Story → Type 0
-CutsInput addresses asked last i (Answers j failed) n old new = (j ≡ i) × WritesFront (answer_text addresses asked last i n) old new
-CutsInput addresses asked last i Talks n old new = new ≡ old
-CutsInput addresses asked last i d n old new = ⊥
+abbrev pub CutsInput : List (List ℕ) → Asks → Bool → Input → TurnEnd → Under → Deed → Node → Option Story → Option Story → Type 0
+CutsInput addresses asked last i end under (Answers j failed) n old new = (j ≡ i) × WritesUntil end (answer_text addresses asked last i n) old new × (under ≡ reply_under end)
+CutsInput addresses asked last i end under Talks n old new = (new ≡ old) × (under ≡ Taking i)
+CutsInput addresses asked last i end under d n old new = ⊥
+
+-- the input of a request that was read is under way, or nothing, for want of memory
+abbrev pub IsUnderOf : Request → TurnEnd → Under → Type 0
+IsUnderOf request end Idle = end ≡ ends.Memory
+IsUnderOf request end (Taking i) = input_in request.entry ≡ Some i
+IsUnderOf request end (Noting line) = ⊥
 
 -- and of a request that was read
-abbrev pub CutsReply : List (List ℕ) → Request → Deed → Node → Option Story → Option Story → Type 0
-CutsReply addresses request (Answers i failed) n old new = (input_in request.entry ≡ Some i) × WritesFront (answer_text addresses request.asks request.last i n) old new
-CutsReply addresses request Talks n old new = new ≡ old
-CutsReply addresses request d n old new = ⊥
+abbrev pub CutsReply : List (List ℕ) → Request → TurnEnd → Under → Deed → Node → Option Story → Option Story → Type 0
+CutsReply addresses request end under (Answers i failed) n old new =
+    (input_in request.entry ≡ Some i) × WritesUntil end (answer_text addresses request.asks request.last i n) old new × (under ≡ reply_under end)
+CutsReply addresses request end under Talks n old new = (new ≡ old) × IsUnderOf request end under
+CutsReply addresses request end under d n old new = ⊥
 
--- a front of the response to this answer of a step, and to this message that goes back to a sender, was written
-abbrev pub CutsResponse : List (List ℕ) → Asks → Bool → Answer → Option Message → List Group → Option Story → Option Story → Type 0
-CutsResponse addresses asked last answer reply groups old new =
+-- a front of the response to this answer of a step, and to this message that goes back to a sender, was written until it ended so
+abbrev pub CutsResponse : List (List ℕ) → Asks → Bool → Answer → Option Message → List Group → TurnEnd → Option Story → Option Story → Type 0
+CutsResponse addresses asked last answer reply groups end old new =
     Fits asked (response_to asked answer reply (is_sealed asked (shelf groups)) addresses last).content groups
-    → WritesFront (whole_text asked (response_to asked answer reply (is_sealed asked (shelf groups)) addresses last) groups) old new
+    → WritesUntil end (whole_text asked (response_to asked answer reply (is_sealed asked (shelf groups)) addresses last) groups) old new
 
--- requests that kept the connection, and one that ended in its midst
-pub record CutsAll (t : Terms) (addresses : List (List ℕ)) (ds : List Deed) (n : Node) (old new : Option Story) : Type 0 where
+-- requests that kept the connection, and one that ended so in its midst
+pub record CutsAll (t : Terms) (addresses : List (List ℕ)) (end : TurnEnd) (under : Under) (ds : List Deed) (n : Node) (old new : Option Story) : Type 0 where
   pub before : List Deed
   pub last : Deed
   pub between : Option Story
   pub deeds_are : ds ≡ before ++ last ∷ []
   pub kept : KeepOn t addresses 1 before n old between
-  pub cut : CutsOff t addresses (length before + 1) last (after_inputs n (inputs_of before)) between new
+  pub cut : CutsOff t addresses (length before + 1) end under last (after_inputs n (inputs_of before)) between new
 
 -- the deeds of such a connection: those of its requests, and its end
-pub record IsCutConnection (t : Terms) (addresses : List (List ℕ)) (ds : List Deed) (n : Node) (old new : Option Story) : Type 0 where
+pub record IsCutConnection (t : Terms) (addresses : List (List ℕ)) (end : TurnEnd) (under : Under) (ds : List Deed) (n : Node) (old new : Option Story) : Type 0 where
   pub requests : List Deed
   pub between : Option Story
   pub deeds_are : ds ≡ requests ++ Talks ∷ []
-  pub cut : CutsAll t addresses requests n old between
+  pub cut : CutsAll t addresses end under requests n old between
   pub closed_is : new ≡ option_map closed between

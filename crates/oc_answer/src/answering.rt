@@ -58,7 +58,7 @@ pub(crate) fn serve_request<D: Disk, L: Link, K: Sink>(
         → EndsStill D.view K.takes K.fails K.faults addresses end (deed ∷ []) under
         (scene kept.old outbox.old sink.old (outside_of (L.story link.old) (L.faults link.old) seconds millis))
         (scene kept.new outbox.new sink.new (outside_of (L.story link.new) (L.faults link.new) seconds millis)))
-        × (IsHonest D.view kept.old → CutsOff (terms kept.old config.now.rules) config.now.addresses number deed (node_of kept.old)
+        × (IsHonest D.view kept.old → CutsOff (terms kept.old config.now.rules) config.now.addresses number end under deed (node_of kept.old)
         (L.story link.old) (L.story link.new))) }
     ensures count { CountsTalking (L.faults link.old) (L.faults link.new) }
 {
@@ -126,7 +126,7 @@ fn answer<D: Disk, L: Link, K: Sink>(
         → EndsStill D.view K.takes K.fails K.faults addresses end (deed ∷ []) under
         (scene kept.old outbox.old sink.old (outside_of (L.story link.old) (L.faults link.old) seconds millis))
         (scene kept.new outbox.new sink.new (outside_of (L.story link.new) (L.faults link.new) seconds millis)))
-        × (IsHonest D.view kept.old → CutsReply config.now.addresses request deed (node_of kept.old)
+        × (IsHonest D.view kept.old → CutsReply config.now.addresses request end under deed (node_of kept.old)
         (L.story link.old) (L.story link.new))) }
     ensures count { CountsTalking (L.faults link.old) (L.faults link.new) }
 {
@@ -196,7 +196,7 @@ fn answer_input<D: Disk, L: Link, K: Sink>(
         → EndsStill D.view K.takes K.fails K.faults addresses end (deed ∷ []) under
         (scene kept.old outbox.old sink.old (outside_of (L.story link.old) (L.faults link.old) seconds millis))
         (scene kept.new outbox.new sink.new (outside_of (L.story link.new) (L.faults link.new) seconds millis)))
-        × (IsHonest D.view kept.old → CutsInput config.now.addresses asks.now last entry.input deed (node_of kept.old)
+        × (IsHonest D.view kept.old → CutsInput config.now.addresses asks.now last entry.input end under deed (node_of kept.old)
         (L.story link.old) (L.story link.new))) }
     ensures count { CountsTalking (L.faults link.old) (L.faults link.new) }
 {
@@ -227,7 +227,7 @@ fn reply_to<D: Disk, L: Link, K: Sink>(
     ensures replied { IfOk result (λ connection. (failed : Bool) × Replied D.view K.takes K.faults failed kept.old kept.new sink.old sink.new
         × (IsHonest D.view kept.old → Responds config.now.addresses asks.now last answer reply (node_of kept.old).groups
         (not failed) connection (L.story link.old) (L.story link.new))) }
-    ensures cut { OnErr result (IsHonest D.view kept.old → CutsResponse config.now.addresses asks.now last answer reply (node_of kept.old).groups
+    ensures cut { IfErr result (λ end. IsHonest D.view kept.old → CutsResponse config.now.addresses asks.now last answer reply (node_of kept.old).groups end
         (L.story link.old) (L.story link.new)) }
     ensures stops { IfErr result (λ end. ReplyStops D.view K.takes K.fails K.faults end kept.old kept.new sink.old sink.new) }
     ensures talked { Talked (L.story link.old) (L.story link.new) (L.faults link.old) (L.faults link.new) }

@@ -43,7 +43,7 @@ pub fn serve_connection<D: Disk, L: Link, K: Sink>(
         → EndsStill D.view K.takes K.fails K.faults addresses end deeds under
         (scene kept.old outbox.old sink.old (outside_of (L.story link.old) (L.faults link.old) seconds millis))
         (scene kept.new outbox.new sink.new (outside_of (L.story link.new) (L.faults link.new) seconds millis)))
-        × (IsHonest D.view kept.old → IsCutConnection (terms kept.old config.now.rules) config.now.addresses deeds (node_of kept.old)
+        × (IsHonest D.view kept.old → IsCutConnection (terms kept.old config.now.rules) config.now.addresses end under deeds (node_of kept.old)
         (L.story link.old) (L.story link.new))) }
     ensures count { CountsTalking (L.faults link.old) (L.faults link.new) }
 {
@@ -75,7 +75,7 @@ fn serve_requests<D: Disk, L: Link, K: Sink>(
         → EndsStill D.view K.takes K.fails K.faults addresses end deeds under
         (scene kept.old outbox.old sink.old (outside_of (L.story link.old) (L.faults link.old) seconds millis))
         (scene kept.new outbox.new sink.new (outside_of (L.story link.new) (L.faults link.new) seconds millis)))
-        × (IsHonest D.view kept.old → CutsAll (terms kept.old config.now.rules) config.now.addresses deeds (node_of kept.old)
+        × (IsHonest D.view kept.old → CutsAll (terms kept.old config.now.rules) config.now.addresses end under deeds (node_of kept.old)
         (L.story link.old) (L.story link.new))) }
     ensures count { CountsTalking (L.faults link.old) (L.faults link.new) }
 {

@@ -13,7 +13,8 @@
 //!
 //! Where it ended in the midst of a request, `specs/Cuts` says what was written of that
 //! (`IsCutConnection`): where its input was taken, with its line, a front of the text of its step's outcome;
-//! and else nothing but the leave to send its body.
+//! and else nothing but the leave to send its body. An input that was under way then is the one that the
+//! request asks for, as it was read, and a line of no input is that of a refusal or of a write that failed.
 #![tactic(auto)]
 
 mod answering;

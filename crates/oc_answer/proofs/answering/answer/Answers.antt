@@ -1,4 +1,4 @@
-use Rattle.std.proofs.Common.{[], ◌∷◌, ℕ, List, ap, subst, sym}
+use Rattle.std.proofs.Common.{[], ◌∷◌, ℕ, List, ap, refl, subst, sym}
 use Rattle.oc_keep.specs.KeptView.{IsHonest, node_of}
 use Rattle.oc_outside.specs.ClockView.{Series}
 use Rattle.oc_turn.specs.declared.ends.TurnEnd.{TurnEnd}
@@ -40,7 +40,7 @@ returns-in-Some-clause-stops g c =
       d.2,
       d.3,
       λ honest.
-          cuts_input a.config.now.addresses a.request c.in-Some.entry.input d.0 (node_of a.kept.now) (g.L.Link.story a.link.now) (g.L.Link.story c.answer_input.new.link) (ap input_in c.in-Some.is) (d.4 honest),
+          cuts_input a.config.now.addresses a.request c.in-Some.entry.input end d.1 d.0 (node_of a.kept.now) (g.L.Link.story a.link.now) (g.L.Link.story c.answer_input.new.link) (ap input_in c.in-Some.is) (d.4 honest),
     )) c.answer_input.ensures.stops
 
 pub returns-in-None-clause-stops : goal.returns-in-None-clause-stops
@@ -52,12 +52,12 @@ returns-in-None-clause-stops g c =
     err_then c.show.result (λ end both.
     subst (λ (e : TurnEnd). (deed : Deed) × (under : Under) × IsRequest deed × ((addresses : List (List ℕ)) (seconds millis : Series)
     → EndsStill g.D.Disk.view g.K.Sink.takes g.K.Sink.fails g.K.Sink.faults addresses e (deed ∷ []) under (scene a.kept.now a.outbox.now a.sink.now (outside_of (story a.link.now) (faults a.link.now) seconds millis)) (scene a.kept.now a.outbox.now a.sink.now (outside_of (story n.link) (faults n.link) seconds millis)))
-    × (IsHonest g.D.Disk.view a.kept.now → CutsReply a.config.now.addresses a.request deed (node_of a.kept.now) (story a.link.now) (story n.link))) (sym both.0) (
+    × (IsHonest g.D.Disk.view a.kept.now → CutsReply a.config.now.addresses a.request e under deed (node_of a.kept.now) (story a.link.now) (story n.link))) (sym both.0) (
       Talks,
       Idle,
       tt,
       λ addresses seconds millis.
           talk_still g.D.Disk.view g.K.Sink.takes g.K.Sink.fails g.K.Sink.faults addresses g.met.K.Sink.takes_nothing ends.Memory Idle a.kept.now a.kept.now a.outbox.now a.outbox.now a.sink.now a.sink.now (story a.link.now) (story n.link) (faults a.link.now) (faults n.link) seconds millis
           c.requires.open c.show.ensures.talked (memory_ends g.D.Disk.view g.K.Sink.takes g.K.Sink.fails g.K.Sink.faults [] g.met.K.Sink.takes_nothing a.kept.now a.sink.now (c.node-node.ensures.survives c.requires.open)),
-      λ honest. both.1,
+      λ honest. (both.1, refl),
     )) (err_with _ _ c.show.result c.show.ensures.memory c.show.ensures.silent)

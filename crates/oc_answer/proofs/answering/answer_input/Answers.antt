@@ -2,9 +2,10 @@ use Rattle.std.proofs.Common.{false, rules, not, refl}
 use Rattle.std.proofs.lemmas.Result.{err_from_is_err_and}
 use Rattle.oc_turn.specs.Deeds.{Answers, Taking, Talks}
 use Rattle.oc_turn.proofs.Talks.{talked_none}
-use Rattle.oc_turn.proofs.Results.{err_then, err_with, ok_then}
+use Rattle.oc_turn.proofs.Results.{err_both, err_then, ok_then}
 use Rattle.oc_answer.proofs.Answered.{cut_to, replied_to, text_back}
-use Rattle.oc_answer.proofs.Talking.{did_answer_as, reply_still, reply_under, talk_still}
+use Rattle.oc_answer.proofs.Talking.{did_answer_as, reply_still, talk_still}
+use Rattle.oc_answer.specs.Cuts.{reply_under}
 use Rattle.oc_answer.proofs.answering.answer_input.Goals as goal
 
 pub returns-clause-did : goal.returns-clause-did
@@ -38,10 +39,11 @@ returns-clause-stops g c =
           (search rules) c.requires.open c.in_ok-outcome.ensures.took both.0 c.reply_to.ensures.talked,
       λ honest. (
         refl,
-        cut_to g.D.Disk.view a.kept.now c.take.new.kept a.entry.input c.in_ok-outcome.outcome a.config.now.addresses a.asks.now a.last _ _ (story a.link.now) (story r.link) both.1
+        cut_to g.D.Disk.view a.kept.now c.take.new.kept a.entry.input c.in_ok-outcome.outcome a.config.now.addresses a.asks.now a.last _ _ end (story a.link.now) (story r.link) both.1
             c.in_ok-outcome.ensures.took.kept (search rules) (search rules) c.requires.belongs honest,
+        refl,
       ),
-    )) (err_with _ _ c.reply_to.result c.reply_to.ensures.stops c.reply_to.ensures.cut)
+    )) (err_both _ _ c.reply_to.result c.reply_to.ensures.stops c.reply_to.ensures.cut)
 
 pub returns-in_err-outcome-clause-stops : goal.returns-in_err-outcome-clause-stops
 returns-in_err-outcome-clause-stops g c =
@@ -56,7 +58,7 @@ returns-in_err-outcome-clause-stops g c =
       λ addresses seconds millis.
           talk_still g.D.Disk.view g.K.Sink.takes g.K.Sink.fails g.K.Sink.faults addresses g.met.K.Sink.takes_nothing c.in_err-outcome.field-0.0 (Taking a.entry.input) a.kept.now c.take.new.kept a.outbox.now a.outbox.now a.sink.now c.take.new.sink story story faults faults seconds millis
           c.requires.open (talked_none story faults) (c.in_err-outcome.ensures.stops, c.in_err-outcome.ensures.meets),
-      λ honest. refl,
+      λ honest. (refl, refl),
     )
 
 pub reply_to-requires-clause-text : goal.reply_to-requires-clause-text

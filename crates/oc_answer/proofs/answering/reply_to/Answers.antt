@@ -4,9 +4,9 @@ use Rattle.oc_base.specs.Groups.{shelf}
 use Rattle.oc_keep.specs.KeptView.{node_of}
 use Rattle.oc_routes.specs.Responses.{response_to}
 use Rattle.oc_answer.specs.Serving.{is_sealed}
-use Rattle.oc_answer.proofs.Answered.{reply_cut, reply_said, response_cut}
+use Rattle.oc_answer.proofs.Answered.{line_cut, looks_cut, reply_cut, reply_said, response_cut}
 use Rattle.oc_answer.proofs.Talking.{line_reply, look_reply, memory_reply}
-use Rattle.oc_answer.proofs.Written.{front_none, front_said}
+use Rattle.oc_answer.proofs.Written.{front_none}
 use Rattle.oc_answer.proofs.answering.reply_to.Goals as goal
 
 pub returns-in_err-response-clause-stops : goal.returns-in_err-response-clause-stops
@@ -47,18 +47,20 @@ returns-in_err-write_line-clause-stops g c =
 pub returns-in_err-response-clause-cut : goal.returns-in_err-response-clause-cut
 returns-in_err-response-clause-cut g c =
     let p = err_from_is_err_and c.from_residual.result c.from_residual.ensures.1 in
-    rw p.1 (λ honest fits. front_none _ (g.L.Link.story c.args.link.now) (g.L.Link.story c.args.link.now) refl)
+    rw (p.1, p.2) (λ honest fits. front_none _ (g.L.Link.story c.args.link.now) (g.L.Link.story c.args.link.now) refl)
 
 pub returns-in_err-whole-clause-cut : goal.returns-in_err-whole-clause-cut
 returns-in_err-whole-clause-cut g c =
     let p = err_from_is_err_and c.from_residual-in_err-whole.result c.from_residual-in_err-whole.ensures.1 in
-    rw p.1 (λ honest.
-    response_cut c.args.asks.now c.in_ok-response.response (response_to c.args.asks.now c.args.answer c.args.reply (is_sealed c.args.asks.now (shelf (node_of c.args.kept.now).groups)) c.args.config.now.addresses c.args.last) (node_of c.args.kept.now).groups (g.L.Link.story c.args.link.now) (g.L.Link.story c.send_response.new.link)
-    (let groups = c.shelf.ensures.groups honest in search rules) (c.in_err-whole.ensures.cut honest))
+    rw (p.1, p.2) (λ honest.
+    response_cut c.args.asks.now c.in_ok-response.response (response_to c.args.asks.now c.args.answer c.args.reply (is_sealed c.args.asks.now (shelf (node_of c.args.kept.now).groups)) c.args.config.now.addresses c.args.last) (node_of c.args.kept.now).groups c.in_err-whole.field-0.0 (g.L.Link.story c.args.link.now) (g.L.Link.story c.send_response.new.link)
+    (let groups = c.shelf.ensures.groups honest in search rules)
+    (λ fits. looks_cut g.D.Disk.view c.in_err-whole.field-0.0 c.args.kept.now c.send_response.new.kept _ (g.L.Link.story c.args.link.now) (g.L.Link.story c.send_response.new.link) c.in_err-whole.ensures.stops (c.in_err-whole.ensures.cut honest fits)))
 
 pub returns-in_err-write_line-clause-cut : goal.returns-in_err-write_line-clause-cut
 returns-in_err-write_line-clause-cut g c =
     let p = err_from_is_err_and c.from_residual-in_err-write_line.result c.from_residual-in_err-write_line.ensures.1 in
-    rw p.1 (λ honest.
-    response_cut c.args.asks.now c.in_ok-response.response (response_to c.args.asks.now c.args.answer c.args.reply (is_sealed c.args.asks.now (shelf (node_of c.args.kept.now).groups)) c.args.config.now.addresses c.args.last) (node_of c.args.kept.now).groups (g.L.Link.story c.args.link.now) (g.L.Link.story c.send_response.new.link)
-    (let groups = c.shelf.ensures.groups honest in search rules) (λ fits. front_said c.in_ok-whole.whole _ (g.L.Link.story c.args.link.now) (g.L.Link.story c.send_response.new.link) (c.in_ok-whole.ensures.said honest fits)))
+    rw (p.1, p.2) (λ honest.
+    response_cut c.args.asks.now c.in_ok-response.response (response_to c.args.asks.now c.args.answer c.args.reply (is_sealed c.args.asks.now (shelf (node_of c.args.kept.now).groups)) c.args.config.now.addresses c.args.last) (node_of c.args.kept.now).groups c.in_err-write_line.field-0.0 (g.L.Link.story c.args.link.now) (g.L.Link.story c.send_response.new.link)
+    (let groups = c.shelf.ensures.groups honest in search rules)
+    (λ fits. line_cut g.K.Sink.takes g.K.Sink.fails g.K.Sink.faults c.in_err-write_line.field-0.0 _ c.args.sink.now c.write_line.new.sink c.in_ok-whole.whole _ (g.L.Link.story c.args.link.now) (g.L.Link.story c.send_response.new.link) c.in_err-write_line.ensures.stops (search rules) (c.in_ok-whole.ensures.said honest fits)))

@@ -11,7 +11,7 @@ use Rattle.oc_routes.specs.declared.connections.TheConstants.{CONTINUE}
 use Rattle.oc_turn.specs.declared.ends.TurnEnd.TheVariants as ends
 use Rattle.oc_answer.specs.Serving.{terms}
 use Rattle.oc_answer.proofs.Written.{front_still}
-use Rattle.oc_answer.proofs.Served.{cuts_read, did_behind, reads_as, serves_read, still_behind}
+use Rattle.oc_answer.proofs.Served.{cuts_read, did_behind, reads_as, refused_at, serves_read, still_behind}
 use Rattle.oc_turn.proofs.Scenes.{memory_ends}
 use Rattle.oc_answer.proofs.Talking.{counts_then, talk_did, talk_still}
 use Rattle.oc_answer.proofs.answering.serve_request.Goals as goal
@@ -50,7 +50,7 @@ returns-in-Ok-Some-clause-stops g c =
       λ addresses seconds millis.
           still_behind g.D.Disk.view g.K.Sink.takes g.K.Sink.fails g.K.Sink.faults addresses end d.1 d.0 a.kept.now a.outbox.now a.sink.now (outside_of (story a.link.now) (faults a.link.now) seconds millis) (outside_of (story r.new.link) (faults r.new.link) seconds millis)
           (scene n.kept n.outbox n.sink (outside_of (story n.link) (faults n.link) seconds millis)) d.2 (talks_only (story a.link.now) (story r.new.link) (faults a.link.now) (faults r.new.link) seconds millis r.ensures.talked) (d.3 addresses seconds millis),
-      λ honest. cuts_read t a.config.now.addresses a.number c.in-Ok-Some.request d.0 (node_of a.kept.now) (story a.link.now) (story r.new.link) (story n.link) reads r.ensures.leave (d.4 honest),
+      λ honest. cuts_read t a.config.now.addresses a.number c.in-Ok-Some.request end d.1 d.0 (node_of a.kept.now) (story a.link.now) (story r.new.link) (story n.link) reads r.ensures.leave (d.4 honest),
     )) c.answer.ensures.stops
 
 pub returns-in-Ok-Some-clause-count : goal.returns-in-Ok-Some-clause-count
@@ -100,6 +100,8 @@ returns-in-Err-Refused-clause-stops g c =
     let r = c.read_request in
     let n = c.refuse.new in
     let why = why_text c.in-Err-Refused.refused in
+    let t = terms a.kept.now a.config.now.rules in
+    let reads = reads_as c.id-me.result c.nodes-nodes.result a.kept.now.node.control.me a.kept.now.node.control.nodes a.number c.deref.result.now a.config.now.rules r.result (Err (route.Refused c.in-Err-Refused.refused)) (story a.link.now) (story r.new.link) (search rules) (search rules) (search rules) (search rules) r.ensures.reads in
     err_then c.refuse.result (λ end both. (
       Talks,
       note_under end (note_line why),
@@ -108,7 +110,10 @@ returns-in-Err-Refused-clause-stops g c =
           talk_still g.D.Disk.view g.K.Sink.takes g.K.Sink.fails g.K.Sink.faults addresses g.met.K.Sink.takes_nothing end (note_under end (note_line why)) a.kept.now a.kept.now a.outbox.now a.outbox.now a.sink.now n.sink (story a.link.now) (story n.link) (faults a.link.now) (faults n.link) seconds millis
           c.requires.open (talked_then (story a.link.now) (story r.new.link) (story n.link) (faults a.link.now) (faults r.new.link) (faults n.link) r.ensures.talked c.refuse.ensures.talked)
           (note_ends g.D.Disk.view g.K.Sink.takes g.K.Sink.fails g.K.Sink.faults g.met.K.Sink.takes_nothing end why a.kept.now a.sink.now n.sink (c.node-node.ensures.survives c.requires.open) both.0),
-      λ honest. front_still CONTINUE.now (story a.link.now) (story r.new.link) (story n.link) r.ensures.leave both.1,
+      λ honest. (
+        front_still CONTINUE.now (story a.link.now) (story r.new.link) (story n.link) r.ensures.leave both.1,
+        refused_at t a.number c.in-Err-Refused.refused g.K.Sink.takes g.K.Sink.fails g.K.Sink.faults end (story a.link.now) (story r.new.link) (story n.link) a.sink.now n.sink both.1 reads both.0,
+      ),
     )) (err_with _ _ c.refuse.result c.refuse.ensures.stops c.refuse.ensures.silent)
 
 pub returns-in-Err-Refused-clause-count : goal.returns-in-Err-Refused-clause-count
@@ -128,5 +133,5 @@ returns-in-Err-Memory-clause-stops g c =
       λ addresses seconds millis.
           talk_still g.D.Disk.view g.K.Sink.takes g.K.Sink.fails g.K.Sink.faults addresses g.met.K.Sink.takes_nothing ends.Memory Idle a.kept.now a.kept.now a.outbox.now a.outbox.now a.sink.now a.sink.now (story a.link.now) (story r.new.link) (faults a.link.now) (faults r.new.link) seconds millis
           c.requires.open r.ensures.talked (memory_ends g.D.Disk.view g.K.Sink.takes g.K.Sink.fails g.K.Sink.faults [] g.met.K.Sink.takes_nothing a.kept.now a.sink.now (c.node-node.ensures.survives c.requires.open)),
-      λ honest. r.ensures.leave,
+      λ honest. (r.ensures.leave, refl),
     )

@@ -120,8 +120,8 @@ returns-in_err-next-clause-stops g c =
         between = story m.link;
         deeds_are = refl;
         kept = far.4 honest;
-        cut = subst (λ (k : ℕ). CutsOff (terms a.kept.now a.config.now.rules) a.config.now.addresses k d.0 (after_inputs (node_of a.kept.now) (inputs_of far.0)) (story m.link) (story new.link)) (omega (arith, far.2))
-            (cuts_then g.D.Disk.view g.K.Sink.takes g.K.Sink.fails g.K.Sink.faults a.config.now.rules a.config.now.addresses (m.served + 1) far.0 d.0
+        cut = subst (λ (k : ℕ). CutsOff (terms a.kept.now a.config.now.rules) a.config.now.addresses k c.in_err-next.field-0.0 d.1 d.0 (after_inputs (node_of a.kept.now) (inputs_of far.0)) (story m.link) (story new.link)) (omega (arith, far.2))
+            (cuts_then g.D.Disk.view g.K.Sink.takes g.K.Sink.fails g.K.Sink.faults a.config.now.rules a.config.now.addresses (m.served + 1) c.in_err-next.field-0.0 d.1 far.0 d.0
             (scene a.kept.now a.outbox.now a.sink.now (outside_of (story a.link.now) (faults a.link.now) untold untold)) (scene m.kept m.outbox m.sink (outside_of (story m.link) (faults m.link) untold untold)) (story m.link) (story new.link)
             (far.3 [] untold untold) honest d.4);
       },

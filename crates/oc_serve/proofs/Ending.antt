@@ -14,7 +14,7 @@ use Rattle.oc_serve.specs.Turns.{end_with}
 
 module _ {D K : Type 0} (view : D → DiskView) (takes fails : K → List ℕ → K → Type 0) (count : K → ℕ) (addresses : List (List ℕ)) (rules : List Rule) (had has : Option Probing) (old new : Scene D K) where
   -- it ended in its midst
-  stopped_end : (end : TurnEnd) → StopsTurn view takes fails count addresses rules end old new → TurnEnds view takes fails count addresses rules had has end old new
+  stopped_end : (end : TurnEnd) → StopsTurn view takes fails count addresses rules had end old new → TurnEnds view takes fails count addresses rules had has end old new
   stopped_end ends.Served (deeds, under, at, did, part, breaks) = absurd breaks.stops.cause
   stopped_end ends.Quiet (deeds, under, at, did, part, breaks) = absurd breaks.stops.cause
   stopped_end ends.Link stopped = stopped
@@ -28,7 +28,7 @@ module _ {D K : Type 0} (view : D → DiskView) (takes fails : K → List ℕ �
   done_end arrivals.Quiet did renews = (did, renews)
 
   pub turn_ends : (r : Result Arrival TurnEnd) → IfOk r (λ arrival. MakesTurn view takes count addresses rules had has arrival old new)
-      → IfErr r (λ end. StopsTurn view takes fails count addresses rules end old new)
+      → IfErr r (λ end. StopsTurn view takes fails count addresses rules had end old new)
       → OnOk r (Renews view old.kept new.kept) → TurnEnds view takes fails count addresses rules had has (ended_with r) old new
   turn_ends (Ok arrival) did stopped renews = done_end arrival did renews
   turn_ends (Err end) did stopped renews = stopped_end end stopped

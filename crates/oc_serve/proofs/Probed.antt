@@ -20,11 +20,11 @@ use Rattle.oc_probe.specs.declared.probing.Probing.{Probing}
 use Rattle.oc_probe.specs.declared.fault.ProbeFault.{ProbeFault}
 use Rattle.oc_probe.specs.declared.fault.ProbeFault.TheVariants as faults
 use Rattle.oc_turn.specs.declared.ends.TurnEnd.{TurnEnd}
-use Rattle.oc_turn.specs.Deeds.{Deed, Notes, Outside, Under, note_line, ProbeCause, Probes, Takes, address_in, outside_of}
+use Rattle.oc_turn.specs.Deeds.{Deed, EndsAt, Noting, Notes, Outside, Under, note_line, ProbeCause, Probes, Takes, address_in, outside_of}
 use Rattle.oc_turn.specs.Scenes.{BreaksOff, Did, NotesOne, NoteStops, Scene, scene, setting}
 use Rattle.oc_serve.specs.Turns.{IsMadeFor, ProbesAny, ProbesNext, ProbesPeer, probe_note}
 use Rattle.oc_turn.proofs.Scenes.{breaks_still, did_then}
-use Rattle.oc_turn.proofs.Steps.{did_note, did_silent, note_ends, note_under}
+use Rattle.oc_turn.proofs.Steps.{did_note, did_silent, note_at, note_ends, note_under}
 use Rattle.oc_turn.proofs.Talks.{talked_none, talks_only}
 
 cause_is : (came : Result ℕ ProbeFault) (f f2 : LinkFaults) → (came ≡ Err faults.Link → Rose f.dialling f2.dialling) → ProbeCause came f f2
@@ -96,12 +96,14 @@ module _ {D K : Type 0} (view : D → DiskView) (takes fails : K → List ℕ �
   )
 
   -- it ended in the line that tells its fault
-  pub told_breaks : (takes_nothing : (k : K) → takes k [] k) (ds : List Deed) (end : TurnEnd) (why : List ℕ) (a : Scene D K) (k : KeptView D) (o : List Message) (s s2 : K) (out : Outside)
-      → Did view takes count addresses ds a (scene k o s out) → (IsHonest view k → NodeSurvives view k (node_of k)) → NoteStops takes fails count end why s s2
-      → (under : Under) × BreaksOff view takes fails count addresses ⊥ end ds under a (scene k o s2 out)
-  told_breaks takes_nothing ds end why a k o s s2 out did survives stops =
+  pub told_breaks : (takes_nothing : (k : K) → takes k [] k) (ds : List Deed) (end : TurnEnd) (peer : ℕ) (word is : List ℕ) (a : Scene D K) (k : KeptView D) (o : List Message) (s s2 : K) (out : Outside) → word ≡ is
+      → Did view takes count addresses ds a (scene k o s out) → (IsHonest view k → NodeSurvives view k (node_of k)) → NoteStops takes fails count end (probe_note peer word) s s2
+      → (under : Under) × EndsAt end (Noting (note_line (probe_note peer is))) under × BreaksOff view takes fails count addresses ⊥ end ds under a (scene k o s2 out)
+  told_breaks takes_nothing ds end peer word is a k o s s2 out same did survives stops =
+      let why = probe_note peer word in
       let e = note_ends view takes fails count takes_nothing end why k s s2 survives stops in (
         note_under end (note_line why),
+        subst (λ (w : List ℕ). EndsAt end (Noting (note_line (probe_note peer w))) (note_under end (note_line why))) same (note_at takes fails count end why s s2 stops),
         (scene k o s out, did, breaks_still view takes fails count addresses end (note_under end (note_line why)) k k o o s s2 out out e.0 e.1 refl),
       )
 

@@ -1,18 +1,22 @@
 -- What a turn does by itself leaves the connections that were taken as they are.
-use Rattle.std.proofs.Common.{◌≡◌, ◌⊎◌, ℕ, ◌<◌, Option, Some, None, Result, Ok, Err, List, [], ◌∷◌, ◌++◌, inl, inr, refl, sym, ap, subst, ◌∙◌, slice_get, length}
+use Rattle.std.proofs.Common.{◌≡◌, ℕ, Option, Some, None, Result, Ok, Err, List, [], ◌∷◌, inl, inr, refl, sym, ap, subst, ◌∙◌, slice_get}
 use Rattle.std.specs.List.{AllByRecursion}
 use Rattle.oc_model.proofs.Lists.{all_append}
 use Rattle.oc_model.specs.declared.input.Input.{Input}
 use Rattle.oc_outside.specs.LinkCalls.{DialFails, Told}
 use Rattle.oc_outside.specs.Story.{Dial, Story, hung_up}
+use Rattle.oc_outside.specs.declared.link.Arrival.{Arrival}
+use Rattle.oc_outside.specs.declared.link.Arrival.TheVariants as arrivals
 use Rattle.oc_probe.specs.Probes.{AreAny, Asked, IsAnswered, IsUnanswered, Probed}
 use Rattle.oc_http.specs.Writing.{probe_text}
 use Rattle.oc_probe.specs.declared.fault.ProbeFault.{ProbeFault}
 use Rattle.oc_probe.specs.declared.fault.ProbeFault.TheVariants as faults
 use Rattle.oc_probe.specs.declared.probing.Probing.{Probing}
-use Rattle.oc_turn.specs.Deeds.{Answers, Calls, Deed, Dials, DoAll, Does, Empties, Notes, Probes, Reads, Setting, Sight, Takes, Talks, address_in}
+use Rattle.oc_turn.specs.Deeds.{Answers, Calls, Deed, Dials, DoAll, Does, Empties, Notes, Probes, Reads, Setting, Sight, Takes, Talks, Under, address_in}
 use Rattle.oc_turn.specs.Dials.{DialsMessage}
 use Rattle.oc_serve.specs.declared.limits.TheConstants.{MAX_DIALS}
+use Rattle.oc_turn.specs.declared.ends.TurnEnd.{TurnEnd}
+use Rattle.oc_serve.specs.Cuts.{CutsErrand, CutsProbeAt, CutsRest, CutsSending, CutsTickOrSending}
 use Rattle.oc_serve.specs.Served.{IsOwn, SameConnections, SameTaken}
 use Rattle.oc_serve.specs.Turns.{AreSent, Errand, IsProbe, IsTickedAndSent, ProbesAny, ProbesNext, came_deeds, errand_deeds, errands_deeds}
 
@@ -51,14 +55,15 @@ probed_same (Err faults.Link) to a b probed = same_told (DialFails to (probe_tex
 probed_same (Err faults.Memory) to a b (inl is) = same_as a b is
 probed_same (Err faults.Memory) to a b (inr asked) = asked_same to AreAny a b asked
 
--- The tick and the messages
+-- The tick, the messages and the probe
 
--- a deed of the tick or of a message
+-- a deed of the tick, of a message or of a probe that tells nothing yet
 abbrev pub IsAside : Deed → Type 0
 IsAside (Reads t) = Unit {0}
 IsAside (Takes i) = Unit {0}
 IsAside (Dials m came) = Unit {0}
 IsAside Empties = Unit {0}
+IsAside (Probes peer hops came) = Unit {0}
 IsAside d = ⊥
 
 does_aside : (s : Setting) (d : Deed) (a b : Sight) → IsAside d → Does s d a b → SameConnections a.outside.story b.outside.story
@@ -71,7 +76,7 @@ does_aside s Talks a b aside does = absurd aside
 does_aside s (Dials m came) a b aside does =
     same_told (DialsMessage s.nodes s.me (address_in s m.to) m came) (λ x y makes. dial_over x y _ makes.after) a.outside.story b.outside.story does.0.dialled.dialled
 does_aside s Empties a b aside does = same_as a.outside.story b.outside.story (ap (λ (x : Sight). x.outside.story) does.1)
-does_aside s (Probes peer hops came) a b aside does = absurd aside
+does_aside s (Probes peer hops came) a b aside does = probed_same came (address_in s peer) a.outside.story b.outside.story does.1.probed
 
 pub do_aside : (s : Setting) (ds : List Deed) (a c : Sight) → AllByRecursion IsAside ds → DoAll s ds a c → SameConnections a.outside.story c.outside.story
 do_aside s [] a c all is = same_as a.outside.story c.outside.story (ap (λ (x : Sight). x.outside.story) is)
@@ -91,6 +96,30 @@ sent_aside most ds (es, inr (few, is)) = subst (λ (x : List Deed). AllByRecursi
 
 pub ticked_aside : (ds : List Deed) → IsTickedAndSent ds → AllByRecursion IsAside ds
 ticked_aside ds is = subst (λ (x : List Deed). AllByRecursion IsAside x) (sym is.deeds_are) (tt, (tt, sent_aside MAX_DIALS is.sent is.are_sent))
+
+-- The same where a turn ended in its midst
+
+errand_cut : (end : TurnEnd) (ds : List Deed) (under : Under) → CutsErrand end ds under → AllByRecursion IsAside ds
+errand_cut end ds under (inl (none, idle, memory)) = subst (λ (x : List Deed). AllByRecursion IsAside x) (sym none) tt
+errand_cut end ds under (inr (m, i, is, taking)) = subst (λ (x : List Deed). AllByRecursion IsAside x) (sym is) (tt, tt)
+
+sending_cut : (most : ℕ) (end : TurnEnd) (ds : List Deed) (under : Under) → CutsSending most end ds under → AllByRecursion IsAside ds
+sending_cut most end ds under cut =
+    subst (λ (x : List Deed). AllByRecursion IsAside x) (sym cut.deeds_are) (all_append IsAside (errands_deeds cut.errands) cut.last (errands_aside cut.errands) (errand_cut end cut.last under cut.cut))
+
+next_cut : (end : TurnEnd) (ds : List Deed) (under : Under) → CutsTickOrSending end ds under → AllByRecursion IsAside ds
+next_cut end ds under (inl (t, is, at)) = subst (λ (x : List Deed). AllByRecursion IsAside x) (sym is) (tt, tt)
+next_cut end ds under (inr (t, sent, cut, is)) = subst (λ (x : List Deed). AllByRecursion IsAside x) (sym is) (tt, (tt, sending_cut MAX_DIALS end sent under cut))
+
+probe_cut : (had : Option Probing) (arrival : Arrival) (end : TurnEnd) (ds : List Deed) (under : Under) → CutsProbeAt arrival had end ds under → AllByRecursion IsAside ds
+probe_cut (Some had) arrivals.Quiet end ds under (peer, coming, (hops, came, is, at)) = subst (λ (x : List Deed). AllByRecursion IsAside x) (sym is) (tt, tt)
+probe_cut None arrivals.Quiet end ds under none = absurd none
+probe_cut had arrivals.Conn end ds under none = absurd none
+
+pub rest_cut : (had : Option Probing) (arrival : Arrival) (end : TurnEnd) (ds : List Deed) (under : Under) → CutsRest had arrival end ds under → AllByRecursion IsAside ds
+rest_cut had arrival end ds under (inl cut) = next_cut end ds under cut
+rest_cut had arrival end ds under (inr (next, probe, ticks, cut, is)) =
+    subst (λ (x : List Deed). AllByRecursion IsAside x) (sym is) (all_append IsAside next probe (ticked_aside next ticks) (probe_cut had arrival end probe under cut))
 
 -- Deeds of its own
 

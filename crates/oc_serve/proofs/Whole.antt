@@ -12,7 +12,7 @@ use Rattle.oc_outside.specs.declared.link.Arrival.TheVariants as arrivals
 use Rattle.oc_probe.specs.declared.probing.Probing.{Probing}
 use Rattle.oc_turn.specs.declared.ends.TurnEnd.{TurnEnd}
 use Rattle.oc_serve.specs.declared.limits.TheConstants.{MAX_DIALS}
-use Rattle.oc_turn.specs.Deeds.{Calls, Deed, Under, DoAll, Does, Setting, Sight, outside_of, ticked}
+use Rattle.oc_turn.specs.Deeds.{Calls, Deed, Idle, Under, DoAll, Does, Setting, Sight, outside_of, ticked}
 use Rattle.oc_turn.specs.Looks.{LooksOnly}
 use Rattle.oc_turn.specs.Scenes.{Breaks, BreaksOff, Did, Scene, scene, setting, sight}
 use Rattle.oc_io.specs.Faults.{Rose}
@@ -27,9 +27,10 @@ use Rattle.oc_policy.specs.declared.rule.Rule.{Rule}
 use Rattle.oc_turn.proofs.Chains.{do_then}
 use Rattle.oc_serve.specs.Ends.{MakesTurn, StopsTurn, StopsTurns}
 use Rattle.oc_model.proofs.Lists.{all_append}
-use Rattle.oc_serve.proofs.Still.{all_own, do_aside, probes_own, same_then, ticked_aside}
-use Rattle.oc_serve.specs.Served.{IsOwn, IsServed, SameConnections, ServesOne, ServesPart, ServesThen, ServesTurns}
-use Rattle.oc_serve.specs.Turns.{AreSent, AreTurns, Errand, IsArrival, IsOneSent, IsTickedAndSent, IsTurn, ProbesAt, ProbesNext, arrival_of, end_with, errand_deeds, errands_deeds}
+use Rattle.oc_serve.proofs.Still.{all_own, do_aside, probes_own, rest_cut, same_then, ticked_aside}
+use Rattle.oc_serve.specs.Cuts.{CutsErrand, CutsProbeAt, CutsProbing, CutsRest, CutsSending, CutsTickOrSending}
+use Rattle.oc_serve.specs.Served.{CutsBehind, IsOwn, IsServed, SameConnections, ServesOne, ServesPart, ServesThen, ServesTurns}
+use Rattle.oc_serve.specs.Turns.{AreSent, AreTurns, Errand, IsArrival, IsOneSent, IsRest, IsTickedAndSent, IsTurn, ProbesAt, ProbesNext, arrival_of, end_with, errand_deeds, errands_deeds}
 use Rattle.oc_turn.specs.Deeds.{ticked}
 use Rattle.oc_turn.proofs.Scenes.{breaks_as, did_then}
 use Rattle.oc_turn.proofs.Steps.{did_look, did_silent}
@@ -59,6 +60,16 @@ one_more n ds es far (e, is) = record {
 pub no_more : (n most : ℕ) (ds es : List Deed) → n < most → AreSoFar n ds → IsOneSent false es → AreSent most (ds ++ es)
 no_more n most ds es below far is = (far.errands, inr (omega (arith, far.count, below), ap (λ (x : List Deed). x ++ es) far.deeds_are ∙ ap (λ (x : List Deed). errands_deeds far.errands ++ x) is))
 
+-- and the next one ended so
+pub cuts_then : (n most : ℕ) (end : TurnEnd) (ds es : List Deed) (under : Under) → n < most → AreSoFar n ds → CutsErrand end es under → CutsSending most end (ds ++ es) under
+cuts_then n most end ds es under below far cut = record {
+  errands = far.errands;
+  last = es;
+  few = omega (arith, far.count, below);
+  cut = cut;
+  deeds_are = ap (λ (x : List Deed). x ++ es) far.deeds_are;
+}
+
 pub all_sent : (most : ℕ) (ds : List Deed) → AreSoFar most ds → AreSent most ds
 all_sent most ds far = (far.errands, inl (far.count, far.deeds_are))
 
@@ -72,6 +83,28 @@ answered_by arrivals.Quiet = refl
 none_probed : (arrival : Arrival) → ProbesAt (end_with arrival) None None []
 none_probed arrivals.Conn = (refl, refl)
 none_probed arrivals.Quiet = (refl, refl)
+
+-- the rest of a turn without a probe
+rest_plain : (arrival : Arrival) (next : List Deed) → IsTickedAndSent next → IsRest None None (end_with arrival) next
+rest_plain arrival next ticks = record { next = next; probe = []; ticked_and_sent = ticks; probed = none_probed arrival; deeds_are = sym (append-nil next) }
+
+-- it has only the tick and the messages
+rest_next : (ds : List Deed) (rest : IsRest None None (end_with arrivals.Quiet) ds) → ds ≡ rest.next
+rest_next ds rest = rest.deeds_are ∙ ap (λ (x : List Deed). rest.next ++ x) rest.probed.1 ∙ append-nil rest.next
+
+-- the same where a connection came, with something to probe with
+rest_served : (had : Probing) (ds : List Deed) → IsRest None None (end_with arrivals.Conn) ds → IsRest (Some had) (Some had) (end_with arrivals.Conn) ds
+rest_served had ds rest = record { next = rest.next; probe = rest.probe; ticked_and_sent = rest.ticked_and_sent; probed = (refl, rest.probed.1); deeds_are = rest.deeds_are }
+
+-- and with a probe where none did
+rest_probed : (had has : Probing) (ds probe : List Deed) → IsRest None None (end_with arrivals.Quiet) ds → ProbesNext had has probe → IsRest (Some had) (Some has) (end_with arrivals.Quiet) (ds ++ probe)
+rest_probed had has ds probe rest probed = record {
+  next = rest.next;
+  probe = probe;
+  ticked_and_sent = rest.ticked_and_sent;
+  probed = probed;
+  deeds_are = ap (λ (x : List Deed). x ++ probe) (rest_next ds rest);
+}
 
 -- these deeds make so many turns, with any further ones behind them
 abbrev pub AreTurnsSoFar : Option Probing → Option Probing → ℕ → List Deed → Type 0
@@ -116,7 +149,7 @@ serves_all s t old now n ds a b far =
     subst (λ (k : ℕ). ServesTurns s t old now k ds a b) same (subst (λ (x : List Deed). ServesTurns s t old now (n + 0) x a b) (append-nil ds) (far now 0 [] b (refl, refl, refl)))
 
 further : (s : Setting) (t : Terms) (old between now : Option Probing) (n : ℕ) (arrival : Arrival) (ds es : List Deed) (a b c : Sight)
-    → ServesSoFar s t old between n ds a b → IsTurn between now (end_with arrival) es → ServesOne s t arrival es b c → ServesSoFar s t old now (n + 1) (ds ++ es) a c
+    → ServesSoFar s t old between n ds a b → IsTurn between now (end_with arrival) es → ServesOne s t between now arrival es b c → ServesSoFar s t old now (n + 1) (ds ++ es) a c
 further s t old between now n arrival ds es a b c far turn one = λ new more rest d is.
     let next : n + 1 + more ≡ n + suc more = omega arith in
     subst (λ (k : ℕ). ServesTurns s t old new k ((ds ++ es) ++ rest) a d) (sym next)
@@ -169,7 +202,7 @@ module _ {D K : Type 0} (view : D → DiskView) (takes fails : K → List ℕ �
   served_one : (rules : List Rule) (a b c d : Scene D K) (arrival : Arrival) (requests next : List Deed) → IsTickedAndSent next
       → Did view takes count addresses (Calls arrival ∷ []) a b → Did view takes count addresses requests b c → Did view takes count addresses next c d
       → (IsHonest view b.kept → IsServed (terms b.kept rules) addresses arrival requests (node_of b.kept) b.outside.story c.outside.story)
-      → IsHonest view a.kept → ServesOne (setting a.kept addresses) (terms a.kept rules) arrival ((Calls arrival ∷ requests) ++ next) (sight a) (sight d)
+      → IsHonest view a.kept → ServesOne (setting a.kept addresses) (terms a.kept rules) None None arrival ((Calls arrival ∷ requests) ++ next) (sight a) (sight d)
   served_one rules a b c d arrival requests next ticks asked talked sent answered honest =
       let serves = served_then rules a b c d arrival requests next asked talked sent answered honest in
       let aside = ticked_aside next ticks in
@@ -177,6 +210,7 @@ module _ {D K : Type 0} (view : D → DiskView) (takes fails : K → List ℕ �
         rest = next;
         served = sight c;
         serves = serves;
+        rest_is = rest_plain arrival next ticks;
         own = all_own next aside;
         still = do_aside (setting a.kept addresses) next (sight c) (sight d) aside serves.goes_on;
       }
@@ -192,13 +226,11 @@ module _ {D K : Type 0} (view : D → DiskView) (takes fails : K → List ℕ �
     record {
       arrival = arrival;
       requests = requests;
-      next = next;
-      probe = [];
+      rest = next;
       answered = answered_by arrival;
       arrived = arrived;
-      ticked_and_sent = sent;
-      probed = none_probed arrival;
-      deeds_are = sym (append-nil ((Calls arrival ∷ requests) ++ next));
+      rest_is = rest_plain arrival next sent;
+      deeds_are = refl;
     },
     did_then view takes fails count addresses takes_then (Calls arrival ∷ requests) next a c d
         (did_then view takes fails count addresses takes_then (Calls arrival ∷ []) requests a b c asked talked) done,
@@ -206,32 +238,33 @@ module _ {D K : Type 0} (view : D → DiskView) (takes fails : K → List ℕ �
   )
 
   -- a probe behind a turn
-  probes_then : (rules : List Rule) (arrival : Arrival) (ds probe : List Deed) (a b c : Scene D K)
-      → Did view takes count addresses ds a b → Did view takes count addresses probe b c → IsHonest view a.kept → (one : ServesOne (setting a.kept addresses) (terms a.kept rules) arrival ds (sight a) (sight b))
-      → ServesThen (setting a.kept addresses) (terms a.kept rules) arrival (ds ++ probe) (one.rest ++ probe) (sight a) one.served (sight c)
-  probes_then rules arrival ds probe a b c first probed honest one =
+  probes_then : (rules : List Rule) (arrival : Arrival) (ds rest probe : List Deed) (served : Sight) (a b c : Scene D K)
+      → Did view takes count addresses ds a b → Did view takes count addresses probe b c → IsHonest view a.kept → ServesThen (setting a.kept addresses) (terms a.kept rules) arrival ds rest (sight a) served (sight b)
+      → ServesThen (setting a.kept addresses) (terms a.kept rules) arrival (ds ++ probe) (rest ++ probe) (sight a) served (sight c)
+  probes_then rules arrival ds rest probe served a b c first probed honest serves =
       let does = subst (λ (s : Setting). DoAll s probe (sight b) (sight c)) (same_setting a.kept b.kept addresses first.same) (probed.done (all_honest view (disks_of a.kept) (disks_of b.kept) first.goes_on honest)) in
       record {
-        requests = one.serves.requests;
-        called = one.serves.called;
-        deeds_are = ap (λ (x : List Deed). x ++ probe) one.serves.deeds_are ∙ append_assoc (Calls arrival ∷ one.serves.requests) one.rest probe;
-        calls = one.serves.calls;
-        talks = one.serves.talks;
-        answered = one.serves.answered;
-        goes_on = do_then (setting a.kept addresses) one.rest probe one.served (sight b) (sight c) one.serves.goes_on does;
+        requests = serves.requests;
+        called = serves.called;
+        deeds_are = ap (λ (x : List Deed). x ++ probe) serves.deeds_are ∙ append_assoc (Calls arrival ∷ serves.requests) rest probe;
+        calls = serves.calls;
+        talks = serves.talks;
+        answered = serves.answered;
+        goes_on = do_then (setting a.kept addresses) rest probe served (sight b) (sight c) serves.goes_on does;
       }
 
   -- which leaves the connection as it is
-  pub serves_behind : (rules : List Rule) (arrival : Arrival) (had has : Probing) (ds probe : List Deed) (a b c : Scene D K)
-      → Did view takes count addresses ds a b → (IsHonest view a.kept → ServesOne (setting a.kept addresses) (terms a.kept rules) arrival ds (sight a) (sight b)) → Did view takes count addresses probe b c
+  pub serves_behind : (rules : List Rule) (had has : Probing) (ds probe : List Deed) (a b c : Scene D K)
+      → Did view takes count addresses ds a b → (IsHonest view a.kept → ServesOne (setting a.kept addresses) (terms a.kept rules) None None arrivals.Quiet ds (sight a) (sight b)) → Did view takes count addresses probe b c
       → ProbesNext had has probe → SameConnections b.outside.story c.outside.story
-      → IsHonest view a.kept → ServesOne (setting a.kept addresses) (terms a.kept rules) arrival (ds ++ probe) (sight a) (sight c)
-  serves_behind rules arrival had has ds probe a b c first serves probed probes still honest =
+      → IsHonest view a.kept → ServesOne (setting a.kept addresses) (terms a.kept rules) (Some had) (Some has) arrivals.Quiet (ds ++ probe) (sight a) (sight c)
+  serves_behind rules had has ds probe a b c first serves probed probes still honest =
       let one = serves honest in
       record {
         rest = one.rest ++ probe;
         served = one.served;
-        serves = probes_then rules arrival ds probe a b c first probed honest one;
+        serves = probes_then rules arrivals.Quiet ds one.rest probe one.served a b c first probed honest one.serves;
+        rest_is = rest_probed had has one.rest probe one.rest_is probes;
         own = all_append IsOwn one.rest probe one.own (probes_own had has probe probes);
         still = same_then one.served.outside.story b.outside.story c.outside.story one.still still;
       }
@@ -241,28 +274,64 @@ module _ {D K : Type 0} (view : D → DiskView) (takes fails : K → List ℕ �
       → Did view takes count addresses ds a b
       → (IsHonest view a.kept → ServesSoFar (setting a.kept addresses) (terms a.kept rules) old between n ds (sight a) (sight b))
       → IsTurn between now (end_with arrival) es
-      → (IsHonest view b.kept → ServesOne (setting b.kept addresses) (terms b.kept rules) arrival es (sight b) (sight c))
+      → (IsHonest view b.kept → ServesOne (setting b.kept addresses) (terms b.kept rules) between now arrival es (sight b) (sight c))
       → IsHonest view a.kept → ServesSoFar (setting a.kept addresses) (terms a.kept rules) old now (n + 1) (ds ++ es) (sight a) (sight c)
   serves_then rules old between now n arrival ds es a b c did far turn serves honest =
-      let one = subst (λ (s : Setting). ServesOne s (terms a.kept rules) arrival es (sight b) (sight c)) (same_setting a.kept b.kept addresses did.same)
-      (subst (λ (t : Terms). ServesOne (setting b.kept addresses) t arrival es (sight b) (sight c)) (same_terms a.kept b.kept rules did.same) (serves (all_honest view (disks_of a.kept) (disks_of b.kept) did.goes_on honest))) in
+      let one = subst (λ (s : Setting). ServesOne s (terms a.kept rules) between now arrival es (sight b) (sight c)) (same_setting a.kept b.kept addresses did.same)
+      (subst (λ (t : Terms). ServesOne (setting b.kept addresses) t between now arrival es (sight b) (sight c)) (same_terms a.kept b.kept rules did.same) (serves (all_honest view (disks_of a.kept) (disks_of b.kept) did.goes_on honest))) in
       further (setting a.kept addresses) (terms a.kept rules) old between now n arrival ds es (sight a) (sight b) (sight c) (far honest) turn one
+
+-- a turn where a connection came, with something to probe with
+pub one_served : (s : Setting) (t : Terms) (had : Probing) (ds : List Deed) (a c : Sight) → ServesOne s t None None arrivals.Conn ds a c → ServesOne s t (Some had) (Some had) arrivals.Conn ds a c
+one_served s t had ds a c one = record { rest = one.rest; served = one.served; serves = one.serves; rest_is = rest_served had one.rest one.rest_is; own = one.own; still = one.still }
 
 -- Turns that ended in their midst
 
+-- behind the connection
+cuts_behind : (s : Setting) (t : Terms) (had : Option Probing) (arrival : Arrival) (end : TurnEnd) (ds rest : List Deed) (under : Under) (a served c : Sight) → ServesThen s t arrival ds rest a served c → CutsRest had arrival end rest under → CutsBehind s t had end under ds a c
+cuts_behind s t had arrival end ds rest under a served c serves cut =
+    let aside = rest_cut had arrival end rest under cut in
+    record {
+      arrival = arrival;
+      rest = rest;
+      served = served;
+      serves = serves;
+      rest_is = cut;
+      own = all_own rest aside;
+      still = do_aside s rest served c aside serves.goes_on;
+    }
+
+-- the same with something to probe with
+no_probe : (arrival : Arrival) (end : TurnEnd) (ds : List Deed) (under : Under) → CutsProbeAt arrival None end ds under → ⊥
+no_probe arrivals.Conn end ds under none = none
+no_probe arrivals.Quiet end ds under none = none
+
+rest_too : (had : Probing) (arrival : Arrival) (end : TurnEnd) (ds : List Deed) (under : Under) → CutsRest None arrival end ds under → CutsRest (Some had) arrival end ds under
+rest_too had arrival end ds under (inl cut) = inl cut
+rest_too had arrival end ds under (inr (next, probe, ticks, cut, is)) = absurd (no_probe arrival end probe under cut)
+
+part_too : (s : Setting) (t : Terms) (had : Probing) (end : TurnEnd) (under : Under) (ds : List Deed) (a c : Sight) → ServesPart s t None end under ds a c → ServesPart s t (Some had) end under ds a c
+part_too s t had end under ds a c (inl none) = inl none
+part_too s t had end under ds a c (inr (inl cut)) = inr (inl (cuts_behind s t (Some had) cut.arrival end ds cut.rest under a cut.served c cut.serves (rest_too had cut.arrival end cut.rest under cut.rest_is)))
+part_too s t had end under ds a c (inr (inr cut)) = inr (inr cut)
+
 module _ {D K : Type 0} (view : D → DiskView) (takes fails : K → List ℕ → K → Type 0) (count : K → ℕ) (addresses : List (List ℕ)) (rules : List Rule) where
   -- before the link was asked
-  pub stops_before : (end : TurnEnd) (under : Under) (a at c : Scene D K) → Did view takes count addresses [] a at → Breaks view takes fails count addresses (Rose a.outside.faults.listening c.outside.faults.listening) end under at c
-      → StopsTurn view takes fails count addresses rules end a c
-  stops_before end under a at c did breaks = ([], under, at, did, (λ honest. inl (refl, did.done honest)), breaks)
+  pub stops_before : (had : Option Probing) (end : TurnEnd) (a at c : Scene D K) → Did view takes count addresses [] a at → Breaks view takes fails count addresses (Rose a.outside.faults.listening c.outside.faults.listening) end Idle at c
+      → StopsTurn view takes fails count addresses rules had end a c
+  stops_before had end a at c did breaks = ([], Idle, at, did, (λ honest. inl (refl, did.done honest, refl)), breaks)
+
+  -- with something to probe with
+  pub stops_too : (had : Probing) (end : TurnEnd) (a c : Scene D K) → StopsTurn view takes fails count addresses rules None end a c → StopsTurn view takes fails count addresses rules (Some had) end a c
+  stops_too had end a c (ds, under, at, did, part, breaks) = (ds, under, at, did, (λ honest. part_too (setting a.kept addresses) (terms a.kept rules) had end under ds (sight a) (sight at) (part honest)), breaks)
 
   -- with its connection
   pub stops_cut : (takes_then : (a b c : K) (x y : List ℕ) → takes a x b → takes b y c → takes a (x ++ y) c)
-      → (end : TurnEnd) (under : Under) (a b at c : Scene D K) (arrival : Arrival) (requests : List Deed) → arrival ≡ arrivals.Conn
+      → (had : Option Probing) (end : TurnEnd) (under : Under) (a b at c : Scene D K) (arrival : Arrival) (requests : List Deed) → arrival ≡ arrivals.Conn
       → Did view takes count addresses (Calls arrival ∷ []) a b → Did view takes count addresses requests b at
-      → (IsHonest view b.kept → IsCutConnection (terms b.kept rules) addresses requests (node_of b.kept) b.outside.story at.outside.story)
-      → Breaks view takes fails count addresses ⊥ end under at c → StopsTurn view takes fails count addresses rules end a c
-  stops_cut takes_then end under a b at c arrival requests conn asked talked cut breaks = (
+      → (IsHonest view b.kept → IsCutConnection (terms b.kept rules) addresses end under requests (node_of b.kept) b.outside.story at.outside.story)
+      → Breaks view takes fails count addresses ⊥ end under at c → StopsTurn view takes fails count addresses rules had end a c
+  stops_cut takes_then had end under a b at c arrival requests conn asked talked cut breaks = (
     Calls arrival ∷ requests,
     under,
     at,
@@ -276,40 +345,44 @@ module _ {D K : Type 0} (view : D → DiskView) (takes fails : K → List ℕ �
           deeds_are = ap (λ (x : Arrival). Calls x ∷ requests) conn;
           calls = subst (λ (x : Arrival). Does (setting a.kept addresses) (Calls x) (sight a) (sight b)) conn (subst (λ (x : Sight). Does (setting a.kept addresses) (Calls arrival) (sight a) x) (sym calls.2) calls.1);
           talks = subst (λ (s : Setting). DoAll s requests (sight b) (sight at)) (same_setting a.kept b.kept addresses asked.same) (talked.done b_honest);
-          cut = subst (λ (t : Terms). IsCutConnection t addresses requests (node_of b.kept) b.outside.story at.outside.story) (same_terms a.kept b.kept rules asked.same) (cut b_honest);
+          cut = subst (λ (t : Terms). IsCutConnection t addresses end under requests (node_of b.kept) b.outside.story at.outside.story) (same_terms a.kept b.kept rules asked.same) (cut b_honest);
         })),
     breaks_as view takes fails count addresses ⊥ _ (λ none. absurd none) end under at c breaks,
   )
 
   -- behind its connection
   pub stops_behind : (takes_then : (a b c : K) (x y : List ℕ) → takes a x b → takes b y c → takes a (x ++ y) c)
-      → (end : TurnEnd) (a b c d : Scene D K) (arrival : Arrival) (requests next : List Deed) (under : Under)
+      → (had : Option Probing) (end : TurnEnd) (a b c d : Scene D K) (arrival : Arrival) (requests next : List Deed) (under : Under)
       → Did view takes count addresses (Calls arrival ∷ []) a b → Did view takes count addresses requests b c
       → (IsHonest view b.kept → IsServed (terms b.kept rules) addresses arrival requests (node_of b.kept) b.outside.story c.outside.story)
-      → BreaksOff view takes fails count addresses ⊥ end next under c d → StopsTurn view takes fails count addresses rules end a d
-  stops_behind takes_then end a b c d arrival requests next under asked talked answered (at, sent, breaks) = (
+      → CutsTickOrSending end next under → BreaksOff view takes fails count addresses ⊥ end next under c d → StopsTurn view takes fails count addresses rules had end a d
+  stops_behind takes_then had end a b c d arrival requests next under asked talked answered cut (at, sent, breaks) = (
     (Calls arrival ∷ requests) ++ next,
     under,
     at,
     did_then view takes fails count addresses takes_then (Calls arrival ∷ requests) next a c at
         (did_then view takes fails count addresses takes_then (Calls arrival ∷ []) requests a b c asked talked) sent,
-    λ honest. inr (inl (arrival, next, sight c, served_then view takes fails count addresses rules a b c at arrival requests next asked talked sent answered honest)),
+    λ honest.
+        inr (inl (cuts_behind (setting a.kept addresses) (terms a.kept rules) had arrival end ((Calls arrival ∷ requests) ++ next) next under (sight a) (sight c) (sight at)
+        (served_then view takes fails count addresses rules a b c at arrival requests next asked talked sent answered honest) (inl cut))),
     breaks_as view takes fails count addresses ⊥ _ (λ none. absurd none) end under at d breaks,
   )
 
   -- in its probe
   pub stops_probing : (takes_then : (a b c : K) (x y : List ℕ) → takes a x b → takes b y c → takes a (x ++ y) c)
-      → (end : TurnEnd) (a b c : Scene D K) (arrival : Arrival) (ds probe : List Deed) (under : Under)
-      → Did view takes count addresses ds a b → (IsHonest view a.kept → ServesOne (setting a.kept addresses) (terms a.kept rules) arrival ds (sight a) (sight b))
-      → BreaksOff view takes fails count addresses ⊥ end probe under b c → StopsTurn view takes fails count addresses rules end a c
-  stops_probing takes_then end a b c arrival ds probe under first serves (at, probed, breaks) = (
+      → (had : Probing) (end : TurnEnd) (a b c : Scene D K) (ds probe : List Deed) (under : Under)
+      → Did view takes count addresses ds a b → (IsHonest view a.kept → ServesOne (setting a.kept addresses) (terms a.kept rules) None None arrivals.Quiet ds (sight a) (sight b))
+      → CutsProbing had end probe under → BreaksOff view takes fails count addresses ⊥ end probe under b c → StopsTurn view takes fails count addresses rules (Some had) end a c
+  stops_probing takes_then had end a b c ds probe under first serves cut (at, probed, breaks) = (
     ds ++ probe,
     under,
     at,
     did_then view takes fails count addresses takes_then ds probe a b at first probed,
     λ honest.
         let one = serves honest in
-        inr (inl (arrival, one.rest ++ probe, one.served, probes_then view takes fails count addresses rules arrival ds probe a b at first probed honest one)),
+        inr (inl (cuts_behind (setting a.kept addresses) (terms a.kept rules) (Some had) arrivals.Quiet end (ds ++ probe) (one.rest ++ probe) under (sight a) one.served (sight at)
+        (probes_then view takes fails count addresses rules arrivals.Quiet ds one.rest probe one.served a b at first probed honest one.serves)
+        (inr (one.rest_is.next, probe, one.rest_is.ticked_and_sent, cut, ap (λ (x : List Deed). x ++ probe) (rest_next one.rest one.rest_is))))),
     breaks_as view takes fails count addresses ⊥ _ (λ none. absurd none) end under at c breaks,
   )
 
@@ -317,7 +390,7 @@ module _ {D K : Type 0} (view : D → DiskView) (takes fails : K → List ℕ �
   pub stops_then : (takes_then : (a b c : K) (x y : List ℕ) → takes a x b → takes b y c → takes a (x ++ y) c)
       → (end : TurnEnd) (had between : Option Probing) (done turns : ℕ) (a b c : Scene D K) (ds : List Deed) → done < turns
       → Did view takes count addresses ds a b → (IsHonest view a.kept → ServesSoFar (setting a.kept addresses) (terms a.kept rules) had between done ds (sight a) (sight b))
-      → StopsTurn view takes fails count addresses rules end b c → StopsTurns view takes fails count addresses rules had turns end a c
+      → StopsTurn view takes fails count addresses rules between end b c → StopsTurns view takes fails count addresses rules had turns end a c
   stops_then takes_then end had between done turns a b c ds few did far (es, under, at, more, part, breaks) = (
     ds ++ es,
     under,
@@ -331,8 +404,8 @@ module _ {D K : Type 0} (view : D → DiskView) (takes fails : K → List ℕ �
       between,
       few,
       serves_all (setting a.kept addresses) (terms a.kept rules) had between done ds (sight a) (sight b) (far honest),
-      subst (λ (s : Setting). ServesPart s (terms a.kept rules) es (sight b) (sight at)) (same_setting a.kept b.kept addresses did.same)
-          (subst (λ (t : Terms). ServesPart (setting b.kept addresses) t es (sight b) (sight at)) (same_terms a.kept b.kept rules did.same) (part (all_honest view (disks_of a.kept) (disks_of b.kept) did.goes_on honest))),
+      subst (λ (s : Setting). ServesPart s (terms a.kept rules) between end under es (sight b) (sight at)) (same_setting a.kept b.kept addresses did.same)
+          (subst (λ (t : Terms). ServesPart (setting b.kept addresses) t between end under es (sight b) (sight at)) (same_terms a.kept b.kept rules did.same) (part (all_honest view (disks_of a.kept) (disks_of b.kept) did.goes_on honest))),
       refl,
     ),
     breaks_as view takes fails count addresses _ _ (λ rose. Rose-after _ _ _ did.listens rose) end under at c breaks,
@@ -343,12 +416,10 @@ pub served_too : (had : Probing) (ds : List Deed) → IsTurn None None (end_with
 served_too had ds turn = record {
   arrival = turn.arrival;
   requests = turn.requests;
-  next = turn.next;
-  probe = turn.probe;
+  rest = turn.rest;
   answered = turn.answered;
   arrived = turn.arrived;
-  ticked_and_sent = turn.ticked_and_sent;
-  probed = (refl, turn.probed.1);
+  rest_is = rest_served had turn.rest turn.rest_is;
   deeds_are = turn.deeds_are;
 }
 
@@ -357,13 +428,11 @@ pub probed_too : (had has : Probing) (ds probe : List Deed) → IsTurn None None
 probed_too had has ds probe turn probed = record {
   arrival = turn.arrival;
   requests = turn.requests;
-  next = turn.next;
-  probe = probe;
+  rest = turn.rest ++ probe;
   answered = turn.answered;
   arrived = turn.arrived;
-  ticked_and_sent = turn.ticked_and_sent;
-  probed = probed;
-  deeds_are = ap (λ (x : List Deed). x ++ probe) (turn.deeds_are ∙ ap (λ (x : List Deed). (Calls turn.arrival ∷ turn.requests) ++ turn.next ++ x) turn.probed.1 ∙ append-nil ((Calls turn.arrival ∷ turn.requests) ++ turn.next));
+  rest_is = rest_probed had has turn.rest probe turn.rest_is probed;
+  deeds_are = ap (λ (x : List Deed). x ++ probe) turn.deeds_are ∙ append_assoc (Calls turn.arrival ∷ turn.requests) turn.rest probe;
 }
 
 -- the tick, and then the messages

@@ -27,7 +27,7 @@ left_behind (inr (inr never)) = absurd never
 abbrev pub MakesTurn : {D K : Type 0} → (D → DiskView) → (K → List ℕ → K → Type 0) → (K → ℕ) → List (List ℕ) → List Rule → Option Probing → Option Probing → Arrival → Scene D K → Scene D K → Type 0
 MakesTurn view takes count addresses rules had has arrival old new = (deeds : List Deed) × IsTurn had has (end_with arrival) deeds
     × Did view takes count addresses deeds old new
-    × (IsHonest view old.kept → ServesOne (setting old.kept addresses) (terms old.kept rules) arrival deeds (sight old) (sight new))
+    × (IsHonest view old.kept → ServesOne (setting old.kept addresses) (terms old.kept rules) had has arrival deeds (sight old) (sight new))
 
 -- some deeds that make so many turns were done, and the connections that came were answered
 abbrev pub MakesTurns : {D K : Type 0} → (D → DiskView) → (K → List ℕ → K → Type 0) → (K → ℕ) → List (List ℕ) → List Rule → Option Probing → Option Probing → ℕ → Scene D K → Scene D K → Type 0
@@ -36,17 +36,17 @@ MakesTurns view takes count addresses rules had has turns old new = (deeds : Lis
     × (IsHonest view old.kept → ServesTurns (setting old.kept addresses) (terms old.kept rules) had has turns deeds (sight old) (sight new))
 
 -- Some deeds of a turn were done, in whose midst it then ended so: what was answered until then, and what every crash leaves.
-abbrev pub StopsTurn : {D K : Type 0} → (D → DiskView) → (K → List ℕ → K → Type 0) → (K → List ℕ → K → Type 0) → (K → ℕ) → List (List ℕ) → List Rule → TurnEnd → Scene D K → Scene D K → Type 0
-StopsTurn {D} {K} view takes fails count addresses rules end old new = (deeds : List Deed) × (under : Under) × (at : Scene D K)
+abbrev pub StopsTurn : {D K : Type 0} → (D → DiskView) → (K → List ℕ → K → Type 0) → (K → List ℕ → K → Type 0) → (K → ℕ) → List (List ℕ) → List Rule → Option Probing → TurnEnd → Scene D K → Scene D K → Type 0
+StopsTurn {D} {K} view takes fails count addresses rules had end old new = (deeds : List Deed) × (under : Under) × (at : Scene D K)
     × Did view takes count addresses deeds old at
-    × (IsHonest view old.kept → ServesPart (setting old.kept addresses) (terms old.kept rules) deeds (sight old) (sight at))
+    × (IsHonest view old.kept → ServesPart (setting old.kept addresses) (terms old.kept rules) had end under deeds (sight old) (sight at))
     × Breaks view takes fails count addresses (Rose old.outside.faults.listening new.outside.faults.listening) end under at new
 
 -- the same of so many turns
 abbrev pub StopsTurns : {D K : Type 0} → (D → DiskView) → (K → List ℕ → K → Type 0) → (K → List ℕ → K → Type 0) → (K → ℕ) → List (List ℕ) → List Rule → Option Probing → ℕ → TurnEnd → Scene D K → Scene D K → Type 0
 StopsTurns {D} {K} view takes fails count addresses rules had turns end old new = (deeds : List Deed) × (under : Under) × (at : Scene D K)
     × Did view takes count addresses deeds old at
-    × (IsHonest view old.kept → ServesUpTo (setting old.kept addresses) (terms old.kept rules) had turns deeds (sight old) (sight at))
+    × (IsHonest view old.kept → ServesUpTo (setting old.kept addresses) (terms old.kept rules) had turns end under deeds (sight old) (sight at))
     × Breaks view takes fails count addresses (Rose old.outside.faults.listening new.outside.faults.listening) end under at new
 
 -- files that were ripe have a greater generation
@@ -57,7 +57,7 @@ Renews view old new = IsHonest view old → IsRipe old → old.store.generation 
 abbrev pub TurnEnds : {D K : Type 0} → (D → DiskView) → (K → List ℕ → K → Type 0) → (K → List ℕ → K → Type 0) → (K → ℕ) → List (List ℕ) → List Rule → Option Probing → Option Probing → TurnEnd → Scene D K → Scene D K → Type 0
 TurnEnds view takes fails count addresses rules had has ends.Served old new = MakesTurn view takes count addresses rules had has arrivals.Conn old new × Renews view old.kept new.kept
 TurnEnds view takes fails count addresses rules had has ends.Quiet old new = MakesTurn view takes count addresses rules had has arrivals.Quiet old new × Renews view old.kept new.kept
-TurnEnds view takes fails count addresses rules had has end old new = StopsTurn view takes fails count addresses rules end old new
+TurnEnds view takes fails count addresses rules had has end old new = StopsTurn view takes fails count addresses rules had end old new
 
 -- so many turns ended so
 abbrev pub ServeEnds : {D K : Type 0} → (D → DiskView) → (K → List ℕ → K → Type 0) → (K → List ℕ → K → Type 0) → (K → ℕ) → List (List ℕ) → List Rule → Option Probing → Option Probing → ℕ → TurnEnd → Scene D K → Scene D K → Type 0

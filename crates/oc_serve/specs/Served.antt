@@ -10,8 +10,10 @@ use Rattle.oc_outside.specs.Story.{Story}
 use Rattle.oc_outside.specs.declared.link.Arrival.{Arrival}
 use Rattle.oc_outside.specs.declared.link.Arrival.TheVariants as arrivals
 use Rattle.oc_probe.specs.declared.probing.Probing.{Probing}
-use Rattle.oc_turn.specs.Deeds.{Answers, Calls, Deed, DoAll, Does, Setting, Sight, Talks}
-use Rattle.oc_serve.specs.Turns.{IsTurn, end_with}
+use Rattle.oc_turn.specs.Deeds.{Answers, Calls, Deed, DoAll, Does, Idle, Setting, Sight, Talks, Under}
+use Rattle.oc_turn.specs.declared.ends.TurnEnd.{TurnEnd}
+use Rattle.oc_serve.specs.Cuts.{CutsRest}
+use Rattle.oc_serve.specs.Turns.{IsRest, IsTurn, end_with}
 
 -- the requests of the connection were answered, where one came
 abbrev pub IsServed : Terms → List (List ℕ) → Arrival → List Deed → Node → Option Story → Option Story → Type 0
@@ -44,11 +46,13 @@ pub record ServesThen (s : Setting) (t : Terms) (arrival : Arrival) (ds rest : L
   pub answered : IsServed t s.addresses arrival requests called.node called.outside.story served.outside.story
   pub goes_on : DoAll s rest served c
 
--- The same of a whole turn, in which the rest is its own, and leaves the connections that were taken as they were once served.
-pub record ServesOne (s : Setting) (t : Terms) (arrival : Arrival) (ds : List Deed) (a c : Sight) : Type 0 where
+-- The same of a whole turn: the rest is that of a turn, it is its own, and it leaves the connections that were taken as they were once
+-- served. What the turn probes with is given as it was before and is after it.
+pub record ServesOne (s : Setting) (t : Terms) (old new : Option Probing) (arrival : Arrival) (ds : List Deed) (a c : Sight) : Type 0 where
   pub rest : List Deed
   pub served : Sight
   pub serves : ServesThen s t arrival ds rest a served c
+  pub rest_is : IsRest old new (end_with arrival) rest
   pub own : AllByRecursion IsOwn rest
   pub still : SameConnections served.outside.story c.outside.story
 
@@ -56,26 +60,37 @@ pub record ServesOne (s : Setting) (t : Terms) (arrival : Arrival) (ds : List De
 abbrev pub ServesTurns : Setting → Terms → Option Probing → Option Probing → ℕ → List Deed → Sight → Sight → Type 0
 ServesTurns s t old new zero ds a c = (new ≡ old) × (ds ≡ []) × (c ≡ a)
 ServesTurns s t old new (suc n) ds a c = (first rest : List Deed) × (b : Sight) × (between : Option Probing) × (arrival : Arrival)
-    × IsTurn old between (end_with arrival) first × ServesOne s t arrival first a b × ServesTurns s t between new n rest b c × (ds ≡ first ++ rest)
+    × IsTurn old between (end_with arrival) first × ServesOne s t old between arrival first a b × ServesTurns s t between new n rest b c × (ds ≡ first ++ rest)
 
 -- Turns that ended in their midst
 
--- The deeds of a turn that ended with its connection: behind the link's answer some requests were answered, and then one ended in its midst.
-pub record CutsOne (s : Setting) (t : Terms) (ds : List Deed) (a c : Sight) : Type 0 where
+-- The deeds of a turn that ended so with its connection, with this under way: behind the link's answer some requests were answered, and
+-- then one ended in its midst.
+pub record CutsOne (s : Setting) (t : Terms) (end : TurnEnd) (under : Under) (ds : List Deed) (a c : Sight) : Type 0 where
   pub requests : List Deed
   pub called : Sight
   pub deeds_are : ds ≡ Calls arrivals.Conn ∷ requests
   pub calls : Does s (Calls arrivals.Conn) a called
   pub talks : DoAll s requests called c
-  pub cut : IsCutConnection t s.addresses requests called.node called.outside.story c.outside.story
+  pub cut : IsCutConnection t s.addresses end under requests called.node called.outside.story c.outside.story
 
--- The deeds of a turn that ended in its midst: there are none; or its connection, where one came, was answered, and some of the rest
--- follows; or it ended with its connection.
-abbrev pub ServesPart : Setting → Terms → List Deed → Sight → Sight → Type 0
-ServesPart s t ds a c = ((ds ≡ []) × (c ≡ a))
-    ⊎ ((arrival : Arrival) × (rest : List Deed) × (served : Sight) × ServesThen s t arrival ds rest a served c) ⊎ CutsOne s t ds a c
+-- The deeds of a turn that ended so behind its connection, with this under way: the connection, where one came, was answered, and the rest,
+-- in whose midst it ended, is its own and leaves the connections that were taken as they were once served.
+pub record CutsBehind (s : Setting) (t : Terms) (had : Option Probing) (end : TurnEnd) (under : Under) (ds : List Deed) (a c : Sight) : Type 0 where
+  pub arrival : Arrival
+  pub rest : List Deed
+  pub served : Sight
+  pub serves : ServesThen s t arrival ds rest a served c
+  pub rest_is : CutsRest had arrival end rest under
+  pub own : AllByRecursion IsOwn rest
+  pub still : SameConnections served.outside.story c.outside.story
 
--- fewer than so many turns, and then one that ended in its midst
-abbrev pub ServesUpTo : Setting → Terms → Option Probing → ℕ → List Deed → Sight → Sight → Type 0
-ServesUpTo s t old turns ds a c = (done : ℕ) × (first rest : List Deed) × (b : Sight) × (between : Option Probing)
-    × (done < turns) × ServesTurns s t old between done first a b × ServesPart s t rest b c × (ds ≡ first ++ rest)
+-- The deeds of a turn that ended so in its midst, with this under way: there are none, and nothing was; or it ended behind its
+-- connection, or with it. What the turn probes with is given as it was before it.
+abbrev pub ServesPart : Setting → Terms → Option Probing → TurnEnd → Under → List Deed → Sight → Sight → Type 0
+ServesPart s t had end under ds a c = ((ds ≡ []) × (c ≡ a) × (under ≡ Idle)) ⊎ CutsBehind s t had end under ds a c ⊎ CutsOne s t end under ds a c
+
+-- fewer than so many turns, and then one that ended so in its midst
+abbrev pub ServesUpTo : Setting → Terms → Option Probing → ℕ → TurnEnd → Under → List Deed → Sight → Sight → Type 0
+ServesUpTo s t old turns end under ds a c = (done : ℕ) × (first rest : List Deed) × (b : Sight) × (between : Option Probing)
+    × (done < turns) × ServesTurns s t old between done first a b × ServesPart s t between end under rest b c × (ds ≡ first ++ rest)

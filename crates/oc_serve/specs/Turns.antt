@@ -107,6 +107,14 @@ pub record IsTickedAndSent (ds : List Deed) : Type 0 where
   pub are_sent : AreSent MAX_DIALS sent
   pub deeds_are : ds ≡ ticked t ++ sent
 
+-- the deeds of a turn that ends so behind its connection: the tick, the messages that are sent, and the probe
+pub record IsRest (old new : Option Probing) (end : TurnEnd) (ds : List Deed) : Type 0 where
+  pub next : List Deed
+  pub probe : List Deed
+  pub ticked_and_sent : IsTickedAndSent next
+  pub probed : ProbesAt end old new probe
+  pub deeds_are : ds ≡ next ++ probe
+
 -- how a turn ends
 abbrev pub end_with : Arrival → TurnEnd
 end_with arrivals.Conn = ends.Served
@@ -118,18 +126,16 @@ arrival_of ends.Served = Some arrivals.Conn
 arrival_of ends.Quiet = Some arrivals.Quiet
 arrival_of end = None
 
--- The deeds of a turn that ends so: the link's answer, the connection that came, the tick, the messages that are sent, and the probe. What
--- it probes with is given as it was before and is after it.
+-- The deeds of a turn that ends so: the link's answer, the connection that came, and the rest. What it probes with is given as it was
+-- before and is after it.
 pub record IsTurn (old new : Option Probing) (end : TurnEnd) (ds : List Deed) : Type 0 where
   pub arrival : Arrival
   pub requests : List Deed
-  pub next : List Deed
-  pub probe : List Deed
+  pub rest : List Deed
   pub answered : arrival_of end ≡ Some arrival
   pub arrived : IsArrival arrival requests
-  pub ticked_and_sent : IsTickedAndSent next
-  pub probed : ProbesAt end old new probe
-  pub deeds_are : ds ≡ Calls arrival ∷ requests ++ next ++ probe
+  pub rest_is : IsRest old new end rest
+  pub deeds_are : ds ≡ Calls arrival ∷ requests ++ rest
 
 -- turns one after another
 abbrev pub AreTurns : Option Probing → Option Probing → ℕ → List Deed → Type 0

@@ -7,6 +7,7 @@ ghost use Rattle.oc_turn.specs.Deeds.{Deed, Under, outside_of};
 ghost use Rattle.oc_turn.specs.Scenes.{BreaksOff, Did, NotesOne, NoteStops, scene};
 ghost use Rattle.oc_serve.specs.Sending.{IsPlaced};
 ghost use Rattle.oc_serve.specs.Served.{SameConnections};
+ghost use Rattle.oc_serve.specs.Cuts.{CutsProbe, CutsProbing};
 ghost use Rattle.oc_serve.specs.Turns.{IsMadeFor, ProbesNext, ProbesPeer, probe_note};
 
 use crate::place::address_of;
@@ -40,7 +41,7 @@ pub(crate) fn probe_next<D: Disk, L: Link, C: Clock, K: Sink>(
         × Did D.view K.takes K.faults config.now.addresses probe
         (scene kept.old outbox.old sink.old (outside_of (L.story link.old) (L.faults link.old) (C.seconds clock.old) (C.milliseconds clock.old)))
         (scene kept.new outbox.new sink.new (outside_of (L.story link.new) (L.faults link.new) (C.seconds clock.new) (C.milliseconds clock.new)))) }
-    ensures stops { IfErr result (λ end. (deeds : List Deed) × (under : Under)
+    ensures stops { IfErr result (λ end. (deeds : List Deed) × (under : Under) × CutsProbing probing.old end deeds under
         × BreaksOff D.view K.takes K.fails K.faults config.now.addresses ⊥ end deeds under
         (scene kept.old outbox.old sink.old (outside_of (L.story link.old) (L.faults link.old) (C.seconds clock.old) (C.milliseconds clock.old)))
         (scene kept.new outbox.new sink.new (outside_of (L.story link.new) (L.faults link.new) (C.seconds clock.new) (C.milliseconds clock.new)))) }
@@ -91,7 +92,7 @@ fn probe_peer<D: Disk, L: Link, C: Clock, K: Sink>(
         × Did D.view K.takes K.faults config.now.addresses probe
         (scene kept.old outbox.old sink.old (outside_of (L.story link.old) (L.faults link.old) (C.seconds clock.old) (C.milliseconds clock.old)))
         (scene kept.new outbox.new sink.new (outside_of (L.story link.new) (L.faults link.new) (C.seconds clock.new) (C.milliseconds clock.new)))) }
-    ensures stops { IfErr result (λ end. (deeds : List Deed) × (under : Under)
+    ensures stops { IfErr result (λ end. (deeds : List Deed) × (under : Under) × CutsProbe gauge.old peer end deeds under
         × BreaksOff D.view K.takes K.fails K.faults config.now.addresses ⊥ end deeds under
         (scene kept.old outbox.old sink.old (outside_of (L.story link.old) (L.faults link.old) (C.seconds clock.old) (C.milliseconds clock.old)))
         (scene kept.new outbox.new sink.new (outside_of (L.story link.new) (L.faults link.new) (C.seconds clock.new) (C.milliseconds clock.new)))) }

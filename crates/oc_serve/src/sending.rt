@@ -8,6 +8,7 @@ ghost use Rattle.oc_turn.specs.Scenes.{BreaksOff, Did, scene};
 ghost use Rattle.oc_turn.specs.Sending.{AreSendable};
 ghost use Rattle.oc_serve.specs.Sending.{BecomesOf, IsLawfulSent, IsPlaced, WantsMemory, setting_of};
 ghost use Rattle.oc_serve.specs.Turns.{AreSent, IsOneSent};
+ghost use Rattle.oc_serve.specs.Cuts.{CutsErrand, CutsSending};
 ghost use Rattle.oc_serve.specs.declared.limits.TheConstants.{MAX_DIALS};
 
 use crate::limits::MAX_DIALS;
@@ -49,7 +50,7 @@ pub(crate) fn send_all<D: Disk, L: Link, K: Sink>(
         → Did D.view K.takes K.faults config.now.addresses sent
         (scene kept.old outbox.old sink.old (outside_of (L.story link.old) (L.faults link.old) seconds millis))
         (scene kept.new outbox.new sink.new (outside_of (L.story link.new) (L.faults link.new) seconds millis)))) }
-    ensures stops { IfErr result (λ end. (deeds : List Deed) × (under : Under) × ((seconds millis : Series)
+    ensures stops { IfErr result (λ end. (deeds : List Deed) × (under : Under) × CutsSending MAX_DIALS end deeds under × ((seconds millis : Series)
         → BreaksOff D.view K.takes K.fails K.faults config.now.addresses ⊥ end deeds under
         (scene kept.old outbox.old sink.old (outside_of (L.story link.old) (L.faults link.old) seconds millis))
         (scene kept.new outbox.new sink.new (outside_of (L.story link.new) (L.faults link.new) seconds millis)))) }
@@ -83,7 +84,7 @@ fn send_one<D: Disk, L: Link, K: Sink>(
         → Did D.view K.takes K.faults config.now.addresses sent
         (scene kept.old outbox.old sink.old (outside_of (L.story link.old) (L.faults link.old) seconds millis))
         (scene kept.new outbox.new sink.new (outside_of (L.story link.new) (L.faults link.new) seconds millis)))) }
-    ensures stops { IfErr result (λ end. (deeds : List Deed) × (under : Under) × ((seconds millis : Series)
+    ensures stops { IfErr result (λ end. (deeds : List Deed) × (under : Under) × CutsErrand end deeds under × ((seconds millis : Series)
         → BreaksOff D.view K.takes K.fails K.faults config.now.addresses ⊥ end deeds under
         (scene kept.old outbox.old sink.old (outside_of (L.story link.old) (L.faults link.old) seconds millis))
         (scene kept.new outbox.new sink.new (outside_of (L.story link.new) (L.faults link.new) seconds millis)))) }

@@ -12,6 +12,7 @@ ghost use Rattle.oc_turn.specs.Scenes.{BreaksOff, Did, EndsStill, scene};
 ghost use Rattle.oc_turn.specs.Sending.{AreSendable};
 ghost use Rattle.oc_answer.specs.Cuts.{IsCutConnection};
 ghost use Rattle.oc_answer.specs.Serving.{terms};
+ghost use Rattle.oc_serve.specs.Cuts.{CutsTickOrSending};
 ghost use Rattle.oc_serve.specs.Ends.{MakesTurn, Renews, StopsTurn};
 ghost use Rattle.oc_serve.specs.Served.{IsServed};
 ghost use Rattle.oc_serve.specs.Sending.{IsPlaced};
@@ -50,7 +51,7 @@ pub(crate) fn turn_probing<D: Disk, L: Link, C: Clock, K: Sink>(
     ensures did { IfOk result (λ arrival. MakesTurn D.view K.takes K.faults config.now.addresses config.now.rules (Some probing.old) (Some probing.new) arrival
         (scene kept.old outbox.old sink.old (outside_of (L.story link.old) (L.faults link.old) (C.seconds clock.old) (C.milliseconds clock.old)))
         (scene kept.new outbox.new sink.new (outside_of (L.story link.new) (L.faults link.new) (C.seconds clock.new) (C.milliseconds clock.new)))) }
-    ensures stops { IfErr result (λ end. StopsTurn D.view K.takes K.fails K.faults config.now.addresses config.now.rules end
+    ensures stops { IfErr result (λ end. StopsTurn D.view K.takes K.fails K.faults config.now.addresses config.now.rules (Some probing.old) end
         (scene kept.old outbox.old sink.old (outside_of (L.story link.old) (L.faults link.old) (C.seconds clock.old) (C.milliseconds clock.old)))
         (scene kept.new outbox.new sink.new (outside_of (L.story link.new) (L.faults link.new) (C.seconds clock.new) (C.milliseconds clock.new)))) }
     ensures listens { NoFall (L.faults link.old).listening (L.faults link.new).listening }
@@ -87,7 +88,7 @@ pub(crate) fn turn_plain<D: Disk, L: Link, C: Clock, K: Sink>(
     ensures did { IfOk result (λ arrival. MakesTurn D.view K.takes K.faults config.now.addresses config.now.rules None None arrival
         (scene kept.old outbox.old sink.old (outside_of (L.story link.old) (L.faults link.old) (C.seconds clock.old) (C.milliseconds clock.old)))
         (scene kept.new outbox.new sink.new (outside_of (L.story link.new) (L.faults link.new) (C.seconds clock.new) (C.milliseconds clock.new)))) }
-    ensures stops { IfErr result (λ end. StopsTurn D.view K.takes K.fails K.faults config.now.addresses config.now.rules end
+    ensures stops { IfErr result (λ end. StopsTurn D.view K.takes K.fails K.faults config.now.addresses config.now.rules None end
         (scene kept.old outbox.old sink.old (outside_of (L.story link.old) (L.faults link.old) (C.seconds clock.old) (C.milliseconds clock.old)))
         (scene kept.new outbox.new sink.new (outside_of (L.story link.new) (L.faults link.new) (C.seconds clock.new) (C.milliseconds clock.new)))) }
     ensures listens { NoFall (L.faults link.old).listening (L.faults link.new).listening }
@@ -157,7 +158,7 @@ fn serve_arrival<D: Disk, L: Link, K: Sink>(
         → EndsStill D.view K.takes K.fails K.faults addresses end deeds under
         (scene kept.old outbox.old sink.old (outside_of (L.story link.old) (L.faults link.old) seconds millis))
         (scene kept.new outbox.new sink.new (outside_of (L.story link.new) (L.faults link.new) seconds millis)))
-        × (IsHonest D.view kept.old → IsCutConnection (terms kept.old config.now.rules) config.now.addresses deeds (node_of kept.old)
+        × (IsHonest D.view kept.old → IsCutConnection (terms kept.old config.now.rules) config.now.addresses end under deeds (node_of kept.old)
         (L.story link.old) (L.story link.new))) }
     ensures conn { OnErr result (arrival ≡ Arrival.Conn) }
     ensures count { CountsTalking (L.faults link.old) (L.faults link.new) }
@@ -187,7 +188,7 @@ fn tick_and_send<D: Disk, L: Link, C: Clock, K: Sink>(
         × Did D.view K.takes K.faults config.now.addresses deeds
         (scene kept.old outbox.old sink.old (outside_of (L.story link.old) (L.faults link.old) (C.seconds clock.old) (C.milliseconds clock.old)))
         (scene kept.new outbox.new sink.new (outside_of (L.story link.new) (L.faults link.new) (C.seconds clock.new) (C.milliseconds clock.new)))) }
-    ensures stops { IfErr result (λ end. (deeds : List Deed) × (under : Under)
+    ensures stops { IfErr result (λ end. (deeds : List Deed) × (under : Under) × CutsTickOrSending end deeds under
         × BreaksOff D.view K.takes K.fails K.faults config.now.addresses ⊥ end deeds under
         (scene kept.old outbox.old sink.old (outside_of (L.story link.old) (L.faults link.old) (C.seconds clock.old) (C.milliseconds clock.old)))
         (scene kept.new outbox.new sink.new (outside_of (L.story link.new) (L.faults link.new) (C.seconds clock.new) (C.milliseconds clock.new)))) }

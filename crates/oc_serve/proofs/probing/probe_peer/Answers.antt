@@ -1,5 +1,6 @@
-use Rattle.std.proofs.Common.{Ok, Err, [], ◌∷◌, refl, rules}
+use Rattle.std.proofs.Common.{ℕ, Ok, Err, [], ◌∷◌, codes, inl, inr, refl, ap, ◌∙◌, rules}
 use Rattle.std.proofs.lemmas.Result.{err_from_is_err_and}
+use Rattle.oc_model.specs.declared.input.Input.TheVariants.{Measured}
 use Rattle.oc_turn.specs.Deeds.{Idle, Probes, Taking, outside_of}
 use Rattle.oc_probe.specs.declared.fault.ProbeFault.TheVariants as probes
 use Rattle.oc_turn.specs.Scenes.{scene}
@@ -41,6 +42,16 @@ returns-in_ok-entry-in-Ok-clause-stops g c =
     err_then c.take_own.result (λ end both. (
       Probes a.peer c.get-rate.result.1 (Ok c.in-Ok.rate) ∷ [],
       Taking i,
+      (
+        c.get-rate.result.1,
+        Ok c.in-Ok.rate,
+        refl,
+        (
+          c.put.result,
+          c.put.ensures.median,
+          inl (ap Taking (c.in_ok-entry-in-Ok.ensures.input ∙ ap (λ (x : ℕ). Measured a.peer x c.get-rate.result.1) c.min-median.ensures)),
+        ),
+      ),
       (scene a.kept.now a.outbox.now a.sink.now out, did, breaks_still g.D.Disk.view g.K.Sink.takes g.K.Sink.fails g.K.Sink.faults a.config.now.addresses end (Taking i) a.kept.now t.kept a.outbox.now t.outbox a.sink.now t.sink out out both.0 both.1 refl),
     )) (err_both _ _ c.take_own.result c.take_own.ensures.stops c.take_own.ensures.meets)
 
@@ -59,6 +70,7 @@ returns-in_err-entry-in-Ok-clause-stops g c =
     rw (p.1, p.2) (
       Probes a.peer c.get-rate.result.1 (Ok c.in-Ok.rate) ∷ [],
       Idle,
+      (c.get-rate.result.1, Ok c.in-Ok.rate, refl, (c.put.result, c.put.ensures.median, inr (refl, refl))),
       (scene a.kept.now a.outbox.now a.sink.now out, did, breaks_memory g.D.Disk.view g.K.Sink.takes g.K.Sink.fails g.K.Sink.faults a.config.now.addresses g.met.K.Sink.takes_nothing a.kept.now a.outbox.now a.outbox.now a.sink.now out out (c.node-node.ensures.survives c.requires.open) refl),
     )
 
@@ -76,6 +88,7 @@ returns-in-Err-Memory-clause-stops g c =
     (search rules) c.requires.open c.address_of.ensures c.in-Err-Memory.ensures.link c.in-Err-Memory.ensures.time c.in-Err-Memory.ensures.cause c.probe.ensures.count c.probe.ensures.seconds) in (
       Probes a.peer c.get-rate.result.1 (Err probes.Memory) ∷ [],
       Idle,
+      (c.get-rate.result.1, Err probes.Memory, refl, (refl, refl)),
       (scene a.kept.now a.outbox.now a.sink.now out, did, breaks_memory g.D.Disk.view g.K.Sink.takes g.K.Sink.fails g.K.Sink.faults a.config.now.addresses g.met.K.Sink.takes_nothing a.kept.now a.outbox.now a.outbox.now a.sink.now out out (c.node-node.ensures.survives c.requires.open) refl),
     )
 
@@ -108,9 +121,9 @@ returns-in-Err-Link-clause-stops g c =
     (probe_did g.D.Disk.view g.K.Sink.takes g.K.Sink.fails g.K.Sink.faults a.config.now.addresses g.met.K.Sink.takes_nothing a.kept.now a.peer c.get-rate.result.1 (Err c.in-Err-Link.field-0) c.address_of.result.now a.outbox.now a.sink.now (story a.link.now) (story n.link) (faults a.link.now) (faults n.link) (seconds a.clock.now) (seconds n.clock) (millis a.clock.now) (millis n.clock)
     (search rules) c.requires.open c.address_of.ensures c.in-Err-Link.ensures.link c.in-Err-Link.ensures.time c.in-Err-Link.ensures.cause c.probe.ensures.count c.probe.ensures.seconds) in
     err_then c.tell.result (λ end stops.
-    let e = told_breaks g.D.Disk.view g.K.Sink.takes g.K.Sink.fails g.K.Sink.faults a.config.now.addresses g.met.K.Sink.takes_nothing (Probes a.peer c.get-rate.result.1 (Err probes.Link) ∷ []) end _
-    (scene a.kept.now a.outbox.now a.sink.now (outside_of (story a.link.now) (faults a.link.now) (seconds a.clock.now) (millis a.clock.now))) a.kept.now a.outbox.now a.sink.now c.tell.new.sink out did (c.node-node.ensures.survives c.requires.open) stops in
-    (Probes a.peer c.get-rate.result.1 (Err probes.Link) ∷ [], e.0, e.1)) c.tell.ensures.stops
+    let e = told_breaks g.D.Disk.view g.K.Sink.takes g.K.Sink.fails g.K.Sink.faults a.config.now.addresses g.met.K.Sink.takes_nothing (Probes a.peer c.get-rate.result.1 (Err probes.Link) ∷ []) end a.peer _ (codes "link")
+    (scene a.kept.now a.outbox.now a.sink.now (outside_of (story a.link.now) (faults a.link.now) (seconds a.clock.now) (millis a.clock.now))) a.kept.now a.outbox.now a.sink.now c.tell.new.sink out (search rules) did (c.node-node.ensures.survives c.requires.open) stops in
+    (Probes a.peer c.get-rate.result.1 (Err probes.Link) ∷ [], e.0, (c.get-rate.result.1, Err probes.Link, refl, e.1), e.2)) c.tell.ensures.stops
 
 pub returns-in-Err-Reply-clause-did : goal.returns-in-Err-Reply-clause-did
 returns-in-Err-Reply-clause-did g c =
@@ -141,9 +154,9 @@ returns-in-Err-Reply-clause-stops g c =
     (probe_did g.D.Disk.view g.K.Sink.takes g.K.Sink.fails g.K.Sink.faults a.config.now.addresses g.met.K.Sink.takes_nothing a.kept.now a.peer c.get-rate.result.1 (Err c.in-Err-Reply.field-0) c.address_of.result.now a.outbox.now a.sink.now (story a.link.now) (story n.link) (faults a.link.now) (faults n.link) (seconds a.clock.now) (seconds n.clock) (millis a.clock.now) (millis n.clock)
     (search rules) c.requires.open c.address_of.ensures c.in-Err-Reply.ensures.link c.in-Err-Reply.ensures.time c.in-Err-Reply.ensures.cause c.probe.ensures.count c.probe.ensures.seconds) in
     err_then c.tell-in-Err-Reply.result (λ end stops.
-    let e = told_breaks g.D.Disk.view g.K.Sink.takes g.K.Sink.fails g.K.Sink.faults a.config.now.addresses g.met.K.Sink.takes_nothing (Probes a.peer c.get-rate.result.1 (Err probes.Reply) ∷ []) end _
-    (scene a.kept.now a.outbox.now a.sink.now (outside_of (story a.link.now) (faults a.link.now) (seconds a.clock.now) (millis a.clock.now))) a.kept.now a.outbox.now a.sink.now c.tell-in-Err-Reply.new.sink out did (c.node-node.ensures.survives c.requires.open) stops in
-    (Probes a.peer c.get-rate.result.1 (Err probes.Reply) ∷ [], e.0, e.1)) c.tell-in-Err-Reply.ensures.stops
+    let e = told_breaks g.D.Disk.view g.K.Sink.takes g.K.Sink.fails g.K.Sink.faults a.config.now.addresses g.met.K.Sink.takes_nothing (Probes a.peer c.get-rate.result.1 (Err probes.Reply) ∷ []) end a.peer _ (codes "reply")
+    (scene a.kept.now a.outbox.now a.sink.now (outside_of (story a.link.now) (faults a.link.now) (seconds a.clock.now) (millis a.clock.now))) a.kept.now a.outbox.now a.sink.now c.tell-in-Err-Reply.new.sink out (search rules) did (c.node-node.ensures.survives c.requires.open) stops in
+    (Probes a.peer c.get-rate.result.1 (Err probes.Reply) ∷ [], e.0, (c.get-rate.result.1, Err probes.Reply, refl, e.1), e.2)) c.tell-in-Err-Reply.ensures.stops
 
 pub returns-in_ok-entry-in-Ok-clause-still : goal.returns-in_ok-entry-in-Ok-clause-still
 returns-in_ok-entry-in-Ok-clause-still g c = probed_same (Ok c.in-Ok.rate) c.address_of.result.now (g.L.Link.story c.args.link.now) (g.L.Link.story c.probe.new.link) c.in-Ok.ensures.link

@@ -7,7 +7,7 @@ use Rattle.oc_serve.specs.declared.limits.TheConstants.{MAX_DIALS}
 use Rattle.oc_turn.proofs.Scenes.{breaks_then, did_none, did_then}
 use Rattle.oc_serve.proofs.Placed.{placed_stays, sendable_stays}
 use Rattle.oc_turn.proofs.Scenes.{untold}
-use Rattle.oc_serve.proofs.Whole.{AreSoFar, all_sent, no_more, none_sent, one_more}
+use Rattle.oc_serve.proofs.Whole.{AreSoFar, all_sent, cuts_then, no_more, none_sent, one_more}
 use Rattle.oc_serve.proofs.sending.send_all.Goals as goal
 
 pub returns-in_err-more-clause-stops : goal.returns-in_err-more-clause-stops
@@ -23,10 +23,11 @@ returns-in_err-more-clause-stops g c =
     rw (p.1, p.2) (
       far.0 ++ one.0,
       one.1,
+      cuts_then m.done MAX_DIALS c.in_err-more.field-0.0 far.0 one.0 one.1 (omega arith) far.1 one.2,
       λ seconds millis.
           breaks_then g.D.Disk.view g.K.Sink.takes g.K.Sink.fails g.K.Sink.faults a.config.now.addresses g.met.K.Sink.takes_then ⊥ ⊥ (λ none. none) far.0 one.0 one.1 c.in_err-more.field-0.0
           (scene a.kept.now a.outbox.now a.sink.now (outside_of (story a.link.now) (faults a.link.now) seconds millis)) (scene m.kept m.outbox m.sink (outside_of (story m.link) (faults m.link) seconds millis)) (scene new.kept new.outbox new.sink (outside_of (story new.link) (faults new.link) seconds millis))
-          (far.2 seconds millis) (one.2 seconds millis),
+          (far.2 seconds millis) (one.3 seconds millis),
     )
 
 pub messages-preserved : goal.messages-preserved

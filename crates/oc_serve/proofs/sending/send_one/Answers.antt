@@ -1,4 +1,4 @@
-use Rattle.std.proofs.Common.{[], ◌∷◌, ◌++◌, None, Some, ◌∙◌, ap, refl, rules, arith}
+use Rattle.std.proofs.Common.{[], ◌∷◌, ◌++◌, None, Some, inl, inr, ◌∙◌, ap, refl, rules, arith}
 use Rattle.std.proofs.lemmas.Result.{err_from_is_err_and}
 use Rattle.oc_turn.specs.Deeds.{Idle, Takes, Taking, outside_of}
 use Rattle.oc_turn.specs.Scenes.{scene}
@@ -17,6 +17,7 @@ returns-in_err-sent-clause-stops g c =
     rw (p.1, p.2) (
       [],
       Idle,
+      inl (refl, refl, refl),
       λ seconds millis. (
         scene a.kept.now a.outbox.now a.sink.now (outside_of (story a.link.now) (faults a.link.now) seconds millis),
         did_none g.D.Disk.view g.K.Sink.takes g.K.Sink.fails g.K.Sink.faults a.config.now.addresses g.met.K.Sink.takes_nothing (scene a.kept.now a.outbox.now a.sink.now (outside_of (story a.link.now) (faults a.link.now) seconds millis)) c.requires.open,
@@ -41,6 +42,7 @@ returns-in_err-take_own-in-Brought-Some-clause-stops g c =
     rw (p.1, p.2) (
       d.0,
       Taking e.input,
+      inr (d.1.0, e.input, d.1.1, refl),
       λ seconds millis. (
         scene a.kept.now new.outbox a.sink.now (outside_of (story new.link) (faults new.link) seconds millis),
         d.2 seconds millis,

@@ -1,4 +1,4 @@
-use Rattle.std.proofs.Common.{◌++◌}
+use Rattle.std.proofs.Common.{◌++◌, inl, inr, refl}
 use Rattle.std.proofs.lemmas.Result.{err_from_is_err_and}
 use Rattle.oc_turn.specs.Deeds.{outside_of}
 use Rattle.oc_turn.specs.Scenes.{scene}
@@ -14,7 +14,7 @@ returns-in_err-tick-clause-stops g c =
     let p = err_from_is_err_and c.from_residual.result c.from_residual.ensures.1 in
     let a = c.args in
     let t = c.in_err-tick.ensures.stops in
-    rw (p.1, p.2) (t.0, t.1, t.2 a.config.now.addresses (g.L.Link.story a.link.now) (g.L.Link.faults a.link.now))
+    rw (p.1, p.2) (t.0, t.1, inl t.2, t.3 a.config.now.addresses (g.L.Link.story a.link.now) (g.L.Link.faults a.link.now))
 
 pub returns-clause-did : goal.returns-clause-did
 returns-clause-did g c =
@@ -46,10 +46,11 @@ returns-clause-stops g c =
     err_then c.send_all.result (λ end one. (
       ticked tick.0 ++ one.0,
       one.1,
+      inr (tick.0, one.0, one.2, refl),
       breaks_then g.D.Disk.view g.K.Sink.takes g.K.Sink.fails g.K.Sink.faults a.config.now.addresses g.met.K.Sink.takes_then ⊥ ⊥ (λ none. none) (ticked tick.0) one.0 one.1 end
           (scene a.kept.now a.outbox.now a.sink.now (outside_of (story a.link.now) (faults a.link.now) (g.C.Clock.seconds a.clock.now) (g.C.Clock.milliseconds a.clock.now)))
           (scene c.tick.new.kept c.tick.new.outbox c.tick.new.sink (outside_of (story a.link.now) (faults a.link.now) seconds millis)) (scene n.kept n.outbox n.sink (outside_of (story n.link) (faults n.link) seconds millis))
-          (tick.1 a.config.now.addresses (story a.link.now) (faults a.link.now)) (one.2 seconds millis),
+          (tick.1 a.config.now.addresses (story a.link.now) (faults a.link.now)) (one.3 seconds millis),
     )) c.send_all.ensures.stops
 
 pub send_all-requires-clause-open : goal.send_all-requires-clause-open

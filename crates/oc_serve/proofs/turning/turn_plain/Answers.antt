@@ -1,4 +1,4 @@
-use Rattle.std.proofs.Common.{refl}
+use Rattle.std.proofs.Common.{None, refl}
 use Rattle.std.proofs.lemmas.Result.{err_from_is_err_and}
 use Rattle.oc_turn.specs.Deeds.{Idle, outside_of}
 use Rattle.oc_turn.specs.Scenes.{scene}
@@ -22,7 +22,7 @@ returns-in_err-tidy-clause-stops g c =
     let k1 = c.tidy.new.kept in
     let e = look_ends g.D.Disk.view g.K.Sink.takes g.K.Sink.fails g.K.Sink.faults g.met.K.Sink.takes_nothing c.in_err-tidy.field-0.0 a.kept.now k1 a.sink.now c.in_err-tidy.ensures.stops in
     rw (p.1, p.2)
-    (stops_before g.D.Disk.view g.K.Sink.takes g.K.Sink.fails g.K.Sink.faults a.config.now.addresses a.config.now.rules c.in_err-tidy.field-0.0 Idle old old (scene k1 a.outbox.now a.sink.now out)
+    (stops_before g.D.Disk.view g.K.Sink.takes g.K.Sink.fails g.K.Sink.faults a.config.now.addresses a.config.now.rules None c.in_err-tidy.field-0.0 old old (scene k1 a.outbox.now a.sink.now out)
     (did_none g.D.Disk.view g.K.Sink.takes g.K.Sink.fails g.K.Sink.faults a.config.now.addresses g.met.K.Sink.takes_nothing old c.requires.open)
     (breaks_as g.D.Disk.view g.K.Sink.takes g.K.Sink.fails g.K.Sink.faults a.config.now.addresses ⊥ _ (λ none. absurd none) c.in_err-tidy.field-0.0 Idle old (scene k1 a.outbox.now a.sink.now out) (breaks_still g.D.Disk.view g.K.Sink.takes g.K.Sink.fails g.K.Sink.faults a.config.now.addresses c.in_err-tidy.field-0.0 Idle a.kept.now k1 a.outbox.now a.outbox.now a.sink.now a.sink.now out out e.0 e.1 refl)))
 
@@ -40,7 +40,7 @@ returns-in_err-reader-clause-stops g c =
     let looks = c.in_ok-tidy.ensures.looks in
     let e = look_ends g.D.Disk.view g.K.Sink.takes g.K.Sink.fails g.K.Sink.faults g.met.K.Sink.takes_nothing c.in_err-reader.field-0.0 k1 k1 a.sink.now (c.in_err-reader.ensures looks.is_open) in
     rw (p.1, p.2)
-    (stops_before g.D.Disk.view g.K.Sink.takes g.K.Sink.fails g.K.Sink.faults a.config.now.addresses a.config.now.rules c.in_err-reader.field-0.0 Idle (scene a.kept.now a.outbox.now a.sink.now out) mid mid
+    (stops_before g.D.Disk.view g.K.Sink.takes g.K.Sink.fails g.K.Sink.faults a.config.now.addresses a.config.now.rules None c.in_err-reader.field-0.0 (scene a.kept.now a.outbox.now a.sink.now out) mid mid
     (did_look g.D.Disk.view g.K.Sink.takes g.K.Sink.fails g.K.Sink.faults a.config.now.addresses g.met.K.Sink.takes_nothing a.kept.now k1 a.outbox.now a.sink.now out looks)
     (breaks_as g.D.Disk.view g.K.Sink.takes g.K.Sink.fails g.K.Sink.faults a.config.now.addresses ⊥ _ (λ none. absurd none) c.in_err-reader.field-0.0 Idle mid mid (breaks_still g.D.Disk.view g.K.Sink.takes g.K.Sink.fails g.K.Sink.faults a.config.now.addresses c.in_err-reader.field-0.0 Idle k1 k1 a.outbox.now a.outbox.now a.sink.now a.sink.now out out e.0 e.1 refl)))
 
@@ -57,7 +57,7 @@ returns-in_err-arrival-clause-stops g c =
     let last = outside_of (story c.ask.new.link) (faults c.ask.new.link) seconds millis in
     let looks = c.in_ok-tidy.ensures.looks in
     rw (p.1, p.2, c.in_err-arrival.ensures.fails.0)
-    (stops_before g.D.Disk.view g.K.Sink.takes g.K.Sink.fails g.K.Sink.faults a.config.now.addresses a.config.now.rules ends.Link Idle (scene a.kept.now a.outbox.now a.sink.now out) (scene k1 a.outbox.now a.sink.now out) (scene k1 a.outbox.now a.sink.now last)
+    (stops_before g.D.Disk.view g.K.Sink.takes g.K.Sink.fails g.K.Sink.faults a.config.now.addresses a.config.now.rules None ends.Link (scene a.kept.now a.outbox.now a.sink.now out) (scene k1 a.outbox.now a.sink.now out) (scene k1 a.outbox.now a.sink.now last)
     (did_look g.D.Disk.view g.K.Sink.takes g.K.Sink.fails g.K.Sink.faults a.config.now.addresses g.met.K.Sink.takes_nothing a.kept.now k1 a.outbox.now a.sink.now out looks)
     (breaks_link g.D.Disk.view g.K.Sink.takes g.K.Sink.fails g.K.Sink.faults a.config.now.addresses g.met.K.Sink.takes_nothing _ k1 a.outbox.now a.outbox.now a.sink.now out last (c.in_err-arrival.ensures.survives looks.is_open)
     (record { story = c.in_err-arrival.ensures.silent; counts = c.ask.ensures.count; rest = refl }) c.in_err-arrival.ensures.fails.1))
@@ -78,7 +78,7 @@ returns-in_err-serve_arrival-clause-stops g c =
     let d = c.in_err-serve_arrival.ensures.stops in
     let e = d.2 a.config.now.addresses seconds millis in
     rw (p.1, p.2)
-    (stops_cut g.D.Disk.view g.K.Sink.takes g.K.Sink.fails g.K.Sink.faults a.config.now.addresses a.config.now.rules g.met.K.Sink.takes_then c.in_err-serve_arrival.field-0.0 d.1
+    (stops_cut g.D.Disk.view g.K.Sink.takes g.K.Sink.fails g.K.Sink.faults a.config.now.addresses a.config.now.rules g.met.K.Sink.takes_then None c.in_err-serve_arrival.field-0.0 d.1
     (scene a.kept.now a.outbox.now a.sink.now out) (scene c.tidy.new.kept a.outbox.now a.sink.now (outside_of (story c.ask.new.link) (faults c.ask.new.link) seconds millis)) (scene e.0 e.1 e.2 last) (scene n.kept n.outbox n.sink last)
     c.in_ok-arrival.arrival d.0 c.in_err-serve_arrival.ensures.conn asked e.3 d.3
     (breaks_still g.D.Disk.view g.K.Sink.takes g.K.Sink.fails g.K.Sink.faults a.config.now.addresses c.in_err-serve_arrival.field-0.0 d.1 e.0 n.kept e.1 n.outbox e.2 n.sink last last e.4 e.5 refl))
@@ -99,10 +99,10 @@ returns-in_err-tick_and_send-clause-stops g c =
     let served = c.in_ok-serve_arrival.ensures.did in
     let t = c.in_err-tick_and_send.ensures.stops in
     rw (p.1, p.2)
-    (stops_behind g.D.Disk.view g.K.Sink.takes g.K.Sink.fails g.K.Sink.faults a.config.now.addresses a.config.now.rules g.met.K.Sink.takes_then c.in_err-tick_and_send.field-0.0
+    (stops_behind g.D.Disk.view g.K.Sink.takes g.K.Sink.fails g.K.Sink.faults a.config.now.addresses a.config.now.rules g.met.K.Sink.takes_then None c.in_err-tick_and_send.field-0.0
     (scene a.kept.now a.outbox.now a.sink.now out) (scene c.tidy.new.kept a.outbox.now a.sink.now (outside_of (story c.ask.new.link) (faults c.ask.new.link) seconds millis)) (scene v.kept v.outbox v.sink (outside_of (story v.link) (faults v.link) seconds millis))
     (scene n.kept n.outbox n.sink (outside_of (story n.link) (faults n.link) (g.C.Clock.seconds n.clock) (g.C.Clock.milliseconds n.clock)))
-    c.in_ok-arrival.arrival served.0 t.0 t.1 asked (served.2 a.config.now.addresses seconds millis) served.3 t.2)
+    c.in_ok-arrival.arrival served.0 t.0 t.1 asked (served.2 a.config.now.addresses seconds millis) served.3 t.2 t.3)
 
 pub returns-clause-did : goal.returns-clause-did
 returns-clause-did g c =

@@ -1,25 +1,22 @@
 -- Lines of acts and events are read as these acts and events.
-use Rattle.std.proofs.Common.{◌≡◌, ℕ, ◌+◌, ◌^◌, ◌<◌, ◌≤◌, Bool, true, false, cond, ◌&&◌, ◌==◌, nat_lt, Option, Some, None, Result, Ok, Err, List, [], ◌∷◌, ◌++◌, length, refl, ap, sym, ◌∙◌, arith, codes, decimal, append_assoc}
+use Rattle.std.proofs.Common.{◌≡◌, ℕ, ◌^◌, ◌<◌, ◌≤◌, false, Result, Ok, [], ◌∷◌, refl, ap, ◌∙◌, arith, codes, decimal}
 use Rattle.std.specs.Str.{bytes_eq}
-use Rattle.std.specs.Str.Lines.{lines}
-use Rattle.std.proofs.lemmas.Bool.Decides.{nat_tests}
 use Rattle.oc_base.specs.Lawful.{IsNode}
 use Rattle.oc_base.specs.Steps.{◌>>=◌}
-use Rattle.oc_base.specs.Words.{node_in, number_in, words}
-use Rattle.oc_base.specs.declared.limits.TheConstants.{MAX_NODES, MAX_RATE, MAX_SCHEDULE_LINES, MAX_SCHEDULE_PUBLISHED, MAX_SCHEDULE_SETTLES, MAX_START, MAX_TIME}
+use Rattle.oc_base.specs.Words.{node_in, number_in}
+use Rattle.oc_base.specs.declared.limits.TheConstants.{MAX_NODES, MAX_RATE, MAX_START, MAX_TIME}
 use Rattle.oc_model.specs.declared.event.Act.{Act}
 use Rattle.oc_model.specs.declared.event.Act.TheVariants as acts
 use Rattle.oc_model.specs.declared.event.Event.{Event}
 use Rattle.oc_model.specs.declared.event.Event.TheVariants as events
 use Rattle.oc_model.specs.Lawful.{IsAct, IsEvent}
 use Rattle.oc_schedule.proofs.FieldsBack.{bytes_back, bytes_word, decimal_word, group_back, name_word, number_back}
-use Rattle.oc_schedule.proofs.LineBack.{AreWords, words_back}
+use Rattle.oc_schedule.proofs.LineBack.{AreWords}
 use Rattle.oc_schedule.specs.Acts.{act_fields, act_in, act_word, act_words, pair_in, most_byte, most_number}
-use Rattle.oc_schedule.specs.Fields.{bytes_in, group_in}
+use Rattle.oc_schedule.specs.Fields.{group_in}
 use Rattle.oc_schedule.specs.Lines.{act_alone_in, event_fields, event_in, event_word, event_words, most_calls}
-use Rattle.oc_schedule.specs.Printing.{IsOfBytes, PublishesBytes, spaced}
-use Rattle.oc_schedule.specs.Schedule.{is_comment, read_line, read_words, with_event, within_limits}
-use Rattle.oc_schedule.specs.Script.{Script, published_in, settles_in}
+use Rattle.oc_schedule.specs.Printing.{IsOfBytes, PublishesBytes}
+use Rattle.oc_schedule.specs.Schedule.{is_comment}
 
 -- the first step gives x, and the next gives y
 pub then : {A B E : Type 0} (r : Result A E) (f : A → Result B E) (x : A) (y : B) → r ≡ Ok x → f x ≡ Ok y → (r >>= f) ≡ Ok y

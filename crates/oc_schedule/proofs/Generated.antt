@@ -1,5 +1,5 @@
 -- What is generated is a schedule within the ranges and the limits.
-use Rattle.std.proofs.Common.{◌≡◌, ℕ, zero, suc, ◌+◌, ◌-◌, ◌%◌, ◌<◌, ◌≤◌, Bool, true, false, cond, ◌==◌, nat_le, min, List, [], ◌∷◌, ◌++◌, map, length, refl, ap, sym, ◌∙◌, arith, codes, replicate, length-append}
+use Rattle.std.proofs.Common.{◌≡◌, ℕ, zero, suc, ◌+◌, ◌%◌, ◌≤◌, Bool, true, false, cond, ◌==◌, nat_le, List, [], ◌∷◌, ◌++◌, map, length, refl, ap, arith, codes, length-append}
 use Rattle.std.specs.List.{AllByRecursion, range_with_len}
 use Rattle.std.proofs.lemmas.List.{length-replicate}
 use Rattle.std.proofs.lemmas.List.Sums.{sum_by-append, sum_by-cons}
@@ -12,7 +12,6 @@ use Rattle.oc_model.specs.declared.event.Event.TheVariants.{Up, Crash, Do}
 use Rattle.oc_model.specs.Lawful.{IsEvent}
 use Rattle.oc_schedule.specs.declared.generating.TheConstants.{MAX_GENERATED_EVENTS}
 use Rattle.oc_schedule.specs.Generator.{draw_at, draws_of, events_from, generated, made}
-use Rattle.oc_schedule.specs.Printing.{IsOfBytes}
 use Rattle.oc_schedule.specs.Schedule.{IsSchedule}
 use Rattle.oc_schedule.specs.Script.{published_by, published_in, settles_by, settles_in}
 use Rattle.oc_schedule.proofs.Ranges.{zeros_are_areas}

@@ -1,7 +1,7 @@
 -- A line of words is read as these words.
-use Rattle.std.proofs.Common.{◌≡◌, ℕ, suc, ◌+◌, ◌-◌, ◌<◌, ◌≤◌, Bool, true, false, cond, ◌&&◌, ◌==◌, nat_lt, List, [], ◌∷◌, ◌++◌, length, take, refl, ap, sym, ◌∙◌, subst, zero, arith, append_assoc, codes}
+use Rattle.std.proofs.Common.{◌≡◌, ℕ, suc, ◌-◌, ◌<◌, ◌≤◌, Bool, true, false, cond, ◌&&◌, ◌==◌, nat_lt, List, [], ◌∷◌, ◌++◌, length, take, refl, ap, ◌∙◌, zero, arith, append_assoc, codes}
 use Rattle.std.specs.Prelude.{slice_index, not, filter}
-use Rattle.std.specs.List.{All, AllByRecursion, flat_map, list_all, slice_split}
+use Rattle.std.specs.List.{AllByRecursion, flat_map, list_all, slice_split}
 use Rattle.std.specs.Str.Lines.{lines, strip_carriage_return}
 use Rattle.std.proofs.lemmas.Bool.{and_parts}
 use Rattle.std.proofs.lemmas.Bool.Decides.{nat_tests}

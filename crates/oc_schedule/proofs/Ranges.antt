@@ -1,6 +1,6 @@
 -- What is read is within its range.
 use Rattle.std.specs.List.{AllByRecursion}
-use Rattle.std.proofs.Common.{◌≡◌, ℕ, zero, suc, ◌≤◌, Bool, true, false, cond, [], ◌∷◌, not, ◌&&◌, Option, Some, None, Result, Ok, Err, List, inl, inr, refl, subst, arith, min, nat_le, replicate, codes}
+use Rattle.std.proofs.Common.{◌≡◌, ℕ, zero, suc, ◌≤◌, Bool, true, false, cond, [], ◌∷◌, not, ◌&&◌, Option, Some, None, Result, Ok, Err, List, refl, subst, arith, min, nat_le, replicate, codes}
 use Rattle.std.specs.Prelude.{slice_set}
 use Rattle.std.specs.Str.{bytes_eq}
 use Rattle.std.specs.Str.Parse.{digits_value}
@@ -18,7 +18,7 @@ use Rattle.oc_model.specs.declared.event.Event.TheVariants.{Up, Crash, Stop, Do,
 use Rattle.oc_base.specs.Lawful.{IsNode}
 use Rattle.oc_model.specs.Lawful.{IsHeader, IsAct, IsEvent}
 use Rattle.oc_model.specs.Node.{Header}
-use Rattle.oc_schedule.proofs.Steps.{steps, chosen, behind_guard, within_guard}
+use Rattle.oc_schedule.proofs.Steps.{steps, behind_guard, within_guard}
 use Rattle.oc_base.specs.Words.{one, two, three, four, six, is_number, number_in, node_in}
 use Rattle.oc_base.specs.declared.limits.TheConstants.{MAX_AREA, MAX_NODES, MAX_CHAIN, MAX_RATE, MAX_START, MAX_TIME}
 use Rattle.oc_schedule.specs.Fields.{group_in, bytes_in, first_three}

@@ -1,7 +1,6 @@
 -- A schedule that is printed is read as the same one.
-use Rattle.std.proofs.Common.{◌≡◌, ℕ, zero, suc, ◌+◌, ◌-◌, ◌^◌, ◌<◌, ◌≤◌, Bool, true, false, cond, ◌&&◌, ◌==◌, nat_lt, min, Option, Some, None, Result, Ok, Err, List, [], ◌∷◌, ◌++◌, length, refl, ap, sym, ◌∙◌, arith, codes, decimal, append_assoc, replicate, length-append}
+use Rattle.std.proofs.Common.{◌≡◌, ℕ, zero, suc, ◌+◌, ◌-◌, ◌^◌, ◌<◌, ◌≤◌, false, cond, ◌&&◌, ◌==◌, nat_lt, min, Option, Some, None, Ok, Err, List, [], ◌∷◌, ◌++◌, length, refl, ap, sym, ◌∙◌, arith, codes, decimal, append_assoc, replicate, length-append}
 use Rattle.std.specs.List.{AllByRecursion}
-use Rattle.std.specs.Str.{bytes_eq}
 use Rattle.std.specs.Str.Lines.{lines}
 use Rattle.std.proofs.lemmas.Bool.Decides.{nat_tests}
 use Rattle.std.proofs.lemmas.List.{append-nil, set_at}
@@ -9,21 +8,19 @@ use Rattle.std.proofs.lemmas.List.Sums.{sum_by-append}
 use Rattle.oc_base.specs.Steps.{◌>>=◌, with_fault}
 use Rattle.oc_base.specs.Words.{node_in, number_in, words}
 use Rattle.oc_base.specs.declared.limits.TheConstants.{MAX_AREA, MAX_CHAIN, MAX_NODES, MAX_SCHEDULE_BYTES, MAX_SCHEDULE_LINES, MAX_SCHEDULE_PUBLISHED, MAX_SCHEDULE_SETTLES}
-use Rattle.oc_base.specs.declared.why.Why.{Why}
 use Rattle.oc_base.specs.declared.why.Why.TheVariants as causes
 use Rattle.oc_model.specs.declared.event.Event.{Event}
-use Rattle.oc_model.specs.Lawful.{IsEvent, IsHeader}
+use Rattle.oc_model.specs.Lawful.{IsEvent}
 use Rattle.oc_schedule.proofs.EventsBack.{event_are_words, event_back, event_is_no_other, node_back, node_word, then}
 use Rattle.oc_schedule.proofs.FieldsBack.{decimal_word, number_back}
 use Rattle.oc_schedule.proofs.LineBack.{AreWords, line_back, words_back}
-use Rattle.oc_schedule.specs.declared.fault.ScheduleFault.{ScheduleFault}
 use Rattle.oc_schedule.specs.declared.fault.ScheduleFault.TheVariants.{Limit}
 use Rattle.oc_schedule.specs.declared.fault.What.TheVariants as limits
 use Rattle.oc_schedule.specs.Acts.{most_byte}
-use Rattle.oc_schedule.specs.Lines.{area_in, area_words, event_fields, event_in, event_word, event_words, header_in, header_words, opening_in, sizes_in}
+use Rattle.oc_schedule.specs.Lines.{area_in, area_words, event_fields, event_in, event_word, event_words, header_words, sizes_in}
 use Rattle.oc_schedule.specs.Printing.{IsOfBytes, IsPrintable, area_lines, areas_text, events_text, line_text, script_text, spaced}
 use Rattle.oc_schedule.specs.Reading.{at_line}
-use Rattle.oc_schedule.specs.Schedule.{after_area, after_event, after_line, first_script, is_comment, read_line, read_lines, read_statement, read_words, schedule_of, script_after, with_area, with_event, within_limits}
+use Rattle.oc_schedule.specs.Schedule.{after_area, after_event, is_comment, read_line, read_lines, read_statement, read_words, schedule_of, script_after, with_event, within_limits}
 use Rattle.oc_schedule.specs.Script.{Script, published_by, published_in, settles_by, settles_in}
 
 -- One line

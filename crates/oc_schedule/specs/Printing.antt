@@ -1,5 +1,5 @@
 -- The text of a schedule: a line of words for the header, for each area that is not 0, and for each event.
-use Rattle.std.specs.Prelude.{ℕ, ◌+◌, ◌==◌, ◌<◌, ◌≤◌, if◌then◌else◌, List, [], ◌∷◌, ◌++◌, length, codes, decimal}
+use Rattle.std.specs.Prelude.{ℕ, ◌+◌, ◌==◌, ◌≤◌, if◌then◌else◌, List, [], ◌∷◌, ◌++◌, length, codes, decimal}
 use Rattle.std.specs.List.{AllByRecursion, flat_map}
 use Rattle.hex.specs.Hex.{encode_lower, IsBytes}
 use Rattle.oc_base.specs.declared.limits.TheConstants.{MAX_SCHEDULE_LINES, MAX_SCHEDULE_BYTES}
@@ -12,10 +12,14 @@ use Rattle.oc_schedule.specs.Lines.{header_words, area_words, event_words}
 use Rattle.oc_schedule.specs.Schedule.{IsSchedule}
 use Rattle.oc_schedule.specs.Script.{Script}
 
+-- words with a space before each
+abbrev pub fields_text : List (List ℕ) → List ℕ
+fields_text words = flat_map (λ w. codes " " ++ w) words
+
 -- words with a space between each two
 abbrev pub spaced : List (List ℕ) → List ℕ
 spaced [] = []
-spaced (word ∷ words) = word ++ flat_map (λ w. codes " " ++ w) words
+spaced (word ∷ words) = word ++ fields_text words
 
 -- a line of these words
 abbrev pub line_text : List (List ℕ) → List ℕ

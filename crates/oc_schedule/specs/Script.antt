@@ -1,6 +1,6 @@
 -- What a schedule says, and what is counted of it.
-use Rattle.std.specs.Prelude.{ℕ, ◌<◌, List, length}
-use Rattle.std.specs.List.{sum_by, All}
+use Rattle.std.specs.Prelude.{ℕ, List, length}
+use Rattle.std.specs.List.{sum_by}
 use Rattle.oc_model.specs.declared.event.Act.{Act}
 use Rattle.oc_model.specs.declared.event.Act.TheVariants as acts
 use Rattle.oc_model.specs.declared.event.Event.{Event}

@@ -3,23 +3,24 @@
 //! A further kind is one more pair of definitions in `specs/Acts`, one reader here, and a branch of
 //! [`act`] and [`put_act`].
 
-ghost use Rattle.std.specs.Prelude.{◌≡◌, ◌∷◌, ◌++◌, OnOk, codes, decimal};
+ghost use Rattle.std.specs.Prelude.{◌≡◌, [], ◌∷◌, ◌++◌, OnOk, decimal};
 ghost use Rattle.oc_base.specs.Words.{words};
-ghost use Rattle.oc_schedule.specs.Acts.{tick_in, check_in, pair_in, measure_in, publish_in, seal_in, client_in, deliver_in, act_in, act_words, act_word};
-ghost use Rattle.oc_schedule.specs.Printing.{spaced};
+ghost use Rattle.oc_schedule.specs.Acts.{tick_in, check_in, pair_in, move_in, fail_in, pull_in, measure_in, publish_in, seal_in, client_in, deliver_in, act_in, act_words, act_word, act_fields};
+ghost use Rattle.oc_schedule.specs.Fields.{bytes_text};
+ghost use Rattle.oc_schedule.specs.Printing.{fields_text, spaced};
 ghost use Rattle.oc_schedule.specs.Reading.{GivesLine};
 
 use crate::fault::LineFault;
-use crate::fields::{bytes, group};
+use crate::fields::{bytes, group, is};
 use crate::texts::{put_bytes, put_field, put_number_field};
-use oc_base::words::{four_fields, is, node, number, one_field, three_fields, two_fields};
+use oc_base::words::{four_fields, node, number, one_field, three_fields, two_fields};
 use oc_base::{MAX_RATE, MAX_START, MAX_TIME, Memory, NodeId, Why, put};
 use oc_model::Act;
 use std::alloc::Global;
 
 /// `tick N T`
-fn tick(nodes: u32, fields: &[u8]) -> Result<Act, Why>
-    ensures { result ≡ tick_in nodes (words fields.now) }
+fn tick(nodes: u32, fields: &[u8]) -> Result<Act, LineFault>
+    ensures { GivesLine result (tick_in nodes (words fields.now)) }
 {
     let (n, t) = two_fields(fields)?;
     Ok(Act::Tick {
@@ -29,8 +30,8 @@ fn tick(nodes: u32, fields: &[u8]) -> Result<Act, Why>
 }
 
 /// `check N`
-fn check(nodes: u32, fields: &[u8]) -> Result<Act, Why>
-    ensures { result ≡ check_in nodes (words fields.now) }
+fn check(nodes: u32, fields: &[u8]) -> Result<Act, LineFault>
+    ensures { GivesLine result (check_in nodes (words fields.now)) }
 {
     let n = one_field(fields)?;
     Ok(Act::Check {
@@ -48,9 +49,33 @@ fn pair(nodes: u32, fields: &[u8]) -> Result<(NodeId, NodeId), Why>
     Ok((node_id, peer))
 }
 
+/// `move N P`
+fn move_of(nodes: u32, fields: &[u8]) -> Result<Act, LineFault>
+    ensures { GivesLine result (move_in nodes (words fields.now)) }
+{
+    let (node, peer) = pair(nodes, fields)?;
+    Ok(Act::Move { node, peer })
+}
+
+/// `fail N P`
+fn fail(nodes: u32, fields: &[u8]) -> Result<Act, LineFault>
+    ensures { GivesLine result (fail_in nodes (words fields.now)) }
+{
+    let (node, peer) = pair(nodes, fields)?;
+    Ok(Act::Fail { node, peer })
+}
+
+/// `pull N P`
+fn pull(nodes: u32, fields: &[u8]) -> Result<Act, LineFault>
+    ensures { GivesLine result (pull_in nodes (words fields.now)) }
+{
+    let (node, peer) = pair(nodes, fields)?;
+    Ok(Act::Pull { node, peer })
+}
+
 /// `measure N P R H`
-fn measure(nodes: u32, fields: &[u8]) -> Result<Act, Why>
-    ensures { result ≡ measure_in nodes (words fields.now) }
+fn measure(nodes: u32, fields: &[u8]) -> Result<Act, LineFault>
+    ensures { GivesLine result (measure_in nodes (words fields.now)) }
 {
     let (n, p, r, h) = four_fields(fields)?;
     let node_id = node(n, nodes)?;
@@ -78,8 +103,8 @@ fn publish(alloc: Global, nodes: u32, fields: &[u8]) -> Result<Act, LineFault>
 }
 
 /// `seal N G`
-fn seal(nodes: u32, fields: &[u8]) -> Result<Act, Why>
-    ensures { result ≡ seal_in nodes (words fields.now) }
+fn seal(nodes: u32, fields: &[u8]) -> Result<Act, LineFault>
+    ensures { GivesLine result (seal_in nodes (words fields.now)) }
 {
     let (n, g) = two_fields(fields)?;
     Ok(Act::Seal {
@@ -89,8 +114,8 @@ fn seal(nodes: u32, fields: &[u8]) -> Result<Act, Why>
 }
 
 /// `client N A S G`
-fn client(nodes: u32, fields: &[u8]) -> Result<Act, Why>
-    ensures { result ≡ client_in nodes (words fields.now) }
+fn client(nodes: u32, fields: &[u8]) -> Result<Act, LineFault>
+    ensures { GivesLine result (client_in nodes (words fields.now)) }
 {
     let (n, a, s, g) = four_fields(fields)?;
     let node_id = node(n, nodes)?;
@@ -105,8 +130,8 @@ fn client(nodes: u32, fields: &[u8]) -> Result<Act, Why>
 }
 
 /// `deliver K`
-fn deliver(fields: &[u8]) -> Result<Act, Why>
-    ensures { result ≡ deliver_in (words fields.now) }
+fn deliver(fields: &[u8]) -> Result<Act, LineFault>
+    ensures { GivesLine result (deliver_in (words fields.now)) }
 {
     let k = one_field(fields)?;
     Ok(Act::Deliver {
@@ -119,28 +144,25 @@ pub(crate) fn act(alloc: Global, nodes: u32, word: &[u8], fields: &[u8]) -> Resu
     ensures { GivesLine result (act_in nodes word.now (words fields.now)) }
 {
     if is(word, "tick") {
-        Ok(tick(nodes, fields)?)
+        tick(nodes, fields)
     } else if is(word, "check") {
-        Ok(check(nodes, fields)?)
+        check(nodes, fields)
     } else if is(word, "move") {
-        let (node, peer) = pair(nodes, fields)?;
-        Ok(Act::Move { node, peer })
+        move_of(nodes, fields)
     } else if is(word, "fail") {
-        let (node, peer) = pair(nodes, fields)?;
-        Ok(Act::Fail { node, peer })
+        fail(nodes, fields)
     } else if is(word, "pull") {
-        let (node, peer) = pair(nodes, fields)?;
-        Ok(Act::Pull { node, peer })
+        pull(nodes, fields)
     } else if is(word, "measure") {
-        Ok(measure(nodes, fields)?)
+        measure(nodes, fields)
     } else if is(word, "publish") {
         publish(alloc, nodes, fields)
     } else if is(word, "seal") {
-        Ok(seal(nodes, fields)?)
+        seal(nodes, fields)
     } else if is(word, "client") {
-        Ok(client(nodes, fields)?)
+        client(nodes, fields)
     } else if is(word, "deliver") {
-        Ok(deliver(fields)?)
+        deliver(fields)
     } else {
         Err(LineFault::Cause(Why::Word))
     }
@@ -151,6 +173,13 @@ pub(crate) fn put_act(out: &mut Vec<u8>, act: &Act) -> Result<(), Memory>
     ensures { OnOk result (out.new.items ≡ out.old.items ++ spaced (act_words act.now)) }
 {
     put(out, word_of(act).as_bytes())?;
+    put_fields(out, act)
+}
+
+/// Puts the fields of an act line.
+fn put_fields(out: &mut Vec<u8>, act: &Act) -> Result<(), Memory>
+    ensures { OnOk result (out.new.items ≡ out.old.items ++ fields_text (act_fields act.now)) }
+{
     match act {
         Act::Tick { node, now } => put_two(out, u64::from(node.0), *now),
         Act::Check { node } => put_number_field(out, u64::from(node.0)),
@@ -162,32 +191,59 @@ pub(crate) fn put_act(out: &mut Vec<u8>, act: &Act) -> Result<(), Memory>
             peer,
             rate,
             hops,
-        } => {
-            put_two(out, u64::from(node.0), u64::from(peer.0))?;
-            put_two(out, *rate, u64::from(*hops))
-        }
-        Act::Publish { node, group, bytes } => {
-            put_number_field(out, u64::from(node.0))?;
-            put_field(out, group.bytes())?;
-            put(out, b" ")?;
-            put_bytes(out, bytes.items())
-        }
-        Act::Seal { node, group } => {
-            put_number_field(out, u64::from(node.0))?;
-            put_field(out, group.bytes())
-        }
+        } => put_measured(out, *node, *peer, *rate, *hops),
+        Act::Publish { node, group, bytes } => put_published(
+            out,
+            *node,
+            group.bytes(),
+            bytes.items(),
+        ),
+        Act::Seal { node, group } => put_named(out, u64::from(node.0), group.bytes()),
         Act::Client {
             node,
             area,
             start,
             group,
-        } => {
-            put_two(out, u64::from(node.0), u64::from(*area))?;
-            put_number_field(out, *start)?;
-            put_field(out, group.bytes())
-        }
+        } => put_asked(out, *node, *area, *start, group.bytes()),
         Act::Deliver { number } => put_number_field(out, *number),
     }
+}
+
+/// Puts the fields of `measure N P R H`.
+fn put_measured(
+    out: &mut Vec<u8>,
+    node: NodeId,
+    peer: NodeId,
+    rate: u64,
+    hops: u8,
+) -> Result<(), Memory>
+    ensures { OnOk result (out.new.items ≡ out.old.items ++ fields_text (decimal node ∷ decimal peer ∷ decimal rate ∷ decimal hops ∷ [])) }
+{
+    put_two(out, u64::from(node.0), u64::from(peer.0))?;
+    put_two(out, rate, u64::from(hops))
+}
+
+/// Puts the fields of `publish N G X`.
+fn put_published(out: &mut Vec<u8>, node: NodeId, group: &[u8], bytes: &[u8]) -> Result<(), Memory>
+    ensures { OnOk result (out.new.items ≡ out.old.items ++ fields_text (decimal node ∷ group.now ∷ bytes_text bytes.now ∷ [])) }
+{
+    put_named(out, u64::from(node.0), group)?;
+    put(out, b" ")?;
+    put_bytes(out, bytes)
+}
+
+/// Puts the fields of `client N A S G`.
+fn put_asked(
+    out: &mut Vec<u8>,
+    node: NodeId,
+    area: u8,
+    start: u64,
+    group: &[u8],
+) -> Result<(), Memory>
+    ensures { OnOk result (out.new.items ≡ out.old.items ++ fields_text (decimal node ∷ decimal area ∷ decimal start ∷ group.now ∷ [])) }
+{
+    put_two(out, u64::from(node.0), u64::from(area))?;
+    put_named(out, start, group)
 }
 
 /// The word of an act line.
@@ -210,8 +266,16 @@ fn word_of(act: &Act) -> &'static str
 
 /// Puts two numbers, a space before each.
 fn put_two(out: &mut Vec<u8>, a: u64, b: u64) -> Result<(), Memory>
-    ensures { OnOk result (out.new.items ≡ out.old.items ++ (codes " " ++ decimal a) ++ (codes " " ++ decimal b)) }
+    ensures { OnOk result (out.new.items ≡ out.old.items ++ fields_text (decimal a ∷ decimal b ∷ [])) }
 {
     put_number_field(out, a)?;
     put_number_field(out, b)
+}
+
+/// Puts a number and a name, a space before each.
+fn put_named(out: &mut Vec<u8>, number: u64, name: &[u8]) -> Result<(), Memory>
+    ensures { OnOk result (out.new.items ≡ out.old.items ++ fields_text (decimal number ∷ name.now ∷ [])) }
+{
+    put_number_field(out, number)?;
+    put_field(out, name)
 }

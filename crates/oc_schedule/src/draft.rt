@@ -8,8 +8,8 @@ ghost use Rattle.oc_schedule.specs.Script.{bytes_of_act, published_by, published
 
 use crate::Schedule;
 use crate::fault::{LineFault, ScheduleFault, What};
+use crate::fields::is;
 use crate::lines::{area, event, opening};
-use oc_base::words::is;
 use oc_base::{MAX_SCHEDULE_PUBLISHED, MAX_SCHEDULE_SETTLES, NodeId, Why};
 use oc_model::{Act, Event};
 use std::alloc::Global;
@@ -34,7 +34,9 @@ impl Draft {
     pub fn from_header(alloc: Global, line: &[u8]) -> Result<Draft, LineFault>
         ensures { GivesLineBy (λ d. d.schedule) result (first_script (words line.now)) }
     {
-        let (nodes, chain) = opening(line).map_err(|_| Why::Header)?;
+        let Ok((nodes, chain)) = opening(line) else {
+            return Err(LineFault::Cause(Why::Header));
+        };
         let areas = vec![in alloc; 0; nodes as usize]?;
         Ok(Draft {
             schedule: Schedule {
@@ -62,11 +64,15 @@ impl Draft {
     {
         let nodes = self.schedule.nodes;
         if is(word, "area") && self.schedule.events.is_empty() {
-            let (node, area) = area(nodes, fields).map_err(|why| LineFault::Cause(why).at(number))?;
-            Ok(self.with_area(node, area))
+            match area(nodes, fields) {
+                Ok((node, area)) => Ok(self.with_area(node, area)),
+                Err(why) => Err(ScheduleFault::Line { line: number, why }),
+            }
         } else {
-            let event = event(alloc, nodes, word, fields).map_err(|fault| fault.at(number))?;
-            self.with_event(event)
+            match event(alloc, nodes, word, fields) {
+                Ok(event) => self.with_event(event),
+                Err(fault) => Err(fault.at(number)),
+            }
         }
     }
 

@@ -1,4 +1,5 @@
-ghost use Rattle.std.specs.Prelude.{◌≡◌};
+ghost use Rattle.std.specs.Prelude.{◌≡◌, length};
+ghost use Rattle.std.specs.Str.{bytes_eq};
 ghost use Rattle.oc_schedule.specs.Fields.{group_in, bytes_in};
 ghost use Rattle.oc_schedule.specs.Reading.{GivesLine};
 
@@ -6,6 +7,32 @@ use crate::fault::LineFault;
 use hex::FromHexError;
 use oc_base::{Bytes, GroupName, Why};
 use std::alloc::Global;
+
+/// Whether a word is this text. Most words differ from a text in their length, so that is looked at first.
+#[tactic(auto, using(crate::proofs::Alike::of_other_length))]
+pub(crate) fn is(word: &[u8], text: &str) -> bool
+    ensures { result ≡ bytes_eq word.now text.now }
+{
+    let text = text.as_bytes();
+    if word.len() != text.len() {
+        return false;
+    }
+    are_same(word, text)
+}
+
+/// Whether two texts of one length are the same.
+#[tactic(auto, using(crate::proofs::Alike::are_read))]
+fn are_same(a: &[u8], b: &[u8]) -> bool
+    requires { length a.now ≡ length b.now }
+    ensures { result ≡ bytes_eq a.now b.now }
+{
+    for i in 0..a.len() {
+        if a[i] != b[i] {
+            return false;
+        }
+    }
+    true
+}
 
 /// The group whose name a field is.
 pub(crate) fn group(field: &[u8]) -> Result<GroupName, Why>

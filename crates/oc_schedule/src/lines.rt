@@ -6,15 +6,17 @@
 ghost use Rattle.std.specs.Prelude.{◌≡◌, ◌++◌, OnOk, IfOk, codes, decimal};
 ghost use Rattle.oc_base.specs.Lawful.{IsNode};
 ghost use Rattle.oc_base.specs.Words.{words, GivesFields};
+ghost use Rattle.oc_model.specs.declared.event.Event.TheVariants.{Settle, Heal};
 ghost use Rattle.oc_schedule.specs.Fields.{first_three};
-ghost use Rattle.oc_schedule.specs.Lines.{sizes_in, opening_in, area_in, node_alone_in, alone, stop_in, event_in, event_words};
+ghost use Rattle.oc_schedule.specs.Lines.{sizes_in, opening_in, area_in, node_alone_in, alone, stop_in, act_alone_in, event_in, event_words};
 ghost use Rattle.oc_schedule.specs.Printing.{spaced};
 ghost use Rattle.oc_schedule.specs.Reading.{GivesLine};
 
 use crate::acts::{act, put_act};
 use crate::fault::LineFault;
+use crate::fields::is;
 use crate::texts::put_number_field;
-use oc_base::words::{first_word, is, node, number, one_field, six_fields, two_fields};
+use oc_base::words::{first_word, node, number, one_field, six_fields, two_fields};
 use oc_base::{MAX_CHAIN, MAX_NODES, Memory, NodeId, Why, put};
 use oc_model::Event;
 use std::alloc::Global;
@@ -62,13 +64,23 @@ fn node_alone(nodes: u32, fields: &[u8]) -> Result<NodeId, Why>
     node(n, nodes)
 }
 
-/// An event without fields.
-fn alone(event: Event, fields: &[u8]) -> Result<Event, Why>
-    ensures { result ≡ alone event (words fields.now) }
+/// `settle`
+fn settle(fields: &[u8]) -> Result<Event, LineFault>
+    ensures { GivesLine result (alone Settle (words fields.now)) }
 {
     match first_word(fields) {
-        None => Ok(event),
-        Some(_) => Err(Why::Count),
+        None => Ok(Event::Settle),
+        Some(_) => Err(LineFault::Cause(Why::Count)),
+    }
+}
+
+/// `heal`
+fn heal(fields: &[u8]) -> Result<Event, LineFault>
+    ensures { GivesLine result (alone Heal (words fields.now)) }
+{
+    match first_word(fields) {
+        None => Ok(Event::Heal),
+        Some(_) => Err(LineFault::Cause(Why::Count)),
     }
 }
 
@@ -78,9 +90,15 @@ type FirstThree<'a> = (&'a [u8], &'a [u8], &'a [u8], &'a [u8]);
 fn three_and_more(line: &[u8]) -> Result<FirstThree<'_>, Why>
     ensures { GivesFields (λ f. (f.0.now, f.1.now, f.2.now, words f.3.now)) result (first_three (words line.now)) }
 {
-    let (a, rest) = first_word(line).ok_or(Why::Count)?;
-    let (b, rest) = first_word(rest).ok_or(Why::Count)?;
-    let (c, rest) = first_word(rest).ok_or(Why::Count)?;
+    let Some((a, rest)) = first_word(line) else {
+        return Err(Why::Count);
+    };
+    let Some((b, rest)) = first_word(rest) else {
+        return Err(Why::Count);
+    };
+    let Some((c, rest)) = first_word(rest) else {
+        return Err(Why::Count);
+    };
     Ok((a, b, c, rest))
 }
 
@@ -118,12 +136,19 @@ pub(crate) fn event(
     } else if is(word, "show") {
         Ok(Event::Show(node_alone(nodes, fields)?))
     } else if is(word, "settle") {
-        Ok(alone(Event::Settle, fields)?)
+        settle(fields)
     } else if is(word, "heal") {
-        Ok(alone(Event::Heal, fields)?)
+        heal(fields)
     } else {
-        Ok(Event::Do(act(alloc, nodes, word, fields)?))
+        act_alone(alloc, nodes, word, fields)
     }
+}
+
+/// An act line by itself.
+fn act_alone(alloc: Global, nodes: u32, word: &[u8], fields: &[u8]) -> Result<Event, LineFault>
+    ensures { GivesLine result (act_alone_in nodes word.now (words fields.now)) }
+{
+    Ok(Event::Do(act(alloc, nodes, word, fields)?))
 }
 
 /// Puts the words of an event line.

@@ -1,9 +1,10 @@
-ghost use Rattle.std.specs.Prelude.{◌≤◌, IfOk, None};
+ghost use Rattle.std.specs.Prelude.{◌≡◌, ◌≤◌, ◌∷◌, IfOk, None};
 ghost use Rattle.std.specs.Str.Lines.{lines};
 ghost use Rattle.oc_schedule.specs.Draft.{script_of};
+ghost use Rattle.oc_base.specs.Words.{words};
 ghost use Rattle.oc_base.specs.declared.limits.TheConstants.{MAX_SCHEDULE_LINES};
 ghost use Rattle.oc_schedule.specs.Reading.{Gives, GivesBy};
-ghost use Rattle.oc_schedule.specs.Schedule.{IsSchedule, read_line, read_lines, schedule_of};
+ghost use Rattle.oc_schedule.specs.Schedule.{IsSchedule, read_line, read_lines, read_statement, schedule_of};
 
 use crate::Schedule;
 use crate::draft::Draft;
@@ -66,12 +67,27 @@ fn read_line(
 {
     match first_word(line) {
         None | Some(([b'#', ..], _)) => Ok(draft),
-        Some((word, fields)) => match draft {
-            None => {
-                let draft = Draft::from_header(alloc, line).map_err(|fault| fault.at(number))?;
-                Ok(Some(draft))
-            }
-            Some(draft) => Ok(Some(draft.with_line(alloc, number, word, fields)?)),
+        Some((word, fields)) => Ok(Some(read_statement(alloc, draft, number, line, word, fields)?)),
+    }
+}
+
+/// The draft after a line that is not skipped, of this word and these fields.
+fn read_statement(
+    alloc: Global,
+    draft: Option<Draft>,
+    number: u32,
+    line: &[u8],
+    word: &[u8],
+    fields: &[u8],
+) -> Result<Draft, ScheduleFault>
+    requires { words line.now ≡ word.now ∷ words fields.now }
+    ensures { GivesBy (λ d. d.schedule) result (read_statement number (script_of draft) word.now (words fields.now)) }
+{
+    match draft {
+        Some(draft) => draft.with_line(alloc, number, word, fields),
+        None => match Draft::from_header(alloc, line) {
+            Ok(draft) => Ok(draft),
+            Err(fault) => Err(fault.at(number)),
         },
     }
 }

@@ -37,8 +37,12 @@ pub(crate) fn put_hex(out: &mut Vec<u8>, bytes: &[u8]) -> Result<(), Memory>
     ensures { OnOk result (out.new.items ≡ out.old.items ++ encode_lower bytes.now) }
 {
     let start = out.len();
-    let digits = bytes.len().checked_mul(2).ok_or(Memory)?;
-    let end = start.checked_add(digits).ok_or(Memory)?;
+    let Some(digits) = bytes.len().checked_mul(2) else {
+        return Err(Memory);
+    };
+    let Some(end) = start.checked_add(digits) else {
+        return Err(Memory);
+    };
     out.resize(end, 0)?;
     hex::encode_to_slice(bytes, &mut out[start..]).unwrap();
     Ok(())

@@ -2,7 +2,7 @@
 
 ghost use Rattle.std.specs.Prelude.{◌≡◌, ◌≤◌, IfOk, OnOk, Some};
 ghost use Rattle.oc_base.specs.Shelves.{IsShelf};
-ghost use Rattle.oc_model.specs.Lawful.{AreRecords};
+ghost use Rattle.oc_model.specs.Lawful.{AreRecords, IsInput};
 ghost use Rattle.oc_model.specs.declared.want.Want.{Want};
 ghost use Rattle.oc_node.specs.Applying.{CanApply};
 ghost use Rattle.oc_node.specs.NodeView.{NodeView};
@@ -11,8 +11,8 @@ ghost use Rattle.oc_node.specs.Planned.{IsWanting};
 use crate::inputs::{NODES, input_in};
 use crate::spelled::spelled;
 use oc_base::{MAX_BASE_ACKED, MAX_GROUP_BYTES, MAX_LOG_LENGTH, NodeId, Shelf};
-use oc_model::Record;
-use oc_node::{Node, Plan};
+use oc_model::{Input, Record};
+use oc_node::{Node, Outcome, Plan};
 use oc_record::decode;
 use std::alloc::Global;
 use test_tools::{Fault, Fields, Step, group_in};
@@ -22,27 +22,50 @@ const MOST_STEPS: u32 = 100;
 
 /// The words of a row: what each step says.
 pub fn words(alloc: Global, given: &str) -> Result<String, Fault> {
-    let mut fields = Fields::of(given, ' ');
-    let mut node = node_in(alloc, &mut fields)?;
     let mut said = String::new(alloc);
+    play(alloc, Fields::of(given, ' '), &mut said)?;
+    Ok(said)
+}
+
+/// Plays a row, and puts what each step says.
+fn play(alloc: Global, mut fields: Fields<'_>, said: &mut String) -> Result<(), Fault> {
+    let mut node = node_in(alloc, &mut fields)?;
+    act_all(alloc, &mut node, fields, said)
+}
+
+/// Does the steps behind the group that is held, with a space behind what each says.
+fn act_all(
+    alloc: Global,
+    node: &mut Node,
+    mut fields: Fields<'_>,
+    said: &mut String,
+) -> Result<(), Fault> {
     let held = Step::of(fields.text());
     for _ in 0..MOST_STEPS {
         if fields.is_empty() {
             break;
         }
-        act(alloc, &mut node, held, Step::of(fields.text()), &mut said)?;
+        act(alloc, node, held, Step::of(fields.text()), said)?;
         said.push_str(" ")?;
     }
-    Ok(said)
+    Ok(())
 }
 
 /// The node of the first fields: its id, the length of the chain, and the records that it recovers from.
 fn node_in(alloc: Global, fields: &mut Fields<'_>) -> Result<Node, Fault> {
     let me = fields.node()?;
     let chain = fields.small()?;
-    let bytes = spelled(alloc, fields.list())?;
+    let list = records_in(alloc, fields.list())?;
+    recovered(alloc, me, chain, &list)
+}
+
+/// The records of these bytes.
+fn records_in(alloc: Global, fields: Fields<'_>) -> Result<Vec<Record>, Fault>
+    ensures { IfOk result (λ list. AreRecords 5 list.items) }
+{
+    let bytes = spelled(alloc, fields)?;
     match decode(alloc, &bytes, NODES) {
-        Ok(list) => recovered(alloc, me, chain, &list),
+        Ok(list) => Ok(list),
         Err(_) => Err(Fault::Field),
     }
 }
@@ -51,10 +74,10 @@ fn node_in(alloc: Global, fields: &mut Fields<'_>) -> Result<Node, Fault> {
 fn recovered(alloc: Global, me: NodeId, chain: u32, list: &[Record]) -> Result<Node, Fault>
     requires { AreRecords 5 list.now }
 {
-    let areas = vec![in alloc; 0, 0, 4, 0, 0]?;
     if me.0 < 1 || me.0 > NODES || chain < 1 || chain > NODES {
         return Err(Fault::Field);
     }
+    let areas = vec![in alloc; 0, 0, 4, 0, 0]?;
     let mut node = Node::new(alloc, me, NODES, chain, areas)?;
     node.recover(list)?;
     Ok(node)
@@ -75,8 +98,7 @@ fn act(
     }
 }
 
-/// Gives a node an input, and puts the records that it writes, what becomes of its content, its answer and
-/// its messages.
+/// Gives a node the input of a step.
 fn take(
     alloc: Global,
     node: &mut Node,
@@ -86,13 +108,45 @@ fn take(
 ) -> Result<(), Fault> {
     let shelf = shelf_in(alloc, held)?;
     let input = input_in(alloc, step, node.id())?;
+    give(alloc, node, &input, &shelf, held, said)
+}
+
+/// Gives a node an input, and puts the records that it writes, what becomes of its content, its answer and
+/// its messages.
+fn give(
+    alloc: Global,
+    node: &mut Node,
+    input: &Input,
+    shelf: &[Shelf],
+    held: Step<'_>,
+    said: &mut String,
+) -> Result<(), Fault>
+    requires input { IsInput 5 node.old.control.me input.now }
+    requires shelf { IsShelf shelf.now }
+{
     if node.log().length() > MAX_LOG_LENGTH || node.nodes() != NODES {
         return Err(Fault::Unready);
     }
-    let mut plan = node.plan(&input, &shelf)?;
-    put_plan(&plan, said)?;
-    fill(alloc, &mut plan, held)?;
-    let outcome = node.apply(plan);
+    let mut plan = node.plan(input, shelf)?;
+    show_and_fill(alloc, &mut plan, held, said)?;
+    put_outcome(&node.apply(plan), said)
+}
+
+/// Puts a plan, and then the bytes that it wants into it.
+fn show_and_fill(
+    alloc: Global,
+    plan: &mut Plan,
+    held: Step<'_>,
+    said: &mut String,
+) -> Result<(), Fault>
+    requires { (w : Want) → plan.old.wants ≡ Some w → IsWanting plan.old w.count }
+    ensures { OnOk result ((v : NodeView) → CanApply v plan.old → CanApply v plan.new) }
+{
+    put_plan(plan, said)?;
+    fill(alloc, plan, held)
+}
+
+fn put_outcome(outcome: &Outcome, said: &mut String) -> Result<(), Fault> {
     Ok(write!(said, "{:?} {:?}", outcome.answer, outcome.sends)?)
 }
 
@@ -174,7 +228,19 @@ fn recover_again(alloc: Global, node: &Node, said: &mut String) -> Result<(), Fa
         return Err(Fault::Unready);
     }
     let list = node.snapshot(1)?;
+    put_recovered(alloc, node, &list, said)
+}
+
+/// Puts these records of a node, and how the node stands that recovers from them.
+fn put_recovered(
+    alloc: Global,
+    node: &Node,
+    list: &[Record],
+    said: &mut String,
+) -> Result<(), Fault>
+    requires { AreRecords 5 list.now }
+{
     write!(said, "{list:?} ")?;
-    let again = recovered(alloc, node.id(), node.chain(), &list)?;
+    let again = recovered(alloc, node.id(), node.chain(), list)?;
     put_state(&again, said)
 }

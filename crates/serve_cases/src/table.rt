@@ -4,7 +4,7 @@ use crate::settings::Setting;
 use std::alloc::Global;
 use std::rt::Files;
 use std::{fs, io};
-use test_tools::{Fault, Row};
+use test_tools::{Fault, Row, tell};
 
 /// What the rows of a table come to.
 pub trait Scenes {
@@ -34,25 +34,4 @@ fn answer<T: Scenes>(alloc: Global, settings: &str, given: &str) -> Result<Strin
     let (name, given) = given.split_once(' ').unwrap_or((given, ""));
     let setting = Setting::find(alloc, settings, name)?;
     T::answer(alloc, &setting, given)
-}
-
-/// Prints the line of a row.
-fn tell<R: Print>(
-    rt: &R,
-    table: &str,
-    row: &Row<'_>,
-    answer: Result<String, Fault>,
-) -> io::Result<()> {
-    let name = row.name;
-    match answer {
-        Ok(words) => {
-            let words = words.as_str().trim();
-            if words == row.wanted {
-                println!(rt; "{table} {name} ok")
-            } else {
-                println!(rt; "{table} {name} gives {words}")
-            }
-        }
-        Err(fault) => println!(rt; "{table} {name} gives nothing: {fault}"),
-    }
 }

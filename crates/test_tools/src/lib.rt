@@ -25,5 +25,5 @@ pub use groups::group_in;
 pub use row::Row;
 pub use spelled::{put_spelled, spelled_in};
 pub use step::Step;
-pub use table::{Cases, play};
+pub use table::{Cases, play, tell};
 pub use texts::{first_difference, put_hex};

@@ -4,7 +4,7 @@
 use crate::fault::Fault;
 use std::alloc::Global;
 
-/// A byte that comes more often than this, and alone, is spelled once.
+/// A byte that comes more often than this, one behind another, is spelled once.
 const LONG: usize = 64;
 
 /// What the next character of a spelled text is.
@@ -115,20 +115,37 @@ fn digit_in(byte: u8) -> Result<u8, Fault> {
 
 /// Puts bytes as they are spelled.
 pub fn put_spelled(out: &mut String, bytes: &[u8]) -> Result<(), Fault> {
-    match bytes {
-        [first, ..] if bytes.len() > LONG && bytes.iter().all(|byte| *byte == *first) => {
-            let count = bytes.len();
-            write!(out, "\\{{{count}:")?;
-            put_byte(out, *first)?;
-            Ok(out.push('}')?)
-        }
-        _ => {
-            for byte in bytes {
-                put_byte(out, *byte)?;
-            }
-            Ok(())
+    let mut left = bytes;
+    for _ in 0..bytes.len() {
+        left = put_next(out, left)?;
+    }
+    Ok(())
+}
+
+/// Puts the first of these bytes, once for all that are the same where these are many, and gives the rest.
+fn put_next<'a>(out: &mut String, bytes: &'a [u8]) -> Result<&'a [u8], Fault> {
+    let [first, rest @ ..] = bytes else {
+        return Ok(bytes);
+    };
+    let count = run_of(*first, bytes);
+    if count <= LONG {
+        put_byte(out, *first)?;
+        return Ok(rest);
+    }
+    write!(out, "\\{{{count}:")?;
+    put_byte(out, *first)?;
+    out.push('}')?;
+    Ok(bytes.get(count..).unwrap_or(&[]))
+}
+
+/// How often a byte comes in front.
+fn run_of(first: u8, bytes: &[u8]) -> usize {
+    for (place, byte) in bytes.iter().enumerate() {
+        if *byte != first {
+            return place;
         }
     }
+    bytes.len()
 }
 
 fn put_byte(out: &mut String, byte: u8) -> Result<(), Fault> {

@@ -31,8 +31,9 @@ fn play_table<T: Cases, R: Files + Print + AllocGlobal>(rt: &R, table: &str) -> 
     Ok(())
 }
 
-/// Prints the line of a row.
-fn tell<R: Print>(
+/// Prints the line of a row: the names of its table and of itself and `ok`, or the words that came in place of those
+/// that are wanted.
+pub fn tell<R: Print>(
     rt: &R,
     table: &str,
     row: &Row<'_>,

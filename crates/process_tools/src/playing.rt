@@ -1,6 +1,9 @@
 //! Runs of the rows.
 
 use crate::case::{Case, CommandLine};
+use crate::killing::kill_often;
+use crate::node::free_port;
+use crate::serving::play_served;
 use crate::starting::program;
 use std::fs::{File, OpenOptions};
 use std::process::{Command, Output, Stdio};
@@ -8,6 +11,13 @@ use std::{fs, io};
 
 /// The files of a node.
 const NODE_FILES: [&str; 3] = ["control.log", "control.alt", "content.log"];
+
+/// Plays the cases, one after another.
+pub fn play(rt: &HostRuntime) -> io::Result<()> {
+    play_rows(rt, "cases.txt", free_port(rt)?)?;
+    play_served(rt)?;
+    tell(rt, "fifty kills lose nothing", kill_often(rt))
+}
 
 /// Plays the rows of a table in which `PORT` stands for this port, and prints a line for each.
 pub fn play_rows(rt: &HostRuntime, table: &str, port: u16) -> io::Result<()> {

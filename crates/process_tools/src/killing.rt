@@ -1,7 +1,7 @@
 //! Nodes that are killed in the midst of publishing.
 
 use crate::asking::{ask, body_of, get_text, is_ok, publish_text};
-use crate::node::Home;
+use crate::node::{Home, end};
 use std::io::{self, Write};
 use std::thread;
 use std::time::Duration;
@@ -21,11 +21,15 @@ const STEP_MICROS: u64 = 150;
 /// again, give every piece that was answered 200 and nothing but whole pieces; says what was lost, or none.
 pub fn kill_often(rt: &HostRuntime) -> io::Result<Option<String>> {
     let home = Home::new(rt, "killed")?;
+    kill_there(rt, &home)
+}
+
+fn kill_there(rt: &HostRuntime, home: &Home) -> io::Result<Option<String>> {
     let mut answered = 0usize;
     for number in 0..KILLS {
-        answered = answered.saturating_add(publish_and_kill(rt, &home, number)?);
-        let checked = checked_pieces(rt, &home)?;
-        let served = served_pieces(rt, &home)?;
+        answered = answered.saturating_add(publish_and_kill(rt, home, number)?);
+        let checked = checked_pieces(rt, home)?;
+        let served = served_pieces(rt, home)?;
         if checked < Some(answered) || served != checked {
             return Ok(Some(format!(in rt.alloc();
                 "kill {}: {} answered, {:?} checked, {:?} served",
@@ -40,20 +44,37 @@ pub fn kill_often(rt: &HostRuntime) -> io::Result<Option<String>> {
 /// Starts the node, publishes a few pieces, begins one more, and kills the node; says how many were answered 200.
 fn publish_and_kill(rt: &HostRuntime, home: &Home, number: u32) -> io::Result<usize> {
     let mut node = home.start(rt, "1000000")?;
+    let answered = publish_few(rt, home, number)?;
+    end(&mut node)?;
+    Ok(answered)
+}
+
+/// Publishes a few pieces, and begins one more.
+fn publish_few(rt: &HostRuntime, home: &Home, number: u32) -> io::Result<usize> {
     let text = publish_text(rt, "/log", PIECE)?;
+    let answered = publish_all(rt, home, text.as_bytes(), number % 4)?;
+    begin_last(rt, home, text.as_bytes(), number % DELAYS)?;
+    Ok(answered)
+}
+
+/// Asks so often for this publish, and says how often the answer was 200.
+fn publish_all(rt: &HostRuntime, home: &Home, text: &[u8], count: u32) -> io::Result<usize> {
     let mut answered = 0usize;
-    for _ in 0..number % 4 {
-        if is_ok(&ask(rt, home, text.as_bytes())?) {
+    for _ in 0..count {
+        if is_ok(&ask(rt, home, text)?) {
             answered = answered.saturating_add(1);
         }
     }
-    let mut last = home.connect(rt)?;
-    last.write_all(text.as_bytes())?;
-    let wait = STEP_MICROS.saturating_mul(u64::from(number % DELAYS));
-    thread::sleep(rt, Duration::from_micros(wait));
-    node.kill()?;
-    node.wait()?;
     Ok(answered)
+}
+
+/// Asks once more, and waits for so many steps and not for the answer. The connection stays until then.
+fn begin_last(rt: &HostRuntime, home: &Home, text: &[u8], steps: u32) -> io::Result<()> {
+    let mut last = home.connect(rt)?;
+    last.write_all(text)?;
+    let wait = STEP_MICROS.saturating_mul(u64::from(steps));
+    thread::sleep(rt, Duration::from_micros(wait));
+    Ok(())
 }
 
 /// How many pieces `check` finds in the node's files; none where that is no whole number.
@@ -71,21 +92,36 @@ fn checked_pieces(rt: &HostRuntime, home: &Home) -> io::Result<Option<usize>> {
 /// How many pieces the node serves once it runs again; none where it serves anything else.
 fn served_pieces(rt: &HostRuntime, home: &Home) -> io::Result<Option<usize>> {
     let mut node = home.start(rt, "1000000")?;
-    let reply = ask(rt, home, get_text(rt, "/log")?.as_bytes())?;
-    node.kill()?;
-    node.wait()?;
+    let pieces = pieces_there(rt, home)?;
+    end(&mut node)?;
+    Ok(pieces)
+}
+
+/// The same of a node that runs.
+fn pieces_there(rt: &HostRuntime, home: &Home) -> io::Result<Option<usize>> {
+    let request = get_text(rt, "/log")?;
+    let reply = ask(rt, home, request.as_bytes())?;
+    Ok(pieces_in(&reply))
+}
+
+/// How many pieces a reply brings; none where it brings anything else.
+fn pieces_in(reply: &[u8]) -> Option<usize> {
     if reply.starts_with(b"HTTP/1.1 404 ") {
-        return Ok(Some(0));
+        return Some(0);
     }
-    let body = body_of(&reply);
-    let same = body
-        .chunks(PIECE.len())
-        .all(|piece| piece == PIECE.as_bytes());
-    if is_ok(&reply) && same {
-        Ok(whole_pieces(body.len()))
+    let body = body_of(reply);
+    if is_ok(reply) && are_pieces(body) {
+        whole_pieces(body.len())
     } else {
-        Ok(None)
+        None
     }
+}
+
+/// Whether bytes are the same piece again and again.
+fn are_pieces(bytes: &[u8]) -> bool {
+    bytes
+        .chunks(PIECE.len())
+        .all(|piece| piece == PIECE.as_bytes())
 }
 
 /// How many pieces so many bytes are, where that is a whole number.

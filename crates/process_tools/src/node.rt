@@ -3,7 +3,7 @@
 use crate::starting::program;
 use std::io::{self, Write};
 use std::net::{TcpListener, TcpStream};
-use std::process::{Child, Output, Stdio};
+use std::process::{Child, ChildStdin, Command, Output, Stdio};
 use std::time::Duration;
 use std::{fs, thread};
 
@@ -32,20 +32,37 @@ impl Home {
     /// Starts the node for at most so many turns, and comes back once it listens.
     pub fn start(&self, rt: &HostRuntime, turns: &str) -> io::Result<Child> {
         let mut node = program(rt)?;
+        self.put_run(&mut node, turns)?;
+        let mut child = node.spawn(rt)?;
+        self.begin(rt, &mut child)?;
+        Ok(child)
+    }
+
+    /// Gives a command the words, the folder and the streams of a run of the node.
+    fn put_run(&self, node: &mut Command, turns: &str) -> io::Result<()> {
         node.args(["node", "1", "--turns", turns])?
             .current_dir(self.folder.as_str())?
             .stdin(Stdio::piped())
             .stdout(Stdio::null());
-        let mut child = node.spawn(rt)?;
-        if let Some(mut input) = child.stdin.take() {
-            let configuration = format!(in rt.alloc();
-                "chain = 1\n\n[[node]]\nid = 1\naddress = \"localhost:{}\"\n",
-                self.port
-            )?;
-            input.write_all(configuration.as_bytes())?;
+        Ok(())
+    }
+
+    /// Gives the node its configuration, and waits until it listens.
+    fn begin(&self, rt: &HostRuntime, node: &mut Child) -> io::Result<()> {
+        if let Some(input) = node.stdin.take() {
+            self.configure(rt, input)?;
         }
-        self.wait(rt)?;
-        Ok(child)
+        self.wait(rt)
+    }
+
+    /// Writes the configuration of a network of this one node.
+    fn configure(&self, rt: &HostRuntime, input: ChildStdin) -> io::Result<()> {
+        let mut input = input;
+        let configuration = format!(in rt.alloc();
+            "chain = 1\n\n[[node]]\nid = 1\naddress = \"localhost:{}\"\n",
+            self.port
+        )?;
+        input.write_all(configuration.as_bytes())
     }
 
     /// Waits until the node listens.
@@ -68,11 +85,25 @@ impl Home {
     /// What a command of the program gives in the folder.
     pub fn command(&self, rt: &HostRuntime, words: &[&str]) -> io::Result<Output> {
         let mut command = program(rt)?;
+        self.put_command(&mut command, words)?;
+        command.output(rt)
+    }
+
+    /// Gives a command its words and the folder.
+    fn put_command(&self, command: &mut Command, words: &[&str]) -> io::Result<()> {
         for word in words {
             command.arg(*word)?;
         }
-        command.current_dir(self.folder.as_str())?.output(rt)
+        command.current_dir(self.folder.as_str())?;
+        Ok(())
     }
+}
+
+/// Kills a node, and waits until it has ended.
+pub fn end(node: &mut Child) -> io::Result<()> {
+    node.kill()?;
+    node.wait()?;
+    Ok(())
 }
 
 /// A port on which nobody listens.

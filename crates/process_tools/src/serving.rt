@@ -1,7 +1,7 @@
 //! A node that serves, and the program beside it.
 
 use crate::asking::{ask, publish_text};
-use crate::node::Home;
+use crate::node::{Home, end};
 use crate::playing::play_rows;
 use std::io;
 
@@ -9,13 +9,16 @@ use std::io;
 pub fn play_served(rt: &HostRuntime) -> io::Result<()> {
     let home = Home::new(rt, "served")?;
     let mut node = home.start(rt, "1000000")?;
-    publish(rt, &home, "/news/a", "hello")?;
-    publish(rt, &home, "/news/b", "bye")?;
-    publish(rt, &home, "/news/b?seal", "")?;
-    play_rows(rt, "served.txt", home.port)?;
-    node.kill()?;
-    node.wait()?;
-    Ok(())
+    play_beside(rt, &home)?;
+    end(&mut node)
+}
+
+/// Plays the rows once the groups are published.
+fn play_beside(rt: &HostRuntime, home: &Home) -> io::Result<()> {
+    publish(rt, home, "/news/a", "hello")?;
+    publish(rt, home, "/news/b", "bye")?;
+    publish(rt, home, "/news/b?seal", "")?;
+    play_rows(rt, "served.txt", home.port)
 }
 
 /// Publishes bytes, or seals a group. The rows tell whether the node took them.

@@ -7,20 +7,28 @@ use test_tools::{Fault, Fields};
 /// More calls than a row has.
 const MOST_CALLS: u32 = 100;
 
-/// The words of a row: the number of each call.
-pub fn words(alloc: Global, given: &str) -> Result<String, Fault> {
+/// Puts the words of a row: the number of each call.
+pub fn put_words(alloc: Global, given: &str, said: &mut String) -> Result<(), Fault> {
     let mut fields = Fields::of(given, ' ');
     let times = fields.numbers(alloc)?;
     let mut clock = FixedClock::new(times, fields.numbers(alloc)?);
-    let mut said = String::new(alloc);
+    put_calls(&mut clock, fields, said)
+}
+
+/// Makes the calls, and puts their numbers.
+fn put_calls<C: Clock>(
+    clock: &mut C,
+    mut calls: Fields<'_>,
+    said: &mut String,
+) -> Result<(), Fault> {
     for _ in 0..MOST_CALLS {
-        if fields.is_empty() {
+        if calls.is_empty() {
             break;
         }
-        let number = number_of(&mut clock, fields.text())?;
+        let number = number_of(clock, calls.text())?;
         write!(said, "{number} ")?;
     }
-    Ok(said)
+    Ok(())
 }
 
 /// The number that a call gives.

@@ -7,30 +7,25 @@ use test_tools::{Fault, Fields, Step, put_hex};
 /// More pieces or calls than a row has.
 const MOST: u32 = 100;
 
-/// The words of a row: what each call says.
-pub fn words(alloc: Global, given: &str) -> Result<String, Fault> {
+/// Puts the words of a row: what each call says.
+pub fn put_words(alloc: Global, given: &str, said: &mut String) -> Result<(), Fault> {
     let mut fields = Fields::of(given, ' ');
     let mut link = link_in(alloc, &mut fields)?;
-    let mut said = String::new(alloc);
-    for _ in 0..MOST {
-        if fields.is_empty() {
-            break;
-        }
-        act(alloc, &mut link, Step::of(fields.text()), &mut said)?;
-    }
-    Ok(said)
+    play(alloc, &mut link, fields, said)
 }
 
 /// The link of the first fields.
 fn link_in(alloc: Global, fields: &mut Fields<'_>) -> Result<MemLink, Fault> {
-    let arrivals = pieces_in(alloc, fields.list())?;
-    let replies = pieces_in(alloc, fields.list())?;
+    let arrivals = fields.list();
+    let replies = fields.list();
     let room = fields.small()? as usize;
     let cut = fields.small()? as usize;
-    let fails = fields.numbers(alloc)?;
     if cut < 1 {
         return Err(Fault::Field);
     }
+    let fails = fields.numbers(alloc)?;
+    let arrivals = pieces_in(alloc, arrivals)?;
+    let replies = pieces_in(alloc, replies)?;
     Ok(MemLink::new(alloc, arrivals, replies, room, cut, fails)?)
 }
 
@@ -46,6 +41,22 @@ fn pieces_in(alloc: Global, mut list: Fields<'_>) -> Result<Vec<Vec<u8>>, Fault>
     Ok(pieces)
 }
 
+/// Makes the calls, and puts what each says.
+fn play(
+    alloc: Global,
+    link: &mut MemLink,
+    mut calls: Fields<'_>,
+    said: &mut String,
+) -> Result<(), Fault> {
+    for _ in 0..MOST {
+        if calls.is_empty() {
+            break;
+        }
+        act(alloc, link, Step::of(calls.text()), said)?;
+    }
+    Ok(())
+}
+
 /// Makes a call, and puts what it says.
 fn act(
     alloc: Global,
@@ -54,26 +65,33 @@ fn act(
     said: &mut String,
 ) -> Result<(), Fault> {
     match step.word {
-        "close" => {
-            link.close();
-            return Ok(());
-        }
-        "hang_up" => {
-            link.hang_up();
-            return Ok(());
-        }
-        "written" => put_kept(link.written(step.fields.number()?), said)?,
-        "dialled" => put_kept(link.dialled(step.fields.number()?), said)?,
-        _ => ask(alloc, link, step, said)?,
+        "close" => link.close(),
+        "hang_up" => link.hang_up(),
+        "written" => return put_kept(link.written(step.fields.number()?), said),
+        "dialled" => return put_kept(link.dialled(step.fields.number()?), said),
+        _ => return put_asked(alloc, link, step, said),
     }
+    Ok(())
+}
+
+/// Makes a call that says something, and puts that and a space.
+fn put_asked<L: Link>(
+    alloc: Global,
+    link: &mut L,
+    step: Step<'_>,
+    said: &mut String,
+) -> Result<(), Fault> {
+    ask(alloc, link, step, said)?;
     Ok(said.push_str(" ")?)
 }
 
+/// Puts bytes that are kept, if they are there.
 fn put_kept(kept: Option<&[u8]>, said: &mut String) -> Result<(), Fault> {
     match kept {
-        Some(bytes) => put_hex(said, bytes),
-        None => Ok(said.push_str("none")?),
+        Some(bytes) => put_hex(said, bytes)?,
+        None => said.push_str("none")?,
     }
+    Ok(said.push_str(" ")?)
 }
 
 /// Makes a call of a link that says something, and puts that.
@@ -86,11 +104,11 @@ fn ask<L: Link>(
     match step.word {
         "listen" => put_done(link.listen("here").is_ok(), said),
         "next" => put_arrival(link, said),
-        "read" => read(alloc, link, step.fields, said),
+        "read" => read(alloc, link, step.fields, false, said),
         "write" => write(alloc, link, step.fields, said),
         "dial" => dial(alloc, link, step.fields, said),
         "dial_more" => dial_more(alloc, link, step.fields, said),
-        "dial_read" => dial_read(alloc, link, step.fields, said),
+        "dial_read" => read(alloc, link, step.fields, true, said),
         _ => Err(Fault::Field),
     }
 }
@@ -107,14 +125,21 @@ fn put_arrival<L: Link>(link: &mut L, said: &mut String) -> Result<(), Fault> {
     })?)
 }
 
+/// Reads from the connection, or from the one that was dialled.
 fn read<L: Link>(
     alloc: Global,
     link: &mut L,
     mut fields: Fields<'_>,
+    dialled: bool,
     said: &mut String,
 ) -> Result<(), Fault> {
     let mut buffer = vec![in alloc; 0; fields.byte()? as usize]?;
-    match link.read(&mut buffer) {
+    let count = if dialled {
+        link.dial_read(&mut buffer)
+    } else {
+        link.read(&mut buffer)
+    };
+    match count {
         Ok(count) => put_hex(said, &buffer[..count]),
         Err(_) => Ok(said.push_str("failed")?),
     }
@@ -151,17 +176,4 @@ fn dial_more<L: Link>(
 ) -> Result<(), Fault> {
     let bytes = fields.bytes(alloc)?;
     put_done(link.dial_more(&bytes).is_ok(), said)
-}
-
-fn dial_read<L: Link>(
-    alloc: Global,
-    link: &mut L,
-    mut fields: Fields<'_>,
-    said: &mut String,
-) -> Result<(), Fault> {
-    let mut buffer = vec![in alloc; 0; fields.byte()? as usize]?;
-    match link.dial_read(&mut buffer) {
-        Ok(count) => put_hex(said, &buffer[..count]),
-        Err(_) => Ok(said.push_str("failed")?),
-    }
 }

@@ -1,7 +1,7 @@
 //! Plays tables of worked cases over links, clocks and probes, and prints a line for each case: its name
 //! and `ok`, or what came in place of what has to come.
 //!
-//! Each table is a file in `data`, whose first lines say how its rows are written, and a module that gives
+//! Each table is a file in `data`, whose first lines say how its rows are written, and a module that puts
 //! the words of a row.
 #![tactic(auto)]
 
@@ -20,14 +20,21 @@ struct Rows;
 
 impl Cases for Rows {
     fn words(alloc: Global, table: &str, given: &str) -> Result<String, Fault> {
-        match table {
-            "clocks" => clocks::words(alloc, given),
-            "links" => links::words(alloc, given),
-            "rates" => rates::words(alloc, given),
-            "peers" => peers::words(alloc, given),
-            "probes" => probes::words(alloc, given),
-            _ => Err(Fault::Field),
-        }
+        let mut said = String::new(alloc);
+        put_words(alloc, table, given, &mut said)?;
+        Ok(said)
+    }
+}
+
+/// Puts the words of a row.
+fn put_words(alloc: Global, table: &str, given: &str, said: &mut String) -> Result<(), Fault> {
+    match table {
+        "clocks" => clocks::put_words(alloc, given, said),
+        "links" => links::put_words(alloc, given, said),
+        "rates" => rates::put_words(given, said),
+        "peers" => peers::put_words(alloc, given, said),
+        "probes" => probes::put_words(alloc, given, said),
+        _ => Err(Fault::Field),
     }
 }
 

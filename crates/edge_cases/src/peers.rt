@@ -17,21 +17,24 @@ struct Rates {
     ghost peers: { length gauge ≡ 3 },
 }
 
-/// The words of a row: what each step says.
-pub fn words(alloc: Global, given: &str) -> Result<String, Fault> {
+/// Puts the words of a row: what each step says.
+pub fn put_words(alloc: Global, given: &str, said: &mut String) -> Result<(), Fault> {
     let mut rates = Rates {
         gauge: Gauge::new(alloc, PEERS)?,
     };
-    let mut said = String::new(alloc);
-    for field in given.split_ascii_whitespace() {
+    play(&mut rates, given, said)
+}
+
+fn play(rates: &mut Rates, steps: &str, said: &mut String) -> Result<(), Fault> {
+    for field in steps.split_ascii_whitespace() {
         let step = Step::of(field);
         match step.word {
-            "put" => put(&mut rates, step.fields, &mut said)?,
-            "turns" => turn(step.fields, &mut said)?,
+            "put" => put(rates, step.fields, said)?,
+            "turns" => turn(step.fields, said)?,
             _ => return Err(Fault::Field),
         }
     }
-    Ok(said)
+    Ok(())
 }
 
 /// Puts a rate of a peer, and says the median.
@@ -54,6 +57,11 @@ fn turn(mut fields: Fields<'_>, said: &mut String) -> Result<(), Fault> {
         return Err(Fault::Field);
     }
     let mut rotation = Rotation::new(me, nodes);
+    put_turns(&mut rotation, count, said)
+}
+
+/// Says the next peers of a rotation.
+fn put_turns(rotation: &mut Rotation, count: u8, said: &mut String) -> Result<(), Fault> {
     for _ in 0..count {
         match rotation.next() {
             Some(NodeId(peer)) => write!(said, "{peer} ")?,

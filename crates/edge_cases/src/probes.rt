@@ -15,25 +15,52 @@ const ROOM: usize = 1_024;
 /// The address that is dialled.
 const ADDRESS: &str = "node2:8080";
 
-/// The words of a row: the rate or the fault, and what was dialled.
-pub fn words(alloc: Global, given: &str) -> Result<String, Fault> {
+/// Puts the words of a row: the rate or the fault, and what was dialled.
+pub fn put_words(alloc: Global, given: &str, said: &mut String) -> Result<(), Fault> {
     let mut fields = Fields::of(given, ' ');
-    let millis = fields.numbers(alloc)?;
+    let mut clock = FixedClock::new(Vec::new(alloc), fields.numbers(alloc)?);
+    put_timed(alloc, said, &mut clock, fields)
+}
+
+/// Puts what comes of the link of these fields, by this clock.
+fn put_timed<C: Clock>(
+    alloc: Global,
+    said: &mut String,
+    clock: &mut C,
+    mut fields: Fields<'_>,
+) -> Result<(), Fault> {
+    let mut link = link_in(alloc, &mut fields)?;
+    put_run(alloc, said, clock, &mut link)
+}
+
+/// Puts what a probe gives, and what it dialled.
+fn put_run<C: Clock>(
+    alloc: Global,
+    said: &mut String,
+    clock: &mut C,
+    link: &mut MemLink,
+) -> Result<(), Fault> {
+    put_probe(alloc, said, link, clock)?;
+    put_dialled(link, said)
+}
+
+/// The link of the next fields.
+fn link_in(alloc: Global, fields: &mut Fields<'_>) -> Result<MemLink, Fault> {
     let fails = fields.numbers(alloc)?;
     let cut = fields.small()? as usize;
-    let replies = replies_in(alloc, &mut fields)?;
     if cut < 1 {
         return Err(Fault::Field);
     }
-    let mut link = MemLink::new(alloc, Vec::new(alloc), replies, ROOM, cut, fails)?;
-    let mut clock = FixedClock::new(Vec::new(alloc), millis);
-    let mut said = String::new(alloc);
-    put_probe(alloc, &mut said, &mut link, &mut clock)?;
+    let replies = replies_in(alloc, fields)?;
+    Ok(MemLink::new(alloc, Vec::new(alloc), replies, ROOM, cut, fails)?)
+}
+
+/// Puts what was dialled.
+fn put_dialled(link: &MemLink, said: &mut String) -> Result<(), Fault> {
     match link.dialled(0) {
-        Some(request) => put_lines(&mut said, request)?,
-        None => said.push_str(" no dial")?,
+        Some(request) => put_lines(said, request),
+        None => Ok(said.push_str(" no dial")?),
     }
-    Ok(said)
 }
 
 /// Makes a probe, and puts the rate or the fault.
@@ -51,15 +78,14 @@ fn put_probe<L: Link, C: Clock>(
 
 /// The one reply of a row, or none: a status and the length of a body, or bytes in hexadecimal.
 fn replies_in(alloc: Global, fields: &mut Fields<'_>) -> Result<Vec<Vec<u8>>, Fault> {
-    let mut replies = Vec::new(alloc);
-    match fields.text() {
-        "none" => {}
-        "bytes" => replies.push(fields.bytes(alloc)?)?,
-        "200" => replies.push(reply_of(alloc, 200, fields.small()? as usize)?)?,
-        "404" => replies.push(reply_of(alloc, 404, fields.small()? as usize)?)?,
+    let reply = match fields.text() {
+        "none" => return Ok(Vec::new(alloc)),
+        "bytes" => fields.bytes(alloc)?,
+        "200" => reply_of(alloc, 200, fields.small()? as usize)?,
+        "404" => reply_of(alloc, 404, fields.small()? as usize)?,
         _ => return Err(Fault::Field),
-    }
-    Ok(replies)
+    };
+    Ok(vec![in alloc; reply]?)
 }
 
 /// A reply of this status, one of those with a phrase, and a body of as many bytes `x`.

@@ -24,13 +24,19 @@ pub fn put_disk<D: Disk + Drop>(alloc: Global, out: &mut String, mut disk: D) ->
 
 /// A disk with the journal of these bodies, all of it safe.
 pub fn disk_with(alloc: Global, bodies: &[Vec<u8>]) -> Result<MemDisk, Fault> {
-    let Ok(mut journal) = Journal::load(alloc, MemDisk::new(Vec::new(alloc))) else {
+    let disk = filled_with(alloc, MemDisk::new(Vec::new(alloc)), bodies)?;
+    Ok(disk.crash())
+}
+
+/// An empty disk, with the journal of these bodies put onto it.
+fn filled_with<D: Disk + Drop>(alloc: Global, disk: D, bodies: &[Vec<u8>]) -> Result<D, Fault> {
+    let Ok(mut journal) = Journal::load(alloc, disk) else {
         return Err(Fault::Unready);
     };
     for body in bodies {
         append(alloc, &mut journal, body)?;
     }
-    Ok(journal.into_disk().crash())
+    Ok(journal.into_disk())
 }
 
 /// Appends a frame of this body.
@@ -53,34 +59,54 @@ fn append<D: Disk>(alloc: Global, journal: &mut Journal<D>, body: &[u8]) -> Resu
 /// many, where a crash leaves this byte wherever something was not synced.
 pub fn disk_in(alloc: Global, text: &str) -> Result<MemDisk, Fault> {
     let (held, failing) = text.split_once('/').unwrap_or((text, ""));
-    let mut disk = filled(alloc, Step::of(held))?;
-    let step = Step::of(failing);
-    let mut fields = step.fields;
-    match step.word {
-        "" => {}
-        "fail" => disk.fail_at(vec![in alloc; fields.number()?]?),
-        "stop" => disk.stop_after(fields.byte()?, fields.byte()?),
-        _ => return Err(Fault::Field),
+    let failing = failing_in(Step::of(failing))?;
+    let mut disk = held_in(alloc, Step::of(held))?;
+    match failing {
+        Failing::Never => {}
+        Failing::At(call) => disk.fail_at(vec![in alloc; call]?),
+        Failing::Behind { calls, image } => disk.stop_after(calls, image),
     }
     Ok(disk)
 }
 
-/// The disk that holds this.
-fn filled(alloc: Global, step: Step<'_>) -> Result<MemDisk, Fault> {
+/// How a disk fails.
+#[derive(Clone, Copy)]
+enum Failing {
+    Never,
+    /// This call fails.
+    At(u64),
+    /// All writes and syncs fail behind so many, and a crash leaves this image.
+    Behind { calls: u8, image: u8 },
+}
+
+fn failing_in(step: Step<'_>) -> Result<Failing, Fault> {
     let mut fields = step.fields;
     match step.word {
-        "bytes" => Ok(MemDisk::new(fields.bytes(alloc)?)),
-        "frames" => disk_with(alloc, &bodies_in(alloc, fields)?),
-        "long" => {
-            let mut body = fields.bytes(alloc)?;
-            let end = fields.small()? as usize;
-            body.resize(end.saturating_sub(13), 3)?;
-            disk_with(alloc, &vec![in alloc; body]?)
-        }
+        "" => Ok(Failing::Never),
+        "fail" => Ok(Failing::At(fields.number()?)),
+        "stop" => Ok(Failing::Behind {
+            calls: fields.byte()?,
+            image: fields.byte()?,
+        }),
         _ => Err(Fault::Field),
     }
 }
 
+/// The disk that holds this.
+fn held_in(alloc: Global, step: Step<'_>) -> Result<MemDisk, Fault> {
+    match step.word {
+        "bytes" => bytes_disk(alloc, step.fields),
+        "frames" => disk_with(alloc, &bodies_in(alloc, step.fields)?),
+        "long" => disk_with(alloc, &long_body(alloc, step.fields)?),
+        _ => Err(Fault::Field),
+    }
+}
+
+fn bytes_disk(alloc: Global, mut fields: Fields<'_>) -> Result<MemDisk, Fault> {
+    Ok(MemDisk::new(fields.bytes(alloc)?))
+}
+
+/// The bodies of these fields.
 fn bodies_in(alloc: Global, mut fields: Fields<'_>) -> Result<Vec<Vec<u8>>, Fault> {
     let mut bodies = Vec::new(alloc);
     for _ in 0..MOST_FRAMES {
@@ -90,4 +116,12 @@ fn bodies_in(alloc: Global, mut fields: Fields<'_>) -> Result<Vec<Vec<u8>>, Faul
         bodies.push(fields.bytes(alloc)?)?;
     }
     Ok(bodies)
+}
+
+/// The one body that begins so, goes on with bytes 3, and whose frame ends at this place.
+fn long_body(alloc: Global, mut fields: Fields<'_>) -> Result<Vec<Vec<u8>>, Fault> {
+    let mut body = fields.bytes(alloc)?;
+    let end = fields.small()? as usize;
+    body.resize(end.saturating_sub(13), 3)?;
+    Ok(vec![in alloc; body]?)
 }

@@ -47,21 +47,32 @@ pub fn spelled_in(alloc: Global, text: &str) -> Result<Vec<u8>, Fault> {
 /// Takes the next byte of the text.
 fn take(alloc: Global, reading: &mut Reading, byte: u8) -> Result<(), Fault> {
     match reading.state {
-        State::Plain => take_plain(alloc, reading, byte)?,
-        State::Escape => take_escape(reading, byte)?,
-        State::High => reading.state = State::Low(digit_in(byte)?),
-        State::Low(high) => {
-            reading.bytes.push(high.wrapping_mul(16) | digit_in(byte)?)?;
-            reading.state = State::Plain;
+        State::Plain => take_plain(alloc, reading, byte),
+        State::Escape => take_escape(reading, byte),
+        State::High => {
+            reading.state = State::Low(digit_in(byte)?);
+            Ok(())
         }
-        State::Count(count) if byte == b':' => {
-            reading.repeated = Some((reading.bytes.len(), count));
-            reading.state = State::Plain;
-        }
-        State::Count(count) => {
-            let digit = usize::from(digit_in(byte)?);
-            reading.state = State::Count(count.saturating_mul(10).saturating_add(digit));
-        }
+        State::Low(high) => take_low(reading, high, byte),
+        State::Count(count) => take_count(reading, count, byte),
+    }
+}
+
+/// Takes the second digit of a byte.
+fn take_low(reading: &mut Reading, high: u8, byte: u8) -> Result<(), Fault> {
+    let low = digit_in(byte)?;
+    reading.state = State::Plain;
+    Ok(reading.bytes.push(high.wrapping_mul(16) | low)?)
+}
+
+/// Takes a digit of how often bytes come, or the colon behind them.
+fn take_count(reading: &mut Reading, count: usize, byte: u8) -> Result<(), Fault> {
+    if byte == b':' {
+        reading.repeated = Some((reading.bytes.len(), count));
+        reading.state = State::Plain;
+    } else {
+        let digit = usize::from(digit_in(byte)?);
+        reading.state = State::Count(count.saturating_mul(10).saturating_add(digit));
     }
     Ok(())
 }

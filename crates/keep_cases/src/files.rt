@@ -1,36 +1,41 @@
 //! The files of a node, and the node that is loaded from them.
+//!
+//! Where a node or its files are let go by a call of `drop`, less has to be proved than where they go out of
+//! scope.
 
+use crate::disks::RowDisk;
+use crate::given::Given;
 use crate::inputs::NODES;
 use oc_base::{NodeId, Shelf};
-use oc_io::{Disk, MemDisk};
+use oc_io::Disk;
 use oc_keep::{KeepLoad, Kept, Node};
 use std::alloc::Global;
-use test_tools::{Fault, Fields, disk_in, put_disk};
+use test_tools::{Fault, put_disk};
 
 /// The disks of a node's three files.
 #[derive(Drop)]
-pub struct Files<D: Disk> {
+pub struct Files<D> {
     pub control: D,
     pub alternate: D,
     pub content: D,
 }
 
-impl Files<MemDisk> {
-    /// The disks of the next three fields.
-    pub fn of(alloc: Global, fields: &mut Fields<'_>) -> Result<Files<MemDisk>, Fault> {
+impl<D: RowDisk> Files<D> {
+    /// The disks that a row is given.
+    pub fn of(alloc: Global, given: &Given<'_>) -> Result<Files<D>, Fault> {
         Ok(Files {
-            control: disk_in(alloc, fields.text())?,
-            alternate: disk_in(alloc, fields.text())?,
-            content: disk_in(alloc, fields.text())?,
+            control: D::of(alloc, given.control)?,
+            alternate: D::of(alloc, given.alternate)?,
+            content: D::of(alloc, given.content)?,
         })
     }
 
     /// The disks after a crash.
-    fn crash(self) -> Files<MemDisk> {
+    fn crashed(self) -> Files<D> {
         Files {
-            control: self.control.crash(),
-            alternate: self.alternate.crash(),
-            content: self.content.crash(),
+            control: self.control.crashed(),
+            alternate: self.alternate.crashed(),
+            content: self.content.crashed(),
         }
     }
 }
@@ -41,10 +46,10 @@ pub fn load<D: Disk + Drop>(
     me: NodeId,
     files: Files<D>,
 ) -> Result<Result<Kept<D>, (Files<D>, KeepLoad)>, Fault> {
-    let areas = vec![in alloc; 0, 0, 0]?;
     if me.0 < 1 || me.0 > NODES {
         return Err(Fault::Field);
     }
+    let areas = vec![in alloc; 0, 0, 0]?;
     let Files {
         control,
         alternate,
@@ -65,18 +70,19 @@ pub fn load<D: Disk + Drop>(
 
 /// Puts what is shown of a node's files after a crash: `node`, what they recover; `control`, `alternate` or
 /// `content`, the bytes of that one; or nothing.
-pub fn show(
+pub fn show<D: RowDisk>(
     alloc: Global,
     shown: &str,
     me: NodeId,
-    files: Files<MemDisk>,
+    files: Files<D>,
     said: &mut String,
 ) -> Result<(), Fault> {
+    let files = files.crashed();
     match shown {
-        "node" => put_node(alloc, me, files.crash(), said),
-        "control" => put_disk(alloc, said, files.control.crash()),
-        "alternate" => put_disk(alloc, said, files.alternate.crash()),
-        "content" => put_disk(alloc, said, files.content.crash()),
+        "node" => put_node(alloc, me, files, said),
+        "control" => put_disk(alloc, said, files.control),
+        "alternate" => put_disk(alloc, said, files.alternate),
+        "content" => put_disk(alloc, said, files.content),
         _ => Ok(()),
     }
 }
@@ -89,8 +95,15 @@ fn put_node<D: Disk + Drop>(
     said: &mut String,
 ) -> Result<(), Fault> {
     match load(alloc, me, files)? {
-        Ok(kept) => put_kept(&kept, said),
-        Err(_) => Err(Fault::Unready),
+        Ok(kept) => {
+            let put = put_kept(&kept, said);
+            drop(kept);
+            put
+        }
+        Err((files, _)) => {
+            drop(files);
+            Err(Fault::Unready)
+        }
     }
 }
 

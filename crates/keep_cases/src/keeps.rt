@@ -1,10 +1,12 @@
 //! A node on its three files: what it answers, and what its files hold.
 
+use crate::disks::RowDisk;
 use crate::files::{Files, load, show};
+use crate::given::Given;
 use crate::inputs::input_in;
-use oc_base::NodeId;
+use oc_base::{GroupName, NodeId};
 use oc_io::Disk;
-use oc_keep::Kept;
+use oc_keep::{Kept, Outcome};
 use std::alloc::Global;
 use test_tools::{Fault, Fields, Step, group_in, put_hex};
 
@@ -13,38 +15,46 @@ const MOST_STEPS: u32 = 100;
 
 /// The words of a row: what each step says, or why the node was not loaded, and then what the disks hold
 /// after a crash.
-pub fn words(alloc: Global, given: &str) -> Result<String, Fault> {
-    let mut fields = Fields::of(given, ' ');
-    let shown = fields.text();
-    let me = fields.node()?;
-    let files = Files::of(alloc, &mut fields)?;
+pub fn words<D: RowDisk>(alloc: Global, given: &str) -> Result<String, Fault> {
+    let given = Given::of(given);
     let mut said = String::new(alloc);
-    let files = play(alloc, me, files, fields, &mut said)?;
-    show(alloc, shown, me, files, &mut said)?;
+    play::<D>(alloc, &given, &mut said)?;
     Ok(said)
 }
 
-/// Loads the node, and does the steps.
-fn play<D: Disk + Drop>(
-    alloc: Global,
-    me: NodeId,
-    files: Files<D>,
-    steps: Fields<'_>,
-    said: &mut String,
-) -> Result<Files<D>, Fault> {
+/// Plays a row, and puts what it says.
+fn play<D: RowDisk>(alloc: Global, given: &Given<'_>, said: &mut String) -> Result<(), Fault> {
+    let me = given.id()?;
+    let files = Files::<D>::of(alloc, given)?;
     match load(alloc, me, files)? {
-        Ok(mut kept) => {
-            act_all(alloc, &mut kept, steps, said)?;
-            let (control, alternate, content) = kept.into_disks();
-            Ok(Files {
-                control,
-                alternate,
-                content,
-            })
-        }
+        Ok(kept) => play_loaded(alloc, given, me, kept, said),
         Err((files, error)) => {
             write!(said, "{error:?} ")?;
-            Ok(files)
+            show(alloc, given.shown, me, files, said)
+        }
+    }
+}
+
+/// Does the steps of a row, and shows what is to be shown.
+fn play_loaded<D: RowDisk>(
+    alloc: Global,
+    given: &Given<'_>,
+    me: NodeId,
+    mut kept: Kept<D>,
+    said: &mut String,
+) -> Result<(), Fault> {
+    let acted = act_all(alloc, &mut kept, given.steps, said);
+    let (control, alternate, content) = kept.into_disks();
+    let files = Files {
+        control,
+        alternate,
+        content,
+    };
+    match acted {
+        Ok(()) => show(alloc, given.shown, me, files, said),
+        Err(fault) => {
+            drop(files);
+            Err(fault)
         }
     }
 }
@@ -77,17 +87,23 @@ fn act<D: Disk>(
         "tidy" => tidy(kept, said),
         "measures" => measure(alloc, kept, step.fields, said),
         "read" => read(alloc, kept, step.fields, said),
-        "due" => {
-            let due = kept.is_due();
-            let generation = kept.generation();
-            Ok(write!(said, "{due}/{generation}")?)
-        }
-        "closed" => {
-            let closed = kept.is_closed();
-            Ok(write!(said, "{closed}")?)
-        }
+        "due" => put_due(kept, said),
+        "closed" => put_closed(kept, said),
         _ => take(alloc, kept, step, said),
     }
+}
+
+/// Puts whether the files are due, and their generation.
+fn put_due<D: Disk>(kept: &Kept<D>, said: &mut String) -> Result<(), Fault> {
+    let due = kept.is_due();
+    let generation = kept.generation();
+    Ok(write!(said, "{due}/{generation}")?)
+}
+
+/// Puts whether the node is closed.
+fn put_closed<D: Disk>(kept: &Kept<D>, said: &mut String) -> Result<(), Fault> {
+    let closed = kept.is_closed();
+    Ok(write!(said, "{closed}")?)
 }
 
 /// Takes an input, and puts what is answered and how many messages are sent, or the error.
@@ -97,14 +113,22 @@ fn take<D: Disk>(
     step: Step<'_>,
     said: &mut String,
 ) -> Result<(), Fault> {
-    let input = input_in(alloc, step, kept.node().id())?;
     if kept.node().nodes() != 3 {
         return Err(Fault::Unready);
     }
+    let input = input_in(alloc, step, kept.node().id())?;
     match kept.take(input) {
-        Ok(outcome) => Ok(write!(said, "{:?}/{}", outcome.answer, outcome.sends.len())?),
+        Ok(outcome) => {
+            let put = put_outcome(&outcome, said);
+            drop(outcome);
+            put
+        }
         Err(error) => Ok(write!(said, "{error:?}")?),
     }
+}
+
+fn put_outcome(outcome: &Outcome, said: &mut String) -> Result<(), Fault> {
+    Ok(write!(said, "{:?}/{}", outcome.answer, outcome.sends.len())?)
 }
 
 /// Turns the files over, if they are ripe, and puts whether it did, or the error.
@@ -143,7 +167,17 @@ fn read<D: Disk>(
     let group = group_in(fields.text())?;
     let start = fields.number()?;
     let mut buf = vec![in alloc; 0; fields.byte()? as usize]?;
-    match kept.read(&group, start, &mut buf) {
+    read_into(kept, &group, start, &mut buf, said)
+}
+
+fn read_into<D: Disk>(
+    kept: &mut Kept<D>,
+    group: &GroupName,
+    start: u64,
+    buf: &mut [u8],
+    said: &mut String,
+) -> Result<(), Fault> {
+    match kept.read(group, start, buf) {
         Ok(count) => put_hex(said, &buf[..count]),
         Err(error) => Ok(write!(said, "{error:?}")?),
     }

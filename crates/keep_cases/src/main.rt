@@ -5,12 +5,15 @@
 //! the words of a row.
 #![tactic(auto)]
 
+mod disks;
 mod files;
+mod given;
 mod inputs;
 mod keeps;
 mod stops;
 mod trials;
 
+use oc_io::MemDisk;
 use std::alloc::Global;
 use std::io;
 use test_tools::{Cases, Fault, play};
@@ -21,9 +24,9 @@ struct Rows;
 impl Cases for Rows {
     fn words(alloc: Global, table: &str, given: &str) -> Result<String, Fault> {
         match table {
-            "keeps" => keeps::words(alloc, given),
-            "trials" => trials::words(alloc, given),
-            "stops" => stops::words(alloc, given),
+            "keeps" => keeps::words::<MemDisk>(alloc, given),
+            "trials" => trials::words::<MemDisk>(alloc, given),
+            "stops" => stops::words::<MemDisk>(alloc, given),
             _ => Err(Fault::Field),
         }
     }

@@ -4,7 +4,9 @@ ghost use Rattle.std.specs.Prelude.{IfOk};
 ghost use Rattle.std.specs.List.{AllByRecursion};
 ghost use Rattle.oc_model.specs.Lawful.{IsInput};
 
+use crate::disks::RowDisk;
 use crate::files::{Files, show};
+use crate::given::Given;
 use crate::inputs::{NODES, input_in};
 use oc_base::NodeId;
 use oc_io::Disk;
@@ -18,29 +20,38 @@ const MOST_INPUTS: u32 = 100;
 
 /// The words of a row: how many inputs were taken, why the trial ended, and then what the disks hold after a
 /// crash.
-pub fn words(alloc: Global, given: &str) -> Result<String, Fault> {
-    let mut fields = Fields::of(given, ' ');
-    let shown = fields.text();
-    let me = fields.node()?;
-    let files = Files::of(alloc, &mut fields)?;
-    let (files, trial) = tried(alloc, me, files, fields)?;
-    let mut said = format!(in alloc; "{} {:?} ", trial.done, trial.end)?;
-    show(alloc, shown, me, files, &mut said)?;
+pub fn words<D: RowDisk>(alloc: Global, given: &str) -> Result<String, Fault> {
+    let given = Given::of(given);
+    let mut said = String::new(alloc);
+    play::<D>(alloc, &given, &mut said)?;
     Ok(said)
+}
+
+/// Plays a row, and puts what it says.
+fn play<D: RowDisk>(alloc: Global, given: &Given<'_>, said: &mut String) -> Result<(), Fault> {
+    let me = given.id()?;
+    let files = Files::<D>::of(alloc, given)?;
+    let (files, trial) = tried(alloc, me, given.steps, files)?;
+    put_trial(&trial, said)?;
+    show(alloc, given.shown, me, files, said)
+}
+
+fn put_trial(trial: &Trial, said: &mut String) -> Result<(), Fault> {
+    Ok(write!(said, "{} {:?} ", trial.done, trial.end)?)
 }
 
 /// The files after a trial of the inputs of these steps, and how it ended.
 fn tried<D: Disk + Drop>(
     alloc: Global,
     me: NodeId,
-    files: Files<D>,
     steps: Fields<'_>,
+    files: Files<D>,
 ) -> Result<(Files<D>, Trial), Fault> {
-    let areas = vec![in alloc; 0, 0, 0]?;
-    let inputs = inputs_in(alloc, steps, me)?;
     if me.0 < 1 || me.0 > NODES {
         return Err(Fault::Field);
     }
+    let inputs = inputs_in(alloc, steps, me)?;
+    let areas = vec![in alloc; 0, 0, 0]?;
     let Files {
         control,
         alternate,

@@ -1,7 +1,7 @@
 //! The content log of a disk: what is put, sealed, read and recovered.
 
-use oc_base::Shelf;
-use oc_content::{Content, ContentError};
+use oc_base::{GroupName, Shelf};
+use oc_content::{AppendError, Content, ContentError, ReadError};
 use oc_io::Disk;
 use std::alloc::Global;
 use std::str::SplitAsciiWhitespace;
@@ -13,16 +13,15 @@ const MOST: usize = 1_000_000;
 /// More reads than a group takes.
 const MOST_READS: u32 = 1000;
 
-/// The words of a row: what each step says, and then what the disk holds after a crash.
-pub fn words(alloc: Global, given: &str) -> Result<String, Fault> {
+/// Puts the words of a row: what each step says, and then what the disk holds after a crash.
+pub fn put_words(alloc: Global, given: &str, said: &mut String) -> Result<(), Fault> {
     let mut fields = given.split_ascii_whitespace();
     let shown = fields.next().unwrap_or("");
     let disk = disk_in(alloc, fields.next().unwrap_or(""))?;
-    let mut said = String::new(alloc);
-    if let Some(disk) = play(alloc, disk, fields, &mut said)? {
-        show(alloc, shown, disk.crash(), &mut said)?;
+    match play(alloc, disk, fields, said)? {
+        Some(disk) => show(alloc, shown, disk.crash(), said),
+        None => Ok(()),
     }
-    Ok(said)
 }
 
 /// Loads the content log of a disk and does the steps. The disk comes back, unless it holds no such log.
@@ -34,9 +33,7 @@ fn play<D: Disk + Drop>(
 ) -> Result<Option<D>, Fault> {
     match Content::load(alloc, disk) {
         Ok(mut content) => {
-            for step in steps {
-                act(alloc, &mut content, Step::of(step), said)?;
-            }
+            act_all(alloc, &mut content, steps, said)?;
             Ok(Some(content.into_disk()))
         }
         Err((disk, ContentError::Disk)) => {
@@ -48,6 +45,19 @@ fn play<D: Disk + Drop>(
             Ok(None)
         }
     }
+}
+
+/// Does the steps, and puts what each says.
+fn act_all<D: Disk>(
+    alloc: Global,
+    content: &mut Content<D>,
+    steps: SplitAsciiWhitespace<'_>,
+    said: &mut String,
+) -> Result<(), Fault> {
+    for step in steps {
+        act(alloc, content, Step::of(step), said)?;
+    }
+    Ok(())
 }
 
 /// Does a step, and puts what it says.
@@ -82,14 +92,18 @@ fn put<D: Disk>(
         return Err(Fault::Field);
     }
     match content.prepare(alloc, &group, start, &bytes, last) {
-        Ok(piece) if piece.adds() => match content.commit(piece) {
-            Ok(held) => write!(said, "{held}")?,
-            Err(error) => write!(said, "{error:?}")?,
-        },
-        Ok(_piece) => said.push_str("nothing")?,
-        Err(error) => write!(said, "{error:?}")?,
+        Ok(piece) if piece.adds() => put_held(content.commit(piece), said),
+        Ok(_piece) => Ok(said.push_str("nothing")?),
+        Err(error) => Ok(write!(said, "{error:?}")?),
     }
-    Ok(())
+}
+
+/// Puts how many bytes are held, or the error.
+fn put_held(held: Result<u64, AppendError>, said: &mut String) -> Result<(), Fault> {
+    match held {
+        Ok(held) => Ok(write!(said, "{held}")?),
+        Err(error) => Ok(write!(said, "{error:?}")?),
+    }
 }
 
 /// Puts the frame that holds a byte of a group, and the place in its bytes, or `-`.
@@ -114,17 +128,31 @@ fn read<D: Disk>(
 ) -> Result<(), Fault> {
     let group = group_in(fields.text())?;
     let start = fields.number()?;
-    let mut buf = vec![in alloc; 0; fields.byte()? as usize]?;
+    let mut piece = vec![in alloc; 0; fields.byte()? as usize]?;
     let mut bytes = Vec::new(alloc);
+    match read_all(content, &group, start, &mut piece, &mut bytes)? {
+        Ok(()) => put_hex(said, &bytes),
+        Err(error) => Ok(write!(said, "{error:?}")?),
+    }
+}
+
+/// Reads the bytes of a group from a place on, in pieces of the buffer's size.
+fn read_all<D: Disk>(
+    content: &mut Content<D>,
+    group: &GroupName,
+    start: u64,
+    piece: &mut [u8],
+    bytes: &mut Vec<u8>,
+) -> Result<Result<(), ReadError>, Fault> {
     for _ in 0..MOST_READS {
         let at = start.saturating_add(bytes.len() as u64);
-        match content.read(&group, at, &mut buf) {
+        match content.read(group, at, piece) {
             Ok(0) => break,
-            Ok(count) => bytes.extend_from_slice(&buf[..count])?,
-            Err(error) => return Ok(write!(said, "{error:?}")?),
+            Ok(count) => bytes.extend_from_slice(&piece[..count])?,
+            Err(error) => return Ok(Err(error)),
         }
     }
-    put_hex(said, &bytes)
+    Ok(Ok(()))
 }
 
 /// Puts the bytes of a disk, or the lines of the groups that it holds.

@@ -6,16 +6,15 @@ use std::alloc::Global;
 use std::str::SplitAsciiWhitespace;
 use test_tools::{Fault, Step, disk_in, put_disk, put_hex};
 
-/// The words of a row: what each step says, and then what the disk holds after a crash.
-pub fn words(alloc: Global, given: &str) -> Result<String, Fault> {
+/// Puts the words of a row: what each step says, and then what the disk holds after a crash.
+pub fn put_words(alloc: Global, given: &str, said: &mut String) -> Result<(), Fault> {
     let mut fields = given.split_ascii_whitespace();
     let shown = fields.next().unwrap_or("");
     let disk = disk_in(alloc, fields.next().unwrap_or(""))?;
-    let mut said = String::new(alloc);
-    if let Some(disk) = play(alloc, disk, fields, &mut said)? {
-        show(alloc, shown, disk.crash(), &mut said)?;
+    match play(alloc, disk, fields, said)? {
+        Some(disk) => show(alloc, shown, disk.crash(), said),
+        None => Ok(()),
     }
-    Ok(said)
 }
 
 /// Loads the journal of a disk and does the steps. The disk comes back, unless it holds no journal.
@@ -27,9 +26,7 @@ fn play<D: Disk + Drop>(
 ) -> Result<Option<D>, Fault> {
     match Journal::load(alloc, disk) {
         Ok(mut journal) => {
-            for step in steps {
-                act(alloc, &mut journal, Step::of(step), said)?;
-            }
+            act_all(alloc, &mut journal, steps, said)?;
             Ok(Some(journal.into_disk()))
         }
         Err((disk, LoadError::Disk)) => {
@@ -41,6 +38,19 @@ fn play<D: Disk + Drop>(
             Ok(None)
         }
     }
+}
+
+/// Does the steps, and puts what each says.
+fn act_all<D: Disk>(
+    alloc: Global,
+    journal: &mut Journal<D>,
+    steps: SplitAsciiWhitespace<'_>,
+    said: &mut String,
+) -> Result<(), Fault> {
+    for step in steps {
+        act(alloc, journal, Step::of(step), said)?;
+    }
+    Ok(())
 }
 
 /// Does a step, and puts what it says.

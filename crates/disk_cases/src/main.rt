@@ -1,7 +1,7 @@
 //! Plays tables of worked cases over what a node keeps on disks, and prints a line for each case: its name
 //! and `ok`, or what came in place of what has to come.
 //!
-//! Each table is a file in `data`, whose first lines say how its rows are written, and a module that gives
+//! Each table is a file in `data`, whose first lines say how its rows are written, and a module that puts
 //! the words of a row.
 #![tactic(auto)]
 
@@ -19,13 +19,20 @@ struct Rows;
 
 impl Cases for Rows {
     fn words(alloc: Global, table: &str, given: &str) -> Result<String, Fault> {
-        match table {
-            "journals" => journals::words(alloc, given),
-            "records" => records::words(alloc, given),
-            "stores" => stores::words(alloc, given),
-            "contents" => contents::words(alloc, given),
-            _ => Err(Fault::Field),
-        }
+        let mut said = String::new(alloc);
+        put_words(alloc, table, given, &mut said)?;
+        Ok(said)
+    }
+}
+
+/// Puts the words of a row.
+fn put_words(alloc: Global, table: &str, given: &str, said: &mut String) -> Result<(), Fault> {
+    match table {
+        "journals" => journals::put_words(alloc, given, said),
+        "records" => records::put_words(alloc, given, said),
+        "stores" => stores::put_words(alloc, given, said),
+        "contents" => contents::put_words(alloc, given, said),
+        _ => Err(Fault::Field),
     }
 }
 

@@ -7,24 +7,28 @@ use oc_record::{Record, decode, encode, spellings_are_read};
 use std::alloc::Global;
 use test_tools::{Fault, Fields, put_hex};
 
-/// The words of a row: the records of the bytes, or their fault. Where they are written otherwise, the
+/// Puts the words of a row: the records of the bytes, or their fault. Where they are written otherwise, the
 /// bytes follow.
-pub fn words(alloc: Global, given: &str) -> Result<String, Fault> {
+pub fn put_words(alloc: Global, given: &str, said: &mut String) -> Result<(), Fault> {
     let mut fields = Fields::of(given, ' ');
     let nodes = fields.small()?;
     let bytes = fields.bytes(alloc)?;
-    let mut said = String::new(alloc);
     match decode(alloc, &bytes, nodes) {
         Ok(list) => {
             write!(said, "{list:?}")?;
-            let written = written_again(alloc, &bytes, nodes)?;
-            if written.as_slice() != bytes.as_slice() {
-                put_hex(&mut said, &written)?;
-            }
+            put_written(alloc, &bytes, nodes, said)
         }
-        Err(fault) => write!(said, "{fault:?}")?,
+        Err(fault) => Ok(write!(said, "{fault:?}")?),
     }
-    Ok(said)
+}
+
+/// Puts the bytes of the records of these bytes, where they are others.
+fn put_written(alloc: Global, bytes: &[u8], nodes: u32, said: &mut String) -> Result<(), Fault> {
+    let written = written_again(alloc, bytes, nodes)?;
+    if written.as_slice() == bytes {
+        return Ok(());
+    }
+    put_hex(said, &written)
 }
 
 /// The bytes of the records of these bytes.

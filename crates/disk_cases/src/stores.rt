@@ -9,17 +9,16 @@ use test_tools::{Fault, Step, disk_in, put_disk};
 /// How many nodes there are.
 const NODES: u32 = 2;
 
-/// The words of a row: what each step says, and then what the disks hold after a crash.
-pub fn words(alloc: Global, given: &str) -> Result<String, Fault> {
+/// Puts the words of a row: what each step says, and then what the disks hold after a crash.
+pub fn put_words(alloc: Global, given: &str, said: &mut String) -> Result<(), Fault> {
     let mut fields = given.split_ascii_whitespace();
     let shown = fields.next().unwrap_or("");
     let first = disk_in(alloc, fields.next().unwrap_or(""))?;
     let second = disk_in(alloc, fields.next().unwrap_or(""))?;
-    let mut said = String::new(alloc);
-    if let Some((first, second)) = play(alloc, first, second, fields, &mut said)? {
-        show(alloc, shown, first.crash(), second.crash(), &mut said)?;
+    match play(alloc, first, second, fields, said)? {
+        Some((first, second)) => show(alloc, shown, first.crash(), second.crash(), said),
+        None => Ok(()),
     }
-    Ok(said)
 }
 
 /// Loads the store of two disks and does the steps. The disks come back, unless they hold no store.
@@ -32,9 +31,7 @@ fn play<D: Disk + Drop>(
 ) -> Result<Option<(D, D)>, Fault> {
     match Store::load(alloc, first, second, NODES) {
         Ok((mut store, _list)) => {
-            for step in steps {
-                act(&mut store, Step::of(step), said)?;
-            }
+            act_all(&mut store, steps, said)?;
             Ok(Some(store.into_disks()))
         }
         Err((first, second, StoreError::Disk)) => {
@@ -46,6 +43,18 @@ fn play<D: Disk + Drop>(
             Ok(None)
         }
     }
+}
+
+/// Does the steps, and puts what each says.
+fn act_all<D: Disk>(
+    store: &mut Store<D>,
+    steps: SplitAsciiWhitespace<'_>,
+    said: &mut String,
+) -> Result<(), Fault> {
+    for step in steps {
+        act(store, Step::of(step), said)?;
+    }
+    Ok(())
 }
 
 /// Does a step, and puts what it says.

@@ -1,7 +1,8 @@
 -- Rows and the entries that they are: to find a row is to find the last word, and to set one is to put it.
-use Rattle.std.proofs.Common.{◌≡◌, ℕ, zero, suc, ◌+◌, ◌-◌, ◌<◌, ◌≤◌, Bool, true, false, ◌==◌, nat_lt, Option, Some, None, IfSome, List, [], ◌∷◌, length, get_or, set, replicate, Bor, refl, ap, sym, subst, arith, eqb-true, eq-eqb, ne_eqb}
+use Rattle.std.proofs.Common.{◌≡◌, ℕ, zero, suc, ◌+◌, ◌-◌, ◌<◌, ◌≤◌, Bool, true, false, ◌==◌, nat_lt, Option, Some, None, IfSome, List, [], ◌∷◌, length, drop, get_or, set, replicate, Bor, refl, ap, sym, subst, ◌∙◌, arith, eqb-true, eq-eqb, ne_eqb}
 use Rattle.std.proofs.lemmas.Bool.{le-ltb, lt-ltb}
 use Rattle.std.proofs.Math.ListN.{length-set}
+use Rattle.std.proofs.lemmas.List.{drop-drop, drop-replicate, length-replicate}
 use Rattle.std.specs.Option.{option_flatten, option_copied, option_map, unwrap_or}
 use Rattle.oc_base.specs.declared.cert.Cert.{Cert}
 use Rattle.oc_model.specs.Table.{newest, put}
@@ -117,10 +118,24 @@ none_from nodes x (suc n) = none_from nodes (x + 1) n
 pub no_rows : (n : ℕ) → AreRows (replicate n None)
 no_rows n = none_from (length (replicate n None)) 1 n
 
+-- and so are those that are filled with none, of which there are no more than that
+pub filled_rows : (rows : List (Option Cert)) (n most : ℕ) → rows ≡ replicate n None → n ≤ most → AreRows rows × (length rows ≤ most)
+filled_rows rows n most e few =
+    subst (λ rs. AreRows rs × (length rs ≤ most)) (sym e) (no_rows n, subst (λ k. k ≤ most) (sym (length-replicate {A = Option Cert} n None)) few)
+
 -- they are no entries
 pub no_entries : (n : ℕ) → entries_of (replicate n None) ≡ []
 no_entries zero = refl
 no_entries (suc n) = no_entries n
+
+-- and none of them is one once only rows without are left
+pub no_more_entries : (rows : List (Option Cert)) (k n : ℕ) → drop k rows ≡ replicate n None → entries_of (drop k rows) ≡ []
+no_more_entries rows k n e = rw e (no_entries n)
+
+pub no_entries_past : (rows : List (Option Cert)) (used k n : ℕ) (blank : Option Cert) → used ≤ k → drop used rows ≡ replicate n blank → blank ≡ None → entries_of (drop k rows) ≡ []
+no_entries_past rows used k n blank past e none =
+    let further : drop (k - used) (drop used rows) ≡ drop k rows = drop-drop (k - used) used rows ∙ ap (λ i. drop i rows) (omega (arith, past)) in
+    no_more_entries rows k (n - (k - used)) (sym further ∙ ap (drop (k - used)) (e ∙ ap (replicate n) none) ∙ drop-replicate (k - used) n None)
 
 -- there are no more entries than rows
 pub fewer_entries : (rows : List (Option Cert)) → length (entries_of rows) ≤ length rows

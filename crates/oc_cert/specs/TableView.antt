@@ -3,6 +3,7 @@ use Rattle.std.specs.Prelude.{◌≡◌, ℕ, ◌+◌, Option, None, Some, List,
 use Rattle.std.specs.List.{filter_map}
 use Rattle.oc_base.specs.declared.cert.Cert.{Cert}
 use Rattle.oc_base.specs.Lawful.{IsCert}
+use Rattle.oc_rows.specs.RowsView.{RowsView}
 
 -- the number of nodes, a certificate for each that has one, ascending by subject, and how many rows there is memory for
 pub record TableView : Type 0 where
@@ -19,6 +20,10 @@ AreRowsFrom nodes x (Some c ∷ rows) = (c.subject ≡ x) × IsCert nodes c × A
 -- a row for each node
 abbrev pub AreRows : List (Option Cert) → Type 0
 AreRows rows = AreRowsFrom (length rows) 1 rows
+
+-- the same of rows that have none wherever nothing was put
+abbrev pub AreTableRows : RowsView (Option Cert) → Type 0
+AreTableRows rows = AreRows rows.items × (rows.blank ≡ None)
 
 -- the certificates of these rows
 abbrev pub entries_of : List (Option Cert) → List Cert

@@ -2,12 +2,13 @@ ghost use Rattle.std.specs.Prelude.{◌≡◌, ◌-◌, ◌≤◌, ◌++◌, Non
 ghost use Rattle.std.specs.Option.{option_to_list};
 ghost use Rattle.oc_model.specs.Numbers.{at};
 ghost use Rattle.oc_cert.specs.Listing.{line_in, lines_in, lines_of_row, is_beneath, AreKnown};
-ghost use Rattle.oc_cert.specs.TableView.{AreRows, entries_of};
+ghost use Rattle.oc_cert.specs.TableView.{AreRows, AreTableRows, entries_of};
 ghost use Rattle.oc_base.specs.Lawful.{IsNode};
 
 use crate::post::Post;
 use crate::rows::parent_of;
 use oc_base::{Cert, Line, Memory, NodeId};
+use oc_rows::Rows;
 use std::alloc::Global;
 
 /// What is known of a node.
@@ -19,12 +20,12 @@ fn known_of(known: &[Option<bool>], node: NodeId) -> Option<bool>
 }
 
 /// Whether the way up from a node comes to the root. It ends where something is known already.
-fn climb(rows: &[Option<Cert>], known: &[Option<bool>], root: NodeId, node: NodeId) -> bool
-    requires rows { AreRows rows.now }
-    requires node { IsNode (length rows.now) node }
-    requires places { length known.now ≡ length rows.now }
-    requires known { AreKnown (entries_of rows.now) root known.now }
-    ensures { result ≡ is_beneath (entries_of rows.now) root node }
+fn climb(rows: &Rows<Option<Cert>>, known: &[Option<bool>], root: NodeId, node: NodeId) -> bool
+    requires rows { AreRows rows.now.items }
+    requires node { IsNode (length rows.now.items) node }
+    requires places { length known.now ≡ length rows.now.items }
+    requires known { AreKnown (entries_of rows.now.items) root known.now }
+    ensures { result ≡ is_beneath (entries_of rows.now.items) root node }
 {
     let mut place = node;
     let mut post = Post::at(node);
@@ -47,18 +48,18 @@ fn climb(rows: &[Option<Cert>], known: &[Option<bool>], root: NodeId, node: Node
 
 /// Notes the answer of all nodes on the way up from a node, as far as nothing was known of them.
 fn note_way(
-    rows: &[Option<Cert>],
+    rows: &Rows<Option<Cert>>,
     known: &mut [Option<bool>],
     root: NodeId,
     node: NodeId,
     listed: bool,
 )
-    requires rows { AreRows rows.now }
-    requires node { IsNode (length rows.now) node }
-    requires places { length known.old ≡ length rows.now }
-    requires known { AreKnown (entries_of rows.now) root known.old }
-    requires listed { is_beneath (entries_of rows.now) root node ≡ listed }
-    ensures { AreKnown (entries_of rows.now) root known.new }
+    requires rows { AreRows rows.now.items }
+    requires node { IsNode (length rows.now.items) node }
+    requires places { length known.old ≡ length rows.now.items }
+    requires known { AreKnown (entries_of rows.now.items) root known.old }
+    requires listed { is_beneath (entries_of rows.now.items) root node ≡ listed }
+    ensures { AreKnown (entries_of rows.now.items) root known.new }
 {
     let mut place = node;
     for _ in 0..rows.len() {
@@ -75,17 +76,17 @@ fn note_way(
 
 /// The line of a node, where it is listed beneath the root.
 fn line_of(
-    rows: &[Option<Cert>],
+    rows: &Rows<Option<Cert>>,
     known: &mut [Option<bool>],
     root: NodeId,
     node: NodeId,
 ) -> Option<Line>
-    requires rows { AreRows rows.now }
-    requires node { IsNode (length rows.now) node }
-    requires places { length known.old ≡ length rows.now }
-    requires known { AreKnown (entries_of rows.now) root known.old }
-    ensures line { result ≡ line_in (entries_of rows.now) root node }
-    ensures known { AreKnown (entries_of rows.now) root known.new }
+    requires rows { AreRows rows.now.items }
+    requires node { IsNode (length rows.now.items) node }
+    requires places { length known.old ≡ length rows.now.items }
+    requires known { AreKnown (entries_of rows.now.items) root known.old }
+    ensures line { result ≡ line_in (entries_of rows.now.items) root node }
+    ensures known { AreKnown (entries_of rows.now.items) root known.new }
 {
     let listed = climb(rows, known, root, node);
     note_way(rows, known, root, node, listed);
@@ -110,17 +111,17 @@ fn push_line(lines: &mut Vec<Line>, line: Option<Line>) -> Result<(), Memory>
 
 /// The line of the node of a row.
 fn line_of_row(
-    rows: &[Option<Cert>],
+    rows: &Rows<Option<Cert>>,
     known: &mut [Option<bool>],
     root: NodeId,
     row: &Option<Cert>,
 ) -> Option<Line>
-    requires rows { AreRows rows.now }
-    requires row { IfSome row.now (λ cert. IsNode (length rows.now) cert.subject) }
-    requires places { length known.old ≡ length rows.now }
-    requires known { AreKnown (entries_of rows.now) root known.old }
-    ensures line { option_to_list result ≡ lines_of_row (entries_of rows.now) root row.now }
-    ensures known { AreKnown (entries_of rows.now) root known.new }
+    requires rows { AreRows rows.now.items }
+    requires row { IfSome row.now (λ cert. IsNode (length rows.now.items) cert.subject) }
+    requires places { length known.old ≡ length rows.now.items }
+    requires known { AreKnown (entries_of rows.now.items) root known.old }
+    ensures line { option_to_list result ≡ lines_of_row (entries_of rows.now.items) root row.now }
+    ensures known { AreKnown (entries_of rows.now.items) root known.new }
 {
     match row {
         Some(cert) => line_of(rows, known, root, cert.subject),
@@ -132,17 +133,18 @@ fn line_of_row(
 /// a few times for all of them together.
 fn push_lines(
     lines: &mut Vec<Line>,
-    rows: &[Option<Cert>],
+    rows: &Rows<Option<Cert>>,
     known: &mut [Option<bool>],
     root: NodeId,
 ) -> Result<(), Memory>
-    requires rows { AreRows rows.now }
-    requires places { length known.old ≡ length rows.now }
-    requires known { AreKnown (entries_of rows.now) root known.old }
-    ensures { OnOk result (lines.new.items ≡ lines.old.items ++ lines_in (entries_of rows.now) root) }
+    requires rows { AreTableRows rows.now }
+    requires places { length known.old ≡ length rows.now.items }
+    requires known { AreKnown (entries_of rows.now.items) root known.old }
+    ensures { OnOk result (lines.new.items ≡ lines.old.items ++ lines_in (entries_of rows.now.items) root) }
 {
-    for row in rows {
-        push_line(lines, line_of_row(rows, known, root, row))?;
+    for place in 0..rows.used() {
+        let row = rows.get_or(place, None);
+        push_line(lines, line_of_row(rows, known, root, &row))?;
     }
     Ok(())
 }
@@ -151,11 +153,11 @@ fn push_lines(
 #[tactic(auto, using(crate::proofs::Climbs::none_known))]
 pub(crate) fn lines_of(
     alloc: Global,
-    rows: &[Option<Cert>],
+    rows: &Rows<Option<Cert>>,
     root: NodeId,
 ) -> Result<Vec<Line>, Memory>
-    requires { AreRows rows.now }
-    ensures { IfOk result (λ lines. lines.items ≡ lines_in (entries_of rows.now) root) }
+    requires { AreTableRows rows.now }
+    ensures { IfOk result (λ lines. lines.items ≡ lines_in (entries_of rows.now.items) root) }
 {
     let mut known = vec![in alloc; None; rows.len()]?;
     let mut lines = Vec::new(alloc);

@@ -2,39 +2,41 @@ ghost use Rattle.std.specs.Prelude.{◌≡◌, ◌≢◌, ◌≤◌, ◌↔◌, 
 ghost use Rattle.oc_base.specs.declared.limits.TheConstants.{MAX_NODES};
 ghost use Rattle.oc_model.specs.Table.{newest, is_news, merge, leased_by, is_listed, IsListed, listed_in};
 ghost use Rattle.oc_cert.specs.Listing.{lines_in};
-ghost use Rattle.oc_cert.specs.TableView.{AreRows, entries_of};
+ghost use Rattle.oc_cert.specs.TableView.{AreTableRows, entries_of};
 ghost use Rattle.oc_base.specs.Lawful.{IsCert};
 
 use crate::listing::lines_of;
 use crate::rows::{is_news, put, row_of};
 use crate::walk::is_listed;
 use oc_base::{Cert, Line, Memory, NodeId};
+use oc_rows::Rows;
 use std::alloc::Global;
 use std::marker::Model;
 
 /// The newest certificate of each node, where there is one. A contract sees the number of nodes, the
 /// entries, ascending by subject, and how many rows there is memory for.
-#[derive(Debug, Drop)]
+#[derive(Drop)]
 pub struct Table {
+    alloc: Global,
     /// By the index of the node.
-    rows: Vec<Option<Cert>>,
+    rows: Rows<Option<Cert>>,
 }
 
 impl Model for Table {
-    ghost use Rattle.std.specs.Prelude.{length, ◌≤◌, vec_capacity};
+    ghost use Rattle.std.specs.Prelude.{length, ◌≤◌};
     ghost use Rattle.oc_base.specs.declared.limits.TheConstants.{MAX_NODES};
-    ghost use Rattle.oc_cert.specs.TableView.{TableView, AreRows, entries_of};
+    ghost use Rattle.oc_cert.specs.TableView.{TableView, AreTableRows, entries_of};
 
     ghost Value = { TableView };
 
-    ghost view = { λ t. record { nodes = length t.rows.items; entries = entries_of t.rows.items; room = vec_capacity t.rows } };
+    ghost view = { λ t. record { nodes = length t.rows.items; entries = entries_of t.rows.items; room = t.rows.room } };
 
-    ghost invariant = { λ t. AreRows t.rows.items × (length t.rows.items ≤ MAX_NODES) };
+    ghost invariant = { λ t. AreTableRows t.rows × (length t.rows.items ≤ MAX_NODES) };
 }
 
 impl Table {
     /// An empty table for this many nodes, 1 to 1,024.
-    #[tactic(auto, using(crate::proofs::Entries::no_rows, crate::proofs::Entries::no_entries))]
+    #[tactic(auto, using(crate::proofs::Entries::no_entries))]
     pub fn new(alloc: Global, nodes: u32) -> Result<Table, Memory>
         requires least { 1 ≤ nodes }
         requires most { nodes ≤ MAX_NODES }
@@ -42,12 +44,13 @@ impl Table {
         ensures empty { IfOk result (λ table. table.entries ≡ []) }
     {
         Ok(Table {
-            rows: vec![in alloc; None; nodes as usize]?,
+            alloc,
+            rows: Rows::new(alloc, nodes as usize, None)?,
         })
     }
 
     /// Takes all certificates out. Takes no memory.
-    #[tactic(auto, using(crate::proofs::Entries::no_rows, crate::proofs::Entries::no_entries))]
+    #[tactic(auto, using(crate::proofs::Entries::no_entries))]
     pub fn clear(&mut self)
         ensures entries { self.new.entries ≡ [] }
         ensures nodes { self.new.nodes ≡ self.old.nodes }
@@ -111,15 +114,15 @@ impl Table {
         ensures lines { IfOk result (λ lines. lines.items ≡ lines_in self.now.entries root) }
         ensures nodes { IfOk result (λ lines. map (λ line. line.node) lines.items ≡ listed_in self.now.entries root) }
     {
-        lines_of(*self.rows.allocator(), &self.rows, root)
+        lines_of(self.alloc, &self.rows, root)
     }
 
     /// The row of each node, in the order of their numbers.
     #[tactic(auto, using(crate::proofs::Entries::fewer_entries))]
-    pub fn rows(&self) -> &[Option<Cert>]
-        ensures rows { AreRows result.now }
-        ensures entries { entries_of result.now ≡ self.now.entries }
-        ensures nodes { length result.now ≡ self.now.nodes }
+    pub fn rows(&self) -> &Rows<Option<Cert>>
+        ensures rows { AreTableRows result.now }
+        ensures entries { entries_of result.now.items ≡ self.now.entries }
+        ensures nodes { length result.now.items ≡ self.now.nodes }
         ensures most { self.now.nodes ≤ MAX_NODES }
         ensures fewer { length self.now.entries ≤ self.now.nodes }
     {

@@ -12,6 +12,7 @@ use oc_base::{Child, Memory, NodeId};
 use oc_cert::Table;
 use oc_measure::Measures;
 use oc_redirect::select;
+use oc_rows::Rows;
 use oc_state::children::children;
 use oc_state::{Durable, Standing, Tries, Volatile};
 use oc_updown::{ChangeLog, Leases};
@@ -31,9 +32,9 @@ pub struct Before<'a> {
     pub tries: &'a Tries,
     pub leases: &'a Leases,
     /// The rate that each child told last, by its number.
-    pub rates: &'a [u64],
+    pub rates: &'a Rows<u64>,
     /// How many clients each node was sent, by its number.
-    pub counts: &'a [u64],
+    pub counts: &'a Rows<u64>,
     pub alloc: Global,
 }
 
@@ -45,10 +46,10 @@ impl<'a> Model for Before<'a> {
 
     ghost Value = { Control };
 
-    ghost view = { λ b. control_of b.id b.nodes b.chain b.areas.now b.durable.now.kept (soft_of b.volatile b.tries.now) b.leases.now.ends b.rates.now b.counts.now };
+    ghost view = { λ b. control_of b.id b.nodes b.chain b.areas.now b.durable.now.kept (soft_of b.volatile b.tries.now) b.leases.now.ends b.rates.now.items b.counts.now.items };
 
     ghost invariant = { λ b. (b.durable.now.nodes ≡ b.nodes)
-        × IsReached (control_of b.id b.nodes b.chain b.areas.now b.durable.now.kept (soft_of b.volatile b.tries.now) b.leases.now.ends b.rates.now b.counts.now) };
+        × IsReached (control_of b.id b.nodes b.chain b.areas.now b.durable.now.kept (soft_of b.volatile b.tries.now) b.leases.now.ends b.rates.now.items b.counts.now.items) };
 }
 
 impl Before<'_> {

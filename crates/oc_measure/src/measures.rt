@@ -4,6 +4,7 @@ ghost use Rattle.oc_model.specs.Node.{no_reading};
 
 use oc_base::{Memory, NodeId};
 use oc_model::Reading;
+use oc_rows::Rows;
 use std::alloc::Global;
 use std::marker::Model;
 
@@ -11,9 +12,9 @@ use std::marker::Model;
 const NOTHING: Reading = Reading { rate: 0, hops: 0 };
 
 /// The last reading of each peer. Contracts see it as the list of readings by the number of the peer.
-#[derive(Debug, Drop)]
+#[derive(Drop)]
 pub struct Measures {
-    readings: Vec<Reading>,
+    readings: Rows<Reading>,
 }
 
 impl Model for Measures {
@@ -30,7 +31,7 @@ impl Measures {
     pub fn new(alloc: Global, nodes: u32) -> Result<Measures, Memory>
         ensures { IfOk result (λ all. all ≡ replicate nodes no_reading) }
     {
-        let readings = vec![in alloc; NOTHING; nodes as usize]?;
+        let readings = Rows::new(alloc, nodes as usize, NOTHING)?;
         Ok(Measures { readings })
     }
 
@@ -47,7 +48,7 @@ impl Measures {
         requires last { peer ≤ length self.old }
         ensures { self.new ≡ with_reading self.old peer (record { rate = rate; hops = hops }) }
     {
-        self.readings[peer.index()] = Reading { rate, hops };
+        self.readings.put(peer.index(), Reading { rate, hops });
     }
 
     /// The rate and the hops that were put last for the peer, and `(0, 0)` where none were, as for a
@@ -56,9 +57,8 @@ impl Measures {
         ensures rate { result.0 ≡ (reading_of self.now peer).rate }
         ensures hops { result.1 ≡ (reading_of self.now peer).hops }
     {
-        match self.readings.get((peer.0 as usize).saturating_sub(1)) {
-            Some(reading) => (reading.rate, reading.hops),
-            None => (0, 0),
-        }
+        let place = (peer.0 as usize).saturating_sub(1);
+        let reading = self.readings.get_or(place, NOTHING);
+        (reading.rate, reading.hops)
     }
 }

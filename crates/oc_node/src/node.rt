@@ -26,6 +26,7 @@ use oc_draft::{Before, Changes, Draft, Plan};
 use oc_laws_step::{folding_is_stepping, lawful_nodes_stay_lawful, snapshots_stand_for_all};
 use oc_measure::Measures;
 use oc_model::{Input, Mode, Record};
+use oc_rows::Rows;
 use oc_state::{Durable, Standing, Tries, Volatile, touch_all};
 use oc_updown::{ChangeLog, Leases};
 use std::alloc::Global;
@@ -45,9 +46,9 @@ pub struct Node {
     tries: Tries,
     leases: Leases,
     /// The rate that each child told last, by its number.
-    rates: Vec<u64>,
+    rates: Rows<u64>,
     /// How many clients each node was sent, by its number.
-    counts: Vec<u64>,
+    counts: Rows<u64>,
     alloc: Global,
 }
 
@@ -92,8 +93,8 @@ impl Node {
             volatile: Volatile::new(),
             tries: Tries::none(alloc),
             leases: Leases::new(alloc, nodes)?,
-            rates: vec![in alloc; 0; nodes as usize]?,
-            counts: vec![in alloc; 0; nodes as usize]?,
+            rates: Rows::new(alloc, nodes as usize, 0)?,
+            counts: Rows::new(alloc, nodes as usize, 0)?,
             alloc,
         })
     }

@@ -3,6 +3,7 @@ ghost use Rattle.oc_model.specs.Numbers.{at};
 ghost use Rattle.oc_redirect.specs.Better.{is_near, is_better, beats};
 
 use oc_base::NodeId;
+use oc_rows::Rows;
 
 /// By what one server is preferred to another for a client.
 #[derive(Drop)]
@@ -10,7 +11,7 @@ pub(crate) struct Preference<'a> {
     /// The area of each node, by its number.
     pub areas: &'a [u8],
     /// How many clients each node was sent, by its number.
-    pub counts: &'a [u64],
+    pub counts: &'a Rows<u64>,
     /// The area of the client.
     pub area: u8,
 }
@@ -20,9 +21,9 @@ impl<'a> Preference<'a> {
     pub fn beats(&self, node: NodeId, best: &Option<NodeId>) -> bool
         requires first { 1 ≤ node }
         requires areas { node ≤ length self.now.areas.now }
-        requires counts { node ≤ length self.now.counts.now }
+        requires counts { node ≤ length self.now.counts.now.items }
         requires behind { IfSome best.now (λ b. (1 ≤ b) × (b < node)) }
-        ensures { result ≡ beats (is_better self.now.areas.now self.now.counts.now self.now.area) node best.now }
+        ensures { result ≡ beats (is_better self.now.areas.now self.now.counts.now.items self.now.area) node best.now }
     {
         match best {
             Some(best) => self.is_better(node, *best),
@@ -36,8 +37,8 @@ impl<'a> Preference<'a> {
         requires first { 1 ≤ earlier }
         requires behind { earlier < node }
         requires areas { node ≤ length self.now.areas.now }
-        requires counts { node ≤ length self.now.counts.now }
-        ensures { result ≡ is_better self.now.areas.now self.now.counts.now self.now.area node earlier }
+        requires counts { node ≤ length self.now.counts.now.items }
+        ensures { result ≡ is_better self.now.areas.now self.now.counts.now.items self.now.area node earlier }
     {
         let near = self.is_near(node);
         if near == self.is_near(earlier) {
@@ -59,9 +60,9 @@ impl<'a> Preference<'a> {
     /// How many clients the node was sent.
     fn count(&self, node: NodeId) -> u64
         requires first { 1 ≤ node }
-        requires counts { node ≤ length self.now.counts.now }
-        ensures { result ≡ at self.now.counts.now node 0 }
+        requires counts { node ≤ length self.now.counts.now.items }
+        ensures { result ≡ at self.now.counts.now.items node 0 }
     {
-        self.counts[node.index()]
+        self.counts.get_or(node.index(), 0)
     }
 }

@@ -4,6 +4,7 @@ ghost use Rattle.oc_model.specs.Selected.{selected};
 use crate::preference::Preference;
 use oc_base::NodeId;
 use oc_cert::Table;
+use oc_rows::Rows;
 
 /// The node to which this one, a member of the chain, sends a client of this area: of the nodes past
 /// the chain that its table lists beneath it, one in the client's area where there is any; of these
@@ -17,12 +18,12 @@ pub fn select(
     me: NodeId,
     chain: u32,
     areas: &[u8],
-    counts: &[u64],
+    counts: &Rows<u64>,
     area: u8,
 ) -> Option<NodeId>
     requires areas { length areas.now ≡ table.now.nodes }
-    requires counts { length counts.now ≡ table.now.nodes }
-    ensures { result ≡ selected table.now.entries me chain areas.now counts.now area }
+    requires counts { length counts.now.items ≡ table.now.nodes }
+    ensures { result ≡ selected table.now.entries me chain areas.now counts.now.items area }
 {
     let nodes = table.rows().len() as u32;
     let preference = Preference {

@@ -2,12 +2,13 @@
 
 ghost use Rattle.std.specs.Prelude.{◌≡◌, ◌++◌, IfOk, OnOk};
 ghost use Rattle.std.specs.Option.{option_to_list};
-ghost use Rattle.oc_cert.specs.TableView.{entries_of};
+ghost use Rattle.oc_cert.specs.TableView.{AreTableRows, entries_of};
 ghost use Rattle.oc_stage.specs.Sight.{sight_of};
 
 use oc_base::{Cert, CertList, IdList, LineList, Memory};
 use oc_io::Disk;
 use oc_keep::Kept;
+use oc_rows::Rows;
 use oc_stage::Sight;
 
 /// What is seen of a node on its files, which is up or not.
@@ -34,11 +35,13 @@ pub fn sight_of<D: Disk>(kept: &Kept<D>, up: bool) -> Result<Sight, Memory>
 }
 
 /// Puts the certificates of these rows at the end.
-fn push_entries(list: &mut Vec<Cert>, rows: &[Option<Cert>]) -> Result<(), Memory>
-    ensures { OnOk result (list.new.items ≡ list.old.items ++ entries_of rows.now) }
+fn push_entries(list: &mut Vec<Cert>, rows: &Rows<Option<Cert>>) -> Result<(), Memory>
+    requires { AreTableRows rows.now }
+    ensures { OnOk result (list.new.items ≡ list.old.items ++ entries_of rows.now.items) }
 {
-    for row in rows {
-        push_entry(list, row)?;
+    for place in 0..rows.used() {
+        let row = rows.get_or(place, None);
+        push_entry(list, &row)?;
     }
     Ok(())
 }

@@ -1,12 +1,12 @@
 -- The children of a node by the rows of its table, one row after another.
-use Rattle.std.proofs.Common.{◌≡◌, ℕ, ◌+◌, ◌<◌, ◌≤◌, Bool, true, false, not, ◌&&◌, ◌==◌, nat_le, Option, Some, None, List, [], ◌∷◌, ◌++◌, length, drop, get_or, min, ◌⊎◌, inl, inr, refl, ap, sym, subst, ◌∙◌, append_assoc, arith}
+use Rattle.std.proofs.Common.{◌≡◌, ℕ, ◌+◌, ◌<◌, ◌≤◌, Bool, true, false, not, ◌&&◌, ◌==◌, nat_le, Option, Some, None, List, [], ◌∷◌, ◌++◌, length, drop, get_or, replicate, min, ◌⊎◌, inl, inr, refl, ap, sym, subst, ◌∙◌, append_assoc, arith}
 use Rattle.std.proofs.lemmas.Bool.{le-leb, lt-leb, cases_lt}
-use Rattle.std.proofs.Math.ListN.{drop_of_length-le}
 use Rattle.oc_base.specs.declared.cert.Cert.{Cert}
 use Rattle.oc_base.specs.declared.cert.Child.{Child}
 use Rattle.oc_model.specs.Adoption.{chain_child}
 use Rattle.oc_model.specs.Table.{is_lease_of}
 use Rattle.oc_cert.specs.TableView.{AreRowsFrom, entries_of}
+use Rattle.oc_cert.proofs.Entries.{no_entries_past}
 use Rattle.oc_cert.proofs.Lines.{rows_at}
 use Rattle.oc_state.specs.Children.{other_child_of_row, told_of_row, told_children}
 
@@ -80,11 +80,11 @@ chain_found rows i row y chain x whole found within e fit member is k some so =
     some ∙ sym here ∙ so
 
 -- past the chain the rest gives none
-pub chain_ends : (rows : List (Option Cert)) (i : ℕ) (y chain x : ℕ) → AreRowsFrom (length rows) (i + 1) (drop i rows) → min (length rows) chain ≤ i → chain_among (drop i rows) y chain x ≡ None
-chain_ends rows i y chain x fit past = by_order (cases_lt i (length rows)) where
-  by_order : (i < length rows) ⊎ (length rows ≤ i) → chain_among (drop i rows) y chain x ≡ None
+pub chain_ends : (rows : List (Option Cert)) (used n i : ℕ) (blank : Option Cert) (y chain x : ℕ) → AreRowsFrom (length rows) (i + 1) (drop i rows) → drop used rows ≡ replicate n blank → blank ≡ None → min used chain ≤ i → chain_among (drop i rows) y chain x ≡ None
+chain_ends rows used n i blank y chain x fit rest none past = by_order (cases_lt i used) where
+  by_order : (i < used) ⊎ (used ≤ i) → chain_among (drop i rows) y chain x ≡ None
   by_order (inl h) = chain_none (drop i rows) (length rows) (i + 1) y chain x fit (omega arith)
-  by_order (inr h) = let none : drop i rows ≡ [] = drop_of_length-le rows h in rw none
+  by_order (inr h) = ap (λ es. chain_child es y chain x) (no_entries_past rows used i n blank h rest none)
 
 -- The leased children with their rates
 

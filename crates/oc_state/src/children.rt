@@ -2,10 +2,11 @@ ghost use Rattle.std.specs.Prelude.{◌≡◌, ◌++◌, length, IfOk, OnOk};
 ghost use Rattle.std.specs.Option.{option_to_list};
 ghost use Rattle.oc_model.specs.Adoption.{chain_child};
 ghost use Rattle.oc_model.specs.Numbers.{at};
-ghost use Rattle.oc_cert.specs.TableView.{AreRows, entries_of};
+ghost use Rattle.oc_cert.specs.TableView.{AreTableRows, entries_of};
 ghost use Rattle.oc_state.specs.Children.{child_of_row, other_child_of_row, told_of_row, told_children};
 
 use oc_base::{Cert, Child, Memory, NodeId};
+use oc_rows::Rows;
 use std::alloc::Global;
 
 /// The subject of a row, if it is a leased child of this node.
@@ -31,13 +32,19 @@ fn other_child_of_row(row: &Option<Cert>, me: NodeId, asker: NodeId) -> Option<N
 }
 
 /// The least leased child of this node that is a member of the chain and not the asker.
-pub fn chain_child(rows: &[Option<Cert>], me: NodeId, chain: u32, asker: NodeId) -> Option<NodeId>
-    requires { AreRows rows.now }
-    ensures { result ≡ chain_child (entries_of rows.now) me chain asker }
+pub fn chain_child(
+    rows: &Rows<Option<Cert>>,
+    me: NodeId,
+    chain: u32,
+    asker: NodeId,
+) -> Option<NodeId>
+    requires { AreTableRows rows.now }
+    ensures { result ≡ chain_child (entries_of rows.now.items) me chain asker }
 {
-    let members = rows.len().min(chain as usize);
+    let members = rows.used().min(chain as usize);
     for place in 0..members {
-        let child = other_child_of_row(&rows[place], me, asker);
+        let row = rows.get_or(place, None);
+        let child = other_child_of_row(&row, me, asker);
         if child.is_some() {
             return child;
         }
@@ -46,11 +53,11 @@ pub fn chain_child(rows: &[Option<Cert>], me: NodeId, chain: u32, asker: NodeId)
 }
 
 /// The rate that a child told last, 0 where it told none.
-fn rate_of(rates: &[u64], child: NodeId) -> u64
-    ensures { result ≡ at rates.now child 0 }
+fn rate_of(rates: &Rows<u64>, child: NodeId) -> u64
+    ensures { result ≡ at rates.now.items child 0 }
 {
     let place = (child.0 as usize).saturating_sub(1);
-    rates.get(place).copied().unwrap_or(0)
+    rates.get_or(place, 0)
 }
 
 /// Puts the child of a row at the end, if it has one.
@@ -58,9 +65,9 @@ fn push_child(
     children: &mut Vec<Child>,
     row: &Option<Cert>,
     me: NodeId,
-    rates: &[u64],
+    rates: &Rows<u64>,
 ) -> Result<(), Memory>
-    ensures { OnOk result (children.new.items ≡ children.old.items ++ told_of_row me rates.now row.now) }
+    ensures { OnOk result (children.new.items ≡ children.old.items ++ told_of_row me rates.now.items row.now) }
 {
     if let Some(id) = child_of_row(row, me) {
         let rate = rate_of(rates, id);
@@ -72,15 +79,17 @@ fn push_child(
 /// The leased children of this node, ascending, with the rates that they told last.
 pub fn children(
     alloc: Global,
-    rows: &[Option<Cert>],
+    rows: &Rows<Option<Cert>>,
     me: NodeId,
-    rates: &[u64],
+    rates: &Rows<u64>,
 ) -> Result<Vec<Child>, Memory>
-    ensures { IfOk result (λ made. made.items ≡ told_children (entries_of rows.now) me rates.now) }
+    requires { AreTableRows rows.now }
+    ensures { IfOk result (λ made. made.items ≡ told_children (entries_of rows.now.items) me rates.now.items) }
 {
     let mut children = Vec::new(alloc);
-    for row in rows {
-        push_child(&mut children, row, me, rates)?;
+    for place in 0..rows.used() {
+        let row = rows.get_or(place, None);
+        push_child(&mut children, &row, me, rates)?;
     }
     Ok(children)
 }

@@ -2,7 +2,7 @@ ghost use Rattle.std.specs.Prelude.{◌≡◌, [], ◌∷◌, ◌++◌, length, 
 ghost use Rattle.std.specs.Option.{option_to_list};
 ghost use Rattle.oc_model.specs.Measures.{reading_of};
 ghost use Rattle.oc_model.specs.Snapshot.{snapshot, entries, own_pair, last_ask, peer_or_first, mode_records, rank_records, ancestor_records, rates_from};
-ghost use Rattle.oc_cert.specs.TableView.{entries_of};
+ghost use Rattle.oc_cert.specs.TableView.{AreTableRows, entries_of};
 ghost use Rattle.oc_state.specs.Snapshots.{rate_record};
 
 use crate::durable::Durable;
@@ -11,6 +11,7 @@ use crate::standing::Standing;
 use oc_base::{Cert, IdList, Memory, NodeId, Rank};
 use oc_measure::Measures;
 use oc_model::{Mode, Record};
+use oc_rows::Rows;
 use std::alloc::Global;
 
 // A snapshot: records that give one state, whatever was before them.
@@ -26,11 +27,13 @@ fn push_row(list: &mut Vec<Record>, row: &Option<Cert>) -> Result<(), Memory>
 }
 
 /// Puts an entry for each of these rows at the end.
-fn push_rows(list: &mut Vec<Record>, rows: &[Option<Cert>]) -> Result<(), Memory>
-    ensures { OnOk result (list.new.items ≡ list.old.items ++ entries (entries_of rows.now)) }
+fn push_rows(list: &mut Vec<Record>, rows: &Rows<Option<Cert>>) -> Result<(), Memory>
+    requires { AreTableRows rows.now }
+    ensures { OnOk result (list.new.items ≡ list.old.items ++ entries (entries_of rows.now.items)) }
 {
-    for row in rows {
-        push_row(list, row)?;
+    for place in 0..rows.used() {
+        let row = rows.get_or(place, None);
+        push_row(list, &row)?;
     }
     Ok(())
 }

@@ -4,6 +4,7 @@ ghost use Rattle.oc_state.specs.Touched.{IsTouch, leases_by, rates_by, counts_by
 
 use oc_base::NodeId;
 use oc_cert::Table;
+use oc_rows::Rows;
 use oc_updown::Leases;
 
 /// What a step touches of the lists that have an item for each node.
@@ -25,16 +26,16 @@ pub fn touch_all(
     table: &Table,
     me: NodeId,
     leases: &mut Leases,
-    rates: &mut [u64],
-    counts: &mut [u64],
+    rates: &mut Rows<u64>,
+    counts: &mut Rows<u64>,
 )
     requires touches { AllByRecursion (IsTouch table.now.nodes) touches.now }
     requires leases { length leases.old.ends ≡ table.now.nodes }
-    requires rates { length rates.old ≡ table.now.nodes }
-    requires counts { length counts.old ≡ table.now.nodes }
+    requires rates { length rates.old.items ≡ table.now.nodes }
+    requires counts { length counts.old.items ≡ table.now.nodes }
     ensures leases { leases.new.ends ≡ leases_after table.now.entries me leases.old.ends touches.now }
-    ensures rates { rates.new ≡ rates_after rates.old touches.now }
-    ensures counts { counts.new ≡ counts_after counts.old touches.now }
+    ensures rates { rates.new.items ≡ rates_after rates.old.items touches.now }
+    ensures counts { counts.new.items ≡ counts_after counts.old.items touches.now }
 {
     for touch in touches {
         touch_one(touch, table, me, leases, rates, counts);
@@ -46,25 +47,27 @@ fn touch_one(
     table: &Table,
     me: NodeId,
     leases: &mut Leases,
-    rates: &mut [u64],
-    counts: &mut [u64],
+    rates: &mut Rows<u64>,
+    counts: &mut Rows<u64>,
 )
     requires touch { IsTouch table.now.nodes touch.now }
     requires leases { length leases.old.ends ≡ table.now.nodes }
-    requires rates { length rates.old ≡ table.now.nodes }
-    requires counts { length counts.old ≡ table.now.nodes }
+    requires rates { length rates.old.items ≡ table.now.nodes }
+    requires counts { length counts.old.items ≡ table.now.nodes }
     ensures leases { leases.new.ends ≡ leases_by table.now.entries me leases.old.ends touch.now }
     ensures length { length leases.new.ends ≡ length leases.old.ends }
-    ensures rates { rates.new ≡ rates_by rates.old touch.now }
-    ensures counts { counts.new ≡ counts_by counts.old touch.now }
+    ensures rates { rates.new.items ≡ rates_by rates.old.items touch.now }
+    ensures rates_length { length rates.new.items ≡ length rates.old.items }
+    ensures counts { counts.new.items ≡ counts_by counts.old.items touch.now }
+    ensures counts_length { length counts.new.items ≡ length counts.old.items }
 {
     match touch {
         Touch::Start { now } => leases.start_all(table, me, *now),
         Touch::Renew { child, now } => leases.renew(*child, *now),
-        Touch::Tell { child, rate } => rates[child.index()] = *rate,
+        Touch::Tell { child, rate } => rates.put(child.index(), *rate),
         Touch::Redirect { node } => {
             let index = node.index();
-            counts[index] = counts[index].saturating_add(1);
+            counts.put(index, counts.get_or(index, 0).saturating_add(1));
         }
     }
 }

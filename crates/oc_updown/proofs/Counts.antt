@@ -1,5 +1,5 @@
 -- Counts of certificates by their subject: what a certificate more or less changes.
-use Rattle.std.proofs.Common.{◌≡◌, ℕ, zero, suc, ◌+◌, ◌-◌, ◌<◌, ◌≤◌, Bool, true, false, ◌==◌, List, [], ◌∷◌, ◌++◌, length, get_or, set, refl, ap, sym, ◌∙◌, ◌⊎◌, inl, inr, arith, eqb-true, eq-eqb, ne_eqb, get_or-set_other, get_or-set_same}
+use Rattle.std.proofs.Common.{◌≡◌, ℕ, ◌+◌, ◌-◌, ◌<◌, ◌≤◌, Bool, true, false, ◌==◌, List, [], ◌∷◌, ◌++◌, length, get_or, set, refl, ap, sym, ◌∙◌, ◌⊎◌, inl, inr, arith, eqb-true, eq-eqb, ne_eqb, get_or-set_other, get_or-set_same}
 use Rattle.std.proofs.Math.ListN.{length-set}
 use Rattle.std.proofs.lemmas.Bool.{cases_eq}
 use Rattle.oc_base.specs.declared.cert.Cert.{Cert}
@@ -93,12 +93,6 @@ among_counted x (c ∷ cs) k (inr among) e = by_test (among_counted x cs k among
   by_test : 0 < count_of x cs → (b : Bool) → c.subject == x ≡ b → 0 < count_of x (c ∷ cs)
   by_test rest true h = rw h (omega arith)
   by_test rest false h = rw h rest
-
--- a count that was read at a place
-pub read_count : (counts : List ℕ) (i n : ℕ) → i < length counts → n ≡ get_or counts i n → n ≡ get_or counts i 0
-read_count [] i n within e = absurd (omega arith)
-read_count (k ∷ counts) zero n within e = e
-read_count (k ∷ counts) (suc i) n within e = read_count counts i n (omega arith) e
 
 -- as `counts_push`, of a count that was read
 pub counts_push_at : (counts : List ℕ) (cs : List Cert) (c : Cert) (i n : ℕ) (new : List Cert) → AreCounts counts cs → IsNode (length counts) c.subject → i ≡ c.subject - 1 → n ≡ get_or counts i 0 → new ≡ cs ++ c ∷ [] → AreCounts (set counts i (n + 1)) new

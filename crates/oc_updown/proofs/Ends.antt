@@ -1,12 +1,13 @@
 -- Leases by the rows of a table, one row after another.
-use Rattle.std.proofs.Common.{◌≡◌, ℕ, zero, suc, ◌+◌, ◌<◌, ◌≤◌, Bool, true, false, nat_lt, Option, Some, None, List, [], ◌∷◌, length, drop, get_or, refl, ap, sym, ◌∙◌, arith}
+use Rattle.std.proofs.Common.{◌≡◌, ℕ, zero, suc, ◌+◌, ◌<◌, ◌≤◌, Bool, true, false, nat_lt, Option, Some, None, IfSome, List, [], ◌∷◌, length, drop, get_or, refl, ap, sym, ◌∙◌, arith}
 use Rattle.std.proofs.lemmas.Bool.{lt-ltb, le-ltb}
 use Rattle.oc_base.specs.declared.cert.Cert.{Cert}
+use Rattle.oc_base.specs.Lawful.{IsNode}
 use Rattle.oc_model.specs.Numbers.{at}
 use Rattle.oc_model.specs.Table.{is_lease_of}
 use Rattle.oc_model.specs.Leases.{start_all, is_over, next_ended}
 use Rattle.oc_cert.specs.TableView.{AreRowsFrom, AreRows, entries_of}
-use Rattle.oc_cert.proofs.Lines.{rows_at}
+use Rattle.oc_cert.proofs.Lines.{rows_at, row_is_of_node}
 use Rattle.oc_updown.specs.Children.{start_row, ended_of_row}
 
 -- the children of the first row start first, and then those of the others
@@ -22,6 +23,13 @@ pub start_goes_on : (y : ℕ) (rows : List (Option Cert)) (i : ℕ) (row : Optio
 start_goes_on y rows i row ends new whole now within e did so =
     let here : start_all (entries_of (drop i rows)) y ends now ≡ start_all (entries_of (drop (i + 1) rows)) y (start_row y row ends now) now = ap (λ (rs : List (Option Cert)). start_all (entries_of rs) y ends now) (rows_at rows i row within e) ∙ start_cons y row (drop (i + 1) rows) ends now in
     rw did (sym here ∙ so)
+
+-- a row is of a node for which there is an end
+pub child_of_row : (nodes many i : ℕ) (rows : List (Option Cert)) (row : Option Cert) → i < length rows → row ≡ get_or rows i row → AreRowsFrom nodes (i + 1) (drop i rows) → nodes ≤ many → IfSome row (λ k. IsNode many k.subject)
+child_of_row nodes many i rows row within e fit few = by_row row (row_is_of_node nodes i rows row within e fit) where
+  by_row : (row : Option Cert) → IfSome row (λ k. IsNode nodes k.subject) → IfSome row (λ k. IsNode many k.subject)
+  by_row None node = tt
+  by_row (Some k) node = omega (arith, node, few)
 
 -- the next of these rows whose lease has ended
 abbrev pub next_among : List (Option Cert) → ℕ → List (Option ℕ) → ℕ → ℕ → Option ℕ

@@ -3,20 +3,23 @@ ghost use Rattle.oc_base.specs.declared.limits.TheConstants.{LAST_SECOND};
 ghost use Rattle.oc_model.specs.Numbers.{at};
 ghost use Rattle.oc_model.specs.Table.{is_lease_of};
 ghost use Rattle.oc_model.specs.Leases.{renew, is_over, start_if, start_all, next_ended};
-ghost use Rattle.oc_cert.specs.TableView.{AreRows, entries_of};
+ghost use Rattle.oc_cert.specs.TableView.{AreTableRows, entries_of};
 ghost use Rattle.oc_base.specs.Lawful.{IsNode};
 ghost use Rattle.oc_updown.specs.Children.{start_row, ended_of_row};
 
 use crate::leases::LEASE_TIME;
 use oc_base::{Cert, NodeId};
+use oc_rows::Rows;
 
 /// The lease of a child begins anew.
-pub(crate) fn renew(ends: &mut [Option<u64>], child: NodeId, now: u64)
-    requires child { IsNode (length ends.old) child }
+pub(crate) fn renew(ends: &mut Rows<Option<u64>>, child: NodeId, now: u64)
+    requires child { IsNode (length ends.old.items) child }
     requires now { now ≤ LAST_SECOND }
-    ensures { ends.new ≡ renew ends.old child now }
+    ensures ends { ends.new.items ≡ renew ends.old.items child now }
+    ensures length { length ends.new.items ≡ length ends.old.items }
+    ensures room { ends.new.room ≡ ends.old.room }
 {
-    ends[child.index()] = Some(now + LEASE_TIME);
+    ends.put(child.index(), Some(now + LEASE_TIME));
 }
 
 /// Whether a certificate says that its subject is a child of this node.
@@ -27,21 +30,25 @@ fn is_lease_of(parent: NodeId, cert: &Cert) -> bool
 }
 
 /// The lease of a child begins, if no end is set for it.
-fn start(ends: &mut [Option<u64>], child: NodeId, now: u64)
-    requires child { IsNode (length ends.old) child }
+fn start(ends: &mut Rows<Option<u64>>, child: NodeId, now: u64)
+    requires child { IsNode (length ends.old.items) child }
     requires now { now ≤ LAST_SECOND }
-    ensures { ends.new ≡ start_if (at ends.old child None) ends.old child now }
+    ensures ends { ends.new.items ≡ start_if (at ends.old.items child None) ends.old.items child now }
+    ensures length { length ends.new.items ≡ length ends.old.items }
+    ensures room { ends.new.room ≡ ends.old.room }
 {
-    if ends[child.index()].is_none() {
+    if ends.get_or(child.index(), None).is_none() {
         renew(ends, child, now);
     }
 }
 
 /// The lease of the subject of a row begins, if it is a child of this node and has no end.
-fn start_of_row(row: &Option<Cert>, me: NodeId, ends: &mut [Option<u64>], now: u64)
-    requires row { IfSome row.now (λ cert. IsNode (length ends.old) cert.subject) }
+fn start_of_row(row: &Option<Cert>, me: NodeId, ends: &mut Rows<Option<u64>>, now: u64)
+    requires row { IfSome row.now (λ cert. IsNode (length ends.old.items) cert.subject) }
     requires now { now ≤ LAST_SECOND }
-    ensures { ends.new ≡ start_row me row.now ends.old now }
+    ensures ends { ends.new.items ≡ start_row me row.now ends.old.items now }
+    ensures length { length ends.new.items ≡ length ends.old.items }
+    ensures room { ends.new.room ≡ ends.old.room }
 {
     if let Some(cert) = row
         && is_lease_of(me, cert)
@@ -51,21 +58,34 @@ fn start_of_row(row: &Option<Cert>, me: NodeId, ends: &mut [Option<u64>], now: u
 }
 
 /// The leases of all children without an end begin.
-pub(crate) fn start_rows(rows: &[Option<Cert>], me: NodeId, ends: &mut [Option<u64>], now: u64)
-    requires rows { AreRows rows.now }
-    requires nodes { length rows.now ≤ length ends.old }
+pub(crate) fn start_rows(
+    rows: &Rows<Option<Cert>>,
+    me: NodeId,
+    ends: &mut Rows<Option<u64>>,
+    now: u64,
+)
+    requires rows { AreTableRows rows.now }
+    requires nodes { length rows.now.items ≤ length ends.old.items }
     requires now { now ≤ LAST_SECOND }
-    ensures { ends.new ≡ start_all (entries_of rows.now) me ends.old now }
+    ensures ends { ends.new.items ≡ start_all (entries_of rows.now.items) me ends.old.items now }
+    ensures length { length ends.new.items ≡ length ends.old.items }
+    ensures room { ends.new.room ≡ ends.old.room }
 {
-    for row in rows {
-        start_of_row(row, me, ends, now);
+    for place in 0..rows.used() {
+        let row = rows.get_or(place, None);
+        start_of_row(&row, me, ends, now);
     }
 }
 
 /// The subject of a row, if it is a child of this node whose lease has ended.
-fn ended_of_row(row: &Option<Cert>, me: NodeId, ends: &[Option<u64>], now: u64) -> Option<NodeId>
-    requires { IfSome row.now (λ cert. IsNode (length ends.now) cert.subject) }
-    ensures { result ≡ ended_of_row me row.now ends.now now }
+fn ended_of_row(
+    row: &Option<Cert>,
+    me: NodeId,
+    ends: &Rows<Option<u64>>,
+    now: u64,
+) -> Option<NodeId>
+    requires { IfSome row.now (λ cert. IsNode (length ends.now.items) cert.subject) }
+    ensures { result ≡ ended_of_row me row.now ends.now.items now }
 {
     match row {
         Some(cert) if is_lease_of(me, cert) && is_over(ends, cert.subject, now) => Some(
@@ -76,11 +96,11 @@ fn ended_of_row(row: &Option<Cert>, me: NodeId, ends: &[Option<u64>], now: u64) 
 }
 
 /// Whether the lease of a child has ended.
-fn is_over(ends: &[Option<u64>], child: NodeId, now: u64) -> bool
-    requires { IsNode (length ends.now) child }
-    ensures { result ≡ is_over (at ends.now child None) now }
+fn is_over(ends: &Rows<Option<u64>>, child: NodeId, now: u64) -> bool
+    requires { IsNode (length ends.now.items) child }
+    ensures { result ≡ is_over (at ends.now.items child None) now }
 {
-    match ends[child.index()] {
+    match ends.get_or(child.index(), None) {
         Some(end) => end <= now,
         None => false,
     }
@@ -88,18 +108,19 @@ fn is_over(ends: &[Option<u64>], child: NodeId, now: u64) -> bool
 
 /// The least child past a number whose lease has ended.
 pub(crate) fn next_over(
-    rows: &[Option<Cert>],
+    rows: &Rows<Option<Cert>>,
     me: NodeId,
-    ends: &[Option<u64>],
+    ends: &Rows<Option<u64>>,
     after: u32,
     now: u64,
 ) -> Option<NodeId>
-    requires rows { AreRows rows.now }
-    requires nodes { length rows.now ≤ length ends.now }
-    ensures { result ≡ next_ended (entries_of rows.now) me ends.now after now }
+    requires rows { AreTableRows rows.now }
+    requires nodes { length rows.now.items ≤ length ends.now.items }
+    ensures { result ≡ next_ended (entries_of rows.now.items) me ends.now.items after now }
 {
-    for place in after as usize..rows.len() {
-        let ended = ended_of_row(&rows[place], me, ends, now);
+    for place in after as usize..rows.used() {
+        let row = rows.get_or(place, None);
+        let ended = ended_of_row(&row, me, ends, now);
         if ended.is_some() {
             return ended;
         }

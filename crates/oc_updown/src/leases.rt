@@ -7,6 +7,7 @@ ghost use Rattle.oc_updown.specs.Ended.{IsNextEnded};
 use crate::children::{next_over, renew, start_rows};
 use oc_base::{Memory, NodeId};
 use oc_cert::Table;
+use oc_rows::Rows;
 use std::alloc::Global;
 use std::marker::Model;
 
@@ -18,16 +19,15 @@ pub const LEASE_TIME: u64 = 30;
 #[derive(Drop)]
 pub struct Leases {
     /// By the index of the node.
-    ends: Vec<Option<u64>>,
+    ends: Rows<Option<u64>>,
 }
 
 impl Model for Leases {
-    ghost use Rattle.std.specs.Prelude.{vec_capacity};
     ghost use Rattle.oc_updown.specs.LeasesView.{LeasesView};
 
     ghost Value = { LeasesView };
 
-    ghost view = { λ l. record { ends = l.ends.items; room = vec_capacity l.ends } };
+    ghost view = { λ l. record { ends = l.ends.items; room = l.ends.room } };
 }
 
 impl Leases {
@@ -37,7 +37,7 @@ impl Leases {
         ensures length { IfOk result (λ leases. length leases.ends ≡ nodes) }
     {
         Ok(Leases {
-            ends: vec![in alloc; None; nodes as usize]?,
+            ends: Rows::new(alloc, nodes as usize, None)?,
         })
     }
 

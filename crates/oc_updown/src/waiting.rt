@@ -1,10 +1,11 @@
 ghost use Rattle.std.specs.Prelude.{◌≡◌, ℕ, ◌+◌, ◌-◌, ◌^◌, ◌<◌, ◌≤◌, slice_index, slice_set, ◌↔◌, ◌∷◌, [], ◌++◌, IsTrue, take, drop, length, IfOk, IfSome, OnOk, vec_len, vec_capacity};
 ghost use Rattle.std.specs.VecDeque.{deque_len, deque_capacity};
-ghost use Rattle.oc_cert.specs.TableView.{AreRows, entries_of};
+ghost use Rattle.oc_cert.specs.TableView.{AreTableRows, entries_of};
 ghost use Rattle.oc_base.specs.Lawful.{IsNode};
 ghost use Rattle.oc_updown.specs.Waiting.{count_of};
 
 use oc_base::{Cert, Memory, NodeId, push_reserved};
+use oc_rows::Rows;
 use std::alloc::Global;
 use std::collections::VecDeque;
 use std::marker::Model;
@@ -15,7 +16,7 @@ use std::marker::Model;
 pub(crate) struct Waiting {
     certs: VecDeque<Cert>,
     /// By the index of the node.
-    counts: Vec<u64>,
+    counts: Rows<u64>,
 }
 
 impl Model for Waiting {
@@ -37,7 +38,7 @@ impl Waiting {
     {
         Ok(Waiting {
             certs: VecDeque::new(alloc),
-            counts: vec![in alloc; 0; nodes as usize]?,
+            counts: Rows::new(alloc, nodes as usize, 0)?,
         })
     }
 
@@ -74,7 +75,7 @@ impl Waiting {
         requires { IsNode self.now.nodes subject }
         ensures { IsTrue result ↔ (0 < count_of subject self.now.certs) }
     {
-        self.counts[subject.index()] > 0
+        self.counts.get_or(subject.index(), 0) > 0
     }
 
     /// Puts one at the end. There is room for it.
@@ -86,7 +87,7 @@ impl Waiting {
         ensures nodes { self.new.nodes ≡ self.old.nodes }
     {
         let index = cert.subject.index();
-        self.counts[index] += 1;
+        self.counts.put(index, self.counts.get_or(index, 0) + 1);
         put(&mut self.certs, cert);
     }
 
@@ -98,7 +99,7 @@ impl Waiting {
     {
         if let Some(cert) = self.certs.pop_front() {
             let index = cert.subject.index();
-            self.counts[index] -= 1;
+            self.counts.put(index, self.counts.get_or(index, 0) - 1);
         }
     }
 
@@ -114,16 +115,17 @@ impl Waiting {
     }
 
     /// Puts the certificates of these rows at the end. There is room for them.
-    pub(crate) fn push_rows(&mut self, rows: &[Option<Cert>])
-        requires rows { AreRows rows.now }
-        requires nodes { length rows.now ≤ self.old.nodes }
-        requires room { length self.old.certs + length (entries_of rows.now) ≤ self.old.room }
-        ensures certs { self.new.certs ≡ self.old.certs ++ entries_of rows.now }
+    pub(crate) fn push_rows(&mut self, rows: &Rows<Option<Cert>>)
+        requires rows { AreTableRows rows.now }
+        requires nodes { length rows.now.items ≤ self.old.nodes }
+        requires room { length self.old.certs + length (entries_of rows.now.items) ≤ self.old.room }
+        ensures certs { self.new.certs ≡ self.old.certs ++ entries_of rows.now.items }
         ensures room { self.new.room ≡ self.old.room }
         ensures nodes { self.new.nodes ≡ self.old.nodes }
     {
-        for row in rows {
-            self.push_row(row);
+        for place in 0..rows.used() {
+            let row = rows.get_or(place, None);
+            self.push_row(&row);
         }
     }
 

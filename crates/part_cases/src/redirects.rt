@@ -5,6 +5,7 @@ ghost use Rattle.std.specs.Prelude.{◌≡◌};
 use crate::tables::put_all;
 use oc_cert::Table;
 use oc_redirect::select;
+use oc_rows::Rows;
 use std::alloc::Global;
 use test_tools::{Fault, Fields};
 
@@ -18,7 +19,7 @@ pub fn words(alloc: Global, given: &str) -> Result<String, Fault> {
     let me = fields.node()?;
     let chain = fields.small()?;
     let areas = bytes_in(alloc, fields.list())?;
-    let counts = fields.numbers(alloc)?;
+    let counts = rows_of(alloc, &fields.numbers(alloc)?)?;
     let area = fields.byte()?;
     if areas.len() != table.rows().len() || counts.len() != table.rows().len() {
         return Err(Fault::Field);
@@ -36,6 +37,17 @@ fn table_in(alloc: Global, fields: &mut Fields<'_>) -> Result<Table, Fault> {
     let mut table = Table::new(alloc, nodes)?;
     put_all(&mut table, fields.list())?;
     Ok(table)
+}
+
+/// These numbers, by their place.
+fn rows_of(alloc: Global, numbers: &[u64]) -> Result<Rows<u64>, Fault> {
+    let mut rows = Rows::new(alloc, numbers.len(), 0)?;
+    for (place, number) in numbers.iter().enumerate() {
+        if place < rows.len() {
+            rows.put(place, *number);
+        }
+    }
+    Ok(rows)
 }
 
 /// The numbers of the fields, each of 8 bits.

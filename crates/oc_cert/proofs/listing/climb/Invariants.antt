@@ -5,4 +5,4 @@ use Rattle.oc_cert.proofs.Climbs.{IsClimb}
 use Rattle.oc_cert.proofs.listing.climb.Given as goal
 
 abbrev pub invariant-loop : goal.invariant-loop
-invariant-loop l = IsNode (length l.rows) l.place × IsClimb (entries_of l.rows) l.root (length l.rows - l.counter) l.fn.node l.place l.post.node
+invariant-loop l = IsNode (length l.rows.items) l.place × IsClimb (entries_of l.rows.items) l.root (length l.rows.items - l.counter) l.fn.node l.place l.post.node

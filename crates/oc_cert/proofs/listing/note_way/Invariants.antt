@@ -6,7 +6,7 @@ use Rattle.oc_cert.proofs.listing.note_way.Given as goal
 
 abbrev pub invariant-loop : goal.invariant-loop
 invariant-loop l =
-    IsNode (length l.rows) l.place
-    × (is_beneath (entries_of l.rows) l.root l.place ≡ l.listed)
-    × (length l.known ≡ length l.rows)
-    × AreKnown (entries_of l.rows) l.root l.known
+    IsNode (length l.rows.items) l.place
+    × (is_beneath (entries_of l.rows.items) l.root l.place ≡ l.listed)
+    × (length l.known ≡ length l.rows.items)
+    × AreKnown (entries_of l.rows.items) l.root l.known

@@ -1,7 +1,8 @@
-use Rattle.std.proofs.Common.{◌≡◌, ◌<◌, ◌≤◌, ◌+◌, ◌-◌, ℕ, Option, List, ◌∷◌, length, ap, sym, subst, ◌∙◌, arith}
+use Rattle.std.proofs.Common.{◌≡◌, ◌<◌, ◌≤◌, ◌+◌, ◌-◌, ℕ, Option, List, ◌∷◌, ap, sym, subst, ◌∙◌, arith}
 use Rattle.std.specs.Prelude.{filter, IfSome}
 use Rattle.std.specs.List.{range_with_len}
 use Rattle.oc_base.specs.declared.cert.Cert.{Cert}
+use Rattle.oc_cert.specs.TableView.{entries_of}
 use Rattle.oc_model.specs.Table.{is_listed}
 use Rattle.oc_model.specs.Selected.{servers}
 use Rattle.oc_redirect.specs.Better.{is_better, best_of, with_rest}
@@ -15,9 +16,9 @@ pub loop-before-preserved : goal.loop-before-preserved
 loop-before-preserved c =
     let listed = is_listed c.args.table.now.entries c.args.me in
     let areas = c.args.areas.now in
-    let counts = c.args.counts.now in
+    let counts = c.args.counts.now.items in
     let area = c.args.area in
-    let n = length c.rows.result.now in
+    let n = c.len-nodes.result in
     let i = c.loop-before.before in
     let best = c.loop-before.best in
     let new = c.if-beats.best in
@@ -45,15 +46,17 @@ returns c =
     let me = c.args.me in
     let chain = c.args.chain in
     let areas = c.args.areas.now in
-    let counts = c.args.counts.now in
+    let counts = c.args.counts.now.items in
     let area = c.args.area in
     let better = is_better areas counts area in
-    let rows = c.rows.result.now in
-    let n = length rows in
+    let rows = c.rows.result.now.items in
+    let n = c.len-nodes.result in
     let i = c.loop-before.before in
     let best = c.loop-before.best in
     let all : servers t me chain ≡ filter (is_listed t me) (range_with_len (chain + 1) (n - chain)) =
-    subst (λ (t : List Cert). servers t me chain ≡ filter (is_listed t me) (range_with_len (chain + 1) (n - chain))) c.rows.ensures.entries (servers_are rows me chain c.rows.ensures.rows) in
+    subst (λ (t : List Cert). servers t me chain ≡ filter (is_listed t me) (range_with_len (chain + 1) (n - chain))) c.rows.ensures.entries (
+    subst (λ (n : ℕ). servers (entries_of rows) me chain ≡ filter (is_listed (entries_of rows) me) (range_with_len (chain + 1) (n - chain))) (sym c.len-nodes.ensures) (servers_are rows me chain c.rows.ensures.rows.0)
+    ) in
     sym (rest_none better best)
     ∙ ap (λ (xs : List ℕ). with_rest better best (best_of better (filter (is_listed t me) xs))) (sym (no_node n i c.loop-before-test.false))
     ∙ c.loop-before.invariant.best

@@ -9,7 +9,7 @@ use Rattle.oc_redirect.proofs.selecting.select.Given as goal
 abbrev pub invariant-loop-before : goal.invariant-loop-before
 invariant-loop-before l =
     record {
-      best : with_rest (is_better l.areas l.counts l.area) l.best (best_of (is_better l.areas l.counts l.area) (filter (is_listed l.table.entries l.me) (range_with_len (l.before + 1) (l.nodes - l.before))))
-          ≡ best_of (is_better l.areas l.counts l.area) (filter (is_listed l.table.entries l.me) (range_with_len (l.chain + 1) (l.nodes - l.chain)));
+      best : with_rest (is_better l.areas l.counts.items l.area) l.best (best_of (is_better l.areas l.counts.items l.area) (filter (is_listed l.table.entries l.me) (range_with_len (l.before + 1) (l.nodes - l.before))))
+          ≡ best_of (is_better l.areas l.counts.items l.area) (filter (is_listed l.table.entries l.me) (range_with_len (l.chain + 1) (l.nodes - l.chain)));
       behind : IfSome l.best (λ b. (1 ≤ b) × (b < l.before + 1));
     }

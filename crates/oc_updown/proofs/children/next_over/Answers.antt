@@ -1,6 +1,15 @@
-use Rattle.std.proofs.Common.{arith}
+use Rattle.std.proofs.Common.{◌≡◌, ◌∙◌, [], ap, arith, drop, sym}
+use Rattle.oc_model.specs.Leases.{next_ended}
+use Rattle.oc_cert.specs.TableView.{entries_of}
+use Rattle.oc_cert.proofs.Entries.{no_entries_past}
 use Rattle.oc_updown.proofs.Ends.{next_begins, rows_past}
 use Rattle.oc_updown.proofs.children.next_over.Goals as goal
 
 pub loop-place-init : goal.loop-place-init
-loop-place-init c = (next_begins c.args.me c.args.rows.now c.args.ends.now c.args.after c.args.now c.requires.rows, rows_past c.args.rows.now c.args.after c.requires.rows, omega arith)
+loop-place-init c = (next_begins c.args.me c.args.rows.now.items c.args.ends.now.items c.args.after c.args.now c.requires.rows.0, rows_past c.args.rows.now.items c.args.after c.requires.rows.0, omega arith)
+
+pub returns : goal.returns
+returns c =
+    let rows = c.args.rows.now.items in
+    let none : entries_of (drop c.loop-place.place rows) ≡ [] = no_entries_past rows c.used-place-end.result c.loop-place.place _ _ c.loop-place-test.false c.used-place-end.ensures.rest c.requires.rows.1 in
+    sym (ap (λ es. next_ended es c.args.me c.args.ends.now.items c.args.after c.args.now) none) ∙ c.loop-place.invariant.0

@@ -3,7 +3,9 @@ use Rattle.oc_model.specs.Leases.{start_all}
 use Rattle.oc_cert.specs.TableView.{AreRowsFrom, entries_of}
 use Rattle.oc_updown.proofs.children.start_rows.Given as goal
 
-abbrev pub invariant-loop-row : goal.invariant-loop-row
-invariant-loop-row l =
-    (start_all (entries_of (drop l.row-index l.rows)) l.me l.ends l.now ≡ start_all (entries_of l.rows) l.me l.fn.ends l.now)
-    × AreRowsFrom (length l.rows) (l.row-index + 1) (drop l.row-index l.rows)
+abbrev pub invariant-loop-place : goal.invariant-loop-place
+invariant-loop-place l =
+    (start_all (entries_of (drop l.place l.rows.items)) l.me l.ends.items l.now ≡ start_all (entries_of l.rows.items) l.me l.fn.ends.items l.now)
+    × AreRowsFrom (length l.rows.items) (l.place + 1) (drop l.place l.rows.items)
+    × (l.ends.room ≡ l.fn.ends.room)
+    × (length l.ends.items ≡ length l.fn.ends.items)

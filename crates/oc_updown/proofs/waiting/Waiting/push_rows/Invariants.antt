@@ -2,9 +2,9 @@ use Rattle.std.proofs.Common.{◌≡◌, ◌+◌, ◌++◌, length, drop}
 use Rattle.oc_cert.specs.TableView.{AreRowsFrom, entries_of}
 use Rattle.oc_updown.proofs.waiting.Waiting.push_rows.Given as goal
 
-abbrev pub invariant-loop-row : goal.invariant-loop-row
-invariant-loop-row l =
-    (l.self.certs ++ entries_of (drop l.row-index l.rows) ≡ l.fn.self.certs ++ entries_of l.rows)
-    × AreRowsFrom (length l.rows) (l.row-index + 1) (drop l.row-index l.rows)
+abbrev pub invariant-loop-place : goal.invariant-loop-place
+invariant-loop-place l =
+    (l.self.certs ++ entries_of (drop l.place l.rows.items) ≡ l.fn.self.certs ++ entries_of l.rows.items)
+    × AreRowsFrom (length l.rows.items) (l.place + 1) (drop l.place l.rows.items)
     × (l.self.room ≡ l.fn.self.room)
     × (l.self.nodes ≡ l.fn.self.nodes)

@@ -3,7 +3,7 @@ use oc_policy::Rule;
 use std::marker::Model;
 
 /// What a configuration says. Contracts see it as the record `Settings` of lists.
-#[derive(Debug, Drop)]
+#[derive(Drop)]
 pub struct Config {
     /// The number of chain members: the nodes 1 to this one.
     pub chain: u32,

@@ -28,12 +28,12 @@ pub enum ConfigFault {
 impl fmt::Display for ConfigFault {
     fn fmt<W: fmt::Write>(&self, f: &mut fmt::Formatter<W>) -> fmt::Result {
         match self {
-            ConfigFault::Toml => write!(f, "toml"),
+            ConfigFault::Toml => f.write_str("toml"),
             ConfigFault::Missing(key) => write!(f, "missing {key}"),
             ConfigFault::Value(key) => write!(f, "value {key}"),
             ConfigFault::Repeat(id) => write!(f, "repeat {id}"),
             ConfigFault::Measure { line, why } => write!(f, "measure {line}: {why}"),
-            ConfigFault::Memory => write!(f, "out of memory"),
+            ConfigFault::Memory => f.write_str("out of memory"),
         }
     }
 }

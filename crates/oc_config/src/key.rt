@@ -4,7 +4,7 @@ ghost use Rattle.oc_config.specs.Keys.{key_text};
 use std::fmt;
 
 /// A key of a configuration.
-#[derive(Clone, Copy, Debug, PartialEq, Eq, Hash)]
+#[derive(Clone, Copy, Debug, PartialEq, Eq)]
 pub enum Key {
     Chain,
     Node,

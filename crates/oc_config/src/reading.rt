@@ -1,8 +1,8 @@
-ghost use Rattle.std.specs.Prelude.{◌≡◌, ◌≤◌, IfOk, OnOk, All, vec_len};
+ghost use Rattle.std.specs.Prelude.{◌≡◌, ◌≤◌, IfOk, OnOk, All, length, vec_len};
 ghost use Rattle.toml.specs.View.{table_view};
 ghost use Rattle.oc_measure.specs.MeasureLines.{IsMeasure};
 ghost use Rattle.oc_config.specs.Values.{Gives, GivesBy, tables_at};
-ghost use Rattle.oc_config.specs.Reading.{IsConfig, settings_of, settings_in, chain_in, node_tables_in, measures_in, document, chain_within, GivesTable};
+ghost use Rattle.oc_config.specs.Reading.{IsConfig, settings_of, settings_in, with_tables, chain_in, node_tables_in, measures_in, document, chain_within, GivesTable};
 
 use crate::config::Config;
 use crate::fault::ConfigFault;
@@ -47,7 +47,22 @@ fn read_table(alloc: Global, table: &Table) -> Result<Config, ConfigFault>
 {
     let chain = chain(table)?;
     let tables = node_tables(alloc, table)?;
-    let places = nodes(alloc, &tables)?;
+    read_parts(alloc, table, chain, &tables)
+}
+
+/// The same, with this chain and these tables of nodes.
+fn read_parts(
+    alloc: Global,
+    table: &Table,
+    chain: u32,
+    tables: &[&Table],
+) -> Result<Config, ConfigFault>
+    requires chain { (1 ≤ chain) × (chain ≤ MAX_CHAIN) }
+    requires count { (1 ≤ length tables.now) × (length tables.now ≤ MAX_NODES) }
+    ensures exact { Gives result (with_tables (table_view table.now) chain (tables_at tables.now)) }
+    ensures lawful { IfOk result IsConfig }
+{
+    let places = nodes(alloc, tables)?;
     let nodes = tables.len() as u32;
     check_chain(chain, nodes)?;
     let measures = measures(alloc, table, nodes)?;

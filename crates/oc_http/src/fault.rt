@@ -9,7 +9,7 @@ use std::error::Error;
 use std::fmt;
 
 /// Why a message was not read. The faults that a head can have at once come in this order.
-#[derive(Clone, Copy, Debug, PartialEq, Eq)]
+#[derive(Clone, Copy, Debug)]
 pub enum HttpFault {
     /// A call on the source failed.
     Source,
@@ -55,7 +55,7 @@ impl fmt::Display for HttpFault {
             HttpFault::BodyLong => "the body is too long",
             HttpFault::Memory => "out of memory",
         };
-        write!(f, "{text}")
+        f.write_str(text)
     }
 }
 

@@ -1,5 +1,5 @@
 /// How a reply tells where its content ends (RFC 9112, section 6).
-#[derive(Clone, Copy, Debug, PartialEq, Eq)]
+#[derive(Clone, Copy)]
 pub enum Framing {
     /// By its length in bytes.
     Length(u64),
@@ -8,7 +8,7 @@ pub enum Framing {
 }
 
 /// What becomes of the connection behind a message (RFC 9112, section 9.6).
-#[derive(Clone, Copy, Debug, PartialEq, Eq)]
+#[derive(Clone, Copy, Debug)]
 pub enum Connection {
     Close,
     Keep,

@@ -1,7 +1,7 @@
 use oc_base::Text;
 
 /// What a request's method is, as far as it matters here.
-#[derive(Clone, Copy, Debug, PartialEq, Eq)]
+#[derive(Clone, Copy, PartialEq, Eq)]
 pub enum Verb {
     Get,
     Head,
@@ -10,7 +10,7 @@ pub enum Verb {
 }
 
 /// What the head of a request says.
-#[derive(Debug, Drop)]
+#[derive(Drop)]
 pub struct Head {
     pub method: Verb,
     /// The target up to the first `?`, without scheme and authority.

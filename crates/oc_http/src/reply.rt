@@ -1,7 +1,7 @@
 use oc_base::{Bytes, Text};
 
 /// A response that is written, or what is read of one.
-#[derive(Debug, Drop)]
+#[derive(Drop)]
 pub struct Reply {
     /// The status code (RFC 9110, section 15).
     pub status: u16,
@@ -15,7 +15,7 @@ pub struct Reply {
 }
 
 /// What the head of a response says.
-#[derive(Debug, Drop)]
+#[derive(Drop)]
 pub struct ReplyHead {
     /// The status code (RFC 9110, section 15).
     pub status: u16,

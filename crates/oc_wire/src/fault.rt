@@ -8,7 +8,7 @@ use std::error::Error;
 use std::fmt;
 
 /// Why bytes are no message: the first fault, in the order of these.
-#[derive(Clone, Copy, Debug, PartialEq, Eq)]
+#[derive(Clone, Copy, Debug)]
 pub enum WireFault {
     /// The sender or the receiver is none of the nodes.
     Stranger,
@@ -27,12 +27,12 @@ pub enum WireFault {
 impl fmt::Display for WireFault {
     fn fmt<W: fmt::Write>(&self, f: &mut fmt::Formatter<W>) -> fmt::Result {
         match self {
-            WireFault::Stranger => write!(f, "a message is from or to no node"),
+            WireFault::Stranger => f.write_str("a message is from or to no node"),
             WireFault::Kind(code) => write!(f, "no message has the code {code}"),
-            WireFault::Short => write!(f, "a message is cut off"),
-            WireFault::Value => write!(f, "a field of a message is out of range"),
-            WireFault::Trailing => write!(f, "there are bytes behind a message"),
-            WireFault::Memory => write!(f, "out of memory"),
+            WireFault::Short => f.write_str("a message is cut off"),
+            WireFault::Value => f.write_str("a field of a message is out of range"),
+            WireFault::Trailing => f.write_str("there are bytes behind a message"),
+            WireFault::Memory => f.write_str("out of memory"),
         }
     }
 }

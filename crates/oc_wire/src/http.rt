@@ -1,11 +1,12 @@
 //! Messages as requests between nodes.
 
-ghost use Rattle.std.specs.Prelude.{◌≡◌, ℕ, ◌≤◌, List, IfOk};
+ghost use Rattle.std.specs.Prelude.{◌≡◌, ℕ, ◌≤◌, List, [], IfOk};
 ghost use Rattle.oc_base.specs.declared.limits.TheConstants.{MAX_NODES};
 ghost use Rattle.oc_http.specs.Writing.{IsHost, request_text};
+ghost use Rattle.oc_io.specs.SourceView.{source_of};
 ghost use Rattle.oc_model.specs.Lawful.{IsMessage};
 ghost use Rattle.oc_model.specs.declared.message.Message.{Message};
-ghost use Rattle.oc_wire.specs.Requests.{is_route, IsRequestOrFault, AnswersRequest, IsGiven};
+ghost use Rattle.oc_wire.specs.Requests.{is_route, IsRequest, IsRequestOrFault, AnswersRequest, IsGiven};
 ghost use Rattle.oc_wire.specs.Spelling.{spelling, HasSpelling};
 
 use crate::law::requests_have_one_answer;
@@ -50,10 +51,17 @@ fn message_in(alloc: Global, bytes: &[u8], nodes: u32) -> Result<Message, HttpWi
     ensures { AnswersRequest nodes bytes.now result }
 {
     let (head, body) = request_in(alloc, bytes)?;
-    if !is_route(&head) {
+    message_of(alloc, &head, &body, nodes)
+}
+
+/// The message that a request with this head and this body brings, or the first fault.
+fn message_of(alloc: Global, head: &Head, body: &[u8], nodes: u32) -> Result<Message, HttpWireFault>
+    ensures { (bytes : List ℕ) → IsRequest bytes head.now body.now → AnswersRequest nodes bytes result }
+{
+    if !is_route(head) {
         return Err(HttpWireFault::Route);
     }
-    Ok(decode(alloc, &body, nodes)?)
+    Ok(decode(alloc, body, nodes)?)
 }
 
 /// The head and the body of a request.
@@ -61,8 +69,15 @@ fn request_in(alloc: Global, bytes: &[u8]) -> Result<(Head, Vec<u8>), HttpFault>
     ensures { IsRequestOrFault bytes.now result }
 {
     let mut source = MemSource::new(bytes.to_vec(alloc)?, Vec::new(alloc));
-    let head = read_head(alloc, &mut source)?;
-    let body = read_body(alloc, &mut source, &head)?;
+    request_from(alloc, &mut source)
+}
+
+/// The head and the body of a request, from a source over its bytes.
+fn request_from(alloc: Global, source: &mut MemSource) -> Result<(Head, Vec<u8>), HttpFault>
+    ensures { (bytes : List ℕ) → source.old ≡ source_of bytes [] → IsRequestOrFault bytes result }
+{
+    let head = read_head(alloc, source)?;
+    let body = read_body(alloc, source, &head)?;
     Ok((head, body))
 }
 

@@ -7,7 +7,7 @@ use std::error::Error;
 use std::fmt;
 
 /// Why a request brings no message: the first fault, in the order of these.
-#[derive(Clone, Copy, Debug, PartialEq, Eq)]
+#[derive(Clone, Copy, Debug)]
 pub enum HttpWireFault {
     /// The bytes are no request with its whole body.
     NotHttp,
@@ -22,10 +22,10 @@ pub enum HttpWireFault {
 impl fmt::Display for HttpWireFault {
     fn fmt<W: fmt::Write>(&self, f: &mut fmt::Formatter<W>) -> fmt::Result {
         match self {
-            HttpWireFault::NotHttp => write!(f, "the bytes are no request"),
-            HttpWireFault::Route => write!(f, "a request is none that brings a message"),
-            HttpWireFault::Wire(fault) => write!(f, "{fault}"),
-            HttpWireFault::Memory => write!(f, "out of memory"),
+            HttpWireFault::NotHttp => f.write_str("the bytes are no request"),
+            HttpWireFault::Route => f.write_str("a request is none that brings a message"),
+            HttpWireFault::Wire(fault) => fault.fmt(f),
+            HttpWireFault::Memory => f.write_str("out of memory"),
         }
     }
 }

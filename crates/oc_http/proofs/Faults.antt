@@ -1,5 +1,6 @@
 -- Values, or first faults.
-use Rattle.std.proofs.Common.{◌≡◌, Option, Some, None, Result, Ok, Err, refl}
+use Rattle.std.proofs.Common.{◌≡◌, Option, Some, None, Result, Ok, Err, refl, ap}
+use Rattle.std.specs.Prelude.{IsErrOf}
 use Rattle.oc_http.specs.Fields.{fault_or}
 use Rattle.oc_http.specs.Gives.{Gives, Fails}
 use Rattle.oc_http.specs.declared.fault.HttpFault.{HttpFault}
@@ -24,3 +25,7 @@ Fails-same fault said h = h
 pub Gives-same : {A : Type 0} (returned said : Result A HttpFault) → said ≡ returned → Gives returned said
 Gives-same (Ok value) said h = h
 Gives-same (Err fault) said h = Fails-same fault said h
+
+-- a fault has its cause whatever else there was to give
+pub same_cause : {A B R : Type 0} (fault cause : HttpFault) → (IsErrOf {T = A} (Err fault) cause → R) → IsErrOf {T = B} (Err fault) cause → R
+same_cause fault cause told is = let same : fault ≡ cause = cc in told (ap Err same)

@@ -1,6 +1,7 @@
 -- A fault in the body, behind the head.
 use Rattle.std.proofs.Common.{◌++◌, inr, refl}
 use Rattle.std.proofs.lemmas.Result.{err_from_is_err_and}
+use Rattle.oc_http.proofs.Faults.{same_cause}
 use Rattle.oc_http.proofs.Answered.{took_then}
 use Rattle.oc_http.proofs.Stops.{Joins}
 use Rattle.oc_http.proofs.head_reader.HeadReader.read_response.Goals as goal
@@ -14,3 +15,11 @@ returns-in_err-body-clause-refused g c =
     let fault = c.in_err-body.field-0.0 in
     let took = took_then joins c.args.source.now c.read_start.new.source c.take_content.new.source head.0 stopped.0 head.1 fault stopped.1 in
     rw (p.1, p.2) (head.0 ++ stopped.0, took, inr (head.0, stopped.0, refl, record { head = c.in_ok-head.head; says = head.2; stops = stopped.2 }))
+
+pub returns-in_err-head-clause-cause : goal.returns-in_err-head-clause-cause
+returns-in_err-head-clause-cause g c =
+    let p = err_from_is_err_and c.from_residual.result c.from_residual.ensures.1 in
+    rw (p.1, p.2) (same_cause _ _ c.in_err-head.ensures.cause)
+
+pub returns-in_err-head-clause-count : goal.returns-in_err-head-clause-count
+returns-in_err-head-clause-count g c = c.read_start.ensures.count

@@ -2,6 +2,7 @@
 use Rattle.std.proofs.lemmas.Result.{err_from_is_err_and}
 use Rattle.httparse.specs.Grammar.{ReadsResponse}
 use Rattle.oc_http.specs.Responses.{read_reply_head}
+use Rattle.oc_http.proofs.Faults.{same_cause}
 use Rattle.oc_http.proofs.Answered.{reply_head_fields, says, refuses, never_source, RefusesHead-stopped}
 use Rattle.oc_http.proofs.head_reader.HeadReader.read_response_head.Goals as goal
 
@@ -27,3 +28,15 @@ returns-clause-refused g c =
 -- no failed call is told behind a whole head
 pub returns-clause-cause : goal.returns-clause-cause
 returns-clause-cause g c = λ is. absurd (never_source read_reply_head reply_head_fields c.read_response_head.ensures.0 c.read_response_head.result c.read_response_head.ensures.2 is)
+
+pub returns-in_err-parts-clause-cause : goal.returns-in_err-parts-clause-cause
+returns-in_err-parts-clause-cause g c =
+    let p = err_from_is_err_and c.from_residual.result c.from_residual.ensures.1 in
+    rw (p.1, p.2) (same_cause _ _ c.in_err-parts.ensures.cause)
+
+-- what is told of calls that failed
+pub returns-in_err-parts-clause-count : goal.returns-in_err-parts-clause-count
+returns-in_err-parts-clause-count g c = c.take_response.ensures.count
+
+pub returns-clause-count : goal.returns-clause-count
+returns-clause-count g c = c.take_response.ensures.count

@@ -1,4 +1,6 @@
 -- What the whole head says is the answer.
+use Rattle.std.proofs.Common.{◌∙◌, arith}
+use Rattle.std.proofs.lemmas.List.{with_items_is}
 use Rattle.std.proofs.lemmas.Result.{err_from_is_err_and}
 use Rattle.httparse.specs.Grammar.{ReadsResponse}
 use Rattle.oc_http.specs.Responses.{read_reply_head}
@@ -40,3 +42,28 @@ returns-in_err-parts-clause-count g c = c.take_response.ensures.count
 
 pub returns-clause-count : goal.returns-clause-count
 returns-clause-count g c = c.take_response.ensures.count
+
+-- the room of the reader
+pub take_response-requires : goal.take_response-requires
+take_response-requires g c = record {
+  bytes = c.args.self.now.bytes_fit;
+  spans = omega (arith, c.deref_mut.ensures.len, c.args.self.now.spans_fit);
+}
+
+pub invariant_of-self : goal.invariant_of-self
+invariant_of-self g c = record {
+  bytes_fit = c.take_response.ensures.room;
+  spans_fit = c.args.self.now.spans_fit;
+}
+
+pub invariant_of-self-2 : goal.invariant_of-self-2
+invariant_of-self-2 g c = record {
+  bytes_fit = c.take_response.ensures.room;
+  spans_fit = c.args.self.now.spans_fit;
+}
+
+-- the head that was taken is the one that is read
+pub read_response_head-requires : goal.read_response_head-requires
+read_response_head-requires g c =
+    let kept = with_items_is c.args.self.now.spans c.take_response.new.spans (omega (arith, c.take_response.auto.spans, c.deref_mut.ensures.len)) in
+    rw (c.deref.ensures.value, c.deref-2.ensures.value ∙ kept) c.in_ok-parts.ensures.whole.1

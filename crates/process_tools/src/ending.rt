@@ -48,9 +48,7 @@ impl<'a> Ending<'a> {
         if let Some(file) = errors.strip_prefix("<") {
             return fs::read(rt, file);
         }
-        let mut line = errors.as_bytes().to_vec(rt.alloc())?;
-        line.push(b'\n')?;
-        Ok(line)
+        Ok(format!(in rt.alloc(); "{errors}\n")?.into_bytes())
     }
 
     /// Where the output differs from what has to come. A file `NAME.tail` has the end of the output, from the event

@@ -2,6 +2,7 @@
 
 use crate::asking::{ask, body_of, get_text, is_ok, publish_text};
 use crate::node::{Home, end};
+use std::alloc::{AllocError, Global};
 use std::io::{self, Write};
 use std::thread;
 use std::time::Duration;
@@ -31,21 +32,29 @@ fn kill_there(rt: &HostRuntime, home: &Home) -> io::Result<Option<String>> {
         let checked = checked_pieces(rt, home)?;
         let served = served_pieces(rt, home)?;
         if checked < Some(answered) || served != checked {
-            return Ok(Some(format!(in rt.alloc();
-                "kill {}: {} answered, {:?} checked, {:?} served",
-                number, answered, checked, served
-            )?));
+            return Ok(Some(told_loss(rt.alloc(), number, answered, checked, served)?));
         }
         answered = checked.unwrap_or(answered);
     }
     Ok(None)
 }
 
+/// Tells what was lost at a kill.
+fn told_loss(
+    alloc: Global,
+    number: u32,
+    answered: usize,
+    checked: Option<usize>,
+    served: Option<usize>,
+) -> Result<String, AllocError> {
+    format!(in alloc; "kill {number}: {answered} answered, {checked:?} checked, {served:?} served")
+}
+
 /// Starts the node, publishes a few pieces, begins one more, and kills the node; says how many were answered 200.
 fn publish_and_kill(rt: &HostRuntime, home: &Home, number: u32) -> io::Result<usize> {
-    let mut node = home.start(rt, "1000000")?;
+    let node = home.start(rt)?;
     let answered = publish_few(rt, home, number)?;
-    end(&mut node)?;
+    end(node)?;
     Ok(answered)
 }
 
@@ -79,7 +88,7 @@ fn begin_last(rt: &HostRuntime, home: &Home, text: &[u8], steps: u32) -> io::Res
 
 /// How many pieces `check` finds in the node's files; none where that is no whole number.
 fn checked_pieces(rt: &HostRuntime, home: &Home) -> io::Result<Option<usize>> {
-    let output = home.command(rt, &["check", "1", "1", "1"])?;
+    let output = home.output(rt, &["check", "1", "1", "1"])?;
     let text = std::str::from_utf8(&output.stdout).unwrap_or("");
     for line in text.lines() {
         if let Some(held) = line.strip_prefix("  /log ") {
@@ -91,9 +100,9 @@ fn checked_pieces(rt: &HostRuntime, home: &Home) -> io::Result<Option<usize>> {
 
 /// How many pieces the node serves once it runs again; none where it serves anything else.
 fn served_pieces(rt: &HostRuntime, home: &Home) -> io::Result<Option<usize>> {
-    let mut node = home.start(rt, "1000000")?;
+    let node = home.start(rt)?;
     let pieces = pieces_there(rt, home)?;
-    end(&mut node)?;
+    end(node)?;
     Ok(pieces)
 }
 

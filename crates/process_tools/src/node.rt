@@ -7,6 +7,9 @@ use std::process::{Child, ChildStdin, Command, Output, Stdio};
 use std::time::Duration;
 use std::{fs, thread};
 
+/// A node runs for at most so many turns.
+const TURNS: &str = "1000000";
+
 /// How often a first connection is tried, and the time between two tries.
 const MOST_TRIES: u32 = 1_000;
 
@@ -29,22 +32,19 @@ impl Home {
         })
     }
 
-    /// Starts the node for at most so many turns, and comes back once it listens.
-    pub fn start(&self, rt: &HostRuntime, turns: &str) -> io::Result<Child> {
-        let mut node = program(rt)?;
-        self.put_run(&mut node, turns)?;
-        let mut child = node.spawn(rt)?;
-        self.begin(rt, &mut child)?;
-        Ok(child)
+    /// Starts the node, and comes back once it listens.
+    pub fn start(&self, rt: &HostRuntime) -> io::Result<Child> {
+        let mut node = self.spawn(rt)?;
+        self.begin(rt, &mut node)?;
+        Ok(node)
     }
 
-    /// Gives a command the words, the folder and the streams of a run of the node.
-    fn put_run(&self, node: &mut Command, turns: &str) -> io::Result<()> {
-        node.args(["node", "1", "--turns", turns])?
-            .current_dir(self.folder.as_str())?
+    /// Starts the node, which waits for its configuration.
+    fn spawn(&self, rt: &HostRuntime) -> io::Result<Child> {
+        self.program(rt, &["node", "1", "--turns", TURNS])?
             .stdin(Stdio::piped())
-            .stdout(Stdio::null());
-        Ok(())
+            .stdout(Stdio::null())
+            .spawn(rt)
     }
 
     /// Gives the node its configuration, and waits until it listens.
@@ -82,15 +82,20 @@ impl Home {
         TcpStream::connect(rt, address.as_str())
     }
 
-    /// What a command of the program gives in the folder.
-    pub fn command(&self, rt: &HostRuntime, words: &[&str]) -> io::Result<Output> {
+    /// What the program gives with these words in the folder.
+    pub fn output(&self, rt: &HostRuntime, words: &[&str]) -> io::Result<Output> {
+        self.program(rt, words)?.output(rt)
+    }
+
+    /// The program with these words, in the folder.
+    fn program(&self, rt: &HostRuntime, words: &[&str]) -> io::Result<Command> {
         let mut command = program(rt)?;
-        self.put_command(&mut command, words)?;
-        command.output(rt)
+        self.put_words(&mut command, words)?;
+        Ok(command)
     }
 
     /// Gives a command its words and the folder.
-    fn put_command(&self, command: &mut Command, words: &[&str]) -> io::Result<()> {
+    fn put_words(&self, command: &mut Command, words: &[&str]) -> io::Result<()> {
         for word in words {
             command.arg(*word)?;
         }
@@ -100,7 +105,7 @@ impl Home {
 }
 
 /// Kills a node, and waits until it has ended.
-pub fn end(node: &mut Child) -> io::Result<()> {
+pub fn end(mut node: Child) -> io::Result<()> {
     node.kill()?;
     node.wait()?;
     Ok(())

@@ -5,8 +5,9 @@ use crate::killing::kill_often;
 use crate::node::free_port;
 use crate::serving::play_served;
 use crate::starting::program;
+use std::alloc::{AllocError, Global};
 use std::fs::{File, OpenOptions};
-use std::process::{Command, Output, Stdio};
+use std::process::{Child, Command, Output, Stdio};
 use std::{fs, io};
 
 /// The files of a node.
@@ -41,94 +42,137 @@ pub fn tell(rt: &HostRuntime, name: &str, seen: io::Result<Option<String>>) -> i
 
 /// Plays a case, and says how it differs from what has to come, if it does.
 fn play_case(rt: &HostRuntime, case: &Case<'_>, port: u16) -> io::Result<Option<String>> {
-    let got = match case.run.split_once(" | ") {
-        Some((front, back)) => {
-            let front = command(rt, case.name, front, port)?;
-            piped(rt, front, command(rt, case.name, back, port)?)?
-        }
-        None => command(rt, case.name, case.run, port)?.output(rt)?,
-    };
+    let got = outcome(rt, case, port)?;
     case.ending.difference(rt, &got)
 }
 
-/// What the second of two commands gives on the output of the first.
-fn piped(rt: &HostRuntime, first: Command, second: Command) -> io::Result<Output> {
-    let mut first = first;
-    let mut second = second;
-    let mut feeder = first.stdout(Stdio::piped()).spawn(rt)?;
-    if let Some(output) = feeder.stdout.take() {
-        second.stdin(output);
+/// What the run of a case gives.
+fn outcome(rt: &HostRuntime, case: &Case<'_>, port: u16) -> io::Result<Output> {
+    match case.run.split_once(" | ") {
+        Some((front, back)) => piped(rt, case.name, front, back, port),
+        None => command(rt, case.name, case.run, port)?.output(rt),
     }
-    let got = second.output(rt)?;
+}
+
+/// What the second of two command lines gives on the output of the first.
+fn piped(rt: &HostRuntime, name: &str, front: &str, back: &str, port: u16) -> io::Result<Output> {
+    let mut first = command(rt, name, front, port)?;
+    let mut second = command(rt, name, back, port)?;
+    run_piped(rt, &mut first, &mut second)
+}
+
+/// The same of commands. The first is waited for once the second has ended.
+fn run_piped(rt: &HostRuntime, first: &mut Command, second: &mut Command) -> io::Result<Output> {
+    let mut feeder = first.stdout(Stdio::piped()).spawn(rt)?;
+    let got = run_behind(rt, &mut feeder, second)?;
     feeder.wait()?;
     Ok(got)
 }
 
+/// What a command gives on the output of a program that runs.
+fn run_behind(rt: &HostRuntime, feeder: &mut Child, command: &mut Command) -> io::Result<Output> {
+    if let Some(output) = feeder.stdout.take() {
+        command.stdin(output);
+    }
+    command.output(rt)
+}
+
 /// The program with the words, the streams and the files of a command line.
 fn command(rt: &HostRuntime, name: &str, line: &str, port: u16) -> io::Result<Command> {
-    let line = CommandLine(line);
     let mut command = program(rt)?;
-    line.put_words(&mut command)?;
+    prepare(rt, &mut command, name, CommandLine(line), port)?;
+    Ok(command)
+}
+
+/// Gives a command the words, the streams and the files of a command line.
+fn prepare(
+    rt: &HostRuntime,
+    command: &mut Command,
+    name: &str,
+    line: CommandLine<'_>,
+    port: u16,
+) -> io::Result<()> {
+    line.put_words(command)?;
     command.stdin(input(rt, name, line.input(), port)?);
+    put_outputs(rt, command, line)?;
+    if let Some(folder) = line.folder() {
+        copy_files(rt, folder, name)?;
+        command.current_dir(name)?;
+    }
+    Ok(())
+}
+
+/// Gives a command the files that take its output and its error output.
+fn put_outputs(rt: &HostRuntime, command: &mut Command, line: CommandLine<'_>) -> io::Result<()> {
     if let Some(file) = line.output() {
         command.stdout(sink(rt, file)?);
     }
     if let Some(file) = line.errors() {
         command.stderr(sink(rt, file)?);
     }
-    if let Some(folder) = line.folder() {
-        copy_files(rt, folder, name)?;
-        command.current_dir(name)?;
-    }
-    Ok(command)
+    Ok(())
 }
 
 /// The input of a run: this file, or nothing.
 fn input(rt: &HostRuntime, name: &str, file: Option<&str>, port: u16) -> io::Result<Stdio> {
     match file {
         Some(file) if file.ends_with(".toml") => configuration(rt, name, file, port),
-        Some(file) => Ok(Stdio::from(File::open(rt, file)?)),
+        Some(file) => opened(rt, file),
         None => Ok(Stdio::null()),
     }
+}
+
+/// A file as an input.
+fn opened(rt: &HostRuntime, file: &str) -> io::Result<Stdio> {
+    Ok(Stdio::from(File::open(rt, file)?))
 }
 
 /// A configuration in which `PORT` stands for this port.
 fn configuration(rt: &HostRuntime, name: &str, file: &str, port: u16) -> io::Result<Stdio> {
     let copy = format!(in rt.alloc(); "{name}.toml")?;
-    fs::write(rt, copy.as_str(), with_port(rt, file, port)?)?;
-    Ok(Stdio::from(File::open(rt, copy.as_str())?))
+    write_with_port(rt, copy.as_str(), file, port)?;
+    opened(rt, copy.as_str())
+}
+
+/// Writes the text of a file, with a port in the places of `PORT`, to another.
+fn write_with_port(rt: &HostRuntime, copy: &str, file: &str, port: u16) -> io::Result<()> {
+    fs::write(rt, copy, with_port(rt, file, port)?)
 }
 
 /// The text of a file, with a port in the places of `PORT`.
 fn with_port(rt: &HostRuntime, file: &str, port: u16) -> io::Result<String> {
     let text = fs::read_to_string(rt, file)?;
-    let mut out = String::new(rt.alloc());
-    let mut pieces = text.split("PORT");
-    out.push_str(pieces.next().unwrap_or(""))?;
-    for piece in pieces {
-        write!(out, "{port}{piece}")?;
-    }
-    Ok(out)
+    let port = format!(in rt.alloc(); "{port}")?;
+    Ok(text.replace(rt.alloc(), "PORT", port.as_str())?)
 }
 
 /// A file as an output. `&-` is one that is closed to writers.
 fn sink(rt: &HostRuntime, file: &str) -> io::Result<Stdio> {
     if file == "&-" {
-        return Ok(Stdio::from(File::open(rt, "/dev/null")?));
+        return opened(rt, "/dev/null");
     }
-    let file = OpenOptions::new().write(true).open(rt, file)?;
-    Ok(Stdio::from(file))
+    Ok(Stdio::from(OpenOptions::new().write(true).open(rt, file)?))
 }
 
 /// Copies the files of a node into a new folder.
 fn copy_files(rt: &HostRuntime, from: &str, to: &str) -> io::Result<()> {
     fs::create_dir(rt, to)?;
     for file in NODE_FILES {
-        let source = format!(in rt.alloc(); "{from}/{file}")?;
-        let copy = format!(in rt.alloc(); "{to}/{file}")?;
-        copy_file(rt, source.as_str(), copy.as_str())?;
+        copy_named(rt, from, to, file)?;
     }
     Ok(())
+}
+
+/// Copies the file of this name from one folder to another, if it is there.
+fn copy_named(rt: &HostRuntime, from: &str, to: &str, file: &str) -> io::Result<()> {
+    let source = path_in(rt.alloc(), from, file)?;
+    let copy = path_in(rt.alloc(), to, file)?;
+    copy_file(rt, source.as_str(), copy.as_str())
+}
+
+/// The path of a file in a folder.
+fn path_in(alloc: Global, folder: &str, file: &str) -> Result<String, AllocError> {
+    format!(in alloc; "{folder}/{file}")
 }
 
 /// Copies a file, if it is there. In place of a folder comes an empty one.

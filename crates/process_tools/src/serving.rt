@@ -8,9 +8,9 @@ use std::io;
 /// Plays the rows of `served.txt` beside a node that holds five bytes of one group, and three of one that is sealed.
 pub fn play_served(rt: &HostRuntime) -> io::Result<()> {
     let home = Home::new(rt, "served")?;
-    let mut node = home.start(rt, "1000000")?;
+    let node = home.start(rt)?;
     play_beside(rt, &home)?;
-    end(&mut node)
+    end(node)
 }
 
 /// Plays the rows once the groups are published.

@@ -10,7 +10,7 @@ pub fn first_difference<'a>(seen: &'a [u8], wanted: &[u8]) -> Option<(usize, &'a
     }
     let mut number: usize = 1;
     let mut rest = wanted;
-    for line in seen.split(|byte| *byte == b'\n') {
+    for line in seen.split(is_end) {
         let (other, behind) = cut_line(rest);
         if line != other {
             return Some((number, line));
@@ -23,9 +23,16 @@ pub fn first_difference<'a>(seen: &'a [u8], wanted: &[u8]) -> Option<(usize, &'a
 
 /// The first line of a text, without its end, and what stands behind it.
 pub fn cut_line(text: &[u8]) -> (&[u8], &[u8]) {
+    cut(text, b'\n')
+}
+
+/// What stands before the first such byte, and what stands behind it.
+fn cut(text: &[u8], end: u8) -> (&[u8], &[u8]) {
     for at in 0..text.len() {
-        if let Some((line, [b'\n', behind @ ..])) = text.split_at_checked(at) {
-            return (line, behind);
+        if let Some((front, [byte, behind @ ..])) = text.split_at_checked(at) {
+            if *byte == end {
+                return (front, behind);
+            }
         }
     }
     (text, b"")
@@ -46,7 +53,7 @@ pub fn from_event<'a>(report: &'a [u8], wanted: &[u8]) -> &'a [u8] {
 
 /// The bytes before the first space.
 fn first_word(text: &[u8]) -> &[u8] {
-    text.split(|byte| *byte == b' ').next().unwrap_or(text)
+    cut(text, b' ').0
 }
 
 /// The excerpt of a text that has the lines of another excerpt: a line `bytes` with the text's length, and then
@@ -55,7 +62,7 @@ pub fn excerpt(alloc: Global, text: &[u8], like: &[u8]) -> io::Result<Vec<u8>> {
     let mut out = Vec::new(alloc);
     let length = format!(in alloc; "bytes {}\n", text.len())?;
     out.extend_from_slice(length.as_bytes())?;
-    for line in like.split(|byte| *byte == b'\n') {
+    for line in like.split(is_end) {
         if let Some(number) = number_of(line) {
             put_line(alloc, &mut out, text, number)?;
         }
@@ -71,17 +78,23 @@ fn number_of(line: &[u8]) -> Option<usize> {
         .ok()
 }
 
-/// Puts a line of a text behind its number. Lines are counted from 1.
-fn put_line(alloc: Global, out: &mut Vec<u8>, text: &[u8], wanted: usize) -> io::Result<()> {
-    let mut number: usize = 1;
-    for line in text.split(|byte| *byte == b'\n') {
-        if number == wanted {
-            let front = format!(in alloc; "{number} ")?;
-            out.extend_from_slice(front.as_bytes())?;
-            out.extend_from_slice(line)?;
-            out.push(b'\n')?;
-        }
-        number = number.saturating_add(1);
+/// Puts a line of a text behind its number.
+fn put_line(alloc: Global, out: &mut Vec<u8>, text: &[u8], number: usize) -> io::Result<()> {
+    if let Some(line) = line_of(text, number) {
+        let front = format!(in alloc; "{number} ")?;
+        out.extend_from_slice(front.as_bytes())?;
+        out.extend_from_slice(line)?;
+        out.push(b'\n')?;
     }
     Ok(())
+}
+
+/// The line of this number. Lines are counted from 1.
+fn line_of(text: &[u8], number: usize) -> Option<&[u8]> {
+    text.split(is_end).nth(number.checked_sub(1)?)
+}
+
+/// Whether a byte ends a line.
+fn is_end(byte: &u8) -> bool {
+    *byte == b'\n'
 }

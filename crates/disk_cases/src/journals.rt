@@ -1,42 +1,49 @@
 //! The journal of a disk: what is appended, restarted, read and recovered.
 
+use crate::shown::{Crash, put_shown};
 use oc_io::Disk;
 use oc_journal::{Frame, Journal, LoadError};
 use std::alloc::Global;
 use std::str::SplitAsciiWhitespace;
-use test_tools::{Fault, Step, disk_in, put_disk, put_hex};
+use test_tools::{Fault, Fields, Step, disk_in, put_disk, put_hex};
 
 /// Puts the words of a row: what each step says, and then what the disk holds after a crash.
 pub fn put_words(alloc: Global, given: &str, said: &mut String) -> Result<(), Fault> {
     let mut fields = given.split_ascii_whitespace();
     let shown = fields.next().unwrap_or("");
     let disk = disk_in(alloc, fields.next().unwrap_or(""))?;
-    match play(alloc, disk, fields, said)? {
-        Some(disk) => show(alloc, shown, disk.crash(), said),
-        None => Ok(()),
-    }
+    play(alloc, shown, disk, fields, said)
 }
 
-/// Loads the journal of a disk and does the steps. The disk comes back, unless it holds no journal.
-fn play<D: Disk + Drop>(
+/// Loads the journal of a disk, does the steps, and puts what the disk holds after a crash.
+fn play<D: Disk + Drop + Crash>(
     alloc: Global,
+    shown: &str,
     disk: D,
     steps: SplitAsciiWhitespace<'_>,
     said: &mut String,
-) -> Result<Option<D>, Fault> {
+) -> Result<(), Fault> {
     match Journal::load(alloc, disk) {
         Ok(mut journal) => {
             act_all(alloc, &mut journal, steps, said)?;
-            Ok(Some(journal.into_disk()))
+            show(alloc, shown, journal.into_disk().crashed(), said)
         }
-        Err((disk, LoadError::Disk)) => {
-            said.push_str("Disk ")?;
-            Ok(Some(disk))
-        }
-        Err((_disk, error)) => {
-            write!(said, "{error:?}")?;
-            Ok(None)
-        }
+        Err((disk, error)) => refused(alloc, shown, disk, error, said),
+    }
+}
+
+/// Puts why a disk was refused, and where a call on it failed, what it holds after a crash.
+fn refused<D: Disk + Drop + Crash>(
+    alloc: Global,
+    shown: &str,
+    disk: D,
+    error: LoadError,
+    said: &mut String,
+) -> Result<(), Fault> {
+    put_shown(said, &error)?;
+    match error {
+        LoadError::Disk => show(alloc, shown, disk.crashed(), said),
+        _ => Ok(()),
     }
 }
 
@@ -60,11 +67,10 @@ fn act<D: Disk>(
     step: Step<'_>,
     said: &mut String,
 ) -> Result<(), Fault> {
-    let mut fields = step.fields;
     match step.word {
-        "append" => append(alloc, journal, &fields.bytes(alloc)?, said),
+        "append" => append(alloc, journal, step.fields, said),
         "restart" => restart(journal, said),
-        "peek" => peek(alloc, journal, step, said),
+        "peek" => peek(alloc, journal, step.fields, said),
         _ => Err(Fault::Field),
     }
 }
@@ -73,25 +79,34 @@ fn act<D: Disk>(
 fn append<D: Disk>(
     alloc: Global,
     journal: &mut Journal<D>,
-    body: &[u8],
+    mut fields: Fields<'_>,
     said: &mut String,
 ) -> Result<(), Fault> {
-    let Ok(frame) = Frame::new(alloc, body) else {
-        return Err(Fault::Field);
-    };
-    journal.reserve(&frame)?;
-    if let Err(error) = journal.append(&frame) {
-        write!(said, "{error:?} ")?;
+    let body = fields.bytes(alloc)?;
+    match Frame::new(alloc, &body) {
+        Ok(frame) => append_frame(journal, &frame, said),
+        Err(_) => Err(Fault::Field),
     }
-    Ok(())
+}
+
+fn append_frame<D: Disk>(
+    journal: &mut Journal<D>,
+    frame: &Frame,
+    said: &mut String,
+) -> Result<(), Fault> {
+    journal.reserve(frame)?;
+    match journal.append(frame) {
+        Ok(()) => Ok(()),
+        Err(error) => put_shown(said, &error),
+    }
 }
 
 /// Restarts a journal, and where that fails does it again; puts each error.
 fn restart<D: Disk>(journal: &mut Journal<D>, said: &mut String) -> Result<(), Fault> {
-    if let Err(error) = journal.restart() {
-        write!(said, "{error:?} ")?;
-        if let Err(error) = journal.restart() {
-            write!(said, "{error:?} ")?;
+    for _ in 0..2 {
+        match journal.restart() {
+            Ok(()) => break,
+            Err(error) => put_shown(said, &error)?,
         }
     }
     Ok(())
@@ -101,18 +116,30 @@ fn restart<D: Disk>(journal: &mut Journal<D>, said: &mut String) -> Result<(), F
 fn peek<D: Disk>(
     alloc: Global,
     journal: &mut Journal<D>,
-    step: Step<'_>,
+    mut fields: Fields<'_>,
     said: &mut String,
 ) -> Result<(), Fault> {
-    let mut fields = step.fields;
     let index = fields.number()?;
     let skip = fields.small()?;
     let mut part = vec![in alloc; 0; fields.byte()? as usize]?;
-    match journal.peek(index, skip, &mut part) {
-        Ok(count) => put_hex(said, &part[..count])?,
-        Err(error) => write!(said, "{error:?}")?,
+    put_part(journal, index, skip, &mut part, said)
+}
+
+/// Puts as many bytes as the buffer takes, or the error.
+fn put_part<D: Disk>(
+    journal: &mut Journal<D>,
+    index: u64,
+    skip: u32,
+    part: &mut [u8],
+    said: &mut String,
+) -> Result<(), Fault> {
+    match journal.peek(index, skip, part) {
+        Ok(count) => {
+            put_hex(said, &part[..count])?;
+            Ok(said.push_str(" ")?)
+        }
+        Err(error) => put_shown(said, &error),
     }
-    Ok(said.push_str(" ")?)
 }
 
 /// Puts the bytes of a disk, or the frames of its journal.
@@ -139,12 +166,21 @@ fn put_frames<D: Disk>(
 ) -> Result<(), Fault> {
     let mut body = Vec::new(alloc);
     for index in 0..journal.count() {
-        if journal.frame(index, &mut body) != Ok(true) {
-            return Err(Fault::Unready);
-        }
-        said.push_str("[")?;
-        put_hex(said, &body)?;
-        said.push_str("]")?;
+        put_frame(journal, index, &mut body, said)?;
     }
     Ok(())
+}
+
+fn put_frame<D: Disk>(
+    journal: &mut Journal<D>,
+    index: u64,
+    body: &mut Vec<u8>,
+    said: &mut String,
+) -> Result<(), Fault> {
+    let Ok(true) = journal.frame(index, body) else {
+        return Err(Fault::Unready);
+    };
+    said.push_str("[")?;
+    put_hex(said, body)?;
+    Ok(said.push_str("]")?)
 }

@@ -8,6 +8,7 @@
 mod contents;
 mod journals;
 mod records;
+mod shown;
 mod stores;
 
 use std::alloc::Global;

@@ -3,6 +3,7 @@
 ghost use Rattle.std.specs.Prelude.{◌≡◌, IfSome};
 ghost use Rattle.oc_record.specs.Spelling.{records_bytes};
 
+use crate::shown::put_shown;
 use oc_record::{Record, decode, encode, spellings_are_read};
 use std::alloc::Global;
 use test_tools::{Fault, Fields, put_hex};
@@ -15,10 +16,10 @@ pub fn put_words(alloc: Global, given: &str, said: &mut String) -> Result<(), Fa
     let bytes = fields.bytes(alloc)?;
     match decode(alloc, &bytes, nodes) {
         Ok(list) => {
-            write!(said, "{list:?}")?;
+            put_shown(said, &list)?;
             put_written(alloc, &bytes, nodes, said)
         }
-        Err(fault) => Ok(write!(said, "{fault:?}")?),
+        Err(fault) => put_shown(said, &fault),
     }
 }
 

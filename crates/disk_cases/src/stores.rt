@@ -1,10 +1,15 @@
 //! The store of a node's control records on two disks.
 
+ghost use Rattle.std.specs.Prelude.{◌≤◌, length};
+ghost use Rattle.oc_record.specs.Spelling.{HaveSpellings, records_bytes};
+
+use crate::shown::{Crash, put_shown};
+use oc_base::MAX_FRAME_BYTES;
 use oc_io::Disk;
 use oc_store::{Record, Store, StoreError};
 use std::alloc::Global;
 use std::str::SplitAsciiWhitespace;
-use test_tools::{Fault, Step, disk_in, put_disk};
+use test_tools::{Fault, Fields, Step, disk_in, put_disk};
 
 /// How many nodes there are.
 const NODES: u32 = 2;
@@ -15,33 +20,41 @@ pub fn put_words(alloc: Global, given: &str, said: &mut String) -> Result<(), Fa
     let shown = fields.next().unwrap_or("");
     let first = disk_in(alloc, fields.next().unwrap_or(""))?;
     let second = disk_in(alloc, fields.next().unwrap_or(""))?;
-    match play(alloc, first, second, fields, said)? {
-        Some((first, second)) => show(alloc, shown, first.crash(), second.crash(), said),
-        None => Ok(()),
-    }
+    play(alloc, shown, first, second, fields, said)
 }
 
-/// Loads the store of two disks and does the steps. The disks come back, unless they hold no store.
-fn play<D: Disk + Drop>(
+/// Loads the store of two disks, does the steps, and puts what the disks hold after a crash.
+fn play<D: Disk + Drop + Crash>(
     alloc: Global,
+    shown: &str,
     first: D,
     second: D,
     steps: SplitAsciiWhitespace<'_>,
     said: &mut String,
-) -> Result<Option<(D, D)>, Fault> {
+) -> Result<(), Fault> {
     match Store::load(alloc, first, second, NODES) {
         Ok((mut store, _list)) => {
             act_all(&mut store, steps, said)?;
-            Ok(Some(store.into_disks()))
+            let (first, second) = store.into_disks();
+            show(alloc, shown, first.crashed(), second.crashed(), said)
         }
-        Err((first, second, StoreError::Disk)) => {
-            said.push_str("Disk ")?;
-            Ok(Some((first, second)))
-        }
-        Err((_first, _second, error)) => {
-            write!(said, "{error:?}")?;
-            Ok(None)
-        }
+        Err((first, second, error)) => refused(alloc, shown, first, second, error, said),
+    }
+}
+
+/// Puts why two disks were refused, and where a call on one failed, what they hold after a crash.
+fn refused<D: Disk + Drop + Crash>(
+    alloc: Global,
+    shown: &str,
+    first: D,
+    second: D,
+    error: StoreError,
+    said: &mut String,
+) -> Result<(), Fault> {
+    put_shown(said, &error)?;
+    match error {
+        StoreError::Disk => show(alloc, shown, first.crashed(), second.crashed(), said),
+        _ => Ok(()),
     }
 }
 
@@ -60,40 +73,36 @@ fn act_all<D: Disk>(
 /// Does a step, and puts what it says.
 fn act<D: Disk>(store: &mut Store<D>, step: Step<'_>, said: &mut String) -> Result<(), Fault> {
     match step.word {
-        "ask" => ask(store, step, said),
-        "lost" => lose(store, said),
+        "ask" => ask(store, step.fields, said),
+        "lost" => commit(store, &[Record::Lost], said),
         "turn" => turn_over(store, said),
-        "generation" => {
-            let generation = store.generation();
-            Ok(write!(said, "{generation} ")?)
-        }
-        "due" => {
-            let due = store.due();
-            Ok(write!(said, "{due} ")?)
-        }
+        "generation" => put_shown(said, &store.generation()),
+        "due" => put_shown(said, &store.due()),
         _ => Err(Fault::Field),
     }
 }
 
 /// Commits an ask, and puts the error, if there is one.
-fn ask<D: Disk>(store: &mut Store<D>, step: Step<'_>, said: &mut String) -> Result<(), Fault> {
-    let mut fields = step.fields;
+fn ask<D: Disk>(
+    store: &mut Store<D>,
+    mut fields: Fields<'_>,
+    said: &mut String,
+) -> Result<(), Fault> {
     let seq = fields.number()?;
     let peer = fields.node()?;
-    let frame = store.prepare(&[Record::Ask { seq, peer }])?;
-    if let Err(error) = store.commit(&frame) {
-        write!(said, "{error:?} ")?;
-    }
-    Ok(())
+    commit(store, &[Record::Ask { seq, peer }], said)
 }
 
-/// Commits that the parent was lost, and puts the error, if there is one.
-fn lose<D: Disk>(store: &mut Store<D>, said: &mut String) -> Result<(), Fault> {
-    let frame = store.prepare(&[Record::Lost])?;
-    if let Err(error) = store.commit(&frame) {
-        write!(said, "{error:?} ")?;
+/// Commits records, and puts the error, if there is one.
+fn commit<D: Disk>(store: &mut Store<D>, records: &[Record], said: &mut String) -> Result<(), Fault>
+    requires spelled { HaveSpellings records.now }
+    requires fits { length (records_bytes records.now) ≤ MAX_FRAME_BYTES }
+{
+    let frame = store.prepare(records)?;
+    match store.commit(&frame) {
+        Ok(()) => Ok(()),
+        Err(error) => put_shown(said, &error),
     }
-    Ok(())
 }
 
 /// Turns over to the next generation, and puts the error, if there is one.
@@ -106,10 +115,10 @@ fn turn_over<D: Disk>(store: &mut Store<D>, said: &mut String) -> Result<(), Fau
         generation: generation + 1,
     };
     let frame = store.prepare_snapshot(&[snapshot])?;
-    if let Err(error) = store.turn_over(&frame) {
-        write!(said, "{error:?} ")?;
+    match store.turn_over(&frame) {
+        Ok(()) => Ok(()),
+        Err(error) => put_shown(said, &error),
     }
-    Ok(())
 }
 
 /// Puts the bytes of both disks, or the records that they recover.
@@ -129,7 +138,7 @@ fn show<D: Disk + Drop>(
         return put_disk(alloc, said, second);
     }
     match Store::load(alloc, first, second, NODES) {
-        Ok((_store, list)) => Ok(write!(said, "{list:?}")?),
+        Ok((_store, list)) => put_shown(said, &list),
         Err(_) => Err(Fault::Unready),
     }
 }

@@ -1,6 +1,7 @@
 //! Heads of HTTP messages, and what is read of them, however their bytes come.
 
 use crate::pieces::Pieces;
+use crate::words::put_value;
 use oc_base::Text;
 use oc_http::{
     Head, HttpFault, Reply, ReplyHead, Verb, read_body, read_head, read_response,
@@ -37,19 +38,24 @@ struct Reader {
     failing: u64,
 }
 
-/// The words of a row: what is read, and what is read otherwise where the bytes come in other pieces.
-pub fn words(alloc: Global, given: &str) -> Result<String, Fault> {
+/// Puts the words of a row: what is read, and what is read otherwise where the bytes come in other pieces.
+pub fn put_words(alloc: Global, given: &str, said: &mut String) -> Result<(), Fault> {
     let (word, text) = given.split_once(' ').unwrap_or((given, ""));
     let reader = reader_of(word)?;
     let bytes = spelled_in(alloc, text)?;
-    let mut said = words_of(alloc, reader, &bytes, MOST_BYTES, MOST_BYTES)?;
-    let alone = words_of(alloc, reader, &bytes, 1, 1)?;
-    if alone.as_str() != said.as_str() {
-        said.push_str(", and byte by byte ")?;
-        said.push_str(alone.as_str())?;
+    put_source(alloc, said, reader, &bytes, MOST_BYTES, MOST_BYTES)?;
+    put_alone(alloc, said, reader, &bytes)?;
+    put_cuts(alloc, said, reader, &bytes)
+}
+
+/// Puts what is read of single bytes, where that is something else than the words so far.
+fn put_alone(alloc: Global, said: &mut String, reader: Reader, bytes: &[u8]) -> Result<(), Fault> {
+    let alone = words_of(alloc, reader, bytes, 1, 1)?;
+    if alone.as_str() == said.as_str() {
+        return Ok(());
     }
-    put_cuts(alloc, &mut said, reader, &bytes)?;
-    Ok(said)
+    said.push_str(", and byte by byte ")?;
+    Ok(said.push_str(alone.as_str())?)
 }
 
 /// The reader of a word such as `request`, or `request/7`, where call 7 fails.
@@ -79,14 +85,28 @@ fn put_cuts(alloc: Global, said: &mut String, reader: Reader, bytes: &[u8]) -> R
         if length > MOST_PLACES && EDGE <= at && at < length - EDGE {
             continue;
         }
-        let cut = words_of(alloc, reader, bytes, at, MOST_BYTES)?;
-        if cut.as_str() != said.as_str() {
-            write!(said, ", and cut at {at} ")?;
-            said.push_str(cut.as_str())?;
+        if put_cut(alloc, said, reader, bytes, at)? {
             break;
         }
     }
     Ok(())
+}
+
+/// Puts what is read with a cut at this place, where that is something else than the words so far. Says whether it is.
+fn put_cut(
+    alloc: Global,
+    said: &mut String,
+    reader: Reader,
+    bytes: &[u8],
+    at: usize,
+) -> Result<bool, Fault> {
+    let cut = words_of(alloc, reader, bytes, at, MOST_BYTES)?;
+    if cut.as_str() == said.as_str() {
+        return Ok(false);
+    }
+    write!(said, ", and cut at {at} ")?;
+    said.push_str(cut.as_str())?;
+    Ok(true)
 }
 
 /// The words of what is read, where the bytes come in a piece of this length and then in further ones of
@@ -98,21 +118,53 @@ fn words_of(
     first: usize,
     piece: usize,
 ) -> Result<String, Fault> {
-    let source = MemSource::new(bytes.to_vec(alloc)?, vec![in alloc; reader.failing]?);
-    let mut pieces = Pieces::new(source, first, piece.max(1));
     let mut said = String::new(alloc);
-    put_read(alloc, &mut said, reader.form, &mut pieces)?;
-    if let Form::Flood = reader.form {
-        return Ok(said);
-    }
-    put_rest(alloc, &mut said, &mut pieces)?;
+    put_source(alloc, &mut said, reader, bytes, first, piece)?;
     Ok(said)
+}
+
+/// Puts these words.
+fn put_source(
+    alloc: Global,
+    said: &mut String,
+    reader: Reader,
+    bytes: &[u8],
+    first: usize,
+    piece: usize,
+) -> Result<(), Fault> {
+    let source = source_of(alloc, reader.failing, bytes)?;
+    put_all(
+        alloc,
+        said,
+        reader.form,
+        &mut Pieces::new(source, first, piece.max(1)),
+    )
+}
+
+/// A source of these bytes, of which this call fails.
+fn source_of(alloc: Global, failing: u64, bytes: &[u8]) -> Result<MemSource, Fault> {
+    let bytes = bytes.to_vec(alloc)?;
+    Ok(MemSource::new(bytes, vec![in alloc; failing]?))
+}
+
+/// Puts what is read of a source, and how many bytes are left of it.
+fn put_all<S: Source>(
+    alloc: Global,
+    said: &mut String,
+    form: Form,
+    source: &mut S,
+) -> Result<(), Fault> {
+    put_read(alloc, said, form, source)?;
+    match form {
+        Form::Flood => Ok(()),
+        _ => put_rest(alloc, said, source),
+    }
 }
 
 /// Puts how many bytes are left of a source.
 fn put_rest<S: Source>(alloc: Global, said: &mut String, source: &mut S) -> Result<(), Fault> {
     match read_all(alloc, source, MOST_BYTES) {
-        Ok(rest) => Ok(write!(said, " rest={}", rest.len())?),
+        Ok(rest) => put_value(said, " rest=", rest.len()),
         Err(_) => Err(Fault::Unready),
     }
 }
@@ -195,17 +247,20 @@ fn put_head(said: &mut String, head: &Head) -> Result<(), Fault> {
     put_spelled(said, head.path.items())?;
     said.push_str(" query=")?;
     put_spelled(said, head.query.items())?;
-    write!(said, " length={} expects={}", head.length, head.expects)?;
-    Ok(write!(said, " minor={} closes={}", head.minor, head.closes)?)
+    put_value(said, " length=", head.length)?;
+    put_value(said, " expects=", head.expects)?;
+    put_value(said, " minor=", head.minor)?;
+    put_value(said, " closes=", head.closes)
 }
 
 fn put_reply_head(said: &mut String, head: &ReplyHead) -> Result<(), Fault> {
     put_status(said, head.status, &head.location)?;
     match head.length {
-        Some(length) => write!(said, " length={length}")?,
+        Some(length) => put_value(said, " length=", length)?,
         None => said.push_str(" length=none")?,
     }
-    Ok(write!(said, " chunked={} closes={}", head.chunked, head.closes)?)
+    put_value(said, " chunked=", head.chunked)?;
+    put_value(said, " closes=", head.closes)
 }
 
 /// Puts a reply, of which reading tells neither a content type nor a rule.
@@ -220,7 +275,8 @@ fn put_reply(said: &mut String, reply: &Reply) -> Result<(), Fault> {
 }
 
 fn put_status(said: &mut String, status: u16, location: &Option<Text>) -> Result<(), Fault> {
-    write!(said, "status={status} location=")?;
+    put_value(said, "status=", status)?;
+    said.push_str(" location=")?;
     match location {
         Some(location) => put_spelled(said, location.items()),
         None => Ok(said.push_str("none")?),
@@ -229,8 +285,8 @@ fn put_status(said: &mut String, status: u16, location: &Option<Text>) -> Result
 
 fn put_fault(said: &mut String, fault: HttpFault) -> Result<(), Fault> {
     match fault {
-        HttpFault::Coding { both } => Ok(write!(said, "fault=coding both={both}")?),
-        HttpFault::Length { missing } => Ok(write!(said, "fault=length missing={missing}")?),
+        HttpFault::Coding { both } => put_value(said, "fault=coding both=", both),
+        HttpFault::Length { missing } => put_value(said, "fault=length missing=", missing),
         HttpFault::Memory => Err(Fault::Memory),
         _ => Ok(said.push_str(plain_fault(fault))?),
     }

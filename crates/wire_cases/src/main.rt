@@ -1,7 +1,7 @@
 //! Plays tables of worked cases over the messages of nodes and over HTTP, and prints a line for each case:
 //! its name and `ok`, or what came in place of what has to come.
 //!
-//! Each table is a file in `data`, whose first lines say how its rows are written, and a module that gives
+//! Each table is a file in `data`, whose first lines say how its rows are written, and a module that puts
 //! the words of a row.
 #![tactic(auto)]
 
@@ -21,13 +21,20 @@ struct Rows;
 
 impl Cases for Rows {
     fn words(alloc: Global, table: &str, given: &str) -> Result<String, Fault> {
-        match table {
-            "messages" => messages::words(alloc, given),
-            "requests" => requests::words(alloc, given),
-            "texts" => texts::words(alloc, given),
-            "heads" => heads::words(alloc, given),
-            _ => Err(Fault::Field),
-        }
+        let mut said = String::new(alloc);
+        put_words(alloc, table, given, &mut said)?;
+        Ok(said)
+    }
+}
+
+/// Puts the words of a row.
+fn put_words(alloc: Global, table: &str, given: &str, said: &mut String) -> Result<(), Fault> {
+    match table {
+        "messages" => messages::put_words(alloc, given, said),
+        "requests" => requests::put_words(alloc, given, said),
+        "texts" => texts::put_words(alloc, given, said),
+        "heads" => heads::put_words(alloc, given, said),
+        _ => Err(Fault::Field),
     }
 }
 

@@ -1,31 +1,33 @@
 //! The words of messages and of faults.
 
-use oc_base::{
-    Cert, CertList, Child, ChildList, GroupName, IdList, NodeId, Rank, Refusal, Shelf, ShelfList,
-};
+use oc_base::{Cert, Child, GroupName, Memory, NodeId, Rank, Refusal, Shelf};
 use oc_wire::{Body, Message, WireFault};
+use std::fmt::Display;
 use test_tools::{Fault, put_hex, put_spelled};
 
 /// Puts the words of a message: its sender, its receiver, its kind, and its fields in the order of the
 /// bytes.
 pub fn put_message(out: &mut String, message: &Message) -> Result<(), Fault> {
-    let from = message.from.0;
-    let to = message.to.0;
-    write!(out, "{from} {to} ")?;
-    match &message.body {
-        Body::Look => Ok(out.push_str("look")?),
+    put_value(out, "", message.from.0)?;
+    put_number(out, u64::from(message.to.0))?;
+    put_body(out, &message.body)
+}
+
+fn put_body(out: &mut String, body: &Body) -> Result<(), Fault> {
+    match body {
+        Body::Look => Ok(out.push_str(" look")?),
         Body::LookIs {
             in_tree,
             parent,
             rate,
             children,
-        } => put_look_is(out, *in_tree, *parent, *rate, children),
+        } => put_look_is(out, *in_tree, *parent, *rate, children.items()),
         Body::Ask { seq, rank } => put_ask(out, *seq, *rank),
         Body::Yes {
             seq,
             rank,
             ancestors,
-        } => put_yes(out, *seq, *rank, ancestors),
+        } => put_yes(out, *seq, *rank, ancestors.items()),
         Body::No { seq, why } => put_no(out, *seq, *why),
         Body::CheckIn {
             seq,
@@ -34,18 +36,15 @@ pub fn put_message(out: &mut String, message: &Message) -> Result<(), Fault> {
             number,
             clients,
             certs,
-        } => {
-            write!(out, "checkin {seq} {upto} {rate} {number} {clients}")?;
-            put_certs(out, certs)
-        }
+        } => put_check_in(out, &[*seq, *upto, *rate, *number, *clients], certs.items()),
         Body::CheckAck {
             seq,
             upto,
             rank,
             ancestors,
-        } => put_check_ack(out, *seq, *upto, *rank, ancestors),
-        Body::Rejoin { seq } => Ok(write!(out, "rejoin {seq}")?),
-        Body::Fetch { have } => put_fetch(out, have),
+        } => put_check_ack(out, *seq, *upto, *rank, ancestors.items()),
+        Body::Rejoin { seq } => put_numbers(out, " rejoin", &[*seq]),
+        Body::Fetch { have } => put_fetch(out, have.items()),
         Body::Chunk {
             group,
             start,
@@ -60,15 +59,15 @@ fn put_look_is(
     in_tree: bool,
     parent: Option<NodeId>,
     rate: u64,
-    children: &ChildList,
+    children: &[Child],
 ) -> Result<(), Fault> {
-    out.push_str(if in_tree { "lookis in" } else { "lookis out" })?;
+    out.push_str(if in_tree { " lookis in" } else { " lookis out" })?;
     match parent {
         Some(parent) => put_id(out, parent)?,
         None => out.push_str(" none")?,
     }
-    write!(out, " {rate}")?;
-    for child in children.items() {
+    put_number(out, rate)?;
+    for child in children {
         put_child(out, child)?;
     }
     Ok(())
@@ -76,22 +75,29 @@ fn put_look_is(
 
 fn put_child(out: &mut String, child: &Child) -> Result<(), Fault> {
     put_id(out, child.id)?;
-    let rate = child.rate;
-    Ok(write!(out, ":{rate}")?)
+    put_value(out, ":", child.rate)
 }
 
 fn put_ask(out: &mut String, seq: u64, rank: Option<Rank>) -> Result<(), Fault> {
-    write!(out, "ask {seq}")?;
+    put_numbers(out, " ask", &[seq])?;
     match rank {
         Some(rank) => put_rank(out, rank),
         None => Ok(out.push_str(" none")?),
     }
 }
 
-fn put_yes(out: &mut String, seq: u64, rank: Rank, ancestors: &IdList) -> Result<(), Fault> {
-    write!(out, "yes {seq}")?;
+fn put_yes(out: &mut String, seq: u64, rank: Rank, ancestors: &[NodeId]) -> Result<(), Fault> {
+    put_numbers(out, " yes", &[seq])?;
     put_rank(out, rank)?;
     put_ids(out, ancestors)
+}
+
+fn put_check_in(out: &mut String, numbers: &[u64], certs: &[Cert]) -> Result<(), Fault> {
+    put_numbers(out, " checkin", numbers)?;
+    for cert in certs {
+        put_cert(out, cert)?;
+    }
+    Ok(())
 }
 
 fn put_check_ack(
@@ -99,49 +105,37 @@ fn put_check_ack(
     seq: u64,
     upto: u64,
     rank: Rank,
-    ancestors: &IdList,
+    ancestors: &[NodeId],
 ) -> Result<(), Fault> {
-    write!(out, "checkack {seq} {upto}")?;
+    put_numbers(out, " checkack", &[seq, upto])?;
     put_rank(out, rank)?;
     put_ids(out, ancestors)
 }
 
 fn put_no(out: &mut String, seq: u64, why: Refusal) -> Result<(), Fault> {
-    write!(out, "no {seq} ")?;
-    out.push_str(match why {
-        Refusal::Own => "own",
-        Refusal::NotJoined => "notjoined",
-        Refusal::Ancestor => "ancestor",
-        Refusal::Depth => "depth",
-        Refusal::Chain(_) => "chain",
-        Refusal::Rank => "rank",
-    })?;
+    put_numbers(out, " no", &[seq])?;
     match why {
-        Refusal::Chain(member) => put_id(out, member),
-        _ => Ok(()),
+        Refusal::Own => Ok(out.push_str(" own")?),
+        Refusal::NotJoined => Ok(out.push_str(" notjoined")?),
+        Refusal::Ancestor => Ok(out.push_str(" ancestor")?),
+        Refusal::Depth => Ok(out.push_str(" depth")?),
+        Refusal::Chain(member) => put_value(out, " chain ", member.0),
+        Refusal::Rank => Ok(out.push_str(" rank")?),
     }
-}
-
-fn put_certs(out: &mut String, certs: &CertList) -> Result<(), Fault> {
-    for cert in certs.items() {
-        put_cert(out, cert)?;
-    }
-    Ok(())
 }
 
 fn put_cert(out: &mut String, cert: &Cert) -> Result<(), Fault> {
-    let subject = cert.subject.0;
-    let seq = cert.seq;
-    let parent = cert.parent.0;
-    let state = if cert.dead { "dead" } else { "alive" };
-    let number = cert.number;
-    let clients = cert.clients;
-    Ok(write!(out, " {subject}/{seq}/{parent}/{state}/{number}/{clients}")?)
+    put_value(out, " ", cert.subject.0)?;
+    put_value(out, "/", cert.seq)?;
+    put_value(out, "/", cert.parent.0)?;
+    out.push_str(if cert.dead { "/dead" } else { "/alive" })?;
+    put_value(out, "/", cert.number)?;
+    put_value(out, "/", cert.clients)
 }
 
-fn put_fetch(out: &mut String, have: &ShelfList) -> Result<(), Fault> {
-    out.push_str("fetch")?;
-    for line in have.items() {
+fn put_fetch(out: &mut String, have: &[Shelf]) -> Result<(), Fault> {
+    out.push_str(" fetch")?;
+    for line in have {
         put_line(out, line)?;
     }
     Ok(())
@@ -149,9 +143,8 @@ fn put_fetch(out: &mut String, have: &ShelfList) -> Result<(), Fault> {
 
 fn put_line(out: &mut String, line: &Shelf) -> Result<(), Fault> {
     put_name(out, &line.group)?;
-    let held = line.held;
-    let state = if line.sealed { "sealed" } else { "open" };
-    Ok(write!(out, ":{held}:{state}")?)
+    put_value(out, ":", line.held)?;
+    Ok(out.push_str(if line.sealed { ":sealed" } else { ":open" })?)
 }
 
 fn put_chunk(
@@ -161,44 +154,68 @@ fn put_chunk(
     bytes: &[u8],
     last: bool,
 ) -> Result<(), Fault> {
-    out.push_str("chunk")?;
+    out.push_str(" chunk")?;
     put_name(out, group)?;
-    let state = if last { "last" } else { "more" };
-    write!(out, " {start} {state}")?;
+    put_number(out, start)?;
+    out.push_str(if last { " last" } else { " more" })?;
+    put_piece(out, bytes)
+}
+
+fn put_piece(out: &mut String, bytes: &[u8]) -> Result<(), Fault> {
     if bytes.is_empty() {
         return Ok(());
     }
-    out.push(' ')?;
+    out.push_str(" ")?;
     put_hex(out, bytes)
 }
 
 fn put_name(out: &mut String, name: &GroupName) -> Result<(), Fault> {
-    out.push(' ')?;
+    out.push_str(" ")?;
     put_spelled(out, name.bytes())
 }
 
-fn put_ids(out: &mut String, ids: &IdList) -> Result<(), Fault> {
-    for id in ids.items() {
+fn put_ids(out: &mut String, ids: &[NodeId]) -> Result<(), Fault> {
+    for id in ids {
         put_id(out, *id)?;
     }
     Ok(())
 }
 
 fn put_id(out: &mut String, id: NodeId) -> Result<(), Fault> {
-    let number = id.0;
-    Ok(write!(out, " {number}")?)
+    put_value(out, " ", id.0)
 }
 
 fn put_rank(out: &mut String, rank: Rank) -> Result<(), Fault> {
-    let epoch = rank.epoch;
-    let depth = rank.depth;
-    Ok(write!(out, " {epoch} {depth}")?)
+    put_numbers(out, "", &[rank.epoch, u64::from(rank.depth)])
+}
+
+/// Puts a word and the numbers behind it.
+fn put_numbers(out: &mut String, word: &str, numbers: &[u64]) -> Result<(), Fault> {
+    out.push_str(word)?;
+    for number in numbers {
+        put_number(out, *number)?;
+    }
+    Ok(())
+}
+
+fn put_number(out: &mut String, number: u64) -> Result<(), Fault> {
+    put_value(out, " ", number)
+}
+
+/// Puts a value behind its name.
+pub fn put_value<T: Display + Copy>(out: &mut String, name: &str, value: T) -> Result<(), Fault> {
+    Ok(write!(out, "{name}{value}")?)
+}
+
+/// Puts a text that was written.
+pub fn put_text(out: &mut String, text: Result<Vec<u8>, Memory>) -> Result<(), Fault> {
+    put_spelled(out, &text?)
 }
 
 /// Puts the words of a fault.
 pub fn put_wire_fault(out: &mut String, fault: WireFault) -> Result<(), Fault> {
     match fault {
-        WireFault::Kind(code) => Ok(write!(out, "kind {code}")?),
+        WireFault::Kind(code) => put_value(out, "kind ", code),
         _ => Ok(out.push_str(plain_fault(fault))?),
     }
 }

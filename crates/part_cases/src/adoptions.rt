@@ -1,47 +1,60 @@
 //! Adoption: whom a host refuses, and which rank is taken.
 
+use crate::shown::put_shown;
+use oc_base::{NodeId, Rank};
 use oc_climb::{Host, may_adopt, take_rank};
 use std::alloc::Global;
 use test_tools::{Fault, Fields};
 
-/// The words of a row: the refusal or `ok`, or the rank that is taken.
-pub fn words(alloc: Global, given: &str) -> Result<String, Fault> {
+/// Puts the words of a row: the refusal or `ok`, or the rank that is taken.
+pub fn put_words(alloc: Global, given: &str, said: &mut String) -> Result<(), Fault> {
     let mut fields = Fields::of(given, ' ');
     match fields.text() {
-        "adopt" => adopt(alloc, fields),
-        "take" => take(alloc, fields),
+        "adopt" => put_adopted(alloc, fields, said),
+        "take" => put_taken(fields.some_rank()?, fields.rank()?, said),
         _ => Err(Fault::Field),
     }
 }
 
-/// The answer of a host to one that asks it.
-fn adopt(alloc: Global, mut fields: Fields<'_>) -> Result<String, Fault> {
+/// Puts the answer of a host to one that asks it.
+fn put_adopted(alloc: Global, mut fields: Fields<'_>, said: &mut String) -> Result<(), Fault> {
     let id = fields.node()?;
     let in_tree = fields.text() == "in";
     let rank = fields.rank()?;
     let ancestors = fields.nodes(alloc)?;
+    put_answer(id, in_tree, rank, &ancestors, fields, said)
+}
+
+fn put_answer(
+    id: NodeId,
+    in_tree: bool,
+    rank: Rank,
+    ancestors: &[NodeId],
+    mut fields: Fields<'_>,
+    said: &mut String,
+) -> Result<(), Fault> {
     let host = Host {
         id,
         in_tree,
         rank,
-        ancestors: &ancestors,
+        ancestors,
         chain: fields.small()?,
         chain_child: fields.some_node()?,
     };
     match may_adopt(&host, fields.node()?, fields.some_rank()?) {
-        Ok(()) => Ok(String::from_str(alloc, "ok")?),
-        Err(refusal) => Ok(format!(in alloc; "{refusal:?}")?),
+        Ok(()) => Ok(said.push_str("ok")?),
+        Err(refusal) => put_shown(said, &refusal),
     }
 }
 
-/// The rank that is taken, or `-` for none.
-fn take(alloc: Global, mut fields: Fields<'_>) -> Result<String, Fault> {
-    match take_rank(fields.some_rank()?, fields.rank()?) {
+/// Puts the rank that is taken, or `-` for none.
+fn put_taken(own: Option<Rank>, told: Rank, said: &mut String) -> Result<(), Fault> {
+    match take_rank(own, told) {
         Some(rank) => {
             let epoch = rank.epoch;
             let depth = rank.depth;
-            Ok(format!(in alloc; "{epoch}.{depth}")?)
+            Ok(write!(said, "{epoch}.{depth}")?)
         }
-        None => Ok(String::from_str(alloc, "-")?),
+        None => Ok(said.push_str("-")?),
     }
 }

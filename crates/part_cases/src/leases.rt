@@ -2,11 +2,13 @@
 
 ghost use Rattle.std.specs.Prelude.{◌≡◌, ◌≤◌, length};
 
-use crate::tables::{merge, put_all};
+use crate::shown::put_shown;
+use crate::tables::{merge, table_in};
 use oc_base::NodeId;
 use oc_cert::Table;
 use oc_updown::Leases;
 use std::alloc::Global;
+use std::str::SplitAsciiWhitespace;
 use test_tools::{Fault, Fields, Step, cert_in};
 
 /// The number of nodes.
@@ -24,20 +26,27 @@ struct Parent {
     ghost ends: { length leases.ends ≡ 6 },
 }
 
-/// The words of a row: what each step says. The first field has the certificates of the table.
-pub fn words(alloc: Global, given: &str) -> Result<String, Fault> {
+/// Puts the words of a row: what each step says. The first field has the certificates of the table.
+pub fn put_words(alloc: Global, given: &str, said: &mut String) -> Result<(), Fault> {
     let mut fields = given.split_ascii_whitespace();
-    let mut table = Table::new(alloc, NODES)?;
-    put_all(&mut table, Fields::of(fields.next().unwrap_or(""), ','))?;
+    let certs = Fields::of(fields.next().unwrap_or(""), ',');
     let mut parent = Parent {
-        table,
+        table: table_in(alloc, NODES, certs)?,
         leases: Leases::new(alloc, NODES)?,
     };
-    let mut said = String::new(alloc);
-    for field in fields {
-        act(&mut parent, Step::of(field), &mut said)?;
+    act_all(&mut parent, fields, said)
+}
+
+/// Does the steps, and puts what each says.
+fn act_all(
+    parent: &mut Parent,
+    steps: SplitAsciiWhitespace<'_>,
+    said: &mut String,
+) -> Result<(), Fault> {
+    for step in steps {
+        act(parent, Step::of(step), said)?;
     }
-    Ok(said)
+    Ok(())
 }
 
 /// Does a step, and puts what it says.
@@ -86,10 +95,7 @@ fn put_ended(
     said: &mut String,
 ) -> Result<(), Fault> {
     match parent.leases.next_ended(&parent.table, me, after, now) {
-        Some(child) => {
-            let child = child.0;
-            Ok(write!(said, "{child} ")?)
-        }
+        Some(child) => put_shown(said, &child.0),
         None => Ok(said.push_str("- ")?),
     }
 }

@@ -2,11 +2,12 @@
 
 ghost use Rattle.std.specs.Prelude.{◌≡◌, ◌<◌, ◌≤◌, IfOk, OnOk};
 
-use crate::tables::put_all;
+use crate::shown::put_shown;
+use crate::tables::table_in;
 use oc_base::{Cert, NodeId};
-use oc_cert::Table;
 use oc_updown::ChangeLog;
 use std::alloc::Global;
+use std::str::SplitAsciiWhitespace;
 use test_tools::{Fault, Fields, Step, cert_in, put_cert};
 
 /// The number of nodes.
@@ -22,16 +23,25 @@ struct Told {
     ghost nodes: { log.nodes ≡ 6 },
 }
 
-/// The words of a row: what each step on a new log says.
-pub fn words(alloc: Global, given: &str) -> Result<String, Fault> {
+/// Puts the words of a row: what each step on a new log says.
+pub fn put_words(alloc: Global, given: &str, said: &mut String) -> Result<(), Fault> {
     let mut told = Told {
         log: ChangeLog::new(alloc, NODES)?,
     };
-    let mut said = String::new(alloc);
-    for field in given.split_ascii_whitespace() {
-        act(alloc, &mut told, Step::of(field), &mut said)?;
+    act_all(alloc, &mut told, given.split_ascii_whitespace(), said)
+}
+
+/// Does the steps, and puts what each says.
+fn act_all(
+    alloc: Global,
+    told: &mut Told,
+    steps: SplitAsciiWhitespace<'_>,
+    said: &mut String,
+) -> Result<(), Fault> {
+    for step in steps {
+        act(alloc, told, Step::of(step), said)?;
     }
-    Ok(said)
+    Ok(())
 }
 
 /// Does a step, and puts what it says.
@@ -59,8 +69,7 @@ fn act(alloc: Global, told: &mut Told, step: Step<'_>, said: &mut String) -> Res
 
 /// Begins the log anew with a table of these certificates.
 fn begin(alloc: Global, told: &mut Told, fields: Fields<'_>) -> Result<(), Fault> {
-    let mut table = Table::new(alloc, NODES)?;
-    put_all(&mut table, fields)?;
+    let table = table_in(alloc, NODES, fields)?;
     told.log.reserve(table.rows().len())?;
     told.log.begin(&table);
     Ok(())
@@ -104,12 +113,17 @@ fn rebase(told: &mut Told, acked: u64) -> Result<(), Fault> {
 fn take(alloc: Global, told: &Told, limit: u8, said: &mut String) -> Result<(), Fault> {
     let mut certs = Vec::new(alloc);
     let place = told.log.take(limit as usize, &mut certs)?;
+    put_certs(&certs, said)?;
+    put_shown(said, &place)
+}
+
+fn put_certs(certs: &[Cert], said: &mut String) -> Result<(), Fault> {
     said.push_str("[")?;
-    for cert in &certs {
+    for cert in certs {
         said.push_str(" ")?;
         put_cert(said, cert)?;
     }
-    Ok(write!(said, " ] {place} ")?)
+    Ok(said.push_str(" ] ")?)
 }
 
 /// Puts how many certificates are acknowledged, and how many there are.

@@ -1,7 +1,7 @@
 //! Plays tables of worked cases over what a node decides and remembers, and prints a line for each case:
 //! its name and `ok`, or what came in place of what has to come.
 //!
-//! Each table is a file in `data`, whose first lines say how its rows are written, and a module that gives
+//! Each table is a file in `data`, whose first lines say how its rows are written, and a module that puts
 //! the words of a row.
 #![tactic(auto)]
 
@@ -12,6 +12,7 @@ mod measures;
 mod places;
 mod redirects;
 mod roots;
+mod shown;
 mod tables;
 
 use std::alloc::Global;
@@ -23,17 +24,24 @@ struct Rows;
 
 impl Cases for Rows {
     fn words(alloc: Global, table: &str, given: &str) -> Result<String, Fault> {
-        match table {
-            "tables" => tables::words(alloc, given),
-            "logs" => logs::words(alloc, given),
-            "leases" => leases::words(alloc, given),
-            "adoptions" => adoptions::words(alloc, given),
-            "places" => places::words(alloc, given),
-            "roots" => roots::words(alloc, given),
-            "measures" => measures::words(alloc, given),
-            "redirects" => redirects::words(alloc, given),
-            _ => Err(Fault::Field),
-        }
+        let mut said = String::new(alloc);
+        put_words(alloc, table, given, &mut said)?;
+        Ok(said)
+    }
+}
+
+/// Puts the words of a row.
+fn put_words(alloc: Global, table: &str, given: &str, said: &mut String) -> Result<(), Fault> {
+    match table {
+        "tables" => tables::put_words(alloc, given, said),
+        "logs" => logs::put_words(alloc, given, said),
+        "leases" => leases::put_words(alloc, given, said),
+        "adoptions" => adoptions::put_words(alloc, given, said),
+        "places" => places::put_words(alloc, given, said),
+        "roots" => roots::put_words(alloc, given, said),
+        "measures" => measures::put_words(alloc, given, said),
+        "redirects" => redirects::put_words(alloc, given, said),
+        _ => Err(Fault::Field),
     }
 }
 

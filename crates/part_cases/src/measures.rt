@@ -4,6 +4,7 @@ ghost use Rattle.std.specs.Prelude.{◌≡◌, length};
 
 use oc_measure::Measures;
 use std::alloc::Global;
+use std::str::SplitAsciiWhitespace;
 use test_tools::{Fault, Step};
 
 /// The number of peers.
@@ -16,16 +17,24 @@ struct Readings {
     ghost peers: { length measures ≡ 3 },
 }
 
-/// The words of a row: what each step says.
-pub fn words(alloc: Global, given: &str) -> Result<String, Fault> {
+/// Puts the words of a row: what each step says.
+pub fn put_words(alloc: Global, given: &str, said: &mut String) -> Result<(), Fault> {
     let mut readings = Readings {
         measures: Measures::new(alloc, PEERS)?,
     };
-    let mut said = String::new(alloc);
-    for field in given.split_ascii_whitespace() {
-        act(&mut readings, Step::of(field), &mut said)?;
+    act_all(&mut readings, given.split_ascii_whitespace(), said)
+}
+
+/// Does the steps, and puts what each says.
+fn act_all(
+    readings: &mut Readings,
+    steps: SplitAsciiWhitespace<'_>,
+    said: &mut String,
+) -> Result<(), Fault> {
+    for step in steps {
+        act(readings, Step::of(step), said)?;
     }
-    Ok(said)
+    Ok(())
 }
 
 /// Does a step, and puts what it says.

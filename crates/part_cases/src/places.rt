@@ -1,5 +1,6 @@
 //! Places: which candidate is chosen, and whether a place is kept.
 
+use crate::shown::put_shown;
 use oc_base::NodeId;
 use oc_place::{Candidate, View, choose, review};
 use std::alloc::Global;
@@ -8,34 +9,36 @@ use test_tools::{Fault, Fields};
 /// More candidates than a row names.
 const MOST: u32 = 1000;
 
-/// The words of a row: the node that is chosen, or what a review says.
-pub fn words(alloc: Global, given: &str) -> Result<String, Fault> {
+/// Puts the words of a row: the node that is chosen, or what a review says.
+pub fn put_words(alloc: Global, given: &str, said: &mut String) -> Result<(), Fault> {
     let mut fields = Fields::of(given, ' ');
     match fields.text() {
-        "choose" => {
-            let direct = fields.number()?;
-            let candidates = candidates_in(alloc, fields.list())?;
-            let chosen = choose(direct, &candidates);
-            Ok(format!(in alloc; "{chosen:?}")?)
-        }
-        "review" => reviewed(alloc, fields),
+        "choose" => put_chosen(alloc, fields, said),
+        "review" => put_reviewed(alloc, fields, said),
         _ => Err(Fault::Field),
     }
 }
 
-/// What a review says.
-fn reviewed(alloc: Global, mut fields: Fields<'_>) -> Result<String, Fault> {
+/// Puts the node that is chosen.
+fn put_chosen(alloc: Global, mut fields: Fields<'_>, said: &mut String) -> Result<(), Fault> {
+    let direct = fields.number()?;
+    let candidates = candidates_in(alloc, fields.list())?;
+    put_shown(said, &choose(direct, &candidates))
+}
+
+/// Puts what a review says.
+fn put_reviewed(alloc: Global, mut fields: Fields<'_>, said: &mut String) -> Result<(), Fault> {
     let direct = fields.number()?;
     let up = fields.number()?;
     let grand = grand_in(fields.text())?;
     let siblings = candidates_in(alloc, fields.list())?;
-    let found = review(&View {
+    let view = View {
         direct,
         up,
         grand,
         siblings: &siblings,
-    });
-    Ok(format!(in alloc; "{found:?}")?)
+    };
+    put_shown(said, &review(&view))
 }
 
 /// A grandparent and the own rate to it, as in `1:101`, or `-` for none.
@@ -54,13 +57,17 @@ fn candidates_in(alloc: Global, mut fields: Fields<'_>) -> Result<Vec<Candidate>
         if fields.is_empty() {
             break;
         }
-        let mut parts = Fields::of(fields.text(), ':');
-        list.push(Candidate {
-            id: parts.node()?,
-            mine: parts.number()?,
-            up: parts.number()?,
-            hops: parts.byte()?,
-        })?;
+        list.push(candidate_in(fields.text())?)?;
     }
     Ok(list)
+}
+
+fn candidate_in(text: &str) -> Result<Candidate, Fault> {
+    let mut parts = Fields::of(text, ':');
+    Ok(Candidate {
+        id: parts.node()?,
+        mine: parts.number()?,
+        up: parts.number()?,
+        hops: parts.byte()?,
+    })
 }

@@ -2,7 +2,9 @@
 
 ghost use Rattle.std.specs.Prelude.{◌≡◌};
 
-use crate::tables::put_all;
+use crate::shown::put_shown;
+use crate::tables::table_in;
+use oc_base::NodeId;
 use oc_cert::Table;
 use oc_redirect::select;
 use oc_rows::Rows;
@@ -12,31 +14,47 @@ use test_tools::{Fault, Fields};
 /// More nodes than there are.
 const MOST: u32 = 2000;
 
-/// The words of a row: the node, or `None`.
-pub fn words(alloc: Global, given: &str) -> Result<String, Fault> {
+/// Puts the words of a row: the node, or `None`.
+pub fn put_words(alloc: Global, given: &str, said: &mut String) -> Result<(), Fault> {
     let mut fields = Fields::of(given, ' ');
-    let table = table_in(alloc, &mut fields)?;
-    let me = fields.node()?;
-    let chain = fields.small()?;
-    let areas = bytes_in(alloc, fields.list())?;
-    let counts = rows_of(alloc, &fields.numbers(alloc)?)?;
-    let area = fields.byte()?;
-    if areas.len() != table.rows().len() || counts.len() != table.rows().len() {
-        return Err(Fault::Field);
-    }
-    let node = select(&table, me, chain, &areas, &counts, area);
-    Ok(format!(in alloc; "{node:?}")?)
-}
-
-/// The table of the next two fields: the number of nodes, and certificates.
-fn table_in(alloc: Global, fields: &mut Fields<'_>) -> Result<Table, Fault> {
     let nodes = fields.small()?;
     if nodes < 1 || 1024 < nodes {
         return Err(Fault::Field);
     }
-    let mut table = Table::new(alloc, nodes)?;
-    put_all(&mut table, fields.list())?;
-    Ok(table)
+    let table = table_in(alloc, nodes, fields.list())?;
+    put_node(alloc, &table, fields, said)
+}
+
+/// Puts the node to which one of a table sends a client.
+fn put_node(
+    alloc: Global,
+    table: &Table,
+    mut fields: Fields<'_>,
+    said: &mut String,
+) -> Result<(), Fault> {
+    let me = fields.node()?;
+    let chain = fields.small()?;
+    let areas = bytes_in(alloc, fields.list())?;
+    let counts = rows_of(alloc, &fields.numbers(alloc)?)?;
+    put_selected(table, me, chain, &areas, &counts, fields, said)
+}
+
+/// The same, where a node and its chain have these areas and counts; the area of the client is the next field.
+fn put_selected(
+    table: &Table,
+    me: NodeId,
+    chain: u32,
+    areas: &[u8],
+    counts: &Rows<u64>,
+    mut fields: Fields<'_>,
+    said: &mut String,
+) -> Result<(), Fault> {
+    let area = fields.byte()?;
+    let nodes = table.rows().len();
+    if areas.len() != nodes || counts.len() != nodes {
+        return Err(Fault::Field);
+    }
+    put_shown(said, &select(table, me, chain, areas, counts, area))
 }
 
 /// These numbers, by their place.

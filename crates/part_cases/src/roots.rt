@@ -1,35 +1,46 @@
 //! Roots: in which order others are asked, and the next epoch.
 
+use crate::shown::put_shown;
 use oc_base::NodeId;
 use oc_roots::{ask_order, raise};
 use std::alloc::Global;
 use test_tools::{Fault, Fields};
 
-/// The words of a row: the nodes that are asked, or the next epoch.
-pub fn words(alloc: Global, given: &str) -> Result<String, Fault> {
+/// Puts the words of a row: the nodes that are asked, or the next epoch.
+pub fn put_words(alloc: Global, given: &str, said: &mut String) -> Result<(), Fault> {
     let mut fields = Fields::of(given, ' ');
     match fields.text() {
-        "order" => order(alloc, fields),
-        "raise" => {
-            let epoch = raise(fields.number()?);
-            Ok(format!(in alloc; "{epoch:?}")?)
-        }
+        "order" => put_order(alloc, fields, said),
+        "raise" => put_shown(said, &raise(fields.number()?)),
         _ => Err(Fault::Field),
     }
 }
 
-/// The nodes that are asked, in order.
-fn order(alloc: Global, mut fields: Fields<'_>) -> Result<String, Fault> {
-    // What stood in the list before is no part of the answer.
-    let mut asked = vec![in alloc; NodeId(77)]?;
+/// Puts the nodes that are asked, in order.
+fn put_order(alloc: Global, mut fields: Fields<'_>, said: &mut String) -> Result<(), Fault> {
     let me = fields.node()?;
     let chain = fields.small()?;
     let ancestors = fields.nodes(alloc)?;
-    ask_order(me, chain, &ancestors, fields.some_node()?, &mut asked)?;
-    let mut said = String::new(alloc);
-    for id in &asked {
-        let id = id.0;
-        write!(said, "{id} ")?;
+    put_asked(alloc, me, chain, &ancestors, fields.some_node()?, said)
+}
+
+fn put_asked(
+    alloc: Global,
+    me: NodeId,
+    chain: u32,
+    ancestors: &[NodeId],
+    parent: Option<NodeId>,
+    said: &mut String,
+) -> Result<(), Fault> {
+    // What stood in the list before is no part of the answer.
+    let mut asked = vec![in alloc; NodeId(77)]?;
+    ask_order(me, chain, ancestors, parent, &mut asked)?;
+    put_ids(&asked, said)
+}
+
+fn put_ids(ids: &[NodeId], said: &mut String) -> Result<(), Fault> {
+    for id in ids {
+        put_shown(said, &id.0)?;
     }
-    Ok(said)
+    Ok(())
 }

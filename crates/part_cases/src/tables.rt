@@ -3,55 +3,70 @@
 ghost use Rattle.std.specs.Prelude.{◌≡◌, ◌≤◌, IsTrue, IfOk};
 ghost use Rattle.oc_base.specs.Lawful.{IsNode};
 
-use oc_base::{Cert, NodeId};
+use crate::shown::put_shown;
+use oc_base::{Cert, Line, MAX_NODES, NodeId};
 use oc_cert::Table;
 use std::alloc::Global;
+use std::str::SplitAsciiWhitespace;
 use test_tools::{Fault, Fields, Step, cert_in, put_cert};
 
 /// More certificates than a row names.
 const MOST: u32 = 10_000;
 
-/// The words of a row: what each step on a new table says.
-pub fn words(alloc: Global, given: &str) -> Result<String, Fault> {
+/// Puts the words of a row: what each step on a new table says.
+pub fn put_words(alloc: Global, given: &str, said: &mut String) -> Result<(), Fault> {
     let mut fields = given.split_ascii_whitespace();
     let nodes = Fields::of(fields.next().unwrap_or(""), ' ').small()?;
     if nodes < 1 || 1024 < nodes {
         return Err(Fault::Field);
     }
     let mut table = Table::new(alloc, nodes)?;
-    let mut said = String::new(alloc);
-    for field in fields {
-        act(&mut table, Step::of(field), &mut said)?;
+    act_all(&mut table, fields, said)
+}
+
+/// Does the steps, and puts what each says.
+fn act_all(
+    table: &mut Table,
+    steps: SplitAsciiWhitespace<'_>,
+    said: &mut String,
+) -> Result<(), Fault> {
+    for step in steps {
+        act(table, Step::of(step), said)?;
     }
-    Ok(said)
+    Ok(())
 }
 
 /// Does a step, and puts what it says.
 fn act(table: &mut Table, step: Step<'_>, said: &mut String) -> Result<(), Fault> {
     let mut fields = step.fields;
     match step.word {
-        "merge" => {
-            let is_new = merge(table, &cert_in(fields.text())?)?;
-            Ok(write!(said, "{is_new} ")?)
-        }
+        "merge" => put_merged(table, fields.text(), said),
         "put" => put_all(table, fields),
         "line" => put_line(table, fields.small()?, fields.small()?),
         "entry" => put_entry(table, fields.node()?, said),
-        "leased" => {
-            let seq = table.leased_by(fields.node()?, fields.node()?);
-            Ok(write!(said, "{seq:?} ")?)
-        }
-        "is_listed" => {
-            let is_listed = table.is_listed(fields.node()?, fields.node()?);
-            Ok(write!(said, "{is_listed} ")?)
-        }
-        "listed" => put_listed(table, fields.node()?, said),
-        "count" => {
-            let count = table.listed(fields.node()?)?.len();
-            Ok(write!(said, "{count} ")?)
-        }
+        "leased" => put_shown(said, &table.leased_by(fields.node()?, fields.node()?)),
+        "is_listed" => put_shown(said, &table.is_listed(fields.node()?, fields.node()?)),
+        "listed" => put_lines(&table.listed(fields.node()?)?, said),
+        "count" => put_shown(said, &table.listed(fields.node()?)?.len()),
         _ => Err(Fault::Field),
     }
+}
+
+/// Merges a certificate, and puts whether it is new.
+fn put_merged(table: &mut Table, text: &str, said: &mut String) -> Result<(), Fault> {
+    let is_new = merge(table, &cert_in(text)?)?;
+    put_shown(said, &is_new)
+}
+
+/// A table of so many nodes with these certificates.
+pub fn table_in(alloc: Global, nodes: u32, certs: Fields<'_>) -> Result<Table, Fault>
+    requires least { 1 ≤ nodes }
+    requires most { nodes ≤ MAX_NODES }
+    ensures { IfOk result (λ table. table.nodes ≡ nodes) }
+{
+    let mut table = Table::new(alloc, nodes)?;
+    put_all(&mut table, certs)?;
+    Ok(table)
 }
 
 /// Merges a certificate, if it is one among the nodes of the table.
@@ -109,17 +124,18 @@ fn put_line(table: &mut Table, first: u32, last: u32) -> Result<(), Fault> {
 /// Puts the entry of a node, or `-`.
 fn put_entry(table: &Table, node: NodeId, said: &mut String) -> Result<(), Fault> {
     match table.entry(node) {
-        Some(cert) => put_cert(said, &cert)?,
-        None => said.push_str("-")?,
+        Some(cert) => {
+            put_cert(said, &cert)?;
+            Ok(said.push_str(" ")?)
+        }
+        None => Ok(said.push_str("- ")?),
     }
-    Ok(said.push_str(" ")?)
 }
 
-/// Puts who is listed beneath a root, each with its parent.
-fn put_listed(table: &Table, root: NodeId, said: &mut String) -> Result<(), Fault> {
-    let listed = table.listed(root)?;
+/// Puts who is listed, each with its parent.
+fn put_lines(listed: &[Line], said: &mut String) -> Result<(), Fault> {
     said.push_str("[")?;
-    for line in &listed {
+    for line in listed {
         let node = line.node.0;
         let parent = line.parent.0;
         write!(said, " {node}<{parent}")?;

@@ -7,7 +7,7 @@ use std::process::{Child, ChildStdin, Command, Output, Stdio};
 use std::time::Duration;
 use std::{fs, thread};
 
-/// A node runs for at most so many turns.
+/// The most turns that a node runs.
 const TURNS: &str = "1000000";
 
 /// How often a first connection is tried, and the time between two tries.

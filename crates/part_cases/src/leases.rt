@@ -4,7 +4,6 @@ ghost use Rattle.std.specs.Prelude.{◌≡◌, ◌≤◌, length};
 
 use crate::shown::put_shown;
 use crate::tables::{merge, table_in};
-use oc_base::NodeId;
 use oc_cert::Table;
 use oc_updown::Leases;
 use std::alloc::Global;
@@ -51,25 +50,25 @@ fn act_all(
 
 /// Does a step, and puts what it says.
 fn act(parent: &mut Parent, step: Step<'_>, said: &mut String) -> Result<(), Fault> {
-    let mut fields = step.fields;
+    let fields = step.fields;
     match step.word {
-        "merge" => {
-            merge(&mut parent.table, &cert_in(fields.text())?)?;
-            Ok(())
-        }
-        "renew" => renew(parent, fields.node()?, fields.number()?),
-        "start" => start(parent, fields.node()?, fields.number()?),
-        "ended" => {
-            let me = fields.node()?;
-            let after = fields.small()?;
-            put_ended(parent, me, after, fields.number()?, said)
-        }
+        "merge" => merge_one(parent, fields),
+        "renew" => renew(parent, fields),
+        "start" => start(parent, fields),
+        "ended" => put_ended(parent, fields, said),
         _ => Err(Fault::Field),
     }
 }
 
+fn merge_one(parent: &mut Parent, mut fields: Fields<'_>) -> Result<(), Fault> {
+    merge(&mut parent.table, &cert_in(fields.text())?)?;
+    Ok(())
+}
+
 /// Renews the lease of a child at this second.
-fn renew(parent: &mut Parent, child: NodeId, now: u64) -> Result<(), Fault> {
+fn renew(parent: &mut Parent, mut fields: Fields<'_>) -> Result<(), Fault> {
+    let child = fields.node()?;
+    let now = fields.number()?;
     if child.0 < 1 || NODES < child.0 || LAST_SECOND < now {
         return Err(Fault::Field);
     }
@@ -78,7 +77,9 @@ fn renew(parent: &mut Parent, child: NodeId, now: u64) -> Result<(), Fault> {
 }
 
 /// Begins the leases of the children of a node that have no end yet.
-fn start(parent: &mut Parent, me: NodeId, now: u64) -> Result<(), Fault> {
+fn start(parent: &mut Parent, mut fields: Fields<'_>) -> Result<(), Fault> {
+    let me = fields.node()?;
+    let now = fields.number()?;
     if LAST_SECOND < now {
         return Err(Fault::Field);
     }
@@ -87,13 +88,10 @@ fn start(parent: &mut Parent, me: NodeId, now: u64) -> Result<(), Fault> {
 }
 
 /// Puts the next child past a number whose lease has ended at this second, or `-`.
-fn put_ended(
-    parent: &Parent,
-    me: NodeId,
-    after: u32,
-    now: u64,
-    said: &mut String,
-) -> Result<(), Fault> {
+fn put_ended(parent: &Parent, mut fields: Fields<'_>, said: &mut String) -> Result<(), Fault> {
+    let me = fields.node()?;
+    let after = fields.small()?;
+    let now = fields.number()?;
     match parent.leases.next_ended(&parent.table, me, after, now) {
         Some(child) => put_shown(said, &child.0),
         None => Ok(said.push_str("- ")?),

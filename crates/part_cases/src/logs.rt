@@ -46,21 +46,18 @@ fn act_all(
 
 /// Does a step, and puts what it says.
 fn act(alloc: Global, told: &mut Told, step: Step<'_>, said: &mut String) -> Result<(), Fault> {
-    let mut fields = step.fields;
+    let fields = step.fields;
     match step.word {
         "begin" => begin(alloc, told, fields),
-        "note" => note(told, &cert_in(fields.text())?),
-        "births" => note_births(told, fields.number()?),
-        "ack" => {
-            told.log.ack(fields.number()?);
-            Ok(())
-        }
-        "rebase" => rebase(told, fields.number()?),
+        "note" => note_one(told, fields),
+        "births" => note_births(told, fields),
+        "ack" => ack(told, fields),
+        "rebase" => rebase(told, fields),
         "clear" => {
             told.log.clear();
             Ok(())
         }
-        "take" => take(alloc, told, fields.byte()?, said),
+        "take" => take(alloc, told, fields, said),
         "state" => put_state(told, said),
         "waiting" => put_waiting(told, said),
         _ => Err(Fault::Field),
@@ -76,6 +73,10 @@ fn begin(alloc: Global, told: &mut Told, fields: Fields<'_>) -> Result<(), Fault
 }
 
 /// Puts a certificate at the end of the log.
+fn note_one(told: &mut Told, mut fields: Fields<'_>) -> Result<(), Fault> {
+    note(told, &cert_in(fields.text())?)
+}
+
 fn note(told: &mut Told, cert: &Cert) -> Result<(), Fault> {
     if cert.subject.0 < 1 || NODES < cert.subject.0 || told.log.length() >= MOST {
         return Err(Fault::Field);
@@ -86,8 +87,8 @@ fn note(told: &mut Told, cert: &Cert) -> Result<(), Fault> {
 }
 
 /// Notes so many births of node 2, ascending by the number of the ask from 1 on.
-fn note_births(told: &mut Told, count: u64) -> Result<(), Fault> {
-    for seq in 1..=count {
+fn note_births(told: &mut Told, mut fields: Fields<'_>) -> Result<(), Fault> {
+    for seq in 1..=fields.number()? {
         let cert = Cert {
             subject: NodeId(2),
             seq,
@@ -101,7 +102,13 @@ fn note_births(told: &mut Told, count: u64) -> Result<(), Fault> {
     Ok(())
 }
 
-fn rebase(told: &mut Told, acked: u64) -> Result<(), Fault> {
+fn ack(told: &mut Told, mut fields: Fields<'_>) -> Result<(), Fault> {
+    told.log.ack(fields.number()?);
+    Ok(())
+}
+
+fn rebase(told: &mut Told, mut fields: Fields<'_>) -> Result<(), Fault> {
+    let acked = fields.number()?;
     if acked > 1 << 62 {
         return Err(Fault::Field);
     }
@@ -110,9 +117,15 @@ fn rebase(told: &mut Told, acked: u64) -> Result<(), Fault> {
 }
 
 /// Puts the first certificates that wait, at most so many, and the place behind them.
-fn take(alloc: Global, told: &Told, limit: u8, said: &mut String) -> Result<(), Fault> {
+fn take(
+    alloc: Global,
+    told: &Told,
+    mut fields: Fields<'_>,
+    said: &mut String,
+) -> Result<(), Fault> {
+    let limit = fields.byte()? as usize;
     let mut certs = Vec::new(alloc);
-    let place = told.log.take(limit as usize, &mut certs)?;
+    let place = told.log.take(limit, &mut certs)?;
     put_certs(&certs, said)?;
     put_shown(said, &place)
 }

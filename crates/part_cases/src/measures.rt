@@ -1,11 +1,12 @@
 //! Measures: the reading of each peer.
 
-ghost use Rattle.std.specs.Prelude.{◌≡◌, length};
+ghost use Rattle.std.specs.Prelude.{◌≡◌, ◌≤◌, length};
 
+use oc_base::NodeId;
 use oc_measure::Measures;
 use std::alloc::Global;
 use std::str::SplitAsciiWhitespace;
-use test_tools::{Fault, Step};
+use test_tools::{Fault, Fields, Step};
 
 /// The number of peers.
 const PEERS: u32 = 3;
@@ -45,16 +46,28 @@ fn act(readings: &mut Readings, step: Step<'_>, said: &mut String) -> Result<(),
         return Err(Fault::Field);
     }
     match step.word {
-        "put" if peer.0 <= PEERS => {
-            readings
-                .measures
-                .put(peer, fields.number()?, fields.byte()?);
-            Ok(())
-        }
-        "get" => {
-            let (rate, hops) = readings.measures.get(peer);
-            Ok(write!(said, "{rate}/{hops} ")?)
-        }
+        "put" => put(readings, peer, fields),
+        "get" => put_reading(readings, peer, said),
         _ => Err(Fault::Field),
     }
+}
+
+/// Puts a reading of a peer among the measures.
+fn put(readings: &mut Readings, peer: NodeId, mut fields: Fields<'_>) -> Result<(), Fault>
+    requires { 1 ≤ peer }
+{
+    if PEERS < peer.0 {
+        return Err(Fault::Field);
+    }
+    let rate = fields.number()?;
+    readings.measures.put(peer, rate, fields.byte()?);
+    Ok(())
+}
+
+/// Puts what is measured of a peer among the words.
+fn put_reading(readings: &Readings, peer: NodeId, said: &mut String) -> Result<(), Fault>
+    requires { 1 ≤ peer }
+{
+    let (rate, hops) = readings.measures.get(peer);
+    Ok(write!(said, "{rate}/{hops} ")?)
 }

@@ -38,23 +38,23 @@ fn act_all(
 
 /// Does a step, and puts what it says.
 fn act(table: &mut Table, step: Step<'_>, said: &mut String) -> Result<(), Fault> {
-    let mut fields = step.fields;
+    let fields = step.fields;
     match step.word {
-        "merge" => put_merged(table, fields.text(), said),
+        "merge" => put_merged(table, fields, said),
         "put" => put_all(table, fields),
-        "line" => put_line(table, fields.small()?, fields.small()?),
-        "entry" => put_entry(table, fields.node()?, said),
-        "leased" => put_shown(said, &table.leased_by(fields.node()?, fields.node()?)),
-        "is_listed" => put_shown(said, &table.is_listed(fields.node()?, fields.node()?)),
-        "listed" => put_lines(&table.listed(fields.node()?)?, said),
-        "count" => put_shown(said, &table.listed(fields.node()?)?.len()),
+        "line" => put_line(table, fields),
+        "entry" => put_entry(table, fields, said),
+        "leased" => put_leased(table, fields, said),
+        "is_listed" => put_is_listed(table, fields, said),
+        "listed" => put_listed(table, fields, said),
+        "count" => put_count(table, fields, said),
         _ => Err(Fault::Field),
     }
 }
 
 /// Merges a certificate, and puts whether it is new.
-fn put_merged(table: &mut Table, text: &str, said: &mut String) -> Result<(), Fault> {
-    let is_new = merge(table, &cert_in(text)?)?;
+fn put_merged(table: &mut Table, mut fields: Fields<'_>, said: &mut String) -> Result<(), Fault> {
+    let is_new = merge(table, &cert_in(fields.text())?)?;
     put_shown(said, &is_new)
 }
 
@@ -106,7 +106,9 @@ pub fn put_all(table: &mut Table, mut fields: Fields<'_>) -> Result<(), Fault>
 }
 
 /// Merges the birth of each node from the first on and before the last, under the one before it.
-fn put_line(table: &mut Table, first: u32, last: u32) -> Result<(), Fault> {
+fn put_line(table: &mut Table, mut fields: Fields<'_>) -> Result<(), Fault> {
+    let first = fields.small()?;
+    let last = fields.small()?;
     for node in first..last {
         let cert = Cert {
             subject: NodeId(node),
@@ -122,8 +124,8 @@ fn put_line(table: &mut Table, first: u32, last: u32) -> Result<(), Fault> {
 }
 
 /// Puts the entry of a node, or `-`.
-fn put_entry(table: &Table, node: NodeId, said: &mut String) -> Result<(), Fault> {
-    match table.entry(node) {
+fn put_entry(table: &Table, mut fields: Fields<'_>, said: &mut String) -> Result<(), Fault> {
+    match table.entry(fields.node()?) {
         Some(cert) => {
             put_cert(said, &cert)?;
             Ok(said.push_str(" ")?)
@@ -132,7 +134,28 @@ fn put_entry(table: &Table, node: NodeId, said: &mut String) -> Result<(), Fault
     }
 }
 
-/// Puts who is listed, each with its parent.
+/// Puts the number of the ask by which the second node is a child of the first.
+fn put_leased(table: &Table, mut fields: Fields<'_>, said: &mut String) -> Result<(), Fault> {
+    let parent = fields.node()?;
+    put_shown(said, &table.leased_by(parent, fields.node()?))
+}
+
+/// Puts whether the second node is listed beneath the first.
+fn put_is_listed(table: &Table, mut fields: Fields<'_>, said: &mut String) -> Result<(), Fault> {
+    let root = fields.node()?;
+    put_shown(said, &table.is_listed(root, fields.node()?))
+}
+
+/// Puts who is listed beneath a root, each with its parent.
+fn put_listed(table: &Table, mut fields: Fields<'_>, said: &mut String) -> Result<(), Fault> {
+    put_lines(&table.listed(fields.node()?)?, said)
+}
+
+/// Puts how many are listed beneath a root.
+fn put_count(table: &Table, mut fields: Fields<'_>, said: &mut String) -> Result<(), Fault> {
+    put_shown(said, &table.listed(fields.node()?)?.len())
+}
+
 fn put_lines(listed: &[Line], said: &mut String) -> Result<(), Fault> {
     said.push_str("[")?;
     for line in listed {

@@ -1,5 +1,5 @@
 -- What a commit leaves, at its end and at every moment of it.
-use Rattle.std.proofs.Common.{◌≡◌, inl, inr, ℕ, ◌+◌, ◌≤◌, ◌<◌, ◌^◌, true, false, IsTrue, Bool, List, [], ◌∷◌, ◌++◌, length, Option, Some, None, option_map, unwrap_or, refl, sym, ap, subst, ◌∙◌, ⊎_elim, arith}
+use Rattle.std.proofs.Common.{◌≡◌, ◌⊎◌, inl, inr, ℕ, ◌+◌, ◌≤◌, ◌<◌, ◌^◌, true, false, IsTrue, Bool, List, [], ◌∷◌, ◌++◌, length, Option, Some, None, option_map, unwrap_or, refl, sym, ap, subst, ◌∙◌, ⊎_elim, arith}
 use Rattle.oc_base.specs.declared.group.Group.{Group}
 use Rattle.oc_base.specs.declared.limits.TheConstants.{MAX_BASE_ACKED, MAX_JOURNAL_BYTES, MAX_LOG_LENGTH}
 use Rattle.oc_base.specs.declared.shelf.Shelf.{Shelf}
@@ -24,10 +24,12 @@ use Rattle.oc_node.specs.NodeView.{IsReached, NodeView}
 use Rattle.oc_node.specs.Planned.{PlanView, control_after}
 use Rattle.oc_node.proofs.Reaching.{reached_kept}
 use Rattle.oc_io.specs.DiskView.{DiskView, GoesOn}
+use Rattle.oc_io.specs.Faults.{Rose}
 use Rattle.oc_io.proofs.DiskMoments.{StaysAsItWas-none}
 use Rattle.oc_record.specs.Spelling.{records_bytes}
 use Rattle.oc_store.specs.ControlFiles.{at_side, begun_generation, first_bad, generation_in, records_in, records_of, recovered_frames}
 use Rattle.oc_store.specs.declared.errors.Side.{Side}
+use Rattle.oc_store.specs.declared.errors.Side.TheVariants.{First, Second}
 use Rattle.oc_store.specs.Promises.{Commits}
 use Rattle.oc_store.specs.StoreView.{StoreView, first_disk, second_disk, AreGood, Recovers}
 use Rattle.oc_store.specs.StoreView as stores
@@ -35,12 +37,12 @@ use Rattle.oc_store.proofs.FrameReads.{good_more, one_frame_more}
 use Rattle.oc_store.proofs.Snapshots.{generation_spelled}
 use Rattle.oc_keep.specs.declared.ready.Write.{Write}
 use Rattle.oc_keep.specs.declared.ready.Write.TheVariants as writes
-use Rattle.oc_keep.specs.Files.{AllGoOn, AreLater, HadLeft, SameAsEither, SameDurable, recovered}
+use Rattle.oc_keep.specs.Files.{AllGoOn, AreLater, AreReliable, HadLeft, OneRose, SameAsEither, SameDurable, recovered}
 use Rattle.oc_keep.specs.KeptView.{AtAnyMoment, IsHonest, IsKept, KeptView, disks_of, header_of, node_of}
 use Rattle.oc_keep.specs.ReadyView.{CanWrite, groups_with, outcome_of}
-use Rattle.oc_keep.specs.Writing.{FailsToWrite, IsTooLong, Writes, WritesSafely}
+use Rattle.oc_keep.specs.Writing.{CanPutWrite, FailsToWrite, HasRoomFor, IsTooLong, Writes, WritesSafely}
 use Rattle.oc_keep.proofs.Growth.{log_grows}
-use Rattle.oc_keep.proofs.Sides.{honest_store, related_sides}
+use Rattle.oc_keep.proofs.Sides.{honest_store, related_sides, reliable_store}
 use Rattle.oc_keep.proofs.Sizes.{records_fewer}
 use Rattle.oc_keep.proofs.Stays.{Law, all_stay, all_go_on, all_were_honest}
 
@@ -51,6 +53,26 @@ Reads = (nodes : ℕ) (list : List Record) → nodes < 2 ^ 32 → AreRecords nod
 -- and no frame of them is bad
 abbrev pub Goods : Type 0
 Goods = (nodes : ℕ) (list : List Record) → nodes < 2 ^ 32 → AreRecords nodes list → first_bad nodes (records_bytes list ∷ []) ≡ None
+
+-- Before a commit
+
+-- what was made ready can be put
+pub can_put : {D : Type 0} (view : D → DiskView) (k : KeptView D) (p : PlanView) (w : Write) → CanWrite view k p w → CanPutWrite k.store k.content w
+can_put view k p writes.Nothing can = tt
+can_put view k p (writes.Records frame) can = can.1
+can_put view k p (writes.Content piece) can = (can.1.prepared, can.1.adds)
+
+-- on reliable disks it cannot fail
+pub has_room : {D : Type 0} (view : D → DiskView) (k : KeptView D) (p : PlanView) (w : Write) → CanWrite view k p w → AreReliable view (disks_of k) → HasRoomFor view k.store k.content w
+has_room view k p writes.Nothing can sure = tt
+has_room view k p (writes.Records frame) can sure = record { reliable = (reliable_store view k.store sure.control sure.alternate).0; room = can.2.room; calls = can.2.calls }
+has_room view k p (writes.Content piece) can sure = record { reliable = sure.content; room = can.1.room.room; calls = can.1.room.calls }
+
+-- nor is it too long
+pub fits_file : {D : Type 0} (view : D → DiskView) (k : KeptView D) (p : PlanView) (w : Write) → CanWrite view k p w → AreReliable view (disks_of k) → ¬ IsTooLong k.store k.content w
+fits_file view k p writes.Nothing can sure long = long
+fits_file view k p (writes.Records frame) can sure long = can.2.fits (reliable_store view k.store sure.control sure.alternate).0 long
+fits_file view k p (writes.Content piece) can sure long = can.1.room.fits sure.content long
 
 -- Going on
 
@@ -327,3 +349,29 @@ failed_kept view k k2 w is node closes failed safe = record {
   log = λ is_open. absurd (cc);
   short = omega (arith, is.short, ap (λ (n : NodeView). n.control.kept.log.length) node);
 }
+
+-- a disk's count of faults rose
+pub failed_rose : {D : Type 0} (view : D → DiskView) (k k2 : KeptView D) (w : Write) → FailsToWrite view w k.store k.content k2.store k2.content → WritesSafely view w k.store k.content k2.store k2.content → OneRose view (disks_of k) (disks_of k2)
+failed_rose view k k2 writes.Nothing failed safe = absurd failed
+failed_rose view k k2 (writes.Records frame) failed safe =
+    let s = k.store in
+    let s2 = k2.store in
+    ⊎_elim (λ rose. inl rose) (λ rose. inr (inl rose))
+    (subst (λ (x : Side). Rose (view (first_disk s)).faults (view (at_side x s2.current.disk s2.other.disk)).faults ⊎ Rose (view (second_disk s)).faults (view (at_side x s2.other.disk s2.current.disk)).faults) (sym safe.0.side) (by_side s.side))
+  where
+    by_side : (x : Side) → Rose (view (at_side x k.store.current.disk k.store.other.disk)).faults (view (at_side x k2.store.current.disk k2.store.other.disk)).faults ⊎ Rose (view (at_side x k.store.other.disk k.store.current.disk)).faults (view (at_side x k2.store.other.disk k2.store.current.disk)).faults
+    by_side First = inl failed.current.fails.count
+    by_side Second = inr failed.current.fails.count
+failed_rose view k k2 (writes.Content piece) failed safe = inr (inr failed.journal.fails.count)
+
+-- the groups stay
+pub failed_groups : {D : Type 0} (view : D → DiskView) (k k2 : KeptView D) (w : Write) → FailsToWrite view w k.store k.content k2.store k2.content → WritesSafely view w k.store k.content k2.store k2.content → IsHonest view k → groups_in k2.content.journal.frames ≡ groups_in k.content.journal.frames
+failed_groups view k k2 writes.Nothing failed safe honest = absurd failed
+failed_groups view k k2 (writes.Records frame) failed safe honest = ap (λ c. groups_in c.journal.frames) safe.1
+failed_groups view k k2 (writes.Content piece) failed safe honest = ap groups_in (failed.journal.frames honest.content)
+
+-- and the generation
+pub failed_generation : {D : Type 0} (view : D → DiskView) (k k2 : KeptView D) (w : Write) → FailsToWrite view w k.store k.content k2.store k2.content → WritesSafely view w k.store k.content k2.store k2.content → k2.store.generation ≡ k.store.generation
+failed_generation view k k2 writes.Nothing failed safe = absurd failed
+failed_generation view k k2 (writes.Records frame) failed safe = failed.generation
+failed_generation view k k2 (writes.Content piece) failed safe = ap (λ s. s.generation) safe.1

@@ -11,3 +11,4 @@ pub mod Replacing
 pub mod Stops
 pub mod Runs
 pub mod Leaving
+pub mod Ends

@@ -1,5 +1,5 @@
 -- Taking inputs one after another.
-use Rattle.std.proofs.Common.{◌≡◌, inl, inr, ℕ, ◌+◌, ◌<◌, false, true, IsTrue, List, [], ◌∷◌, ◌++◌, length, reverse, take, drop, refl, sym, ap, subst, ◌∙◌, arith, append_assoc}
+use Rattle.std.proofs.Common.{◌≡◌, inl, inr, ℕ, ◌+◌, ◌-◌, ◌<◌, false, true, IsTrue, List, [], ◌∷◌, ◌++◌, length, reverse, take, drop, refl, sym, ap, subst, ◌∙◌, arith, append_assoc}
 use Rattle.std.specs.List.{AllByRecursion}
 use Rattle.std.proofs.lemmas.List.{append-nil, drop_at, length-append, reverse-append}
 use Rattle.oc_base.specs.declared.shelf.Shelf.{Shelf}
@@ -10,13 +10,16 @@ use Rattle.oc_model.specs.Step.{plan, step}
 use Rattle.oc_io.specs.DiskView.{DiskView}
 use Rattle.oc_io.proofs.Counts.{Rose-after}
 use Rattle.oc_io.proofs.DiskMoments.{GoesOn-then, still_reliable}
+use Rattle.oc_keep.specs.declared.ended.Trial.{Trial}
+use Rattle.oc_keep.specs.declared.ended.TrialEnd.{TrialEnd}
+use Rattle.oc_keep.specs.declared.ended.TrialEnd.TheVariants.{All, Load, Take}
 use Rattle.oc_keep.specs.declared.errors.KeepError.{KeepError}
 use Rattle.oc_keep.specs.declared.errors.KeepError.TheVariants as keeps
 use Rattle.oc_keep.specs.Files.{Disks, AllGoOn, AreHonest, AreReliable, Leaves, OneRose, SameAsEither, SameDurable, Survives}
 use Rattle.oc_keep.specs.KeptView.{AtAnyMoment, IsFullAt, IsFullByPlan, IsFullOn, IsHonest, KeptView, NodeSurvives, disks_of, header_of, node_of}
-use Rattle.oc_keep.specs.Promises.{ChangesNothing, Closes, IsSameNode}
-use Rattle.oc_keep.specs.Trials.{BeginsWith, EndsFull, HasTakeCause, LeavesTaken, after_inputs}
-use Rattle.oc_keep.proofs.Stays.{AllStay, Law, all_honest, leaves_now, nothing_node, nothing_stays}
+use Rattle.oc_keep.specs.Promises.{ChangesNothing, Closes, IsNodeOf, IsSameNode, LoadsSafely}
+use Rattle.oc_keep.specs.Trials.{BeginsWith, EndsFull, HasCause, HasRunCause, HasTakeCause, LeavesAfter, LeavesBy, LeavesEnd, LeavesTaken, RunLeaves, after_inputs, first_node}
+use Rattle.oc_keep.proofs.Stays.{AllStay, Law, all_honest, all_were_honest, leaves_now, nothing_node, nothing_stays}
 
 -- Lists of inputs
 
@@ -29,6 +32,10 @@ after_push n (x ∷ t) i = after_push (step n x).node t i
 take_front : (t rest : List Input) → take (length t) (t ++ rest) ≡ t
 take_front [] rest = refl
 take_front (x ∷ t) rest = ap (λ (xs : List Input). x ∷ xs) (take_front t rest)
+
+-- what is left is fewer by one
+pub one_fewer : (m n : ℕ) → m + 1 ≡ n → m < n
+one_fewer m n is = omega (arith, is)
 
 -- Disks
 
@@ -122,6 +129,11 @@ module _ {D : Type 0} (view : D → DiskView) (law : Law view) (first : KeptView
   -- the last of the list is the next
   pub popped : (now : KeptView D) (inputs rest : List Input) (i : Input) (done : ℕ) → inputs ≡ rest ++ i ∷ [] → IsSoFar view first now all (reverse inputs) done → IsSoFar view first now all (i ∷ reverse rest) done
   popped now inputs rest i done is so = subst (λ (left : List Input). IsSoFar view first now all left done) (ap reverse is ∙ reverse-append rest (i ∷ [])) so
+
+  -- there is none
+  pub popped_none : (now : KeptView D) (inputs rest : List Input) (done len : ℕ) → inputs ≡ rest ++ [] → rest ≡ take (len - 1) inputs → len ≡ 0 → IsSoFar view first now all (reverse inputs) done → IsSoFar view first now all [] done
+  popped_none now inputs rest done len is front none so =
+      subst (λ (left : List Input). IsSoFar view first now all (reverse left) done) (is ∙ append-nil rest ∙ front ∙ ap (λ (n : ℕ). take (n - 1) inputs) none) so
 
   -- the next input is one of this node
   pub next_lawful : (now : KeptView D) (i : Input) (rest : List Input) (done : ℕ) → IsSoFar view first now all (i ∷ rest) done → IsInput now.node.control.nodes now.node.control.me i
@@ -231,3 +243,49 @@ module _ {D : Type 0} (view : D → DiskView) (law : Law view) (first : KeptView
 
       back : drop done all ≡ i ∷ rest
       back = ap (λ (n : ℕ). drop n all) so.count ∙ ap (drop (length so.taken)) so.split ∙ drop_at so.taken (i ∷ rest) (length so.taken) refl
+
+-- A trial
+
+-- the inputs of a node that is loaded
+pub inputs_of : (n : Control) (h : Header) (me : ℕ) (is : List Input) → header_of n ≡ h → n.me ≡ me → AllByRecursion (IsInput h.nodes me) is → AllByRecursion (IsInput n.nodes n.me) is
+inputs_of n h me is header id lawful =
+    subst (λ (m : ℕ). AllByRecursion (IsInput n.nodes m) is) (sym id)
+    (subst (λ (x : Header). AllByRecursion (IsInput x.nodes me) is) (sym header) lawful)
+
+module _ {D : Type 0} (view : D → DiskView) (h : Header) (me : ℕ) (d : Disks D) (k : KeptView D) (loaded : IsNodeOf view h me d k) (safely : LoadsSafely view h me d (disks_of k)) where
+  -- it survives
+  pub loaded_survives : IsHonest view k → NodeSurvives view k (node_of k)
+  loaded_survives honest =
+      subst (λ (m : ℕ). Survives view (header_of k.node.control) m (disks_of k) (node_of k)) (sym loaded.id)
+      (subst (λ (x : Header). Survives view x me (disks_of k) (node_of k)) (sym loaded.header) (loaded.survives (all_were_honest view d (disks_of k) safely.goes_on honest)))
+
+  -- what a run leaves of it in the disks that are handed back
+  pub ran_leaves : (last : KeptView D) (e : Disks D) (is : List Input) (t : Trial) → e ≡ disks_of last → AreHonest view d → RunLeaves view k is last t → LeavesAfter view h me d is e t
+  ran_leaves last e is t same honest leaves =
+      by_end t.end
+      (subst (λ (x : Disks D). LeavesEnd view h me (first_node view h me d) is x t.done t.end) (sym same)
+      (subst (λ (n : Node). LeavesEnd view h me n is (disks_of last) t.done t.end) (loaded.node honest)
+      (subst (λ (m : ℕ). LeavesEnd view h m (node_of k) is (disks_of last) t.done t.end) loaded.id
+      (subst (λ (x : Header). LeavesEnd view x k.node.control.me (node_of k) is (disks_of last) t.done t.end) loaded.header leaves))))
+    where
+      by_end : (end : TrialEnd) → LeavesEnd view h me (first_node view h me d) is e t.done end → LeavesBy view h me d is e t.done end
+      by_end All left = left
+      by_end (Load error) left = absurd left
+      by_end (Take error) left = left
+
+  -- why it ended
+  pub ran_cause : (last : KeptView D) (e : Disks D) (end : TrialEnd) → e ≡ disks_of last → HasRunCause view (disks_of k) (disks_of last) end → HasCause view h.nodes d e end
+  ran_cause last e end same why = by_end end (subst (λ (x : Disks D). HasRunCause view (disks_of k) x end) (sym same) why) where
+    by_error : (error : KeepError) → HasTakeCause view (disks_of k) e error → HasTakeCause view d e error
+    by_error keeps.Closed why = absurd why
+    by_error keeps.Memory why = tt
+    by_error keeps.Full why = tt
+    by_error keeps.Disk why = one_rose_after view d (disks_of k) e safely.goes_on why
+
+    by_end : (end : TrialEnd) → HasRunCause view (disks_of k) e end → HasCause view h.nodes d e end
+    by_end All why = tt
+    by_end (Load error) why = absurd why
+    by_end (Take error) why = by_error error why
+
+  pub ran_on : (last : KeptView D) (e : Disks D) → e ≡ disks_of last → AllGoOn view (disks_of k) (disks_of last) → AllGoOn view d e
+  ran_on last e same on = all_go_on_then view d (disks_of k) e safely.goes_on (subst (λ (x : Disks D). AllGoOn view (disks_of k) x) (sym same) on)

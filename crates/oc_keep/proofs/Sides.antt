@@ -25,3 +25,7 @@ related_sides R Second x y x2 y2 h k = (k, h)
 -- both disks of a store are honest
 pub honest_store : {D : Type 0} (view : D → DiskView) (s : StoreView D) → IsTrue (view (first_disk s)).honest → IsTrue (view (second_disk s)).honest → stores.AreHonest view s
 honest_store view s h k = sides_both (λ d. IsTrue (view d).honest) s.side s.current.disk s.other.disk h k
+
+-- and reliable
+pub reliable_store : {D : Type 0} (view : D → DiskView) (s : StoreView D) → IsTrue (view (first_disk s)).reliable → IsTrue (view (second_disk s)).reliable → IsTrue (view s.current.disk).reliable × IsTrue (view s.other.disk).reliable
+reliable_store view s h k = sides_both (λ d. IsTrue (view d).reliable) s.side s.current.disk s.other.disk h k

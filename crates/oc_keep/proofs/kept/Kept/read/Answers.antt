@@ -1,25 +1,26 @@
-use Rattle.std.proofs.Common.{true}
-use Rattle.oc_keep.specs.KeptView.{kept_of}
-use Rattle.oc_keep.proofs.Stays.{nothing_kept, nothing_moments, only_read}
+use Rattle.std.proofs.Common.{true, refl}
+use Rattle.oc_keep.specs.KeptView.{disks_of, kept_of}
+use Rattle.oc_keep.proofs.Ends.{done, read_unfailed, shut_open}
+use Rattle.oc_keep.proofs.Stays.{all_go_on, nothing_kept, nothing_moments, nothing_stays, only_read}
 use Rattle.oc_keep.proofs.kept.Kept.read.Goals as goal
 
 pub invariant_of-self : goal.invariant_of-self
 invariant_of-self g c =
     let s = c.self.inside in
     nothing_kept g.D.Disk.view (kept_of s.node s.store s.content s.closed) (kept_of s.node s.store c.read.new.self s.closed) c.self.invariant (only_read g.D.Disk.view s.node s.store s.content c.read.new.self s.closed s.closed c.read.ensures.same)
-    (λ is_open. (is_open, (c.in-Ok.ensures.none_failed (λ failed. absurd cc)).closed))
+    (λ is_open. (is_open, (c.in-Ok.ensures.none_failed (λ failed. absurd (done _ _ failed))).closed))
 
 pub invariant_of-self-in-Err-NoGroup : goal.invariant_of-self-in-Err-NoGroup
 invariant_of-self-in-Err-NoGroup g c =
     let s = c.self.inside in
     nothing_kept g.D.Disk.view (kept_of s.node s.store s.content s.closed) (kept_of s.node s.store c.read.new.self s.closed) c.self.invariant (only_read g.D.Disk.view s.node s.store s.content c.read.new.self s.closed s.closed c.read.ensures.same)
-    (λ is_open. (is_open, (c.in-Err-NoGroup.ensures.none_failed (λ failed. absurd cc)).closed))
+    (λ is_open. (is_open, (c.in-Err-NoGroup.ensures.none_failed (λ failed. absurd (read_unfailed c.in-Err-NoGroup.field-0 c.in-Err-NoGroup.field-0-is failed))).closed))
 
 pub invariant_of-self-in-Err-Disk : goal.invariant_of-self-in-Err-Disk
 invariant_of-self-in-Err-Disk g c =
     let s = c.self.inside in
     nothing_kept g.D.Disk.view (kept_of s.node s.store s.content s.closed) (kept_of s.node s.store c.read.new.self true) c.self.invariant (only_read g.D.Disk.view s.node s.store s.content c.read.new.self s.closed true c.read.ensures.same)
-    (λ is_open. absurd cc)
+    (λ is_open. absurd (shut_open true refl is_open))
 
 pub returns-in-Ok-clause-same : goal.returns-in-Ok-clause-same
 returns-in-Ok-clause-same g c =
@@ -53,3 +54,27 @@ returns-in-Err-Disk-clause-any_moment g c =
     let s = c.self.inside in
     rw (← c.self.view_is) (nothing_moments g.D.Disk.view (kept_of s.node s.store s.content s.closed) (kept_of s.node s.store c.read.new.self true) (λ x h. g.met.D.Disk.consistent x h) c.self.invariant
     (only_read g.D.Disk.view s.node s.store s.content c.read.new.self s.closed true c.read.ensures.same))
+
+pub returns-in-Ok-clause-goes_on : goal.returns-in-Ok-clause-goes_on
+returns-in-Ok-clause-goes_on g c =
+    let view = g.D.Disk.view in
+    let s = c.self.inside in
+    let k = kept_of s.node s.store s.content s.closed in
+    let k2 = kept_of s.node s.store c.read.new.self s.closed in
+    rw (← c.self.view_is) (all_go_on view (disks_of k) (disks_of k2) (nothing_stays view k k2 (only_read view s.node s.store s.content c.read.new.self s.closed s.closed c.read.ensures.same)))
+
+pub returns-in-Err-NoGroup-clause-goes_on : goal.returns-in-Err-NoGroup-clause-goes_on
+returns-in-Err-NoGroup-clause-goes_on g c =
+    let view = g.D.Disk.view in
+    let s = c.self.inside in
+    let k = kept_of s.node s.store s.content s.closed in
+    let k2 = kept_of s.node s.store c.read.new.self s.closed in
+    rw (← c.self.view_is) (all_go_on view (disks_of k) (disks_of k2) (nothing_stays view k k2 (only_read view s.node s.store s.content c.read.new.self s.closed s.closed c.read.ensures.same)))
+
+pub returns-in-Err-Disk-clause-goes_on : goal.returns-in-Err-Disk-clause-goes_on
+returns-in-Err-Disk-clause-goes_on g c =
+    let view = g.D.Disk.view in
+    let s = c.self.inside in
+    let k = kept_of s.node s.store s.content s.closed in
+    let k2 = kept_of s.node s.store c.read.new.self true in
+    rw (← c.self.view_is) (all_go_on view (disks_of k) (disks_of k2) (nothing_stays view k k2 (only_read view s.node s.store s.content c.read.new.self s.closed true c.read.ensures.same)))

@@ -1,0 +1,67 @@
+-- What a call answers, and so does not: each is told here of a few variables, since it would cost far more where all facts of a call are known.
+use Rattle.std.proofs.Common.{◌≡◌, ◌↔◌, Bool, true, false, IsTrue, IsErrOf, Result, Ok, Err}
+use Rattle.oc_content.specs.declared.errors.ReadError.{ReadError}
+use Rattle.oc_content.specs.declared.errors.ReadError.TheVariants as reads
+use Rattle.oc_keep.specs.declared.ended.TrialEnd.{TrialEnd}
+use Rattle.oc_keep.specs.declared.ended.TrialEnd.TheVariants as ends
+use Rattle.oc_keep.specs.declared.errors.CommitError.{CommitError}
+use Rattle.oc_keep.specs.declared.errors.CommitError.TheVariants as commits
+use Rattle.oc_keep.specs.declared.errors.KeepError.{KeepError}
+use Rattle.oc_keep.specs.declared.errors.KeepError.TheVariants as keeps
+use Rattle.oc_keep.specs.declared.errors.KeepLoad.{KeepLoad}
+use Rattle.oc_keep.specs.declared.errors.ReadyError.{ReadyError}
+use Rattle.oc_keep.specs.declared.errors.ReadyError.TheVariants as readies
+use Rattle.oc_keep.specs.declared.errors.TidyError.{TidyError}
+use Rattle.oc_keep.specs.declared.errors.TidyError.TheVariants as tidies
+
+-- one that is closed is not open
+pub shut_open : (closed : Bool) → closed ≡ true → closed ≡ false → ⊥
+shut_open closed shut is_open = absurd cc
+
+-- one that is open is not said to be closed
+pub still_open : {T E : Type 0} (r : Result T E) (e : E) (closed : Bool) → (IsErrOf r e → ⊥) → closed ≡ false → IsErrOf r e ↔ IsTrue closed
+still_open r e closed not is_open = (λ wrong. absurd (not wrong), λ shut. absurd (shut_open closed shut is_open))
+
+-- what was done did not fail
+pub done : {T E : Type 0} (x : T) (e : E) → IsErrOf (Ok x) e → ⊥
+done x e wrong = absurd cc
+
+pub tidy_disk : {T : Type 0} → IsErrOf {T = T} (Err tidies.Disk) tidies.Closed → ⊥
+tidy_disk wrong = absurd cc
+
+pub tidy_memory : {T : Type 0} → IsErrOf {T = T} (Err tidies.Memory) tidies.Closed → ⊥
+tidy_memory wrong = absurd cc
+
+pub ready_disk : {T : Type 0} → IsErrOf {T = T} (Err readies.Disk) readies.Closed → ⊥
+ready_disk wrong = absurd cc
+
+pub ready_memory : {T : Type 0} → IsErrOf {T = T} (Err readies.Memory) readies.Closed → ⊥
+ready_memory wrong = absurd cc
+
+pub not_failed : {T E : Type 0} (r : Result T E) (x : T) (e : E) → r ≡ Ok x → IsErrOf r e → ⊥
+not_failed r x e is wrong = absurd cc
+
+pub ready_unfailed : {T : Type 0} (r : Result T ReadyError) (e : ReadyError) → r ≡ Err e → e ≡ readies.Memory → IsErrOf r readies.Disk → ⊥
+ready_unfailed r e is memory wrong = absurd cc
+
+pub commit_unfull : {T : Type 0} (e : CommitError) → e ≡ commits.Disk → IsErrOf {T = T} (Err e) commits.Full → ⊥
+commit_unfull e disk wrong = absurd cc
+
+pub read_unfailed : {T : Type 0} (e : ReadError) → e ≡ reads.NoGroup → IsErrOf {T = T} (Err e) reads.Disk → ⊥
+read_unfailed e none wrong = absurd cc
+
+-- a trial that ended since a file is full
+pub ended_full : (e : KeepError) → ends.Take e ≡ ends.Take keeps.Full → e ≡ keeps.Full
+ended_full e ended = cc
+
+pub ended_all : ends.All ≡ ends.Take keeps.Full → ⊥
+ended_all ended = absurd cc
+
+pub ended_load : (e : KeepLoad) → ends.Load e ≡ ends.Take keeps.Full → ⊥
+ended_load e ended = absurd cc
+
+pub full_unfailed : (e : KeepError) → e ≡ keeps.Full → e ≡ keeps.Disk → ⊥
+full_unfailed e full disk = absurd cc
+
+pub full_no_disk : {T : Type 0} (e : KeepError) → e ≡ keeps.Full → IsErrOf {T = T} (Err e) keeps.Disk → ⊥
+full_no_disk e full wrong = absurd cc

@@ -2,7 +2,6 @@
 use Rattle.std.proofs.Common.{◌≡◌, ◌↔◌, Bool, true, false, IsTrue, IsErrOf, Result, Ok, Err}
 use Rattle.oc_content.specs.declared.errors.ReadError.{ReadError}
 use Rattle.oc_content.specs.declared.errors.ReadError.TheVariants as reads
-use Rattle.oc_keep.specs.declared.ended.TrialEnd.{TrialEnd}
 use Rattle.oc_keep.specs.declared.ended.TrialEnd.TheVariants as ends
 use Rattle.oc_keep.specs.declared.errors.CommitError.{CommitError}
 use Rattle.oc_keep.specs.declared.errors.CommitError.TheVariants as commits
@@ -11,7 +10,6 @@ use Rattle.oc_keep.specs.declared.errors.KeepError.TheVariants as keeps
 use Rattle.oc_keep.specs.declared.errors.KeepLoad.{KeepLoad}
 use Rattle.oc_keep.specs.declared.errors.ReadyError.{ReadyError}
 use Rattle.oc_keep.specs.declared.errors.ReadyError.TheVariants as readies
-use Rattle.oc_keep.specs.declared.errors.TidyError.{TidyError}
 use Rattle.oc_keep.specs.declared.errors.TidyError.TheVariants as tidies
 
 -- one that is closed is not open

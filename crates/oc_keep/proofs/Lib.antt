@@ -12,3 +12,4 @@ pub mod Stops
 pub mod Runs
 pub mod Leaving
 pub mod Ends
+pub mod Taking

@@ -1,11 +1,12 @@
 -- A snapshot in the place of all records.
-use Rattle.std.proofs.Common.{◌≡◌, ◌⊎◌, inl, inr, ℕ, ◌+◌, ◌≤◌, Bool, false, IsTrue, List, [], ◌∷◌, length, sym, ap, subst, ◌∙◌, ⊎_elim, arith}
+use Rattle.std.proofs.Common.{◌≡◌, ◌⊎◌, inl, inr, ℕ, ◌+◌, ◌-◌, ◌^◌, ◌<◌, ◌≤◌, Bool, false, IsTrue, List, [], ◌∷◌, length, sym, ap, subst, ◌∙◌, ⊎_elim, arith}
 use Rattle.std.proofs.lemmas.List.{length-replicate}
 use Rattle.oc_base.specs.Lawful.{IsCount}
 use Rattle.oc_base.specs.declared.limits.TheConstants.{MAX_BASE_ACKED}
 use Rattle.oc_content.specs.ContentFile.{groups_in}
 use Rattle.oc_journal.specs.JournalFile.{frames_of}
 use Rattle.oc_journal.specs.JournalView.{JournalView}
+use Rattle.oc_journal.specs.Promises.{HasRoom, OnlyReads}
 use Rattle.oc_laws_step.specs.Sound.{IsSoundDurable}
 use Rattle.oc_model.specs.declared.record.Record.{Record}
 use Rattle.oc_model.specs.Lawful.{AreRecords}
@@ -14,7 +15,7 @@ use Rattle.oc_model.specs.Records.{folded}
 use Rattle.oc_model.specs.Snapshot.{snapshot}
 use Rattle.oc_node.specs.NodeView.{IsReached}
 use Rattle.oc_node.proofs.LawfulSnapshots.{lawful_snapshot}
-use Rattle.oc_io.specs.DiskView.{DiskView, GoesOn, StaysAsItWas}
+use Rattle.oc_io.specs.DiskView.{CannotFail, DiskView, GoesOn, StaysAsItWas}
 use Rattle.oc_io.specs.Faults.{Rose}
 use Rattle.oc_io.proofs.DiskMoments.{GoesOn-then, StaysAsItWas-none, still_honest}
 use Rattle.oc_record.specs.Spelling.{records_bytes}
@@ -150,6 +151,25 @@ closes_made view s m s2 rs frame reserves closes moments spells = record {
     by_side : (x : Side) → Rose (view (at_side x s.current.disk s.other.disk)).faults (view (at_side x s2.current.disk s2.other.disk)).faults ⊎ Rose (view (at_side x s.other.disk s.current.disk)).faults (view (at_side x s2.other.disk s2.current.disk)).faults
     by_side First = inr rose
     by_side Second = inl rose
+
+-- what is reserved for a frame is enough
+pub sure_room : {D : Type 0} (view : D → DiskView) (j m : JournalView D) (rs : List Record) (frame : List ℕ) → OnlyReads view j m → HasRoom view m (length (records_bytes rs)) → frame ≡ records_bytes rs → IsTrue (view j.disk).reliable → CannotFail (length frame + 7) 6 (view m.disk)
+sure_room view j m rs frame same room spells sure = record {
+  reliable = subst (λ (b : Bool). IsTrue b) (sym same.disk.goes_on.reliable) sure;
+  room = omega (arith, ap length spells, room.room);
+  calls = omega (arith, room.calls);
+}
+
+-- it is that of the snapshot
+pub spells_made : (frame : List ℕ) (now items rs : List Record) → frame ≡ records_bytes now → now ≡ items → items ≡ rs → frame ≡ records_bytes rs
+spells_made frame now items rs spells same is = spells ∙ ap (λ (qs : List Record). records_bytes qs) (same ∙ is)
+
+-- the next generation
+pub next_count : (generation : ℕ) → generation < 2 ^ 64 - 1 → IsCount (generation + 1)
+next_count generation next = (omega arith, omega (arith, next))
+
+pub next_above : (generation : ℕ) → generation < 2 ^ 64 - 1 → (generation < generation + 1) × (generation + 1 < 2 ^ 64)
+next_above generation next = (omega arith, omega (arith, next))
 
 -- the generation of a snapshot's frame
 pub snapshot_generation : (nodes generation : ℕ) (d : Durable) (frame : List ℕ) → AreRecords nodes (snapshot generation d) → frame ≡ records_bytes (snapshot generation d) → generation_in frame ≡ generation

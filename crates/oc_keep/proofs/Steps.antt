@@ -19,7 +19,7 @@ use Rattle.oc_content.proofs.Lines.{line_of-goes, line_of-shelf}
 use Rattle.oc_content.proofs.Spelling.{entry_of-written}
 use Rattle.oc_content.specs.Indexes.{HasTrackRoom}
 use Rattle.oc_journal.specs.JournalView.{JournalView}
-use Rattle.oc_journal.specs.Promises.{HasRoom, IsFullFor}
+use Rattle.oc_journal.specs.Promises.{HasRoom, IsFullFor, NoneFailed}
 use Rattle.oc_journal.proofs.ReadRuns.{OnlyReads-then}
 use Rattle.oc_model.specs.declared.input.Input.{Input}
 use Rattle.oc_laws_step.specs.Sound.{IsSoundRecord}
@@ -45,7 +45,7 @@ use Rattle.oc_keep.specs.Puts.{CanKeep, CanPut, CanWant, entry_for}
 use Rattle.oc_keep.specs.ReadyView.{CanCommit, CanWrite, IsFullToWrite, groups_with, is_written, outcome_of}
 use Rattle.oc_keep.specs.Writing.{IsPutAs, IsRoomFor, IsWriteOf, KeepsStore, fetched}
 use Rattle.oc_keep.proofs.Limits.{kept_is}
-use Rattle.oc_keep.proofs.Stays.{Law}
+use Rattle.oc_keep.proofs.Stays.{Law, was_honest}
 use Rattle.oc_keep.proofs.Wants.{wants_alone}
 
 -- Pieces
@@ -259,3 +259,13 @@ puts_then view a b c law first second = record {
   rooms = λ i. omega (arith, first.rooms i, second.rooms i);
   memory = omega (arith, first.memory, second.memory);
 }
+
+pub none_then : {D : Type 0} (view : D → DiskView) (a b c : JournalView D) → NoneFailed view a b → NoneFailed view b c → NoneFailed view a c
+none_then view a b c first second = record { closed = second.closed ∙ first.closed; no_fault = second.no_fault ∙ first.no_fault }
+
+-- the lines still tell the frames
+pub still_shelved : {D : Type 0} (view : D → DiskView) (c c2 : ContentView D) → PutsNothing view c c2 → (IsTrue (view c.journal.disk).honest → IsShelved c.journal.frames c.shelves) → IsTrue (view c2.journal.disk).honest → IsShelved c2.journal.frames c2.shelves
+still_shelved view c c2 same shelved honest =
+    let before = was_honest (view c.journal.disk) (view c2.journal.disk) same.journal.disk.goes_on honest in
+    subst (λ (bodies : List (List ℕ)). IsShelved bodies c2.shelves) (sym (same.journal.frames before))
+    (subst (λ (ls : List Shelf). IsShelved c.journal.frames ls) (sym same.shelves) (shelved before))

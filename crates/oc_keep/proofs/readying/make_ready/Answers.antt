@@ -1,11 +1,13 @@
-use Rattle.std.proofs.Common.{ℕ, false, List, ap, ◌∙◌}
+use Rattle.std.proofs.Common.{ℕ, inr, false, List, refl, ap, ◌∙◌, ⊎_elim}
 use Rattle.oc_content.specs.ContentFile.{groups_in}
 use Rattle.oc_node.specs.Planned.{PlanView}
 use Rattle.oc_io.proofs.DiskMoments.{still_honest}
 use Rattle.oc_keep.specs.KeptView.{kept_of}
 use Rattle.oc_keep.specs.ReadyView.{outcome_of}
 use Rattle.oc_keep.specs.Writing.{fetched}
-use Rattle.oc_keep.proofs.Steps.{made_commits, made_full, made_plain, made_step, made_writes, plan_keeps, puts_then, wanting_fits}
+use Rattle.oc_keep.proofs.Ends.{done}
+use Rattle.oc_keep.proofs.Stays.{keeps_none, puts_none}
+use Rattle.oc_keep.proofs.Steps.{made_commits, made_full, made_plain, made_step, made_writes, none_then, plan_keeps, plan_wants, puts_then, still_shelved, wanting_fits}
 use Rattle.oc_keep.proofs.readying.make_ready.Goals as goal
 
 pub writing-requires-clause-keeps : goal.writing-requires-clause-keeps
@@ -55,3 +57,81 @@ returns-clause-full g c =
 
 pub returns-clause-content : goal.returns-clause-content
 returns-clause-content g c = puts_then g.D.Disk.view c.args.content.now c.writing.new.content c.fetch.new.content (λ x h. g.met.D.Disk.consistent x h) c.writing.ensures.content c.fetch.ensures.content
+
+pub plan-requires-clause-input : goal.plan-requires-clause-input
+plan-requires-clause-input g c = c.requires.input
+
+pub plan-requires-clause-log : goal.plan-requires-clause-log
+plan-requires-clause-log g c = c.requires.log
+
+pub plan-requires-clause-shelf : goal.plan-requires-clause-shelf
+plan-requires-clause-shelf g c = rw c.groups.ensures.lines c.groups.ensures.shelf
+
+pub writing-requires-clause-spelled : goal.writing-requires-clause-spelled
+writing-requires-clause-spelled g c = c.spellings_are_read.ensures.spelled _ c.in_ok-plan.plan.records c.in_ok-plan.ensures.applies.records
+
+pub writing-requires-clause-fits : goal.writing-requires-clause-fits
+writing-requires-clause-fits g c = c.in_ok-plan.ensures.frame
+
+pub writing-requires-clause-one_file : goal.writing-requires-clause-one_file
+writing-requires-clause-one_file g c = c.in_ok-plan.ensures.one_file
+
+pub fetch-requires-clause-held : goal.fetch-requires-clause-held
+fetch-requires-clause-held g c =
+    let n = c.args.node.now.control in
+    let old = c.args.content.now in
+    let made = rw c.groups.ensures.lines at c.in_ok-plan.ensures.plan in
+    rw c.writing.ensures.content.shelves (plan_wants n c.in_ok-plan.plan _ old.shelves made (c.prepare_refuses_nothing_that_is_kept.ensures.wants n old.shelves c.args.input.now c.groups.ensures.shelf))
+
+pub fetch-requires-clause-shelved : goal.fetch-requires-clause-shelved
+fetch-requires-clause-shelved g c = still_shelved g.D.Disk.view c.args.content.now c.writing.new.content c.writing.ensures.content c.groups.ensures.content
+
+pub fetch-requires-clause-wanting : goal.fetch-requires-clause-wanting
+fetch-requires-clause-wanting g c = c.in_ok-plan.ensures.wants
+
+pub returns-in_err-plan-clause-node : goal.returns-in_err-plan-clause-node
+returns-in_err-plan-clause-node g c = c.plan.ensures.node
+
+pub returns-in_err-write-clause-node : goal.returns-in_err-write-clause-node
+returns-in_err-write-clause-node g c = c.plan.ensures.node
+
+pub returns-in_err-fetch-clause-node : goal.returns-in_err-fetch-clause-node
+returns-in_err-fetch-clause-node g c = c.plan.ensures.node
+
+pub returns-clause-node : goal.returns-clause-node
+returns-clause-node g c = c.plan.ensures.node
+
+pub returns-in_err-plan-clause-store : goal.returns-in_err-plan-clause-store
+returns-in_err-plan-clause-store g c = keeps_none g.D.Disk.view c.args.store.now
+
+pub returns-in_err-plan-clause-content : goal.returns-in_err-plan-clause-content
+returns-in_err-plan-clause-content g c = puts_none g.D.Disk.view c.args.content.now
+
+pub returns-in_err-plan-clause-none_failed : goal.returns-in_err-plan-clause-none_failed
+returns-in_err-plan-clause-none_failed g c = inr (record { closed = refl; no_fault = refl })
+
+pub returns-in_err-write-clause-store : goal.returns-in_err-write-clause-store
+returns-in_err-write-clause-store g c = c.writing.ensures.store
+
+pub returns-in_err-fetch-clause-store : goal.returns-in_err-fetch-clause-store
+returns-in_err-fetch-clause-store g c = c.writing.ensures.store
+
+pub returns-clause-store : goal.returns-clause-store
+returns-clause-store g c = c.writing.ensures.store
+
+pub returns-in_err-write-clause-content : goal.returns-in_err-write-clause-content
+returns-in_err-write-clause-content g c = c.writing.ensures.content
+
+pub returns-in_err-write-clause-none_failed : goal.returns-in_err-write-clause-none_failed
+returns-in_err-write-clause-none_failed g c = inr c.writing.ensures.none_failed
+
+pub returns-clause-none_failed : goal.returns-clause-none_failed
+returns-clause-none_failed g c =
+    inr (⊎_elim (λ wrong. absurd (done _ _ wrong))
+    (λ none. none_then g.D.Disk.view c.args.content.now.journal c.writing.new.content.journal c.fetch.new.content.journal c.writing.ensures.none_failed none) c.in_ok-fetch.ensures.none_failed)
+
+pub returns-clause-disk : goal.returns-clause-disk
+returns-clause-disk g c = λ wrong. absurd (done _ _ wrong)
+
+pub returns-clause-full_first : goal.returns-clause-full_first
+returns-clause-full_first g c = λ wrong. absurd (done _ _ wrong)

@@ -1,10 +1,10 @@
-use Rattle.std.proofs.Common.{◌+◌, inl, inr, Err, true, false, refl, sym, ap, subst, ◌∙◌, ⊎_elim, arith}
+use Rattle.std.proofs.Common.{◌+◌, inl, inr, Err, true, false, refl, sym, ap, subst, ◌∙◌, ⊎_elim}
 use Rattle.oc_base.specs.Lawful.{IsCount}
 use Rattle.oc_keep.specs.declared.errors.TidyError.{TidyError}
 use Rattle.oc_io.proofs.DiskMoments.{StaysAsItWas-none}
 use Rattle.oc_keep.specs.KeptView.{KeptView, disks_of, kept_of}
 use Rattle.oc_keep.specs.Writing.{KeepsStore}
-use Rattle.oc_keep.proofs.Replacing.{turned_kept, turned_moments}
+use Rattle.oc_keep.proofs.Replacing.{next_count, turned_kept, turned_moments}
 use Rattle.oc_keep.proofs.Ends.{done, shut_open, still_open, tidy_disk, tidy_memory}
 use Rattle.oc_keep.proofs.Sides.{honest_store, reliable_store}
 use Rattle.oc_keep.proofs.Stays.{all_go_on, all_stay, closed_kept, keeps_none, nothing_kept, nothing_moments, nothing_stays, puts_none}
@@ -14,7 +14,7 @@ pub invariant_of-self : goal.invariant_of-self
 invariant_of-self g c =
     let s = c.self.inside in
     let due = c.due.ensures.0 c.if-not-due.false in
-    let count : IsCount (s.store.generation + 1) = (omega arith, omega (arith, due.1)) in
+    let count : IsCount (s.store.generation + 1) = next_count s.store.generation due.1 in
     let short = c.in-Ok-true.ensures.short.0 c.in-Ok-true.field-0-test in
     turned_kept g.D.Disk.view c.frames_add_their_records.ensures.read c.snapshots_stand_for_all.ensures (kept_of s.node s.store s.content s.closed) c.self.invariant c.if-self.false count short.based
     c.frames_add_their_records.ensures.good c.replace.new.store s.closed (c.in-Ok-true.ensures.replaces c.in-Ok-true.field-0-test)
@@ -23,7 +23,7 @@ pub returns-in-Ok-true-clause-any_moment : goal.returns-in-Ok-true-clause-any_mo
 returns-in-Ok-true-clause-any_moment g c =
     let s = c.self.inside in
     let due = c.due.ensures.0 c.if-not-due.false in
-    let count : IsCount (s.store.generation + 1) = (omega arith, omega (arith, due.1)) in
+    let count : IsCount (s.store.generation + 1) = next_count s.store.generation due.1 in
     let short = c.in-Ok-true.ensures.short.0 c.in-Ok-true.field-0-test in
     let turned = c.in-Ok-true.ensures.replaces c.in-Ok-true.field-0-test in
     rw (← c.self.view_is) (λ is_open honest.
@@ -42,7 +42,7 @@ pub returns-in-Err-Disk-clause-any_moment : goal.returns-in-Err-Disk-clause-any_
 returns-in-Err-Disk-clause-any_moment g c =
     let s = c.self.inside in
     let due = c.due.ensures.0 c.if-not-due.false in
-    let count : IsCount (s.store.generation + 1) = (omega arith, omega (arith, due.1)) in
+    let count : IsCount (s.store.generation + 1) = next_count s.store.generation due.1 in
     let failed = ap (λ (e : TidyError). Err e) c.in-Err-Disk.field-0-is in
     let short = c.in-Err-Disk.ensures.short_err failed in
     let turned = c.in-Err-Disk.ensures.disk failed in
@@ -105,7 +105,7 @@ returns-then-not-due-clause-any_moment g c =
     rw (← c.self.view_is) (nothing_moments g.D.Disk.view k k (λ x h. g.met.D.Disk.consistent x h) c.self.invariant (record { control = refl; store = keeps_none g.D.Disk.view s.store; content = puts_none g.D.Disk.view s.content }))
 
 pub returns-then-not-due-clause-closed : goal.returns-then-not-due-clause-closed
-returns-then-not-due-clause-closed g c = rw (← c.self.view_is) (still_open _ _ c.self.inside.closed (done false _) c.if-self.false)
+returns-then-not-due-clause-closed g c = rw (← c.self.view_is) (still_open _ _ c.self.inside.closed (done _ _) c.if-self.false)
 
 pub returns-then-not-due-clause-goes_on : goal.returns-then-not-due-clause-goes_on
 returns-then-not-due-clause-goes_on g c = all_go_on g.D.Disk.view (disks_of c.args.self.now) (disks_of c.args.self.now) (all_stay g.D.Disk.view (disks_of c.args.self.now))
@@ -138,7 +138,7 @@ pub returns-in-Ok-true-clause-content : goal.returns-in-Ok-true-clause-content
 returns-in-Ok-true-clause-content g c = ap (λ (k : KeptView g.row.D.Denot). k.content) c.self.view_is
 
 pub returns-in-Ok-true-clause-closed : goal.returns-in-Ok-true-clause-closed
-returns-in-Ok-true-clause-closed g c = rw (← c.self.view_is) (still_open _ _ c.self.inside.closed (done true _) c.if-self.false)
+returns-in-Ok-true-clause-closed g c = rw (← c.self.view_is) (still_open _ _ c.self.inside.closed (done _ _) c.if-self.false)
 
 pub returns-in-Ok-true-clause-stays_open : goal.returns-in-Ok-true-clause-stays_open
 returns-in-Ok-true-clause-stays_open g c = λ _. ap (λ (k : KeptView g.row.D.Denot). k.closed) c.self.view_is
@@ -150,7 +150,7 @@ pub returns-in-Ok-false-clause-content : goal.returns-in-Ok-false-clause-content
 returns-in-Ok-false-clause-content g c = ap (λ (k : KeptView g.row.D.Denot). k.content) c.self.view_is
 
 pub returns-in-Ok-false-clause-closed : goal.returns-in-Ok-false-clause-closed
-returns-in-Ok-false-clause-closed g c = rw (← c.self.view_is) (still_open _ _ c.self.inside.closed (done false _) c.if-self.false)
+returns-in-Ok-false-clause-closed g c = rw (← c.self.view_is) (still_open _ _ c.self.inside.closed (done _ _) c.if-self.false)
 
 pub returns-in-Ok-false-clause-stays_open : goal.returns-in-Ok-false-clause-stays_open
 returns-in-Ok-false-clause-stays_open g c = λ _. ap (λ (k : KeptView g.row.D.Denot). k.closed) c.self.view_is

@@ -113,7 +113,7 @@ returns-in-Ok-clause-node g c =
     rw (← c.self.view_is, ← c.ready.view_is) (commit_node g.D.Disk.view c.frames_add_their_records.ensures.read k c.self.invariant was_open k2 c.ready.inside.plan c.ready.inside.write c.in-Ok.ensures.writes c.put.ensures.safely c.apply.ensures.control)
 
 pub returns-in-Ok-clause-full : goal.returns-in-Ok-clause-full
-returns-in-Ok-clause-full g c =     rw (← c.self.view_is, ← c.ready.view_is) (λ wrong. absurd (done c.apply.result _ wrong), λ long. absurd (done c.in-Ok.field-0 _ (c.in-Ok.ensures.full.1 long)))
+returns-in-Ok-clause-full g c = rw (← c.self.view_is, ← c.ready.view_is) (λ wrong. absurd (done c.apply.result _ wrong), λ long. absurd (done c.in-Ok.field-0 _ (c.in-Ok.ensures.full.1 long)))
 
 pub returns-in-Ok-clause-stays_open : goal.returns-in-Ok-clause-stays_open
 returns-in-Ok-clause-stays_open g c =
@@ -181,7 +181,7 @@ returns-in-Err-Full-clause-works g c =
     rw (← c.self.view_is) (λ sure. absurd (fits_file g.D.Disk.view k c.ready.inside.plan c.ready.inside.write can.writes sure (c.in-Err-Full.ensures.full.0 failed)))
 
 pub returns-clause-full : goal.returns-clause-full
-returns-clause-full g c =     rw (← c.self.view_is, ← c.ready.view_is) (λ wrong. absurd (commit_unfull Disk refl wrong), λ long. absurd (commit_unfull c.in-Err-Disk.field-0 c.in-Err-Disk.field-0-is (c.in-Err-Disk.ensures.full.1 long)))
+returns-clause-full g c = rw (← c.self.view_is, ← c.ready.view_is) (λ wrong. absurd (commit_unfull Disk refl wrong), λ long. absurd (commit_unfull c.in-Err-Disk.field-0 c.in-Err-Disk.field-0-is (c.in-Err-Disk.ensures.full.1 long)))
 
 pub returns-clause-node_err : goal.returns-clause-node_err
 returns-clause-node_err g c =

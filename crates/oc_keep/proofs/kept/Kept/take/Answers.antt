@@ -232,7 +232,7 @@ returns-clause-survives g c =
     λ honest. c.in_ok-commit.ensures.survives (later honest)
 
 pub returns-clause-closed : goal.returns-clause-closed
-returns-clause-closed g c =     (λ wrong. absurd (done _ _ wrong), λ shut. absurd (done _ _ (c.in_ok-ready.ensures.closed.1 shut)))
+returns-clause-closed g c = (λ wrong. absurd (done _ _ wrong), λ shut. absurd (done _ _ (c.in_ok-ready.ensures.closed.1 shut)))
 
 pub returns-clause-fits : goal.returns-clause-fits
 returns-clause-fits g c = λ full. absurd (done _ _ (c.in_ok-commit.ensures.full.1 (c.in_ok-ready.ensures.full.1 full)))

@@ -40,7 +40,9 @@ impl<T: Copy> Rows<T> {
     /// This value at each of this many places.
     pub fn new(alloc: Global, count: usize, blank: T) -> Result<Rows<T>, Memory>
         ensures items { IfOk result (λ made. made.items ≡ replicate count blank) }
+        ensures used { IfOk result (λ made. made.used ≡ 0) }
         ensures blank { IfOk result (λ made. made.blank ≡ blank) }
+        ensures room { IfOk result (λ made. count ≤ made.room) }
     {
         Ok(Rows {
             count,
@@ -91,6 +93,7 @@ impl<T: Copy> Rows<T> {
     /// Puts one value at every place. Takes no memory.
     pub fn fill(&mut self, value: T)
         ensures items { self.new.items ≡ replicate (length self.old.items) value }
+        ensures used { self.new.used ≡ 0 }
         ensures blank { self.new.blank ≡ value }
         ensures room { self.new.room ≡ self.old.room }
     {

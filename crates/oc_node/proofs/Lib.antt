@@ -5,6 +5,7 @@ pub mod Looks
 pub mod MergeAll
 pub mod SameIds
 pub mod Drafts
+pub mod Applying
 pub mod ByMode
 pub mod Plans
 pub mod Filling

@@ -14,12 +14,13 @@ use Rattle.oc_base.specs.Groups.{shelf}
 use Rattle.oc_model.specs.Node.{Header, Control, Durable, Node, new_control, new_durable}
 use Rattle.oc_model.specs.Plan.{Plan}
 use Rattle.oc_model.specs.Records.{folded}
-use Rattle.oc_model.specs.Step.{plan, step}
+use Rattle.oc_model.specs.Step.{plan}
 use Rattle.oc_laws_step.specs.Frames.{FitsFrame}
 use Rattle.oc_laws_step.specs.LawfulNode.{IsLawfulControl, IsLawfulNode}
 use Rattle.oc_laws_step.specs.Sound.{IsSound}
-use Rattle.oc_laws_step.proofs.LawfulSteps.{lawful_new, lawful_planned}
+use Rattle.oc_laws_step.proofs.LawfulSteps.{lawful_fits, lawful_new, lawful_planned}
 use Rattle.oc_laws_step.proofs.Soundness.{sound_new, sound_planned}
+use Rattle.oc_laws_step.proofs.Steps.{writes}
 use Rattle.oc_state.specs.DurableView.{IsKept}
 use Rattle.oc_draft.specs.Applying.{CanApply}
 use Rattle.oc_state.specs.declared.volatile.Volatile.{Volatile}
@@ -85,18 +86,16 @@ abbrev node_of : Control → List Shelf → Node
 node_of n ls = record { control = n; groups = groups_of ls }
 
 -- the records fit a frame, since those of a step do
-pub frame_fits : ((nodes : ℕ) (n : Node) (i : Input) → IsInput nodes n.control.me i → IsLawfulNode nodes n → FitsFrame (step n i).records) → (n : Control) (lines : List Shelf) (i : Input) (p : PlanView) → IsReached n → IsShelf lines → IsInput n.nodes n.me i → planned n p ≡ plan n lines i → FitsFrame p.records
-frame_fits law n lines i p reached fair input made =
+pub frame_fits : (n : Control) (lines : List Shelf) (i : Input) (p : PlanView) → IsReached n → IsShelf lines → IsInput n.nodes n.me i → planned n p ≡ plan n lines i → FitsFrame p.records
+frame_fits n lines i p reached fair input made =
     let lawful : IsLawfulNode n.nodes (node_of n lines) = record { control = reached.lawful; shelf = subst (λ (ls : List Shelf). IsShelf ls) (sym (shelf_again lines)) fair } in
-    let fits : FitsFrame (plan n (shelf (groups_of lines)) i).records = law n.nodes (node_of n lines) i input lawful in
+    let fits : FitsFrame (plan n (shelf (groups_of lines)) i).records = lawful_fits n.nodes (node_of n lines) i input lawful in
     let same : p.records ≡ (plan n lines i).records = ap (λ (o : Plan). o.records) made in
     subst (λ (rs : List Record). FitsFrame rs) (ap (λ (ls : List Shelf). (plan n ls i).records) (shelf_again lines) ∙ sym same) fits
 
 -- and the plan writes records or keeps content, since a step does
-pub one_file : ((n : Node) (i : Input) → ((plan n.control (shelf n.groups) i).keeps ≡ None) ⊎ ((step n i).records ≡ [])) → (n : Control) (lines : List Shelf) (i : Input) (p : PlanView) → planned n p ≡ plan n lines i → (p.keeps ≡ None) ⊎ (p.records ≡ [])
-one_file law n lines i p made =
-    let either : ((plan n lines i).keeps ≡ None) ⊎ ((plan n lines i).records ≡ []) = subst (λ (ls : List Shelf). ((plan n ls i).keeps ≡ None) ⊎ ((plan n ls i).records ≡ [])) (shelf_again lines) (law (node_of n lines) i) in
-    subst (λ (o : Plan). (o.keeps ≡ None) ⊎ (o.records ≡ [])) (sym made) either
+pub one_file : (n : Control) (lines : List Shelf) (i : Input) (p : PlanView) → planned n p ≡ plan n lines i → (p.keeps ≡ None) ⊎ (p.records ≡ [])
+one_file n lines i p made = subst (λ (o : Plan). (o.keeps ≡ None) ⊎ (o.records ≡ [])) (sym made) (writes n lines i).one
 
 -- the durable parts after it are those that its records give
 pub plan_folds : (n : Control) (lines : List Shelf) (i : Input) (p : PlanView) → planned n p ≡ plan n lines i → (plan n lines i).node.kept ≡ folded n.kept p.records

@@ -378,9 +378,9 @@ pub(crate) fn took_ack(
 {
     let standing = draft.standing();
     if is_joined_to(standing.mode, from) && seq == standing.seq {
-        let ids = ancestors_by(draft.alloc(), from, above)?;
         take_place(draft, upto)?;
         take_rank(draft, told)?;
+        let ids = ancestors_by(draft.alloc(), from, above)?;
         take_ancestors(draft, ids)
     } else {
         draft.ignore()

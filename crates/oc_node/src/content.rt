@@ -1,7 +1,7 @@
 ghost use Rattle.std.specs.Prelude.{◌≡◌, ◌+◌, ◌≤◌, ◌<◌, ◌^◌, length, OnOk};
 ghost use Rattle.oc_base.specs.Shelves.{IsShelf};
 ghost use Rattle.oc_base.specs.declared.limits.TheConstants.{MAX_GROUP_BYTES, MAX_PUBLISH_BYTES};
-ghost use Rattle.oc_model.specs.Content.{grows, publish_to, published, seal_line, sealed_at, pulled, count_from, wanted, sends_chunk, answers_fetch, fetched, adds_seal, adds, grown_line, asks_on, keeps_chunk, chunk_to, took_chunk};
+ghost use Rattle.oc_model.specs.Content.{grows, publish_to, published, sealed_at, pulled, count_from, wanted, sends_chunk, fetched, adds_seal, adds, grown_line, asks_on, keeps_chunk, chunk_to, took_chunk};
 ghost use Rattle.oc_model.specs.Shelves.{with_line};
 ghost use Rattle.oc_draft.specs.DraftView.{goes};
 
@@ -65,17 +65,10 @@ pub(crate) fn published(
 pub(crate) fn sealed_at(draft: &mut Draft, shelf: &[Shelf], group: &GroupName) -> Result<(), Memory>
     ensures { OnOk result (draft.new ≡ goes draft.old (sealed_at draft.old.step shelf.now group.now)) }
 {
-    if draft.id().0 == 1 {
-        seal_line(draft, &line_of(shelf, group))
-    } else {
-        draft.answer(Answer::NotSource)
+    if draft.id().0 != 1 {
+        return draft.answer(Answer::NotSource);
     }
-}
-
-fn seal_line(draft: &mut Draft, line: &Option<Shelf>) -> Result<(), Memory>
-    ensures { OnOk result (draft.new ≡ goes draft.old (seal_line draft.old.step line.now)) }
-{
-    match line {
+    match line_of(shelf, group) {
         Some(line) => {
             if line.sealed {
                 draft.ignore()
@@ -147,6 +140,7 @@ fn send_chunk(
 }
 
 /// A fetch came, which names what the sender has.
+#[tactic(auto, using(oc_state::proofs::ShelfLines::held_bound))]
 pub(crate) fn fetched(
     draft: &mut Draft,
     shelf: &[Shelf],
@@ -156,23 +150,10 @@ pub(crate) fn fetched(
     requires have { IsShelf have.now }
     ensures { OnOk result (draft.new ≡ goes draft.old (fetched draft.old.step shelf.now from have.now)) }
 {
-    answer_fetch(draft, from, have, &first_behind(have, shelf))
-}
-
-#[tactic(auto, using(oc_state::proofs::ShelfLines::held_bound))]
-fn answer_fetch(
-    draft: &mut Draft,
-    from: NodeId,
-    have: &[Shelf],
-    line: &Option<Shelf>,
-) -> Result<(), Memory>
-    requires have { IsShelf have.now }
-    ensures { OnOk result (draft.new ≡ goes draft.old (answers_fetch draft.old.step from have.now line.now)) }
-{
-    match line {
+    match first_behind(have, shelf) {
         Some(line) => {
             let start = line_at(have, &line.group).held;
-            send_chunk(draft, from, line, start, count_from(line, start))
+            send_chunk(draft, from, &line, start, count_from(&line, start))
         }
         None => Ok(()),
     }
@@ -180,29 +161,39 @@ fn answer_fetch(
 
 // Chunks
 
-/// Whether a chunk closes the group: it is last, the group is open, and the chunk does not end before
-/// held.
-fn adds_seal(line: &Shelf, end: u64, last: bool) -> bool
-    ensures { result ≡ adds_seal line.now end last }
-{
-    last && !line.sealed && line.held <= end
+/// A chunk that came, but for its bytes: the line of its group here, the places where it begins and ends,
+/// and whether it is the last.
+#[derive(Drop)]
+struct Chunk {
+    line: Shelf,
+    start: u64,
+    end: u64,
+    last: bool,
 }
 
-/// Whether there is anything to keep of a chunk that ends here: a new group, a byte or a seal.
-fn adds(shelf: &[Shelf], line: &Shelf, end: u64, last: bool) -> bool
-    ensures { result ≡ adds shelf.now line.now end last }
+/// Whether a chunk closes the group: it is last, the group is open, and the chunk does not end before
+/// held.
+fn adds_seal(chunk: &Chunk) -> bool
+    ensures { result ≡ adds_seal chunk.now.line chunk.now.end chunk.now.last }
 {
-    line_of(shelf, &line.group).is_none() || line.held < end || adds_seal(line, end, last)
+    chunk.last && !chunk.line.sealed && chunk.line.held <= chunk.end
+}
+
+/// Whether there is anything to keep of a chunk: a new group, a byte or a seal.
+fn adds(shelf: &[Shelf], chunk: &Chunk) -> bool
+    ensures { result ≡ adds shelf.now chunk.now.line chunk.now.end chunk.now.last }
+{
+    line_of(shelf, &chunk.line.group).is_none() || chunk.line.held < chunk.end || adds_seal(chunk)
 }
 
 /// The line of the group once what is new in a chunk was kept.
-fn grown_line(line: &Shelf, end: u64, last: bool) -> Shelf
-    ensures { result ≡ grown_line line.now end last }
+fn grown_line(chunk: &Chunk) -> Shelf
+    ensures { result ≡ grown_line chunk.now.line chunk.now.end chunk.now.last }
 {
     Shelf {
-        group: line.group,
-        held: line.held.max(end),
-        sealed: line.sealed || adds_seal(line, end, last),
+        group: chunk.line.group,
+        held: chunk.line.held.max(chunk.end),
+        sealed: chunk.line.sealed || adds_seal(chunk),
     }
 }
 
@@ -231,48 +222,33 @@ fn ask_on(
 }
 
 /// What is new in a chunk is kept, if anything is.
-fn keep_chunk(
-    draft: &mut Draft,
-    shelf: &[Shelf],
-    from: NodeId,
-    line: &Shelf,
-    start: u64,
-    end: u64,
-    last: bool,
-) -> Result<(), Memory>
+fn keep_chunk(draft: &mut Draft, shelf: &[Shelf], from: NodeId, chunk: &Chunk) -> Result<(), Memory>
     requires { IsShelf shelf.now }
-    ensures { OnOk result (draft.new ≡ goes draft.old (keeps_chunk draft.old.step shelf.now from line.now start end last)) }
+    ensures { OnOk result (draft.new ≡ goes draft.old (keeps_chunk draft.old.step shelf.now from chunk.now.line chunk.now.start chunk.now.end chunk.now.last)) }
 {
-    if adds(shelf, line, end, last) {
-        draft.keep(start, adds_seal(line, end, last))?;
+    if adds(shelf, chunk) {
+        draft.keep(chunk.start, adds_seal(chunk))?;
         let mode = draft.standing().mode;
-        ask_on(draft, mode, from, shelf, &grown_line(line, end, last))
+        ask_on(draft, mode, from, shelf, &grown_line(chunk))
     } else {
         draft.ignore()
     }
 }
 
 /// A chunk came for this group.
-fn chunk_to(
-    draft: &mut Draft,
-    shelf: &[Shelf],
-    from: NodeId,
-    line: &Shelf,
-    start: u64,
-    end: u64,
-    last: bool,
-) -> Result<(), Memory>
+fn chunk_to(draft: &mut Draft, shelf: &[Shelf], from: NodeId, chunk: &Chunk) -> Result<(), Memory>
     requires { IsShelf shelf.now }
-    ensures { OnOk result (draft.new ≡ goes draft.old (chunk_to draft.old.step shelf.now from line.now start end last)) }
+    ensures { OnOk result (draft.new ≡ goes draft.old (chunk_to draft.old.step shelf.now from chunk.now.line chunk.now.start chunk.now.end chunk.now.last)) }
 {
-    if line.held < start {
+    let line = &chunk.line;
+    if line.held < chunk.start {
         draft.answer(Answer::Gap)
-    } else if line.sealed && line.held < end {
+    } else if line.sealed && line.held < chunk.end {
         draft.answer(Answer::Sealed)
     } else {
-        match limit(shelf, &line.group, end) {
+        match limit(shelf, &line.group, chunk.end) {
             Some(answer) => draft.answer(answer),
-            None => keep_chunk(draft, shelf, from, line, start, end, last),
+            None => keep_chunk(draft, shelf, from, chunk),
         }
     }
 }
@@ -292,9 +268,13 @@ pub(crate) fn took_chunk(
     ensures { OnOk result (draft.new ≡ goes draft.old (took_chunk draft.old.step shelf.now from group.now start bytes.now last)) }
 {
     if draft.id().0 == 1 {
-        draft.ignore()
-    } else {
-        let end = start + bytes.len() as u64;
-        chunk_to(draft, shelf, from, &line_at(shelf, group), start, end, last)
+        return draft.ignore();
     }
+    let chunk = Chunk {
+        line: line_at(shelf, group),
+        start,
+        end: start + bytes.len() as u64,
+        last,
+    };
+    chunk_to(draft, shelf, from, &chunk)
 }

@@ -23,10 +23,10 @@ use crate::step::take;
 use oc_base::{Memory, NodeId, Rank, Shelf};
 use oc_cert::Table;
 use oc_draft::{Before, Changes, Draft, Plan};
-use oc_laws_step::{folding_is_stepping, lawful_nodes_stay_lawful, snapshots_stand_for_all};
 use oc_measure::Measures;
 use oc_model::{Input, Mode, Record};
 use oc_rows::Rows;
+use oc_state::modes::parent_of;
 use oc_state::{Durable, Standing, Tries, Volatile, touch_all};
 use oc_updown::{ChangeLog, Leases};
 use std::alloc::Global;
@@ -84,17 +84,21 @@ impl Node {
         requires me { IsNode nodes me }
         ensures { IfOk result (λ made. made.control ≡ new_control (record { nodes = nodes; chain = chain; areas = areas.items }) me) }
     {
+        let leases = Leases::new(alloc, nodes)?;
+        let rates = Rows::new(alloc, nodes as usize, 0)?;
+        let counts = Rows::new(alloc, nodes as usize, 0)?;
+        let durable = Durable::new(alloc, nodes)?;
         Ok(Node {
             id: me,
             nodes,
             chain,
             areas,
-            durable: Durable::new(alloc, nodes)?,
+            durable,
             volatile: Volatile::new(),
             tries: Tries::none(alloc),
-            leases: Leases::new(alloc, nodes)?,
-            rates: Rows::new(alloc, nodes as usize, 0)?,
-            counts: Rows::new(alloc, nodes as usize, 0)?,
+            leases,
+            rates,
+            counts,
             alloc,
         })
     }
@@ -133,8 +137,6 @@ impl Node {
         ensures step { IfOk result (λ made. (n : Whole) → HasParts n self.old.control shelf.now → made.wants ≡ None → IsStepOf n input.now made) }
         ensures node { self.new.control ≡ self.old.control }
     {
-        folding_is_stepping();
-        lawful_nodes_stay_lawful();
         let plan = self.draft(input, shelf)?;
         let more = self.nodes as usize + plan.records().len();
         self.durable.reserve(more)?;
@@ -211,7 +213,6 @@ impl Node {
         ensures stands { IfOk result (λ list. (any : State) → length any.measures ≡ self.now.control.nodes → folded any list.items ≡ self.now.control.kept) }
         ensures lawful { IfOk result (λ list. IsCount generation → self.now.control.kept.log.length ≤ MAX_BASE_ACKED → AreRecords self.now.control.nodes list.items) }
     {
-        snapshots_stand_for_all();
         self.durable.snapshot(self.alloc, generation)
     }
 
@@ -248,10 +249,7 @@ impl Node {
     pub fn parent(&self) -> Option<NodeId>
         ensures { result ≡ parent_of self.now.control.kept.mode }
     {
-        match self.mode() {
-            Mode::Joined(parent) => Some(parent),
-            _ => None,
-        }
+        parent_of(self.mode())
     }
 
     /// Where the node stands in the tree.

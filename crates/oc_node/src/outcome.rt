@@ -2,7 +2,7 @@ use oc_model::{Answer, Message};
 use std::marker::Model;
 
 /// What a step answers, and the messages that it sends. Contracts see them as a record with a list.
-#[derive(Debug, Drop)]
+#[derive(Drop)]
 pub struct Outcome {
     pub answer: Answer,
     pub sends: Vec<Message>,

@@ -1,7 +1,7 @@
 ghost use Rattle.std.specs.Prelude.{◌≡◌, IfSome, OnOk};
 ghost use Rattle.oc_base.specs.Lawful.{IsNode};
 ghost use Rattle.oc_model.specs.Plan.{begun};
-ghost use Rattle.oc_model.specs.Serving.{serves, redirects, client_of, client, measured};
+ghost use Rattle.oc_model.specs.Serving.{redirects, client, measured};
 ghost use Rattle.oc_draft.specs.DraftView.{goes};
 ghost use Rattle.oc_draft.specs.Since.{AreTold};
 
@@ -13,17 +13,8 @@ use oc_state::{Touch, Volatile};
 
 // The rules Client and Measured.
 
-/// The node serves this many bytes itself.
-fn serve(draft: &mut Draft, count: u64) -> Result<(), Memory>
-    ensures { OnOk result (draft.new ≡ goes draft.old (serves draft.old.step count)) }
-{
-    let volatile = draft.volatile();
-    let served = volatile.served.saturating_add(1);
-    draft.set_volatile(Volatile { served, ..volatile });
-    draft.answer(Answer::Serve(count))
-}
-
-/// A chain member sends a client on, where it knows a node for it.
+/// A chain member sends a client on, where it knows a node for it. Else the node serves this many bytes
+/// itself.
 fn redirect(draft: &mut Draft, to: Option<NodeId>, count: u64) -> Result<(), Memory>
     requires { IfSome to (λ node. IsNode draft.old.base.nodes node) }
     ensures { OnOk result (draft.new ≡ goes draft.old (redirects to draft.old.step count)) }
@@ -33,20 +24,12 @@ fn redirect(draft: &mut Draft, to: Option<NodeId>, count: u64) -> Result<(), Mem
             draft.touch(Touch::Redirect { node })?;
             draft.answer(Answer::Redirect(node))
         }
-        None => serve(draft, count),
-    }
-}
-
-fn client_of(draft: &mut Draft, line: &Option<Shelf>, area: u8, start: u64) -> Result<(), Memory>
-    requires { draft.old.step ≡ begun draft.old.base }
-    ensures { OnOk result (draft.new ≡ goes draft.old (client_of line.now draft.old.step area start)) }
-{
-    match line {
-        Some(line) => {
-            let node = draft.server_for(area);
-            redirect(draft, node, line.held.saturating_sub(start))
+        None => {
+            let volatile = draft.volatile();
+            let served = volatile.served.saturating_add(1);
+            draft.set_volatile(Volatile { served, ..volatile });
+            draft.answer(Answer::Serve(count))
         }
-        None => draft.answer(Answer::NoGroup),
     }
 }
 
@@ -61,7 +44,13 @@ pub(crate) fn client(
     requires { draft.old.step ≡ begun draft.old.base }
     ensures { OnOk result (draft.new ≡ goes draft.old (client draft.old.step shelf.now area start group.now)) }
 {
-    client_of(draft, &line_of(shelf, group), area, start)
+    match line_of(shelf, group) {
+        Some(line) => {
+            let node = draft.server_for(area);
+            redirect(draft, node, line.held.saturating_sub(start))
+        }
+        None => draft.answer(Answer::NoGroup),
+    }
 }
 
 /// What was measured of a peer is kept.

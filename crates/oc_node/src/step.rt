@@ -21,7 +21,6 @@ use oc_model::{Body, Input};
 // The control step, which sees of the content the shelf alone.
 
 /// A message came.
-#[tactic(auto, using(crate::proofs::Drafts::begun_told, crate::proofs::Drafts::begun_table, crate::proofs::Drafts::begun_log))]
 fn receive(draft: &mut Draft, shelf: &[Shelf], from: NodeId, body: &Body) -> Result<(), Memory>
     requires begun { draft.old.step ≡ begun draft.old.base }
     requires shelf { IsShelf shelf.now }
@@ -88,7 +87,6 @@ fn receive(draft: &mut Draft, shelf: &[Shelf], from: NodeId, body: &Body) -> Res
 }
 
 /// An input came.
-#[tactic(auto, using(crate::proofs::Drafts::begun_told))]
 pub(crate) fn take(draft: &mut Draft, shelf: &[Shelf], input: &Input) -> Result<(), Memory>
     requires begun { draft.old.step ≡ begun draft.old.base }
     requires reached { IsReached draft.old.base }

@@ -1,4 +1,4 @@
-use Rattle.std.proofs.Common.{◌≡◌, ℕ, ◌+◌, ◌≤◌, List, length, ap, subst, ◌∙◌}
+use Rattle.std.proofs.Common.{◌≡◌, ℕ, ◌+◌, ◌≤◌, List, length, ap, sym, subst, ◌∙◌}
 use Rattle.oc_model.specs.declared.record.Record.{Record}
 use Rattle.oc_model.specs.Node.{Durable}
 use Rattle.oc_laws_step.specs.Frames.{FitsFrame}
@@ -6,16 +6,41 @@ use Rattle.oc_draft.specs.NodeView.{NodeView, IsReached, control_of}
 use Rattle.oc_state.specs.Volatile.{soft_of}
 use Rattle.oc_node.proofs.Filling.{plan_of_whole, step_of_none}
 use Rattle.oc_node.proofs.Plans.{plan_wants}
-use Rattle.oc_node.proofs.Reaching.{frame_fits, one_file, plan_applies}
+use Rattle.oc_node.proofs.Reaching.{frame_fits, one_file, plan_applies, plan_folds}
 use Rattle.oc_node.proofs.node.Node.plan.Goals as goal
+
+pub invariant_of-self : goal.invariant_of-self
+invariant_of-self c =
+    let n = c.self.inside in (
+      c.reserve.ensures.nodes ∙ c.self.invariant.0,
+      subst (λ (d : Durable). IsReached (control_of n.id n.nodes n.chain n.areas.items d (soft_of n.volatile n.tries) n.leases.ends n.rates.items n.counts.items)) (sym c.reserve.ensures.kept) c.self.invariant.1,
+    )
+
+pub invariant_of-self-2 : goal.invariant_of-self-2
+invariant_of-self-2 c =
+    let n = c.self.inside in (
+      c.reserve.ensures.nodes ∙ c.self.invariant.0,
+      subst (λ (d : Durable). IsReached (control_of n.id n.nodes n.chain n.areas.items d (soft_of n.volatile n.tries) n.leases.ends n.rates.items n.counts.items)) (sym c.reserve.ensures.kept) c.self.invariant.1,
+    )
+
+pub returns-clause-plan : goal.returns-clause-plan
+returns-clause-plan c = c.in_ok-plan.ensures.plan
+
+pub returns-clause-node : goal.returns-clause-node
+returns-clause-node c =
+    let n = c.self.inside in
+    ap (λ (d : Durable). control_of n.id n.nodes n.chain n.areas.items d (soft_of n.volatile n.tries) n.leases.ends n.rates.items n.counts.items) c.reserve.ensures.kept ∙ ap (λ (v : NodeView). v.control) c.self.view_is
+
+pub returns-clause-folds : goal.returns-clause-folds
+returns-clause-folds c = plan_folds c.args.self.now.control c.args.shelf.now c.args.input.now c.in_ok-plan.plan c.in_ok-plan.ensures.plan
 
 pub returns-clause-frame : goal.returns-clause-frame
 returns-clause-frame c =
     let reached : IsReached c.args.self.now.control = subst (λ (v : NodeView). IsReached v.control) c.self.view_is c.self.invariant.1 in
-    frame_fits c.lawful_nodes_stay_lawful.ensures.frame c.args.self.now.control c.args.shelf.now c.args.input.now c.in_ok-plan.plan reached c.requires.shelf c.requires.input c.in_ok-plan.ensures.plan
+    frame_fits c.args.self.now.control c.args.shelf.now c.args.input.now c.in_ok-plan.plan reached c.requires.shelf c.requires.input c.in_ok-plan.ensures.plan
 
 pub returns-clause-one_file : goal.returns-clause-one_file
-returns-clause-one_file c = one_file c.folding_is_stepping.ensures.one_file c.args.self.now.control c.args.shelf.now c.args.input.now c.in_ok-plan.plan c.in_ok-plan.ensures.plan
+returns-clause-one_file c = one_file c.args.self.now.control c.args.shelf.now c.args.input.now c.in_ok-plan.plan c.in_ok-plan.ensures.plan
 
 pub returns-clause-whole : goal.returns-clause-whole
 returns-clause-whole c = λ n. plan_of_whole n c.args.self.now.control c.args.shelf.now c.args.input.now c.in_ok-plan.plan c.in_ok-plan.ensures.plan
@@ -32,7 +57,7 @@ returns-clause-applies c =
     let p = c.in_ok-plan.plan in
     let kept = c.reserve.new.self.kept in
     let reached : IsReached c.args.self.now.control = subst (λ (v : NodeView). IsReached v.control) c.self.view_is c.self.invariant.1 in
-    let fits : FitsFrame p.records = frame_fits c.lawful_nodes_stay_lawful.ensures.frame c.args.self.now.control c.args.shelf.now c.args.input.now p reached c.requires.shelf c.requires.input c.in_ok-plan.ensures.plan in
+    let fits : FitsFrame p.records = frame_fits c.args.self.now.control c.args.shelf.now c.args.input.now p reached c.requires.shelf c.requires.input c.in_ok-plan.ensures.plan in
     let same : control_of n.id n.nodes n.chain n.areas.items kept (soft_of n.volatile n.tries) n.leases.ends n.rates.items n.counts.items ≡ c.args.self.now.control =
     ap (λ (d : Durable). control_of n.id n.nodes n.chain n.areas.items d (soft_of n.volatile n.tries) n.leases.ends n.rates.items n.counts.items) c.reserve.ensures.kept ∙ ap (λ (v : NodeView). v.control) c.self.view_is in
     let nodes : n.nodes ≡ c.args.self.now.control.nodes = ap (λ (v : NodeView). v.control.nodes) c.self.view_is in

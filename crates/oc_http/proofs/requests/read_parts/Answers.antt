@@ -1,4 +1,4 @@
-use Rattle.std.proofs.Common.{◌≡◌, ap, ◌∙◌, subst, Ok, Err}
+use Rattle.std.proofs.Common.{◌≡◌, refl, ap, ◌∙◌, subst, Ok, Err}
 use Rattle.std.proofs.lemmas.Result.{err_from_is_err_and}
 use Rattle.oc_http.specs.Fields.{fault_or}
 use Rattle.oc_http.specs.Requests.{head_of, head_fault}
@@ -22,4 +22,4 @@ returns c =
     let head = head_of c.args.method.now c.args.target.now c.args.minor c.args.fields.now in
     let said = fault_or-ok _ head _ _ (c.in_ok-length.ensures ∙ length_is c.verb_of-method.result c.args.minor c.args.fields.now) in
     let texts = c.in_ok-path.ensures in
-    subst (λ (v : Verb). fault_or head (head_fault v c.args.minor c.args.fields.now) ≡ Ok head) c.verb_of-method.ensures said.1 ∙ ap Ok (cc (texts.0, texts.1, said.0))
+    subst (λ (v : Verb). fault_or head (head_fault v c.args.minor c.args.fields.now) ≡ Ok head) c.verb_of-method.ensures said.1 ∙ ap Ok (rw (texts.0, texts.1, c.verb_of-method.ensures, c.expects.ensures, c.closes.ensures, ← said.0) refl)

@@ -1,10 +1,10 @@
 -- A head for a reader of whole messages: what it says to a reader that understands chunks, save what is left to refuse.
-use Rattle.std.proofs.Common.{◌≡◌, ℕ, Bool, true, false, cond, List, [], ◌∷◌, length, Option, Some, None, Result, Ok, Err, codes, refl, ap, ◌∙◌, subst}
+use Rattle.std.proofs.Common.{◌≡◌, ℕ, Bool, true, false, cond, List, [], ◌∷◌, length, Option, Some, None, Ok, Err, codes, refl, ap, ◌∙◌, subst}
 use Rattle.std.specs.Prelude.{IsErrOf, ◌&&◌, not, nat_lt, unwrap_or}
 use Rattle.httparse.specs.Grammar.{ResponseHead, ReadsResponse, status_code}
 use Rattle.oc_base.specs.declared.limits.TheConstants.{MAX_FIELDS, MAX_BODY_BYTES}
-use Rattle.oc_http.specs.Fields.{Named, named, fault_or, is_only, is_present, is_unusable, length_of, codings, lengths}
-use Rattle.oc_http.specs.Responses.{reply_head_fault, reply_fault, whole_fault, reply_head_of, read_reply_head, read_reply_start}
+use Rattle.oc_http.specs.Fields.{named, fault_or, is_only, is_present, is_unusable, length_of, codings, lengths}
+use Rattle.oc_http.specs.Responses.{reply_head_fault, whole_fault, reply_head_of, read_reply_head, read_reply_start}
 use Rattle.oc_http.specs.Taking.{Took, SaysReplyHead, RefusesReplyHead, SaysReplyStart, RefusesReplyStart}
 use Rattle.oc_http.specs.declared.fault.HttpFault.{HttpFault}
 use Rattle.oc_http.specs.declared.fault.HttpFault.TheVariants.{Source, Ended, Head, HeadLong, Fields, Coding, Length, BodyLong, Memory}

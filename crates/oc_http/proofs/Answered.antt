@@ -5,7 +5,7 @@ use Rattle.oc_base.specs.declared.limits.TheConstants.{MAX_HEAD_BYTES, MAX_FIELD
 use Rattle.oc_http.specs.Fields.{Named, named, fault_or, is_present, is_unusable, length_of, hosts, codings, lengths}
 use Rattle.oc_http.specs.Gives.{Gives}
 use Rattle.oc_http.specs.Requests.{read_request, head_fault, verb_of, is_post, has_host_fault}
-use Rattle.oc_http.specs.Responses.{read_reply_head, read_reply_start, reply_head_fault, reply_fault, is_chunked}
+use Rattle.oc_http.specs.Responses.{read_reply_head, reply_head_fault, is_chunked}
 use Rattle.oc_http.specs.Taking.{Took, IsAnswered, StopsInHead, RefusesHead}
 use Rattle.oc_http.specs.declared.fault.HttpFault.{HttpFault}
 use Rattle.oc_http.specs.declared.fault.HttpFault.TheVariants.{Source, Ended, Head, HeadLong, Fields, Host, Coding, Length, BodyLong, Memory}
@@ -26,14 +26,16 @@ abbrev pub RefusesFields : {H A : Type 0} → (H → Result A HttpFault) → Typ
 RefusesFields {H} read = (head : H) (fault : HttpFault) → read head ≡ Err fault → IsFieldFault fault
 
 -- a fault of an if-chain is that of the first test that passes, or of the rest
-chain : (b : Bool) (first : HttpFault) (rest : Option HttpFault) (fault : HttpFault) → IsFieldFault first → (rest ≡ Some fault → IsFieldFault fault) → cond b (Some first) rest ≡ Some fault → IsFieldFault fault
+pub chain : (b : Bool) (first : HttpFault) (rest : Option HttpFault) (fault : HttpFault) → IsFieldFault first → (rest ≡ Some fault → IsFieldFault fault) → cond b (Some first) rest ≡ Some fault → IsFieldFault fault
 chain true first rest fault good later h = let e : first ≡ fault = cc in subst IsFieldFault e good
 chain false first rest fault good later h = later h
 
-none : (fault : HttpFault) → None ≡ Some fault → IsFieldFault fault
+-- there is no fault
+pub none : (fault : HttpFault) → None ≡ Some fault → IsFieldFault fault
 none fault h = cc
 
-first_fault : {A : Type 0} (value : A) (first : Option HttpFault) (fault : HttpFault) → fault_or value first ≡ Err fault → first ≡ Some fault
+-- what is no value is the first fault
+pub first_fault : {A : Type 0} (value : A) (first : Option HttpFault) (fault : HttpFault) → fault_or value first ≡ Err fault → first ≡ Some fault
 first_fault value None fault h = cc
 first_fault value (Some first) fault h = cc
 
@@ -52,21 +54,11 @@ reply_head_fault-field fields fault =
     (chain (is_present (codings fields) && not (is_chunked fields)) (Coding (is_present (lengths fields))) _ fault (tt {0})
     (chain (is_unusable (lengths fields)) (Length false) None fault (tt {0}) (none fault)))
 
-reply_fault-field : (fields : List Named) (fault : HttpFault) → reply_fault fields ≡ Some fault → IsFieldFault fault
-reply_fault-field fields fault =
-    chain (nat_lt MAX_FIELDS (length fields)) Fields _ fault (tt {0})
-    (chain (is_present (codings fields)) (Coding (is_present (lengths fields))) _ fault (tt {0})
-    (chain (is_unusable (lengths fields)) (Length false) _ fault (tt {0})
-    (chain (nat_lt MAX_BODY_BYTES (unwrap_or (length_of (lengths fields)) 0)) BodyLong None fault (tt {0}) (none fault))))
-
 pub request_fields : RefusesFields read_request
 request_fields head fault h = head_fault-field (verb_of head.method) head.minor (named head.fields) fault (first_fault _ _ fault h)
 
 pub reply_head_fields : RefusesFields read_reply_head
 reply_head_fields head fault h = reply_head_fault-field (named head.fields) fault (first_fault _ _ fault h)
-
-pub reply_start_fields : RefusesFields read_reply_start
-reply_start_fields head fault h = reply_fault-field (named head.fields) fault (first_fault _ _ fault h)
 
 -- what was read is what the head says
 pub says : {S H A : Type 0} (gives : S → List ℕ → S → Type 0) (Reads : List ℕ → H → List ℕ → Type 0) (read : H → Result A HttpFault) (old new : S) (bytes : List ℕ) (head : H) (answer : Result A HttpFault) → gives old bytes new → Reads bytes head [] → length bytes ≤ MAX_HEAD_BYTES → Gives answer (read head) → IfOk answer (λ value. (taken : List ℕ) × gives old taken new × IsAnswered Reads read taken (Ok value))
@@ -74,7 +66,7 @@ says gives Reads read old new bytes head (Ok value) came whole fits said = (byte
 says gives Reads read old new bytes head (Err fault) came whole fits said = tt
 
 -- a fault of a whole head is the answer to it
-refusal : {S H A : Type 0} (gives fails : S → List ℕ → S → Type 0) (Reads : List ℕ → H → List ℕ → Type 0) (read : H → Result A HttpFault) (old new : S) (done : Type 0) (bytes : List ℕ) (head : H) → gives old bytes new → Reads bytes head [] → length bytes ≤ MAX_HEAD_BYTES → (fault : HttpFault) → IsFieldFault fault → read head ≡ Err fault → (taken : List ℕ) × Took gives fails old taken new fault × RefusesHead Reads read taken done fault
+pub refusal : {S H A : Type 0} (gives fails : S → List ℕ → S → Type 0) (Reads : List ℕ → H → List ℕ → Type 0) (read : H → Result A HttpFault) (old new : S) (done : Type 0) (bytes : List ℕ) (head : H) → gives old bytes new → Reads bytes head [] → length bytes ≤ MAX_HEAD_BYTES → (fault : HttpFault) → IsFieldFault fault → read head ≡ Err fault → (taken : List ℕ) × Took gives fails old taken new fault × RefusesHead Reads read taken done fault
 refusal gives fails Reads read old new done bytes head came whole fits Fields good said = (bytes, came, record { head = head; whole = whole; fits = fits; answer_is = said })
 refusal gives fails Reads read old new done bytes head came whole fits Host good said = (bytes, came, record { head = head; whole = whole; fits = fits; answer_is = said })
 refusal gives fails Reads read old new done bytes head came whole fits (Coding both) good said = (bytes, came, record { head = head; whole = whole; fits = fits; answer_is = said })

@@ -1,6 +1,7 @@
 -- Values, or first faults.
-use Rattle.std.proofs.Common.{◌≡◌, Option, Some, None, Result, Ok, Err, refl, ap}
+use Rattle.std.proofs.Common.{◌≡◌, ℕ, inl, inr, arith, Option, Some, None, Result, Ok, Err, refl, ap}
 use Rattle.std.specs.Prelude.{IsErrOf}
+use Rattle.oc_io.specs.Faults.{NoFall, Rose}
 use Rattle.oc_http.specs.Fields.{fault_or}
 use Rattle.oc_http.specs.Gives.{Gives, Fails}
 use Rattle.oc_http.specs.declared.fault.HttpFault.{HttpFault}
@@ -29,3 +30,8 @@ Gives-same (Err fault) said h = Fails-same fault said h
 -- a fault has its cause whatever else there was to give
 pub same_cause : {A B R : Type 0} (fault cause : HttpFault) → (IsErrOf {T = A} (Err fault) cause → R) → IsErrOf {T = B} (Err fault) cause → R
 same_cause fault cause told is = let same : fault ≡ cause = cc in told (ap Err same)
+
+-- a count that rose at the end rose in all
+pub Rose-later : (a b c : ℕ) → NoFall a b → Rose b c → Rose a c
+Rose-later a b c less (inl h) = inl (omega (arith, less, h))
+Rose-later a b c less (inr h) = inr h

@@ -12,4 +12,6 @@ pub mod Tests
 pub mod Written
 pub mod Answered
 pub mod OneReply
+pub mod Lengths
+pub mod Wholes
 pub mod Parts

@@ -1,5 +1,5 @@
 -- Where the lines of a text end.
-use Rattle.std.proofs.Common.{◌≡◌, ℕ, ◌<◌, ◌⊎◌, inl, inr, List, [], ◌∷◌, ◌++◌, sym, arith}
+use Rattle.std.proofs.Common.{◌≡◌, ℕ, ◌<◌, ◌⊎◌, inl, inr, List, [], ◌∷◌, ◌++◌, length, sym, ap, arith, length-append}
 use Rattle.std.specs.List.{AllByRecursion}
 use Rattle.httparse.specs.Ascii.{line_feed}
 use Rattle.oc_http.specs.Lines.{HasNoLineEnd}
@@ -12,6 +12,10 @@ ended line = line ++ line_feed ∷ []
 pub ended-some : (line rest : List ℕ) → ended line ++ rest ≡ [] → ⊥
 ended-some [] rest h = cc
 ended-some (b ∷ line) rest h = cc
+
+-- a line that came makes bytes longer
+pub longer : (before line after : List ℕ) → after ≡ before ++ ended line → length before < length after
+longer before line after grown = omega (arith, ap length grown, length-append before (ended line), length-append line (line_feed ∷ []))
 
 -- what ends a line at the front of bytes with a line that has not ended stands before that line
 pub ends_before : (line rest before piece : List ℕ) → HasNoLineEnd piece → ended line ++ rest ≡ before ++ piece → (behind : List ℕ) × (before ≡ ended line ++ behind)

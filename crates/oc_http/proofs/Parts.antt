@@ -19,19 +19,24 @@ pub request_joined : (first name end type count close host digits body one two t
     one ++ (host ++ (two ++ (digits ++ (three ++ (body ++ []))))) ≡ (first ++ (name ++ host ++ end) ++ type ++ (count ++ digits ++ end) ++ close ++ end) ++ body
 request_joined first name end type count close host digits body one two three a b c = rw (a, b, c) (simp (append_assoc, append-nil))
 
--- a GET request in parts
-pub get_joined : (get target version name host end close two : List ℕ) → two ≡ version ++ name →
-    get ++ (target ++ (two ++ (host ++ (end ++ (close ++ (end ++ [])))))) ≡ get ++ target ++ version ++ (name ++ host ++ end) ++ close ++ end
-get_joined get target version name host end close two a = rw a (simp (append_assoc, append-nil))
+-- a download's request in parts
+pub get_joined : (get path mark query version name host end close target two three : List ℕ) → two ≡ version ++ name → three ≡ end ++ close ++ end → target ≡ mark ++ query →
+    get ++ (path ++ (mark ++ (query ++ (two ++ (host ++ (three ++ [])))))) ≡ get ++ (path ++ target) ++ version ++ (name ++ host ++ end) ++ close ++ end
+get_joined get path mark query version name host end close target two three a b c = rw (a, b, c) (simp (append_assoc, append-nil))
+
+-- the same of one that follows a group
+pub follow_joined : (get path start digits follow mark area version name host end close target two three : List ℕ) → two ≡ version ++ name → three ≡ end ++ close ++ end → target ≡ mark ++ area →
+    get ++ (path ++ (start ++ (digits ++ (follow ++ (mark ++ (area ++ (two ++ (host ++ (three ++ []))))))))) ≡ get ++ (path ++ start ++ digits ++ follow ++ target) ++ version ++ (name ++ host ++ end) ++ close ++ end
+follow_joined get path start digits follow mark area version name host end close target two three a b c = rw (a, b, c) (simp (append_assoc, append-nil))
 
 -- a reply's head in parts
-head_joined : (v d s p e l1 l2 l3 a r1 r2 r3 t c1 c2 c3 k : List ℕ) →
-    v ++ (d ++ (s ++ (p ++ (e ++ (l1 ++ (l2 ++ (l3 ++ (a ++ (r1 ++ (r2 ++ (r3 ++ (t ++ (c1 ++ (c2 ++ (c3 ++ (k ++ (e ++ []))))))))))))))))) ≡ (v ++ d ++ s ++ p ++ e) ++ (l1 ++ l2 ++ l3) ++ a ++ (r1 ++ r2 ++ r3) ++ t ++ (c1 ++ c2 ++ c3) ++ k ++ e
-head_joined v d s p e l1 l2 l3 a r1 r2 r3 t c1 c2 c3 k = simp (append_assoc, append-nil)
+head_joined : (v d s n e l1 l2 l3 a r1 r2 r3 t c1 c2 c3 k : List ℕ) →
+    v ++ (d ++ ((s ++ n ++ e) ++ (l1 ++ (l2 ++ (l3 ++ (a ++ (r1 ++ (r2 ++ (r3 ++ (t ++ (c1 ++ (c2 ++ (c3 ++ ((k ++ e) ++ [])))))))))))))) ≡ (v ++ d ++ s ++ n ++ e) ++ (l1 ++ l2 ++ l3) ++ a ++ (r1 ++ r2 ++ r3) ++ t ++ (c1 ++ c2 ++ c3) ++ k ++ e
+head_joined v d s n e l1 l2 l3 a r1 r2 r3 t c1 c2 c3 k = simp (append_assoc, append-nil)
 
 -- the same with the lines that the parts make
 pub head_is : (v d s p e l1 l2 l3 a r1 r2 r3 t c1 c2 c3 k number phrase location allow rule type content connection : List ℕ) →
-    d ≡ number → p ≡ phrase → l1 ++ l2 ++ l3 ≡ location → a ≡ allow → r1 ++ r2 ++ r3 ≡ rule → t ≡ type → c1 ++ c2 ++ c3 ≡ content → k ≡ connection →
-    v ++ (d ++ (s ++ (p ++ (e ++ (l1 ++ (l2 ++ (l3 ++ (a ++ (r1 ++ (r2 ++ (r3 ++ (t ++ (c1 ++ (c2 ++ (c3 ++ (k ++ (e ++ []))))))))))))))))) ≡ (v ++ number ++ s ++ phrase ++ e) ++ location ++ allow ++ rule ++ type ++ content ++ connection ++ e
+    d ≡ number → p ≡ s ++ phrase ++ e → l1 ++ l2 ++ l3 ≡ location → a ≡ allow → r1 ++ r2 ++ r3 ≡ rule → t ≡ type → c1 ++ c2 ++ c3 ≡ content → k ≡ connection ++ e →
+    v ++ (d ++ (p ++ (l1 ++ (l2 ++ (l3 ++ (a ++ (r1 ++ (r2 ++ (r3 ++ (t ++ (c1 ++ (c2 ++ (c3 ++ (k ++ [])))))))))))))) ≡ (v ++ number ++ s ++ phrase ++ e) ++ location ++ allow ++ rule ++ type ++ content ++ connection ++ e
 head_is v d s p e l1 l2 l3 a r1 r2 r3 t c1 c2 c3 k number phrase location allow rule type content connection e1 e2 e3 e4 e5 e6 e7 e8 =
-    head_joined v d s p e l1 l2 l3 a r1 r2 r3 t c1 c2 c3 k ∙ rw (e1, e2, e3, e4, e5, e6, e7, e8)
+    rw (e2, e8) (head_joined v d s phrase e l1 l2 l3 a r1 r2 r3 t c1 c2 c3 connection ∙ rw (e1, e3, e4, e5, e6, e7))

@@ -7,7 +7,7 @@ use Rattle.std.specs.Str.Parse.{digits_value}
 use Rattle.httparse.specs.Grammar.{Field, trim_ows}
 use Rattle.httparse.specs.Spans.{name_and_value}
 use Rattle.oc_http.specs.declared.fault.HttpFault.{HttpFault}
-use Rattle.oc_http.specs.declared.fault.HttpFault.TheVariants.{Length}
+use Rattle.oc_http.specs.declared.fault.HttpFault.TheVariants.{Coding, Length}
 
 -- a field: its name, and its value without the spaces and tabs at both ends
 abbrev pub Named : Type 0
@@ -88,6 +88,10 @@ length_of (value ∷ more) = Some (digits_value 10 value)
 -- the length that the fields tell, if it is usable
 abbrev pub told_length : List (List ℕ) → Result (Option ℕ) HttpFault
 told_length values = if is_unusable values then Err (Length false) else Ok (length_of values)
+
+-- a transfer coding is refused first, then a length that is not just one number
+abbrev pub checked_length : List (List ℕ) → List (List ℕ) → Result (Option ℕ) HttpFault
+checked_length codings lengths = if is_present codings then Err (Coding (is_present lengths)) else told_length lengths
 
 -- some part of a list at commas is `close`
 abbrev pub lists_close : List ℕ → Bool

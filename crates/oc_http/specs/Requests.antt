@@ -1,10 +1,11 @@
 -- What the head of a request says, and which faults it has.
-use Rattle.std.specs.Prelude.{ℕ, Bool, true, false, not, ◌&&◌, ◌||◌, ◌==◌, nat_lt, if◌then◌else◌, Option, Some, None, unwrap_or, Result, List, length, take, drop, codes}
+use Rattle.std.specs.Prelude.{ℕ, Bool, true, false, not, ◌&&◌, ◌||◌, ◌==◌, nat_lt, if◌then◌else◌, Option, Some, None, unwrap_or, Result, Ok, Err, List, length, take, drop, codes}
 use Rattle.std.specs.List.{before_first, after_first, position}
 use Rattle.std.specs.Str.{byte, bytes_eq}
 use Rattle.httparse.specs.Grammar.{RequestHead}
+use Rattle.oc_base.specs.Steps.{◌>>=◌}
 use Rattle.oc_base.specs.declared.limits.TheConstants.{MAX_FIELDS, MAX_BODY_BYTES}
-use Rattle.oc_http.specs.Fields.{Named, named, fault_or, is_alike, is_present, is_repeated, is_only, is_unusable, length_of, hosts, codings, lengths, expectations, closes}
+use Rattle.oc_http.specs.Fields.{Named, named, fault_or, is_alike, is_present, is_repeated, is_only, is_unusable, length_of, checked_length, hosts, codings, lengths, expectations, closes}
 use Rattle.oc_http.specs.declared.fault.HttpFault.{HttpFault}
 use Rattle.oc_http.specs.declared.fault.HttpFault.TheVariants as faults
 use Rattle.oc_http.specs.declared.head.Head.{Head}
@@ -65,6 +66,18 @@ head_fault verb minor fields =
     else if is_post verb && not (is_present (lengths fields)) then Some (faults.Length true)
     else if nat_lt MAX_BODY_BYTES (unwrap_or (length_of (lengths fields)) 0) then Some faults.BodyLong
     else None
+
+-- the length that is told, 0 where none is; one that is wanted and missing, or too great, is a fault
+abbrev pub wanted_length : Bool → Option ℕ → Result ℕ HttpFault
+wanted_length wanted None = if wanted then Err (faults.Length true) else Ok 0
+wanted_length wanted (Some count) = if nat_lt MAX_BODY_BYTES count then Err faults.BodyLong else Ok count
+
+-- the length of a request's body, or the first fault of the head, test by test
+abbrev pub body_length : Verb → ℕ → List Named → Result ℕ HttpFault
+body_length verb minor fields =
+    if nat_lt MAX_FIELDS (length fields) then Err faults.Fields
+    else if has_host_fault minor (hosts fields) then Err faults.Host
+    else (checked_length (codings fields) (lengths fields) >>= wanted_length (is_post verb))
 
 -- a request of version 1.1 waits for 100 Continue before it sends the body
 abbrev pub expects : ℕ → List Named → Bool

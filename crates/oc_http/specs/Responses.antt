@@ -29,6 +29,13 @@ reply_fault fields =
     else if nat_lt MAX_BODY_BYTES (unwrap_or (length_of (lengths fields)) 0) then Some faults.BodyLong
     else None
 
+-- the fault that is left for a reader of whole messages to a head that has no other
+abbrev pub whole_fault : ReplyHead → Option HttpFault
+whole_fault head =
+    if head.chunked then Some (faults.Coding false)
+    else if nat_lt MAX_BODY_BYTES (unwrap_or head.length 0) then Some faults.BodyLong
+    else None
+
 -- what the head of a response says
 abbrev pub reply_head_of : ℕ → List Named → ReplyHead
 reply_head_of status fields = record {

@@ -102,6 +102,10 @@ abbrev pub phrase_or_none : Option (List ℕ) → List ℕ
 phrase_or_none None = []
 phrase_or_none (Some text) = text
 
+-- what a status is called, between the space before it and the end of its line
+abbrev pub phrase_text : ℕ → List ℕ
+phrase_text status = codes " " ++ phrase_or_none (phrase status) ++ line_end
+
 -- `HTTP/1.1 CODE PHRASE`
 abbrev pub status_line : ℕ → List ℕ
 status_line status = codes "HTTP/1.1 " ++ decimal status ++ codes " " ++ phrase_or_none (phrase status) ++ line_end
@@ -133,6 +137,10 @@ framing_line framings.Chunked = codes "Transfer-Encoding: chunked\r\n"
 -- the same, save of a 204, which has no content
 abbrev pub content_line : ℕ → Framing → List ℕ
 content_line status framing = if status == 204 then [] else framing_line framing
+
+-- the last lines of a head, of which one is empty
+abbrev pub head_end : Connection → List ℕ
+head_end connection = connection_line connection ++ line_end
 
 -- the head of a reply, with the empty line that ends it
 abbrev pub head_text : Reply → Framing → Connection → List ℕ

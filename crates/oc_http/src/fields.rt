@@ -1,9 +1,9 @@
 //! The fields of a head.
 
 ghost use Rattle.std.specs.List.{AllByRecursion};
-ghost use Rattle.std.specs.Prelude.{◌≡◌, [], ◌∷◌, ◌<◌, map, length, codes, IfSome, IfNone, IsTrue, false, Err};
+ghost use Rattle.std.specs.Prelude.{◌≡◌, [], ◌∷◌, ◌<◌, map, length, codes, IfSome, IfNone};
 ghost use Rattle.httparse.specs.Spans.{header_bytes, IsHeaderWithin};
-ghost use Rattle.oc_http.specs.Fields.{values, closes, lists_close, is_only, is_present, codings, lengths, told_length};
+ghost use Rattle.oc_http.specs.Fields.{values, closes, lists_close, is_only, is_present, codings, lengths, told_length, checked_length};
 ghost use Rattle.oc_http.specs.Found.{IsFound};
 
 use crate::fault::HttpFault;
@@ -106,8 +106,7 @@ impl<'a> Fields<'a> {
     /// The number of Content-Length, `None` where there is none. A transfer coding is refused first, then
     /// a length that is not just one number.
     pub(crate) fn checked_length(&self) -> Result<Option<u64>, HttpFault>
-        ensures coding { IsTrue (is_present (codings self.now)) → result ≡ Err (HttpFault.Coding (is_present (lengths self.now))) }
-        ensures length { is_present (codings self.now) ≡ false → result ≡ told_length (lengths self.now) }
+        ensures { result ≡ checked_length (codings self.now) (lengths self.now) }
     {
         if self.is_present("transfer-encoding") {
             return Err(HttpFault::Coding {

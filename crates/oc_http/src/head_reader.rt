@@ -8,7 +8,7 @@ use crate::fault::HttpFault;
 use crate::head::Head;
 use crate::reply::{Reply, ReplyHead};
 use crate::requests::read_request;
-use crate::responses::{body_length, read_response_head, read_response_start};
+use crate::responses::{body_length, read_response_head, whole_fault};
 use crate::taking::{FIELD_ROOM, take_request, take_response};
 use httparse::spans::{EMPTY_HEADER_SPAN, HeaderSpan};
 use oc_base::{Bytes, MAX_HEAD_BYTES, Memory};
@@ -93,7 +93,10 @@ impl HeadReader {
         ensures count { NoFall (S.faults source.old) (S.faults source.new) }
         ensures cause { IsErrOf result HttpFault.Source → Rose (S.faults source.old) (S.faults source.new) }
     {
-        let parts = take_response(source, &mut self.bytes, &mut self.spans)?;
-        read_response_start(self.alloc, &self.bytes, &self.spans, parts)
+        let head = self.read_response_head(source)?;
+        match whole_fault(&head) {
+            None => Ok(head),
+            Some(fault) => Err(fault),
+        }
     }
 }

@@ -1,9 +1,9 @@
 //! What the head of a request says.
 
-ghost use Rattle.std.specs.Prelude.{◌≡◌, [], unwrap_or};
+ghost use Rattle.std.specs.Prelude.{◌≡◌, [], IfOk};
 ghost use Rattle.httparse.specs.Grammar.{ReadsRequest, RequestHead};
-ghost use Rattle.oc_http.specs.Fields.{is_unusable, length_of, lengths, hosts, codings, is_present, fault_or};
-ghost use Rattle.oc_http.specs.Requests.{verb_of, is_absolute, from_slash, origin_form, path_of, query_of, has_host_fault, head_fault, expects, read_request, read_request_parts};
+ghost use Rattle.oc_http.specs.Fields.{hosts};
+ghost use Rattle.oc_http.specs.Requests.{verb_of, is_absolute, from_slash, origin_form, path_of, query_of, has_host_fault, is_post, wanted_length, body_length, expects, read_request, read_request_parts};
 ghost use Rattle.oc_http.specs.Lines.{IsRequestTaken};
 ghost use Rattle.oc_http.specs.Gives.{Gives};
 
@@ -13,7 +13,7 @@ use crate::found::Found;
 use crate::head::{Head, Verb};
 use crate::text::{copy, cut_at_first, is_alike, place_of};
 use httparse::spans::{HeaderSpan, RequestSpans};
-use oc_base::{MAX_BODY_BYTES, MAX_FIELDS};
+use oc_base::{MAX_BODY_BYTES, MAX_FIELDS, Memory, Text};
 use std::alloc::Global;
 
 /// So a target begins that has scheme and authority, in any case.
@@ -47,11 +47,11 @@ fn read_parts(
 {
     let method = verb_of(method);
     let length = body_length(method, minor, fields)?;
-    let (path, query) = cut_at_first(origin_form(target), b'?');
+    let (path, query) = path_and_query(alloc, target)?;
     Ok(Head {
         method,
-        path: copy(alloc, path)?,
-        query: copy(alloc, query)?,
+        path,
+        query,
         length,
         expects: expects(minor, fields),
         minor,
@@ -59,9 +59,18 @@ fn read_parts(
     })
 }
 
+/// The target up to the first `?`, and what stands behind it, without scheme and authority.
+fn path_and_query(alloc: Global, target: &[u8]) -> Result<(Text, Text), Memory>
+    ensures { IfOk result (λ texts. (texts.0 ≡ path_of target.now) × (texts.1 ≡ query_of target.now)) }
+{
+    let (path, query) = cut_at_first(origin_form(target), b'?');
+    let path = copy(alloc, path)?;
+    Ok((path, copy(alloc, query)?))
+}
+
 /// The length of the body in bytes, 0 where none is told, or the first fault of the head.
 fn body_length(method: Verb, minor: u8, fields: &Fields) -> Result<u64, HttpFault>
-    ensures { result ≡ fault_or (unwrap_or (length_of (lengths fields.now)) 0) (head_fault method minor fields.now) }
+    ensures { result ≡ body_length method minor fields.now }
 {
     if fields.count() > MAX_FIELDS {
         return Err(HttpFault::Fields);
@@ -69,7 +78,14 @@ fn body_length(method: Verb, minor: u8, fields: &Fields) -> Result<u64, HttpFaul
     if has_host_fault(minor, fields) {
         return Err(HttpFault::Host);
     }
-    match fields.checked_length()? {
+    wanted_length(method, fields.checked_length()?)
+}
+
+/// The length that is told, 0 where none is; one that is wanted and missing, or too great, is a fault.
+fn wanted_length(method: Verb, length: Option<u64>) -> Result<u64, HttpFault>
+    ensures { result ≡ wanted_length (is_post method) length }
+{
+    match length {
         None if method == Verb::Post => Err(HttpFault::Length { missing: true }),
         None => Ok(0),
         Some(length) if length > MAX_BODY_BYTES => Err(HttpFault::BodyLong),

@@ -4,7 +4,7 @@ ghost use Rattle.std.specs.Prelude.{◌≡◌, ◌&&◌, [], not, IfOk};
 ghost use Rattle.httparse.specs.Grammar.{ReadsResponse, ResponseHead};
 ghost use Rattle.oc_http.specs.Fields.{fault_or, first_of, locations, length_of, lengths, is_present, codings};
 ghost use Rattle.oc_http.specs.Gives.{Gives};
-ghost use Rattle.oc_http.specs.Responses.{is_chunked, reply_fault, reply_head_fault, reply_head_of, read_reply_head, read_reply_start, body_length};
+ghost use Rattle.oc_http.specs.Responses.{is_chunked, reply_head_fault, reply_head_of, read_reply_head, whole_fault, body_length};
 ghost use Rattle.oc_http.specs.Lines.{IsResponseTaken};
 
 use crate::fault::HttpFault;
@@ -31,18 +31,17 @@ pub(crate) fn read_response_head(
     read_reply_head(alloc, parts.code, &fields)
 }
 
-/// The same for a reader of whole messages, which understands no transfer coding.
-pub(crate) fn read_response_start(
-    alloc: Global,
-    bytes: &[u8],
-    spans: &[HeaderSpan],
-    parts: ResponseSpans,
-) -> Result<ReplyHead, HttpFault>
-    requires { IsResponseTaken bytes.now spans.now parts }
-    ensures { (head : ResponseHead) × ReadsResponse bytes.now head [] × Gives result (read_reply_start head) }
+/// The fault that is left to a head for a reader of whole messages, which understands no transfer coding.
+pub(crate) fn whole_fault(head: &ReplyHead) -> Option<HttpFault>
+    ensures { result ≡ whole_fault head.now }
 {
-    let fields = Fields::of(bytes, &spans[..parts.headers]);
-    read_reply_start(alloc, parts.code, &fields)
+    if head.chunked {
+        return Some(HttpFault::Coding { both: false });
+    }
+    match head.length {
+        Some(length) if length > MAX_BODY_BYTES => Some(HttpFault::BodyLong),
+        _ => None,
+    }
 }
 
 /// How many bytes the body has, `None` where it goes to the end of the source (RFC 9112, section 6.3).
@@ -68,20 +67,6 @@ fn read_reply_head(alloc: Global, status: u16, fields: &Fields) -> Result<ReplyH
         chunked: is_chunked(fields),
         closes: fields.closes(),
     })
-}
-
-/// The same for a reader of whole messages, which understands no transfer coding.
-fn read_reply_start(alloc: Global, status: u16, fields: &Fields) -> Result<ReplyHead, HttpFault>
-    ensures { Gives result (fault_or (reply_head_of status fields.now) (reply_fault fields.now)) }
-{
-    let head = read_reply_head(alloc, status, fields)?;
-    if head.chunked {
-        return Err(HttpFault::Coding { both: false });
-    }
-    match head.length {
-        Some(length) if length > MAX_BODY_BYTES => Err(HttpFault::BodyLong),
-        _ => Ok(head),
-    }
 }
 
 /// The length of the body in bytes, where it is told, or the first fault of the head.

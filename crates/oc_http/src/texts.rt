@@ -2,9 +2,7 @@
 
 ghost use Rattle.std.specs.Prelude.{◌≡◌, ◌++◌, IfOk};
 ghost use Rattle.oc_http.specs.Parts.{joined};
-ghost use Rattle.oc_http.specs.Writing.{connection_line};
 
-use crate::framing::Connection;
 use oc_base::Memory;
 use std::alloc::Global;
 
@@ -26,14 +24,4 @@ fn room_for(parts: &[&[u8]]) -> usize {
         room = room.saturating_add(part.len());
     }
     room
-}
-
-/// `Connection: close`, and nothing where the connection is kept.
-pub(crate) fn connection_line<'a>(connection: Connection) -> &'a [u8]
-    ensures { result.now ≡ connection_line connection }
-{
-    match connection {
-        Connection::Close => b"Connection: close\r\n",
-        Connection::Keep => b"",
-    }
 }

@@ -1,14 +1,14 @@
 //! The replies of a node.
 
-ghost use Rattle.std.specs.Prelude.{◌≡◌, [], ◌++◌, IfOk, Some};
+ghost use Rattle.std.specs.Prelude.{◌≡◌, [], ◌++◌, IfOk};
 ghost use Rattle.oc_http.specs.Parts.{line_text};
-ghost use Rattle.oc_http.specs.Writing.{HasPhrase, phrase, head_text, response_text, location_line, allow_line, rule_line, content_type_line, content_line, line_end};
+ghost use Rattle.oc_http.specs.Writing.{HasPhrase, phrase_text, head_end, head_text, response_text, location_line, allow_line, rule_line, content_type_line, content_line, line_end};
 ghost use Rattle.oc_http.specs.declared.framing.Framing.TheVariants.{Length as OfLength};
 ghost use Rattle.oc_http.specs.declared.framing.Connection.TheVariants.{Close as Closing};
 
 use crate::framing::{Connection, Framing};
 use crate::reply::Reply;
-use crate::texts::{connection_line, join};
+use crate::texts::join;
 use itoa::Buffer;
 use oc_base::{Memory, Text};
 use std::alloc::Global;
@@ -56,9 +56,7 @@ pub fn write_reply_head(
         &[
             b"HTTP/1.1 ",
             status.as_bytes(),
-            b" ",
             phrase_of(reply.status).as_bytes(),
-            b"\r\n",
             location.name,
             location.value,
             location.end,
@@ -70,8 +68,7 @@ pub fn write_reply_head(
             content.name,
             content.value,
             content.end,
-            connection_line(connection),
-            b"\r\n",
+            head_end(connection),
         ],
     )
 }
@@ -106,24 +103,34 @@ fn no_line<'a>() -> Line<'a>
     }
 }
 
-/// What a status is called.
+/// What a status is called, between the space before it and the end of its line.
 fn phrase_of<'a>(status: u16) -> &'a str
     requires { HasPhrase status }
-    ensures { phrase status ≡ Some result.now }
+    ensures { result.now ≡ phrase_text status }
 {
     match status {
-        200 => "OK",
-        204 => "No Content",
-        302 => "Found",
-        400 => "Bad Request",
-        403 => "Forbidden",
-        404 => "Not Found",
-        405 => "Method Not Allowed",
-        411 => "Length Required",
-        413 => "Content Too Large",
-        431 => "Request Header Fields Too Large",
-        501 => "Not Implemented",
+        200 => " OK\r\n",
+        204 => " No Content\r\n",
+        302 => " Found\r\n",
+        400 => " Bad Request\r\n",
+        403 => " Forbidden\r\n",
+        404 => " Not Found\r\n",
+        405 => " Method Not Allowed\r\n",
+        411 => " Length Required\r\n",
+        413 => " Content Too Large\r\n",
+        431 => " Request Header Fields Too Large\r\n",
+        501 => " Not Implemented\r\n",
         _ => unreachable!(),
+    }
+}
+
+/// The last lines of a head: `Connection: close`, save where the connection is kept, and the empty line.
+fn head_end<'a>(connection: Connection) -> &'a [u8]
+    ensures { result.now ≡ head_end connection }
+{
+    match connection {
+        Connection::Close => b"Connection: close\r\n\r\n",
+        Connection::Keep => b"\r\n",
     }
 }
 

@@ -1,10 +1,9 @@
 //! The requests that a node and a client send.
 
 ghost use Rattle.std.specs.Prelude.{◌≡◌, ◌++◌, IfOk, option_map};
-ghost use Rattle.oc_http.specs.Writing.{IsHost, request_text, get_request_text, get_text, probe_text, follow_text, query_text, area_text};
+ghost use Rattle.oc_http.specs.Writing.{IsHost, request_text, get_text, probe_text, follow_text, query_text, area_text};
 
-use crate::framing::Connection;
-use crate::texts::{connection_line, join};
+use crate::texts::join;
 use itoa::Buffer;
 use oc_base::Memory;
 use std::alloc::Global;
@@ -40,64 +39,54 @@ pub fn write_get(
     ensures { IfOk result (λ text. text.items ≡ get_text path.now (option_map (λ q. q.now) query.entry) host.now) }
 {
     let (mark, query) = query_parts(query);
-    let target = join(alloc, &[path.as_bytes(), mark, query])?;
-    write_get_request(alloc, &target, host, Connection::Close)
+    join(
+        alloc,
+        &[
+            b"GET ",
+            path.as_bytes(),
+            mark,
+            query,
+            b" HTTP/1.1\r\nHost: ",
+            host.as_bytes(),
+            b"\r\nConnection: close\r\n\r\n",
+        ],
+    )
 }
 
 /// The request of a probe of the node at an address.
 pub fn write_probe(alloc: Global, address: &str) -> Result<Vec<u8>, Memory>
     ensures { IfOk result (λ text. text.items ≡ probe_text address.now) }
 {
-    write_get_request(alloc, b"/!probe", address, Connection::Close)
+    write_get(alloc, "/!probe", None, address)
 }
 
 /// The request of a download that follows a group: a GET from byte `start` on, which keeps the
 /// connection. `area` is what the URL says of it, as it stands there.
-pub fn write_follow(
+pub fn write_follow<'a>(
     alloc: Global,
-    path: &str,
+    path: &'a str,
     start: u64,
-    area: Option<&str>,
-    host: &str,
+    area: Option<&'a str>,
+    host: &'a str,
 ) -> Result<Vec<u8>, Memory>
     ensures { IfOk result (λ text. text.items ≡ follow_text path.now start (option_map (λ a. a.now) area.entry) host.now) }
 {
     let mut digits = Buffer::new();
     let start = digits.format(start);
     let (mark, area) = area_parts(area);
-    let target = join(
+    join(
         alloc,
         &[
+            b"GET ",
             path.as_bytes(),
             b"?start=",
             start.as_bytes(),
             b"&follow",
             mark,
             area,
-        ],
-    )?;
-    write_get_request(alloc, &target, host, Connection::Keep)
-}
-
-/// A GET request of a target.
-fn write_get_request(
-    alloc: Global,
-    target: &[u8],
-    host: &str,
-    connection: Connection,
-) -> Result<Vec<u8>, Memory>
-    ensures { IfOk result (λ text. text.items ≡ get_request_text target.now host.now connection) }
-{
-    join(
-        alloc,
-        &[
-            b"GET ",
-            target,
             b" HTTP/1.1\r\nHost: ",
             host.as_bytes(),
-            b"\r\n",
-            connection_line(connection),
-            b"\r\n",
+            b"\r\n\r\n",
         ],
     )
 }

@@ -2,6 +2,7 @@ use Rattle.std.proofs.Common.{◌≡◌, ℕ, ◌+◌, ◌<◌, ◌≤◌, List,
 use Rattle.std.proofs.lemmas.List.{append-nil, length-take-le}
 use Rattle.std.proofs.lemmas.Result.{err_from_is_err_and}
 use Rattle.oc_io.proofs.Fronts.{length-rest}
+use Rattle.oc_http.proofs.Faults.{Rose-later}
 use Rattle.oc_http.proofs.Filled.{filled}
 use Rattle.oc_http.proofs.body.take_body.Goals as goal
 
@@ -41,3 +42,19 @@ pieces-preserved g c =
       long = c.pieces.invariant.long;
       count = omega arith;
     }
+
+-- what is told of calls that failed
+pub returns-in_err-count-clause-count : goal.returns-in_err-count-clause-count
+returns-in_err-count-clause-count g c = omega (arith, c.pieces.invariant.count, c.read.ensures.count)
+
+pub returns-in_err-count-clause-cause : goal.returns-in_err-count-clause-cause
+returns-in_err-count-clause-cause g c = λ is. Rose-later _ _ _ c.pieces.invariant.count c.in_err-count.ensures.cause
+
+pub returns-then-count-eq0-clause-count : goal.returns-then-count-eq0-clause-count
+returns-then-count-eq0-clause-count g c = omega (arith, c.pieces.invariant.count, c.read.ensures.count)
+
+pub returns-then-count-eq0-clause-cause : goal.returns-then-count-eq0-clause-cause
+returns-then-count-eq0-clause-cause g c = λ is. cc
+
+pub returns-clause-count : goal.returns-clause-count
+returns-clause-count g c = c.pieces.invariant.count

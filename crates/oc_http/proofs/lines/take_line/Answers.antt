@@ -1,9 +1,10 @@
-use Rattle.std.proofs.Common.{ℕ, ◌≡◌, ◌≢◌, ◌+◌, ◌<◌, List, [], ◌∷◌, ◌++◌, length, Option, vec_len, subst, ap, ◌∙◌, arith, length-append, append_assoc}
+use Rattle.std.proofs.Common.{ℕ, ◌≡◌, ◌≢◌, ◌+◌, ◌<◌, List, [], ◌∷◌, ◌++◌, length, Option, vec_len, subst, sym, ap, ◌∙◌, arith, length-append, append_assoc}
 use Rattle.std.proofs.lemmas.List.{append-nil}
 use Rattle.std.proofs.lemmas.Result.{err_from_is_err_and}
 use Rattle.oc_base.specs.declared.limits.TheConstants.{MAX_HEAD_BYTES}
 use Rattle.httparse.specs.Ascii.{line_feed}
 use Rattle.oc_http.specs.Lines.{bytes_of, HasNoLineEnd}
+use Rattle.oc_http.proofs.Faults.{Rose-later}
 use Rattle.oc_http.proofs.lines.take_line.Goals as goal
 
 -- behind the bytes before it a piece is as long as the bytes that are shorter than the most
@@ -70,4 +71,62 @@ returns-then-byte-eq10-clause-line g c =
       came = subst (λ (b : ℕ). g.S.Source.gives c.args.source.now (before.piece ++ b ∷ []) c.take_byte.new.source) c.if-byte-eq10.true both;
       grown = subst (λ (b : ℕ). c.push.new.self.items ≡ c.args.bytes.now.items ++ (before.piece ++ b ∷ [])) c.if-byte-eq10.true grown;
       fits = omega (arith, c.push.new.self.ok.0, c.in_ok-push.ensures.len);
+    }
+
+-- nothing came yet
+pub bytes-init : goal.bytes-init
+bytes-init g c = record {
+  piece = [];
+  one = tt;
+  came = g.met.S.Source.gives_nothing c.args.source.now;
+  grown = sym (append-nil c.args.bytes.now.items);
+  fits = c.requires.short;
+  room = c.requires.room;
+  count = omega arith;
+}
+
+pub bytes-smaller : goal.bytes-smaller
+bytes-smaller g c = omega (arith, c.in_ok-push.ensures.len, c.bytes-test.true, c.len.ensures)
+
+-- the room stays
+pub returns-in_err-byte-clause-room : goal.returns-in_err-byte-clause-room
+returns-in_err-byte-clause-room g c = c.bytes.invariant.room
+
+pub returns-in_default-clause-room : goal.returns-in_default-clause-room
+returns-in_default-clause-room g c = c.bytes.invariant.room
+
+pub returns-then-byte-eq10-clause-room : goal.returns-then-byte-eq10-clause-room
+returns-then-byte-eq10-clause-room g c = omega (arith, c.bytes.invariant.room)
+
+pub returns-clause-room : goal.returns-clause-room
+returns-clause-room g c = c.bytes.invariant.room
+
+-- what is told of calls that failed
+pub returns-in_err-byte-clause-count : goal.returns-in_err-byte-clause-count
+returns-in_err-byte-clause-count g c = omega (arith, c.bytes.invariant.count, c.take_byte.ensures.count)
+
+pub returns-in_default-clause-count : goal.returns-in_default-clause-count
+returns-in_default-clause-count g c = omega (arith, c.bytes.invariant.count, c.take_byte.ensures.count)
+
+pub returns-then-byte-eq10-clause-count : goal.returns-then-byte-eq10-clause-count
+returns-then-byte-eq10-clause-count g c = omega (arith, c.bytes.invariant.count, c.take_byte.ensures.count)
+
+pub returns-clause-count : goal.returns-clause-count
+returns-clause-count g c = c.bytes.invariant.count
+
+pub returns-in_err-byte-clause-cause : goal.returns-in_err-byte-clause-cause
+returns-in_err-byte-clause-cause g c = λ is. Rose-later _ _ _ c.bytes.invariant.count c.in_err-byte.ensures.cause
+
+pub returns-in_default-clause-cause : goal.returns-in_default-clause-cause
+returns-in_default-clause-cause g c = λ is. cc
+
+-- as many bytes as a head may have, and no end of the line
+pub returns-clause-cut : goal.returns-clause-cut
+returns-clause-cut g c =
+    let before = c.bytes.invariant in
+    record {
+      piece = before.piece;
+      one = before.one;
+      came = before.came;
+      cause = omega (arith, ap length before.grown, length-append c.args.bytes.now.items before.piece, c.bytes.bytes.ok.0, c.bytes-test.false, c.len.ensures, before.fits);
     }

@@ -1,9 +1,10 @@
-use Rattle.std.proofs.Common.{◌≡◌, ap, ◌∙◌, subst, Ok, Err}
+use Rattle.std.proofs.Common.{◌≡◌, refl, ap, ◌∙◌, subst, Ok, Err}
 use Rattle.std.proofs.lemmas.Result.{err_from_is_err_and}
 use Rattle.oc_http.specs.Fields.{fault_or}
-use Rattle.oc_http.specs.Requests.{head_of, head_fault, path_of, query_of}
+use Rattle.oc_http.specs.Requests.{head_of, head_fault}
 use Rattle.oc_http.specs.declared.head.Verb.{Verb}
 use Rattle.oc_http.proofs.Faults.{fault_or-ok, fault_or-err, Fails-same}
+use Rattle.oc_http.proofs.Lengths.{length_is}
 use Rattle.oc_http.proofs.requests.read_parts.Goals as goal
 
 -- the fault of the length is the fault of the head
@@ -11,7 +12,7 @@ pub returns-in_err-length : goal.returns-in_err-length
 returns-in_err-length c =
     let head = head_of c.args.method.now c.args.target.now c.args.minor c.args.fields.now in
     let fault = c.in_err-length.field-0.0 in
-    let said = fault_or-err _ head _ fault c.in_err-length.ensures in
+    let said = fault_or-err _ head _ fault (c.in_err-length.ensures ∙ length_is c.verb_of-method.result c.args.minor c.args.fields.now) in
     let p = err_from_is_err_and c.from_residual.result c.from_residual.ensures.1 in
     rw (p.1, p.2) (Fails-same fault _ (subst (λ (v : Verb). fault_or head (head_fault v c.args.minor c.args.fields.now) ≡ Err fault) c.verb_of-method.ensures said))
 
@@ -19,7 +20,6 @@ returns-in_err-length c =
 pub returns : goal.returns
 returns c =
     let head = head_of c.args.method.now c.args.target.now c.args.minor c.args.fields.now in
-    let said = fault_or-ok _ head _ _ c.in_ok-length.ensures in
-    let path : path_of c.args.target.now ≡ c.in_ok-copy.field-0 = rw (c.in_ok-copy.ensures, c.cut_at_first.ensures.before, c.origin_form.ensures) in
-    let query : query_of c.args.target.now ≡ c.in_ok-copy-2.field-0 = rw (c.in_ok-copy-2.ensures, c.cut_at_first.ensures.after, c.origin_form.ensures) in
-    subst (λ (v : Verb). fault_or head (head_fault v c.args.minor c.args.fields.now) ≡ Ok head) c.verb_of-method.ensures said.1 ∙ ap Ok (cc (path, query, said.0))
+    let said = fault_or-ok _ head _ _ (c.in_ok-length.ensures ∙ length_is c.verb_of-method.result c.args.minor c.args.fields.now) in
+    let texts = c.in_ok-path.ensures in
+    subst (λ (v : Verb). fault_or head (head_fault v c.args.minor c.args.fields.now) ≡ Ok head) c.verb_of-method.ensures said.1 ∙ ap Ok (rw (texts.0, texts.1, c.verb_of-method.ensures, c.expects.ensures, c.closes.ensures, ← said.0) refl)

@@ -6,6 +6,8 @@ use Rattle.httparse.specs.declared.Status.{Status}
 use Rattle.httparse.specs.declared.spans.ResponseSpans.{ResponseSpans}
 use Rattle.oc_http.proofs.Heads.{IsUnfinished-none}
 use Rattle.oc_http.proofs.Forms.{response_form}
+use Rattle.oc_http.proofs.Faults.{Rose-later, same_cause}
+use Rattle.oc_http.proofs.LineEnds.{longer}
 use Rattle.oc_http.proofs.Stops.{Joins, cut_head}
 use Rattle.oc_http.proofs.TakenResponses.{taken_response, open_response, hopeless_response}
 use Rattle.oc_http.proofs.taking.take_response.Goals as goal
@@ -68,3 +70,39 @@ returns-in-Err-clause-stops g c =
         line.fits,
       ),
     )
+
+pub lines-smaller : goal.lines-smaller
+lines-smaller g c =
+    let line = c.in_ok-take_line.ensures.line in
+    omega (arith, longer c.lines.bytes.items line.line c.take_line.new.bytes.items line.grown, c.lines.bytes.ok.0, c.take_line.new.bytes.ok.0, line.fits)
+
+pub take_line-requires : goal.take_line-requires
+take_line-requires g c = record { short = c.lines.invariant.fits; room = c.lines.invariant.room }
+
+-- the room stays
+pub returns-in_err-take_line-clause-room : goal.returns-in_err-take_line-clause-room
+returns-in_err-take_line-clause-room g c = c.take_line.ensures.room
+
+pub returns-in-Ok-Complete-clause-room : goal.returns-in-Ok-Complete-clause-room
+returns-in-Ok-Complete-clause-room g c = c.take_line.ensures.room
+
+pub returns-in-Err-clause-room : goal.returns-in-Err-clause-room
+returns-in-Err-clause-room g c = c.take_line.ensures.room
+
+-- what is told of calls that failed
+pub returns-in_err-take_line-clause-count : goal.returns-in_err-take_line-clause-count
+returns-in_err-take_line-clause-count g c = omega (arith, c.lines.invariant.count, c.take_line.ensures.count)
+
+pub returns-in-Ok-Complete-clause-count : goal.returns-in-Ok-Complete-clause-count
+returns-in-Ok-Complete-clause-count g c = omega (arith, c.lines.invariant.count, c.take_line.ensures.count)
+
+pub returns-in-Err-clause-count : goal.returns-in-Err-clause-count
+returns-in-Err-clause-count g c = omega (arith, c.lines.invariant.count, c.take_line.ensures.count)
+
+pub returns-in_err-take_line-clause-cause : goal.returns-in_err-take_line-clause-cause
+returns-in_err-take_line-clause-cause g c =
+    let p = err_from_is_err_and c.from_residual.result c.from_residual.ensures.1 in
+    rw (p.1, p.2) (λ is. Rose-later _ _ _ c.lines.invariant.count (same_cause _ _ c.in_err-take_line.ensures.cause is))
+
+pub returns-in-Err-clause-cause : goal.returns-in-Err-clause-cause
+returns-in-Err-clause-cause g c = λ is. cc

@@ -1,6 +1,6 @@
 -- The parts are the head.
-use Rattle.std.proofs.Common.{ℕ, ◌≡◌, List, IfOk, codes, sym, ap, ◌∙◌, subst}
-use Rattle.oc_http.specs.Writing.{line_end, phrase_or_none}
+use Rattle.std.proofs.Common.{ℕ, ◌≡◌, List, IfOk, codes, ◌∙◌, subst}
+use Rattle.oc_http.specs.Writing.{line_end}
 use Rattle.oc_http.proofs.Parts.{head_is}
 use Rattle.oc_http.proofs.writing_replies.write_reply_head.Goals as goal
 
@@ -12,8 +12,8 @@ returns c =
     let text = head_is (codes "HTTP/1.1 ") c.as_bytes.result.now (codes " ") c.as_bytes-2.result.now line_end
     location.result.name.now location.result.value.now location.result.end.now c.allow_line.result.now
     rule.result.name.now rule.result.value.now rule.result.end.now c.content_type_line.result.now
-    content.result.name.now content.result.value.now content.result.end.now c.connection_line.result.now
+    content.result.name.now content.result.value.now content.result.end.now c.head_end.result.now
     _ _ _ _ _ _ _ _
-    (c.as_bytes.ensures.value ∙ c.format-status.ensures.text) (c.as_bytes-2.ensures.value ∙ sym (ap phrase_or_none c.phrase_of.ensures))
-    location.ensures c.allow_line.ensures rule.ensures c.content_type_line.ensures content.ensures c.connection_line.ensures in
+    (c.as_bytes.ensures.value ∙ c.format-status.ensures.text) (c.as_bytes-2.ensures.value ∙ c.phrase_of.ensures)
+    location.ensures c.allow_line.ensures rule.ensures c.content_type_line.ensures content.ensures c.head_end.ensures in
     subst (λ (l : List ℕ). IfOk c.join.result (λ text. text.items ≡ l)) text c.join.ensures

@@ -1,69 +1,39 @@
--- What the whole head says is the answer.
-use Rattle.std.proofs.Common.{◌∙◌, arith}
-use Rattle.std.proofs.lemmas.List.{with_items_is}
+-- A head that is read for a reader that understands chunks, and then tested.
+use Rattle.std.proofs.Common.{sym}
 use Rattle.std.proofs.lemmas.Result.{err_from_is_err_and}
-use Rattle.httparse.specs.Grammar.{ReadsResponse}
-use Rattle.oc_http.specs.Responses.{read_reply_start}
 use Rattle.oc_http.proofs.Faults.{same_cause}
-use Rattle.oc_http.proofs.Answered.{reply_start_fields, says, refuses, never_source, RefusesHead-stopped}
+use Rattle.oc_http.proofs.Wholes.{start_refuses, start_says, start_stops, left_never_source}
 use Rattle.oc_http.proofs.head_reader.HeadReader.read_start.Goals as goal
 
--- where no whole head came, it is refused for that
-pub returns-in_err-parts-clause-refused : goal.returns-in_err-parts-clause-refused
-returns-in_err-parts-clause-refused g c =
+pub returns-in_err-head-clause-refused : goal.returns-in_err-head-clause-refused
+returns-in_err-head-clause-refused g c =
     let p = err_from_is_err_and c.from_residual.result c.from_residual.ensures.1 in
-    let stopped = c.in_err-parts.ensures.stops in
-    rw (p.1, p.2) (stopped.0, stopped.1, RefusesHead-stopped ReadsResponse read_reply_start stopped.0 _ c.in_err-parts.field-0.0 stopped.2)
+    let stopped = c.in_err-head.ensures.refused in
+    rw (p.1, p.2) (stopped.0, stopped.1, start_refuses stopped.0 _ c.in_err-head.field-0.0 stopped.2)
 
-pub returns-clause-read : goal.returns-clause-read
-returns-clause-read g c =
-    let taken = c.in_ok-parts.ensures.whole in
-    let answered = rw c.deref.ensures.value at c.read_response_start.ensures in
-    says g.S.Source.gives ReadsResponse read_reply_start c.args.source.now c.take_response.new.source c.take_response.new.bytes.items answered.0 c.read_response_start.result taken.0 answered.1 taken.1.fits answered.2
-
-pub returns-clause-refused : goal.returns-clause-refused
-returns-clause-refused g c =
-    let taken = c.in_ok-parts.ensures.whole in
-    let answered = rw c.deref.ensures.value at c.read_response_start.ensures in
-    refuses g.S.Source.gives g.S.Source.fails ReadsResponse read_reply_start reply_start_fields c.args.source.now c.take_response.new.source _ c.take_response.new.bytes.items answered.0 c.read_response_start.result taken.0 answered.1 taken.1.fits answered.2
-
--- no failed call is told behind a whole head
-pub returns-clause-cause : goal.returns-clause-cause
-returns-clause-cause g c = λ is. absurd (never_source read_reply_start reply_start_fields c.read_response_start.ensures.0 c.read_response_start.result c.read_response_start.ensures.2 is)
-
-pub returns-in_err-parts-clause-cause : goal.returns-in_err-parts-clause-cause
-returns-in_err-parts-clause-cause g c =
+pub returns-in_err-head-clause-cause : goal.returns-in_err-head-clause-cause
+returns-in_err-head-clause-cause g c =
     let p = err_from_is_err_and c.from_residual.result c.from_residual.ensures.1 in
-    rw (p.1, p.2) (same_cause _ _ c.in_err-parts.ensures.cause)
+    rw (p.1, p.2) (same_cause _ _ c.in_err-head.ensures.cause)
 
--- what is told of calls that failed
-pub returns-in_err-parts-clause-count : goal.returns-in_err-parts-clause-count
-returns-in_err-parts-clause-count g c = c.take_response.ensures.count
+pub returns-in_err-head-clause-count : goal.returns-in_err-head-clause-count
+returns-in_err-head-clause-count g c = c.read_response_head.ensures.count
 
-pub returns-clause-count : goal.returns-clause-count
-returns-clause-count g c = c.take_response.ensures.count
+pub returns-in-None-clause-read : goal.returns-in-None-clause-read
+returns-in-None-clause-read g c =
+    let said = c.in_ok-head.ensures.read in
+    (said.0, said.1, start_says said.0 c.in_ok-head.head said.2 (sym c.in-None.ensures))
 
--- the room of the reader
-pub take_response-requires : goal.take_response-requires
-take_response-requires g c = record {
-  bytes = c.args.self.now.bytes_fit;
-  spans = omega (arith, c.deref_mut.ensures.len, c.args.self.now.spans_fit);
-}
+pub returns-in-None-clause-count : goal.returns-in-None-clause-count
+returns-in-None-clause-count g c = c.read_response_head.ensures.count
 
-pub invariant_of-self : goal.invariant_of-self
-invariant_of-self g c = record {
-  bytes_fit = c.take_response.ensures.room;
-  spans_fit = c.args.self.now.spans_fit;
-}
+pub returns-in-Some-clause-refused : goal.returns-in-Some-clause-refused
+returns-in-Some-clause-refused g c =
+    let said = c.in_ok-head.ensures.read in
+    start_stops g.S.Source.gives g.S.Source.fails c.args.source.now c.read_response_head.new.source _ said.0 c.in_ok-head.head c.in-Some.fault said.1 said.2 (sym c.in-Some.ensures)
 
-pub invariant_of-self-2 : goal.invariant_of-self-2
-invariant_of-self-2 g c = record {
-  bytes_fit = c.take_response.ensures.room;
-  spans_fit = c.args.self.now.spans_fit;
-}
+pub returns-in-Some-clause-count : goal.returns-in-Some-clause-count
+returns-in-Some-clause-count g c = c.read_response_head.ensures.count
 
--- the head that was taken is the one that is read
-pub read_response_start-requires : goal.read_response_start-requires
-read_response_start-requires g c =
-    let kept = with_items_is c.args.self.now.spans c.take_response.new.spans (omega (arith, c.take_response.auto.spans, c.deref_mut.ensures.len)) in
-    rw (c.deref.ensures.value, c.deref-2.ensures.value ∙ kept) c.in_ok-parts.ensures.whole.1
+pub returns-in-Some-clause-cause : goal.returns-in-Some-clause-cause
+returns-in-Some-clause-cause g c = λ is. absurd (left_never_source c.in_ok-head.head c.in-Some.fault (sym c.in-Some.ensures) is)

@@ -60,6 +60,13 @@ pub fn make_ready<D: Disk>(
     Ok(Ready { plan, write })
 }
 
+/// Whether a disk failed as an input was made ready.
+pub fn making_failed(made: &Result<Ready, ReadyError>) -> bool
+    ensures { IsTrue result ↔ IsErrOf made.now ReadyError.Disk }
+{
+    matches!(made, Err(ReadyError::Disk))
+}
+
 /// Reads the bytes that a plan wants, and puts them into its chunk.
 fn fetch<D: Disk>(
     alloc: Global,

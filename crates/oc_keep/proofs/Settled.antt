@@ -1,5 +1,5 @@
 -- A call that closes the node exactly where its disk failed.
-use Rattle.std.proofs.Common.{◌≡◌, ◌≢◌, ◌⊎◌, inl, inr, ◌↔◌, Bool, true, false, IsTrue, IsErrOf, IfOk, IfErr, Result, Ok, Err, List, refl, sym, ap, subst, ◌∙◌, ⊎_elim}
+use Rattle.std.proofs.Common.{◌≡◌, ◌≢◌, ◌⊎◌, inl, inr, ◌↔◌, Bool, true, false, IsTrue, IsErrOf, IfOk, IfErr, Result, Ok, Err, List, refl, sym, ap, subst, ◌∙◌}
 use Rattle.oc_io.specs.DiskView.{DiskView}
 use Rattle.oc_model.specs.declared.record.Record.{Record}
 use Rattle.oc_node.specs.NodeView.{NodeView}
@@ -9,7 +9,7 @@ use Rattle.oc_keep.specs.declared.errors.ReadyError.{ReadyError}
 use Rattle.oc_keep.specs.declared.errors.ReadyError.TheVariants as readies
 use Rattle.oc_keep.specs.declared.errors.TidyError.{TidyError}
 use Rattle.oc_keep.specs.declared.errors.TidyError.TheVariants as tidies
-use Rattle.oc_keep.specs.KeptView.{KeptView, kept_of}
+use Rattle.oc_keep.specs.KeptView.{kept_of}
 use Rattle.oc_keep.specs.Promises.{ChangesNothing}
 use Rattle.oc_keep.specs.ReadyView.{CanCommit, ReadyView}
 use Rattle.oc_keep.specs.Turning.{ClosesByTurning, Replaces}

@@ -1,5 +1,5 @@
 -- A node whose control files were turned over, or were to be.
-use Rattle.std.proofs.Common.{◌≡◌, ℕ, ◌+◌, ◌-◌, ◌<◌, ◌^◌, Bool, true, false, refl, sym, subst, ⊎_elim}
+use Rattle.std.proofs.Common.{◌≡◌, ◌+◌, ◌-◌, ◌<◌, ◌^◌, Bool, false, refl, sym, subst, ⊎_elim}
 use Rattle.oc_io.specs.DiskView.{DiskView}
 use Rattle.oc_io.proofs.DiskMoments.{StaysAsItWas-none}
 use Rattle.oc_model.specs.Snapshot.{snapshot}

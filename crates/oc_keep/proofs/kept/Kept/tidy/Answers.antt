@@ -4,7 +4,7 @@ use Rattle.oc_model.specs.Snapshot.{snapshot}
 use Rattle.oc_keep.specs.KeptView.{KeptView, disks_of, kept_of}
 use Rattle.oc_keep.specs.Turning.{IsShort}
 use Rattle.oc_keep.proofs.Ends.{done, shut_open, still_open}
-use Rattle.oc_keep.proofs.Settled.{Turned, tidy_open, turned_so, unfailed, untidied, unturned}
+use Rattle.oc_keep.proofs.Settled.{tidy_open, turned_so, unfailed, untidied, unturned}
 use Rattle.oc_keep.proofs.Sides.{honest_store, reliable_store}
 use Rattle.oc_keep.proofs.Stays.{all_go_on, all_stay, keeps_none, nothing_moments, puts_none}
 use Rattle.oc_keep.proofs.Tidied.{tidied_goes_on, tidied_kept, tidied_moments}

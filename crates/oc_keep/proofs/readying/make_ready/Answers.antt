@@ -135,3 +135,27 @@ returns-in-Ok-fetch-clause-disk g c = λ wrong. absurd (done _ _ wrong)
 
 pub returns-in-Ok-fetch-clause-full_first : goal.returns-in-Ok-fetch-clause-full_first
 returns-in-Ok-fetch-clause-full_first g c = λ wrong. absurd (done _ _ wrong)
+
+pub returns-in-Err-clause-step : goal.returns-in-Err-clause-step
+returns-in-Err-clause-step g c = tt
+
+pub returns-in-Err-clause-commits : goal.returns-in-Err-clause-commits
+returns-in-Err-clause-commits g c = tt
+
+pub returns-in-Err-clause-writes : goal.returns-in-Err-clause-writes
+returns-in-Err-clause-writes g c = tt
+
+pub returns-in-Err-clause-full : goal.returns-in-Err-clause-full
+returns-in-Err-clause-full g c = tt
+
+pub returns-in-Err-fetch-clause-step : goal.returns-in-Err-fetch-clause-step
+returns-in-Err-fetch-clause-step g c = tt
+
+pub returns-in-Err-fetch-clause-commits : goal.returns-in-Err-fetch-clause-commits
+returns-in-Err-fetch-clause-commits g c = tt
+
+pub returns-in-Err-fetch-clause-writes : goal.returns-in-Err-fetch-clause-writes
+returns-in-Err-fetch-clause-writes g c = tt
+
+pub returns-in-Err-fetch-clause-full : goal.returns-in-Err-fetch-clause-full
+returns-in-Err-fetch-clause-full g c = tt

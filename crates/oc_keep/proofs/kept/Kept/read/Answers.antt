@@ -111,3 +111,21 @@ returns-in-Err-NoGroup-clause-stays_open g c = λ _. ap (λ (k : KeptView g.row.
 
 pub returns-in-Err-Disk-clause-closed : goal.returns-in-Err-Disk-clause-closed
 returns-in-Err-Disk-clause-closed g c = rw (← c.self.view_is) (still_open _ _ c.self.inside.closed kept_disk c.if-self.false)
+
+pub returns-then-self-clause-within : goal.returns-then-self-clause-within
+returns-then-self-clause-within g c = tt
+
+pub returns-then-self-clause-bytes : goal.returns-then-self-clause-bytes
+returns-then-self-clause-bytes g c = tt
+
+pub returns-in-Err-NoGroup-clause-within : goal.returns-in-Err-NoGroup-clause-within
+returns-in-Err-NoGroup-clause-within g c = tt
+
+pub returns-in-Err-NoGroup-clause-bytes : goal.returns-in-Err-NoGroup-clause-bytes
+returns-in-Err-NoGroup-clause-bytes g c = tt
+
+pub returns-in-Err-Disk-clause-within : goal.returns-in-Err-Disk-clause-within
+returns-in-Err-Disk-clause-within g c = tt
+
+pub returns-in-Err-Disk-clause-bytes : goal.returns-in-Err-Disk-clause-bytes
+returns-in-Err-Disk-clause-bytes g c = tt

@@ -115,3 +115,18 @@ returns-then-self-clause-works g c = rw (← c.self.view_is) (λ is_open. absurd
 
 pub make_ready-made-requires-clause-log : goal.make_ready-made-requires-clause-log
 make_ready-made-requires-clause-log g c = c.self.invariant.short
+
+pub returns-then-self-clause-step : goal.returns-then-self-clause-step
+returns-then-self-clause-step g c = tt
+
+pub returns-then-self-clause-writes : goal.returns-then-self-clause-writes
+returns-then-self-clause-writes g c = tt
+
+pub returns-then-self-clause-full : goal.returns-then-self-clause-full
+returns-then-self-clause-full g c = tt
+
+pub returns-then-self-clause-commits : goal.returns-then-self-clause-commits
+returns-then-self-clause-commits g c = tt
+
+pub returns-then-self-clause-fits : goal.returns-then-self-clause-fits
+returns-then-self-clause-fits g c = tt

@@ -127,3 +127,12 @@ replace-turned-requires-clause-next g c = (c.due.ensures.0 c.if-not-due.false).1
 
 pub replace-turned-requires-clause-reached : goal.replace-turned-requires-clause-reached
 replace-turned-requires-clause-reached g c = c.self.invariant.reached
+
+pub returns-then-self-clause-ripe : goal.returns-then-self-clause-ripe
+returns-then-self-clause-ripe g c = tt
+
+pub returns-then-self-clause-turned : goal.returns-then-self-clause-turned
+returns-then-self-clause-turned g c = tt
+
+pub returns-then-self-clause-stays : goal.returns-then-self-clause-stays
+returns-then-self-clause-stays g c = tt

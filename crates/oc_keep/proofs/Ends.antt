@@ -8,9 +8,7 @@ use Rattle.oc_keep.specs.declared.errors.CommitError.TheVariants as commits
 use Rattle.oc_keep.specs.declared.errors.KeepError.{KeepError}
 use Rattle.oc_keep.specs.declared.errors.KeepError.TheVariants as keeps
 use Rattle.oc_keep.specs.declared.errors.KeepLoad.{KeepLoad}
-use Rattle.oc_keep.specs.declared.errors.ReadyError.{ReadyError}
-use Rattle.oc_keep.specs.declared.errors.ReadyError.TheVariants as readies
-use Rattle.oc_keep.specs.declared.errors.TidyError.TheVariants as tidies
+use Rattle.oc_keep.specs.declared.errors.KeptRead.TheVariants as kepts
 
 -- one that is closed is not open
 pub shut_open : (closed : Bool) → closed ≡ true → closed ≡ false → ⊥
@@ -24,23 +22,8 @@ still_open r e closed not is_open = (λ wrong. absurd (not wrong), λ shut. absu
 pub done : {T E : Type 0} (x : T) (e : E) → IsErrOf (Ok x) e → ⊥
 done x e wrong = absurd cc
 
-pub tidy_disk : {T : Type 0} → IsErrOf {T = T} (Err tidies.Disk) tidies.Closed → ⊥
-tidy_disk wrong = absurd cc
-
-pub tidy_memory : {T : Type 0} → IsErrOf {T = T} (Err tidies.Memory) tidies.Closed → ⊥
-tidy_memory wrong = absurd cc
-
-pub ready_disk : {T : Type 0} → IsErrOf {T = T} (Err readies.Disk) readies.Closed → ⊥
-ready_disk wrong = absurd cc
-
-pub ready_memory : {T : Type 0} → IsErrOf {T = T} (Err readies.Memory) readies.Closed → ⊥
-ready_memory wrong = absurd cc
-
 pub not_failed : {T E : Type 0} (r : Result T E) (x : T) (e : E) → r ≡ Ok x → IsErrOf r e → ⊥
 not_failed r x e is wrong = absurd cc
-
-pub ready_unfailed : {T : Type 0} (r : Result T ReadyError) (e : ReadyError) → r ≡ Err e → e ≡ readies.Memory → IsErrOf r readies.Disk → ⊥
-ready_unfailed r e is memory wrong = absurd cc
 
 pub commit_unfull : {T : Type 0} (e : CommitError) → e ≡ commits.Disk → IsErrOf {T = T} (Err e) commits.Full → ⊥
 commit_unfull e disk wrong = absurd cc
@@ -63,3 +46,10 @@ full_unfailed e full disk = absurd cc
 
 pub full_no_disk : {T : Type 0} (e : KeepError) → e ≡ keeps.Full → IsErrOf {T = T} (Err e) keeps.Disk → ⊥
 full_no_disk e full wrong = absurd cc
+
+-- a read that failed is not one of a closed node
+pub kept_none : {T : Type 0} → IsErrOf {T = T} (Err kepts.NoGroup) kepts.Closed → ⊥
+kept_none wrong = absurd cc
+
+pub kept_disk : {T : Type 0} → IsErrOf {T = T} (Err kepts.Disk) kepts.Closed → ⊥
+kept_disk wrong = absurd cc

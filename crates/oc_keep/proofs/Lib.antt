@@ -13,3 +13,5 @@ pub mod Runs
 pub mod Leaving
 pub mod Ends
 pub mod Taking
+pub mod Settled
+pub mod Tidied

@@ -1,7 +1,7 @@
 use crate::errors::{KeepError, KeepLoad};
 
 /// How far a trial came.
-#[derive(Clone, Copy, Debug)]
+#[derive(Clone, Copy)]
 pub struct Trial {
     /// How many inputs were taken.
     pub done: u64,

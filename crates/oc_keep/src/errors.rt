@@ -45,7 +45,7 @@ pub enum KeepError {
 }
 
 /// Why an input was not made ready.
-#[derive(Clone, Copy, Debug)]
+#[derive(Clone, Copy)]
 pub enum ReadyError {
     /// A disk failed in an earlier call.
     Closed,
@@ -56,7 +56,7 @@ pub enum ReadyError {
 }
 
 /// Why an input that was made ready was not taken.
-#[derive(Clone, Copy, Debug)]
+#[derive(Clone, Copy)]
 pub enum CommitError {
     /// The file would pass 2^40 bytes, and nothing was changed.
     Full,

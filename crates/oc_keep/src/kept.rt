@@ -16,9 +16,9 @@ ghost use Rattle.oc_io.specs.MemDiskView.{view_of};
 
 use crate::errors::{CommitError, KeepError, KeepLoad, KeptRead, ReadyError, TidyError};
 use crate::ready::{Ready, Write};
-use crate::readying::make_ready;
+use crate::readying::{make_ready, making_failed};
 use crate::starting::start;
-use crate::turning::replace;
+use crate::turning::{replace, turning_failed};
 use crate::writing::put;
 use oc_base::{GroupName, Memory, NodeId, Shelf};
 use oc_content::{Content, ReadError};
@@ -199,15 +199,8 @@ impl<D: Disk> Kept<D> {
             &input,
         );
         drop(input);
-        match made {
-            Ok(ready) => Ok(ready),
-            Err(ReadyError::Disk) => {
-                self.closed = true;
-                Err(ReadyError::Disk)
-            }
-            Err(ReadyError::Memory) => Err(ReadyError::Memory),
-            Err(ReadyError::Closed) => unreachable!(),
-        }
+        self.closed = making_failed(&made);
+        made
     }
 
     /// Takes an input that was made ready since the last change: writes what is durable of its step,
@@ -286,16 +279,9 @@ impl<D: Disk> Kept<D> {
         if !self.store.due() {
             return Ok(false);
         }
-        match replace(&self.node, &mut self.store) {
-            Ok(true) => Ok(true),
-            Ok(false) => Ok(false),
-            Err(TidyError::Disk) => {
-                self.closed = true;
-                Err(TidyError::Disk)
-            }
-            Err(TidyError::Memory) => Err(TidyError::Memory),
-            Err(TidyError::Closed) => unreachable!(),
-        }
+        let turned = replace(&self.node, &mut self.store);
+        self.closed = turning_failed(&turned);
+        turned
     }
 
     /// Reads the bytes of a group from an offset on, as many as fit, and answers how many. After `Disk`
@@ -391,8 +377,17 @@ impl<D: Disk> Kept<D> {
         ensures full { self.closed ≡ false → IsHonest D.view self
             → (i : Input) → IsFullAt self i → IsFullOn D.view (disks_of self) (node_of self) i }
     {
-        let (control, alternate) = self.store.into_disks();
-        (control, alternate, self.content.into_disk())
+        let Kept {
+            alloc: _,
+            node,
+            store,
+            content,
+            closed: _,
+        } = self;
+        // A call lets the node go with less to prove than the end of its scope.
+        drop(node);
+        let (control, alternate) = store.into_disks();
+        (control, alternate, content.into_disk())
     }
 }
 

@@ -19,6 +19,7 @@ use crate::errors::ReadyError;
 use crate::law::prepare_refuses_nothing_that_is_kept;
 use crate::ready::Ready;
 use crate::writing::writing;
+use oc_base::Memory;
 use oc_content::{Content, ReadError};
 use oc_io::Disk;
 use oc_laws_step::folding_is_stepping;
@@ -55,9 +56,29 @@ pub fn make_ready<D: Disk>(
     prepare_refuses_nothing_that_is_kept();
     spellings_are_read();
     let mut plan = node.plan(input, content.groups())?;
-    let write = writing(alloc, store, content, &plan, input)?;
-    fetch(alloc, content, &mut plan)?;
-    Ok(Ready { plan, write })
+    // Let go by calls, the plan and what it writes cost less to prove than out of scope.
+    let write = match writing(alloc, store, content, &plan, input) {
+        Ok(write) => write,
+        Err(Memory) => {
+            drop(plan);
+            return Err(ReadyError::Memory);
+        }
+    };
+    match fetch(alloc, content, &mut plan) {
+        Ok(()) => Ok(Ready { plan, write }),
+        Err(error) => {
+            drop(plan);
+            drop(write);
+            Err(error)
+        }
+    }
+}
+
+/// Whether a disk failed as an input was made ready.
+pub fn making_failed(made: &Result<Ready, ReadyError>) -> bool
+    ensures { IsTrue result ↔ IsErrOf made.now ReadyError.Disk }
+{
+    matches!(made, Err(ReadyError::Disk))
 }
 
 /// Reads the bytes that a plan wants, and puts them into its chunk.

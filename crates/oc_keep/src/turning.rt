@@ -48,6 +48,13 @@ pub fn replace<D: Disk>(node: &Node, store: &mut Store<D>) -> Result<bool, TidyE
     }
 }
 
+/// Whether a disk failed as the control files were turned over.
+pub fn turning_failed(turned: &Result<bool, TidyError>) -> bool
+    ensures { IsTrue result ↔ IsErrOf turned.now TidyError.Disk }
+{
+    matches!(turned, Err(TidyError::Disk))
+}
+
 /// The snapshot of a node under this generation, where it fits a frame and its log a base.
 fn short_snapshot(node: &Node, generation: u64) -> Result<Option<Vec<Record>>, Memory>
     ensures lawful { IfOk result (λ found. IfSome found (λ list. IsCount generation → AreRecords node.now.control.nodes list.items)) }

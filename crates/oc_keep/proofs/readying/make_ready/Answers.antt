@@ -16,16 +16,16 @@ writing-requires-clause-keeps g c =
     let made = rw c.groups.ensures.lines at c.in_ok-plan.ensures.plan in
     plan_keeps n c.in_ok-plan.plan _ c.args.content.now.shelves _ made (c.prepare_refuses_nothing_that_is_kept.ensures.keeps n.nodes n c.args.content.now.shelves c.args.input.now c.requires.input c.groups.ensures.shelf)
 
-pub returns-in_err-fetch-clause-content : goal.returns-in_err-fetch-clause-content
-returns-in_err-fetch-clause-content g c = puts_then g.D.Disk.view c.args.content.now c.writing.new.content c.fetch.new.content (λ x h. g.met.D.Disk.consistent x h) c.writing.ensures.content c.fetch.ensures.content
+pub returns-in-Err-fetch-clause-content : goal.returns-in-Err-fetch-clause-content
+returns-in-Err-fetch-clause-content g c = puts_then g.D.Disk.view c.args.content.now c.writing.new.content c.fetch.new.content (λ x h. g.met.D.Disk.consistent x h) c.writing.ensures.content c.fetch.ensures.content
 
-pub returns-in_err-fetch-clause-full_first : goal.returns-in_err-fetch-clause-full_first
-returns-in_err-fetch-clause-full_first g c = λ disk full.
+pub returns-in-Err-fetch-clause-full_first : goal.returns-in-Err-fetch-clause-full_first
+returns-in-Err-fetch-clause-full_first g c = λ disk full.
     let made = rw c.groups.ensures.lines at c.in_ok-plan.ensures.plan in
-    wanting_fits (kept_of c.args.node.now c.args.store.now c.args.content.now false) c.args.input.now c.in_ok-plan.plan made c.in_err-fetch.ensures.wanting full
+    wanting_fits (kept_of c.args.node.now c.args.store.now c.args.content.now false) c.args.input.now c.in_ok-plan.plan made c.in-Err-fetch.ensures.wanting full
 
-pub returns-clause-step : goal.returns-clause-step
-returns-clause-step g c = λ honest.
+pub returns-in-Ok-fetch-clause-step : goal.returns-in-Ok-fetch-clause-step
+returns-in-Ok-fetch-clause-step g c = λ honest.
     let view = g.D.Disk.view in
     let n = c.args.node.now.control in
     let old = c.args.content.now in
@@ -33,30 +33,30 @@ returns-clause-step g c = λ honest.
     let p = c.in_ok-plan.plan in
     let made = rw c.groups.ensures.lines at c.in_ok-plan.ensures.plan in
     let keeps = plan_keeps n p _ old.shelves _ made (c.prepare_refuses_nothing_that_is_kept.ensures.keeps n.nodes n old.shelves c.args.input.now c.requires.input c.groups.ensures.shelf) in
-    let bytes = c.in_ok-fetch.ensures.fetched (still_honest (view old.journal.disk) (view new.journal.disk) c.writing.ensures.content.journal.disk.goes_on honest) in
-    ap (λ (q : PlanView). outcome_of (record { control = n; groups = groups_in old.journal.frames }) (record { plan = q; write = c.in_ok-write.write }))
+    let bytes = c.in-Ok-fetch.ensures.fetched (still_honest (view old.journal.disk) (view new.journal.disk) c.writing.ensures.content.journal.disk.goes_on honest) in
+    ap (λ (q : PlanView). outcome_of (record { control = n; groups = groups_in old.journal.frames }) (record { plan = q; write = c.in-Ok.write }))
     (bytes ∙ ap (λ (bodies : List (List ℕ)). fetched (groups_in bodies) p.wants p) (c.writing.ensures.content.journal.frames honest))
-    ∙ made_step view c.writing.new.store new n old.journal.frames old.shelves c.args.input.now p c.in_ok-write.write (c.groups.ensures.content honest) made keeps c.in_ok-write.ensures.write
+    ∙ made_step view c.writing.new.store new n old.journal.frames old.shelves c.args.input.now p c.in-Ok.write (c.groups.ensures.content honest) made keeps c.in-Ok.ensures.write
 
-pub returns-clause-commits : goal.returns-clause-commits
-returns-clause-commits g c =
+pub returns-in-Ok-fetch-clause-commits : goal.returns-in-Ok-fetch-clause-commits
+returns-in-Ok-fetch-clause-commits g c =
     let made = rw c.groups.ensures.lines at c.in_ok-plan.ensures.plan in
-    made_commits g.D.Disk.view c.plan.new.self c.writing.new.store c.writing.new.content c.fetch.new.content c.args.content.now.shelves c.in_ok-plan.plan c.fetch.new.plan _ c.in_ok-write.write
-    c.in_ok-plan.ensures.applies (made_plain c.args.node.now.control c.args.content.now.shelves c.args.input.now c.in_ok-plan.plan made) c.fetch.ensures.rest c.fetch.ensures.content c.in_ok-write.ensures.write
+    made_commits g.D.Disk.view c.plan.new.self c.writing.new.store c.writing.new.content c.fetch.new.content c.args.content.now.shelves c.in_ok-plan.plan c.fetch.new.plan _ c.in-Ok.write
+    c.in_ok-plan.ensures.applies (made_plain c.args.node.now.control c.args.content.now.shelves c.args.input.now c.in_ok-plan.plan made) c.fetch.ensures.rest c.fetch.ensures.content c.in-Ok.ensures.write
 
-pub returns-clause-writes : goal.returns-clause-writes
-returns-clause-writes g c =
+pub returns-in-Ok-fetch-clause-writes : goal.returns-in-Ok-fetch-clause-writes
+returns-in-Ok-fetch-clause-writes g c =
     let made = rw c.groups.ensures.lines at c.in_ok-plan.ensures.plan in
-    made_writes g.D.Disk.view c.writing.new.store c.writing.new.content c.args.node.now.control c.args.content.now.shelves c.args.input.now c.in_ok-plan.plan c.in_ok-write.write made c.in_ok-write.ensures.write
+    made_writes g.D.Disk.view c.writing.new.store c.writing.new.content c.args.node.now.control c.args.content.now.shelves c.args.input.now c.in_ok-plan.plan c.in-Ok.write made c.in-Ok.ensures.write
 
-pub returns-clause-full : goal.returns-clause-full
-returns-clause-full g c =
+pub returns-in-Ok-fetch-clause-full : goal.returns-in-Ok-fetch-clause-full
+returns-in-Ok-fetch-clause-full g c =
     let made = rw c.groups.ensures.lines at c.in_ok-plan.ensures.plan in
-    made_full g.D.Disk.view c.args.node.now c.plan.new.self c.args.store.now c.writing.new.store c.args.content.now c.writing.new.content c.fetch.new.content c.args.input.now c.in_ok-plan.plan c.in_ok-write.write
-    made c.writing.ensures.store (c.fetch.ensures.content.journal.end ∙ c.writing.ensures.content.journal.end) c.in_ok-write.ensures.write
+    made_full g.D.Disk.view c.args.node.now c.plan.new.self c.args.store.now c.writing.new.store c.args.content.now c.writing.new.content c.fetch.new.content c.args.input.now c.in_ok-plan.plan c.in-Ok.write
+    made c.writing.ensures.store (c.fetch.ensures.content.journal.end ∙ c.writing.ensures.content.journal.end) c.in-Ok.ensures.write
 
-pub returns-clause-content : goal.returns-clause-content
-returns-clause-content g c = puts_then g.D.Disk.view c.args.content.now c.writing.new.content c.fetch.new.content (λ x h. g.met.D.Disk.consistent x h) c.writing.ensures.content c.fetch.ensures.content
+pub returns-in-Ok-fetch-clause-content : goal.returns-in-Ok-fetch-clause-content
+returns-in-Ok-fetch-clause-content g c = puts_then g.D.Disk.view c.args.content.now c.writing.new.content c.fetch.new.content (λ x h. g.met.D.Disk.consistent x h) c.writing.ensures.content c.fetch.ensures.content
 
 pub plan-requires-clause-input : goal.plan-requires-clause-input
 plan-requires-clause-input g c = c.requires.input
@@ -92,14 +92,14 @@ fetch-requires-clause-wanting g c = c.in_ok-plan.ensures.wants
 pub returns-in_err-plan-clause-node : goal.returns-in_err-plan-clause-node
 returns-in_err-plan-clause-node g c = c.plan.ensures.node
 
-pub returns-in_err-write-clause-node : goal.returns-in_err-write-clause-node
-returns-in_err-write-clause-node g c = c.plan.ensures.node
+pub returns-in-Err-clause-node : goal.returns-in-Err-clause-node
+returns-in-Err-clause-node g c = c.plan.ensures.node
 
-pub returns-in_err-fetch-clause-node : goal.returns-in_err-fetch-clause-node
-returns-in_err-fetch-clause-node g c = c.plan.ensures.node
+pub returns-in-Err-fetch-clause-node : goal.returns-in-Err-fetch-clause-node
+returns-in-Err-fetch-clause-node g c = c.plan.ensures.node
 
-pub returns-clause-node : goal.returns-clause-node
-returns-clause-node g c = c.plan.ensures.node
+pub returns-in-Ok-fetch-clause-node : goal.returns-in-Ok-fetch-clause-node
+returns-in-Ok-fetch-clause-node g c = c.plan.ensures.node
 
 pub returns-in_err-plan-clause-store : goal.returns-in_err-plan-clause-store
 returns-in_err-plan-clause-store g c = keeps_none g.D.Disk.view c.args.store.now
@@ -110,28 +110,52 @@ returns-in_err-plan-clause-content g c = puts_none g.D.Disk.view c.args.content.
 pub returns-in_err-plan-clause-none_failed : goal.returns-in_err-plan-clause-none_failed
 returns-in_err-plan-clause-none_failed g c = inr (record { closed = refl; no_fault = refl })
 
-pub returns-in_err-write-clause-store : goal.returns-in_err-write-clause-store
-returns-in_err-write-clause-store g c = c.writing.ensures.store
+pub returns-in-Err-clause-store : goal.returns-in-Err-clause-store
+returns-in-Err-clause-store g c = c.writing.ensures.store
 
-pub returns-in_err-fetch-clause-store : goal.returns-in_err-fetch-clause-store
-returns-in_err-fetch-clause-store g c = c.writing.ensures.store
+pub returns-in-Err-fetch-clause-store : goal.returns-in-Err-fetch-clause-store
+returns-in-Err-fetch-clause-store g c = c.writing.ensures.store
 
-pub returns-clause-store : goal.returns-clause-store
-returns-clause-store g c = c.writing.ensures.store
+pub returns-in-Ok-fetch-clause-store : goal.returns-in-Ok-fetch-clause-store
+returns-in-Ok-fetch-clause-store g c = c.writing.ensures.store
 
-pub returns-in_err-write-clause-content : goal.returns-in_err-write-clause-content
-returns-in_err-write-clause-content g c = c.writing.ensures.content
+pub returns-in-Err-clause-content : goal.returns-in-Err-clause-content
+returns-in-Err-clause-content g c = c.writing.ensures.content
 
-pub returns-in_err-write-clause-none_failed : goal.returns-in_err-write-clause-none_failed
-returns-in_err-write-clause-none_failed g c = inr c.writing.ensures.none_failed
+pub returns-in-Err-clause-none_failed : goal.returns-in-Err-clause-none_failed
+returns-in-Err-clause-none_failed g c = inr c.writing.ensures.none_failed
 
-pub returns-clause-none_failed : goal.returns-clause-none_failed
-returns-clause-none_failed g c =
+pub returns-in-Ok-fetch-clause-none_failed : goal.returns-in-Ok-fetch-clause-none_failed
+returns-in-Ok-fetch-clause-none_failed g c =
     inr (⊎_elim (λ wrong. absurd (done _ _ wrong))
-    (λ none. none_then g.D.Disk.view c.args.content.now.journal c.writing.new.content.journal c.fetch.new.content.journal c.writing.ensures.none_failed none) c.in_ok-fetch.ensures.none_failed)
+    (λ none. none_then g.D.Disk.view c.args.content.now.journal c.writing.new.content.journal c.fetch.new.content.journal c.writing.ensures.none_failed none) c.in-Ok-fetch.ensures.none_failed)
 
-pub returns-clause-disk : goal.returns-clause-disk
-returns-clause-disk g c = λ wrong. absurd (done _ _ wrong)
+pub returns-in-Ok-fetch-clause-disk : goal.returns-in-Ok-fetch-clause-disk
+returns-in-Ok-fetch-clause-disk g c = λ wrong. absurd (done _ _ wrong)
 
-pub returns-clause-full_first : goal.returns-clause-full_first
-returns-clause-full_first g c = λ wrong. absurd (done _ _ wrong)
+pub returns-in-Ok-fetch-clause-full_first : goal.returns-in-Ok-fetch-clause-full_first
+returns-in-Ok-fetch-clause-full_first g c = λ wrong. absurd (done _ _ wrong)
+
+pub returns-in-Err-clause-step : goal.returns-in-Err-clause-step
+returns-in-Err-clause-step g c = tt
+
+pub returns-in-Err-clause-commits : goal.returns-in-Err-clause-commits
+returns-in-Err-clause-commits g c = tt
+
+pub returns-in-Err-clause-writes : goal.returns-in-Err-clause-writes
+returns-in-Err-clause-writes g c = tt
+
+pub returns-in-Err-clause-full : goal.returns-in-Err-clause-full
+returns-in-Err-clause-full g c = tt
+
+pub returns-in-Err-fetch-clause-step : goal.returns-in-Err-fetch-clause-step
+returns-in-Err-fetch-clause-step g c = tt
+
+pub returns-in-Err-fetch-clause-commits : goal.returns-in-Err-fetch-clause-commits
+returns-in-Err-fetch-clause-commits g c = tt
+
+pub returns-in-Err-fetch-clause-writes : goal.returns-in-Err-fetch-clause-writes
+returns-in-Err-fetch-clause-writes g c = tt
+
+pub returns-in-Err-fetch-clause-full : goal.returns-in-Err-fetch-clause-full
+returns-in-Err-fetch-clause-full g c = tt

@@ -69,3 +69,42 @@ returns-in-Ok-start-clause-loaded g c =
     (loaded_kept g.D.Disk.view h a.me a.control a.alternate a.content n s l c.in-Ok.loaded.1.items
     started c.in-Ok.ensures.loaded c.in-Ok.ensures.safely c.in-Ok-load.ensures.loaded c.in-Ok-load.ensures.safely
     c.in-Ok-start.ensures.reached (subst (λ (end : ℕ). n.control.kept.log.length ≤ MAX_BASE_ACKED + end) c.end.ensures c.in-Ok-start.ensures.log) c.in-Ok-start.ensures.short)
+
+pub returns-in-Err-clause-loaded : goal.returns-in-Err-clause-loaded
+returns-in-Err-clause-loaded g c = tt
+
+pub returns-in-Err-clause-safely : goal.returns-in-Err-clause-safely
+returns-in-Err-clause-safely g c = tt
+
+pub returns-in-Err-load-clause-loaded : goal.returns-in-Err-load-clause-loaded
+returns-in-Err-load-clause-loaded g c = tt
+
+pub returns-in-Err-load-clause-safely : goal.returns-in-Err-load-clause-safely
+returns-in-Err-load-clause-safely g c = tt
+
+pub returns-in-Ok-start-clause-safely_err : goal.returns-in-Ok-start-clause-safely_err
+returns-in-Ok-start-clause-safely_err g c = tt
+
+pub returns-in-Ok-start-clause-refuses : goal.returns-in-Ok-start-clause-refuses
+returns-in-Ok-start-clause-refuses g c = tt
+
+pub returns-in-Ok-start-clause-works : goal.returns-in-Ok-start-clause-works
+returns-in-Ok-start-clause-works g c = tt
+
+pub returns-clause-loaded : goal.returns-clause-loaded
+returns-clause-loaded g c = tt
+
+pub returns-clause-safely : goal.returns-clause-safely
+returns-clause-safely g c = tt
+
+pub returns-clause-refuses : goal.returns-clause-refuses
+returns-clause-refuses g c = tt
+
+pub returns-clause-works : goal.returns-clause-works
+returns-clause-works g c = λ sure files. refl
+
+pub start-requires-clause-header : goal.start-requires-clause-header
+start-requires-clause-header g c = c.requires.header
+
+pub start-requires-clause-me : goal.start-requires-clause-me
+start-requires-clause-me g c = c.requires.me

@@ -1,7 +1,7 @@
-use Rattle.std.proofs.Common.{true, refl}
-use Rattle.oc_keep.specs.KeptView.{disks_of, kept_of}
-use Rattle.oc_keep.proofs.Ends.{done, read_unfailed, shut_open}
-use Rattle.oc_keep.proofs.Stays.{all_go_on, nothing_kept, nothing_moments, nothing_stays, only_read}
+use Rattle.std.proofs.Common.{true, refl, ap}
+use Rattle.oc_keep.specs.KeptView.{KeptView, disks_of, kept_of}
+use Rattle.oc_keep.proofs.Ends.{done, kept_disk, kept_none, read_unfailed, shut_open, still_open}
+use Rattle.oc_keep.proofs.Stays.{all_go_on, all_stay, keeps_none, nothing_kept, nothing_moments, nothing_stays, only_read, puts_none}
 use Rattle.oc_keep.proofs.kept.Kept.read.Goals as goal
 
 pub invariant_of-self : goal.invariant_of-self
@@ -78,3 +78,54 @@ returns-in-Err-Disk-clause-goes_on g c =
     let k = kept_of s.node s.store s.content s.closed in
     let k2 = kept_of s.node s.store c.read.new.self true in
     rw (← c.self.view_is) (all_go_on view (disks_of k) (disks_of k2) (nothing_stays view k k2 (only_read view s.node s.store s.content c.read.new.self s.closed true c.read.ensures.same)))
+
+pub returns-then-self-clause-same : goal.returns-then-self-clause-same
+returns-then-self-clause-same g c = record { control = refl; store = keeps_none g.D.Disk.view c.args.self.now.store; content = puts_none g.D.Disk.view c.args.self.now.content }
+
+pub returns-then-self-clause-any_moment : goal.returns-then-self-clause-any_moment
+returns-then-self-clause-any_moment g c = rw (← c.self.view_is) (λ is_open. absurd (shut_open c.self.inside.closed c.if-self.true is_open))
+
+pub returns-then-self-clause-closed : goal.returns-then-self-clause-closed
+returns-then-self-clause-closed g c = rw (← c.self.view_is) (λ _. c.if-self.true, λ _. refl)
+
+pub returns-then-self-clause-goes_on : goal.returns-then-self-clause-goes_on
+returns-then-self-clause-goes_on g c = all_go_on g.D.Disk.view (disks_of c.args.self.now) (disks_of c.args.self.now) (all_stay g.D.Disk.view (disks_of c.args.self.now))
+
+pub returns-then-self-clause-works : goal.returns-then-self-clause-works
+returns-then-self-clause-works g c = rw (← c.self.view_is) (λ is_open. absurd (shut_open c.self.inside.closed c.if-self.true is_open))
+
+pub returns-in-Ok-clause-closed : goal.returns-in-Ok-clause-closed
+returns-in-Ok-clause-closed g c = rw (← c.self.view_is) (still_open _ _ c.self.inside.closed (done _ _) c.if-self.false)
+
+pub returns-in-Ok-clause-stays_open : goal.returns-in-Ok-clause-stays_open
+returns-in-Ok-clause-stays_open g c = λ _. ap (λ (k : KeptView g.row.D.Denot). k.closed) c.self.view_is
+
+pub returns-in-Ok-clause-disk : goal.returns-in-Ok-clause-disk
+returns-in-Ok-clause-disk g c = λ wrong. absurd (done _ _ wrong)
+
+pub returns-in-Err-NoGroup-clause-closed : goal.returns-in-Err-NoGroup-clause-closed
+returns-in-Err-NoGroup-clause-closed g c = rw (← c.self.view_is) (still_open _ _ c.self.inside.closed kept_none c.if-self.false)
+
+pub returns-in-Err-NoGroup-clause-stays_open : goal.returns-in-Err-NoGroup-clause-stays_open
+returns-in-Err-NoGroup-clause-stays_open g c = λ _. ap (λ (k : KeptView g.row.D.Denot). k.closed) c.self.view_is
+
+pub returns-in-Err-Disk-clause-closed : goal.returns-in-Err-Disk-clause-closed
+returns-in-Err-Disk-clause-closed g c = rw (← c.self.view_is) (still_open _ _ c.self.inside.closed kept_disk c.if-self.false)
+
+pub returns-then-self-clause-within : goal.returns-then-self-clause-within
+returns-then-self-clause-within g c = tt
+
+pub returns-then-self-clause-bytes : goal.returns-then-self-clause-bytes
+returns-then-self-clause-bytes g c = tt
+
+pub returns-in-Err-NoGroup-clause-within : goal.returns-in-Err-NoGroup-clause-within
+returns-in-Err-NoGroup-clause-within g c = tt
+
+pub returns-in-Err-NoGroup-clause-bytes : goal.returns-in-Err-NoGroup-clause-bytes
+returns-in-Err-NoGroup-clause-bytes g c = tt
+
+pub returns-in-Err-Disk-clause-within : goal.returns-in-Err-Disk-clause-within
+returns-in-Err-Disk-clause-within g c = tt
+
+pub returns-in-Err-Disk-clause-bytes : goal.returns-in-Err-Disk-clause-bytes
+returns-in-Err-Disk-clause-bytes g c = tt

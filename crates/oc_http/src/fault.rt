@@ -5,11 +5,9 @@ ghost use Rattle.oc_http.specs.declared.fault.HttpFault.TheVariants.{Memory as H
 use oc_base::Memory;
 use oc_io::{Failed, ReadFault};
 use std::alloc::{AllocError, AllocFailed};
-use std::error::Error;
-use std::fmt;
 
 /// Why a message was not read. The faults that a head can have at once come in this order.
-#[derive(Clone, Copy, Debug)]
+#[derive(Clone, Copy)]
 pub enum HttpFault {
     /// A call on the source failed.
     Source,
@@ -39,27 +37,6 @@ pub enum HttpFault {
     /// Memory ran out.
     Memory,
 }
-
-impl fmt::Display for HttpFault {
-    fn fmt<W: fmt::Write>(&self, f: &mut fmt::Formatter<W>) -> fmt::Result {
-        let text = match self {
-            HttpFault::Source => "the source failed",
-            HttpFault::Ended => "the source ended within a message",
-            HttpFault::Head => "the bytes are no head",
-            HttpFault::HeadLong => "the head is too long",
-            HttpFault::Fields => "the head has too many fields",
-            HttpFault::Host => "there is not one Host field",
-            HttpFault::Coding { .. } => "the transfer coding is not understood",
-            HttpFault::Length { missing: true } => "there is no Content-Length",
-            HttpFault::Length { missing: false } => "the Content-Length is no number",
-            HttpFault::BodyLong => "the body is too long",
-            HttpFault::Memory => "out of memory",
-        };
-        f.write_str(text)
-    }
-}
-
-impl Error for HttpFault {}
 
 impl From<Failed> for HttpFault {
     ghost from_gives = { λ _ fault. fault ≡ HttpSource };

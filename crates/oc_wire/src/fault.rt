@@ -4,11 +4,9 @@ ghost use Rattle.oc_wire.specs.Faults.{fault_of};
 
 use oc_base::{FieldFault, Memory, Short};
 use std::alloc::{AllocError, AllocFailed};
-use std::error::Error;
-use std::fmt;
 
 /// Why bytes are no message: the first fault, in the order of these.
-#[derive(Clone, Copy, Debug)]
+#[derive(Clone, Copy)]
 pub enum WireFault {
     /// The sender or the receiver is none of the nodes.
     Stranger,
@@ -23,21 +21,6 @@ pub enum WireFault {
     /// Memory ran out.
     Memory,
 }
-
-impl fmt::Display for WireFault {
-    fn fmt<W: fmt::Write>(&self, f: &mut fmt::Formatter<W>) -> fmt::Result {
-        match self {
-            WireFault::Stranger => f.write_str("a message is from or to no node"),
-            WireFault::Kind(code) => write!(f, "no message has the code {code}"),
-            WireFault::Short => f.write_str("a message is cut off"),
-            WireFault::Value => f.write_str("a field of a message is out of range"),
-            WireFault::Trailing => f.write_str("there are bytes behind a message"),
-            WireFault::Memory => f.write_str("out of memory"),
-        }
-    }
-}
-
-impl Error for WireFault {}
 
 impl From<FieldFault> for WireFault {
     ghost from_gives = { λ field fault. fault ≡ fault_of field };

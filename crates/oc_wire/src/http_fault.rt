@@ -3,11 +3,9 @@ ghost use Rattle.oc_wire.specs.Faults.{fault_of_http, fault_of_wire};
 
 use crate::WireFault;
 use oc_http::HttpFault;
-use std::error::Error;
-use std::fmt;
 
 /// Why a request brings no message: the first fault, in the order of these.
-#[derive(Clone, Copy, Debug)]
+#[derive(Clone, Copy)]
 pub enum HttpWireFault {
     /// The bytes are no request with its whole body.
     NotHttp,
@@ -18,19 +16,6 @@ pub enum HttpWireFault {
     /// Memory ran out.
     Memory,
 }
-
-impl fmt::Display for HttpWireFault {
-    fn fmt<W: fmt::Write>(&self, f: &mut fmt::Formatter<W>) -> fmt::Result {
-        match self {
-            HttpWireFault::NotHttp => f.write_str("the bytes are no request"),
-            HttpWireFault::Route => f.write_str("a request is none that brings a message"),
-            HttpWireFault::Wire(fault) => fault.fmt(f),
-            HttpWireFault::Memory => f.write_str("out of memory"),
-        }
-    }
-}
-
-impl Error for HttpWireFault {}
 
 impl From<HttpFault> for HttpWireFault {
     ghost from_gives = { λ http fault. fault ≡ fault_of_http http };

@@ -24,17 +24,20 @@ one true wanted count = refl
 one false true count = great (nat_lt MAX_BODY_BYTES count) count
 one false false count = great (nat_lt MAX_BODY_BYTES count) count
 
+-- what is told of the length, without a transfer coding
 told_is : (wanted : Bool) (told : List (List ℕ)) → (checked_length [] told >>= wanted_length wanted) ≡ fault_or (unwrap_or (length_of told) 0) (length_fault wanted told)
 told_is true [] = refl
 told_is false [] = refl
 told_is wanted (value ∷ []) = one (is_unusable (value ∷ [])) wanted (unwrap_or (length_of (value ∷ [])) 0)
 told_is wanted (value ∷ second ∷ more) = refl
 
+-- all tests of a head, as values
 tests : (over host wanted : Bool) (coded told : List (List ℕ)) → cond over (Err Fields) (cond host (Err Host) (checked_length coded told >>= wanted_length wanted)) ≡ fault_or (unwrap_or (length_of told) 0) (cond over (Some Fields) (cond host (Some Host) (cond (is_present coded) (Some (Coding (is_present told))) (length_fault wanted told))))
 tests true host wanted coded told = refl
 tests false true wanted coded told = refl
 tests false false wanted [] told = told_is wanted told
 tests false false wanted (value ∷ more) told = refl
 
+-- the two definitions of it are one
 pub length_is : (verb : Verb) (minor : ℕ) (fields : List Named) → body_length verb minor fields ≡ fault_or (unwrap_or (length_of (lengths fields)) 0) (head_fault verb minor fields)
 length_is verb minor fields = tests (nat_lt MAX_FIELDS (length fields)) (has_host_fault minor (hosts fields)) (is_post verb) (codings fields) (lengths fields)

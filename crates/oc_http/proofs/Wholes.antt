@@ -23,10 +23,12 @@ start_first over coded told = cond over (Some Fields) (cond coded (Some (Coding 
 abbrev left_first : Bool → List (List ℕ) → Option HttpFault
 left_first chunked told = cond chunked (Some (Coding false)) (cond (nat_lt MAX_BODY_BYTES (unwrap_or (length_of told) 0)) (Some BodyLong) None)
 
+-- a length that is refused by nobody changes nothing
 passed : (bad : Bool) (rest : Option HttpFault) → cond bad (Some (Length false)) None ≡ None → cond bad (Some (Length false)) rest ≡ rest
 passed true rest h = cc
 passed false rest h = refl
 
+-- where the one refuses nothing, the other refuses what is left
 left_is : (over coded only : Bool) (told : List (List ℕ)) → (only ≡ true → coded ≡ true) → head_first over coded only told ≡ None → start_first over coded told ≡ left_first (only && not (is_present told)) told
 left_is true coded only told implied h = cc
 left_is false false true told implied h = let e = implied refl in cc
@@ -35,6 +37,7 @@ left_is false true false told implied h = cc
 left_is false true true [] implied h = refl
 left_is false true true (value ∷ more) implied h = cc
 
+-- a length that the one refuses the other refuses
 stays : (bad : Bool) (rest : Option HttpFault) (fault : HttpFault) → cond bad (Some (Length false)) None ≡ Some fault → cond bad (Some (Length false)) rest ≡ Some fault
 stays true rest fault h = h
 stays false rest fault h = cc
@@ -47,10 +50,12 @@ same_first false true false told fault h = h
 same_first false true true [] fault h = cc
 same_first false true true (value ∷ more) fault h = h
 
+-- a field whose only value is this is present
 only_present : (text : List ℕ) (values : List (List ℕ)) → is_only text values ≡ true → is_present values ≡ true
 only_present text [] h = h
 only_present text (value ∷ more) h = refl
 
+-- what is given has no fault
 none_ok : {A : Type 0} (value got : A) (first : Option HttpFault) → fault_or value first ≡ Ok got → (value ≡ got) × (first ≡ None)
 none_ok value got None h = (cc, refl)
 none_ok value got (Some first) h = cc
@@ -64,6 +69,7 @@ start_is head said h =
     let rest = left_is (nat_lt MAX_FIELDS (length fields)) (is_present (codings fields)) (is_only (codes "chunked") (codings fields)) (lengths fields) (only_present (codes "chunked") (codings fields)) p.1 in
     ap (fault_or all) rest ∙ ap (λ (r : ReplyHead). fault_or r (whole_fault r)) p.0
 
+-- what is refused for the one is read so for the other
 start_err : (head : ResponseHead) (fault : HttpFault) → read_reply_head head ≡ Err fault → read_reply_start head ≡ Err fault
 start_err head fault h =
     let fields = named head.fields in
@@ -83,6 +89,7 @@ start_refuses bytes done fault said = record { head = said.head; whole = said.wh
 pub start_says : (bytes : List ℕ) (head : ReplyHead) → SaysReplyHead bytes head → whole_fault head ≡ None → SaysReplyStart bytes head
 start_says bytes head said left = record { head = said.head; whole = said.whole; fits = said.fits; answer_is = start_is said.head head said.answer_is ∙ ap (fault_or head) left }
 
+-- what is left is a fault of the fields
 left_field : (head : ReplyHead) (fault : HttpFault) → whole_fault head ≡ Some fault → IsFieldFault fault
 left_field head fault = chain head.chunked (Coding false) _ fault (tt {0}) (chain (nat_lt MAX_BODY_BYTES (unwrap_or head.length 0)) BodyLong None fault (tt {0}) (none fault))
 

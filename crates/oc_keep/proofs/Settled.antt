@@ -23,16 +23,19 @@ unfailed true is not = absurd (not (is.0 refl))
 
 -- An input that is made ready
 
+-- an open node does not answer that it is closed
 pub ready_open : {T : Type 0} (r : Result T ReadyError) → IfErr r (λ e. e ≢ readies.Closed) → IsErrOf r readies.Closed → ⊥
 ready_open (Ok x) other wrong = absurd cc
 ready_open (Err e) other wrong = let is : e ≡ readies.Closed = cc in other is
 
+-- where no disk failed, all that can be wanting is memory
 pub ready_wants : {T : Type 0} (r : Result T ReadyError) → IfErr r (λ e. e ≢ readies.Closed) → (IsErrOf r readies.Disk → ⊥) → IfErr r (λ e. e ≡ readies.Memory)
 ready_wants (Ok x) other not = tt
 ready_wants (Err readies.Closed) other not = absurd (other refl)
 ready_wants (Err readies.Memory) other not = refl
 ready_wants (Err readies.Disk) other not = absurd (not refl)
 
+-- what can be committed to the open node can be committed to the node as it is left
 pub ready_commits : {D : Type 0} (view : D → DiskView) (n : NodeView) (s : StoreView D) (c : ContentView D) (r : Result ReadyView ReadyError) (b : Bool) → (IsTrue b ↔ IsErrOf r readies.Disk)
     → IfOk r (λ ready. CanCommit view (kept_of n s c false) ready) → IfOk r (λ ready. CanCommit view (kept_of n s c b) ready)
 ready_commits view n s c (Err e) b is can = tt
@@ -40,6 +43,7 @@ ready_commits view n s c (Ok ready) b is can = subst (λ (closed : Bool). CanCom
 
 -- A turning over
 
+-- an open node does not answer that it is closed
 pub tidy_open : {T : Type 0} (r : Result T TidyError) → IfErr r (λ e. e ≢ tidies.Closed) → IsErrOf r tidies.Closed → ⊥
 tidy_open (Ok x) other wrong = absurd cc
 tidy_open (Err e) other wrong = let is : e ≡ tidies.Closed = cc in other is
@@ -49,6 +53,7 @@ abbrev pub Turned : {D : Type 0} → (D → DiskView) → List Record → Type 0
 Turned view rs Short s s2 b =
     ((Short × Replaces view rs s s2) × (b ≡ false)) ⊎ ((KeepsStore view s s2 × (b ≡ false)) ⊎ ((Short × ClosesByTurning view rs s s2) × (b ≡ true)))
 
+-- one of these is so, by what the call promises
 pub turned_so : {D : Type 0} (view : D → DiskView) (rs : List Record) (Short : Type 0) (s s2 : StoreView D) (b : Bool) (r : Result Bool TidyError) → (IsTrue b ↔ IsErrOf r tidies.Disk)
     → IfOk r (λ turned. IsTrue turned ↔ Short) → IfOk r (λ turned. IsTrue turned → Replaces view rs s s2) → IfOk r (λ turned. turned ≡ false → s2 ≡ s)
     → (IsErrOf r tidies.Memory → KeepsStore view s s2) → (IsErrOf r tidies.Disk → ClosesByTurning view rs s s2) → (IsErrOf r tidies.Disk → Short) → IfErr r (λ e. e ≢ tidies.Closed) → Turned view rs Short s s2 b

@@ -9,7 +9,7 @@ use std::error::Error;
 use std::fmt;
 
 /// Why a text is no configuration.
-#[derive(Clone, Copy, Debug, PartialEq, Eq)]
+#[derive(Clone, Copy, Debug)]
 pub enum ConfigFault {
     /// It is no TOML.
     Toml,

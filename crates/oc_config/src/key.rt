@@ -4,7 +4,7 @@ ghost use Rattle.oc_config.specs.Keys.{key_text};
 use std::fmt;
 
 /// A key of a configuration.
-#[derive(Clone, Copy, Debug, PartialEq, Eq)]
+#[derive(Clone, Copy, Debug)]
 pub enum Key {
     Chain,
     Node,
@@ -41,7 +41,6 @@ impl Key {
 
 impl fmt::Display for Key {
     fn fmt<W: fmt::Write>(&self, f: &mut fmt::Formatter<W>) -> fmt::Result {
-        let word = self.word();
-        write!(f, "{word}")
+        f.write_str(self.word())
     }
 }

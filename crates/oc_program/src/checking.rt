@@ -13,7 +13,7 @@ use oc_words::Member;
 use std::alloc::Global;
 
 /// How `check` ended.
-#[derive(Clone, Copy, Debug, PartialEq, Eq)]
+#[derive(Clone, Copy)]
 pub enum CheckEnd {
     /// The whole text was written.
     Done,

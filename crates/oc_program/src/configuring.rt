@@ -12,7 +12,7 @@ use oc_io::{ReadFault, Source, read_all};
 use std::alloc::Global;
 
 /// Why there is no configuration.
-#[derive(Clone, Copy, Debug, PartialEq, Eq)]
+#[derive(Clone, Copy)]
 pub enum ConfigEnd {
     /// The input failed.
     Source,

@@ -16,7 +16,7 @@ use oc_replay::ReplayEnd;
 use oc_service::{NodeEnd, TurnEnd};
 
 /// How a run ended.
-#[derive(Clone, Copy, Debug, PartialEq, Eq)]
+#[derive(Clone, Copy)]
 pub enum End {
     /// The help was written.
     Helped,

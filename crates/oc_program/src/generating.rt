@@ -13,7 +13,7 @@ use oc_words::Sample;
 use std::alloc::Global;
 
 /// How `gen` ended.
-#[derive(Clone, Copy, Debug, PartialEq, Eq)]
+#[derive(Clone, Copy)]
 pub enum GenEnd {
     /// The whole schedule was written.
     Done,

@@ -12,7 +12,7 @@ use oc_rules::rules_text;
 use std::alloc::Global;
 
 /// How `rules` ended.
-#[derive(Clone, Copy, Debug, PartialEq, Eq)]
+#[derive(Clone, Copy)]
 pub enum RulesEnd {
     /// All lines were written.
     Done,

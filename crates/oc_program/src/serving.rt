@@ -18,7 +18,7 @@ use oc_words::Service;
 use std::alloc::Global;
 
 /// How `node` ended.
-#[derive(Clone, Copy, Debug, PartialEq, Eq)]
+#[derive(Clone, Copy)]
 pub enum ServiceEnd {
     /// There is no configuration.
     Config(ConfigEnd),

@@ -24,7 +24,7 @@ use std::alloc::Global;
 use std::io::{Stderr, Stdin, Stdout};
 
 /// What a run over bytes in memory left.
-#[derive(Debug, Drop)]
+#[derive(Drop)]
 pub struct MemoryRun {
     /// The status.
     pub status: u8,
@@ -96,7 +96,7 @@ pub fn run_in_memory<T: Stage, D: Disk, L: Link, C: Clock>(
 }
 
 /// What a run over the standard streams left.
-#[derive(Clone, Copy, Debug, PartialEq, Eq)]
+#[derive(Clone, Copy)]
 pub struct StreamsRun {
     /// The status.
     pub status: u8,

@@ -2,8 +2,9 @@
 
 ghost use Rattle.oc_wire.specs.Spelling.{HasSpelling};
 
+use crate::requests::put_fault;
 use crate::words::{put_message, put_wire_fault};
-use oc_wire::{Message, decode, encode, from_http, to_http};
+use oc_wire::{HttpWireFault, Message, decode, encode, from_http, to_http};
 use std::alloc::Global;
 use test_tools::{Fault, Fields, put_hex};
 
@@ -82,6 +83,13 @@ fn brought_by(alloc: Global, message: &Message, nodes: u32) -> Result<String, Fa
     let request = to_http(alloc, message, "node2")?;
     match from_http(alloc, &request, nodes) {
         Ok(message) => words_of(alloc, &message),
-        Err(fault) => Ok(format!(in alloc; "{fault}")?),
+        Err(fault) => words_of_fault(alloc, fault),
     }
+}
+
+/// The words of a request that brings no message.
+fn words_of_fault(alloc: Global, fault: HttpWireFault) -> Result<String, Fault> {
+    let mut said = String::new(alloc);
+    put_fault(&mut said, fault)?;
+    Ok(said)
 }

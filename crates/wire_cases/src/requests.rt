@@ -48,7 +48,8 @@ fn put_read(alloc: Global, given: &str, said: &mut String) -> Result<(), Fault> 
     }
 }
 
-fn put_fault(said: &mut String, fault: HttpWireFault) -> Result<(), Fault> {
+/// Puts the words of a request that brings no message.
+pub fn put_fault(said: &mut String, fault: HttpWireFault) -> Result<(), Fault> {
     match fault {
         HttpWireFault::NotHttp => Ok(said.push_str("nothttp")?),
         HttpWireFault::Route => Ok(said.push_str("route")?),

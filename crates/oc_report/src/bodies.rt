@@ -1,7 +1,7 @@
 //! What messages say, put at the end of a buffer.
 
 ghost use Rattle.std.specs.Prelude.{◌≡◌, ◌++◌, OnOk};
-ghost use Rattle.oc_replay.specs.Bodies.{body_text, node_or_zero, rank_or_dash, rank_text, tree_text, why_text};
+ghost use Rattle.oc_report.specs.Bodies.{body_text, node_or_zero, rank_or_dash, rank_text, tree_text, why_text};
 
 use crate::items::{put_count, put_list};
 use crate::texts::put_mark;

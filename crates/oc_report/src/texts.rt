@@ -1,7 +1,7 @@
 //! Texts put at the end of a buffer.
 
 ghost use Rattle.std.specs.Prelude.{◌≡◌, ◌++◌, OnOk};
-ghost use Rattle.oc_replay.specs.Bodies.{mark};
+ghost use Rattle.oc_report.specs.Bodies.{mark};
 
 use oc_base::{Memory, put};
 

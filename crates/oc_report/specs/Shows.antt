@@ -3,7 +3,7 @@ use Rattle.oc_base.specs.declared.cert.Line.{Line}
 use Rattle.oc_model.specs.declared.mode.Mode.{Mode}
 use Rattle.oc_model.specs.declared.mode.Mode.TheVariants.{Idle, Asking, Joined, Acting}
 use Rattle.oc_stage.specs.declared.sight.Sight.{Sight}
-use Rattle.oc_replay.specs.Bodies.{cert_text, list_text, rank_or_dash}
+use Rattle.oc_report.specs.Bodies.{cert_text, list_text, rank_or_dash}
 
 -- How a node stands, as a report shows it.
 

@@ -1,7 +1,7 @@
 //! The lines of a report, each put at the end of a buffer.
 
 ghost use Rattle.std.specs.Prelude.{◌≡◌, ◌++◌, OnOk, IfOk};
-ghost use Rattle.oc_replay.specs.Lines.{answer_text, word_text, event_line, message_line, held_line, held_text, end_line};
+ghost use Rattle.oc_report.specs.Lines.{answer_text, word_text, event_line, message_line, held_line, held_text, end_line};
 
 use crate::bodies::put_body;
 use crate::texts::put_mark;
@@ -9,8 +9,8 @@ use oc_base::{Memory, Shelf, put, put_with_number};
 use oc_model::{Answer, Message, Word};
 use std::alloc::Global;
 
-/// Puts `#i WORD`.
-pub(crate) fn put_event(out: &mut Vec<u8>, number: u64, word: &Word) -> Result<(), Memory>
+/// Puts `#i WORD`: the number of an event, and what came of it.
+pub fn put_event(out: &mut Vec<u8>, number: u64, word: &Word) -> Result<(), Memory>
     ensures { OnOk result (out.new.items ≡ out.old.items ++ event_line number word.now) }
 {
     put_with_number(out, b"#", number)?;
@@ -58,8 +58,8 @@ fn put_answer(out: &mut Vec<u8>, answer: Answer) -> Result<(), Memory>
     }
 }
 
-/// Puts `  mK A>B BODY`.
-pub(crate) fn put_message(out: &mut Vec<u8>, number: u64, message: &Message) -> Result<(), Memory>
+/// Puts `  mK A>B BODY`: the number of a message, between whom, and what it says.
+pub fn put_message(out: &mut Vec<u8>, number: u64, message: &Message) -> Result<(), Memory>
     ensures { OnOk result (out.new.items ≡ out.old.items ++ message_line number message.now) }
 {
     put_with_number(out, b"  m", number)?;
@@ -70,8 +70,8 @@ pub(crate) fn put_message(out: &mut Vec<u8>, number: u64, message: &Message) -> 
     put(out, b"\n")
 }
 
-/// Puts a line for each group.
-pub(crate) fn put_held(out: &mut Vec<u8>, shelf: &[Shelf]) -> Result<(), Memory>
+/// Puts the block of `held`: a line for each group, in the order in which they come.
+pub fn put_held(out: &mut Vec<u8>, shelf: &[Shelf]) -> Result<(), Memory>
     ensures { OnOk result (out.new.items ≡ out.old.items ++ held_text shelf.now) }
 {
     for line in shelf {
@@ -91,8 +91,8 @@ fn put_held_line(out: &mut Vec<u8>, line: &Shelf) -> Result<(), Memory>
     put(out, b"\n")
 }
 
-/// Puts `end E M`.
-pub(crate) fn put_end(out: &mut Vec<u8>, events: u64, messages: u64) -> Result<(), Memory>
+/// Puts `end E M`: how many events there were, and how many messages.
+pub fn put_end(out: &mut Vec<u8>, events: u64, messages: u64) -> Result<(), Memory>
     ensures { OnOk result (out.new.items ≡ out.old.items ++ end_line events messages) }
 {
     put_with_number(out, b"end ", events)?;
@@ -100,7 +100,7 @@ pub(crate) fn put_end(out: &mut Vec<u8>, events: u64, messages: u64) -> Result<(
     put(out, b"\n")
 }
 
-/// The block of `held`: a line for each group, in the order in which they come.
+/// The block of `held`, as a text of its own.
 pub fn held_text(alloc: Global, shelf: &[Shelf]) -> Result<Vec<u8>, Memory>
     ensures { IfOk result (λ text. text.items ≡ held_text shelf.now) }
 {

@@ -6,7 +6,7 @@ use Rattle.oc_model.specs.declared.answer.Answer.TheVariants as answers
 use Rattle.oc_model.specs.declared.message.Message.{Message}
 use Rattle.oc_model.specs.declared.word.Word.{Word}
 use Rattle.oc_model.specs.declared.word.Word.TheVariants as words
-use Rattle.oc_replay.specs.Bodies.{body_text, mark}
+use Rattle.oc_report.specs.Bodies.{body_text, mark}
 
 -- The lines of a report. A further word or block is one equation more.
 

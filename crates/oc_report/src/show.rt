@@ -1,7 +1,7 @@
 //! The block of `show`: how a node stands.
 
 ghost use Rattle.std.specs.Prelude.{◌≡◌, ◌++◌, OnOk, IfOk};
-ghost use Rattle.oc_replay.specs.Shows.{list_line, mode_text, node_line, show_text, state_text};
+ghost use Rattle.oc_report.specs.Shows.{list_line, mode_text, node_line, show_text, state_text};
 
 use crate::bodies::put_rank_or_dash;
 use crate::items::{Item, put_list};
@@ -10,7 +10,7 @@ use oc_model::Mode;
 use oc_stage::Sight;
 use std::alloc::Global;
 
-/// The block of `show`: four lines on a node, as it stands.
+/// The block of `show`, as a text of its own.
 pub fn show_text(alloc: Global, node: NodeId, sight: &Sight) -> Result<Vec<u8>, Memory>
     ensures { IfOk result (λ text. text.items ≡ show_text node sight.now) }
 {
@@ -19,8 +19,8 @@ pub fn show_text(alloc: Global, node: NodeId, sight: &Sight) -> Result<Vec<u8>, 
     Ok(text)
 }
 
-/// Puts the four lines.
-pub(crate) fn put_show(out: &mut Vec<u8>, node: NodeId, sight: &Sight) -> Result<(), Memory>
+/// Puts the block of `show`: four lines on a node, as it stands.
+pub fn put_show(out: &mut Vec<u8>, node: NodeId, sight: &Sight) -> Result<(), Memory>
     ensures { OnOk result (out.new.items ≡ out.old.items ++ show_text node sight.now) }
 {
     put_node_line(out, node, sight)?;

@@ -1,8 +1,8 @@
 use Rattle.std.proofs.Common.{◌∙◌, ◌++◌, ap, codes, decimal}
-use Rattle.oc_replay.specs.Bodies.{cert_text}
-use Rattle.oc_replay.specs.Shows.{list_line, listed_text, node_line}
-use Rattle.oc_replay.proofs.Shown.{four_parts}
-use Rattle.oc_replay.proofs.show.put_show.Goals as goal
+use Rattle.oc_report.specs.Bodies.{cert_text}
+use Rattle.oc_report.specs.Shows.{list_line, listed_text, node_line}
+use Rattle.oc_report.proofs.Shown.{four_parts}
+use Rattle.oc_report.proofs.show.put_show.Goals as goal
 
 -- one line behind the other
 pub returns : goal.returns

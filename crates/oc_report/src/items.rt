@@ -1,8 +1,8 @@
 //! Lists in brackets, put at the end of a buffer.
 
 ghost use Rattle.std.specs.Prelude.{◌≡◌, ℕ, List, [], ◌++◌, OnOk, decimal};
-ghost use Rattle.oc_replay.specs.Bodies.{cert_text, child_text, count_text, list_text, pair_text, sign_text, spaced};
-ghost use Rattle.oc_replay.specs.Shows.{listed_text};
+ghost use Rattle.oc_report.specs.Bodies.{cert_text, child_text, count_text, list_text, pair_text, sign_text, spaced};
+ghost use Rattle.oc_report.specs.Shows.{listed_text};
 
 use crate::texts::put_mark;
 use oc_base::{Cert, Child, Line, Memory, NodeId, Shelf, put, put_number, put_with_number};

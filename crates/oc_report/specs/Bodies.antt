@@ -1,6 +1,6 @@
 use Rattle.std.specs.Prelude.{ℕ, ◌==◌, Bool, true, false, not, Option, Some, None, List, [], ◌∷◌, ◌++◌, codes, decimal}
 use Rattle.std.specs.List.{flat_map}
-use Rattle.oc_schedule.specs.Fields.{bytes_text}
+use Rattle.oc_acts.specs.Fields.{bytes_text}
 use Rattle.oc_base.specs.declared.cert.Cert.{Cert}
 use Rattle.oc_base.specs.declared.cert.Child.{Child}
 use Rattle.oc_base.specs.declared.rank.Rank.{Rank}

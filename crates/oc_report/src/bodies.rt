@@ -5,11 +5,11 @@ ghost use Rattle.oc_report.specs.Bodies.{body_text, node_or_zero, rank_or_dash, 
 
 use crate::items::{put_count, put_list};
 use crate::texts::put_mark;
+use oc_acts::put_bytes;
 use oc_base::{
     Cert, Child, GroupName, Memory, NodeId, Rank, Refusal, Shelf, put, put_number, put_with_number,
 };
 use oc_model::Body;
-use oc_schedule::put_bytes;
 
 /// Puts what a message says.
 pub(crate) fn put_body(out: &mut Vec<u8>, body: &Body) -> Result<(), Memory>

@@ -17,8 +17,8 @@ use Rattle.oc_base.specs.Steps.{with_fault}
 use Rattle.oc_base.specs.Words.{is_number, number_in}
 use Rattle.oc_base.specs.declared.group_name.NameFault.TheVariants.{Length}
 use Rattle.oc_base.specs.declared.why.Why.TheVariants as causes
-use Rattle.oc_schedule.proofs.LineBack.{is_word}
-use Rattle.oc_schedule.specs.Fields.{bytes_in, bytes_text, group_in}
+use Rattle.oc_acts.proofs.LineBack.{is_word}
+use Rattle.oc_acts.specs.Fields.{bytes_in, bytes_text, group_in}
 
 -- what passes a test passes a weaker one
 weaker : (p q : ℕ → Bool) → ((b : ℕ) → p b ≡ true → q b ≡ true) → (bs : List ℕ) → list_all p bs ≡ true → list_all q bs ≡ true

@@ -1,6 +1,7 @@
--- Act lines: what the fields of each kind say, and the words that say it.
-use Rattle.std.specs.Prelude.{ℕ, if◌then◌else◌, Result, Ok, Err, List, [], ◌∷◌, codes, decimal}
+-- Act lines: what the fields of each kind say, the words that say it, and what an act publishes.
+use Rattle.std.specs.Prelude.{ℕ, if◌then◌else◌, Result, Ok, Err, List, [], ◌∷◌, length, codes, decimal}
 use Rattle.std.specs.Str.{bytes_eq}
+use Rattle.hex.specs.Hex.{IsBytes}
 use Rattle.oc_base.specs.Steps.{◌>>=◌}
 use Rattle.oc_base.specs.Words.{one, two, three, four, number_in, node_in}
 use Rattle.oc_base.specs.declared.limits.TheConstants.{MAX_RATE, MAX_START, MAX_TIME}
@@ -8,7 +9,7 @@ use Rattle.oc_base.specs.declared.why.Why.{Why}
 use Rattle.oc_base.specs.declared.why.Why.TheVariants as causes
 use Rattle.oc_model.specs.declared.event.Act.{Act}
 use Rattle.oc_model.specs.declared.event.Act.TheVariants.{Tick, Check, Move, Fail, Pull, Measure, Publish, Seal, Client, Deliver}
-use Rattle.oc_schedule.specs.Fields.{group_in, bytes_in, bytes_text}
+use Rattle.oc_acts.specs.Fields.{group_in, bytes_in, bytes_text}
 
 -- the greatest number of 64 bits, and of 8
 abbrev pub most_number : ℕ
@@ -146,3 +147,13 @@ act_fields (Deliver number) = decimal number ∷ []
 -- the words of an act line
 abbrev pub act_words : Act → List (List ℕ)
 act_words act = act_word act ∷ act_fields act
+
+-- the bytes that an act publishes
+abbrev pub bytes_of_act : Act → ℕ
+bytes_of_act (Publish node group bytes) = length bytes
+bytes_of_act act = 0
+
+-- what an act publishes is bytes
+abbrev pub PublishesBytes : Act → Type 0
+PublishesBytes (Publish node group bytes) = IsBytes bytes
+PublishesBytes act = Unit {0}

@@ -1,6 +1,6 @@
 use Rattle.std.proofs.Common.{◌≡◌, drop}
 use Rattle.std.specs.Str.{bytes_eq}
-use Rattle.oc_schedule.proofs.fields.are_same.Given as goal
+use Rattle.oc_acts.proofs.fields.are_same.Given as goal
 
 -- what is left of both decides
 abbrev pub invariant-loop-i : goal.invariant-loop-i

@@ -1,7 +1,7 @@
 ghost use Rattle.std.specs.Prelude.{◌≡◌, length};
 ghost use Rattle.std.specs.Str.{bytes_eq};
-ghost use Rattle.oc_schedule.specs.Fields.{group_in, bytes_in};
-ghost use Rattle.oc_schedule.specs.Reading.{GivesLine};
+ghost use Rattle.oc_acts.specs.Fields.{group_in, bytes_in};
+ghost use Rattle.oc_acts.specs.Reading.{GivesLine};
 
 use crate::fault::LineFault;
 use hex::FromHexError;
@@ -10,7 +10,7 @@ use std::alloc::Global;
 
 /// Whether a word is this text. Most words differ from a text in their length, so that is looked at first.
 #[tactic(auto, using(crate::proofs::Alike::of_other_length))]
-pub(crate) fn is(word: &[u8], text: &str) -> bool
+pub fn is(word: &[u8], text: &str) -> bool
     ensures { result ≡ bytes_eq word.now text.now }
 {
     let text = text.as_bytes();

@@ -2,7 +2,7 @@
 
 ghost use Rattle.std.specs.Prelude.{◌≡◌, ◌++◌, OnOk, codes, decimal};
 ghost use Rattle.hex.specs.Hex.{encode_lower};
-ghost use Rattle.oc_schedule.specs.Fields.{bytes_text};
+ghost use Rattle.oc_acts.specs.Fields.{bytes_text};
 
 use oc_base::{Memory, put, put_with_number};
 
@@ -15,7 +15,7 @@ pub(crate) fn put_field(out: &mut Vec<u8>, word: &[u8]) -> Result<(), Memory>
 }
 
 /// Puts a space and a number.
-pub(crate) fn put_number_field(out: &mut Vec<u8>, number: u64) -> Result<(), Memory>
+pub fn put_number_field(out: &mut Vec<u8>, number: u64) -> Result<(), Memory>
     ensures { OnOk result (out.new.items ≡ out.old.items ++ (codes " " ++ decimal number)) }
 {
     put_with_number(out, b" ", number)

@@ -1,8 +1,8 @@
 -- The limits on the text of a schedule.
 use Rattle.std.specs.Prelude.{ℕ, List, codes}
 use Rattle.oc_base.specs.declared.limits.TheConstants.{MAX_SCHEDULE_LINES, MAX_SCHEDULE_BYTES, MAX_SCHEDULE_PUBLISHED, MAX_SCHEDULE_SETTLES}
-use Rattle.oc_schedule.specs.declared.fault.What.{What}
-use Rattle.oc_schedule.specs.declared.fault.What.TheVariants.{Lines, Bytes, Published, Settles}
+use Rattle.oc_acts.specs.declared.fault.What.{What}
+use Rattle.oc_acts.specs.declared.fault.What.TheVariants.{Lines, Bytes, Published, Settles}
 
 -- how many there may be of each
 abbrev pub most_of : What → ℕ

@@ -1,6 +1,6 @@
 ghost use Rattle.std.specs.Prelude.{◌≡◌};
-ghost use Rattle.oc_schedule.specs.Limits.{most_of, what_text};
-ghost use Rattle.oc_schedule.specs.Reading.{fault_at};
+ghost use Rattle.oc_acts.specs.Limits.{most_of, what_text};
+ghost use Rattle.oc_acts.specs.Reading.{fault_at};
 
 use oc_base::{
     MAX_SCHEDULE_BYTES, MAX_SCHEDULE_LINES, MAX_SCHEDULE_PUBLISHED, MAX_SCHEDULE_SETTLES, Why,
@@ -80,7 +80,7 @@ impl fmt::Display for ScheduleFault {
 impl Error for ScheduleFault {}
 
 impl From<AllocError> for ScheduleFault {
-    ghost use Rattle.oc_schedule.specs.declared.fault.ScheduleFault.TheVariants.{Memory};
+    ghost use Rattle.oc_acts.specs.declared.fault.ScheduleFault.TheVariants.{Memory};
 
     ghost from_gives = { λ _ fault. fault ≡ Memory };
 
@@ -90,7 +90,7 @@ impl From<AllocError> for ScheduleFault {
 }
 
 impl<T: Drop> From<AllocFailed<T>> for ScheduleFault {
-    ghost use Rattle.oc_schedule.specs.declared.fault.ScheduleFault.TheVariants.{Memory};
+    ghost use Rattle.oc_acts.specs.declared.fault.ScheduleFault.TheVariants.{Memory};
 
     ghost from_gives = { λ _ fault. fault ≡ Memory };
 
@@ -101,7 +101,7 @@ impl<T: Drop> From<AllocFailed<T>> for ScheduleFault {
 
 /// Why a line is not read, where its number is not known.
 #[derive(Clone, Copy, Debug, PartialEq, Eq)]
-pub(crate) enum LineFault {
+pub enum LineFault {
     /// It is refused for this cause.
     Cause(Why),
     /// Memory ran out.
@@ -110,7 +110,7 @@ pub(crate) enum LineFault {
 
 impl LineFault {
     /// The fault of the text, where the line has this number.
-    pub(crate) fn at(self, line: u32) -> ScheduleFault
+    pub fn at(self, line: u32) -> ScheduleFault
         ensures { result ≡ fault_at line self }
     {
         match self {
@@ -121,7 +121,7 @@ impl LineFault {
 }
 
 impl From<Why> for LineFault {
-    ghost use Rattle.oc_schedule.specs.declared.fault.LineFault.TheVariants.{Cause};
+    ghost use Rattle.oc_acts.specs.declared.fault.LineFault.TheVariants.{Cause};
 
     ghost from_gives = { λ why fault. fault ≡ Cause why };
 
@@ -131,7 +131,7 @@ impl From<Why> for LineFault {
 }
 
 impl From<AllocError> for LineFault {
-    ghost use Rattle.oc_schedule.specs.declared.fault.LineFault.TheVariants.{Memory};
+    ghost use Rattle.oc_acts.specs.declared.fault.LineFault.TheVariants.{Memory};
 
     ghost from_gives = { λ _ fault. fault ≡ Memory };
 
@@ -141,7 +141,7 @@ impl From<AllocError> for LineFault {
 }
 
 impl<T: Drop> From<AllocFailed<T>> for LineFault {
-    ghost use Rattle.oc_schedule.specs.declared.fault.LineFault.TheVariants.{Memory};
+    ghost use Rattle.oc_acts.specs.declared.fault.LineFault.TheVariants.{Memory};
 
     ghost from_gives = { λ _ fault. fault ≡ Memory };
 

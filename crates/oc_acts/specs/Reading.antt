@@ -1,8 +1,8 @@
 use Rattle.std.specs.Prelude.{◌≡◌, ℕ, Result, Ok, Err}
-use Rattle.oc_schedule.specs.declared.fault.LineFault.{LineFault}
-use Rattle.oc_schedule.specs.declared.fault.LineFault.TheVariants as lines
-use Rattle.oc_schedule.specs.declared.fault.ScheduleFault.{ScheduleFault}
-use Rattle.oc_schedule.specs.declared.fault.ScheduleFault.TheVariants.{Line, Limit, Memory}
+use Rattle.oc_acts.specs.declared.fault.LineFault.{LineFault}
+use Rattle.oc_acts.specs.declared.fault.LineFault.TheVariants as lines
+use Rattle.oc_acts.specs.declared.fault.ScheduleFault.{ScheduleFault}
+use Rattle.oc_acts.specs.declared.fault.ScheduleFault.TheVariants.{Line, Limit, Memory}
 use Rattle.oc_base.specs.declared.why.Why.{Why}
 
 -- How reading is said: a function on lists gives a value or the first fault, and a call gives what it gives.

@@ -5,10 +5,10 @@
 
 ghost use Rattle.std.specs.Prelude.{◌≡◌, [], ◌∷◌, ◌++◌, OnOk, decimal};
 ghost use Rattle.oc_base.specs.Words.{words};
-ghost use Rattle.oc_schedule.specs.Acts.{tick_in, check_in, pair_in, move_in, fail_in, pull_in, measure_in, publish_in, seal_in, client_in, deliver_in, act_in, act_words, act_word, act_fields};
-ghost use Rattle.oc_schedule.specs.Fields.{bytes_text};
-ghost use Rattle.oc_schedule.specs.Printing.{fields_text, spaced};
-ghost use Rattle.oc_schedule.specs.Reading.{GivesLine};
+ghost use Rattle.oc_acts.specs.Acts.{tick_in, check_in, pair_in, move_in, fail_in, pull_in, measure_in, publish_in, seal_in, client_in, deliver_in, act_in, act_words, act_word, act_fields};
+ghost use Rattle.oc_acts.specs.Fields.{bytes_text};
+ghost use Rattle.oc_acts.specs.Texts.{fields_text, spaced};
+ghost use Rattle.oc_acts.specs.Reading.{GivesLine};
 
 use crate::fault::LineFault;
 use crate::fields::{bytes, group, is};
@@ -139,8 +139,9 @@ fn deliver(fields: &[u8]) -> Result<Act, LineFault>
     })
 }
 
-/// An act line, by its word.
-pub(crate) fn act(alloc: Global, nodes: u32, word: &[u8], fields: &[u8]) -> Result<Act, LineFault>
+/// The act that a line of this word and these fields says, in a run of so many nodes, or the first
+/// cause for which it says none.
+pub fn act(alloc: Global, nodes: u32, word: &[u8], fields: &[u8]) -> Result<Act, LineFault>
     ensures { GivesLine result (act_in nodes word.now (words fields.now)) }
 {
     if is(word, "tick") {
@@ -168,8 +169,8 @@ pub(crate) fn act(alloc: Global, nodes: u32, word: &[u8], fields: &[u8]) -> Resu
     }
 }
 
-/// Puts the words of an act line.
-pub(crate) fn put_act(out: &mut Vec<u8>, act: &Act) -> Result<(), Memory>
+/// Puts the words of an act line, with a space between each two.
+pub fn put_act(out: &mut Vec<u8>, act: &Act) -> Result<(), Memory>
     ensures { OnOk result (out.new.items ≡ out.old.items ++ spaced (act_words act.now)) }
 {
     put(out, word_of(act).as_bytes())?;

@@ -5,7 +5,7 @@ use Rattle.hex.specs.Hex.{decode_of, encode_lower}
 use Rattle.oc_base.specs.Names.{parsed_name}
 use Rattle.oc_base.specs.Steps.{with_fault}
 use Rattle.oc_base.specs.declared.why.Why.{Why}
-use Rattle.oc_base.specs.declared.why.Why.TheVariants.{Count, Group, Hex}
+use Rattle.oc_base.specs.declared.why.Why.TheVariants.{Group, Hex}
 
 -- the group whose name a field is
 abbrev pub group_in : List ℕ → Result (List ℕ) Why
@@ -22,8 +22,3 @@ bytes_in field =
 abbrev pub bytes_text : List ℕ → List ℕ
 bytes_text [] = codes "-"
 bytes_text (b ∷ bs) = encode_lower (b ∷ bs)
-
--- the first three fields and those behind them
-abbrev pub first_three : List (List ℕ) → Result (List ℕ × List ℕ × List ℕ × List (List ℕ)) Why
-first_three (a ∷ b ∷ c ∷ rest) = Ok (a, b, c, rest)
-first_three fields = Err Count

@@ -10,7 +10,7 @@ use Rattle.std.proofs.lemmas.List.Elements.{All-from_recursion}
 use Rattle.std.proofs.lemmas.List.Splits.{slice_split_at, slice_split_none}
 use Rattle.oc_base.proofs.LineCuts.{lines_more}
 use Rattle.oc_base.specs.Words.{words}
-use Rattle.oc_schedule.specs.Printing.{spaced, line_text}
+use Rattle.oc_acts.specs.Texts.{spaced, line_text}
 
 -- a word: some bytes, each greater than a space
 abbrev pub is_word : List ℕ → Bool

@@ -4,7 +4,7 @@ use Rattle.oc_model.specs.declared.event.Act.TheVariants as acts
 use Rattle.oc_model.specs.declared.input.Input.{Input}
 use Rattle.oc_model.specs.declared.input.Input.TheVariants as inputs
 use Rattle.oc_model.specs.declared.message.Message.{Message}
-use Rattle.oc_schedule.specs.Printing.{act_line, recv_line}
+use Rattle.oc_acts.specs.Texts.{act_line, recv_line}
 use Rattle.oc_wire.specs.Reading.{decoded}
 use Rattle.oc_wire.specs.Spelling.{spelling, HasSpelling}
 use Rattle.oc_wire.specs.declared.fault.WireFault.{WireFault}

@@ -1,13 +1,12 @@
 ghost use Rattle.std.specs.Prelude.{◌≡◌};
 ghost use Rattle.oc_base.specs.Reading as fields;
-ghost use Rattle.oc_message.specs.Reading.{Gives, is_node, body_at, fields_at, decoded};
+ghost use Rattle.oc_message.specs.Reading.{Gives, body_at, closed, decoded, fields_at, is_node, message_at};
 
 use crate::WireFault;
+use crate::children::look_is_at;
 use crate::codes::CODES;
-use crate::kinds::{
-    ask_at, check_ack_at, check_in_at, chunk_at, fetch_at, look_is_at, no_at, rejoin_at, yes_at,
-};
 use oc_base::{FieldFault, NodeId, row_of, take_u8, take_u32};
+use oc_fields::{ask_at, check_ack_at, check_in_at, chunk_at, fetch_at, no_at, rejoin_at, yes_at};
 use oc_model::{Body, Message};
 use std::alloc::Global;
 
@@ -19,11 +18,34 @@ pub fn read_message(alloc: Global, nodes: u32, bytes: &[u8]) -> Result<Message, 
     let (from, next) = take_u32(bytes, 0)?;
     let (to, next) = take_u32(bytes, next)?;
     let (code, next) = take_u8(bytes, next)?;
+    message_at(alloc, nodes, from, to, code, bytes, next)
+}
+
+/// The message from this sender to this receiver, whose fields begin at an index, after its kind's code.
+fn message_at(
+    alloc: Global,
+    nodes: u32,
+    from: u32,
+    to: u32,
+    code: u8,
+    bytes: &[u8],
+    at: usize,
+) -> Result<Message, WireFault>
+    ensures { Gives result (message_at nodes from to code bytes.now at) }
+{
     if !is_node(nodes, from) || !is_node(nodes, to) {
         return Err(WireFault::Stranger);
     }
-    let (body, end) = body_at(alloc, code, nodes, bytes, next)?;
-    if end != bytes.len() {
+    let body = body_at(alloc, code, nodes, bytes, at)?;
+    closed(from, to, bytes.len(), body)
+}
+
+/// The message with this body, which ends where the bytes do.
+fn closed(from: u32, to: u32, end: usize, body: (Body, usize)) -> Result<Message, WireFault>
+    ensures { Gives result (closed from to end body) }
+{
+    let (body, next) = body;
+    if next != end {
         return Err(WireFault::Trailing);
     }
     Ok(Message {

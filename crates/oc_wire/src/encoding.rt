@@ -7,7 +7,8 @@ use oc_base::{
     Bytes, CertList, Child, ChildList, GroupName, IdList, Memory, NodeId, Rank, Refusal, Shelf,
     ShelfList,
 };
-use oc_message::{CODES, REFUSALS};
+use oc_fields::REFUSALS;
+use oc_message::CODES;
 use oc_model::{Body, Message};
 use std::alloc::{AllocError, Global};
 

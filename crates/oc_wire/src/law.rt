@@ -14,8 +14,9 @@ ghost use Rattle.oc_wire.specs.declared.http_fault.HttpWireFault.{HttpWireFault}
 ghost use Rattle.oc_message.specs.declared.fault.WireFault.TheVariants.{Stranger as WireStranger, Short as WireShort, Kind as WireKind, Trailing as WireTrailing};
 
 use oc_base::distinct;
+use oc_fields::REFUSALS;
 use oc_http::a_request_has_one_answer;
-use oc_message::{CODES, REFUSALS};
+use oc_message::CODES;
 
 /// No two kinds have one code, and no two refusals. It is computed.
 pub fn codes_are_distinct()

@@ -25,5 +25,6 @@ pub use law::{
     codes_are_distinct, examples_are_read, least_lengths_are_exact,
     no_two_messages_have_one_spelling, requests_have_one_answer, spellings_are_read,
 };
-pub use oc_message::{CODES, REFUSALS, WireFault};
+pub use oc_fields::REFUSALS;
+pub use oc_message::{CODES, WireFault};
 pub use oc_model::{Body, Message};

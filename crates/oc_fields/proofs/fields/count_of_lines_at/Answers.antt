@@ -1,8 +1,8 @@
 use Rattle.std.proofs.Common.{Some, sym}
 use Rattle.std.proofs.lemmas.Result.{err_from_is_err_and}
 use Rattle.oc_base.proofs.ItemRuns.{goes_on, ends, is_done, gives}
-use Rattle.oc_message.specs.Reading.{line_at}
-use Rattle.oc_message.proofs.fields.count_of_lines_at.Goals as goal
+use Rattle.oc_fields.specs.Reading.{line_at}
+use Rattle.oc_fields.proofs.fields.count_of_lines_at.Goals as goal
 
 pub returns-in_err-line : goal.returns-in_err-line
 returns-in_err-line c =

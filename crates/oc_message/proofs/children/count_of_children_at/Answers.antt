@@ -1,8 +1,8 @@
 use Rattle.std.proofs.Common.{sym}
 use Rattle.std.proofs.lemmas.Result.{err_from_is_err_and}
 use Rattle.oc_base.proofs.ItemRuns.{goes_on, ends, is_done, gives}
-use Rattle.oc_message.specs.Reading.{child_at}
-use Rattle.oc_message.proofs.fields.count_of_children_at.Goals as goal
+use Rattle.oc_fields.specs.Reading.{child_at}
+use Rattle.oc_message.proofs.children.count_of_children_at.Goals as goal
 
 pub returns-in_err-child : goal.returns-in_err-child
 returns-in_err-child c =

@@ -1,40 +1,17 @@
-//! The fields of each kind of message: each function reads those of one kind at an index, and gives the
-//! body and the next index, or the first fault from the left.
+//! The fields of each kind of message but a `LookIs`: each function reads those of one kind at an index,
+//! and gives the body and the next index, or the first fault from the left.
 
 ghost use Rattle.std.specs.Prelude.{◌≡◌};
 ghost use Rattle.oc_base.specs.Reading.{Gives};
-ghost use Rattle.oc_message.specs.Reading.{look_is_at, ask_at, yes_at, no_at, check_in_at, check_ack_at, rejoin_at, fetch_at, chunk_at};
+ghost use Rattle.oc_fields.specs.Reading.{ask_at, yes_at, no_at, check_in_at, check_ack_at, rejoin_at, fetch_at, chunk_at};
 
-use crate::fields::{
-    certs_at, children_at, chunk_bytes_at, have_at, name_at, parent_at, rank_or_none_at, refusal_at,
-};
+use crate::fields::{certs_at, chunk_bytes_at, have_at, name_at, rank_or_none_at, refusal_at};
 use oc_base::reading::{ancestors_at, count_at, flag_at, long_at, rank_at, rate_at, u64_within_at};
 use oc_base::{FieldFault, MAX_GROUP_BYTES};
 use oc_model::Body;
 use std::alloc::Global;
 
-#[tactic(auto, unfolding(crate::specs::Reading::look_is_at))]
-pub fn look_is_at(
-    alloc: Global,
-    nodes: u32,
-    bytes: &[u8],
-    at: usize,
-) -> Result<(Body, usize), FieldFault>
-    ensures { Gives result (look_is_at nodes bytes.now at) }
-{
-    let (in_tree, next) = flag_at(bytes, at)?;
-    let (parent, next) = parent_at(nodes, bytes, next)?;
-    let (rate, next) = rate_at(bytes, next)?;
-    let (children, next) = children_at(alloc, nodes, bytes, next)?;
-    let body = Body::LookIs {
-        in_tree,
-        parent,
-        rate,
-        children,
-    };
-    Ok((body, next))
-}
-
+/// The fields of an `Ask`: its number, and its rank or none.
 #[tactic(auto, unfolding(crate::specs::Reading::ask_at))]
 pub fn ask_at(bytes: &[u8], at: usize) -> Result<(Body, usize), FieldFault>
     ensures { result ≡ ask_at bytes.now at }
@@ -44,6 +21,7 @@ pub fn ask_at(bytes: &[u8], at: usize) -> Result<(Body, usize), FieldFault>
     Ok((Body::Ask { seq, rank }, next))
 }
 
+/// The fields of a `Yes`: the number of the ask, the rank, and the ancestors.
 #[tactic(auto, unfolding(crate::specs::Reading::yes_at))]
 pub fn yes_at(
     alloc: Global,
@@ -64,6 +42,7 @@ pub fn yes_at(
     Ok((body, next))
 }
 
+/// The fields of a `No`: the number of the ask, and the refusal.
 #[tactic(auto, unfolding(crate::specs::Reading::no_at))]
 pub fn no_at(nodes: u32, bytes: &[u8], at: usize) -> Result<(Body, usize), FieldFault>
     ensures { result ≡ no_at nodes bytes.now at }
@@ -73,6 +52,7 @@ pub fn no_at(nodes: u32, bytes: &[u8], at: usize) -> Result<(Body, usize), Field
     Ok((Body::No { seq, why }, next))
 }
 
+/// The fields of a `CheckIn`: its five numbers, and its certificates.
 #[tactic(auto, unfolding(crate::specs::Reading::check_in_at))]
 pub fn check_in_at(
     alloc: Global,
@@ -99,6 +79,7 @@ pub fn check_in_at(
     Ok((body, next))
 }
 
+/// The fields of a `CheckAck`: two numbers, the rank, and the ancestors.
 #[tactic(auto, unfolding(crate::specs::Reading::check_ack_at))]
 pub fn check_ack_at(
     alloc: Global,
@@ -121,6 +102,7 @@ pub fn check_ack_at(
     Ok((body, next))
 }
 
+/// The field of a `Rejoin`: its number.
 #[tactic(auto, unfolding(crate::specs::Reading::rejoin_at))]
 pub fn rejoin_at(bytes: &[u8], at: usize) -> Result<(Body, usize), FieldFault>
     ensures { result ≡ rejoin_at bytes.now at }
@@ -129,6 +111,7 @@ pub fn rejoin_at(bytes: &[u8], at: usize) -> Result<(Body, usize), FieldFault>
     Ok((Body::Rejoin { seq }, next))
 }
 
+/// The field of a `Fetch`: a shelf.
 #[tactic(auto, unfolding(crate::specs::Reading::fetch_at))]
 pub fn fetch_at(alloc: Global, bytes: &[u8], at: usize) -> Result<(Body, usize), FieldFault>
     ensures { Gives result (fetch_at bytes.now at) }
@@ -137,6 +120,7 @@ pub fn fetch_at(alloc: Global, bytes: &[u8], at: usize) -> Result<(Body, usize),
     Ok((Body::Fetch { have }, next))
 }
 
+/// The fields of a `Chunk`: the group, the start, whether it is the last, and the bytes.
 #[tactic(auto, unfolding(crate::specs::Reading::chunk_at))]
 pub fn chunk_at(alloc: Global, bytes: &[u8], at: usize) -> Result<(Body, usize), FieldFault>
     ensures { Gives result (chunk_at bytes.now at) }

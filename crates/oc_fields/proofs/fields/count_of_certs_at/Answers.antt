@@ -2,7 +2,7 @@ use Rattle.std.proofs.Common.{sym}
 use Rattle.std.proofs.lemmas.Result.{err_from_is_err_and}
 use Rattle.oc_base.specs.Reading.{cert_at}
 use Rattle.oc_base.proofs.ItemRuns.{goes_on, ends, is_done, gives}
-use Rattle.oc_message.proofs.fields.count_of_certs_at.Goals as goal
+use Rattle.oc_fields.proofs.fields.count_of_certs_at.Goals as goal
 
 pub returns-in_err-cert : goal.returns-in_err-cert
 returns-in_err-cert c =

@@ -1,19 +1,19 @@
-//! The fields of messages that are no plain numbers: each function reads a field at an index, and gives
-//! its value and the next index, or the fault.
+//! The fields of messages that are no plain numbers, but the children of a `LookIs`: each function reads a
+//! field at an index, and gives its value and the next index, or the fault.
 
 ghost use Rattle.std.specs.Prelude.{◌≡◌};
 ghost use Rattle.oc_base.specs.Reading.{each_at, items_at, cert_at, Gives};
-ghost use Rattle.oc_message.specs.Reading.{node_or_none, parent_at, rank_or_none_at, refusal_with, refusal_at, name_at, is_after, next_name_at, child_at, children_at, certs_at, line_at, have_at, chunk_bytes_at};
+ghost use Rattle.oc_fields.specs.Reading.{node_or_none, parent_at, rank_or_none_at, refusal_with, refusal_at, name_at, is_after, next_name_at, certs_at, line_at, have_at, chunk_bytes_at};
 
-use crate::codes::REFUSALS;
+use crate::refusals::REFUSALS;
 use oc_base::reading::{
-    byte_at, cert_at, flag_at, id_at, rank_at, rate_at, u8_within_at, u16_within_at, u32_within_at,
+    byte_at, cert_at, flag_at, id_at, rank_at, u8_within_at, u16_within_at, u32_within_at,
     u64_within_at,
 };
 use oc_base::{
-    Bytes, CertList, Child, ChildList, FieldFault, GroupName, MAX_CHECK_IN_CERTS, MAX_CHUNK_BYTES,
-    MAX_GROUP_BYTES, MAX_GROUPS, MAX_NAME_BYTES, MIN_NAME_BYTES, NodeId, Rank, Refusal, Shelf,
-    ShelfList, row_of, take_bytes,
+    Bytes, CertList, FieldFault, GroupName, MAX_CHECK_IN_CERTS, MAX_CHUNK_BYTES, MAX_GROUP_BYTES,
+    MAX_GROUPS, MAX_NAME_BYTES, MIN_NAME_BYTES, NodeId, Rank, Refusal, Shelf, ShelfList, row_of,
+    take_bytes,
 };
 use std::alloc::Global;
 
@@ -124,64 +124,6 @@ fn is_after(before: Option<GroupName>, name: GroupName) -> bool
         None => true,
         Some(before) => before < name,
     }
-}
-
-/// Children, with ascending ids.
-#[tactic(auto, unfolding(crate::specs::Reading::children_at))]
-pub fn children_at(
-    alloc: Global,
-    nodes: u32,
-    bytes: &[u8],
-    at: usize,
-) -> Result<(ChildList, usize), FieldFault>
-    ensures { Gives result (children_at nodes bytes.now at) }
-{
-    let (count, next) = u16_within_at(0, u16::MAX, bytes, at)?;
-    count_of_children_at(alloc, nodes, count, bytes, next)
-}
-
-/// `count` children, each of a greater id than the one before it.
-fn count_of_children_at(
-    alloc: Global,
-    nodes: u32,
-    count: u16,
-    bytes: &[u8],
-    at: usize,
-) -> Result<(ChildList, usize), FieldFault>
-    ensures { Gives result (items_at (λ before. child_at before nodes bytes.now) (λ child. child.id) 0 count at) }
-{
-    let mut children = Vec::new(alloc);
-    let mut before = NodeId(0);
-    let mut next = at;
-    for _ in 0..count {
-        let (child, behind) = child_at(before, nodes, bytes, next)?;
-        before = child.id;
-        children.push(child)?;
-        next = behind;
-    }
-    Ok((ChildList::of(children), next))
-}
-
-/// A child of a greater id than the one before it.
-#[tactic(auto, unfolding(crate::specs::Reading::child_at, oc_base::specs::Reading::within_at))]
-fn child_at(
-    before: NodeId,
-    nodes: u32,
-    bytes: &[u8],
-    at: usize,
-) -> Result<(Child, usize), FieldFault>
-    ensures { result ≡ child_at before nodes bytes.now at }
-{
-    let (id, next) = u32_within_at(0, nodes, bytes, at)?;
-    if id <= before.0 {
-        return Err(FieldFault::Value);
-    }
-    let (rate, next) = rate_at(bytes, next)?;
-    let child = Child {
-        id: NodeId(id),
-        rate,
-    };
-    Ok((child, next))
 }
 
 /// The certificates of a check-in.

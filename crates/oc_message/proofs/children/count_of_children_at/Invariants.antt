@@ -1,8 +1,8 @@
 use Rattle.std.proofs.Common.{◌≡◌, ◌-◌}
 use Rattle.oc_base.specs.Reading.{items_at}
 use Rattle.oc_base.proofs.ItemRuns.{with_front}
-use Rattle.oc_message.specs.Reading.{child_at}
-use Rattle.oc_message.proofs.fields.count_of_children_at.Given as goal
+use Rattle.oc_fields.specs.Reading.{child_at}
+use Rattle.oc_message.proofs.children.count_of_children_at.Given as goal
 
 -- the children so far, and those that are still read, are all
 abbrev pub invariant-loop : goal.invariant-loop

@@ -1,7 +1,7 @@
 use Rattle.std.proofs.Common.{◌≡◌, ◌+◌, length, drop}
 use Rattle.oc_cert.specs.TableView.{AreRowsFrom}
-use Rattle.oc_state.proofs.ChildRows.{chain_among}
-use Rattle.oc_state.proofs.children.chain_child.Given as goal
+use Rattle.oc_parts.proofs.ChildRows.{chain_among}
+use Rattle.oc_parts.proofs.children.chain_child.Given as goal
 
 abbrev pub invariant-loop-place : goal.invariant-loop-place
 invariant-loop-place l =

@@ -1,7 +1,7 @@
 ghost use Rattle.std.specs.Prelude.{◌≡◌, IfOk};
 ghost use Rattle.oc_model.specs.Adoption.{rank_or_last, precedes_any};
 ghost use Rattle.oc_model.specs.Asking.{next_epoch, ancestors_by};
-ghost use Rattle.oc_state.specs.Modes.{better_rank};
+ghost use Rattle.oc_parts.specs.Modes.{better_rank};
 
 use oc_base::{IdList, MAX_ANCESTORS, MAX_DEPTH, Memory, NodeId, Rank};
 use oc_climb::take_rank;

@@ -1,5 +1,5 @@
-use Rattle.oc_state.proofs.ShelfLines.{found_within, free_within}
-use Rattle.oc_state.proofs.shelves.with_line.Goals as goal
+use Rattle.oc_parts.proofs.ShelfLines.{found_within, free_within}
+use Rattle.oc_parts.proofs.shelves.with_line.Goals as goal
 
 pub replace_line-requires : goal.replace_line-requires
 replace_line-requires c = found_within c.args.line.now c.args.shelf.now c.in-Found.index c.in-Found.ensures

@@ -1,6 +1,6 @@
 use Rattle.std.proofs.Common.{◌∙◌, arith, sym}
-use Rattle.oc_state.proofs.ChildRows.{chain_ends}
-use Rattle.oc_state.proofs.children.chain_child.Goals as goal
+use Rattle.oc_parts.proofs.ChildRows.{chain_ends}
+use Rattle.oc_parts.proofs.children.chain_child.Goals as goal
 
 pub returns : goal.returns
 returns c =

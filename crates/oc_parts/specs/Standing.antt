@@ -2,7 +2,7 @@
 use Rattle.std.specs.Prelude.{None}
 use Rattle.oc_model.specs.declared.mode.Mode.TheVariants.{Idle}
 use Rattle.oc_model.specs.Node.{Durable}
-use Rattle.oc_state.specs.declared.standing.Standing.{Standing}
+use Rattle.oc_parts.specs.declared.standing.Standing.{Standing}
 
 -- those of this state
 abbrev pub standing_of : Durable → Standing

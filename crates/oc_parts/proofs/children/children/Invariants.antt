@@ -1,7 +1,7 @@
 use Rattle.std.proofs.Common.{◌≡◌, ◌++◌, drop}
 use Rattle.oc_cert.specs.TableView.{entries_of}
-use Rattle.oc_state.specs.Children.{told_children}
-use Rattle.oc_state.proofs.children.children.Given as goal
+use Rattle.oc_parts.specs.Children.{told_children}
+use Rattle.oc_parts.proofs.children.children.Given as goal
 
 abbrev pub invariant-loop-place : goal.invariant-loop-place
 invariant-loop-place l =

@@ -8,7 +8,7 @@ use Rattle.oc_model.specs.Table.{is_lease_of}
 use Rattle.oc_cert.specs.TableView.{AreRowsFrom, entries_of}
 use Rattle.oc_cert.proofs.Entries.{no_entries_past}
 use Rattle.oc_cert.proofs.Lines.{rows_at}
-use Rattle.oc_state.specs.Children.{other_child_of_row, told_of_row, told_children}
+use Rattle.oc_parts.specs.Children.{other_child_of_row, told_of_row, told_children}
 
 -- what is not so is not so, whatever else holds
 and_no : (b : Bool) → (b && false) ≡ false

@@ -3,7 +3,7 @@ ghost use Rattle.std.specs.Option.{option_to_list};
 ghost use Rattle.oc_model.specs.Adoption.{chain_child};
 ghost use Rattle.oc_model.specs.Numbers.{at};
 ghost use Rattle.oc_cert.specs.TableView.{AreTableRows, entries_of};
-ghost use Rattle.oc_state.specs.Children.{child_of_row, other_child_of_row, told_of_row, told_children};
+ghost use Rattle.oc_parts.specs.Children.{child_of_row, other_child_of_row, told_of_row, told_children};
 
 use oc_base::{Cert, Child, Memory, NodeId};
 use oc_rows::Rows;

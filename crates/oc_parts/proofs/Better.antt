@@ -6,7 +6,7 @@ use Rattle.oc_base.specs.declared.rank.Rank.{Rank}
 use Rattle.oc_base.specs.Rank.{beneath_of}
 use Rattle.oc_model.specs.Adoption.{precedes, is_better, take_rank}
 use Rattle.oc_laws_step.proofs.RankOrder.{precedes_fact, precedes_irreflexive}
-use Rattle.oc_state.specs.Modes.{better_rank}
+use Rattle.oc_parts.specs.Modes.{better_rank}
 
 -- a better rank is another than the own
 better_is_other : (own : Option Rank) (told : Rank) → is_better own told ≡ true → Some (beneath_of told) ≡ own → ⊥

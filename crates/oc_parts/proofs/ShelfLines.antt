@@ -11,7 +11,7 @@ use Rattle.oc_base.specs.Named.{same_name, AreAscending, IsFoundAt, IsFreeAt}
 use Rattle.oc_base.specs.Shelves.{line_of, IsShelf, AreLines}
 use Rattle.oc_base.proofs.NameOrder.{same_name-itself}
 use Rattle.oc_model.specs.Shelves.{line_at, with_line, is_behind, first_behind}
-use Rattle.oc_state.proofs.Lists.{drop_at}
+use Rattle.oc_parts.proofs.Lists.{drop_at}
 
 -- Looking for a line
 

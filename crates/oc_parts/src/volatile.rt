@@ -1,5 +1,5 @@
 ghost use Rattle.std.specs.Prelude.{◌≡◌};
-ghost use Rattle.oc_state.specs.Volatile.{new_volatile};
+ghost use Rattle.oc_parts.specs.Volatile.{new_volatile};
 
 use oc_model::Search;
 

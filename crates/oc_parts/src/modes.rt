@@ -3,7 +3,7 @@ ghost use Rattle.oc_model.specs.Adopting.{in_tree, is_acting};
 ghost use Rattle.oc_model.specs.Asking.{is_asking};
 ghost use Rattle.oc_model.specs.Checking.{is_joined_to, is_peer};
 ghost use Rattle.oc_model.specs.Looking.{parent_of, prefers};
-ghost use Rattle.oc_state.specs.Modes.{is_idle, is_descending, is_reviewing};
+ghost use Rattle.oc_parts.specs.Modes.{is_idle, is_descending, is_reviewing};
 
 use oc_base::NodeId;
 use oc_model::{Mode, Search};

@@ -1,7 +1,7 @@
 -- What a start clears, but for what is kept by the number of a node.
 use Rattle.std.specs.Prelude.{ℕ, false, None, List}
 use Rattle.oc_model.specs.declared.soft.Soft.{Soft}
-use Rattle.oc_state.specs.declared.volatile.Volatile.{Volatile}
+use Rattle.oc_parts.specs.declared.volatile.Volatile.{Volatile}
 
 -- these small parts, with the nodes still to be asked
 abbrev pub soft_of : Volatile → List ℕ → Soft

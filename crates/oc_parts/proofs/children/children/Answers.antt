@@ -2,9 +2,9 @@ use Rattle.std.proofs.Common.{◌≡◌, ◌<◌, ◌++◌, ◌∙◌, [], None,
 use Rattle.std.proofs.lemmas.List.{append-nil, get_or_default}
 use Rattle.oc_cert.proofs.Entries.{no_entries_past}
 use Rattle.oc_cert.specs.TableView.{entries_of}
-use Rattle.oc_state.specs.Children.{told_children}
-use Rattle.oc_state.proofs.ChildRows.{told_go_on}
-use Rattle.oc_state.proofs.children.children.Goals as goal
+use Rattle.oc_parts.specs.Children.{told_children}
+use Rattle.oc_parts.proofs.ChildRows.{told_go_on}
+use Rattle.oc_parts.proofs.children.children.Goals as goal
 
 pub loop-place-preserved : goal.loop-place-preserved
 loop-place-preserved c =

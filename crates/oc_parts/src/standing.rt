@@ -1,7 +1,7 @@
 ghost use Rattle.std.specs.Prelude.{◌≡◌};
 ghost use Rattle.oc_model.specs.Node.{Durable};
 ghost use Rattle.oc_model.specs.Records.{fold_one, is_joined};
-ghost use Rattle.oc_state.specs.Standing.{standing_of, new_standing};
+ghost use Rattle.oc_parts.specs.Standing.{standing_of, new_standing};
 
 use oc_base::Rank;
 use oc_model::{Mode, Record};

@@ -1,6 +1,7 @@
 -- A stage's world while a run is under way.
-use Rattle.std.proofs.Common.{◌≡◌, ℕ, ◌+◌, ◌*◌, ◌<◌, List, length, take, drop, get_or, fold, refl, sym, ap, ◌∙◌, subst, arith}
+use Rattle.std.proofs.Common.{◌≡◌, ℕ, ◌+◌, ◌*◌, ◌<◌, ◌≤◌, List, length, take, drop, get_or, fold, refl, sym, ap, ◌∙◌, subst, arith}
 use Rattle.std.specs.List.{AllByRecursion}
+use Rattle.std.proofs.lemmas.List.{take_all}
 use Rattle.oc_base.specs.declared.limits.TheConstants.{MAX_SCHEDULE_LINES, MAX_TIME}
 use Rattle.oc_model.specs.declared.event.Event.{Event}
 use Rattle.oc_model.specs.declared.event.Event.TheVariants as events
@@ -21,6 +22,10 @@ pub record IsOnTheWay (after : World → Event → World) (opened w : World) (es
   pub ids : ids w ≡ ids opened
   pub clocks : AreBefore (MAX_TIME + 60 * i) w
   pub limits : IsWithinLimits w
+
+-- with all events played, the world is the last one
+pub whole_run : (after : World → Event → World) (opened w : World) (es : List Event) (i : ℕ) → length es ≤ i → IsOnTheWay after opened w es i → w ≡ fold after opened es
+whole_run after opened w es i past way = way.played ∙ ap (fold after opened) (take_all i es past)
 
 -- what may be given to a stage that shows this world
 pub record MayBeGiven (w : World) (e : Event) : Type 0 where

@@ -1,13 +1,13 @@
 -- A run, one event on.
-use Rattle.std.proofs.Common.{◌≡◌, ℕ, ◌+◌, ◌<◌, ◌≤◌, List, [], ◌∷◌, ◌++◌, length, take, drop, get_or, fold, sym, ap, ◌∙◌, subst, arith}
+use Rattle.std.proofs.Common.{◌≡◌, ℕ, ◌+◌, ◌<◌, ◌≤◌, List, [], ◌∷◌, ◌++◌, length, take, drop, get_or, fold, sym, ap, ◌∙◌, subst, arith, append_assoc}
 use Rattle.std.specs.List.{AllByRecursion}
 use Rattle.std.proofs.lemmas.List.{at_drop_more, at_drop_all, drop_more}
 use Rattle.std.proofs.lemmas.List.Sums.{fold_more}
 use Rattle.oc_model.specs.declared.event.Event.{Event}
 use Rattle.oc_model.specs.declared.word.Word.{Word}
 use Rattle.oc_model.specs.World.{World}
-use Rattle.oc_report.specs.Lines.{end_line}
-use Rattle.oc_replay.specs.Report.{event_text, told_from}
+use Rattle.oc_report.specs.Lines.{end_line, event_line}
+use Rattle.oc_replay.specs.Report.{block_text, event_text, sent_text, told_from}
 use Rattle.oc_replay.proofs.Written.{IsWritten, gathers, gathers_all}
 
 -- what holds of the rest holds of its first item, and of the rest behind it
@@ -15,6 +15,16 @@ pub All-drop : {A : Type 0} (P : A → Type 0) (xs : List A) (i : ℕ) (x : A) �
 All-drop P xs i x within read all =
     let both : P (get_or xs i x) × AllByRecursion P (drop (i + 1) xs) = subst (AllByRecursion P) (drop_more xs i x within) all in
     (subst P (sym read) both.0, both.1)
+
+-- the line of an event, the messages that it sent and its block, put one behind the other, are what is told of it
+pub event_told : (a b c d : List ℕ) (i : ℕ) (said word : Word) (first : ℕ) (old new : World) (e : Event) → said ≡ word → first ≡ length old.net + 1 → b ≡ a ++ event_line i said → c ≡ b ++ sent_text first new e → d ≡ c ++ block_text new e → d ≡ a ++ event_text i word old new e
+event_told a b c d i said word first old new e words firsts line sent block =
+    let x = event_line i word in
+    let y = sent_text (length old.net + 1) new e in
+    let z = block_text new e in
+    let line_put : b ≡ a ++ x = line ∙ ap (λ (w : Word). a ++ event_line i w) words in
+    let sent_put : c ≡ a ++ (x ++ y) = sent ∙ ap (λ k. b ++ sent_text k new e) firsts ∙ ap (λ l. l ++ y) line_put ∙ append_assoc a x y in
+    block ∙ ap (λ l. l ++ z) sent_put ∙ append_assoc a (x ++ y) z
 
 module _ (after : World → Event → World) (word : World → Event → Word) where
   -- the next event is told, and then the events behind it

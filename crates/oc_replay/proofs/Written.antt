@@ -18,6 +18,14 @@ abbrev pub Joins : {K : Type 0} → (K → List ℕ → K → Type 0) → (K →
 Joins {K} takes ends = (a b c : K) (x y : List ℕ) → takes a x b → ends b y c → ends a (x ++ y) c
 
 module _ {K : Type 0} (takes : K → List ℕ → K → Type 0) where
+  -- at first nothing is gathered
+  pub written_none : (old : K) → takes old [] old → (gathered : List ℕ) → gathered ≡ [] → (text : List ℕ) → IsWritten takes old old gathered text text
+  written_none old nothing gathered none text = record {
+    front = [];
+    taken = nothing;
+    whole = ap (λ g. g ++ text) none;
+  }
+
   -- what was put at the end is gathered too
   pub gathers : (old new : K) (gathered more put rest text : List ℕ) → put ≡ gathered ++ more → IsWritten takes old new gathered (more ++ rest) text → IsWritten takes old new put rest text
   gathers old new gathered more put rest text e w = record {

@@ -1,11 +1,29 @@
-use Rattle.std.proofs.Common.{ℕ, ◌+◌, List, [], take, drop, subst, arith}
+use Rattle.std.proofs.Common.{ℕ, ◌+◌, List, [], length, take, drop, sym, ap, subst, arith}
 use Rattle.oc_replay.specs.Report.{told_from, run_text}
-use Rattle.oc_replay.proofs.Running.{goes_on, next_given}
+use Rattle.oc_replay.proofs.Running.{begins, goes_on, next_given, whole_run}
 use Rattle.oc_replay.proofs.Runs.{written-next, written-end, fold-take}
-use Rattle.oc_replay.proofs.Written.{passes, stops, fails_on}
+use Rattle.oc_replay.proofs.Written.{written_none, passes, ends, stops, fails_on}
 use Rattle.oc_replay.proofs.reporting.report.Goals as goal
 
--- the event leaves the clocks their time
+-- nothing is gathered, and the run begins
+pub loop-place-init : goal.loop-place-init
+loop-place-init g c =
+    let stage = g.T.Stage in
+    let events = c.args.events.now in
+    let opened = stage.world c.args.stage.now in
+    record {
+      written = written_none g.K.Sink.takes c.args.sink.now (g.met.K.Sink.takes_nothing c.args.sink.now) c.new-out.result.items c.new-out.ensures.items (run_text stage.after stage.word opened events);
+      way = begins stage.after opened events c.requires;
+      sent = sym (ap length c.requires.net);
+      count = omega arith;
+    }
+
+-- the event is within its ranges, and leaves the clocks their time
+pub tell-requires-clause-event : goal.tell-requires-clause-event
+tell-requires-clause-event g c =
+    let stage = g.T.Stage in
+    (next_given stage.after (stage.world c.args.stage.now) c.args.events.now c.requires (stage.world c.loop-place.stage) c.index-events-place.result c.loop-place.place (omega arith) c.index-events-place.is c.loop-place.invariant.way).event
+
 pub tell-requires-clause-time : goal.tell-requires-clause-time
 tell-requires-clause-time g c =
     let stage = g.T.Stage in
@@ -68,3 +86,27 @@ returns-in_err-write_all-clause-failed g c = λ _.
     let failed = c.in_err-write_all.ensures.fails in
     let part = subst (λ (bytes : List ℕ). g.K.Sink.fails c.loop-place.sink (take failed.0 bytes) c.write_all.new.sink) c.deref.ensures.value failed.2 in
     fails_on takes g.K.Sink.fails g.met.K.Sink.takes_fails c.args.sink.now c.loop-place.sink c.write_all.new.sink out [] text written (failed.0, part)
+
+-- all events were played when the last call failed
+pub returns-in_err-write_all-clause-stopped : goal.returns-in_err-write_all-clause-stopped
+returns-in_err-write_all-clause-stopped g c = λ _.
+    let stage = g.T.Stage in
+    (c.loop-place.place, c.loop-place.invariant.way.played)
+
+-- the whole report was taken
+pub returns-clause-told : goal.returns-clause-told
+returns-clause-told g c =
+    let stage = g.T.Stage in
+    let takes = g.K.Sink.takes in
+    let events = c.args.events.now in
+    let text = run_text stage.after stage.word (stage.world c.args.stage.now) events in
+    let out = c.put_end.new.out.items in
+    let written = written-end stage.after stage.word takes c.args.sink.now c.loop-place.sink c.loop-place.out.items out text c.loop-place.place c.loop-place.sent (stage.world c.loop-place.stage) events (omega arith) (omega arith) c.loop-place.invariant.sent c.in_ok-put_end.ensures c.loop-place.invariant.written in
+    let taken = subst (λ (bytes : List ℕ). takes c.loop-place.sink bytes c.write_all.new.sink) c.deref.ensures.value c.in_ok-write_all.ensures.takes in
+    ends takes g.met.K.Sink.takes_then c.args.sink.now c.loop-place.sink c.write_all.new.sink out text written taken
+
+-- and the stage is at the last world
+pub returns-clause-played : goal.returns-clause-played
+returns-clause-played g c =
+    let stage = g.T.Stage in
+    whole_run stage.after (stage.world c.args.stage.now) (stage.world c.loop-place.stage) c.args.events.now c.loop-place.place (omega arith) c.loop-place.invariant.way

@@ -1,2 +1,1 @@
 pub mod Net
-pub mod Aims

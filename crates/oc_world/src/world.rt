@@ -24,13 +24,14 @@ ghost use Rattle.oc_world.specs.World.{RenewsAt, RenewsBy, processes_of};
 
 use crate::acting::act;
 use crate::{Said, Sight};
+use oc_aims::{Aim, aim_of, message_place};
 use oc_base::{Memory, NodeId, Shelf};
 use oc_calm::{heal, is_settled, settle};
 use oc_io::MemDisk;
 use oc_keep::Node;
 use oc_laws_world::tests_decide;
 use oc_model::{Act, Answer, Event, Input, Message, Word};
-use oc_net::{Aim, Net, aim_of, message_place};
+use oc_net::Net;
 use oc_process::Process;
 use std::alloc::Global;
 use std::marker::Model;

@@ -3,11 +3,11 @@
 ghost use Rattle.std.specs.Prelude.{◌≡◌, ◌+◌, ◌<◌, ◌⊎◌, option_map, IfNone, IfOk, IfSome};
 ghost use Rattle.oc_calm.specs.Cluster.{IsStep};
 ghost use Rattle.oc_model.specs.World.{World as WorldState, aimed, delivery, message_at};
-ghost use Rattle.oc_net.specs.Aims.{IsLawfulAim, IsLawfulIfAny, aimed_of};
+ghost use Rattle.oc_aims.specs.Aims.{IsLawfulAim, IsLawfulIfAny, aimed_of};
 
-use crate::net::Net;
 use oc_base::{Memory, NodeId};
 use oc_model::{Act, Input};
+use oc_net::Net;
 
 /// An input, and the node that it goes to.
 #[derive(Drop)]

@@ -3,7 +3,7 @@ use Rattle.std.specs.Prelude.{ℕ, Option, Some, None}
 use Rattle.oc_base.specs.Lawful.{IsNode}
 use Rattle.oc_model.specs.Lawful.{IsInput}
 use Rattle.oc_model.specs.World.{Aimed}
-use Rattle.oc_net.specs.declared.aims.Aim.{Aim}
+use Rattle.oc_aims.specs.declared.aims.Aim.{Aim}
 
 -- an aim, as the model has it
 abbrev pub aimed_of : Aim → Aimed

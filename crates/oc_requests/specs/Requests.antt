@@ -1,35 +1,25 @@
--- What the arguments of each subcommand ask for.
-use Rattle.std.specs.Prelude.{ℕ, ◌-◌, ◌^◌, ◌≤◌, min, Bool, Option, Some, None, Result, Ok, List, codes}
+-- What the words of each command ask for.
+use Rattle.std.specs.Prelude.{ℕ, ◌-◌, ◌^◌, ◌≤◌, min, Bool, Option, Some, None, Result, Ok, List}
 use Rattle.std.specs.Option.{ForSome}
-use Rattle.clap.specs.Words.{Row, Text, first_of}
 use Rattle.oc_base.specs.Steps.{◌>>=◌}
 use Rattle.oc_base.specs.Words.{number_in}
 use Rattle.oc_base.specs.declared.limits.TheConstants.{MAX_CHAIN, MAX_NODES}
 use Rattle.oc_base.specs.declared.why.Why.{Why}
-use Rattle.oc_words.specs.Arguments.{is_flagged, word_of}
-use Rattle.oc_words.specs.declared.request.Download.{Download}
-use Rattle.oc_words.specs.declared.request.Member.{Member}
-use Rattle.oc_words.specs.declared.request.Sample.{Sample}
-use Rattle.oc_words.specs.declared.request.Service.{Service}
-use Rattle.oc_words.specs.declared.request.TheConstants.{MAX_EVENTS, MAX_FOLLOWED, MAX_TURNS}
+use Rattle.oc_requests.specs.declared.request.Download.{Download}
+use Rattle.oc_requests.specs.declared.request.Member.{Member}
+use Rattle.oc_requests.specs.declared.request.Sample.{Sample}
+use Rattle.oc_requests.specs.declared.request.Service.{Service}
+use Rattle.oc_requests.specs.declared.request.TheConstants.{MAX_EVENTS, MAX_FOLLOWED, MAX_TURNS}
 
 -- ---- `gen SEED NODES EVENTS`
 
 -- a seed within 64 bits, a number of nodes, and a number of events from that of the nodes on
-abbrev pub sample_in : Text → Text → Text → Result Sample Why
+abbrev pub sample_in : List ℕ → List ℕ → List ℕ → Result Sample Why
 sample_in seed_word nodes_word events_word = do
   seed ← number_in 0 (2 ^ 64 - 1) seed_word
   nodes ← number_in 1 MAX_NODES nodes_word
   events ← number_in nodes MAX_EVENTS events_word
   Ok (record { seed = seed; nodes = nodes; events = events })
-
--- the same, of what the arguments of `gen` were given
-abbrev pub sample_of : List Row → Result Sample Why
-sample_of rows = do
-  seed_word ← word_of (codes "SEED") rows
-  nodes_word ← word_of (codes "NODES") rows
-  events_word ← word_of (codes "EVENTS") rows
-  sample_in seed_word nodes_word events_word
 
 -- the numbers are within their ranges
 pub record IsSample (s : Sample) : Type 0 where
@@ -41,18 +31,11 @@ pub record IsSample (s : Sample) : Type 0 where
 -- ---- `node ID --turns N`
 
 -- an id within 64 bits, and a number of turns
-abbrev pub service_in : Text → Text → Bool → Result Service Why
+abbrev pub service_in : List ℕ → List ℕ → Bool → Result Service Why
 service_in id_word turns_word probes = do
   id ← number_in 0 (2 ^ 64 - 1) id_word
   turns ← number_in 0 MAX_TURNS turns_word
   Ok (record { id = id; turns = turns; probes = probes })
-
--- the same, of what the arguments of `node` were given
-abbrev pub service_of : List Row → Result Service Why
-service_of rows = do
-  id_word ← word_of (codes "ID") rows
-  turns_word ← word_of (codes "turns") rows
-  service_in id_word turns_word (is_flagged (codes "probe") rows)
 
 -- the number of turns is within its range
 abbrev pub IsService : Service → Type 0
@@ -61,20 +44,12 @@ IsService s = s.turns ≤ MAX_TURNS
 -- ---- `check ID NODES CHAIN`
 
 -- a number of nodes, a chain of some of them, and the id of one
-abbrev pub member_in : Text → Text → Text → Result Member Why
+abbrev pub member_in : List ℕ → List ℕ → List ℕ → Result Member Why
 member_in id_word nodes_word chain_word = do
   nodes ← number_in 1 MAX_NODES nodes_word
   chain ← number_in 1 (min nodes MAX_CHAIN) chain_word
   id ← number_in 1 nodes id_word
   Ok (record { id = id; nodes = nodes; chain = chain })
-
--- the same, of what the arguments of `check` were given
-abbrev pub member_of : List Row → Result Member Why
-member_of rows = do
-  id_word ← word_of (codes "ID") rows
-  nodes_word ← word_of (codes "NODES") rows
-  chain_word ← word_of (codes "CHAIN") rows
-  member_in id_word nodes_word chain_word
 
 -- the numbers are within their ranges
 pub record IsMember (m : Member) : Type 0 where
@@ -88,23 +63,17 @@ pub record IsMember (m : Member) : Type 0 where
 -- ---- `get URL`
 
 -- how many replies are followed, if the option was given
-abbrev pub times_in : Option Text → Result (Option ℕ) Why
+abbrev pub times_in : Option (List ℕ) → Result (Option ℕ) Why
 times_in None = Ok None
 times_in (Some word) = do
   times ← number_in 1 MAX_FOLLOWED word
   Ok (Some times)
 
 -- the address, any text, and how many replies are followed
-abbrev pub download_in : Text → Option Text → Result Download Why
+abbrev pub download_in : List ℕ → Option (List ℕ) → Result Download Why
 download_in address follow = do
   times ← times_in follow
   Ok (record { address = address; times = times })
-
--- the same, of what the arguments of `get` were given
-abbrev pub download_of : List Row → Result Download Why
-download_of rows = do
-  address ← word_of (codes "URL") rows
-  download_in address (first_of (codes "follow") rows)
 
 -- the number of replies is within its range
 abbrev pub IsTimes : Option ℕ → Type 0

@@ -1,15 +1,17 @@
-//! Plays tables of worked cases over links, clocks and probes, and prints a line for each case: its name
-//! and `ok`, or what came in place of what has to come.
+//! Plays tables of worked cases over links, clocks and probes, and over conversations of the client with servers in
+//! memory, and prints a line for each case: its name and `ok`, or what came in place of what has to come.
 //!
 //! Each table is a file in `data`, whose first lines say how its rows are written, and a module that puts
 //! the words of a row.
 #![tactic(auto)]
 
 mod clocks;
+mod conversations;
 mod links;
 mod peers;
 mod probes;
 mod rates;
+mod texts;
 
 use std::alloc::Global;
 use std::io;
@@ -34,10 +36,12 @@ fn put_words(alloc: Global, table: &str, given: &str, said: &mut String) -> Resu
         "rates" => rates::put_words(given, said),
         "peers" => peers::put_words(alloc, given, said),
         "probes" => probes::put_words(alloc, given, said),
+        "conversations" => conversations::put_words(alloc, given, said),
         _ => Err(Fault::Field),
     }
 }
 
 fn main(rt: HostRuntime) -> io::Result<()> {
-    play::<Rows, _>(&rt, &["clocks", "links", "rates", "peers", "probes"])
+    let tables = ["clocks", "links", "rates", "peers", "probes", "conversations"];
+    play::<Rows, _>(&rt, &tables)
 }

@@ -3,7 +3,7 @@
 ghost use Rattle.std.specs.Prelude.{IfOk};
 ghost use Rattle.oc_model.specs.Lawful.{IsInput};
 
-use input_tools::{act_in, delivery_in};
+use crate::acts::{act_in, delivery_in};
 use oc_base::NodeId;
 use oc_model::Input;
 use std::alloc::Global;

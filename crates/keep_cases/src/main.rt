@@ -1,15 +1,17 @@
-//! Plays tables of worked cases over a node on its three files, and prints a line for each case: its name and
+//! Plays tables of worked cases over a node, alone and on its three files, and prints a line for each case: its name and
 //! `ok`, or what came in place of what has to come.
 //!
 //! Each table is a file in `data`, whose first lines say how its rows are written, and a module that gives
 //! the words of a row.
 #![tactic(auto)]
 
+mod acts;
 mod disks;
 mod files;
 mod given;
 mod inputs;
 mod keeps;
+mod steps;
 mod stops;
 mod trials;
 
@@ -24,6 +26,7 @@ struct Rows;
 impl Cases for Rows {
     fn words(alloc: Global, table: &str, given: &str) -> Result<String, Fault> {
         match table {
+            "steps" => steps::words(alloc, given),
             "keeps" => keeps::words::<MemDisk>(alloc, given),
             "trials" => trials::words::<MemDisk>(alloc, given),
             "stops" => stops::words::<MemDisk>(alloc, given),
@@ -33,5 +36,5 @@ impl Cases for Rows {
 }
 
 fn main(rt: HostRuntime) -> io::Result<()> {
-    play::<Rows, _>(&rt, &["keeps", "trials", "stops"])
+    play::<Rows, _>(&rt, &["steps", "keeps", "trials", "stops"])
 }

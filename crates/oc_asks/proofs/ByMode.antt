@@ -7,7 +7,7 @@ use Rattle.oc_model.specs.declared.soft.Search.TheVariants as searches
 use Rattle.oc_model.specs.Asking.{is_asking, lost, next_try, not_seen, not_reached, round, unreachable}
 use Rattle.oc_model.specs.Checking.{is_joined_to}
 use Rattle.oc_model.specs.Plan.{Plan, searching, ignored}
-use Rattle.oc_state.specs.Modes.{is_descending}
+use Rattle.oc_parts.specs.Modes.{is_descending}
 
 pub not_seen_is : (s : Option Search) (o : Plan) (p : ℕ) → not_seen s o p ≡ (if is_descending s p then next_try (searching o None) else ignored o)
 not_seen_is None o p = refl

@@ -7,8 +7,8 @@ use Rattle.oc_keep.specs.Promises.{IsNodeOf, LoadsSafely}
 use Rattle.oc_keep.proofs.Stays.{all_honest}
 use Rattle.oc_model.specs.Node.{Header}
 use Rattle.oc_io.specs.DiskView.{DiskView}
-use Rattle.oc_replay.specs.Lines.{held_text}
-use Rattle.oc_replay.specs.Shows.{show_text}
+use Rattle.oc_report.specs.Lines.{held_text}
+use Rattle.oc_report.specs.Shows.{show_text}
 use Rattle.oc_stage.specs.Sight.{sight_of}
 use Rattle.oc_check.specs.Checks.{Shows}
 

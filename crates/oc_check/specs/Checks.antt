@@ -7,8 +7,8 @@ use Rattle.oc_keep.specs.KeptView.{header}
 use Rattle.oc_keep.specs.Trials.{first_node}
 use Rattle.oc_model.specs.Node.{Control, Header}
 use Rattle.oc_io.specs.DiskView.{DiskView}
-use Rattle.oc_replay.specs.Lines.{held_text}
-use Rattle.oc_replay.specs.Shows.{show_text}
+use Rattle.oc_report.specs.Lines.{held_text}
+use Rattle.oc_report.specs.Shows.{show_text}
 use Rattle.oc_stage.specs.Sight.{sight_of}
 
 -- among so many nodes, with a chain of this length, and areas of 0

@@ -8,8 +8,8 @@ ghost use Rattle.oc_keep.specs.Files.{disks};
 ghost use Rattle.oc_base.specs.Groups.{shelf};
 ghost use Rattle.oc_keep.specs.KeptView.{IsHonest, node_of};
 ghost use Rattle.oc_keep.specs.Promises.{LoadsSafely, RefusesNode};
-ghost use Rattle.oc_replay.specs.Lines.{held_text};
-ghost use Rattle.oc_replay.specs.Shows.{show_text};
+ghost use Rattle.oc_report.specs.Lines.{held_text};
+ghost use Rattle.oc_report.specs.Shows.{show_text};
 ghost use Rattle.oc_stage.specs.Sight.{sight_of};
 
 use crate::showing::show;

@@ -1,14 +1,14 @@
 //! A node as a text.
 
 ghost use Rattle.std.specs.Prelude.{◌≡◌, ◌++◌, false, IfOk};
-ghost use Rattle.oc_replay.specs.Lines.{held_text};
-ghost use Rattle.oc_replay.specs.Shows.{show_text};
+ghost use Rattle.oc_report.specs.Lines.{held_text};
+ghost use Rattle.oc_report.specs.Shows.{show_text};
 ghost use Rattle.oc_stage.specs.Sight.{sight_of};
 
 use oc_base::{Memory, NodeId, put};
 use oc_io::Disk;
 use oc_keep::Kept;
-use oc_replay::{held_text, show_text};
+use oc_report::{held_text, show_text};
 use oc_sight::sight_of;
 use std::alloc::Global;
 

@@ -17,8 +17,8 @@ use Rattle.oc_replay.specs.declared.end.ReplayEnd.TheVariants as replays
 use Rattle.oc_schedule.proofs.Lawful.{IsSchedule-from_lines}
 use Rattle.oc_schedule.specs.Schedule.{IsSchedule, read_lines, schedule_of}
 use Rattle.oc_schedule.specs.Script.{Script}
-use Rattle.oc_schedule.specs.declared.fault.ScheduleFault.TheVariants as faults
-use Rattle.oc_schedule.specs.declared.fault.What.TheVariants as limits
+use Rattle.oc_acts.specs.declared.fault.ScheduleFault.TheVariants as faults
+use Rattle.oc_acts.specs.declared.fault.What.TheVariants as limits
 use Rattle.oc_commands.specs.AtReplay.{HappenedAtReplay}
 use Rattle.oc_commands.specs.Headline.{HeadlineHolds}
 use Rattle.oc_commands.specs.Outside.{at_sink, at_source, at_stage}

@@ -7,8 +7,8 @@ use Rattle.oc_fetch.specs.declared.end.GetEnd.TheVariants as gets
 use Rattle.oc_replay.specs.declared.end.ReplayEnd.{ReplayEnd}
 use Rattle.oc_replay.specs.declared.end.ReplayEnd.TheVariants as replays
 use Rattle.oc_schedule.specs.Script.{Script}
-use Rattle.oc_schedule.specs.declared.fault.ScheduleFault.{ScheduleFault}
-use Rattle.oc_schedule.specs.declared.fault.What.{What}
+use Rattle.oc_acts.specs.declared.fault.ScheduleFault.{ScheduleFault}
+use Rattle.oc_acts.specs.declared.fault.What.{What}
 use Rattle.oc_requests.specs.declared.request.Download.{Download}
 use Rattle.oc_requests.specs.declared.request.Member.{Member}
 use Rattle.oc_requests.specs.declared.request.Request.{Request}

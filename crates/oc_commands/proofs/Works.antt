@@ -9,8 +9,8 @@ use Rattle.oc_io.specs.Faults.{Rose}
 use Rattle.oc_replay.specs.declared.end.ReplayEnd.{ReplayEnd}
 use Rattle.oc_replay.specs.declared.end.ReplayEnd.TheVariants as replays
 use Rattle.oc_schedule.specs.Schedule.{read_lines, schedule_of}
-use Rattle.oc_schedule.specs.declared.fault.ScheduleFault.TheVariants as faults
-use Rattle.oc_schedule.specs.declared.fault.What.TheVariants as limits
+use Rattle.oc_acts.specs.declared.fault.ScheduleFault.TheVariants as faults
+use Rattle.oc_acts.specs.declared.fault.What.TheVariants as limits
 use Rattle.oc_requests.specs.declared.request.Request.{Request}
 use Rattle.oc_requests.specs.declared.request.Request.TheVariants.{Help, Replay, Rules}
 use Rattle.oc_commands.specs.AtReplay.{HappenedAtReplay, HasStatus, status_for}

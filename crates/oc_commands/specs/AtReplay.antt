@@ -9,8 +9,8 @@ use Rattle.oc_replay.specs.declared.end.ReplayEnd.{ReplayEnd}
 use Rattle.oc_replay.specs.declared.end.ReplayEnd.TheVariants.{Done, Text, Limit, Source, Sink, Memory}
 use Rattle.oc_schedule.specs.Schedule.{IsSchedule, schedule_of}
 use Rattle.oc_schedule.specs.Script.{Script}
-use Rattle.oc_schedule.specs.declared.fault.ScheduleFault.{ScheduleFault}
-use Rattle.oc_schedule.specs.declared.fault.ScheduleFault.TheVariants as faults
+use Rattle.oc_acts.specs.declared.fault.ScheduleFault.{ScheduleFault}
+use Rattle.oc_acts.specs.declared.fault.ScheduleFault.TheVariants as faults
 use Rattle.oc_commands.specs.Headline.{HeadlineHolds}
 use Rattle.oc_commands.specs.Outside.{Input, Output, OnStage}
 

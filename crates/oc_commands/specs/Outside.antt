@@ -20,8 +20,8 @@ use Rattle.oc_outside.specs.LinkCalls.{LinkFaults, Told}
 use Rattle.oc_outside.specs.Story.{Story}
 use Rattle.oc_replay.specs.Replay.{IsInput, PassesLimit, output_text, world_at}
 use Rattle.oc_schedule.specs.Script.{Script}
-use Rattle.oc_schedule.specs.declared.fault.ScheduleFault.{ScheduleFault}
-use Rattle.oc_schedule.specs.declared.fault.What.{What}
+use Rattle.oc_acts.specs.declared.fault.ScheduleFault.{ScheduleFault}
+use Rattle.oc_acts.specs.declared.fault.What.{What}
 use Rattle.oc_service.specs.OnFiles.{DidOnFiles, StopsOnFiles}
 use Rattle.oc_turn.specs.Deeds as deeds
 use Rattle.oc_turn.specs.Deeds.{Deed, Under}

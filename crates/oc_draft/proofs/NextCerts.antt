@@ -4,7 +4,7 @@ use Rattle.std.proofs.Math.ListN.{drop_of_length-le}
 use Rattle.oc_base.specs.declared.cert.Cert.{Cert}
 use Rattle.oc_model.specs.declared.record.Record.{Record}
 use Rattle.oc_draft.specs.Since.{certs_of, certs_in}
-use Rattle.oc_state.proofs.Lists.{drop_at, take_again, take_all}
+use Rattle.oc_parts.proofs.Lists.{drop_at, take_again, take_all}
 
 -- no more are put than may be
 pub pushed_full : (n : ℕ) (cs ds : List Cert) → length cs ≤ n → n ≤ length cs → cs ≡ take n (cs ++ ds)

@@ -5,8 +5,8 @@ ghost use Rattle.oc_model.specs.Leases.{next_ended};
 ghost use Rattle.oc_model.specs.Looking.{children};
 ghost use Rattle.oc_model.specs.Selected.{selected};
 ghost use Rattle.oc_draft.specs.NodeView.{IsReached};
-ghost use Rattle.oc_state.specs.Standing.{standing_of};
-ghost use Rattle.oc_state.specs.Volatile.{volatile_of};
+ghost use Rattle.oc_parts.specs.Standing.{standing_of};
+ghost use Rattle.oc_parts.specs.Volatile.{volatile_of};
 
 use oc_base::{Child, Memory, NodeId};
 use oc_cert::Table;
@@ -42,7 +42,7 @@ impl<'a> Model for Before<'a> {
     ghost use Rattle.std.specs.Prelude.{◌≡◌};
     ghost use Rattle.oc_model.specs.Node.{Control};
     ghost use Rattle.oc_draft.specs.NodeView.{IsReached, control_of};
-    ghost use Rattle.oc_state.specs.Volatile.{soft_of};
+    ghost use Rattle.oc_parts.specs.Volatile.{soft_of};
 
     ghost Value = { Control };
 

@@ -17,10 +17,10 @@ ghost use Rattle.oc_draft.specs.DraftView.{DraftView, goes, with_tries, touches}
 ghost use Rattle.oc_draft.specs.NodeView.{IsReached};
 ghost use Rattle.oc_draft.specs.Planned.{planned};
 ghost use Rattle.oc_draft.specs.Since.{AreTold};
-ghost use Rattle.oc_state.specs.Standing.{standing_of};
+ghost use Rattle.oc_parts.specs.Standing.{standing_of};
 ghost use Rattle.oc_state.specs.Touched.{IsTouch};
-ghost use Rattle.oc_state.specs.Tries.{first_of};
-ghost use Rattle.oc_state.specs.Volatile.{soft_of, volatile_of};
+ghost use Rattle.oc_parts.specs.Tries.{first_of};
+ghost use Rattle.oc_parts.specs.Volatile.{soft_of, volatile_of};
 
 use crate::before::Before;
 use crate::next_certs::push_certs;
@@ -52,7 +52,7 @@ impl<'a> Model for Draft<'a> {
     ghost use Rattle.oc_model.specs.Records.{folded};
     ghost use Rattle.oc_draft.specs.DraftView.{DraftView};
     ghost use Rattle.oc_draft.specs.Planned.{planned};
-    ghost use Rattle.oc_state.specs.Standing.{standing_of};
+    ghost use Rattle.oc_parts.specs.Standing.{standing_of};
     ghost use Rattle.oc_state.specs.Touched.{IsTouch};
 
     ghost Value = { DraftView };
@@ -342,7 +342,7 @@ impl<'a> Draft<'a> {
     }
 
     /// Takes off the first of the nodes still to be asked.
-    #[tactic(auto, using(oc_state::proofs::Lists::drop_one_more))]
+    #[tactic(auto, using(oc_parts::proofs::Lists::drop_one_more))]
     pub fn take_try(&mut self) -> Option<NodeId>
         ensures first { result ≡ first_of self.old.step.node.soft.tries }
         ensures none { IfNone result (self.new ≡ self.old) }

@@ -12,7 +12,7 @@ use Rattle.oc_model.specs.Adoption.{is_better}
 use Rattle.oc_model.specs.Checking.{is_joined_to, dies, merges, takes_rank}
 use Rattle.oc_model.specs.Looking.{Stand, descends, reviews_place, keeps_line, sees_as, sees}
 use Rattle.oc_model.specs.Plan.{Plan, write}
-use Rattle.oc_state.specs.Modes.{is_idle, is_descending, is_reviewing, better_rank}
+use Rattle.oc_parts.specs.Modes.{is_idle, is_descending, is_reviewing, better_rank}
 
 -- what is not so is not so, whatever else holds
 and_no : (b : Bool) → (b && false) ≡ false

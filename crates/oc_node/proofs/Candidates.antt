@@ -4,7 +4,7 @@ use Rattle.oc_base.specs.declared.cert.Child.{Child}
 use Rattle.oc_model.specs.declared.place.Candidate.{Candidate}
 use Rattle.oc_model.specs.Looking.{candidates}
 use Rattle.oc_model.specs.Node.{Control}
-use Rattle.oc_state.proofs.Lists.{drop_at}
+use Rattle.oc_parts.proofs.Lists.{drop_at}
 
 -- the first gives its candidate, and the rest the others
 candidates_cons : (n : Control) (c : Child) (cs : List Child) → candidates n (c ∷ cs) ≡ candidates n (c ∷ []) ++ candidates n cs

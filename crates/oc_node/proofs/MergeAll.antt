@@ -3,7 +3,7 @@ use Rattle.std.proofs.Common.{◌≡◌, ℕ, ◌+◌, ◌<◌, List, length, dr
 use Rattle.oc_base.specs.declared.cert.Cert.{Cert}
 use Rattle.oc_model.specs.Checking.{merges, merges_all}
 use Rattle.oc_model.specs.Plan.{Plan}
-use Rattle.oc_state.proofs.Lists.{drop_at}
+use Rattle.oc_parts.proofs.Lists.{drop_at}
 
 -- with one of them merged, what the rest makes is still the whole
 pub merges_go_on : (cs : List Cert) (i : ℕ) (c : Cert) (o q whole : Plan) → i < length cs → c ≡ get_or cs i c → q ≡ merges o c → merges_all (drop i cs) o ≡ whole → merges_all (drop (i + 1) cs) q ≡ whole

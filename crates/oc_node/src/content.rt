@@ -43,7 +43,7 @@ fn publish_to(draft: &mut Draft, shelf: &[Shelf], line: &Shelf, count: u64) -> R
 }
 
 /// A publish: at the source alone, at the group's end.
-#[tactic(auto, using(oc_state::proofs::ShelfLines::held_bound))]
+#[tactic(auto, using(oc_parts::proofs::ShelfLines::held_bound))]
 pub(crate) fn published(
     draft: &mut Draft,
     shelf: &[Shelf],
@@ -140,7 +140,7 @@ fn send_chunk(
 }
 
 /// A fetch came, which names what the sender has.
-#[tactic(auto, using(oc_state::proofs::ShelfLines::held_bound))]
+#[tactic(auto, using(oc_parts::proofs::ShelfLines::held_bound))]
 pub(crate) fn fetched(
     draft: &mut Draft,
     shelf: &[Shelf],

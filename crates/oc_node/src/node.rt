@@ -16,7 +16,7 @@ ghost use Rattle.oc_base.specs.declared.limits.TheConstants.{MAX_BASE_ACKED, MAX
 ghost use Rattle.oc_model.specs.Node.{new_control, new_durable, Durable as State, Node as Whole};
 ghost use Rattle.oc_model.specs.Looking.{parent_of};
 ghost use Rattle.oc_draft.specs.NodeView.{IsReached};
-ghost use Rattle.oc_state.specs.Standing.{standing_of};
+ghost use Rattle.oc_parts.specs.Standing.{standing_of};
 
 use crate::outcome::Outcome;
 use crate::step::take;
@@ -56,7 +56,7 @@ impl Model for Node {
     ghost use Rattle.std.specs.Prelude.{◌≡◌};
     ghost use Rattle.oc_model.specs.Node.{Control};
     ghost use Rattle.oc_draft.specs.NodeView.{NodeView, IsReached, control_of};
-    ghost use Rattle.oc_state.specs.Volatile.{soft_of};
+    ghost use Rattle.oc_parts.specs.Volatile.{soft_of};
 
     ghost Value = { NodeView };
 

@@ -13,10 +13,10 @@ use Rattle.oc_io.specs.Faults.{Rose}
 use Rattle.oc_replay.specs.Replay.{IsInput, PassesLimit}
 use Rattle.oc_schedule.specs.Schedule.{read_lines, schedule_of}
 use Rattle.oc_schedule.specs.Script.{Script}
-use Rattle.oc_schedule.specs.declared.fault.ScheduleFault.{ScheduleFault}
-use Rattle.oc_schedule.specs.declared.fault.ScheduleFault.TheVariants.{Limit}
-use Rattle.oc_schedule.specs.declared.fault.What.{What}
-use Rattle.oc_schedule.specs.declared.fault.What.TheVariants as limits
+use Rattle.oc_acts.specs.declared.fault.ScheduleFault.{ScheduleFault}
+use Rattle.oc_acts.specs.declared.fault.ScheduleFault.TheVariants.{Limit}
+use Rattle.oc_acts.specs.declared.fault.What.{What}
+use Rattle.oc_acts.specs.declared.fault.What.TheVariants as limits
 use Rattle.oc_commands.specs.Outside.{at_sink, at_source}
 use Rattle.oc_commands.specs.Run.{IsWrittenOrCut}
 use Rattle.oc_program.specs.Streams.{HasFailed, IsCountOf, IsCountOfLineOrFront, IsLineOrFront, IsSoundCountOf, at_bytes, at_input, at_output, at_text}

@@ -4,5 +4,4 @@ pub mod Messages
 pub mod Opened
 pub mod Running
 pub mod Runs
-pub mod Shown
 pub mod Written

@@ -6,7 +6,7 @@ use Rattle.std.proofs.lemmas.List.Sums.{fold_more}
 use Rattle.oc_model.specs.declared.event.Event.{Event}
 use Rattle.oc_model.specs.declared.word.Word.{Word}
 use Rattle.oc_model.specs.World.{World}
-use Rattle.oc_replay.specs.Lines.{end_line}
+use Rattle.oc_report.specs.Lines.{end_line}
 use Rattle.oc_replay.specs.Report.{event_text, told_from}
 use Rattle.oc_replay.proofs.Written.{IsWritten, gathers, gathers_all}
 

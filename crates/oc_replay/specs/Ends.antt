@@ -2,10 +2,10 @@ use Rattle.std.specs.Prelude.{ℕ}
 use Rattle.oc_base.specs.declared.why.Why.{Why}
 use Rattle.oc_io.specs.declared.read_fault.ReadFault.{ReadFault}
 use Rattle.oc_io.specs.declared.read_fault.ReadFault.TheVariants as reading
-use Rattle.oc_schedule.specs.declared.fault.ScheduleFault.{ScheduleFault}
-use Rattle.oc_schedule.specs.declared.fault.ScheduleFault.TheVariants as schedule
-use Rattle.oc_schedule.specs.declared.fault.What.{What}
-use Rattle.oc_schedule.specs.declared.fault.What.TheVariants.{Bytes}
+use Rattle.oc_acts.specs.declared.fault.ScheduleFault.{ScheduleFault}
+use Rattle.oc_acts.specs.declared.fault.ScheduleFault.TheVariants as schedule
+use Rattle.oc_acts.specs.declared.fault.What.{What}
+use Rattle.oc_acts.specs.declared.fault.What.TheVariants.{Bytes}
 use Rattle.oc_replay.specs.declared.end.ReplayEnd.{ReplayEnd}
 use Rattle.oc_replay.specs.declared.end.ReplayEnd.TheVariants.{Done, Text, Limit, Source, Sink, Memory}
 

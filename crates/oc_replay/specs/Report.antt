@@ -6,8 +6,8 @@ use Rattle.oc_model.specs.declared.word.Word.{Word}
 use Rattle.oc_base.specs.Groups.{shelf}
 use Rattle.oc_model.specs.World.{World, node}
 use Rattle.oc_stage.specs.Sight.{sight_in}
-use Rattle.oc_replay.specs.Lines.{event_line, message_line, messages_text, held_text, end_line}
-use Rattle.oc_replay.specs.Shows.{show_text}
+use Rattle.oc_report.specs.Lines.{event_line, message_line, messages_text, held_text, end_line}
+use Rattle.oc_report.specs.Shows.{show_text}
 
 -- What a report tells of a run.
 

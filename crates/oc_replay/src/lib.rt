@@ -7,28 +7,21 @@
 //! `Source` and `Sink` that count of faults rose, and where there is no schedule nothing is written and
 //! the stage is as it was.
 //!
-//! `specs/Lines` has the lines of a report, `specs/Bodies` what messages say and `specs/Shows` how a
-//! node stands; `specs/Report` has what is told of a run, `specs/Summary` what is counted of a world,
-//! `specs/Replay` what is told of a schedule. `told_text` takes its words and worlds from the functions
-//! of the stage's type, so a body that doesn't give the stage the events can't know it. The text is
-//! gathered in one buffer, which is written and used again whenever it has reached 64 KiB.
+//! `specs/Report` has what is told of a run, in the lines of `oc_report`; `specs/Summary` has what is
+//! counted of a world, `specs/Replay` what is told of a schedule. `told_text` takes its words and
+//! worlds from the functions of the stage's type, so a body that doesn't give the stage the events can't
+//! know it. The text is gathered in one buffer, which is written and used again whenever it has reached
+//! 64 KiB.
 #![tactic(auto)]
 
-mod bodies;
 mod end;
-mod items;
 mod law;
-mod lines;
 mod replaying;
 mod reporting;
-mod show;
 mod summing;
-mod texts;
 
 pub use end::ReplayEnd;
 pub use law::examples_are_told;
-pub use lines::held_text;
-pub use oc_base::{Shelf, Why};
+pub use oc_base::Why;
 pub use oc_schedule::What;
 pub use replaying::replay;
-pub use show::show_text;

@@ -6,7 +6,7 @@ ghost use Rattle.oc_model.specs.World.{ids};
 ghost use Rattle.oc_io.specs.Faults.{NoFall, Rose};
 ghost use Rattle.oc_schedule.specs.Schedule.{IsSchedule};
 ghost use Rattle.oc_schedule.specs.Script.{Script};
-ghost use Rattle.oc_schedule.specs.declared.fault.ScheduleFault.TheVariants.{Line};
+ghost use Rattle.oc_acts.specs.declared.fault.ScheduleFault.TheVariants.{Line};
 ghost use Rattle.oc_replay.specs.Ends.{OnDone, IfText, IfLimit, OnSource, OnSink, OnMemory, OnRefusal};
 ghost use Rattle.oc_replay.specs.Opening.{IsOpening};
 ghost use Rattle.oc_replay.specs.Replay.{IsInput, PassesLimit, output_text, run_output, world_at};

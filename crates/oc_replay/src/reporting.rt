@@ -9,11 +9,10 @@ ghost use Rattle.oc_replay.specs.Report.{block_text, event_text, message_text, r
 ghost use Rattle.oc_stage.specs.Stage.{HasTimeFor};
 ghost use Rattle.oc_replay.specs.declared.reporting.ReportFault.TheVariants.{Sink as SinkFailed, Memory as NoMemory};
 
-use crate::lines::{put_end, put_event, put_held, put_message};
-use crate::show::put_show;
 use oc_base::Memory;
 use oc_io::{Failed, Sink, write_all};
 use oc_model::Event;
+use oc_report::{put_end, put_event, put_held, put_message, put_show};
 use oc_stage::{Said, Stage};
 use std::alloc::Global;
 

@@ -4,10 +4,10 @@ use Rattle.oc_model.specs.declared.event.Act.TheVariants as acts
 use Rattle.oc_model.specs.declared.input.Input.{Input}
 use Rattle.oc_model.specs.declared.input.Input.TheVariants as inputs
 use Rattle.oc_model.specs.declared.message.Message.{Message}
-use Rattle.oc_schedule.specs.Printing.{act_line, recv_line}
-use Rattle.oc_wire.specs.Reading.{decoded}
+use Rattle.oc_acts.specs.Texts.{act_line, recv_line}
+use Rattle.oc_message.specs.Reading.{decoded}
 use Rattle.oc_wire.specs.Spelling.{spelling, HasSpelling}
-use Rattle.oc_wire.specs.declared.fault.WireFault.{WireFault}
+use Rattle.oc_message.specs.declared.fault.WireFault.{WireFault}
 use Rattle.oc_routes.specs.declared.asks.Asks.{Asks}
 use Rattle.oc_routes.specs.declared.asks.Asks.TheVariants as asks
 use Rattle.oc_routes.specs.declared.fault.RouteFault.{RouteFault}

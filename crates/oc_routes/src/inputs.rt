@@ -3,7 +3,7 @@ ghost use Rattle.oc_base.specs.declared.limits.TheConstants.{MAX_PUBLISH_BYTES};
 ghost use Rattle.oc_model.specs.Lawful.{IsInput};
 ghost use Rattle.oc_routes.specs.Inputs.{Gives, HasLine, delivered, input_asked};
 ghost use Rattle.oc_routes.specs.Lawful.{IsAsked};
-ghost use Rattle.oc_wire.specs.Reading.{decoded};
+ghost use Rattle.oc_message.specs.Reading.{decoded};
 
 use crate::asks::Asks;
 use crate::fault::RouteFault;

@@ -1,10 +1,6 @@
-pub mod Alike
-pub mod Steps
 pub mod Ranges
 pub mod Lawful
 pub mod Draws
-pub mod LineBack
-pub mod FieldsBack
 pub mod EventsBack
 pub mod Readback
 pub mod Generated

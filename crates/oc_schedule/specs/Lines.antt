@@ -9,8 +9,7 @@ use Rattle.oc_base.specs.declared.why.Why.TheVariants as causes
 use Rattle.oc_model.specs.declared.event.Event.{Event}
 use Rattle.oc_model.specs.declared.event.Event.TheVariants.{Up, Crash, Stop, Do, Held, Show, Settle, Heal}
 use Rattle.oc_model.specs.Node.{Header}
-use Rattle.oc_schedule.specs.Acts.{act_in, act_word, act_fields, act_words, most_byte}
-use Rattle.oc_schedule.specs.Fields.{first_three}
+use Rattle.oc_acts.specs.Acts.{act_in, act_word, act_fields, act_words, most_byte}
 
 -- the numbers of nodes and of chain members
 abbrev pub sizes_in : List ℕ → List ℕ → Result (ℕ × ℕ) Why
@@ -82,6 +81,11 @@ show_in nodes fields = do
 abbrev pub alone : Event → List (List ℕ) → Result Event Why
 alone event [] = Ok event
 alone event (field ∷ fields) = Err causes.Count
+
+-- the first three fields and those behind them
+abbrev pub first_three : List (List ℕ) → Result (List ℕ × List ℕ × List ℕ × List (List ℕ)) Why
+first_three (a ∷ b ∷ c ∷ rest) = Ok (a, b, c, rest)
+first_three fields = Err causes.Count
 
 -- the greatest number of device calls that a stop lets work
 abbrev pub most_calls : ℕ

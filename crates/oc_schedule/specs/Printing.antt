@@ -1,37 +1,14 @@
 -- The text of a schedule: a line of words for the header, for each area that is not 0, and for each event.
-use Rattle.std.specs.Prelude.{ℕ, ◌+◌, ◌==◌, ◌≤◌, if◌then◌else◌, List, [], ◌∷◌, ◌++◌, length, codes, decimal}
-use Rattle.std.specs.List.{AllByRecursion, flat_map}
-use Rattle.hex.specs.Hex.{encode_lower, IsBytes}
+use Rattle.std.specs.Prelude.{ℕ, ◌+◌, ◌==◌, ◌≤◌, if◌then◌else◌, List, [], ◌∷◌, ◌++◌, length}
+use Rattle.std.specs.List.{AllByRecursion}
 use Rattle.oc_base.specs.declared.limits.TheConstants.{MAX_SCHEDULE_LINES, MAX_SCHEDULE_BYTES}
-use Rattle.oc_model.specs.declared.event.Act.{Act}
-use Rattle.oc_model.specs.declared.event.Act.TheVariants as acts
 use Rattle.oc_model.specs.declared.event.Event.{Event}
 use Rattle.oc_model.specs.declared.event.Event.TheVariants.{Do, Stop}
-use Rattle.oc_schedule.specs.Acts.{act_words}
+use Rattle.oc_acts.specs.Acts.{PublishesBytes}
+use Rattle.oc_acts.specs.Texts.{line_text}
 use Rattle.oc_schedule.specs.Lines.{header_words, area_words, event_words}
 use Rattle.oc_schedule.specs.Schedule.{IsSchedule}
 use Rattle.oc_schedule.specs.Script.{Script}
-
--- words with a space before each
-abbrev pub fields_text : List (List ℕ) → List ℕ
-fields_text words = flat_map (λ w. codes " " ++ w) words
-
--- words with a space between each two
-abbrev pub spaced : List (List ℕ) → List ℕ
-spaced [] = []
-spaced (word ∷ words) = word ++ fields_text words
-
--- a line of these words
-abbrev pub line_text : List (List ℕ) → List ℕ
-line_text words = spaced words ++ codes "\n"
-
--- the line of an act
-abbrev pub act_line : Act → List ℕ
-act_line act = line_text (act_words act)
-
--- the line of a message that came to a node, by its bytes
-abbrev pub recv_line : ℕ → List ℕ → List ℕ
-recv_line node bytes = line_text (codes "recv" ∷ decimal node ∷ encode_lower bytes ∷ [])
 
 -- the line of a node's area, unless that is 0
 abbrev pub area_text : ℕ → ℕ → List ℕ
@@ -55,11 +32,6 @@ script_text s = line_text (header_words s.header.nodes s.header.chain) ++ areas_
 abbrev pub area_lines : List ℕ → ℕ
 area_lines [] = 0
 area_lines (area ∷ areas) = if area == 0 then area_lines areas else area_lines areas + 1
-
--- what an act publishes is bytes
-abbrev pub PublishesBytes : Act → Type 0
-PublishesBytes (acts.Publish node group bytes) = IsBytes bytes
-PublishesBytes act = Unit {0}
 
 abbrev pub IsOfBytes : Event → Type 0
 IsOfBytes (Do act) = PublishesBytes act

@@ -1,8 +1,7 @@
 -- What a schedule says, and what is counted of it.
-use Rattle.std.specs.Prelude.{ℕ, List, length}
+use Rattle.std.specs.Prelude.{ℕ, List}
 use Rattle.std.specs.List.{sum_by}
-use Rattle.oc_model.specs.declared.event.Act.{Act}
-use Rattle.oc_model.specs.declared.event.Act.TheVariants as acts
+use Rattle.oc_acts.specs.Acts.{bytes_of_act}
 use Rattle.oc_model.specs.declared.event.Event.{Event}
 use Rattle.oc_model.specs.declared.event.Event.TheVariants.{Do, Stop, Settle, Heal}
 use Rattle.oc_model.specs.Node.{Header}
@@ -11,11 +10,6 @@ use Rattle.oc_model.specs.Node.{Header}
 pub record Script : Type 0 where
   pub header : Header
   pub events : List Event
-
--- the bytes that an act publishes
-abbrev pub bytes_of_act : Act → ℕ
-bytes_of_act (acts.Publish node group bytes) = length bytes
-bytes_of_act act = 0
 
 -- the bytes that an event publishes, also where a stop cuts it off
 abbrev pub published_by : Event → ℕ

@@ -7,15 +7,11 @@ ghost use Rattle.std.specs.Prelude.{◌≡◌, ◌++◌, OnOk, IfOk, codes, deci
 ghost use Rattle.oc_base.specs.Lawful.{IsNode};
 ghost use Rattle.oc_base.specs.Words.{words, GivesFields};
 ghost use Rattle.oc_model.specs.declared.event.Event.TheVariants.{Settle, Heal};
-ghost use Rattle.oc_schedule.specs.Fields.{first_three};
-ghost use Rattle.oc_schedule.specs.Lines.{sizes_in, opening_in, area_in, node_alone_in, alone, stop_in, act_alone_in, event_in, event_words};
-ghost use Rattle.oc_schedule.specs.Printing.{spaced};
-ghost use Rattle.oc_schedule.specs.Reading.{GivesLine};
+ghost use Rattle.oc_schedule.specs.Lines.{sizes_in, opening_in, area_in, first_three, node_alone_in, alone, stop_in, act_alone_in, event_in, event_words};
+ghost use Rattle.oc_acts.specs.Texts.{spaced};
+ghost use Rattle.oc_acts.specs.Reading.{GivesLine};
 
-use crate::acts::{act, put_act};
-use crate::fault::LineFault;
-use crate::fields::is;
-use crate::texts::put_number_field;
+use oc_acts::{LineFault, act, is, put_act, put_number_field};
 use oc_base::words::{first_word, node, number, one_field, six_fields, two_fields};
 use oc_base::{MAX_CHAIN, MAX_NODES, Memory, NodeId, Why, put};
 use oc_model::Event;

@@ -1,16 +1,16 @@
-//! The text of a schedule, and of single lines.
+//! The text of a schedule.
 
 ghost use Rattle.std.specs.Prelude.{◌≡◌, ◌++◌, Ok, OnOk, IfOk};
 ghost use Rattle.oc_schedule.specs.Lines.{header_words};
-ghost use Rattle.oc_schedule.specs.Printing.{IsPrintable, act_line, area_text, areas_text, events_text, line_text, recv_line, script_text};
+ghost use Rattle.oc_acts.specs.Texts.{line_text};
+ghost use Rattle.oc_schedule.specs.Printing.{IsPrintable, area_text, areas_text, events_text, script_text};
 ghost use Rattle.oc_schedule.specs.Schedule.{schedule_of};
 
 use crate::Schedule;
-use crate::acts::put_act;
 use crate::lines::put_event;
-use crate::texts::{put_hex, put_number_field};
-use oc_base::{Memory, NodeId, put};
-use oc_model::{Act, Event};
+use oc_acts::put_number_field;
+use oc_base::{Memory, put};
+use oc_model::Event;
 use std::alloc::Global;
 
 /// Writes the text of a schedule: the header, a line for each area that is not 0, ascending, and a
@@ -32,25 +32,6 @@ fn put_schedule(out: &mut Vec<u8>, schedule: &Schedule) -> Result<(), Memory>
     put_areas(out, &schedule.areas)?;
     put_events(out, &schedule.events)?;
     Ok(())
-}
-
-/// Puts the line of an act, as a running node prints each input that it takes.
-pub fn put_act_line(out: &mut Vec<u8>, act: &Act) -> Result<(), Memory>
-    ensures { OnOk result (out.new.items ≡ out.old.items ++ act_line act.now) }
-{
-    put_act(out, act)?;
-    put(out, b"\n")
-}
-
-/// Puts the line `recv N HEX` of a message that came to a node, by its bytes.
-pub fn put_recv_line(out: &mut Vec<u8>, node: NodeId, bytes: &[u8]) -> Result<(), Memory>
-    ensures { OnOk result (out.new.items ≡ out.old.items ++ recv_line node bytes.now) }
-{
-    put(out, b"recv")?;
-    put_number_field(out, u64::from(node.0))?;
-    put(out, b" ")?;
-    put_hex(out, bytes)?;
-    put(out, b"\n")
 }
 
 fn put_header(out: &mut Vec<u8>, nodes: u32, chain: u32) -> Result<(), Memory>

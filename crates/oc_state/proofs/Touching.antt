@@ -4,7 +4,7 @@ use Rattle.std.specs.List.{AllByRecursion}
 use Rattle.oc_base.specs.declared.cert.Cert.{Cert}
 use Rattle.oc_state.specs.declared.touch.Touch.{Touch}
 use Rattle.oc_state.specs.Touched.{IsTouch, leases_by, rates_by, counts_by, leases_after, rates_after, counts_after}
-use Rattle.oc_state.proofs.Lists.{drop_at}
+use Rattle.oc_parts.proofs.Lists.{drop_at}
 
 -- the touch at hand is of a node, and so are the rest
 pub touch_here : (nodes : ℕ) (us : List Touch) (i : ℕ) (u : Touch) → i < length us → u ≡ get_or us i u → AllByRecursion (IsTouch nodes) (drop i us) → IsTouch nodes u

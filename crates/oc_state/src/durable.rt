@@ -6,13 +6,13 @@ ghost use Rattle.oc_model.specs.Node.{new_durable};
 ghost use Rattle.oc_model.specs.Records.{fold_one, folded, noted};
 ghost use Rattle.oc_model.specs.Table.{merge};
 ghost use Rattle.oc_state.specs.DurableView.{DurableView, HasRoom, IsKept};
-ghost use Rattle.oc_state.specs.Standing.{standing_of};
+ghost use Rattle.oc_parts.specs.Standing.{standing_of};
 
-use crate::standing::Standing;
 use oc_base::{Cert, IdList, Memory, NodeId};
 use oc_cert::Table;
 use oc_measure::Measures;
 use oc_model::{Mode, Record};
+use oc_parts::Standing;
 use oc_updown::ChangeLog;
 use std::alloc::Global;
 use std::marker::Model;

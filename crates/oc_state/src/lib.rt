@@ -1,26 +1,17 @@
-//! The parts of a node's state, and what its rules ask of them.
+//! What is durable of a node, and the changes of the lists that a start clears.
 //!
 //! [`Durable`] is what a stop leaves: it is changed by records alone, one after another, and gives a
-//! snapshot of itself, few records that stand for all before them. [`Volatile`], [`Tries`] and the lists
-//! that have an item for each node are what a start clears; a [`Touch`] is one change of those lists.
+//! snapshot of itself, few records that stand for all before them. The lists that have an item for each
+//! node are what a start clears; a [`Touch`] is one change of those lists.
 //!
-//! The layers above rest on this: folding records gives the model's `folded`, a snapshot is the model's
-//! `snapshot`, and each test and each search gives what the model's definition of its name says.
+//! The layers above rest on this: folding records gives the model's `folded`, and a snapshot is the model's
+//! `snapshot`. The small parts of the state, and the searches in them, are those of `oc_parts`.
 #![tactic(auto)]
 
-pub mod children;
 mod durable;
-pub mod modes;
-pub mod ranks;
-pub mod shelves;
 mod snapshot;
-mod standing;
 mod touch;
-mod tries;
-mod volatile;
 
 pub use durable::Durable;
-pub use standing::Standing;
+pub use oc_parts::{Standing, Tries, Volatile, children, modes, ranks, shelves};
 pub use touch::{Touch, touch_all};
-pub use tries::Tries;
-pub use volatile::Volatile;

@@ -6,11 +6,11 @@ ghost use Rattle.oc_cert.specs.TableView.{AreTableRows, entries_of};
 ghost use Rattle.oc_state.specs.Snapshots.{rate_record};
 
 use crate::durable::Durable;
-use crate::ranks::rank_or_last;
-use crate::standing::Standing;
 use oc_base::{Cert, IdList, Memory, NodeId, Rank};
 use oc_measure::Measures;
 use oc_model::{Mode, Record};
+use oc_parts::Standing;
+use oc_parts::ranks::rank_or_last;
 use oc_rows::Rows;
 use std::alloc::Global;
 

@@ -11,9 +11,9 @@ use Rattle.oc_model.specs.declared.message.Message.{Message}
 use Rattle.oc_outside.specs.Exchange.{Hears, HearsThenBreaks}
 use Rattle.oc_outside.specs.LinkCalls.{Told, OnOutgoing, IsCutDial}
 use Rattle.oc_outside.specs.Story.{Dial, Story, dials, hung_up}
-use Rattle.oc_wire.specs.Reading.{decoded}
+use Rattle.oc_message.specs.Reading.{decoded}
 use Rattle.oc_wire.specs.Spelling.{spelling}
-use Rattle.oc_wire.specs.declared.fault.WireFault.{WireFault}
+use Rattle.oc_message.specs.declared.fault.WireFault.{WireFault}
 
 -- What comes of a reply
 

@@ -7,7 +7,7 @@ ghost use Rattle.oc_io.specs.Faults.{Rose};
 ghost use Rattle.oc_outside.specs.LinkCalls.{CountsDialling, Told};
 ghost use Rattle.oc_turn.specs.Dials.{DialsMessage, IsAnswered, Makes, MayMake, ComesOf, delivered_or, input_of_reply, message_to, text_of};
 ghost use Rattle.oc_turn.specs.Lines.{IsEntry, input_in};
-ghost use Rattle.oc_wire.specs.Reading.{decoded};
+ghost use Rattle.oc_message.specs.Reading.{decoded};
 ghost use Rattle.oc_wire.specs.Spelling.{HasSpelling};
 
 use crate::entry::{Entry, fail_entry, message_entry};

@@ -1,4 +1,3 @@
-pub mod Lifts
 pub mod FieldReads
 pub mod NameReads
 pub mod Ascending
@@ -11,4 +10,3 @@ pub mod RequestReads
 pub mod OneAnswer
 pub mod Sizes
 pub mod Puts
-pub mod Rows

@@ -1,6 +1,5 @@
 pub mod Faults
 pub mod Spelling
-pub mod Reading
 pub mod Messages
 pub mod Requests
 pub mod Rows

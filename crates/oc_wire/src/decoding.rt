@@ -1,16 +1,10 @@
-ghost use Rattle.std.specs.Prelude.{◌≡◌, IfOk};
+ghost use Rattle.std.specs.Prelude.{IfOk};
+ghost use Rattle.oc_message.specs.Reading.{Gives, decoded};
 ghost use Rattle.oc_model.specs.declared.message.Message.{Message};
 ghost use Rattle.oc_wire.specs.Messages.{Spells};
-ghost use Rattle.oc_base.specs.Reading as fields;
-ghost use Rattle.oc_wire.specs.Reading.{Gives, is_node, body_at, fields_at, decoded};
 
-use crate::WireFault;
-use crate::codes::CODES;
-use crate::kinds::{
-    ask_at, check_ack_at, check_in_at, chunk_at, fetch_at, look_is_at, no_at, rejoin_at, yes_at,
-};
-use oc_base::{FieldFault, NodeId, row_of, take_u8, take_u32};
-use oc_model::{Body, Message};
+use oc_message::{WireFault, read_message};
+use oc_model::Message;
 use std::alloc::Global;
 
 /// The message between `nodes` nodes that the bytes spell: all of the bytes, or the first fault.
@@ -22,75 +16,5 @@ pub fn decode(alloc: Global, bytes: &[u8], nodes: u32) -> Result<Message, WireFa
     // Which fault it is.
     ensures exact { Gives result (decoded nodes bytes.now) }
 {
-    message_of(alloc, nodes, bytes)
-}
-
-/// The message, up to the end.
-#[tactic(auto, unfolding(crate::specs::Reading::decoded))]
-fn message_of(alloc: Global, nodes: u32, bytes: &[u8]) -> Result<Message, WireFault>
-    ensures { Gives result (decoded nodes bytes.now) }
-{
-    let (from, next) = take_u32(bytes, 0)?;
-    let (to, next) = take_u32(bytes, next)?;
-    let (code, next) = take_u8(bytes, next)?;
-    if !is_node(nodes, from) || !is_node(nodes, to) {
-        return Err(WireFault::Stranger);
-    }
-    let (body, end) = body_at(alloc, code, nodes, bytes, next)?;
-    if end != bytes.len() {
-        return Err(WireFault::Trailing);
-    }
-    Ok(Message {
-        from: NodeId(from),
-        to: NodeId(to),
-        body,
-    })
-}
-
-/// Whether this is the id of one of `nodes` nodes.
-fn is_node(nodes: u32, id: u32) -> bool
-    ensures { result ≡ is_node nodes id }
-{
-    1 <= id && id <= nodes
-}
-
-/// The body of the kind with this code.
-fn body_at(
-    alloc: Global,
-    code: u8,
-    nodes: u32,
-    bytes: &[u8],
-    at: usize,
-) -> Result<(Body, usize), WireFault>
-    ensures { Gives result (body_at code nodes bytes.now at) }
-{
-    match row_of(&CODES, code) {
-        Some(row) => Ok(fields_at(alloc, row, nodes, bytes, at)?),
-        None => Err(WireFault::Kind(code)),
-    }
-}
-
-/// The body of the kind in this row of [`CODES`].
-#[tactic(auto, using(crate::proofs::Lifts::given_same), unfolding(crate::specs::Reading::fields_at))]
-fn fields_at(
-    alloc: Global,
-    row: usize,
-    nodes: u32,
-    bytes: &[u8],
-    at: usize,
-) -> Result<(Body, usize), FieldFault>
-    ensures { fields.Gives result (fields_at row nodes bytes.now at) }
-{
-    match row {
-        0 => Ok((Body::Look, at)),
-        1 => look_is_at(alloc, nodes, bytes, at),
-        2 => ask_at(bytes, at),
-        3 => yes_at(alloc, nodes, bytes, at),
-        4 => no_at(nodes, bytes, at),
-        5 => check_in_at(alloc, nodes, bytes, at),
-        6 => check_ack_at(alloc, nodes, bytes, at),
-        7 => rejoin_at(bytes, at),
-        8 => fetch_at(alloc, bytes, at),
-        _ => chunk_at(alloc, bytes, at),
-    }
+    read_message(alloc, nodes, bytes)
 }

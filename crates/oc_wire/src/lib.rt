@@ -1,10 +1,8 @@
 //! Messages of nodes as bytes and as requests: each message has one spelling, and each refusal names the
 //! first fault.
 //!
-//! A message is its sender, its receiver, its kind's code and the fields of that kind, numbers
-//! big-endian, and nothing behind them. `specs/Spelling` has the one spelling of each message,
-//! `specs/Reading` what bytes stand for or what is wrong with them, and `specs/Requests` what the bytes
-//! of a request bring.
+//! `specs/Spelling` has the one spelling of each message, and `specs/Requests` what the bytes of a request
+//! bring. What bytes stand for as a message, or what is wrong with them, is read in `oc_message`.
 //!
 //! The contracts used above: [`decode`] gives a message exactly where the bytes are its spelling, and else
 //! the first fault; what [`encode`] writes is that spelling; no two messages have one spelling. All of it
@@ -13,24 +11,20 @@
 //! there is one answer to the bytes of a request.
 #![tactic(auto)]
 
-mod codes;
 mod decoding;
 mod encoding;
-mod fault;
-mod fields;
 mod http;
 mod http_fault;
-mod kinds;
 mod law;
 
-pub use codes::{CODES, REFUSALS};
 pub use decoding::decode;
 pub use encoding::encode;
-pub use fault::WireFault;
 pub use http::{from_http, to_http};
 pub use http_fault::HttpWireFault;
 pub use law::{
     codes_are_distinct, examples_are_read, least_lengths_are_exact,
     no_two_messages_have_one_spelling, requests_have_one_answer, spellings_are_read,
 };
+pub use oc_fields::REFUSALS;
+pub use oc_message::{CODES, WireFault};
 pub use oc_model::{Body, Message};

@@ -7,9 +7,9 @@ ghost use Rattle.oc_model.specs.Lawful.{IsInput};
 ghost use Rattle.oc_model.specs.Step.{step};
 ghost use Rattle.oc_process.specs.ProcessView.{Renews};
 
-use crate::net::Net;
 use oc_base::Memory;
 use oc_model::{Answer, Input};
+use oc_net::Net;
 use oc_process::Process;
 use std::alloc::Global;
 

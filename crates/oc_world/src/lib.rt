@@ -1,7 +1,7 @@
 //! All nodes of a network on their files, and every message between them.
 //!
-//! A [`World`] keeps each node as a `Process` on three disks in memory, up or down, and each message as the
-//! text of the request that brings it.
+//! A [`World`] keeps each node as a `Process` on three disks in memory, up or down, and each message in a
+//! `Net` as the text of the request that brings it.
 //!
 //! The contract used above: [`World::event`] leaves exactly the model's `next_world`, and says the model's
 //! word and which messages were sent; an act at a node whose control files are ripe leaves them with a
@@ -12,11 +12,8 @@
 #![tactic(auto)]
 
 mod acting;
-mod aims;
 mod cluster;
-mod net;
 mod stage;
-mod texts;
 mod world;
 
 pub use oc_sight::sight_of;

@@ -1,21 +1,40 @@
-//! Plays tables of worked cases over the texts that a node and a client read and write, and prints a line
-//! for each case: its name and `ok`, or what came in place of what has to come.
+//! Plays tables of worked cases over the texts that a node and a client read and write, over what requests ask of a node
+//! and over what they are answered, and prints a line for each case: its name and `ok`, or what came in place of what has
+//! to come.
 //!
 //! Each table is a file in `data`, whose first lines say how its rows are written, and a module that gives
 //! the words of a row.
 #![tactic(auto)]
 
+mod asking;
 mod chunked;
 mod configurations;
+mod lines;
 mod locations;
 mod measure_lines;
+mod replies;
 mod requests;
+mod responses;
 mod rules;
 mod texts;
+mod verdicts;
 
 use std::alloc::Global;
 use std::io;
 use test_tools::{Cases, Fault, play};
+
+/// The tables, in their order.
+const TABLES: [&str; 9] = [
+    "configurations",
+    "verdicts",
+    "chunked",
+    "measure_lines",
+    "locations",
+    "requests",
+    "responses",
+    "replies",
+    "lines",
+];
 
 /// The words of the rows, by table.
 struct Rows;
@@ -24,24 +43,19 @@ impl Cases for Rows {
     fn words(alloc: Global, table: &str, given: &str) -> Result<String, Fault> {
         match table {
             "configurations" => configurations::words(alloc, given),
-            "requests" => requests::words(alloc, given),
+            "verdicts" => verdicts::words(alloc, given),
             "chunked" => chunked::words(alloc, given),
             "measure_lines" => measure_lines::words(alloc, given),
             "locations" => locations::words(alloc, given),
+            "requests" => requests::words(alloc, given),
+            "responses" => responses::words(alloc, given),
+            "replies" => replies::words(alloc, given),
+            "lines" => lines::words(alloc, given),
             _ => Err(Fault::Field),
         }
     }
 }
 
 fn main(rt: HostRuntime) -> io::Result<()> {
-    play::<Rows, _>(
-        &rt,
-        &[
-            "configurations",
-            "requests",
-            "chunked",
-            "measure_lines",
-            "locations",
-        ],
-    )
+    play::<Rows, _>(&rt, &TABLES)
 }

@@ -1,30 +1,65 @@
-//! What the access rules of a configuration say of requests.
+//! What requests ask: the line of the input that comes of a request, or the line and the reply of one that is
+//! refused.
 
-use crate::texts::text_in;
-use oc_config::read;
-use oc_policy::{Action, MAX_RULES, Verdict, decide};
+ghost use Rattle.std.specs.Prelude.{◌≤◌, length};
+ghost use Rattle.oc_policy.specs.declared.deciding.TheConstants.{MAX_RULES as RULE_LIMIT};
+
+use crate::asking::{request_in, rules_in};
+use oc_base::NodeId;
+use oc_policy::Rule;
+use oc_routes::{Refused, RouteFault, input_of, put_input_line, put_refusal_line, refusal_reply};
 use std::alloc::Global;
-use test_tools::{Fault, Fields, group_in};
+use test_tools::{Fault, Fields, put_spelled, spelled_in};
 
-/// The words of a row: the verdict.
+/// The number of nodes.
+const NODES: u32 = 3;
+
+/// The words of a row: the line, and of a refused request the reply.
 pub fn words(alloc: Global, given: &str) -> Result<String, Fault> {
-    let (request, text) = given.split_once('|').ok_or(Fault::Field)?;
-    let mut fields = Fields::of(request, ' ');
-    let action = match fields.text() {
-        "get" => Action::Get,
-        "post" => Action::Post,
-        _ => return Err(Fault::Field),
-    };
-    let group = group_in(fields.text())?;
-    let area = fields.byte()?;
-    let Ok(config) = read(alloc, &text_in(alloc, text.trim())?) else {
-        return Err(Fault::Unready);
-    };
-    if config.rules.len() > MAX_RULES {
-        return Err(Fault::Unready);
+    let (rules, rest) = given.split_once(' ').unwrap_or((given, ""));
+    let (me, text) = rest.split_once(' ').unwrap_or((rest, ""));
+    let rules = rules_in(alloc, rules)?;
+    let me = Fields::of(me, ' ').node()?;
+    let bytes = spelled_in(alloc, text)?;
+    let mut said = String::new(alloc);
+    match line_of(alloc, bytes, &rules, me) {
+        Ok(line) => put_line(&mut said, &line)?,
+        Err(RouteFault::Refused(refused)) => put_refusal(alloc, &mut said, refused)?,
+        Err(RouteFault::Memory) => return Err(Fault::Memory),
     }
-    match decide(&config.rules, action, &group, area) {
-        Verdict::Allowed => Ok(String::from_str(alloc, "allowed")?),
-        Verdict::Denied(rule) => Ok(format!(in alloc; "denied {rule}")?),
+    Ok(said)
+}
+
+/// The line of the input that comes of a request; empty where none comes.
+fn line_of(alloc: Global, bytes: Vec<u8>, rules: &[Rule], me: NodeId) -> Result<Vec<u8>, RouteFault>
+    requires { length rules.now ≤ RULE_LIMIT }
+{
+    let request = request_in(alloc, bytes, rules)?;
+    let body = request.body;
+    let mut line = Vec::new(alloc);
+    if let Some(input) = input_of(alloc, &request.asks, body, me, NODES)? {
+        put_input_line(alloc, &mut line, me, &input)?;
+    }
+    Ok(line)
+}
+
+fn put_refusal(alloc: Global, said: &mut String, refused: Refused) -> Result<(), Fault> {
+    let mut line = Vec::new(alloc);
+    put_refusal_line(&mut line, refused)?;
+    put_line(said, &line)?;
+    match refusal_reply(alloc, refused)? {
+        Some(reply) => {
+            said.push(' ')?;
+            put_spelled(said, &reply)
+        }
+        None => Ok(said.push_str(" nothing")?),
+    }
+}
+
+/// Puts a line without its end, or `no line`.
+fn put_line(said: &mut String, line: &[u8]) -> Result<(), Fault> {
+    match line {
+        [front @ .., b'\n'] => put_spelled(said, front),
+        _ => Ok(said.push_str("no line")?),
     }
 }

@@ -1,6 +1,6 @@
 use Rattle.std.proofs.Common.{◌∙◌, ◌++◌, ap, ap₂}
-use Rattle.oc_replay.specs.Lines.{held_text}
-use Rattle.oc_replay.specs.Shows.{show_text}
+use Rattle.oc_report.specs.Lines.{held_text}
+use Rattle.oc_report.specs.Shows.{show_text}
 use Rattle.oc_check.proofs.showing.show.Goals as goal
 
 -- one block behind the other

@@ -2,7 +2,7 @@ use Rattle.std.proofs.Common.{◌≡◌, ℕ, Some, None, refl, ap, sym, subst, 
 use Rattle.oc_model.specs.Checking.{ends_leases}
 use Rattle.oc_model.specs.Leases.{start_all, next_ended}
 use Rattle.oc_model.specs.Node.{Control}
-use Rattle.oc_state.specs.declared.volatile.Volatile.{Volatile}
+use Rattle.oc_parts.specs.declared.volatile.Volatile.{Volatile}
 use Rattle.oc_draft.specs.DraftView.{DraftView}
 use Rattle.oc_draft.specs.NodeView.{IsReached}
 use Rattle.oc_node.proofs.Drafts.{both}

@@ -1,0 +1,24 @@
+-- What a field says that is no number, and how bytes are spelled.
+use Rattle.std.specs.Prelude.{ℕ, ◌==◌, if◌then◌else◌, Result, Ok, Err, List, [], ◌∷◌, length, codes}
+use Rattle.std.specs.Str.{bytes_eq}
+use Rattle.hex.specs.Hex.{decode_of, encode_lower}
+use Rattle.oc_base.specs.Names.{parsed_name}
+use Rattle.oc_base.specs.Steps.{with_fault}
+use Rattle.oc_base.specs.declared.why.Why.{Why}
+use Rattle.oc_base.specs.declared.why.Why.TheVariants.{Group, Hex}
+
+-- the group whose name a field is
+abbrev pub group_in : List ℕ → Result (List ℕ) Why
+group_in field = with_fault Group (parsed_name field)
+
+-- the bytes that a field writes in hexadecimal, or none by `-`
+abbrev pub bytes_in : List ℕ → Result (List ℕ) Why
+bytes_in field =
+    if bytes_eq field (codes "-") then Ok []
+    else if length field == 0 then Err Hex
+    else with_fault Hex (decode_of field)
+
+-- bytes in hexadecimal, or `-` where there are none
+abbrev pub bytes_text : List ℕ → List ℕ
+bytes_text [] = codes "-"
+bytes_text (b ∷ bs) = encode_lower (b ∷ bs)

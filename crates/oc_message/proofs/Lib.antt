@@ -1,0 +1,2 @@
+pub mod Lifts
+mod Rows

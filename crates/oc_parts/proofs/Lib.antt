@@ -1,0 +1,4 @@
+pub mod Lists
+pub mod ChildRows
+pub mod Better
+pub mod ShelfLines

@@ -1,0 +1,5 @@
+pub mod Standing
+pub mod Volatile
+pub mod Tries
+pub mod Modes
+pub mod Children

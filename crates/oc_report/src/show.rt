@@ -1,0 +1,78 @@
+//! The block of `show`: how a node stands.
+
+ghost use Rattle.std.specs.Prelude.{◌≡◌, ◌++◌, OnOk, IfOk};
+ghost use Rattle.oc_report.specs.Shows.{list_line, mode_text, node_line, show_text, state_text};
+
+use crate::bodies::put_rank_or_dash;
+use crate::items::{Item, put_list};
+use oc_base::{Memory, NodeId, put, put_with_number};
+use oc_model::Mode;
+use oc_stage::Sight;
+use std::alloc::Global;
+
+/// The block of `show`, as a text of its own.
+pub fn show_text(alloc: Global, node: NodeId, sight: &Sight) -> Result<Vec<u8>, Memory>
+    ensures { IfOk result (λ text. text.items ≡ show_text node sight.now) }
+{
+    let mut text = Vec::new(alloc);
+    put_show(&mut text, node, sight)?;
+    Ok(text)
+}
+
+/// Puts the block of `show`: four lines on a node, as it stands.
+pub fn put_show(out: &mut Vec<u8>, node: NodeId, sight: &Sight) -> Result<(), Memory>
+    ensures { OnOk result (out.new.items ≡ out.old.items ++ show_text node sight.now) }
+{
+    put_node_line(out, node, sight)?;
+    put_list_line(out, "ancestors", sight.ancestors.items())?;
+    put_list_line(out, "table", sight.table.items())?;
+    put_list_line(out, "listed", sight.listed.items())?;
+    Ok(())
+}
+
+/// Puts `  WORD [..]`.
+fn put_list_line<I: Item>(out: &mut Vec<u8>, word: &str, items: &[I]) -> Result<(), Memory>
+    ensures { OnOk result (out.new.items ≡ out.old.items ++ list_line word.now I.text items.now) }
+{
+    put(out, b"  ")?;
+    put(out, word.as_bytes())?;
+    put(out, b" ")?;
+    put_list(out, items)?;
+    put(out, b"\n")
+}
+
+/// Puts `  node N STATE MODE seq S rank RANK log A/L`.
+fn put_node_line(out: &mut Vec<u8>, node: NodeId, sight: &Sight) -> Result<(), Memory>
+    ensures { OnOk result (out.new.items ≡ out.old.items ++ node_line node sight.now) }
+{
+    put_with_number(out, b"  node ", u64::from(node.0))?;
+    put(out, b" ")?;
+    put(out, state_word(sight.up).as_bytes())?;
+    put(out, b" ")?;
+    put_mode(out, sight.mode)?;
+    put_with_number(out, b" seq ", sight.seq)?;
+    put(out, b" rank ")?;
+    put_rank_or_dash(out, sight.rank)?;
+    put_with_number(out, b" log ", sight.acked)?;
+    put_with_number(out, b"/", sight.length)?;
+    put(out, b"\n")
+}
+
+/// Whether a node is up.
+fn state_word(up: bool) -> &'static str
+    ensures { result.now ≡ state_text up }
+{
+    if up { "up" } else { "down" }
+}
+
+/// Puts where a node stands in the tree.
+fn put_mode(out: &mut Vec<u8>, mode: Mode) -> Result<(), Memory>
+    ensures { OnOk result (out.new.items ≡ out.old.items ++ mode_text mode) }
+{
+    match mode {
+        Mode::Idle => put(out, b"idle"),
+        Mode::Asking(peer) => put_with_number(out, b"asking ", u64::from(peer.0)),
+        Mode::Joined(parent) => put_with_number(out, b"joined ", u64::from(parent.0)),
+        Mode::Acting => put(out, b"acting"),
+    }
+}

@@ -1,11 +1,2 @@
-mod Parts
-mod Told
 mod Passed
-mod CalmEvents
-mod Statuses
-mod Replayed
-mod Completes
-mod Gotten
-mod Noded
-mod Works
-mod Serves
+mod InMemory

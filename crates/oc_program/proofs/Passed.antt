@@ -17,10 +17,10 @@ use Rattle.oc_acts.specs.declared.fault.ScheduleFault.{ScheduleFault}
 use Rattle.oc_acts.specs.declared.fault.ScheduleFault.TheVariants.{Limit}
 use Rattle.oc_acts.specs.declared.fault.What.{What}
 use Rattle.oc_acts.specs.declared.fault.What.TheVariants as limits
-use Rattle.oc_program.specs.Outside.{at_sink, at_source}
-use Rattle.oc_program.specs.Run.{IsWrittenOrCut}
+use Rattle.oc_commands.specs.Outside.{at_sink, at_source}
+use Rattle.oc_commands.specs.Run.{IsWrittenOrCut}
 use Rattle.oc_program.specs.Streams.{HasFailed, IsCountOf, IsCountOfLineOrFront, IsLineOrFront, IsSoundCountOf, at_bytes, at_input, at_output, at_text}
-use Rattle.oc_program.proofs.Told.{TellsInput, TellsOutput}
+use Rattle.oc_commands.proofs.Told.{TellsInput, TellsOutput}
 
 -- a counter that began at 0 and is a u64 is the number of the bytes, where a u64 has it
 count_is : (a n b : ℕ) → a ≡ 0 → b ≤ 2 ^ 64 - 1 → Rises a n b → b ≡ min n (2 ^ 64 - 1)

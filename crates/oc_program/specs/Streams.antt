@@ -5,7 +5,7 @@ use Rattle.oc_base.specs.declared.limits.TheConstants.{MAX_SCHEDULE_BYTES}
 use Rattle.oc_replay.specs.Report.{SomeFront}
 use Rattle.oc_schedule.specs.Schedule.{schedule_of}
 use Rattle.oc_acts.specs.declared.fault.ScheduleFault.TheVariants.{Limit}
-use Rattle.oc_program.specs.Outside.{Input, Output}
+use Rattle.oc_commands.specs.Outside.{Input, Output}
 
 -- ---- in memory
 

@@ -2,47 +2,25 @@
 //! link and a clock in; a status out.
 //!
 //! [`run`] is the contract that everything leads up to: how it ended, with which status and which
-//! line, and what had then happened outside. `Outside` in `specs/` is all that it speaks of, and
-//! `Happened` says for each end what then holds. [`run_in_memory`] and [`run_on_streams`] are `run` at
+//! line, and what had then happened outside. `Outside` in the `specs/` of `oc_commands` is all that it speaks
+//! of, and `Happened` says for each end what then holds. [`run_in_memory`] and [`run_on_streams`] are `run` at
 //! readers and writers, where the same clause is about bytes and about counts of bytes; `main` calls
 //! the second.
 //!
 //! Where a replay ends with status 0, [`headline_holds`] is part of that clause: what is so of every world
 //! of the schedule, inside of settle and heal too, and what settle and heal leave and tell.
 //!
-//! Each command is a file: `replaying`, `generating`, `listing` (`rules`), `checking`, `getting`
-//! and `serving` (`node`). What the words ask for is read by `oc_words`.
+//! What the words ask for is read by `oc_words`, and done by `oc_commands`.
 #![tactic(auto)]
 
-mod checking;
-mod command_texts;
-mod configuring;
-mod ending;
-mod generating;
-mod getting;
-mod headline;
-mod helping;
-mod lines;
-mod listing;
-mod replaying;
 mod running;
-mod serving;
-mod status;
 mod streams;
-mod telling;
-mod texts;
 
-pub use checking::CheckEnd;
-pub use configuring::ConfigEnd;
-pub use ending::End;
-pub use generating::GenEnd;
-pub use headline::headline_holds;
-pub use listing::RulesEnd;
 pub use oc_adapters::{ReaderSource, Traffic, WriterSink};
+pub use oc_commands::{
+    CheckEnd, ConfigEnd, End, GenEnd, RulesEnd, ServiceEnd, Status, headline_holds, help, tell,
+    usage,
+};
 pub use oc_words::{Request, Sample, WordsFault, read_words, rows_ask};
 pub use running::run;
-pub use serving::ServiceEnd;
-pub use status::Status;
 pub use streams::{MemoryRun, StreamsRun, run_in_memory, run_on_streams};
-pub use telling::tell;
-pub use texts::{help, usage};

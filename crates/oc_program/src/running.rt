@@ -4,29 +4,24 @@ ghost use Rattle.std.specs.Prelude.{◌≡◌, ◌≢◌, ℕ, Bool, ◌⊎◌, 
 ghost use Rattle.oc_keep.specs.Files.{AreHonest, OneRose, disks};
 ghost use Rattle.oc_keep.specs.Promises.{HoldFiles};
 ghost use Rattle.oc_io.specs.Faults.{NoFall, Rose};
-ghost use Rattle.oc_program.specs.AtNode.{HasServiceStatus};
-ghost use Rattle.oc_program.specs.AtReplay.{HasStatus};
-ghost use Rattle.oc_program.specs.AtRules.{HasConfigStatus};
-ghost use Rattle.oc_program.specs.Complete.{IsDoneOrMemory, IsServed, once};
-ghost use Rattle.oc_program.specs.Ends.{status_of};
-ghost use Rattle.oc_program.specs.Lines.{line_of};
-ghost use Rattle.oc_program.specs.Outside.{at_clock, at_files, at_link, at_node, at_sink, at_source, at_stage, seen};
-ghost use Rattle.oc_program.specs.Run.{Happened, IsNoNode, IsWrittenOrCut};
-ghost use Rattle.oc_program.specs.Status.{number_of};
+ghost use Rattle.oc_commands.specs.AtNode.{HasServiceStatus};
+ghost use Rattle.oc_commands.specs.AtReplay.{HasStatus};
+ghost use Rattle.oc_commands.specs.AtRules.{HasConfigStatus};
+ghost use Rattle.oc_commands.specs.Complete.{IsDoneOrMemory, IsServed, once};
+ghost use Rattle.oc_commands.specs.Ends.{status_of};
+ghost use Rattle.oc_commands.specs.Lines.{line_of};
+ghost use Rattle.oc_commands.specs.Outside.{at_clock, at_files, at_link, at_node, at_sink, at_source, at_stage, seen};
+ghost use Rattle.oc_commands.specs.Run.{Happened, IsNoNode, IsWrittenOrCut};
+ghost use Rattle.oc_commands.specs.Status.{number_of};
 ghost use Rattle.oc_words.specs.Words.{IsPlain, asked, texts_of};
-ghost use Rattle.oc_words.specs.declared.request.Member.{Member};
-ghost use Rattle.oc_words.specs.declared.request.Sample.{Sample};
-ghost use Rattle.oc_words.specs.declared.request.Service.{Service};
+ghost use Rattle.oc_requests.specs.declared.request.Member.{Member};
+ghost use Rattle.oc_requests.specs.declared.request.Sample.{Sample};
+ghost use Rattle.oc_requests.specs.declared.request.Service.{Service};
 
-use crate::checking::check_files;
-use crate::ending::End;
-use crate::generating::write_sample;
-use crate::getting::download;
-use crate::helping::write_help;
-use crate::listing::list_rules;
-use crate::replaying::replay_input;
-use crate::serving::run_service;
-use crate::telling::tell;
+use oc_commands::{
+    End, check_files, download, list_rules, replay_input, run_service, tell, write_help,
+    write_sample,
+};
 use oc_io::{Disk, Sink, Source};
 use oc_outside::{Clock, Link};
 use oc_stage::Stage;

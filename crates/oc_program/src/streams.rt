@@ -2,16 +2,16 @@
 //! and over the standard streams.
 
 ghost use Rattle.std.specs.Prelude.{◌≡◌, ℕ, Bool, ◌⊎◌, List, Some};
-ghost use Rattle.oc_program.specs.AtReplay.{status_for};
+ghost use Rattle.oc_commands.specs.AtReplay.{status_for};
 ghost use Rattle.oc_keep.specs.Files.{disks};
-ghost use Rattle.oc_program.specs.Ends.{status_of};
-ghost use Rattle.oc_program.specs.Lines.{line_of};
-ghost use Rattle.oc_program.specs.Outside.{at_clock, at_files, at_link, at_node, at_stage, seen};
-ghost use Rattle.oc_program.specs.Run.{Happened};
-ghost use Rattle.oc_program.specs.Status.{number_of};
+ghost use Rattle.oc_commands.specs.Ends.{status_of};
+ghost use Rattle.oc_commands.specs.Lines.{line_of};
+ghost use Rattle.oc_commands.specs.Outside.{at_clock, at_files, at_link, at_node, at_stage, seen};
+ghost use Rattle.oc_commands.specs.Run.{Happened};
+ghost use Rattle.oc_commands.specs.Status.{number_of};
 ghost use Rattle.oc_program.specs.Streams.{IsCountOfLineOrFront, IsLineOrFront, at_bytes, at_input, at_output, at_text};
 ghost use Rattle.oc_words.specs.Words.{asked, texts_of};
-ghost use Rattle.oc_program.specs.declared.ending.End.{End};
+ghost use Rattle.oc_commands.specs.declared.ending.End.{End};
 ghost use Rattle.oc_schedule.specs.Schedule.{schedule_of};
 
 use crate::running::run;

@@ -7,12 +7,12 @@ ghost use Rattle.oc_keep.specs.KeptView.{header_of};
 ghost use Rattle.oc_model.specs.NextWorld.{next_world, word_of};
 ghost use Rattle.oc_model.specs.World.{ids, new_world, node as node_in};
 ghost use Rattle.oc_io.specs.MemDiskView.{view_of};
-ghost use Rattle.oc_program.specs.Ends.{status_of};
-ghost use Rattle.oc_program.specs.Lines.{line_of};
-ghost use Rattle.oc_program.specs.Outside.{at_clock, at_files, at_link, at_node, at_sink, at_source, at_stage, seen};
-ghost use Rattle.oc_program.specs.Run.{Happened, IsWrittenOrCut};
-ghost use Rattle.oc_program.specs.Status.{number_of};
-ghost use Rattle.oc_program.specs.declared.ending.End.{End};
+ghost use Rattle.oc_commands.specs.Ends.{status_of};
+ghost use Rattle.oc_commands.specs.Lines.{line_of};
+ghost use Rattle.oc_commands.specs.Outside.{at_clock, at_files, at_link, at_node, at_sink, at_source, at_stage, seen};
+ghost use Rattle.oc_commands.specs.Run.{Happened, IsWrittenOrCut};
+ghost use Rattle.oc_commands.specs.Status.{number_of};
+ghost use Rattle.oc_commands.specs.declared.ending.End.{End};
 ghost use Rattle.oc_words.specs.Words.{asked, texts_of};
 ghost use Rattle.oc_world.specs.World.{WorldView};
 

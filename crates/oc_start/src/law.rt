@@ -1,7 +1,7 @@
 //! What a replay over a world in memory writes.
 
 ghost use Rattle.std.specs.Prelude.{◌≡◌};
-ghost use Rattle.oc_program.specs.AtReplay.{report_of, summary_of};
+ghost use Rattle.oc_commands.specs.AtReplay.{report_of, summary_of};
 ghost use Rattle.oc_replay.specs.Replay.{brief_text, told_text};
 ghost use Rattle.oc_schedule.specs.Script.{Script};
 

@@ -1,11 +1,11 @@
 //! A run over the real things.
 
 ghost use Rattle.std.specs.Prelude.{◌≡◌, ℕ, List};
-ghost use Rattle.oc_program.specs.Ends.{status_of};
-ghost use Rattle.oc_program.specs.Lines.{line_of};
-ghost use Rattle.oc_program.specs.Status.{number_of};
+ghost use Rattle.oc_commands.specs.Ends.{status_of};
+ghost use Rattle.oc_commands.specs.Lines.{line_of};
+ghost use Rattle.oc_commands.specs.Status.{number_of};
 ghost use Rattle.oc_program.specs.Streams.{IsCountOfLineOrFront};
-ghost use Rattle.oc_program.specs.declared.ending.End.{End};
+ghost use Rattle.oc_commands.specs.declared.ending.End.{End};
 
 use crate::law::world_reports_as_the_model;
 use oc_program::{StreamsRun, run_on_streams};

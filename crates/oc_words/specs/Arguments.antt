@@ -1,10 +1,16 @@
--- The words that the arguments of a subcommand were given.
+-- The words that the arguments of a subcommand were given, and what they ask for.
 use Rattle.std.specs.Prelude.{◌≢◌, Bool, false, Some, Result, List, ok_or, slice_get, codes}
 use Rattle.std.specs.Option.{option_map_or}
 use Rattle.std.specs.Str.{byte, bytes_eq}
 use Rattle.clap.specs.Words.{Row, Text, first_of}
+use Rattle.oc_base.specs.Steps.{◌>>=◌}
 use Rattle.oc_base.specs.declared.why.Why.{Why}
 use Rattle.oc_base.specs.declared.why.Why.TheVariants.{Count}
+use Rattle.oc_requests.specs.Requests.{download_in, member_in, sample_in, service_in}
+use Rattle.oc_requests.specs.declared.request.Download.{Download}
+use Rattle.oc_requests.specs.declared.request.Member.{Member}
+use Rattle.oc_requests.specs.declared.request.Sample.{Sample}
+use Rattle.oc_requests.specs.declared.request.Service.{Service}
 
 -- the word of an argument
 abbrev pub word_of : Text → List Row → Result Text Why
@@ -17,3 +23,32 @@ is_flagged id rows = option_map_or (λ word. bytes_eq word (codes "true")) (firs
 -- a word that does not begin with `-`
 abbrev pub IsNoFlag : Text → Type 0
 IsNoFlag word = slice_get word 0 ≢ Some (byte "-")
+
+-- what the arguments of `gen` ask for
+abbrev pub sample_of : List Row → Result Sample Why
+sample_of rows = do
+  seed_word ← word_of (codes "SEED") rows
+  nodes_word ← word_of (codes "NODES") rows
+  events_word ← word_of (codes "EVENTS") rows
+  sample_in seed_word nodes_word events_word
+
+-- what the arguments of `node` ask for
+abbrev pub service_of : List Row → Result Service Why
+service_of rows = do
+  id_word ← word_of (codes "ID") rows
+  turns_word ← word_of (codes "turns") rows
+  service_in id_word turns_word (is_flagged (codes "probe") rows)
+
+-- what the arguments of `check` ask for
+abbrev pub member_of : List Row → Result Member Why
+member_of rows = do
+  id_word ← word_of (codes "ID") rows
+  nodes_word ← word_of (codes "NODES") rows
+  chain_word ← word_of (codes "CHAIN") rows
+  member_in id_word nodes_word chain_word
+
+-- what the arguments of `get` ask for
+abbrev pub download_of : List Row → Result Download Why
+download_of rows = do
+  address ← word_of (codes "URL") rows
+  download_in address (first_of (codes "follow") rows)

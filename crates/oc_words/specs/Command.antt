@@ -1,5 +1,5 @@
 -- The command by which `clap` reads the words, as a term: what its builders make.
-use Rattle.std.specs.Prelude.{◌≡◌, [], ◌∷◌, Some, true, false, codes}
+use Rattle.std.specs.Prelude.{◌≡◌, [], ◌∷◌, ◌++◌, Some, true, false, codes}
 use Rattle.clap.specs.Words.{App, Rule, Shape, Text, new_app, new_rule, rule_of, shape_of, with_subcommand}
 use Rattle.clap.specs.Simple.{new_shape, on_top}
 use Rattle.clap.specs.declared.builder.action.ArgAction.TheVariants.{SetTrue}
@@ -31,6 +31,10 @@ option_rule id = record (new_rule id) { long = Some id }
 -- an option that has to be given
 abbrev pub required_option_rule : Text → Rule
 required_option_rule id = record (option_rule id) { required = true }
+
+-- a command with one argument more, the last
+abbrev pub with_argument : Shape → Rule → Shape
+with_argument shape rule = record shape { rules = shape.rules ++ rule ∷ [] }
 
 -- `replay`, with the flag `--summary`
 abbrev pub replay_shape : Shape

@@ -1,4 +1,3 @@
 pub mod Arguments
 pub mod Command
-pub mod Requests
 pub mod Words

@@ -1,7 +1,7 @@
 //! The command by which `clap` reads the words of the program.
 ghost use Rattle.std.specs.Prelude.{◌≡◌, IfOk};
-ghost use Rattle.clap.specs.Words.{app_of};
-ghost use Rattle.oc_words.specs.Command.{bare_command, command, local_command, stateless_command};
+ghost use Rattle.clap.specs.Words.{App, Shape, app_of, with_subcommand};
+ghost use Rattle.oc_words.specs.Command.{IsSubcommand, bare_command, command, local_command, stateless_command};
 
 use crate::subcommands::{
     check_command, gen_command, get_command, node_command, replay_command, rules_command,
@@ -10,31 +10,38 @@ use clap::Command;
 use std::alloc::{AllocError, Global};
 
 /// The command, with each of its subcommands.
-#[tactic(auto, unfolding(crate::specs::Command::command))]
 pub fn command<'a>(alloc: Global) -> Result<Command<'a>, AllocError>
     ensures { IfOk result (λ c. app_of c ≡ command) }
 {
-    local_command(alloc)?
-        .subcommand(node_command(alloc)?)?
-        .subcommand(get_command(alloc)?)
+    let local = local_command(alloc);
+    with(with(local, node_command(alloc)), get_command(alloc))
 }
 
 /// The command with the subcommands that make no connection.
 fn local_command<'a>(alloc: Global) -> Result<Command<'a>, AllocError>
     ensures { IfOk result (λ c. app_of c ≡ local_command) }
 {
-    stateless_command(alloc)?
-        .subcommand(check_command(alloc)?)?
-        .subcommand(rules_command(alloc))
+    let stateless = stateless_command(alloc);
+    with(with(stateless, check_command(alloc)), rules_command(alloc))
 }
 
 /// The command with the subcommands that take no part in a network.
 fn stateless_command<'a>(alloc: Global) -> Result<Command<'a>, AllocError>
     ensures { IfOk result (λ c. app_of c ≡ stateless_command) }
 {
-    bare_command(alloc)
-        .subcommand(replay_command(alloc)?)?
-        .subcommand(gen_command(alloc)?)
+    let bare = Ok(bare_command(alloc));
+    with(with(bare, replay_command(alloc)), gen_command(alloc))
+}
+
+/// A command with one subcommand more, where there was memory for both.
+fn with<'a>(
+    command: Result<Command<'a>, AllocError>,
+    subcommand: Result<Command<'a>, AllocError>,
+) -> Result<Command<'a>, AllocError>
+    ensures { (app : App) (shape : Shape) → IfOk command.entry (λ c. app_of c ≡ app) → IfOk subcommand.entry (IsSubcommand shape)
+        → IfOk result (λ c. app_of c ≡ with_subcommand app shape) }
+{
+    command?.subcommand(subcommand?)
 }
 
 /// The command without its subcommands, for words that do not begin with the program's name.

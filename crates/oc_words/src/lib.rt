@@ -7,16 +7,13 @@
 //! program.
 #![tactic(auto)]
 
-mod address;
 mod arguments;
 mod command;
 mod reading;
-mod request;
 mod subcommands;
 mod words;
 
-pub use address::Address;
-pub use request::{
-    Download, MAX_EVENTS, MAX_FOLLOWED, MAX_TURNS, Member, Request, Sample, Service,
+pub use oc_requests::{
+    Address, Download, MAX_EVENTS, MAX_FOLLOWED, MAX_TURNS, Member, Request, Sample, Service,
 };
 pub use words::{WordsFault, read_words, rows_ask};

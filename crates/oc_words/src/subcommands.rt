@@ -1,60 +1,82 @@
 //! The subcommands with their arguments, as `clap` is told of them.
 ghost use Rattle.std.specs.Prelude.{◌≡◌, IfOk};
-ghost use Rattle.oc_words.specs.Command.{IsSubcommand, check_shape, gen_shape, get_shape, node_shape, replay_shape, rules_shape};
+ghost use Rattle.clap.specs.Simple.{new_shape};
+ghost use Rattle.clap.specs.Words.{Rule, Shape};
+ghost use Rattle.oc_words.specs.Command.{IsArgument, IsSubcommand, check_shape, gen_shape, get_shape, node_shape, replay_shape, rules_shape, with_argument};
 
 use crate::arguments::{flag, option, required, required_option};
-use clap::Command;
+use clap::{Arg, Command};
 use std::alloc::{AllocError, Global};
 
 /// `replay`, with the flag `--summary`.
 pub(crate) fn replay_command<'a>(alloc: Global) -> Result<Command<'a>, AllocError>
     ensures { IfOk result (IsSubcommand replay_shape) }
 {
-    Command::new(alloc, "replay").arg(flag(alloc, "summary"))
+    with(named(alloc, "replay"), flag(alloc, "summary"))
 }
 
 /// `gen SEED NODES EVENTS`.
 pub(crate) fn gen_command<'a>(alloc: Global) -> Result<Command<'a>, AllocError>
     ensures { IfOk result (IsSubcommand gen_shape) }
 {
-    Command::new(alloc, "gen")
-        .arg(required(alloc, "SEED"))?
-        .arg(required(alloc, "NODES"))?
-        .arg(required(alloc, "EVENTS"))
+    let seeded = with(named(alloc, "gen"), required(alloc, "SEED"));
+    with(
+        with(seeded, required(alloc, "NODES")),
+        required(alloc, "EVENTS"),
+    )
 }
 
 /// `node ID`, with the option `--turns N`, which has to be given, and the flag `--probe`.
 pub(crate) fn node_command<'a>(alloc: Global) -> Result<Command<'a>, AllocError>
     ensures { IfOk result (IsSubcommand node_shape) }
 {
-    Command::new(alloc, "node")
-        .arg(required(alloc, "ID"))?
-        .arg(required_option(alloc, "turns"))?
-        .arg(flag(alloc, "probe"))
+    let one = with(named(alloc, "node"), required(alloc, "ID"));
+    with(
+        with(one, required_option(alloc, "turns")),
+        flag(alloc, "probe"),
+    )
 }
 
 /// `check ID NODES CHAIN`.
 pub(crate) fn check_command<'a>(alloc: Global) -> Result<Command<'a>, AllocError>
     ensures { IfOk result (IsSubcommand check_shape) }
 {
-    Command::new(alloc, "check")
-        .arg(required(alloc, "ID"))?
-        .arg(required(alloc, "NODES"))?
-        .arg(required(alloc, "CHAIN"))
+    let one = with(named(alloc, "check"), required(alloc, "ID"));
+    with(
+        with(one, required(alloc, "NODES")),
+        required(alloc, "CHAIN"),
+    )
 }
 
 /// `get URL`, with the option `--follow N`.
 pub(crate) fn get_command<'a>(alloc: Global) -> Result<Command<'a>, AllocError>
     ensures { IfOk result (IsSubcommand get_shape) }
 {
-    Command::new(alloc, "get")
-        .arg(required(alloc, "URL"))?
-        .arg(option(alloc, "follow"))
+    let one = with(named(alloc, "get"), required(alloc, "URL"));
+    with(one, option(alloc, "follow"))
 }
 
 /// `rules`.
-pub(crate) fn rules_command<'a>(alloc: Global) -> Command<'a>
-    ensures { IsSubcommand rules_shape result }
+pub(crate) fn rules_command<'a>(alloc: Global) -> Result<Command<'a>, AllocError>
+    ensures { IfOk result (IsSubcommand rules_shape) }
 {
-    Command::new(alloc, "rules")
+    named(alloc, "rules")
+}
+
+/// A command of this name, without arguments.
+fn named<'a>(alloc: Global, name: &'a str) -> Result<Command<'a>, AllocError>
+    ensures { IfOk result (IsSubcommand (new_shape name.entry.now)) }
+{
+    Ok(Command::new(alloc, name))
+}
+
+/// A command with one argument more, where there was memory for it.
+fn with<'a>(
+    command: Result<Command<'a>, AllocError>,
+    argument: Arg<'a>,
+) -> Result<Command<'a>, AllocError>
+    ensures { (shape : Shape) (rule : Rule) → IfOk command.entry (IsSubcommand shape) → IsArgument rule argument.entry
+        → IfOk result (IsSubcommand (with_argument shape rule)) }
+{
+    command?.arg(argument)
 }

@@ -1,17 +1,17 @@
 use Rattle.std.proofs.Common.{◌≡◌, ◌⊎◌, ◌∙◌, ap, subst, sym}
 use Rattle.oc_keep.specs.Files.{disks}
-use Rattle.oc_program.specs.AtNode.{HasServiceStatus}
-use Rattle.oc_program.specs.AtReplay.{HasStatus}
-use Rattle.oc_program.specs.AtRules.{HasConfigStatus}
-use Rattle.oc_program.specs.Complete.{IsDoneOrMemory}
-use Rattle.oc_program.specs.Outside.{at_clock, at_files, at_link, at_node, at_sink, at_source, at_stage, seen}
-use Rattle.oc_program.specs.Status.{number_of}
+use Rattle.oc_commands.specs.AtNode.{HasServiceStatus}
+use Rattle.oc_commands.specs.AtReplay.{HasStatus}
+use Rattle.oc_commands.specs.AtRules.{HasConfigStatus}
+use Rattle.oc_commands.specs.Complete.{IsDoneOrMemory}
+use Rattle.oc_commands.specs.Outside.{at_clock, at_files, at_link, at_node, at_sink, at_source, at_stage, seen}
+use Rattle.oc_commands.specs.Status.{number_of}
 use Rattle.oc_words.specs.Words.{asked, texts_of}
 use Rattle.oc_words.proofs.PlainWords.{plain_asks}
-use Rattle.oc_program.proofs.Completes.{checked, fetched}
-use Rattle.oc_program.proofs.Serves.{served}
-use Rattle.oc_program.proofs.Statuses.{only_misused}
-use Rattle.oc_program.proofs.Works.{helped, listed, replayed}
+use Rattle.oc_commands.proofs.Completes.{checked, fetched}
+use Rattle.oc_commands.proofs.Serves.{served}
+use Rattle.oc_commands.proofs.Statuses.{only_misused}
+use Rattle.oc_commands.proofs.Works.{helped, listed, replayed}
 use Rattle.oc_program.proofs.running.run.Goals as goal
 
 pub returns-clause-plain : goal.returns-clause-plain

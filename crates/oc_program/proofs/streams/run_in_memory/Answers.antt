@@ -1,12 +1,12 @@
 use Rattle.std.proofs.Common.{◌≡◌, ◌∙◌, ◌⊎◌, ◌≤◌, ◌^◌, ◌-◌, length, ap, rules, sym, subst}
 use Rattle.oc_schedule.specs.Schedule.{schedule_of}
-use Rattle.oc_program.specs.AtReplay.{status_for}
+use Rattle.oc_commands.specs.AtReplay.{status_for}
 use Rattle.oc_keep.specs.Files.{disks}
-use Rattle.oc_program.specs.Outside.{at_clock, at_files, at_link, at_node, at_stage, seen}
+use Rattle.oc_commands.specs.Outside.{at_clock, at_files, at_link, at_node, at_stage, seen}
 use Rattle.oc_words.specs.Words.{asked, texts_of}
 use Rattle.oc_program.proofs.Passed.{bytes_told, line_told, text_told}
-use Rattle.oc_program.proofs.Statuses.{replayed_of}
-use Rattle.oc_program.proofs.Told.{happened_told}
+use Rattle.oc_program.proofs.InMemory.{replayed_of}
+use Rattle.oc_commands.proofs.Told.{happened_told}
 use Rattle.oc_program.proofs.streams.run_in_memory.Goals as goal
 
 pub returns : goal.returns

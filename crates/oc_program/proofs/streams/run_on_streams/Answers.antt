@@ -1,9 +1,9 @@
 use Rattle.std.proofs.Common.{◌≤◌, ◌^◌, ◌-◌, None, rules}
 use Rattle.oc_keep.specs.Files.{disks}
-use Rattle.oc_program.specs.Outside.{at_clock, at_files, at_link, at_node, at_stage, seen}
+use Rattle.oc_commands.specs.Outside.{at_clock, at_files, at_link, at_node, at_stage, seen}
 use Rattle.oc_words.specs.Words.{asked, texts_of}
 use Rattle.oc_program.proofs.Passed.{count_told, input_told, output_told}
-use Rattle.oc_program.proofs.Told.{happened_told}
+use Rattle.oc_commands.proofs.Told.{happened_told}
 use Rattle.oc_program.proofs.streams.run_on_streams.Goals as goal
 
 pub returns : goal.returns

@@ -1,0 +1,94 @@
+-- What had happened leaves no other end to a command that has what it needs.
+use Rattle.std.proofs.Common.{◌≡◌, ℕ, inl, inr, refl, subst, ap, List, Option, Some}
+use Rattle.oc_check.proofs.Complete.{only_memory}
+use Rattle.oc_fetch.specs.Completeness.{Completes, IsUnrefused}
+use Rattle.oc_fetch.specs.declared.end.GetEnd.{GetEnd}
+use Rattle.oc_fetch.specs.declared.end.GetEnd.TheVariants as gets
+use Rattle.oc_keep.specs.Files.{Disks, AreHonest, OneRose}
+use Rattle.oc_keep.specs.Promises.{HoldFiles}
+use Rattle.oc_io.specs.DiskView.{DiskView}
+use Rattle.oc_io.specs.Faults.{Rose}
+use Rattle.oc_outside.specs.LinkCalls.{LinkFaults, Told}
+use Rattle.oc_outside.specs.Story.{Story}
+use Rattle.oc_requests.specs.declared.request.Download.{Download}
+use Rattle.oc_requests.specs.declared.request.Member.{Member}
+use Rattle.oc_requests.specs.declared.request.Request.{Request}
+use Rattle.oc_requests.specs.declared.request.Request.TheVariants.{Check, Get}
+use Rattle.oc_commands.specs.AtGet.{HappenedAtGet}
+use Rattle.oc_commands.specs.AtCheck.{HappenedAtCheck}
+use Rattle.oc_commands.specs.Complete.{IsDoneOrMemory, IsServed, once}
+use Rattle.oc_commands.specs.Ends.{status_of, status_of_check, status_of_get, status_of_load}
+use Rattle.oc_commands.specs.Outside.{Input, OnClock, OnFiles, OnLink, OnNode, OnStage, Output, at_files, at_link}
+use Rattle.oc_commands.specs.Run.{Happened}
+use Rattle.oc_commands.specs.Status.{number_of}
+use Rattle.oc_commands.specs.declared.checking.CheckEnd.{CheckEnd}
+use Rattle.oc_commands.specs.declared.checking.CheckEnd.TheVariants as checks
+use Rattle.oc_commands.specs.declared.ending.End.{End}
+use Rattle.oc_commands.specs.declared.ending.End.TheVariants.{Helped, HelpFailed, Misused, NoMemory, Replayed, Generated, Listed, Checked, Got, Served}
+
+-- the output did not fail
+abbrev pub IsSound : Output → Type 0
+IsSound output = (text : List ℕ) → output.cut_off text → ⊥
+
+-- a request for one node or for one download is for no other
+same_member : (asked : Option Request) (m n : Member) → asked ≡ Some (Check m) → asked ≡ Some (Check n) → n ≡ m
+same_member asked m n is also = cc
+
+same_download : (asked : Option Request) (d e : Download) → asked ≡ Some (Get d) → asked ≡ Some (Get e) → e ≡ d
+same_download asked d e is also = cc
+
+module _ {D : Type 0} (view : D → DiskView) (old new : Disks D) (output : Output) (sound : IsSound output) (honest : AreHonest view old) (unfailed : OneRose view old new → ⊥) where
+  check_done : (m : Member) (end : CheckEnd) → HoldFiles view m.nodes old → HappenedAtCheck (at_files view old new) output m end → IsDoneOrMemory (number_of (status_of_check end))
+  check_done m checks.Done files h = inl refl
+  check_done m checks.Sink files h = let (text, shows, cut) = h.0 in absurd (sound _ cut.1)
+  check_done m (checks.Load error) files h =
+      inr (ap (λ e. number_of (status_of_load e)) (only_memory view m.nodes old new honest files unfailed error h.0.0))
+
+  pub checked : (input : Input) (stage : OnStage) (link : OnLink) (clock : OnClock) (node : OnNode) (asked : Option Request) (m : Member) (end : End) → asked ≡ Some (Check m) → HoldFiles view m.nodes old
+      → Happened (record { asked = asked; input = input; output = output; stage = stage; files = at_files view old new; link = link; clock = clock; node = node }) end
+      → IsDoneOrMemory (number_of (status_of end))
+  checked input stage link clock node asked m Helped is files h = let also = h.0 in cc
+  checked input stage link clock node asked m HelpFailed is files h = let also = h.0 in cc
+  checked input stage link clock node asked m Misused is files h = let also = h.0 in cc
+  checked input stage link clock node asked m NoMemory is files h = inr refl
+  checked input stage link clock node asked m (Replayed end) is files h = let also = h.0.1 in cc
+  checked input stage link clock node asked m (Generated end) is files h = let also = h.0.1 in cc
+  checked input stage link clock node asked m (Listed end) is files h = let also = h.0 in cc
+  checked input stage link clock node asked m (Checked end) is files h =
+      let (n, also, at) = h.0 in
+      check_done m end files (subst (λ x. HappenedAtCheck (at_files view old new) output x end) (same_member asked m n is also) at)
+  checked input stage link clock node asked m (Got end) is files h = let also = h.0.1 in cc
+  checked input stage link clock node asked m (Served end) is files h = let also = h.0.1 in cc
+
+module _ {L : Type 0} (story : L → Option Story) (faults : L → LinkFaults) (old new : L) (output : Output) (sound : IsSound output) (unfailed : Rose (faults old).dialling (faults new).dialling → ⊥) where
+  unrefused : (address : List ℕ) (end : GetEnd) → IsServed address (story old) (story new) → HappenedAtGet (at_link story faults old new) output (once address) end → IsUnrefused end
+  unrefused address end s h =
+      let told : Told (Completes s.url end) (Some s.before) (Some s.after) = subst (λ o. Told (Completes s.url end) o (Some s.after)) s.told_before (subst (λ o. Told (Completes s.url end) (story old) o) s.told_after (h.complete s.url s.address_is)) in
+      told s.made s.dials_are s.lead
+
+  get_done : (address : List ℕ) (end : GetEnd) → IsUnrefused end → HappenedAtGet (at_link story faults old new) output (once address) end → IsDoneOrMemory (number_of (status_of_get end))
+  get_done address gets.Done u h = inl refl
+  get_done address gets.BadUrl u h = absurd u
+  get_done address (gets.Refused status) u h = absurd u
+  get_done address gets.Redirects u h = absurd u
+  get_done address gets.Reply u h = absurd u
+  get_done address gets.Link u h = absurd (unfailed h.blames)
+  get_done address gets.Sink u h = absurd (sound _ h.wrote)
+  get_done address gets.Memory u h = inr refl
+
+  pub fetched : (input : Input) (stage : OnStage) (files : OnFiles) (clock : OnClock) (node : OnNode) (asked : Option Request) (address : List ℕ) (end : End) → asked ≡ Some (Get (once address)) → IsServed address (story old) (story new)
+      → Happened (record { asked = asked; input = input; output = output; stage = stage; files = files; link = at_link story faults old new; clock = clock; node = node }) end
+      → IsDoneOrMemory (number_of (status_of end))
+  fetched input stage files clock node asked address Helped is s h = let also = h.0 in cc
+  fetched input stage files clock node asked address HelpFailed is s h = let also = h.0 in cc
+  fetched input stage files clock node asked address Misused is s h = let also = h.0 in cc
+  fetched input stage files clock node asked address NoMemory is s h = inr refl
+  fetched input stage files clock node asked address (Replayed end) is s h = let also = h.0.1 in cc
+  fetched input stage files clock node asked address (Generated end) is s h = let also = h.0.1 in cc
+  fetched input stage files clock node asked address (Listed end) is s h = let also = h.0 in cc
+  fetched input stage files clock node asked address (Checked end) is s h = let also = h.0.1 in cc
+  fetched input stage files clock node asked address (Got end) is s h =
+      let (d, also, at) = h.0 in
+      let same = subst (λ x. HappenedAtGet (at_link story faults old new) output x end) (same_download asked (once address) d is also) at in
+      get_done address end (unrefused address end s same) same
+  fetched input stage files clock node asked address (Served end) is s h = let also = h.0.1 in cc

@@ -1,0 +1,95 @@
+-- What had happened leaves `node` the status of its configuration, where nothing fails.
+use Rattle.std.proofs.Common.{◌≡◌, ℕ, ◌⊎◌, inl, inr, refl, sym, subst, List, length, Option, Some, Err, Ok, Result}
+use Rattle.oc_check.proofs.Complete.{only_memory}
+use Rattle.oc_config.specs.Reading.{settings_of}
+use Rattle.oc_config.specs.Settings.{Settings}
+use Rattle.oc_config.specs.declared.fault.ConfigFault.{ConfigFault}
+use Rattle.oc_config.specs.declared.fault.ConfigFault.TheVariants as faults
+use Rattle.oc_io.specs.DiskView.{DiskView}
+use Rattle.oc_io.specs.Faults.{Rose}
+use Rattle.oc_keep.specs.Files.{Disks, AreHonest, OneRose}
+use Rattle.oc_keep.specs.declared.errors.KeepLoad.TheVariants as loads
+use Rattle.oc_service.specs.declared.starting.NodeEnd.{NodeEnd}
+use Rattle.oc_service.specs.declared.starting.NodeEnd.TheVariants as nodes
+use Rattle.oc_turn.specs.Deeds as deeds
+use Rattle.oc_turn.specs.declared.ends.TurnEnd.TheVariants as turns
+use Rattle.oc_requests.specs.declared.request.Request.{Request}
+use Rattle.oc_requests.specs.declared.request.Request.TheVariants.{Node}
+use Rattle.oc_requests.specs.declared.request.Service.{Service}
+use Rattle.oc_commands.specs.AtNode.{HappenedAtNode, HasNode, HasServiceStatus, IsStatusOf, IsStatusOver, RunsNode}
+use Rattle.oc_commands.specs.Ends.{status_of, status_of_run, status_of_service}
+use Rattle.oc_commands.specs.Outside.{OnClock, OnLink, OnStage, Output, at_files, at_node, at_source}
+use Rattle.oc_commands.specs.Run.{Happened}
+use Rattle.oc_commands.specs.Status.{number_of}
+use Rattle.oc_commands.specs.declared.configuring.ConfigEnd.TheVariants as configs
+use Rattle.oc_commands.specs.declared.ending.End.{End}
+use Rattle.oc_commands.specs.declared.ending.End.TheVariants.{Helped, HelpFailed, Misused, NoMemory, Replayed, Generated, Listed, Checked, Got, Served}
+use Rattle.oc_commands.specs.declared.serving.ServiceEnd.{ServiceEnd}
+use Rattle.oc_commands.specs.declared.serving.ServiceEnd.TheVariants as services
+use Rattle.oc_commands.proofs.Completes.{IsSound}
+
+-- a request for one node is for no other
+same_service : (asked : Option Request) (v w : Service) → asked ≡ Some (Node v) → asked ≡ Some (Node w) → w ≡ v
+same_service asked v w is also = cc
+
+module _ {S D : Type 0} (gives fails : S → List ℕ → S → Type 0) (ended : S → Type 0) (faulty : S → ℕ) (old new : S) (view : D → DiskView) (d e : Disks D) (before out : deeds.Outside) (output : Output)
+    (honest : AreHonest view d) (unfailed : OneRose view d e → ⊥) (waiting : Rose before.faults.listening out.faults.listening → ⊥) (sourced : Rose (faulty old) (faulty new) → ⊥) (sound : IsSound output) where
+  -- a status, or that of want of memory
+  abbrev OrMemory : (ℕ → Type 0) → ℕ → Type 0
+  OrMemory P status = P status ⊎ (status ≡ 4)
+
+  -- over the files of a node
+  run_has : (s : Settings) (v : Service) (end : NodeEnd) → HasNode s v → RunsNode (at_files view d e) (at_node view d e before out) output s v end
+      → OrMemory (IsStatusOver view d s v) (number_of (status_of_run end))
+  run_has s v (nodes.Load loads.Memory) node h = inr refl
+  run_has s v (nodes.Load loads.Disk) node h =
+      inl (inr (node, λ files. let is : loads.Disk ≡ loads.Memory = only_memory view (length s.addresses) d e honest files unfailed loads.Disk h.0 in absurd cc))
+  run_has s v (nodes.Load (loads.NotJournal which)) node h =
+      inl (inr (node, λ files. let is : loads.NotJournal which ≡ loads.Memory = only_memory view (length s.addresses) d e honest files unfailed (loads.NotJournal which) h.0 in absurd cc))
+  run_has s v (nodes.Load (loads.BadFrame which i)) node h =
+      inl (inr (node, λ files. let is : loads.BadFrame which i ≡ loads.Memory = only_memory view (length s.addresses) d e honest files unfailed (loads.BadFrame which i) h.0 in absurd cc))
+  run_has s v (nodes.Turned turns.Served) node h = inl (inr (node, λ files. inl refl))
+  run_has s v (nodes.Turned turns.Quiet) node h = let (ds, under, wrote, stops) = h in absurd stops.cause
+  run_has s v (nodes.Turned turns.Link) node h = let (ds, under, wrote, stops) = h in absurd (waiting stops.cause)
+  run_has s v (nodes.Turned turns.Disk) node h = let (ds, under, wrote, stops) = h in absurd (unfailed stops.cause)
+  run_has s v (nodes.Turned turns.Full) node h = inl (inr (node, λ files. inr refl))
+  run_has s v (nodes.Turned turns.Memory) node h = inr refl
+  run_has s v (nodes.Turned turns.Sink) node h = let (ds, under, wrote, stops) = h in absurd (sound _ wrote.2)
+
+  -- by what all bytes of the input say
+  told : (v : Service) (said : Result Settings ConfigFault) (status : ℕ) (bytes : List ℕ) → gives old bytes new → ended new → settings_of bytes ≡ said → OrMemory (IsStatusOf view d v said) status
+      → OrMemory (HasServiceStatus gives ended view d v old new) status
+  told v said status bytes came whole is (inl has) = inl (record { bytes = bytes; came = came; status_is = inl (whole, subst (λ r. IsStatusOf view d v r status) (sym is) has) })
+  told v said status bytes came whole is (inr memory) = inr memory
+
+  service_has : (v : Service) (end : ServiceEnd) → HappenedAtNode (at_source gives fails ended faulty old new) (at_files view d e) (at_node view d e before out) output v end
+      → OrMemory (HasServiceStatus gives ended view d v old new) (number_of (status_of_service end))
+  service_has v (services.Config configs.Source) h = absurd (sourced h.0.1)
+  service_has v (services.Config configs.Long) h = let (bytes, came, long) = h.0 in inl (record { bytes = bytes; came = came; status_is = inr (long, refl) })
+  service_has v (services.Config (configs.Fault faults.Memory)) h = inr refl
+  service_has v (services.Config (configs.Fault faults.Toml)) h = let (bytes, whole, is) = h.0 in told v (Err faults.Toml) 3 bytes whole.0 whole.1 is (inl refl)
+  service_has v (services.Config (configs.Fault (faults.Missing key))) h = let (bytes, whole, is) = h.0 in told v (Err (faults.Missing key)) 3 bytes whole.0 whole.1 is (inl refl)
+  service_has v (services.Config (configs.Fault (faults.Value key))) h = let (bytes, whole, is) = h.0 in told v (Err (faults.Value key)) 3 bytes whole.0 whole.1 is (inl refl)
+  service_has v (services.Config (configs.Fault (faults.Repeat id))) h = let (bytes, whole, is) = h.0 in told v (Err (faults.Repeat id)) 3 bytes whole.0 whole.1 is (inl refl)
+  service_has v (services.Config (configs.Fault (faults.Measure number why))) h = let (bytes, whole, is) = h.0 in told v (Err (faults.Measure number why)) 3 bytes whole.0 whole.1 is (inl refl)
+  service_has v services.Stranger h = let (s, read, rest) = h in let (bytes, whole, is) = read in told v (Ok s) 3 bytes whole.0 whole.1 is (inl (inl (rest.0, refl)))
+  service_has v (services.Ran end) h =
+      let (s, read, rest) = h in
+      let (bytes, whole, is) = read in
+      told v (Ok s) (number_of (status_of_run end)) bytes whole.0 whole.1 is (run_has s v end rest.0 rest.1)
+
+  pub served : (stage : OnStage) (link : OnLink) (clock : OnClock) (asked : Option Request) (v : Service) (end : End) → asked ≡ Some (Node v)
+      → Happened (record { asked = asked; input = at_source gives fails ended faulty old new; output = output; stage = stage; files = at_files view d e; link = link; clock = clock; node = at_node view d e before out }) end
+      → HasServiceStatus gives ended view d v old new (number_of (status_of end)) ⊎ (number_of (status_of end) ≡ 4)
+  served stage link clock asked v Helped is h = let also = h.0 in cc
+  served stage link clock asked v HelpFailed is h = let also = h.0 in cc
+  served stage link clock asked v Misused is h = let also = h.0 in cc
+  served stage link clock asked v NoMemory is h = inr refl
+  served stage link clock asked v (Replayed end) is h = let also = h.0.1 in cc
+  served stage link clock asked v (Generated end) is h = let also = h.0.1 in cc
+  served stage link clock asked v (Listed end) is h = let also = h.0 in cc
+  served stage link clock asked v (Checked end) is h = let also = h.0.1 in cc
+  served stage link clock asked v (Got end) is h = let also = h.0.1 in cc
+  served stage link clock asked v (Served end) is h =
+      let (w, also, at) = h.0 in
+      service_has v end (subst (λ x. HappenedAtNode (at_source gives fails ended faulty old new) (at_files view d e) (at_node view d e before out) output x end) (same_service asked v w is also) at)

@@ -1,0 +1,162 @@
+-- What had happened, told of the outside in other words that follow.
+use Rattle.std.proofs.Common.{ℕ, Bool, List, Option, Result, Ok, Err, inl, inr, take}
+use Rattle.oc_config.specs.Settings.{Settings}
+use Rattle.oc_config.specs.declared.fault.ConfigFault.TheVariants as faults
+use Rattle.oc_fetch.specs.declared.end.GetEnd.{GetEnd}
+use Rattle.oc_fetch.specs.declared.end.GetEnd.TheVariants as gets
+use Rattle.oc_replay.specs.declared.end.ReplayEnd.{ReplayEnd}
+use Rattle.oc_replay.specs.declared.end.ReplayEnd.TheVariants as replays
+use Rattle.oc_schedule.specs.Script.{Script}
+use Rattle.oc_acts.specs.declared.fault.ScheduleFault.{ScheduleFault}
+use Rattle.oc_acts.specs.declared.fault.What.{What}
+use Rattle.oc_requests.specs.declared.request.Download.{Download}
+use Rattle.oc_requests.specs.declared.request.Member.{Member}
+use Rattle.oc_requests.specs.declared.request.Request.{Request}
+use Rattle.oc_requests.specs.declared.request.Sample.{Sample}
+use Rattle.oc_requests.specs.declared.request.Service.{Service}
+use Rattle.oc_commands.specs.AtCheck.{HappenedAtCheck}
+use Rattle.oc_commands.specs.AtConfig.{ReadsConfig}
+use Rattle.oc_commands.specs.AtGen.{HappenedAtGen}
+use Rattle.oc_commands.specs.AtGet.{HappenedAtGet, Wrote}
+use Rattle.oc_commands.specs.AtNode.{HappenedAtNode, RunsNode}
+use Rattle.oc_commands.specs.AtReplay.{HappenedAtReplay}
+use Rattle.oc_commands.specs.AtRules.{HappenedAtRules}
+use Rattle.oc_commands.specs.Outside.{Input, Output, OnClock, OnFiles, OnLink, OnNode, OnStage, Outside}
+use Rattle.oc_commands.specs.Run.{Happened, IsAlone, IsUnplayed}
+use Rattle.oc_commands.specs.declared.checking.CheckEnd.{CheckEnd}
+use Rattle.oc_commands.specs.declared.checking.CheckEnd.TheVariants as checks
+use Rattle.oc_commands.specs.declared.configuring.ConfigEnd.{ConfigEnd}
+use Rattle.oc_commands.specs.declared.configuring.ConfigEnd.TheVariants as configs
+use Rattle.oc_commands.specs.declared.ending.End.{End}
+use Rattle.oc_commands.specs.declared.ending.End.TheVariants.{Helped, HelpFailed, Misused, NoMemory, Replayed, Generated, Listed, Checked, Got, Served}
+use Rattle.oc_commands.specs.declared.generating.GenEnd.{GenEnd}
+use Rattle.oc_commands.specs.declared.generating.GenEnd.TheVariants as gens
+use Rattle.oc_commands.specs.declared.listing.RulesEnd.{RulesEnd}
+use Rattle.oc_commands.specs.declared.listing.RulesEnd.TheVariants as lists
+use Rattle.oc_commands.specs.declared.serving.ServiceEnd.{ServiceEnd}
+use Rattle.oc_commands.specs.declared.serving.ServiceEnd.TheVariants as services
+use Rattle.oc_service.specs.declared.starting.NodeEnd.{NodeEnd}
+use Rattle.oc_service.specs.declared.starting.NodeEnd.TheVariants as nodes
+use Rattle.oc_turn.specs.declared.ends.TurnEnd.TheVariants as turns
+
+-- all that the first says of an input the second says too
+pub record TellsInput (i j : Input) : Type 0 where
+  pub says : (r : Result Script ScheduleFault) → i.says r → j.says r
+  pub passes : (what : What) → i.passes what → j.passes what
+  pub whole : (bytes : List ℕ) → i.whole bytes → j.whole bytes
+  pub long : i.long → j.long
+  pub failed : i.failed → j.failed
+  pub came : i.came → j.came
+  pub unread : i.unread → j.unread
+
+-- and so of an output
+pub record TellsOutput (o p : Output) : Type 0 where
+  pub written : (text : List ℕ) → o.written text → p.written text
+  pub cut_off : (text : List ℕ) → o.cut_off text → p.cut_off text
+
+module _ (i j : Input) (o p : Output) (stage : OnStage) (input : TellsInput i j) (output : TellsOutput o p) where
+  -- at the end of a replay
+  replay_told : (summary : Bool) (end : ReplayEnd) → HappenedAtReplay i o stage summary end → HappenedAtReplay j p stage summary end
+  replay_told summary replays.Done h = let (s, says, lawful, written, played, holds) = h in (s, input.says _ says, lawful, output.written _ written, played, holds)
+  replay_told summary (replays.Text line why) h = (input.says _ h.0, output.written _ h.1, h.2)
+  replay_told summary (replays.Limit what) h = (input.passes _ h.0, output.written _ h.1, h.2)
+  replay_told summary replays.Source h = (input.failed h.0, output.written _ h.1, h.2)
+  replay_told summary replays.Sink h = let (s, says, lawful, cut, played, holds) = h in (s, input.says _ says, lawful, (cut.0, output.cut_off _ cut.1), played, holds)
+  replay_told summary replays.Memory (inl h) = inl (input.came h.0, output.written _ h.1, h.2)
+  replay_told summary replays.Memory (inr h) = let (s, says, lawful, front, holds) = h in inr (s, input.says _ says, lawful, (front.0, output.written _ front.1), holds)
+
+  -- at the end of `gen`
+  gen_told : (sample : Sample) (end : GenEnd) → HappenedAtGen o sample end → HappenedAtGen p sample end
+  gen_told sample gens.Done h = output.written _ h
+  gen_told sample gens.Sink h = (h.0, output.cut_off _ h.1)
+  gen_told sample gens.Memory h = output.written _ h
+
+  -- of a configuration
+  config_told : (read : Result Settings ConfigEnd) → ReadsConfig i read → ReadsConfig j read
+  config_told (Ok settings) h = (h.0, input.whole _ h.1, h.2)
+  config_told (Err configs.Source) h = input.failed h
+  config_told (Err configs.Long) h = input.long h
+  config_told (Err (configs.Fault faults.Memory)) h = input.came h
+  config_told (Err (configs.Fault faults.Toml)) h = (h.0, input.whole _ h.1, h.2)
+  config_told (Err (configs.Fault (faults.Missing key))) h = (h.0, input.whole _ h.1, h.2)
+  config_told (Err (configs.Fault (faults.Value key))) h = (h.0, input.whole _ h.1, h.2)
+  config_told (Err (configs.Fault (faults.Repeat id))) h = (h.0, input.whole _ h.1, h.2)
+  config_told (Err (configs.Fault (faults.Measure number why))) h = (h.0, input.whole _ h.1, h.2)
+
+  -- at the end of `rules`
+  rules_told : (end : RulesEnd) → HappenedAtRules i o end → HappenedAtRules j p end
+  rules_told lists.Done h = let (settings, read, w) = h in (settings, config_told (Ok settings) read, (w.0, w.1, output.written _ w.2))
+  rules_told lists.Sink h = let (settings, read, w) = h in let (text, listing, cut) = w in (settings, config_told (Ok settings) read, (text, listing, (cut.0, output.cut_off (take cut.0 text) cut.1)))
+  rules_told lists.Memory h = let (settings, read, written) = h in (settings, config_told (Ok settings) read, output.written _ written)
+  rules_told (lists.Config end) h = (config_told (Err end) h.0, output.written _ h.1)
+
+  -- at the end of `check`
+  check_told : (files : OnFiles) (member : Member) (end : CheckEnd) → HappenedAtCheck files o member end → HappenedAtCheck files p member end
+  check_told files member checks.Done h = let (shown, safely) = h in ((shown.0, shown.1, output.written _ shown.2), safely)
+  check_told files member checks.Sink h = let (shown, safely) = h in let (text, shows, cut) = shown in ((text, shows, (cut.0, output.cut_off (take cut.0 text) cut.1)), safely)
+  check_told files member (checks.Load error) h = let (refused, safely) = h in ((refused.0, output.written _ refused.1), safely)
+
+  -- at the end of `get`
+  wrote_told : (bytes : List ℕ) (end : GetEnd) → Wrote o bytes end → Wrote p bytes end
+  wrote_told bytes gets.Sink h = output.cut_off _ h
+  wrote_told bytes gets.Done h = output.written _ h
+  wrote_told bytes gets.BadUrl h = output.written _ h
+  wrote_told bytes (gets.Refused status) h = output.written _ h
+  wrote_told bytes gets.Redirects h = output.written _ h
+  wrote_told bytes gets.Reply h = output.written _ h
+  wrote_told bytes gets.Link h = output.written _ h
+  wrote_told bytes gets.Memory h = output.written _ h
+
+  get_told : (link : OnLink) (download : Download) (end : GetEnd) → HappenedAtGet link o download end → HappenedAtGet link p download end
+  get_told link download end h = record {
+    turns = h.turns;
+    written = h.written;
+    makes = h.makes;
+    wrote = wrote_told h.written end h.wrote;
+    downloads = h.downloads;
+    bad = h.bad;
+    blames = h.blames;
+    complete = h.complete;
+  }
+
+  -- at the end of `node`
+  run_told : (files : OnFiles) (node : OnNode) (s : Settings) (v : Service) (end : NodeEnd) → RunsNode files node o s v end → RunsNode files node p s v end
+  run_told files node s v (nodes.Load error) h = let (refused, safely, written, idle) = h in (refused, safely, output.written _ written, idle)
+  run_told files node s v (nodes.Turned turns.Served) h = let (deeds, run, written, did) = h in (deeds, run, output.written _ written, did)
+  run_told files node s v (nodes.Turned turns.Quiet) h = let (deeds, under, written, stopped) = h in (deeds, under, output.written _ written, stopped)
+  run_told files node s v (nodes.Turned turns.Link) h = let (deeds, under, written, stopped) = h in (deeds, under, output.written _ written, stopped)
+  run_told files node s v (nodes.Turned turns.Disk) h = let (deeds, under, written, stopped) = h in (deeds, under, output.written _ written, stopped)
+  run_told files node s v (nodes.Turned turns.Full) h = let (deeds, under, written, stopped) = h in (deeds, under, output.written _ written, stopped)
+  run_told files node s v (nodes.Turned turns.Memory) h = let (deeds, under, written, stopped) = h in (deeds, under, output.written _ written, stopped)
+  run_told files node s v (nodes.Turned turns.Sink) h = let (deeds, under, cut, stopped) = h in (deeds, under, (cut.0, cut.1, output.cut_off _ cut.2), stopped)
+
+  node_told : (files : OnFiles) (node : OnNode) (v : Service) (end : ServiceEnd) → HappenedAtNode i files node o v end → HappenedAtNode j files node p v end
+  node_told files node v (services.Config end) h = (config_told (Err end) h.0, output.written _ h.1)
+  node_told files node v services.Stranger h = let (settings, read, rest) = h in (settings, config_told (Ok settings) read, (rest.0, output.written _ rest.1))
+  node_told files node v (services.Ran end) h = let (settings, read, rest) = h in (settings, config_told (Ok settings) read, (rest.0, run_told files node settings v end rest.1))
+
+  module _ (asked : Option Request) (files : OnFiles) (link : OnLink) (clock : OnClock) (node : OnNode) where
+    abbrev before : Outside
+    before = record { asked = asked; input = i; output = o; stage = stage; files = files; link = link; clock = clock; node = node }
+
+    abbrev after : Outside
+    after = record { asked = asked; input = j; output = p; stage = stage; files = files; link = link; clock = clock; node = node }
+
+    unplayed_told : IsUnplayed before → IsUnplayed after
+    unplayed_told u = record { input = input.unread u.input; stage = u.stage }
+
+    alone_told : IsAlone before → IsAlone after
+    alone_told a = record { files = a.files; link = a.link; clock = a.clock }
+
+    -- at each end of a run
+    pub happened_told : (end : End) → Happened before end → Happened after end
+    happened_told Helped h = let (a, (text, some, written), u, n) = h in (a, (text, some, output.written _ written), unplayed_told u, alone_told n)
+    happened_told HelpFailed h = let (a, (text, cut), u, n) = h in (a, (text, output.cut_off _ cut), unplayed_told u, alone_told n)
+    happened_told Misused h = let (a, written, u, n) = h in (a, output.written _ written, unplayed_told u, alone_told n)
+    happened_told NoMemory h = let (written, u, n) = h in (output.written _ written, unplayed_told u, alone_told n)
+    happened_told (Replayed end) h = let ((summary, a, at), n) = h in ((summary, a, replay_told summary end at), alone_told n)
+    happened_told (Generated end) h = let ((sample, a, at), u, n) = h in ((sample, a, gen_told sample end at), unplayed_told u, alone_told n)
+    happened_told (Listed end) h = let (a, at, unplayed, n) = h in (a, rules_told end at, unplayed, alone_told n)
+    happened_told (Checked end) h = let ((member, a, at), u, n) = h in ((member, a, check_told files member end at), unplayed_told u, record { link = n.link; clock = n.clock })
+    happened_told (Got end) h = let ((download, a, at), u, n) = h in ((download, a, get_told link download end at), unplayed_told u, record { files = n.files; clock = n.clock })
+    happened_told (Served end) h = let ((service, a, at), unplayed, f, l, c) = h in ((service, a, node_told files node service end at), unplayed, f, l, c)

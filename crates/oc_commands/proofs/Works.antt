@@ -1,0 +1,108 @@
+-- What had happened leaves no other end to `--help`, to `replay` and to `rules` than their work, or want of memory.
+use Rattle.std.proofs.Common.{◌≡◌, ℕ, ◌≤◌, ◌<◌, ◌⊎◌, Bool, true, false, cond, List, length, Option, Some, None, Err, inl, inr, refl, sym, ap, arith}
+use Rattle.std.specs.Prelude.{nat_lt}
+use Rattle.std.specs.Str.Lines.{lines}
+use Rattle.std.proofs.lemmas.Bool.{ltb-false}
+use Rattle.oc_base.specs.declared.limits.TheConstants.{MAX_SCHEDULE_BYTES}
+use Rattle.oc_config.specs.declared.fault.ConfigFault.TheVariants as config_faults
+use Rattle.oc_io.specs.Faults.{Rose}
+use Rattle.oc_replay.specs.declared.end.ReplayEnd.{ReplayEnd}
+use Rattle.oc_replay.specs.declared.end.ReplayEnd.TheVariants as replays
+use Rattle.oc_schedule.specs.Schedule.{read_lines, schedule_of}
+use Rattle.oc_acts.specs.declared.fault.ScheduleFault.TheVariants as faults
+use Rattle.oc_acts.specs.declared.fault.What.TheVariants as limits
+use Rattle.oc_requests.specs.declared.request.Request.{Request}
+use Rattle.oc_requests.specs.declared.request.Request.TheVariants.{Help, Replay, Rules}
+use Rattle.oc_commands.specs.AtReplay.{HappenedAtReplay, HasStatus, status_for}
+use Rattle.oc_commands.specs.AtRules.{HappenedAtRules, HasConfigStatus, status_of_settings}
+use Rattle.oc_commands.specs.Complete.{IsDoneOrMemory}
+use Rattle.oc_commands.specs.Ends.{status_of, status_of_replay, status_of_rules}
+use Rattle.oc_commands.specs.Outside.{OnClock, OnFiles, OnLink, OnNode, OnStage, Outside, Output, at_source}
+use Rattle.oc_commands.specs.Run.{Happened}
+use Rattle.oc_commands.specs.Status.{number_of}
+use Rattle.oc_commands.specs.declared.configuring.ConfigEnd.TheVariants as configs
+use Rattle.oc_commands.specs.declared.ending.End.{End}
+use Rattle.oc_commands.specs.declared.ending.End.TheVariants.{Helped, HelpFailed, Misused, NoMemory, Replayed, Generated, Listed, Checked, Got, Served}
+use Rattle.oc_commands.specs.declared.listing.RulesEnd.{RulesEnd}
+use Rattle.oc_commands.specs.declared.listing.RulesEnd.TheVariants as lists
+use Rattle.oc_commands.proofs.Completes.{IsSound}
+
+-- a text that is too long has the status of a limit
+long_status : (bytes : List ℕ) → MAX_SCHEDULE_BYTES < length bytes → status_for (schedule_of bytes) ≡ 5
+long_status bytes long = by_test (nat_lt MAX_SCHEDULE_BYTES (length bytes)) refl where
+  by_test : (b : Bool) → nat_lt MAX_SCHEDULE_BYTES (length bytes) ≡ b → status_for (schedule_of bytes) ≡ 5
+  by_test true is = ap (λ b. status_for (cond b (Err (faults.Limit limits.Bytes)) (read_lines 1 None (lines bytes)))) is
+  by_test false is = let few : length bytes ≤ MAX_SCHEDULE_BYTES = ltb-false _ _ is in absurd (omega (arith, few, long))
+
+-- where the output is sound, help was written
+pub helped : (o : Outside) → IsSound o.output → (end : End) → o.asked ≡ Some Help → Happened o end → IsDoneOrMemory (number_of (status_of end))
+helped o sound Helped is h = inl refl
+helped o sound HelpFailed is h = let (a, (text, cut), u, n) = h in absurd (sound text cut)
+helped o sound Misused is h = let also = h.0 in cc
+helped o sound NoMemory is h = inr refl
+helped o sound (Replayed end) is h = let also = h.0.1 in cc
+helped o sound (Generated end) is h = let also = h.0.1 in cc
+helped o sound (Listed end) is h = let also = h.0 in cc
+helped o sound (Checked end) is h = let also = h.0.1 in cc
+helped o sound (Got end) is h = let also = h.0.1 in cc
+helped o sound (Served end) is h = let also = h.0.1 in cc
+
+module _ {S : Type 0} (gives fails : S → List ℕ → S → Type 0) (ended : S → Type 0) (faulty : S → ℕ) (old new : S) (output : Output) (stage : OnStage)
+    (unfailed : Rose (faulty old) (faulty new) → ⊥) (sound : IsSound output) where
+  -- the status of a replay is that of its input
+  replay_has : (summary : Bool) (end : ReplayEnd) → HappenedAtReplay (at_source gives fails ended faulty old new) output stage summary end
+      → HasStatus gives ended old new (number_of (status_of_replay end)) ⊎ (number_of (status_of_replay end) ≡ 4)
+  replay_has summary replays.Done h = let (s, says, is, written, played, holds) = h in inl (record { bytes = says.bytes; came = says.came; whole = inl says.whole; status_is = sym (ap status_for says.read) })
+  replay_has summary (replays.Text line why) h = let says = h.0 in inl (record { bytes = says.bytes; came = says.came; whole = inl says.whole; status_is = sym (ap status_for says.read) })
+  replay_has summary (replays.Limit limits.Bytes) h = let (bytes, came, long) = h.0 in inl (record { bytes = bytes; came = came; whole = inr long; status_is = sym (long_status bytes long) })
+  replay_has summary (replays.Limit limits.Lines) h = let says = h.0 in inl (record { bytes = says.bytes; came = says.came; whole = inl says.whole; status_is = sym (ap status_for says.read) })
+  replay_has summary (replays.Limit limits.Published) h = let says = h.0 in inl (record { bytes = says.bytes; came = says.came; whole = inl says.whole; status_is = sym (ap status_for says.read) })
+  replay_has summary (replays.Limit limits.Settles) h = let says = h.0 in inl (record { bytes = says.bytes; came = says.came; whole = inl says.whole; status_is = sym (ap status_for says.read) })
+  replay_has summary replays.Source h = absurd (unfailed h.0.1)
+  replay_has summary replays.Sink h = let (s, says, is, cut, played, holds) = h in absurd (sound _ cut.1)
+  replay_has summary replays.Memory h = inr refl
+
+  -- and that of `rules`
+  rules_have : (end : RulesEnd) → HappenedAtRules (at_source gives fails ended faulty old new) output end
+      → HasConfigStatus gives ended old new (number_of (status_of_rules end)) ⊎ (number_of (status_of_rules end) ≡ 4)
+  rules_have lists.Done h = let (settings, read, wrote) = h in let (bytes, whole, is) = read in inl (record { bytes = bytes; came = whole.0; status_is = inl (whole.1, sym (ap status_of_settings is)) })
+  rules_have lists.Sink h = let (settings, read, wrote) = h in let (text, listing, cut) = wrote in absurd (sound _ cut.1)
+  rules_have lists.Memory h = inr refl
+  rules_have (lists.Config configs.Source) h = absurd (unfailed h.0.1)
+  rules_have (lists.Config configs.Long) h = let (bytes, came, long) = h.0 in inl (record { bytes = bytes; came = came; status_is = inr (long, refl) })
+  rules_have (lists.Config (configs.Fault config_faults.Memory)) h = inr refl
+  rules_have (lists.Config (configs.Fault config_faults.Toml)) h = let (bytes, whole, is) = h.0 in inl (record { bytes = bytes; came = whole.0; status_is = inl (whole.1, sym (ap status_of_settings is)) })
+  rules_have (lists.Config (configs.Fault (config_faults.Missing key))) h = let (bytes, whole, is) = h.0 in inl (record { bytes = bytes; came = whole.0; status_is = inl (whole.1, sym (ap status_of_settings is)) })
+  rules_have (lists.Config (configs.Fault (config_faults.Value key))) h = let (bytes, whole, is) = h.0 in inl (record { bytes = bytes; came = whole.0; status_is = inl (whole.1, sym (ap status_of_settings is)) })
+  rules_have (lists.Config (configs.Fault (config_faults.Repeat id))) h = let (bytes, whole, is) = h.0 in inl (record { bytes = bytes; came = whole.0; status_is = inl (whole.1, sym (ap status_of_settings is)) })
+  rules_have (lists.Config (configs.Fault (config_faults.Measure line why))) h = let (bytes, whole, is) = h.0 in inl (record { bytes = bytes; came = whole.0; status_is = inl (whole.1, sym (ap status_of_settings is)) })
+
+  module _ (asked : Option Request) (files : OnFiles) (link : OnLink) (clock : OnClock) (node : OnNode) where
+    abbrev outside : Outside
+    outside = record { asked = asked; input = at_source gives fails ended faulty old new; output = output; stage = stage; files = files; link = link; clock = clock; node = node }
+
+    pub replayed : (summary : Bool) (end : End) → asked ≡ Some (Replay summary) → Happened outside end
+        → HasStatus gives ended old new (number_of (status_of end)) ⊎ (number_of (status_of end) ≡ 4)
+    replayed summary Helped is h = let also = h.0 in cc
+    replayed summary HelpFailed is h = let also = h.0 in cc
+    replayed summary Misused is h = let also = h.0 in cc
+    replayed summary NoMemory is h = inr refl
+    replayed summary (Replayed end) is h = replay_has h.0.0 end h.0.2
+    replayed summary (Generated end) is h = let also = h.0.1 in cc
+    replayed summary (Listed end) is h = let also = h.0 in cc
+    replayed summary (Checked end) is h = let also = h.0.1 in cc
+    replayed summary (Got end) is h = let also = h.0.1 in cc
+    replayed summary (Served end) is h = let also = h.0.1 in cc
+
+    pub listed : (end : End) → asked ≡ Some Rules → Happened outside end
+        → HasConfigStatus gives ended old new (number_of (status_of end)) ⊎ (number_of (status_of end) ≡ 4)
+    listed Helped is h = let also = h.0 in cc
+    listed HelpFailed is h = let also = h.0 in cc
+    listed Misused is h = let also = h.0 in cc
+    listed NoMemory is h = inr refl
+    listed (Replayed end) is h = let also = h.0.1 in cc
+    listed (Generated end) is h = let also = h.0.1 in cc
+    listed (Listed end) is h = rules_have end h.1
+    listed (Checked end) is h = let also = h.0.1 in cc
+    listed (Got end) is h = let also = h.0.1 in cc
+    listed (Served end) is h = let also = h.0.1 in cc

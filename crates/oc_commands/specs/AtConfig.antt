@@ -1,0 +1,23 @@
+-- What came of reading the input as a configuration.
+use Rattle.std.specs.Prelude.{◌≡◌, ℕ, Result, Ok, Err, List}
+use Rattle.oc_config.specs.Reading.{settings_of}
+use Rattle.oc_config.specs.Settings.{Settings}
+use Rattle.oc_config.specs.declared.fault.ConfigFault.TheVariants as faults
+use Rattle.oc_commands.specs.Outside.{Input}
+use Rattle.oc_commands.specs.declared.configuring.ConfigEnd.{ConfigEnd}
+use Rattle.oc_commands.specs.declared.configuring.ConfigEnd.TheVariants.{Source, Long, Fault}
+
+-- these bytes say these settings, or have this first fault
+abbrev pub GivesConfig : Result Settings ConfigEnd → List ℕ → Type 0
+GivesConfig (Ok settings) bytes = settings_of bytes ≡ Ok settings
+GivesConfig (Err (Fault faults.Memory)) bytes = Unit {0}
+GivesConfig (Err (Fault fault)) bytes = settings_of bytes ≡ Err fault
+GivesConfig (Err Source) bytes = ⊥
+GivesConfig (Err Long) bytes = ⊥
+
+-- all input came and says this; or it failed, or is too long, or memory ran out
+abbrev pub ReadsConfig : Input → Result Settings ConfigEnd → Type 0
+ReadsConfig input (Err Source) = input.failed
+ReadsConfig input (Err Long) = input.long
+ReadsConfig input (Err (Fault faults.Memory)) = input.came
+ReadsConfig input read = (bytes : List ℕ) × input.whole bytes × GivesConfig read bytes

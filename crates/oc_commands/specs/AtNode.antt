@@ -1,0 +1,88 @@
+-- What had happened at each end of `node`.
+use Rattle.std.specs.Prelude.{◌≡◌, ℕ, ◌<◌, ◌⊎◌, Option, Some, None, Result, Ok, Err, List, [], ◌++◌, length, ⊤}
+use Rattle.oc_base.specs.Lawful.{IsNode}
+use Rattle.oc_base.specs.declared.limits.TheConstants.{MAX_SCHEDULE_BYTES}
+use Rattle.oc_config.specs.Reading.{settings_of}
+use Rattle.oc_config.specs.Settings.{Settings}
+use Rattle.oc_config.specs.declared.fault.ConfigFault.{ConfigFault}
+use Rattle.oc_io.specs.DiskView.{DiskView}
+use Rattle.oc_keep.specs.Files.{Disks}
+use Rattle.oc_keep.specs.Promises.{HoldFiles}
+use Rattle.oc_model.specs.Node.{Header}
+use Rattle.oc_outside.specs.LinkCalls.{IsFront}
+use Rattle.oc_service.specs.OnFiles.{header_of_settings}
+use Rattle.oc_service.specs.Runs.{IsRun}
+use Rattle.oc_service.specs.declared.starting.NodeEnd.{NodeEnd}
+use Rattle.oc_service.specs.declared.starting.NodeEnd.TheVariants.{Load, Turned}
+use Rattle.oc_turn.specs.Deeds.{Deed, Under, deeds_text, under_line}
+use Rattle.oc_turn.specs.declared.ends.TurnEnd.{TurnEnd}
+use Rattle.oc_turn.specs.declared.ends.TurnEnd.TheVariants as ends
+use Rattle.oc_requests.specs.declared.request.Service.{Service}
+use Rattle.oc_commands.specs.AtConfig.{ReadsConfig}
+use Rattle.oc_commands.specs.AtRules.{status_of_settings}
+use Rattle.oc_commands.specs.Outside.{Input, OnFiles, OnNode, Output}
+use Rattle.oc_commands.specs.declared.serving.ServiceEnd.{ServiceEnd}
+use Rattle.oc_commands.specs.declared.serving.ServiceEnd.TheVariants.{Config, Stranger, Ran}
+
+-- among which nodes the node is
+abbrev pub header_of : Settings → Header
+header_of s = header_of_settings (length s.addresses) s
+
+-- this is the id of a node of the configuration
+abbrev pub HasNode : Settings → Service → Type 0
+HasNode s v = IsNode (length s.addresses) v.id
+
+-- the lines of these deeds were written; where the output is to blame, some front of this line behind them, and then it failed
+abbrev pub WritesDeeds : Output → ℕ → TurnEnd → List Deed → Under → Type 0
+WritesDeeds output me ends.Sink deeds under = (front : List ℕ) × IsFront front (under_line me under) × output.cut_off (deeds_text me deeds ++ front)
+WritesDeeds output me end deeds under = output.written (deeds_text me deeds)
+
+-- A node was not loaded, and nothing was done; or it did the deeds of the measures that are its own and of all its turns; or it ended
+-- before, behind some deeds.
+abbrev pub RunsNode : OnFiles → OnNode → Output → Settings → Service → NodeEnd → Type 0
+RunsNode files node output s v (Load error) =
+    files.are_refused (length s.addresses) error × files.load_safely (header_of s) v.id × output.written [] × node.idle
+RunsNode files node output s v (Turned ends.Served) =
+    (deeds : List Deed) × IsRun v.id (length s.addresses) s.measures v.probes v.turns deeds × output.written (deeds_text v.id deeds) × node.did s v.id v.probes v.turns deeds
+RunsNode files node output s v (Turned end) =
+    (deeds : List Deed) × (under : Under) × WritesDeeds output v.id end deeds under × node.stopped (header_of s) v.id end deeds under
+
+-- the id is none of a node of the configuration, or the node was run
+abbrev pub RunsService : OnFiles → OnNode → Output → Settings → Service → ServiceEnd → Type 0
+RunsService files node output s v Stranger = (HasNode s v → ⊥) × output.written []
+RunsService files node output s v (Ran end) = HasNode s v × RunsNode files node output s v end
+RunsService files node output s v (Config end) = ⊥
+
+-- what had happened
+abbrev pub HappenedAtNode : Input → OnFiles → OnNode → Output → Service → ServiceEnd → Type 0
+HappenedAtNode input files node output v (Config end) = ReadsConfig input (Err end) × output.written []
+HappenedAtNode input files node output v end = (s : Settings) × ReadsConfig input (Ok s) × RunsService files node output s v end
+
+-- this is so, unless the node was run
+abbrev pub UnlessRan : ServiceEnd → Type 0 → Type 0
+UnlessRan (Ran end) so = ⊤
+UnlessRan end so = so
+
+-- the node of this id among so many, if there is one
+abbrev pub IsMemberOf : ℕ → ℕ → Option ℕ → Type 0
+IsMemberOf nodes id (Some me) = IsNode nodes id × (me ≡ id)
+IsMemberOf nodes id None = IsNode nodes id → ⊥
+
+-- ---- which status has to come
+
+-- Of a configuration that has no node of this id the status is 3. Where it has, over the files of a node it is 0, or 5 where a file is
+-- full.
+abbrev pub IsStatusOver : {D : Type 0} → (D → DiskView) → Disks D → Settings → Service → ℕ → Type 0
+IsStatusOver view d s v status =
+    ((HasNode s v → ⊥) × (status ≡ 3)) ⊎ (HasNode s v × (HoldFiles view (length s.addresses) d → (status ≡ 0) ⊎ (status ≡ 5)))
+
+-- the status of what a text says
+abbrev pub IsStatusOf : {D : Type 0} → (D → DiskView) → Disks D → Service → Result Settings ConfigFault → ℕ → Type 0
+IsStatusOf view d v (Ok s) status = IsStatusOver view d s v status
+IsStatusOf view d v (Err fault) status = status ≡ status_of_settings (Err fault)
+
+-- these bytes came, which are all that the input had; or more came than a configuration may have
+pub record HasServiceStatus {S D : Type 0} (gives : S → List ℕ → S → Type 0) (ended : S → Type 0) (view : D → DiskView) (d : Disks D) (v : Service) (old new : S) (status : ℕ) : Type 0 where
+  pub bytes : List ℕ
+  pub came : gives old bytes new
+  pub status_is : (ended new × IsStatusOf view d v (settings_of bytes) status) ⊎ ((MAX_SCHEDULE_BYTES < length bytes) × (status ≡ 5))

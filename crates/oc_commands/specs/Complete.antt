@@ -1,0 +1,28 @@
+-- When a command can only do its work, or run out of memory.
+use Rattle.std.specs.Prelude.{◌≡◌, ◌⊎◌, ℕ, Option, Some, None, List, ◌++◌, map}
+use Rattle.oc_fetch.specs.Addresses.{IsAddressOf}
+use Rattle.oc_fetch.specs.Completeness.{LeadToContent, text_of}
+use Rattle.oc_fetch.specs.Downloads.{first_place}
+use Rattle.oc_outside.specs.Story.{Dial, Story, dials}
+use Rattle.url.specs.Parts.{Parts}
+use Rattle.oc_requests.specs.declared.request.Download.{Download}
+
+-- the work was done, or memory ran out
+abbrev pub IsDoneOrMemory : ℕ → Type 0
+IsDoneOrMemory status = (status ≡ 0) ⊎ (status ≡ 4)
+
+-- one download of an address
+abbrev pub once : List ℕ → Download
+once address = record { address = address; times = None }
+
+-- of an address that is a URL, the dials that were made gave replies of which each led on to the next, up to a 200 with a whole content
+pub record IsServed (address : List ℕ) (old new : Option Story) : Type 0 where
+  pub url : Parts
+  pub address_is : IsAddressOf address url
+  pub before : Story
+  pub after : Story
+  pub told_before : old ≡ Some before
+  pub told_after : new ≡ Some after
+  pub made : List Dial
+  pub dials_are : dials after ≡ dials before ++ made
+  pub lead : LeadToContent (first_place url 1) (map text_of made)

@@ -1,0 +1,15 @@
+pub mod Status
+pub mod Outside
+pub mod Calm
+pub mod Headline
+pub mod AtReplay
+pub mod AtGen
+pub mod AtConfig
+pub mod AtRules
+pub mod AtCheck
+pub mod AtGet
+pub mod AtNode
+pub mod Complete
+pub mod Ends
+pub mod Lines
+pub mod Run

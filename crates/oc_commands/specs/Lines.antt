@@ -1,0 +1,160 @@
+-- The line on the error output with which each end is told.
+use Rattle.std.specs.Prelude.{ℕ, List, [], ◌++◌, codes, decimal}
+use Rattle.oc_base.specs.Why.{why_text}
+use Rattle.oc_config.specs.Keys.{key_text}
+use Rattle.oc_config.specs.declared.key.Key.TheVariants.{Id}
+use Rattle.oc_config.specs.declared.fault.ConfigFault.{ConfigFault}
+use Rattle.oc_config.specs.declared.fault.ConfigFault.TheVariants as faults
+use Rattle.oc_fetch.specs.declared.end.GetEnd.{GetEnd}
+use Rattle.oc_fetch.specs.declared.end.GetEnd.TheVariants as gets
+use Rattle.oc_keep.specs.declared.errors.KeepLoad.{KeepLoad}
+use Rattle.oc_keep.specs.declared.errors.KeepLoad.TheVariants as loads
+use Rattle.oc_keep.specs.declared.errors.Which.{Which}
+use Rattle.oc_keep.specs.declared.errors.Which.TheVariants as files
+use Rattle.oc_replay.specs.declared.end.ReplayEnd.{ReplayEnd}
+use Rattle.oc_replay.specs.declared.end.ReplayEnd.TheVariants as replays
+use Rattle.oc_acts.specs.Limits.{most_of, what_text}
+use Rattle.oc_acts.specs.declared.fault.What.{What}
+use Rattle.oc_acts.specs.declared.fault.What.TheVariants.{Bytes}
+use Rattle.oc_service.specs.declared.starting.NodeEnd.{NodeEnd}
+use Rattle.oc_service.specs.declared.starting.NodeEnd.TheVariants as nodes
+use Rattle.oc_turn.specs.declared.ends.TurnEnd.{TurnEnd}
+use Rattle.oc_turn.specs.declared.ends.TurnEnd.TheVariants as turns
+use Rattle.oc_commands.specs.declared.checking.CheckEnd.{CheckEnd}
+use Rattle.oc_commands.specs.declared.checking.CheckEnd.TheVariants as checks
+use Rattle.oc_commands.specs.declared.configuring.ConfigEnd.{ConfigEnd}
+use Rattle.oc_commands.specs.declared.configuring.ConfigEnd.TheVariants as configs
+use Rattle.oc_commands.specs.declared.ending.End.{End}
+use Rattle.oc_commands.specs.declared.ending.End.TheVariants.{Helped, HelpFailed, Misused, NoMemory, Replayed, Generated, Listed, Checked, Got, Served}
+use Rattle.oc_commands.specs.declared.generating.GenEnd.{GenEnd}
+use Rattle.oc_commands.specs.declared.generating.GenEnd.TheVariants as gens
+use Rattle.oc_commands.specs.declared.lines.Line.{Line}
+use Rattle.oc_commands.specs.declared.listing.RulesEnd.{RulesEnd}
+use Rattle.oc_commands.specs.declared.listing.RulesEnd.TheVariants as lists
+use Rattle.oc_commands.specs.declared.serving.ServiceEnd.{ServiceEnd}
+use Rattle.oc_commands.specs.declared.serving.ServiceEnd.TheVariants as services
+
+-- the text of a line in parts
+abbrev pub text_of : Line → List ℕ
+text_of l = l.first.now ++ (l.second.now ++ (l.third.now ++ (l.fourth.now ++ (l.end.now ++ []))))
+
+-- these parts, and the end of a line
+abbrev pub line : List ℕ → List ℕ → List ℕ → List ℕ → List ℕ
+line first second third fourth = first ++ (second ++ (third ++ (fourth ++ codes "\n")))
+
+-- one part, and the end of a line
+abbrev pub short_line : List ℕ → List ℕ
+short_line text = line text [] [] []
+
+-- the objects that failed
+abbrev pub input_failed : List ℕ
+input_failed = short_line (codes "overcast: input failed")
+
+abbrev pub output_failed : List ℕ
+output_failed = short_line (codes "overcast: output failed")
+
+abbrev pub disk_failed : List ℕ
+disk_failed = short_line (codes "overcast: disk failed")
+
+abbrev pub link_failed : List ℕ
+link_failed = short_line (codes "overcast: link failed")
+
+abbrev pub out_of_memory : List ℕ
+out_of_memory = short_line (codes "overcast: out of memory")
+
+-- the limit that was passed
+abbrev pub limit_line : What → List ℕ
+limit_line what = line (codes "overcast: limit ") (what_text what) (codes " ") (decimal (most_of what))
+
+abbrev pub line_of_replay : ReplayEnd → List ℕ
+line_of_replay replays.Done = []
+line_of_replay (replays.Text number why) = line (codes "overcast: line ") (decimal number) (codes ": ") (why_text why)
+line_of_replay (replays.Limit what) = limit_line what
+line_of_replay replays.Source = input_failed
+line_of_replay replays.Sink = output_failed
+line_of_replay replays.Memory = out_of_memory
+
+abbrev pub line_of_gen : GenEnd → List ℕ
+line_of_gen gens.Done = []
+line_of_gen gens.Sink = output_failed
+line_of_gen gens.Memory = out_of_memory
+
+-- the fault of a configuration
+abbrev pub line_of_fault : ConfigFault → List ℕ
+line_of_fault faults.Toml = short_line (codes "overcast: config: toml")
+line_of_fault (faults.Missing key) = line (codes "overcast: config: missing ") (key_text key) [] []
+line_of_fault (faults.Value key) = line (codes "overcast: config: value ") (key_text key) [] []
+line_of_fault (faults.Repeat id) = line (codes "overcast: config: repeat ") (decimal id) [] []
+line_of_fault (faults.Measure number why) = line (codes "overcast: config: measure ") (decimal number) (codes ": ") (why_text why)
+line_of_fault faults.Memory = out_of_memory
+
+abbrev pub line_of_config : ConfigEnd → List ℕ
+line_of_config configs.Source = input_failed
+line_of_config configs.Long = limit_line Bytes
+line_of_config (configs.Fault fault) = line_of_fault fault
+
+abbrev pub line_of_rules : RulesEnd → List ℕ
+line_of_rules lists.Done = []
+line_of_rules (lists.Config end) = line_of_config end
+line_of_rules lists.Sink = output_failed
+line_of_rules lists.Memory = out_of_memory
+
+-- the word of a file
+abbrev pub file_text : Which → List ℕ
+file_text files.Control = codes "control"
+file_text files.Alternate = codes "alternate"
+file_text files.Content = codes "content"
+
+-- why a node was not loaded
+abbrev pub line_of_load : KeepLoad → List ℕ
+line_of_load loads.Disk = disk_failed
+line_of_load (loads.NotJournal which) = line (codes "overcast: ") (file_text which) (codes ": not a journal") []
+line_of_load (loads.BadFrame which number) = line (codes "overcast: ") (file_text which) (codes ": frame ") (decimal number)
+line_of_load loads.Memory = out_of_memory
+
+abbrev pub line_of_check : CheckEnd → List ℕ
+line_of_check checks.Done = []
+line_of_check (checks.Load error) = line_of_load error
+line_of_check checks.Sink = output_failed
+
+abbrev pub line_of_get : GetEnd → List ℕ
+line_of_get gets.Done = []
+line_of_get gets.BadUrl = short_line (codes "overcast: get: url")
+line_of_get (gets.Refused status) = line (codes "overcast: get: status ") (decimal status) [] []
+line_of_get gets.Redirects = short_line (codes "overcast: get: redirects")
+line_of_get gets.Reply = short_line (codes "overcast: get: reply")
+line_of_get gets.Link = link_failed
+line_of_get gets.Sink = output_failed
+line_of_get gets.Memory = out_of_memory
+
+abbrev pub line_of_turns : TurnEnd → List ℕ
+line_of_turns turns.Served = []
+line_of_turns turns.Quiet = []
+line_of_turns turns.Link = link_failed
+line_of_turns turns.Disk = disk_failed
+line_of_turns turns.Full = short_line (codes "overcast: limit journal 1099511627776")
+line_of_turns turns.Sink = output_failed
+line_of_turns turns.Memory = out_of_memory
+
+abbrev pub line_of_run : NodeEnd → List ℕ
+line_of_run (nodes.Load error) = line_of_load error
+line_of_run (nodes.Turned end) = line_of_turns end
+
+-- the id is the value to blame where no node of the configuration has it
+abbrev pub line_of_service : ServiceEnd → List ℕ
+line_of_service (services.Config end) = line_of_config end
+line_of_service services.Stranger = line (codes "overcast: config: value ") (key_text Id) [] []
+line_of_service (services.Ran end) = line_of_run end
+
+-- the line of each end; behind that of bad words stands a text on usage
+abbrev pub line_of : End → List ℕ → List ℕ
+line_of Helped usage = []
+line_of HelpFailed usage = output_failed
+line_of Misused usage = codes "overcast: usage\n" ++ usage
+line_of NoMemory usage = out_of_memory
+line_of (Replayed end) usage = line_of_replay end
+line_of (Generated end) usage = line_of_gen end
+line_of (Listed end) usage = line_of_rules end
+line_of (Checked end) usage = line_of_check end
+line_of (Got end) usage = line_of_get end
+line_of (Served end) usage = line_of_service end

@@ -1,0 +1,175 @@
+-- What can be said of the outside once a run has ended: of the words, of the input, of the output, of the
+-- stage, of the files, of the link and of the clock.
+use Rattle.std.specs.Prelude.{◌≡◌, ℕ, ◌<◌, Bool, Option, Result, List, length}
+use Rattle.oc_base.specs.declared.limits.TheConstants.{MAX_SCHEDULE_BYTES}
+use Rattle.oc_check.specs.Checks.{Shows}
+use Rattle.oc_config.specs.Settings.{Settings}
+use Rattle.oc_fetch.specs.Completeness.{Completes}
+use Rattle.oc_fetch.specs.Turns.{Makes, Turn}
+use Rattle.oc_fetch.specs.declared.end.GetEnd.{GetEnd}
+use Rattle.oc_keep.specs.Files.{Disks}
+use Rattle.oc_keep.specs.Promises.{LoadsSafely, RefusesNode}
+use Rattle.oc_keep.specs.declared.errors.KeepLoad.{KeepLoad}
+use Rattle.oc_model.specs.Node.{Header}
+use Rattle.oc_model.specs.World.{World}
+use Rattle.oc_model.specs.declared.event.Event.{Event}
+use Rattle.oc_model.specs.declared.word.Word.{Word}
+use Rattle.oc_io.specs.DiskView.{DiskView}
+use Rattle.oc_io.specs.Faults.{Rose}
+use Rattle.oc_outside.specs.LinkCalls.{LinkFaults, Told}
+use Rattle.oc_outside.specs.Story.{Story}
+use Rattle.oc_replay.specs.Replay.{IsInput, PassesLimit, output_text, world_at}
+use Rattle.oc_schedule.specs.Script.{Script}
+use Rattle.oc_acts.specs.declared.fault.ScheduleFault.{ScheduleFault}
+use Rattle.oc_acts.specs.declared.fault.What.{What}
+use Rattle.oc_service.specs.OnFiles.{DidOnFiles, StopsOnFiles}
+use Rattle.oc_turn.specs.Deeds as deeds
+use Rattle.oc_turn.specs.Deeds.{Deed, Under}
+use Rattle.oc_turn.specs.declared.ends.TurnEnd.{TurnEnd}
+use Rattle.oc_outside.specs.ClockView.{Series}
+use Rattle.oc_requests.specs.declared.request.Request.{Request}
+use Rattle.url.specs.Parts.{Parts}
+
+-- of the input
+pub record Input : Type 1 where
+  -- all input came, and this is what it says as a schedule
+  pub says : Result Script ScheduleFault → Type 0
+  -- the input passes this limit
+  pub passes : What → Type 0
+  -- all input came: these bytes
+  pub whole : List ℕ → Type 0
+  -- more bytes came than a text may have
+  pub long : Type 0
+  -- the input failed
+  pub failed : Type 0
+  -- some input came, and nothing else happened to it
+  pub came : Type 0
+  -- the input is as it was
+  pub unread : Type 0
+
+-- of the output
+pub record Output : Type 1 where
+  -- this was written and nothing else
+  pub written : List ℕ → Type 0
+  -- this was written, and then the output failed
+  pub cut_off : List ℕ → Type 0
+
+-- of the stage
+pub record OnStage : Type 1 where
+  -- what is written of a schedule over it: the summary where it is asked for, and else the report
+  pub text : Bool → Script → List ℕ
+  -- it is where these events of a schedule lead
+  pub played : Script → List Event → Type 0
+  -- it is as it was
+  pub unplayed : Type 0
+
+-- of the three files of a node
+pub record OnFiles : Type 1 where
+  -- the node of this id, among the nodes of this header, as they recover it, is shown by this text
+  pub show : Header → ℕ → List ℕ → Type 0
+  -- among so many nodes no node was loaded from them, for this cause
+  pub are_refused : ℕ → KeepLoad → Type 0
+  -- at every moment a crash leaves what one at the start would have left
+  pub load_safely : Header → ℕ → Type 0
+  -- they are as they were
+  pub untouched : Type 0
+
+-- of the link
+pub record OnLink : Type 1 where
+  -- a client made these turns on it, and nothing else was done
+  pub makes : List Turn → Type 0
+  -- a call of a dial failed
+  pub has_failed : Type 0
+  -- if the replies of the dials, from a URL on, led to a whole content, a download with this end was not refused
+  pub completes : Parts → GetEnd → Type 0
+  -- it is as it was
+  pub untouched : Type 0
+
+-- of the clock
+pub record OnClock : Type 1 where
+  -- it is as it was
+  pub untouched : Type 0
+
+-- of a node that runs on the files, the link and the clock
+pub record OnNode : Type 1 where
+  -- the node that the files recovered, which this configuration has under this id, did these deeds, with probes or without, in so many
+  -- turns, in which it answered the connections that came, and every crash leaves it behind them
+  pub did : Settings → ℕ → Bool → ℕ → List Deed → Type 0
+  -- behind these deeds it ended so, perhaps with one more input under way
+  pub stopped : Header → ℕ → TurnEnd → List Deed → Under → Type 0
+  -- nothing was done on the link and the clock
+  pub idle : Type 0
+
+pub record Outside : Type 1 where
+  -- what the words ask for, if anything
+  pub asked : Option Request
+  pub input : Input
+  pub output : Output
+  pub stage : OnStage
+  pub files : OnFiles
+  pub link : OnLink
+  pub clock : OnClock
+  pub node : OnNode
+
+-- ---- at a source, a sink, a stage, three disks, a link and a clock, from the old value to the new one
+
+module _ {S : Type 0} (gives fails : S → List ℕ → S → Type 0) (ended : S → Type 0) (faults : S → ℕ) where
+  abbrev pub at_source : S → S → Input
+  at_source old new = record {
+    says = λ says. IsInput gives ended old new says;
+    passes = λ what. PassesLimit gives ended old new what;
+    whole = λ bytes. gives old bytes new × ended new;
+    long = (bytes : List ℕ) × gives old bytes new × (MAX_SCHEDULE_BYTES < length bytes);
+    failed = ((bytes : List ℕ) × fails old bytes new) × Rose (faults old) (faults new);
+    came = (bytes : List ℕ) × gives old bytes new;
+    unread = new ≡ old;
+  }
+
+module _ {K : Type 0} (takes fails : K → List ℕ → K → Type 0) (faults : K → ℕ) where
+  abbrev pub at_sink : K → K → Output
+  at_sink old new = record {
+    written = λ text. takes old text new;
+    cut_off = λ text. fails old text new × Rose (faults old) (faults new);
+  }
+
+module _ {T : Type 0} (first : Header → World) (after : World → Event → World) (word : World → Event → Word) (world : T → World) where
+  abbrev pub at_stage : T → T → OnStage
+  at_stage old new = record {
+    text = λ summary. output_text first after summary word;
+    played = λ s events. world new ≡ world_at first after s events;
+    unplayed = new ≡ old;
+  }
+
+module _ {D : Type 0} (view : D → DiskView) where
+  abbrev pub at_files : Disks D → Disks D → OnFiles
+  at_files old new = record {
+    show = λ h me text. Shows view h me old text;
+    are_refused = λ nodes error. RefusesNode view nodes old new error;
+    load_safely = λ h me. LoadsSafely view h me old new;
+    untouched = new ≡ old;
+  }
+
+module _ {L : Type 0} (story : L → Option Story) (faults : L → LinkFaults) where
+  abbrev pub at_link : L → L → OnLink
+  at_link old new = record {
+    makes = λ turns. Told (Makes turns) (story old) (story new);
+    has_failed = Rose (faults old).dialling (faults new).dialling;
+    completes = λ url end. Told (Completes url end) (story old) (story new);
+    untouched = new ≡ old;
+  }
+
+-- a clock, from the old value to the new one
+abbrev pub at_clock : {C : Type 0} → C → C → OnClock
+at_clock old new = record { untouched = new ≡ old }
+
+-- what a node sees of a link and a clock
+abbrev pub seen : {L C : Type 0} → (L → Option Story) → (L → LinkFaults) → (C → Series) → (C → Series) → L → C → deeds.Outside
+seen story faults seconds millis link clock = record { story = story link; faults = faults link; seconds = seconds clock; millis = millis clock }
+
+module _ {D : Type 0} (view : D → DiskView) where
+  abbrev pub at_node : Disks D → Disks D → deeds.Outside → deeds.Outside → OnNode
+  at_node old new before out = record {
+    did = λ s me probes turns ds. DidOnFiles view s (length s.addresses) me probes turns ds old new before out;
+    stopped = λ h me end ds under. StopsOnFiles view h me end ds under old new before out;
+    idle = out ≡ before;
+  }

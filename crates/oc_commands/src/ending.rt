@@ -1,0 +1,174 @@
+//! How a run ends.
+ghost use Rattle.std.specs.Prelude.{◌≡◌};
+ghost use Rattle.oc_commands.specs.Ends.{status_of, status_of_check, status_of_config, status_of_fault, status_of_gen};
+ghost use Rattle.oc_commands.specs.Ends.{status_of_get, status_of_load, status_of_replay, status_of_rules, status_of_run, status_of_service, status_of_turns};
+
+use crate::checking::CheckEnd;
+use crate::configuring::ConfigEnd;
+use crate::generating::GenEnd;
+use crate::listing::RulesEnd;
+use crate::serving::ServiceEnd;
+use crate::status::Status;
+use oc_config::ConfigFault;
+use oc_fetch::GetEnd;
+use oc_keep::KeepLoad;
+use oc_replay::ReplayEnd;
+use oc_service::{NodeEnd, TurnEnd};
+
+/// How a run ended.
+#[derive(Clone, Copy)]
+pub enum End {
+    /// The help was written.
+    Helped,
+    /// The output failed under the help.
+    HelpFailed,
+    /// The words are no words of the program.
+    Misused,
+    /// Memory ran out before the words were read.
+    NoMemory,
+    /// A replay ended so.
+    Replayed(ReplayEnd),
+    /// The command `gen` ended so.
+    Generated(GenEnd),
+    /// The command `rules` ended so.
+    Listed(RulesEnd),
+    /// The command `check` ended so.
+    Checked(CheckEnd),
+    /// The command `get` ended so.
+    Got(GetEnd),
+    /// The command `node` ended so.
+    Served(ServiceEnd),
+}
+
+impl End {
+    /// The status with which the program ends.
+    pub fn status(self) -> Status
+        ensures { result ≡ status_of self }
+    {
+        match self {
+            End::Helped => Status::Done,
+            End::HelpFailed => Status::Failed,
+            End::Misused => Status::Usage,
+            End::NoMemory => Status::Memory,
+            End::Replayed(end) => replay_status(end),
+            End::Generated(end) => gen_status(end),
+            End::Listed(end) => rules_status(end),
+            End::Checked(end) => check_status(end),
+            End::Got(end) => get_status(end),
+            End::Served(end) => service_status(end),
+        }
+    }
+}
+
+fn replay_status(end: ReplayEnd) -> Status
+    ensures { result ≡ status_of_replay end }
+{
+    match end {
+        ReplayEnd::Done => Status::Done,
+        ReplayEnd::Text { .. } => Status::BadText,
+        ReplayEnd::Limit(_) => Status::Limit,
+        ReplayEnd::Source | ReplayEnd::Sink => Status::Failed,
+        ReplayEnd::Memory => Status::Memory,
+    }
+}
+
+fn gen_status(end: GenEnd) -> Status
+    ensures { result ≡ status_of_gen end }
+{
+    match end {
+        GenEnd::Done => Status::Done,
+        GenEnd::Sink => Status::Failed,
+        GenEnd::Memory => Status::Memory,
+    }
+}
+
+fn rules_status(end: RulesEnd) -> Status
+    ensures { result ≡ status_of_rules end }
+{
+    match end {
+        RulesEnd::Done => Status::Done,
+        RulesEnd::Config(end) => config_status(end),
+        RulesEnd::Sink => Status::Failed,
+        RulesEnd::Memory => Status::Memory,
+    }
+}
+
+fn config_status(end: ConfigEnd) -> Status
+    ensures { result ≡ status_of_config end }
+{
+    match end {
+        ConfigEnd::Source => Status::Failed,
+        ConfigEnd::Long => Status::Limit,
+        ConfigEnd::Fault(fault) => fault_status(fault),
+    }
+}
+
+fn fault_status(fault: ConfigFault) -> Status
+    ensures { result ≡ status_of_fault fault }
+{
+    match fault {
+        ConfigFault::Memory => Status::Memory,
+        _ => Status::BadText,
+    }
+}
+
+fn check_status(end: CheckEnd) -> Status
+    ensures { result ≡ status_of_check end }
+{
+    match end {
+        CheckEnd::Done => Status::Done,
+        CheckEnd::Load(error) => load_status(error),
+        CheckEnd::Sink => Status::Failed,
+    }
+}
+
+fn load_status(error: KeepLoad) -> Status
+    ensures { result ≡ status_of_load error }
+{
+    match error {
+        KeepLoad::Disk => Status::Failed,
+        KeepLoad::NotJournal(_) | KeepLoad::BadFrame(..) => Status::BadText,
+        KeepLoad::Memory => Status::Memory,
+    }
+}
+
+fn get_status(end: GetEnd) -> Status
+    ensures { result ≡ status_of_get end }
+{
+    match end {
+        GetEnd::Done => Status::Done,
+        GetEnd::BadUrl | GetEnd::Refused(_) | GetEnd::Redirects | GetEnd::Reply => Status::NotGot,
+        GetEnd::Link | GetEnd::Sink => Status::Failed,
+        GetEnd::Memory => Status::Memory,
+    }
+}
+
+fn service_status(end: ServiceEnd) -> Status
+    ensures { result ≡ status_of_service end }
+{
+    match end {
+        ServiceEnd::Config(end) => config_status(end),
+        ServiceEnd::Stranger => Status::BadText,
+        ServiceEnd::Ran(end) => run_status(end),
+    }
+}
+
+fn run_status(end: NodeEnd) -> Status
+    ensures { result ≡ status_of_run end }
+{
+    match end {
+        NodeEnd::Load(error) => load_status(error),
+        NodeEnd::Turned(end) => turns_status(end),
+    }
+}
+
+fn turns_status(end: TurnEnd) -> Status
+    ensures { result ≡ status_of_turns end }
+{
+    match end {
+        TurnEnd::Served | TurnEnd::Quiet => Status::Done,
+        TurnEnd::Link | TurnEnd::Disk | TurnEnd::Sink => Status::Failed,
+        TurnEnd::Full => Status::Limit,
+        TurnEnd::Memory => Status::Memory,
+    }
+}

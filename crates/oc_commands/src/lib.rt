@@ -1,0 +1,40 @@
+//! The commands of the program: what each does, how it ends, and with which status and which line.
+//!
+//! Each command is a file: `replaying`, `generating`, `listing` (`rules`), `checking`, `getting`
+//! and `serving` (`node`), beside `helping`, which answers `--help`. [`End`] is the end of any of them, from which
+//! [`End::status`] and [`tell`] make the status and the line on the error output. `Outside` in `specs/` is all that
+//! their contracts speak of, and `Happened` says for each end what then holds.
+//!
+//! Where a replay is done, [`headline_holds`] is part of what holds: what is so of every world of the schedule,
+//! inside of settle and heal too, and what settle and heal leave and tell.
+#![tactic(auto)]
+
+mod checking;
+mod command_texts;
+mod configuring;
+mod ending;
+mod generating;
+mod getting;
+mod headline;
+mod helping;
+mod lines;
+mod listing;
+mod replaying;
+mod serving;
+mod status;
+mod telling;
+mod texts;
+
+pub use checking::{CheckEnd, check_files};
+pub use configuring::ConfigEnd;
+pub use ending::End;
+pub use generating::{GenEnd, write_sample};
+pub use getting::download;
+pub use headline::headline_holds;
+pub use helping::write_help;
+pub use listing::{RulesEnd, list_rules};
+pub use replaying::replay_input;
+pub use serving::{ServiceEnd, run_service};
+pub use status::Status;
+pub use telling::tell;
+pub use texts::{help, usage};

@@ -1,0 +1,78 @@
+//! The line that says on the error output how a run ended, written.
+
+ghost use Rattle.std.specs.Prelude.{◌≡◌, ℕ, List, OnOk};
+ghost use Rattle.oc_io.specs.Faults.{NoFall};
+ghost use Rattle.oc_commands.specs.Lines.{line_of, text_of};
+ghost use Rattle.oc_commands.specs.Run.{IsWrittenOrCut, joined};
+
+use crate::ending::End;
+use crate::lines::{
+    Line, line_of_check, line_of_gen, line_of_get, line_of_replay, line_of_rules, line_of_service,
+    no_line, short_line,
+};
+use crate::texts::usage;
+use itoa::Buffer;
+use oc_io::{Failed, Sink, write_all};
+
+/// Has the sink take these parts, one behind the other.
+fn write_parts<K: Sink>(sink: &mut K, parts: &[&[u8]]) -> Result<(), Failed>
+    ensures told { IsWrittenOrCut K.takes K.fails K.faults sink.old sink.new (joined parts.now) }
+    ensures takes { OnOk result (K.takes sink.old (joined parts.now) sink.new) }
+    ensures count { NoFall (K.faults sink.old) (K.faults sink.new) }
+{
+    for part in parts {
+        write_all(sink, part)?;
+    }
+    Ok(())
+}
+
+/// Writes the line of an end on the error output. Where that output fails, a front of it stands there.
+pub fn tell<E: Sink>(err: &mut E, end: End)
+    ensures told { (usage : List ℕ) × IsWrittenOrCut E.takes E.fails E.faults err.old err.new (line_of end usage) }
+    ensures count { NoFall (E.faults err.old) (E.faults err.new) }
+{
+    let mut digits = Buffer::new();
+    let line = line_of(end, &mut digits);
+    write_line(err, line);
+}
+
+/// Writes a line, or a front of it where the output fails.
+fn write_line<E: Sink>(err: &mut E, line: Line<'_>)
+    ensures told { IsWrittenOrCut E.takes E.fails E.faults err.old err.new (text_of line.entry) }
+    ensures count { NoFall (E.faults err.old) (E.faults err.new) }
+{
+    let _ = write_parts(
+        err,
+        &[
+            line.first.as_bytes(),
+            line.second.as_bytes(),
+            line.third.as_bytes(),
+            line.fourth.as_bytes(),
+            line.end.as_bytes(),
+        ],
+    );
+}
+
+/// The line of an end.
+fn line_of(end: End, digits: &mut Buffer) -> Line<'_>
+    ensures { (usage : List ℕ) × (text_of result ≡ line_of end usage) }
+{
+    match end {
+        End::Helped => no_line(),
+        End::HelpFailed => short_line("overcast: output failed"),
+        End::Misused => Line {
+            first: "overcast: usage\n",
+            second: usage(),
+            third: "",
+            fourth: "",
+            end: "",
+        },
+        End::NoMemory => short_line("overcast: out of memory"),
+        End::Replayed(end) => line_of_replay(end, digits),
+        End::Generated(end) => line_of_gen(end),
+        End::Listed(end) => line_of_rules(end, digits),
+        End::Checked(end) => line_of_check(end, digits),
+        End::Got(end) => line_of_get(end, digits),
+        End::Served(end) => line_of_service(end, digits),
+    }
+}

@@ -1,0 +1,42 @@
+-- The status of a replay over bytes in memory.
+use Rattle.std.proofs.Common.{◌≡◌, ℕ, Bool, ◌⊎◌, List, Option, Some, None, ap, sym, refl, inl, inr}
+use Rattle.oc_replay.specs.declared.end.ReplayEnd.{ReplayEnd}
+use Rattle.oc_replay.specs.declared.end.ReplayEnd.TheVariants as replays
+use Rattle.oc_schedule.specs.Schedule.{schedule_of}
+use Rattle.oc_requests.specs.declared.request.Request.{Request}
+use Rattle.oc_requests.specs.declared.request.Request.TheVariants.{Replay}
+use Rattle.oc_commands.specs.AtReplay.{HappenedAtReplay, status_for}
+use Rattle.oc_commands.specs.Ends.{status_of, status_of_replay}
+use Rattle.oc_commands.specs.Outside.{OnClock, OnFiles, OnLink, OnNode, OnStage, Output}
+use Rattle.oc_commands.specs.Run.{Happened}
+use Rattle.oc_commands.specs.Status.{number_of}
+use Rattle.oc_commands.specs.declared.ending.End.{End}
+use Rattle.oc_commands.specs.declared.ending.End.TheVariants.{Helped, HelpFailed, Misused, NoMemory, Replayed, Generated, Listed, Checked, Got, Served}
+use Rattle.oc_program.specs.Streams.{at_bytes}
+
+module _ (bytes : List ℕ) (read : ℕ) (output : Output) (stage : OnStage) where
+  -- the status of what the bytes say, or that of a failure, or want of memory
+  abbrev IsRightOf : ℕ → Type 0
+  IsRightOf status = (status ≡ status_for (schedule_of bytes)) ⊎ (status ≡ 1) ⊎ (status ≡ 4)
+
+  replay_is_right_of : (summary : Bool) (end : ReplayEnd) → HappenedAtReplay (at_bytes bytes read) output stage summary end → IsRightOf (number_of (status_of_replay end))
+  replay_is_right_of summary replays.Done h = let (s, says, lawful, written, played, holds) = h in inl (sym (ap status_for says.0))
+  replay_is_right_of summary (replays.Text line why) h = inl (sym (ap status_for h.0.0))
+  replay_is_right_of summary (replays.Limit what) h = inl (sym (ap status_for h.0.0))
+  replay_is_right_of summary replays.Source h = inr (inl refl)
+  replay_is_right_of summary replays.Sink h = inr (inl refl)
+  replay_is_right_of summary replays.Memory h = inr (inr refl)
+
+  pub replayed_of : (files : OnFiles) (link : OnLink) (clock : OnClock) (node : OnNode) (summary : Bool) (asked : Option Request) (end : End) → asked ≡ Some (Replay summary)
+      → Happened (record { asked = asked; input = at_bytes bytes read; output = output; stage = stage; files = files; link = link; clock = clock; node = node }) end
+      → IsRightOf (number_of (status_of end))
+  replayed_of files link clock node summary asked Helped is h = let asks = h.0 in cc
+  replayed_of files link clock node summary asked HelpFailed is h = let asks = h.0 in cc
+  replayed_of files link clock node summary asked Misused is h = let asks = h.0 in cc
+  replayed_of files link clock node summary asked NoMemory is h = inr (inr refl)
+  replayed_of files link clock node summary asked (Replayed end) is h = replay_is_right_of h.0.0 end h.0.2
+  replayed_of files link clock node summary asked (Generated end) is h = let asks = h.0.1 in cc
+  replayed_of files link clock node summary asked (Listed end) is h = let asks = h.0 in cc
+  replayed_of files link clock node summary asked (Checked end) is h = let asks = h.0.1 in cc
+  replayed_of files link clock node summary asked (Got end) is h = let asks = h.0.1 in cc
+  replayed_of files link clock node summary asked (Served end) is h = let asks = h.0.1 in cc

@@ -1,4 +1,10 @@
 use crate::fault::Fault;
+use std::fmt::Debug;
+
+/// Puts a value as it is shown, and a space.
+pub fn put_shown<T: Debug>(out: &mut String, value: &T) -> Result<(), Fault> {
+    Ok(write!(out, "{value:?} ")?)
+}
 
 /// Puts bytes in hexadecimal, or `-` for none.
 pub fn put_hex(out: &mut String, bytes: &[u8]) -> Result<(), Fault> {
@@ -9,21 +15,4 @@ pub fn put_hex(out: &mut String, bytes: &[u8]) -> Result<(), Fault> {
         write!(out, "{byte:02x}")?;
     }
     Ok(())
-}
-
-/// The number of the first line in which a text is not as wanted, counted from 1.
-pub fn first_difference(text: &[u8], wanted: &[u8]) -> Option<usize> {
-    if text == wanted {
-        return None;
-    }
-    let mut line: usize = 1;
-    for (byte, other) in text.iter().zip(wanted) {
-        if byte != other {
-            break;
-        }
-        if *byte == b'\n' {
-            line = line.saturating_add(1);
-        }
-    }
-    Some(line)
 }

@@ -1,10 +1,4 @@
 use crate::fault::Fault;
-use std::fmt::Debug;
-
-/// Puts a value as it is shown, and a space.
-pub fn put_shown<T: Debug>(out: &mut String, value: &T) -> Result<(), Fault> {
-    Ok(write!(out, "{value:?} ")?)
-}
 
 /// Puts bytes in hexadecimal, or `-` for none.
 pub fn put_hex(out: &mut String, bytes: &[u8]) -> Result<(), Fault> {

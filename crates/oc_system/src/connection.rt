@@ -124,22 +124,30 @@ impl Connection {
 
     /// Takes in a piece, at most as long as the buffer; false where none has come yet.
     pub(crate) fn take_in(&mut self, piece: &mut [u8]) -> bool {
+        let Some(count) = self.read_piece(piece) else {
+            return false;
+        };
+        self.count = self.count.saturating_add(count);
+        let came = piece.get(..count).unwrap_or(&[]);
+        if self.came.extend_from_slice(came).is_err() {
+            self.broken = true;
+        }
+        true
+    }
+
+    /// Reads what has come to the front of the buffer, and answers its length; none where nothing has come yet.
+    fn read_piece(&mut self, piece: &mut [u8]) -> Option<usize> {
         if self.ended || self.broken {
-            return true;
+            return Some(0);
         }
         match self.stream.read(piece) {
             Ok(0) => self.ended = true,
-            Ok(count) => {
-                self.count = self.count.saturating_add(count);
-                if self.came.extend_from_slice(&piece[..count]).is_err() {
-                    self.broken = true;
-                }
-            }
+            Ok(count) => return Some(count),
             Err(error) if error.kind() == ErrorKind::Interrupted => {}
-            Err(error) if error.kind() == ErrorKind::WouldBlock => return false,
+            Err(error) if error.kind() == ErrorKind::WouldBlock => return None,
             Err(_) => self.broken = true,
         }
-        true
+        Some(0)
     }
 
     /// Whether its first request has come.
@@ -165,9 +173,23 @@ impl Connection {
         self.came.get(self.read..).unwrap_or(&[])
     }
 
-    /// Reads what came already, or answers `WouldBlock` where there is nothing yet.
-    pub(crate) fn read_now(&mut self, buf: &mut [u8]) -> io::Result<usize>
+    /// Reads what has come, or answers `WouldBlock` where there is nothing yet. Where all was read that was
+    /// taken in, a further piece is, by the buffer `piece`: more may have come while nobody looked.
+    pub(crate) fn read_next(&mut self, buf: &mut [u8], piece: &mut [u8]) -> io::Result<usize>
         ensures within { IfOk result (λ n. n ≤ length buf.old) }
+    {
+        match self.read_now(buf) {
+            Err(error) if error.kind() == ErrorKind::WouldBlock => {}
+            given => return given,
+        }
+        let _came = self.take_in(piece);
+        self.read_now(buf)
+    }
+
+    /// Reads what was taken in already, or answers `WouldBlock` where there is nothing yet.
+    fn read_now(&mut self, buf: &mut [u8]) -> io::Result<usize>
+        ensures within { IfOk result (λ n. n ≤ length buf.old) }
+        ensures length { length buf.new ≡ length buf.old }
     {
         let count = copy_front(self.unread(), buf);
         if count > 0 || buf.is_empty() {
@@ -290,15 +312,8 @@ impl Connection {
     /// Takes off the socket what has come, and keeps none of it.
     pub(crate) fn discard(&mut self, piece: &mut [u8]) {
         for _ in 0..MOST_CALLS {
-            if self.ended || self.broken {
+            if self.ended || self.broken || self.read_piece(piece).is_none() {
                 return;
-            }
-            match self.stream.read(piece) {
-                Ok(0) => self.ended = true,
-                Ok(_) => {}
-                Err(error) if error.kind() == ErrorKind::Interrupted => {}
-                Err(error) if error.kind() == ErrorKind::WouldBlock => return,
-                Err(_) => self.broken = true,
             }
         }
     }

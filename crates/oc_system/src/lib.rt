@@ -6,10 +6,12 @@
 #![tactic(auto)]
 
 mod connection;
+mod dials;
 mod file_disk;
 mod limits;
 mod outgoing;
 mod pause;
+mod ready;
 mod request;
 mod socket_link;
 mod sockets;
@@ -17,5 +19,5 @@ mod system_clock;
 mod table;
 
 pub use file_disk::FileDisk;
-pub use socket_link::{SocketLink, Traffic};
+pub use socket_link::SocketLink;
 pub use system_clock::SystemClock;

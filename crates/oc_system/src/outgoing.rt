@@ -1,7 +1,7 @@
 ghost use Rattle.std.specs.Prelude.{◌≡◌, ◌≤◌, length, IfOk};
 
 use crate::sockets::millis;
-use std::alloc::{AllocError, Global};
+use std::alloc::Global;
 use std::io::{self, ErrorKind, Read, Write};
 use std::net::{Net, TcpStream, ToSocketAddrs};
 use std::rt::Clock;
@@ -36,24 +36,8 @@ impl Outgoing {
         address: &str,
         until: Option<u64>,
     ) -> io::Result<Outgoing> {
-        let until = deadline(rt, until);
-        let mut last = io::Error::from(ErrorKind::AddrNotAvailable);
-        for each in address.to_socket_addrs(rt)? {
-            match TcpStream::connect_timeout(rt, &each, time_left(rt, until)?) {
-                Ok(stream) => {
-                    stream.set_nodelay(true)?;
-                    return match Outgoing::over(alloc, stream) {
-                        Ok(outgoing) => Ok(outgoing),
-                        Err(_) => Err(io::Error::from(ErrorKind::OutOfMemory)),
-                    };
-                }
-                Err(error) => last = error,
-            }
-        }
-        Err(last)
-    }
-
-    fn over(alloc: Global, stream: TcpStream) -> Result<Outgoing, AllocError> {
+        let stream = connected(rt, address, deadline(rt, until))?;
+        stream.set_nodelay(true)?;
         Ok(Outgoing {
             stream,
             piece: Vec::from_elem(alloc, 0u8, PIECE)?,
@@ -76,8 +60,7 @@ impl Outgoing {
             if rest.is_empty() {
                 return Ok(());
             }
-            self.stream.set_write_timeout(Some(time_left(rt, until)?))?;
-            match self.stream.write(rest) {
+            match self.write_some(rt, rest, until) {
                 Err(error) if error.kind() == ErrorKind::Interrupted => {}
                 Err(error) => return Err(error),
                 Ok(0) => break,
@@ -87,12 +70,17 @@ impl Outgoing {
         Err(io::Error::from(ErrorKind::WriteZero))
     }
 
+    /// Writes a front of these bytes, until that time.
+    fn write_some<R: Clock>(&mut self, rt: &R, bytes: &[u8], until: u64) -> io::Result<usize> {
+        self.stream.set_write_timeout(Some(time_left(rt, until)?))?;
+        self.stream.write(bytes)
+    }
+
     /// Gives what came and was not given yet; nothing where there is none.
     pub(crate) fn give(&mut self, buf: &mut [u8]) -> usize
         ensures within { result ≤ length buf.old }
     {
-        let waiting = self.piece.get(self.given..self.came).unwrap_or(&[]);
-        let count = copy_front(waiting, buf);
+        let count = copy_front(self.waiting(), buf);
         self.given = self.given.saturating_add(count);
         count
     }
@@ -103,23 +91,40 @@ impl Outgoing {
         self.given = 0;
         self.came = 0;
         for _ in 0..MOST_TRIES {
-            self.stream.set_read_timeout(Some(time_left(rt, until)?))?;
-            match self.stream.read(&mut self.piece) {
+            match self.read_piece(rt, until) {
                 Err(error) if error.kind() == ErrorKind::Interrupted => {}
-                Err(error) => return Err(error),
-                Ok(count) => {
-                    self.came = count;
-                    return Ok(count);
-                }
+                read => return read,
             }
         }
         Err(io::Error::from(ErrorKind::Interrupted))
+    }
+
+    fn read_piece<R: Clock>(&mut self, rt: &R, until: u64) -> io::Result<usize> {
+        self.stream.set_read_timeout(Some(time_left(rt, until)?))?;
+        self.came = self.stream.read(&mut self.piece)?;
+        Ok(self.came)
     }
 
     /// What came and was not given yet.
     pub(crate) fn waiting(&self) -> &[u8] {
         self.piece.get(self.given..self.came).unwrap_or(&[])
     }
+}
+
+/// A connection to the first of the addresses that takes one, until that time.
+fn connected<R: Net<Stream = TcpStream> + Clock>(
+    rt: &R,
+    address: &str,
+    until: u64,
+) -> io::Result<TcpStream> {
+    let mut last = io::Error::from(ErrorKind::AddrNotAvailable);
+    for each in address.to_socket_addrs(rt)? {
+        match TcpStream::connect_timeout(rt, &each, time_left(rt, until)?) {
+            Ok(stream) => return Ok(stream),
+            Err(error) => last = error,
+        }
+    }
+    Err(last)
 }
 
 /// Until when a call may last that begins now, in milliseconds.

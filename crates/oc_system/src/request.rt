@@ -119,9 +119,10 @@ pub(crate) fn is_probe(bytes: &[u8]) -> bool {
 /// The name and the value of a field, without the blanks round the value.
 fn field(line: &[u8]) -> Option<(&[u8], &[u8])> {
     let colon = line.iter().position(|byte| *byte == b':')?;
-    let name = line.get(..colon)?;
-    let value = line.get(colon.saturating_add(1)..)?;
-    Some((name, value.trim_ascii()))
+    match line.split_at_checked(colon) {
+        Some((name, [_, value @ ..])) => Some((name, value.trim_ascii())),
+        _ => None,
+    }
 }
 
 /// Whether this is the word, in any case.

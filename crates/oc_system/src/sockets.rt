@@ -3,14 +3,14 @@ mod keeping;
 
 use crate::connection::Connection;
 use crate::limits::{
-    BODY_MILLIS, EVENTS, LISTENER, LONG_WAIT, MOST_IN_A_ROW, MOST_KEPT, MOST_WAITS, PIECE,
-    SHORT_WAIT,
+    BODY_MILLIS, LISTENER, LONG_WAIT, MOST_IN_A_ROW, MOST_KEPT, MOST_WAITS, PIECE, SHORT_WAIT,
 };
 use crate::pause::Pause;
+use crate::ready::Ready;
 use crate::table::Table;
 use mio::net::TcpListener;
-use mio::{Events, Interest, Poll, Token};
-use std::alloc::{AllocError, Global};
+use mio::{Interest, Token};
+use std::alloc::Global;
 use std::collections::VecDeque;
 use std::io::{self, ErrorKind};
 use std::net::{Net, SocketAddr, TcpStream, ToSocketAddrs};
@@ -32,10 +32,7 @@ pub(crate) enum Awaits {
 #[derive(Drop)]
 pub(crate) struct Sockets {
     alloc: Global,
-    poll: Poll,
-    events: Events,
-    /// The tokens of those that are ready.
-    woken: Vec<usize>,
+    ready: Ready,
     listener: TcpListener,
     /// Whether a connection may wait to be accepted.
     knocks: bool,
@@ -73,19 +70,18 @@ impl Sockets {
         alloc: Global,
         address: &str,
     ) -> io::Result<Sockets> {
-        let poll = Poll::new(rt)?;
+        let ready = Ready::new(rt, alloc)?;
         let mut listener = bound(rt, address)?;
-        poll.registry()
+        ready
+            .registry()
             .register(&mut listener, Token(LISTENER), Interest::READABLE)?;
-        Sockets::over(alloc, poll, listener).map_err(|_| io::Error::from(ErrorKind::OutOfMemory))
+        Sockets::over(alloc, ready, listener)
     }
 
-    fn over(alloc: Global, poll: Poll, listener: TcpListener) -> Result<Sockets, AllocError> {
+    fn over(alloc: Global, ready: Ready, listener: TcpListener) -> io::Result<Sockets> {
         Ok(Sockets {
             alloc,
-            poll,
-            events: Events::with_capacity(alloc, EVENTS)?,
-            woken: Vec::with_capacity(alloc, EVENTS)?,
+            ready,
             listener,
             knocks: true,
             piece: Vec::from_elem(alloc, 0u8, PIECE)?,
@@ -127,13 +123,7 @@ impl Sockets {
         let until = self.pause.begin(now);
         for _ in 0..MOST_WAITS {
             if self.whole.is_empty() || self.in_a_row >= MOST_IN_A_ROW {
-                let is_ripe = !self.whole.is_empty() || !self.spent.is_empty();
-                let wait = if is_ripe {
-                    0
-                } else {
-                    until.saturating_sub(now)
-                };
-                now = self.pump(rt, wait)?;
+                now = self.pump(rt, self.wait(until.saturating_sub(now)))?;
                 self.in_a_row = 0;
             }
             if self.take_ripe(now) {
@@ -145,6 +135,15 @@ impl Sockets {
         }
         self.pause.grow();
         Ok(false)
+    }
+
+    /// How long the sockets are waited for: not at all where a connection can be served.
+    fn wait(&self, longest: u64) -> u64 {
+        if self.whole.is_empty() && self.spent.is_empty() {
+            longest
+        } else {
+            0
+        }
     }
 
     /// Makes the kept connection that is to be served next the current one: the first whose request has come,

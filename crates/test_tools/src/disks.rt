@@ -14,8 +14,7 @@ pub fn put_disk<D: Disk + Drop>(alloc: Global, out: &mut String, mut disk: D) ->
     let Ok(size) = disk.size() else {
         return Err(Fault::Unready);
     };
-    let mut bytes = Vec::new(alloc);
-    bytes.resize(size as usize, 0)?;
+    let mut bytes = vec![in alloc; 0; size as usize]?;
     match disk.read_at(0, &mut bytes) {
         Ok(count) if count == bytes.len() => put_hex(out, &bytes),
         _ => Err(Fault::Unready),
@@ -23,7 +22,7 @@ pub fn put_disk<D: Disk + Drop>(alloc: Global, out: &mut String, mut disk: D) ->
 }
 
 /// A disk with the journal of these bodies, all of it safe.
-pub fn disk_with(alloc: Global, bodies: &[Vec<u8>]) -> Result<MemDisk, Fault> {
+fn disk_with(alloc: Global, bodies: &[Vec<u8>]) -> Result<MemDisk, Fault> {
     let disk = filled_with(alloc, MemDisk::new(Vec::new(alloc)), bodies)?;
     Ok(disk.crash())
 }
@@ -59,35 +58,26 @@ fn append<D: Disk>(alloc: Global, journal: &mut Journal<D>, body: &[u8]) -> Resu
 /// many, where a crash leaves this byte wherever something was not synced.
 pub fn disk_in(alloc: Global, text: &str) -> Result<MemDisk, Fault> {
     let (held, failing) = text.split_once('/').unwrap_or((text, ""));
-    let failing = failing_in(Step::of(failing))?;
     let mut disk = held_in(alloc, Step::of(held))?;
-    match failing {
-        Failing::Never => {}
-        Failing::At(call) => disk.fail_at(vec![in alloc; call]?),
-        Failing::Behind { calls, image } => disk.stop_after(calls, image),
-    }
+    have_fail(alloc, &mut disk, Step::of(failing))?;
     Ok(disk)
 }
 
-/// How a disk fails.
-#[derive(Clone, Copy)]
-enum Failing {
-    Never,
-    /// This call fails.
-    At(u64),
-    /// All writes and syncs fail behind so many, and a crash leaves this image.
-    Behind { calls: u8, image: u8 },
-}
-
-fn failing_in(step: Step<'_>) -> Result<Failing, Fault> {
+/// Has calls of a disk fail as this says.
+fn have_fail(alloc: Global, disk: &mut MemDisk, step: Step<'_>) -> Result<(), Fault> {
     let mut fields = step.fields;
     match step.word {
-        "" => Ok(Failing::Never),
-        "fail" => Ok(Failing::At(fields.number()?)),
-        "stop" => Ok(Failing::Behind {
-            calls: fields.byte()?,
-            image: fields.byte()?,
-        }),
+        "" => Ok(()),
+        "fail" => {
+            let call = fields.number()?;
+            disk.fail_at(vec![in alloc; call]?);
+            Ok(())
+        }
+        "stop" => {
+            let calls = fields.byte()?;
+            disk.stop_after(calls, fields.byte()?);
+            Ok(())
+        }
         _ => Err(Fault::Field),
     }
 }

@@ -18,7 +18,7 @@ mod table;
 mod texts;
 
 pub use certs::{cert_in, put_cert};
-pub use disks::{disk_in, disk_with, put_disk};
+pub use disks::{disk_in, put_disk};
 pub use fault::Fault;
 pub use fields::Fields;
 pub use groups::group_in;
@@ -26,4 +26,4 @@ pub use row::Row;
 pub use spelled::{put_spelled, spelled_in};
 pub use step::Step;
 pub use table::{Cases, play, tell};
-pub use texts::{first_difference, put_hex};
+pub use texts::put_hex;

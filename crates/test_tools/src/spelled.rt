@@ -90,17 +90,26 @@ fn take_plain(alloc: Global, reading: &mut Reading, byte: u8) -> Result<(), Faul
 }
 
 fn take_escape(reading: &mut Reading, byte: u8) -> Result<(), Fault> {
-    reading.state = State::Plain;
-    match byte {
-        b'r' => reading.bytes.push(b'\r')?,
-        b'n' => reading.bytes.push(b'\n')?,
-        b't' => reading.bytes.push(b'\t')?,
-        b'\\' => reading.bytes.push(b'\\')?,
-        b'x' => reading.state = State::High,
-        b'{' => reading.state = State::Count(0),
-        _ => return Err(Fault::Field),
-    }
+    reading.state = match byte {
+        b'x' => State::High,
+        b'{' => State::Count(0),
+        _ => {
+            reading.bytes.push(unescaped(byte)?)?;
+            State::Plain
+        }
+    };
     Ok(())
+}
+
+/// The byte for which this one stands behind a `\`.
+fn unescaped(byte: u8) -> Result<u8, Fault> {
+    match byte {
+        b'r' => Ok(b'\r'),
+        b'n' => Ok(b'\n'),
+        b't' => Ok(b'\t'),
+        b'\\' => Ok(b'\\'),
+        _ => Err(Fault::Field),
+    }
 }
 
 /// Has the bytes from `start` on come `count` times.
@@ -160,13 +169,13 @@ fn run_of(first: u8, bytes: &[u8]) -> usize {
 }
 
 fn put_byte(out: &mut String, byte: u8) -> Result<(), Fault> {
-    match byte {
-        b'\r' => out.push_str("\\r")?,
-        b'\n' => out.push_str("\\n")?,
-        b'\t' => out.push_str("\\t")?,
-        b'\\' => out.push_str("\\\\")?,
-        b' '..=b'~' => out.push(char::from(byte))?,
-        _ => write!(out, "\\x{byte:02x}")?,
-    }
-    Ok(())
+    let escape = match byte {
+        b'\r' => "\\r",
+        b'\n' => "\\n",
+        b'\t' => "\\t",
+        b'\\' => "\\\\",
+        b' '..=b'~' => return Ok(out.push(char::from(byte))?),
+        _ => return Ok(write!(out, "\\x{byte:02x}")?),
+    };
+    Ok(out.push_str(escape)?)
 }

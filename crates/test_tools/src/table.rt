@@ -23,6 +23,7 @@ pub fn play<T: Cases, R: Files + Print + AllocGlobal>(rt: &R, tables: &[&str]) -
 fn play_table<T: Cases, R: Files + Print + AllocGlobal>(rt: &R, table: &str) -> io::Result<()> {
     let file = format!(in rt.alloc(); "{table}.txt")?;
     let rows = fs::read_to_string(rt, file.as_str())?;
+    drop(file);
     for line in rows.lines() {
         if let Some(row) = Row::read(line) {
             tell(rt, table, &row, T::words(rt.alloc(), table, row.given))?;

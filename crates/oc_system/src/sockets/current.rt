@@ -1,6 +1,6 @@
 //! The current connection, and those whose replies have still to go out.
 
-ghost use Rattle.std.specs.Prelude.{◌<◌, ◌≤◌, length, IfOk};
+ghost use Rattle.std.specs.Prelude.{◌≡◌, ◌<◌, ◌≤◌, length, IfOk, IfSome};
 
 use super::{Awaits, Sockets, millis};
 use crate::connection::{Connection, Stage};
@@ -16,28 +16,21 @@ impl Sockets {
     pub(crate) fn read<R: Clock>(&mut self, rt: &R, buf: &mut [u8]) -> io::Result<usize>
         ensures within { IfOk result (λ n. n ≤ length buf.old) }
     {
-        match self.read_now(buf) {
-            Err(error) if error.kind() == ErrorKind::WouldBlock => {}
-            given => {
-                self.has_read = true;
-                return given;
-            }
+        if let Some(given) = self.read_now(buf) {
+            return given;
         }
-        let mut now = millis(rt);
+        let begun = millis(rt);
+        let mut now = begun;
+        let mut since = begun;
         self.watch_current();
         self.send_current();
-        let begun = now;
-        let mut since = begun;
         for _ in 0..MOST_WAITS {
-            match self.read_now(buf) {
-                Err(error) if error.kind() == ErrorKind::WouldBlock => {}
-                given => {
-                    self.has_read = true;
-                    return given;
-                }
+            if let Some(given) = self.read_now(buf) {
+                return given;
             }
             if self.is_replying(begun, now) {
                 since = now;
+                self.allow(now, FURTHER_MILLIS);
             } else if self.is_out_of_time(since, now) || self.is_wanted_elsewhere() {
                 break;
             }
@@ -53,39 +46,53 @@ impl Sockets {
     fn watch_current(&mut self) {
         if let Some(current) = &mut self.current {
             let token = current.place.saturating_add(1);
-            current.watch(self.poll.registry(), token);
+            current.watch(self.ready.registry(), token);
         }
     }
 
-    /// Reads what has come on the current connection.
-    fn read_now(&mut self, buf: &mut [u8]) -> io::Result<usize>
-        ensures within { IfOk result (λ n. n ≤ length buf.old) }
+    /// Reads what has come on the current connection; none where nothing has.
+    fn read_now(&mut self, buf: &mut [u8]) -> Option<io::Result<usize>>
+        ensures within { IfSome result (λ given. IfOk given (λ n. n ≤ length buf.old)) }
+        ensures length { length buf.new ≡ length buf.old }
     {
-        let Some(current) = &mut self.current else {
-            return Ok(0);
-        };
-        match current.read_now(buf) {
-            Err(error) if error.kind() == ErrorKind::WouldBlock => {}
-            given => return given,
+        match self.read_current(buf) {
+            Err(error) if error.kind() == ErrorKind::WouldBlock => None,
+            given => {
+                self.has_read = true;
+                Some(given)
+            }
         }
-        // More may have come while nobody looked.
-        let _came = current.take_in(&mut self.piece);
-        current.read_now(buf)
+    }
+
+    /// The same, or `WouldBlock` where nothing has come.
+    fn read_current(&mut self, buf: &mut [u8]) -> io::Result<usize>
+        ensures within { IfOk result (λ n. n ≤ length buf.old) }
+        ensures length { length buf.new ≡ length buf.old }
+    {
+        match &mut self.current {
+            Some(current) => current.read_next(buf, &mut self.piece),
+            None => Ok(0),
+        }
     }
 
     /// Whether a reply is still on its way out on the current connection: the time for a further request begins
     /// behind it. This is waited for only so long.
-    fn is_replying(&mut self, begun: u64, now: u64) -> bool {
-        let Some(current) = &mut self.current else {
-            return false;
-        };
-        let is_replying = matches!(self.awaits, Awaits::Further)
-            && current.left_to_send() > 0
-            && now < begun.saturating_add(REPLYING_MILLIS);
-        if is_replying {
-            current.until = now.saturating_add(FURTHER_MILLIS);
+    fn is_replying(&self, begun: u64, now: u64) -> bool {
+        match &self.current {
+            Some(current) => {
+                matches!(self.awaits, Awaits::Further)
+                    && current.left_to_send() > 0
+                    && now < begun.saturating_add(REPLYING_MILLIS)
+            }
+            None => false,
         }
-        is_replying
+    }
+
+    /// The current connection has so much time from now on.
+    fn allow(&mut self, now: u64, time: u64) {
+        if let Some(current) = &mut self.current {
+            current.until = now.saturating_add(time);
+        }
     }
 
     /// Whether the current connection, which has sent nothing since then, has had its time.
@@ -187,9 +194,7 @@ impl Sockets {
             Awaits::Request | Awaits::Further => FURTHER_MILLIS,
             Awaits::Body => BODY_MILLIS,
         };
-        if let Some(current) = &mut self.current {
-            current.until = now.saturating_add(time);
-        }
+        self.allow(now, time);
     }
 
     /// These bytes stand first behind a request. Only such can be the leave to send its body. A probe is no
@@ -231,7 +236,7 @@ impl Sockets {
         current.until = now.saturating_add(LEAVING_MILLIS);
         current.leave(self.alloc, now, LINGER_MILLIS);
         let place = current.place;
-        current.watch(self.poll.registry(), place.saturating_add(1));
+        current.watch(self.ready.registry(), place.saturating_add(1));
         let is_gone = current.is_gone();
         self.table.put(current);
         self.leaving = self.leaving.saturating_add(1);

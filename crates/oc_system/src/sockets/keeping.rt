@@ -8,14 +8,12 @@ use crate::limits::{
 use mio::net::TcpStream as Stream;
 use std::io::{self, ErrorKind};
 use std::rt::Clock;
-use std::time::Duration;
 
 impl Sockets {
     /// Waits until something is ready or the time is up; then takes in what came, and sends what can go out.
     /// Answers the time then.
     pub(super) fn pump<R: Clock>(&mut self, rt: &R, wait: u64) -> io::Result<u64> {
-        self.poll
-            .poll(&mut self.events, Some(Duration::from_millis(wait)))?;
+        self.ready.wait(wait)?;
         let now = millis(rt);
         self.wake(now);
         self.accept(now);
@@ -28,17 +26,10 @@ impl Sockets {
 
     /// Serves those that are ready.
     fn wake(&mut self, now: u64) {
-        self.woken.clear();
-        for event in self.events.iter() {
-            // There is room for as many as one wait gives.
-            let _noted = self.woken.push(event.token().0).is_ok();
-        }
-        for at in 0..self.woken.len() {
-            let token = self.woken.get(at).copied().unwrap_or(LISTENER);
-            if token == LISTENER {
-                self.knocks = true;
-            } else {
-                self.serve(token.saturating_sub(1), now);
+        for at in 0..self.ready.len() {
+            match self.ready.token(at) {
+                Some(LISTENER) | None => self.knocks = true,
+                Some(token) => self.serve(token.saturating_sub(1), now),
             }
         }
     }
@@ -176,7 +167,7 @@ impl Sockets {
         let mut connection = Connection::new(stream, self.alloc, place, self.last_number, until);
         connection.take_request(&mut self.piece);
         if connection.stage == Stage::Coming {
-            connection.watch(self.poll.registry(), place.saturating_add(1));
+            connection.watch(self.ready.registry(), place.saturating_add(1));
             if connection.is_broken() {
                 self.table.release(place);
                 return;

@@ -19,5 +19,5 @@ mod system_clock;
 mod table;
 
 pub use file_disk::FileDisk;
-pub use socket_link::SocketLink;
+pub use socket_link::{SocketLink, Traffic};
 pub use system_clock::SystemClock;

@@ -8,6 +8,15 @@ use std::alloc::Global;
 use std::net::{Net, TcpStream};
 use std::rt::Clock;
 
+/// How many bytes passed through the calls of a link.
+#[derive(Clone, Copy, Debug, PartialEq, Eq)]
+pub struct Traffic {
+    /// Those that were read.
+    pub came: u64,
+    /// Those that were written.
+    pub went: u64,
+}
+
 /// Sockets as a link.
 #[derive(Drop)]
 pub struct SocketLink<'a, R> {
@@ -15,6 +24,8 @@ pub struct SocketLink<'a, R> {
     alloc: Global,
     sockets: Option<Sockets>,
     dials: Dials<'a, R>,
+    came: u64,
+    went: u64,
     listening: u64,
     talking: u64,
     dialling: u64,
@@ -32,6 +43,8 @@ impl<'a, R: Net<Stream = TcpStream> + Clock> SocketLink<'a, R> {
             alloc,
             sockets: None,
             dials: Dials::new(rt, alloc),
+            came: 0,
+            went: 0,
             listening: 0,
             talking: 0,
             dialling: 0,
@@ -42,6 +55,17 @@ impl<'a, R: Net<Stream = TcpStream> + Clock> SocketLink<'a, R> {
     pub fn finish(&mut self) {
         if let Some(sockets) = &mut self.sockets {
             sockets.finish(self.rt);
+        }
+    }
+
+    /// How many bytes passed through its calls so far, over all connections.
+    pub fn traffic(&self) -> Traffic
+        ensures came { result.came ≡ self.now.came }
+        ensures went { result.went ≡ self.now.went }
+    {
+        Traffic {
+            came: self.came,
+            went: self.went,
         }
     }
 }
@@ -85,7 +109,10 @@ impl<R: Net<Stream = TcpStream> + Clock> Link for SocketLink<'_, R> {
             return Ok(0);
         };
         match sockets.read(self.rt, buf) {
-            Ok(count) => Ok(count),
+            Ok(count) => {
+                self.came = self.came.saturating_add(count as u64);
+                Ok(count)
+            }
             Err(_) => {
                 self.talking = self.talking.saturating_add(1);
                 Err(Failed)
@@ -96,6 +123,7 @@ impl<R: Net<Stream = TcpStream> + Clock> Link for SocketLink<'_, R> {
     fn write(&mut self, bytes: &[u8]) -> Result<usize, Failed> {
         if let Some(sockets) = &mut self.sockets {
             if let Ok(count) = sockets.write(self.rt, bytes) {
+                self.went = self.went.saturating_add(count as u64);
                 return Ok(count);
             }
         }
@@ -111,7 +139,10 @@ impl<R: Net<Stream = TcpStream> + Clock> Link for SocketLink<'_, R> {
 
     fn dial(&mut self, address: &str, bytes: &[u8]) -> Result<(), Failed> {
         match self.dials.reach(address, bytes, self.sockets.is_some()) {
-            Ok(()) => Ok(()),
+            Ok(()) => {
+                self.went = self.went.saturating_add(bytes.len() as u64);
+                Ok(())
+            }
             Err(_) => {
                 self.dials.hang_up();
                 self.dials.give_up(&mut self.sockets);
@@ -123,7 +154,10 @@ impl<R: Net<Stream = TcpStream> + Clock> Link for SocketLink<'_, R> {
 
     fn dial_more(&mut self, bytes: &[u8]) -> Result<(), Failed> {
         match self.dials.ask(bytes) {
-            Ok(()) => Ok(()),
+            Ok(()) => {
+                self.went = self.went.saturating_add(bytes.len() as u64);
+                Ok(())
+            }
             Err(_) => {
                 self.dials.give_up(&mut self.sockets);
                 self.dialling = self.dialling.saturating_add(1);
@@ -136,6 +170,7 @@ impl<R: Net<Stream = TcpStream> + Clock> Link for SocketLink<'_, R> {
         match self.dials.hear(buf) {
             Ok(count) => {
                 self.dials.tell_work(&mut self.sockets);
+                self.came = self.came.saturating_add(count as u64);
                 Ok(count)
             }
             Err(_) => {

@@ -42,6 +42,13 @@ fn put_words(alloc: Global, table: &str, given: &str, said: &mut String) -> Resu
 }
 
 fn main(rt: HostRuntime) -> io::Result<()> {
-    let tables = ["clocks", "links", "rates", "peers", "probes", "conversations"];
+    let tables = [
+        "clocks",
+        "links",
+        "rates",
+        "peers",
+        "probes",
+        "conversations",
+    ];
     play::<Rows, _>(&rt, &tables)
 }

@@ -1,11 +1,14 @@
-use Rattle.std.proofs.Common.{◌≡◌, ◌⊎◌, ◌∙◌, ap, subst, sym}
+use Rattle.std.proofs.Common.{◌≡◌, ℕ, ◌⊎◌, inl, inr, ◌∙◌, ap, subst, sym}
 use Rattle.oc_keep.specs.Files.{disks}
 use Rattle.oc_commands.specs.AtNode.{HasServiceStatus}
 use Rattle.oc_commands.specs.AtReplay.{HasStatus}
 use Rattle.oc_commands.specs.AtRules.{HasConfigStatus}
 use Rattle.oc_commands.specs.Complete.{IsDoneOrMemory}
+use Rattle.oc_commands.specs.Ends.{status_of}
 use Rattle.oc_commands.specs.Outside.{at_clock, at_files, at_link, at_node, at_sink, at_source, at_stage, seen}
 use Rattle.oc_commands.specs.Status.{number_of}
+use Rattle.oc_commands.specs.declared.ending.End.{End}
+use Rattle.oc_commands.specs.declared.ending.End.TheVariants.{Misused, NoMemory}
 use Rattle.oc_words.specs.Words.{asked, texts_of}
 use Rattle.oc_words.proofs.PlainWords.{plain_asks}
 use Rattle.oc_commands.proofs.Completes.{checked, fetched}
@@ -13,6 +16,41 @@ use Rattle.oc_commands.proofs.Serves.{served}
 use Rattle.oc_commands.proofs.Statuses.{only_misused}
 use Rattle.oc_commands.proofs.Works.{helped, listed, replayed}
 use Rattle.oc_program.proofs.running.run.Goals as goal
+
+-- a number that is that of an end is 2 or 4 where this is one of the two
+misused_number : (number : ℕ) (end : End) → number ≡ number_of (status_of end) → (end ≡ Misused) ⊎ (end ≡ NoMemory) → (number ≡ 2) ⊎ (number ≡ 4)
+misused_number number end said (inl is) = inl (said ∙ ap (λ e. number_of (status_of e)) is)
+misused_number number end said (inr is) = inr (said ∙ ap (λ e. number_of (status_of e)) is)
+
+pub returns-clause-ended : goal.returns-clause-ended
+returns-clause-ended g c = let (usage, written) = c.tell.ensures.told in
+    (c.perform-end.result, usage, c.number.ensures ∙ ap number_of c.status.ensures, written, c.perform-end.ensures.happened)
+
+pub returns-clause-misused : goal.returns-clause-misused
+returns-clause-misused g c = λ nothing.
+    misused_number _ c.perform-end.result (c.number.ensures ∙ ap number_of c.status.ensures) (c.perform-end.ensures.misused nothing)
+
+pub returns-clause-input_count : goal.returns-clause-input_count
+returns-clause-input_count g c = c.perform-end.ensures.input_count
+
+pub returns-clause-error_count : goal.returns-clause-error_count
+returns-clause-error_count g c = c.tell.ensures.count
+
+pub returns-clause-output_count : goal.returns-clause-output_count
+returns-clause-output_count g c = c.perform-end.ensures.output_count
+
+pub returns-clause-only_misused : goal.returns-clause-only_misused
+returns-clause-only_misused g c = λ is.
+    only_misused (record {
+      asked = asked (texts_of c.args.words.now);
+      input = at_source g.S.Source.gives g.S.Source.fails g.S.Source.ended g.S.Source.faults c.args.input.now c.perform-end.new.input;
+      output = at_sink g.K.Sink.takes g.K.Sink.fails g.K.Sink.faults c.args.out.now c.perform-end.new.out;
+      stage = at_stage g.T.Stage.first g.T.Stage.after g.T.Stage.word g.T.Stage.world c.args.stage.now c.perform-end.new.stage;
+      files = at_files g.D.Disk.view (disks c.args.control_a.now c.args.control_b.now c.args.content.now) (disks c.perform-end.new.control_a c.perform-end.new.control_b c.perform-end.new.content);
+      link = at_link g.L.Link.story g.L.Link.faults c.args.link.now c.perform-end.new.link;
+      clock = at_clock c.args.clock.now c.perform-end.new.clock;
+      node = at_node g.D.Disk.view (disks c.args.control_a.now c.args.control_b.now c.args.content.now) (disks c.perform-end.new.control_a c.perform-end.new.control_b c.perform-end.new.content) (seen g.L.Link.story g.L.Link.faults g.C.Clock.seconds g.C.Clock.milliseconds c.args.link.now c.args.clock.now) (seen g.L.Link.story g.L.Link.faults g.C.Clock.seconds g.C.Clock.milliseconds c.perform-end.new.link c.perform-end.new.clock);
+    }) c.perform-end.result (sym (c.number.ensures ∙ ap number_of c.status.ensures) ∙ is) c.perform-end.ensures.happened
 
 pub returns-clause-plain : goal.returns-clause-plain
 returns-clause-plain g c = λ plain is.

@@ -33,7 +33,9 @@ pub fn words(alloc: Global, given: &str) -> Result<String, Fault> {
 /// Plays a row, and puts what each step says.
 fn play(alloc: Global, mut fields: Fields<'_>, said: &mut String) -> Result<(), Fault> {
     let mut node = node_in(alloc, &mut fields)?;
-    act_all(alloc, &mut node, fields, said)
+    let acted = act_all(alloc, &mut node, fields, said);
+    drop(node);
+    acted
 }
 
 /// Does the steps behind the group that is held, with a space behind what each says.
@@ -82,8 +84,13 @@ fn recovered(alloc: Global, me: NodeId, chain: u32, list: &[Record]) -> Result<N
     }
     let areas = vec![in alloc; 0, 0, 4, 0, 0]?;
     let mut node = Node::new(alloc, me, NODES, chain, areas)?;
-    node.recover(list)?;
-    Ok(node)
+    match node.recover(list) {
+        Ok(()) => Ok(node),
+        Err(_) => {
+            drop(node);
+            Err(Fault::Memory)
+        }
+    }
 }
 
 /// Does a step, and puts what it says.
@@ -245,5 +252,7 @@ fn put_recovered(
 {
     write!(said, "{list:?} ")?;
     let again = recovered(alloc, node.id(), node.chain(), list)?;
-    put_state(&again, said)
+    let put = put_state(&again, said);
+    drop(again);
+    put
 }

@@ -141,7 +141,7 @@ fn put_spot<D: Disk>(
     }
 }
 
-/// Puts the bytes of a group from a place on, read in pieces of at most so many, or the error.
+/// Puts the bytes of a group from a place on, read in pieces of at most the given size, or the error.
 fn read<D: Disk>(
     alloc: Global,
     content: &mut Content<D>,

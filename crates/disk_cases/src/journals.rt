@@ -112,7 +112,7 @@ fn restart<D: Disk>(journal: &mut Journal<D>, said: &mut String) -> Result<(), F
     Ok(())
 }
 
-/// Puts the bytes of the body of a frame, from a place on, at most so many.
+/// Puts the bytes of the body of a frame, from a place on, at most the given number.
 fn peek<D: Disk>(
     alloc: Global,
     journal: &mut Journal<D>,

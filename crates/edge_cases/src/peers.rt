@@ -10,7 +10,7 @@ use test_tools::{Fault, Fields, Step};
 /// The number of peers of the gauge.
 const PEERS: u32 = 3;
 
-/// The rates of so many peers.
+/// The rates of three peers.
 #[derive(Drop)]
 struct Rates {
     gauge: Gauge,

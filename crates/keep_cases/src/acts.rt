@@ -9,7 +9,7 @@ use oc_wire::decode;
 use std::alloc::Global;
 use test_tools::{Fault, Step};
 
-/// The input of a step such as `move:1`, to this one of so many nodes: an act line of a schedule without the
+/// The input of a step such as `move:1`, to this one of `NODES` nodes: an act line of a schedule without the
 /// node, with commas for spaces.
 pub fn act_in<const NODES: u32>(alloc: Global, step: Step<'_>, me: NodeId) -> Result<Input, Fault>
     ensures { IfOk result (λ input. IsInput NODES me input) }
@@ -24,7 +24,7 @@ pub fn act_in<const NODES: u32>(alloc: Global, step: Step<'_>, me: NodeId) -> Re
     }
 }
 
-/// The message of these bytes, which is to this one of so many nodes.
+/// The message of these bytes, which is to this one of `NODES` nodes.
 pub fn delivery_in<const NODES: u32>(
     alloc: Global,
     bytes: &[u8],

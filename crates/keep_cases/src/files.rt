@@ -1,6 +1,6 @@
 //! The files of a node, and the node that is loaded from them.
 //!
-//! Where a node or its files are let go by a call of `drop`, less has to be proved than where they go out of
+//! Where a node or its files are dropped by a call of `drop`, less has to be proved than where they go out of
 //! scope.
 
 use crate::disks::RowDisk;

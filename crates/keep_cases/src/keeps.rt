@@ -59,7 +59,7 @@ fn play_loaded<D: RowDisk>(
     }
 }
 
-/// Does the steps, with a space behind what each says.
+/// Does the steps, with a space after what each says.
 fn act_all<D: Disk>(
     alloc: Global,
     kept: &mut Kept<D>,
@@ -137,7 +137,7 @@ fn tidy<D: Disk>(kept: &mut Kept<D>, said: &mut String) -> Result<(), Fault> {
     Ok(write!(said, "{turned:?}")?)
 }
 
-/// Takes so many measurements of node 1, with hops 1 and the rates 1, 2, 1, 2 and so on.
+/// Takes the given number of measurements of node 1, with hops 1 and the rates 1, 2, 1, 2 and so on.
 fn measure<D: Disk>(
     alloc: Global,
     kept: &mut Kept<D>,
@@ -157,7 +157,7 @@ fn measure<D: Disk>(
     Ok(write!(said, "{count}")?)
 }
 
-/// Reads bytes of a group, from a place on, at most so many, and puts them or the error.
+/// Reads bytes of a group, from a place on, at most the given number, and puts them or the error.
 fn read<D: Disk>(
     alloc: Global,
     kept: &mut Kept<D>,

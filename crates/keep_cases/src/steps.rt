@@ -38,7 +38,7 @@ fn play(alloc: Global, mut fields: Fields<'_>, said: &mut String) -> Result<(), 
     acted
 }
 
-/// Does the steps behind the group that is held, with a space behind what each says.
+/// Does the steps after the group that is held, with a space after what each says.
 fn act_all(
     alloc: Global,
     node: &mut Node,
@@ -232,7 +232,7 @@ fn put_state(node: &Node, said: &mut String) -> Result<(), Fault> {
     Ok(write!(said, "{:?}", node.ancestors())?)
 }
 
-/// Puts a snapshot of a node, and how the node stands that recovers from it.
+/// Puts a snapshot of a node, and the state of the node that recovers from it.
 fn recover_again(alloc: Global, node: &Node, said: &mut String) -> Result<(), Fault> {
     if node.log().length() > MAX_BASE_ACKED || node.nodes() != NODES {
         return Err(Fault::Unready);
@@ -241,7 +241,7 @@ fn recover_again(alloc: Global, node: &Node, said: &mut String) -> Result<(), Fa
     put_recovered(alloc, node, &list, said)
 }
 
-/// Puts these records of a node, and how the node stands that recovers from them.
+/// Puts these records of a node, and the state of the node that recovers from them.
 fn put_recovered(
     alloc: Global,
     node: &Node,

@@ -55,7 +55,7 @@ fn put_all<D: RowDisk>(
     Ok(())
 }
 
-/// The words of the input where it is stopped after so many calls with this image.
+/// The words of the input where it is stopped after `calls` calls with this image.
 fn left_behind<D: RowDisk>(
     alloc: Global,
     stopped: &Stopped<'_>,
@@ -94,7 +94,7 @@ fn letter(left: &str, old: &str, new: &str) -> char {
     }
 }
 
-/// What files recover, which words name behind what the step says.
+/// What files recover, which words tell after what the step says.
 fn recovered(words: &str) -> &str {
     words.split_once('[').unwrap_or(("", words)).1
 }

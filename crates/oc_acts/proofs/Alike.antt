@@ -15,7 +15,7 @@ of_other_length a b other = elim (cases_Bool (bytes_eq a b)) [
   | inr apart ↦ apart
 ]
 
--- a byte and those behind it
+-- a byte and those after it
 next : (a : List ℕ) (i : ℕ) → i < length a → drop i a ≡ slice_index a i ∷ drop (i + 1) a
 next a i inside = rw (add-one, drop-cons a i 0) refl
 
@@ -28,7 +28,7 @@ heads_apart x y xs ys e = let apart : (x == y) ≡ false = grind (arith, nat_tes
 from_heads : (a b : List ℕ) (i : ℕ) → i < length a → i < length b → bytes_eq (drop i a) (drop i b) ≡ bytes_eq (slice_index a i ∷ drop (i + 1) a) (slice_index b i ∷ drop (i + 1) b)
 from_heads a b i ia ib = ap (λ (x : List ℕ). bytes_eq x (drop i b)) (next a i ia) ∙ ap (λ (y : List ℕ). bytes_eq (slice_index a i ∷ drop (i + 1) a) y) (next b i ib)
 
--- behind a byte that is the same, what is left decides
+-- after a byte that is the same, what is left decides
 pub same_here : (a b : List ℕ) (i : ℕ) → i < length a → length a ≡ length b → slice_index a i ≡ slice_index b i → bytes_eq (drop (i + 1) a) (drop (i + 1) b) ≡ bytes_eq (drop i a) (drop i b)
 same_here a b i inside long e = sym (from_heads a b i inside (omega (arith, inside, long)) ∙ heads_same (slice_index a i) (slice_index b i) (drop (i + 1) a) (drop (i + 1) b) e)
 

@@ -44,7 +44,7 @@ plain_append : (a c : List ℕ) → IsPlain a → IsPlain c → IsPlain (a ++ c)
 plain_append [] c pa pc = pc
 plain_append (x ∷ a) c pa pc = (pa.0, plain_append a c pa.1 pc)
 
--- the words behind the first
+-- the words after the first
 plain_more : (ws : List (List ℕ)) → AreWords ws → IsPlain (flat_map (λ w. codes " " ++ w) ws)
 plain_more [] h = tt
 plain_more (w ∷ ws) h =

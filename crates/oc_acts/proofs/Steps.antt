@@ -1,7 +1,7 @@
 use Rattle.std.proofs.Common.{◌≡◌, Bool, true, false, cond, ◌⊎◌, inl, inr, Result, Ok, Err, refl}
 use Rattle.oc_base.specs.Steps.{◌>>=◌}
 
--- What an `Ok` behind some steps shows.
+-- What an `Ok` after some steps shows.
 
 -- the first step gave a value, and the second what is given
 pub steps : {A B E P : Type 0} (r : Result A E) (f : A → Result B E) (y : B) → (r >>= f) ≡ Ok y → ((x : A) → r ≡ Ok x → f x ≡ Ok y → P) → P

@@ -139,7 +139,7 @@ fn deliver(fields: &[u8]) -> Result<Act, LineFault>
     })
 }
 
-/// The act that a line of this word and these fields says, in a run of so many nodes, or the first
+/// The act that a line of this word and these fields says, in a run of `nodes` nodes, or the first
 /// cause for which it says none.
 pub fn act(alloc: Global, nodes: u32, word: &[u8], fields: &[u8]) -> Result<Act, LineFault>
     ensures { GivesLine result (act_in nodes word.now (words fields.now)) }

@@ -22,6 +22,6 @@ rises_then a b c m n k e (inl p) (inr q) = inr (q.0, omega (arith, e, p, q.1))
 rises_then a b c m n k e (inr p) (inl q) = inr (omega (arith, q, p.0), omega (arith, e, p.1))
 rises_then a b c m n k e (inr p) (inr q) = inr (q.0, omega (arith, e, p.1))
 
--- bytes behind bytes
+-- bytes and then further bytes
 pub Rises-then : (a b c : ℕ) (x y : List ℕ) → Rises a (length x) b → Rises b (length y) c → Rises a (length (x ++ y)) c
 Rises-then a b c x y p q = rises_then a b c (length x) (length y) (length (x ++ y)) (length-append x y) p q

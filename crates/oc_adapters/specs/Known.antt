@@ -9,7 +9,7 @@ pub Consumes-none : (a : Option (List ℕ)) → Consumes a a []
 Consumes-none None = tt
 Consumes-none (Some xs) = refl
 
--- bytes behind bytes were consumed
+-- bytes and then further bytes were consumed
 pub Consumes-then : (a b c : Option (List ℕ)) (x y : List ℕ) → Consumes a b x → Consumes b c y → Consumes a c (x ++ y)
 Consumes-then None b c x y p q = tt
 Consumes-then (Some xs) None c x y p q = absurd p
@@ -21,7 +21,7 @@ pub Appends-none : (a : Option (List ℕ)) → Appends a a []
 Appends-none None = tt
 Appends-none (Some xs) = sym (append-nil xs)
 
--- bytes behind bytes were appended
+-- bytes and then further bytes were appended
 pub Appends-then : (a b c : Option (List ℕ)) (x y : List ℕ) → Appends a b x → Appends b c y → Appends a c (x ++ y)
 Appends-then None b c x y p q = tt
 Appends-then (Some xs) None c x y p q = absurd p

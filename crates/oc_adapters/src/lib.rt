@@ -1,4 +1,4 @@
-//! What stands between a program and the system: any reader as a source, and any writer as a sink.
+//! What lies between a program and the system: any reader as a source, and any writer as a sink.
 //!
 //! Their relations are std's own words. From one moment to a later one a [`ReaderSource`] gave the bytes
 //! that its reader lost of those that it had left, and a [`WriterSink`] took the bytes by which its writer

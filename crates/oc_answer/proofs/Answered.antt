@@ -128,7 +128,7 @@ replied_to view k0 k1 i outcome addresses asked last said kept answer reply a b 
 
 -- A reply that was cut
 
--- a front of the response that was made
+-- a prefix of the response that was made
 pub response_cut : (asked : Asks) (response wanted : Response) (groups : List Group) (end : TurnEnd) (a b : Option Story) → response ≡ wanted → (Fits asked response.content groups → WritesUntil end (whole_text asked response groups) a b)
     → Fits asked wanted.content groups → WritesUntil end (whole_text asked wanted groups) a b
 response_cut asked response wanted groups end a b is wrote fits =

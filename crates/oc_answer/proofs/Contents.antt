@@ -91,7 +91,7 @@ some_written m bytes some few =
     rw (ne_eqb (length bytes) 0 (λ (e : length bytes ≡ 0). omega arith))
     (ap (λ (rest : List ℕ). chunk_written (take 4096 bytes) ++ rest) (enough m (length (drop 4096 bytes)) (drop 4096 bytes) (omega (arith, length-drop 4096 bytes)) (omega arith)))
 
--- the first chunk, and those behind it
+-- the first chunk, and those after it
 first_chunk : (bytes : List ℕ) → 0 < length bytes → chunks bytes ≡ chunk_written (take 4096 bytes) ++ chunks (drop 4096 bytes)
 first_chunk bytes some =
     enough (length bytes) (suc (length bytes)) bytes (omega arith) (omega arith)
@@ -101,7 +101,7 @@ no_chunks : chunks [] ≡ []
 unfolding chunks_written
 no_chunks = refl
 
--- whole chunks, and what stands behind them
+-- whole chunks, and what follows them
 chunks_append : (k : ℕ) (front rest : List ℕ) → length front ≡ k * 4096 → chunks (front ++ rest) ≡ chunks front ++ chunks rest
 chunks_append zero [] rest long = ap (λ (x : List ℕ). x ++ chunks rest) (sym no_chunks)
 chunks_append zero (b ∷ front) rest long = absurd (omega arith)
@@ -118,7 +118,7 @@ chunks_append (suc k) front rest long =
 
 -- Pieces
 
--- the first bytes, and those behind them
+-- the first bytes, and those after them
 take_split : (w left : ℕ) (bytes : List ℕ) → w ≤ left → take left bytes ≡ take w bytes ++ take (left - w) (drop w bytes)
 take_split zero left bytes few = subst (λ (n : ℕ). take left bytes ≡ take n bytes) (omega arith) refl
 take_split (suc w) zero bytes few = absurd (omega arith)
@@ -231,7 +231,7 @@ said_with asked response content groups whole last text a b c is went same said 
     subst (λ (x : Option Content). SaysOn last (content_text asked x groups) b c) (sym is) (behind (subst (λ (x : Option Content). Fits asked x groups) is fits)) in
     says_then last response.text (content_text asked response.content groups) a b c front rest
 
--- so much of a content was sent
+-- this much of a content was sent
 pub record Sent (chunked : Bool) (g : List ℕ) (ks : List Group) (start count at left : ℕ) (old new : Option Story) : Type 0 where
   pub said : List ℕ
   pub went : SaysOn true said old new
@@ -267,17 +267,17 @@ sent_all chunked g ks start count at left a b none sent =
     subst (λ (x : List ℕ). SaysOn true x a b)
     (sym (sent.whole ∙ ap (λ (n : ℕ). sent.said ++ pieces chunked (part_of g at n ks)) none ∙ ap (λ (x : List ℕ). sent.said ++ x) (none_left chunked g at ks) ∙ append-nil sent.said)) sent.went
 
--- so much of it is a front
+-- this much of it is a prefix
 pub sent_front : (chunked : Bool) (g : List ℕ) (ks : List Group) (start count at left : ℕ) (a b : Option Story) → Sent chunked g ks start count at left a b → WritesFront (pieces chunked (part_of g start count ks)) a b
 sent_front chunked g ks start count at left a b sent =
     subst (λ (x : List ℕ). WritesFront x a b) (sym sent.whole) (front_longer sent.said (pieces chunked (part_of g at left ks)) a b (front_said true sent.said a b sent.went))
 
--- a front of the pieces of a content is one of the content
+-- a prefix of the pieces of a content is one of the content
 pub coded_front : (chunked : Bool) (bytes : List ℕ) (a b : Option Story) → WritesFront (pieces chunked bytes) a b → WritesFront (coded chunked bytes) a b
 coded_front true bytes a b wrote = front_longer (pieces true bytes) end_written a b wrote
 coded_front false bytes a b wrote = wrote
 
--- a front of a content behind the text of its response
+-- a prefix of a content after the text of its response
 pub text_front : (asked : Asks) (response : Response) (content : Content) (groups : List Group) (whole : Bool) (text : List ℕ) (a b c : Option Story) → response.content ≡ Some content → whole ≡ true → text ≡ response.text → SaysOn whole text a b
     → (Fits asked (Some content) groups → WritesFront (content_text asked (Some content) groups) b c) → Fits asked response.content groups → WritesFront (whole_text asked response groups) a c
 text_front asked response content groups whole text a b c is went same said behind fits =

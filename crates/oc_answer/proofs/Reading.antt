@@ -29,7 +29,7 @@ use Rattle.oc_answer.proofs.Written.{hears_on, until_on}
 
 -- Texts that are said
 
--- a call that failed had taken a front
+-- a call that failed had taken a prefix
 cut_told : (n : ℕ) (bytes : List ℕ) (a b : Option Story) → Told (OnCurrent (SaysThenBreaks (take n bytes))) a b → Told (OnCurrent (SaysFrontThenBreaks bytes)) a b
 cut_told n bytes a None told = tt
 cut_told n bytes None (Some b) told = absurd told
@@ -54,7 +54,7 @@ says_nothing (Some s) = record { current = nothing s.current; rest = refl }
     nothing : (c : Option Connection) → Says [] c c
     nothing c = Says-nothing c
 
--- one text behind another
+-- one text after another
 front_then : (x y : List ℕ) (a b c : Option Connection) → Says x a b → SaysFrontThenBreaks y b c → SaysFrontThenBreaks (x ++ y) a c
 front_then x y a b c said (front, rest, is, (between, spoke, breaks)) =
     (x ++ front, rest, ap (λ (t : List ℕ). x ++ t) is ∙ sym (append_assoc x front rest), (between, Says-then x front a b between said spoke, breaks))
@@ -63,7 +63,7 @@ pub says_then : (whole : Bool) (x y : List ℕ) (a b c : Option Story) → SaysO
 says_then true x y a b c p q = Told-then (OnCurrent (Says x)) (OnCurrent (Says y)) (OnCurrent (Says (x ++ y))) (OnCurrent-then (Says x) (Says y) (Says (x ++ y)) (Says-then x y)) a b c p q
 says_then false x y a b c p q = Told-then (OnCurrent (Says x)) (OnCurrent (SaysFrontThenBreaks y)) (OnCurrent (SaysFrontThenBreaks (x ++ y))) (OnCurrent-then (Says x) (SaysFrontThenBreaks y) (SaysFrontThenBreaks (x ++ y)) (front_then x y)) a b c p q
 
--- a front of a text is one of a longer text
+-- a prefix of a text is one of a longer text
 pub says_cut : (x y : List ℕ) (a b : Option Story) → SaysOn false x a b → SaysOn false (x ++ y) a b
 says_cut x y a None told = tt
 says_cut x y None (Some b) told = absurd told
@@ -198,7 +198,7 @@ body_silent view old new (Ok body) count st st2 came refused a b = rw (a, b) (he
 body_silent view old new (Err fault) count st st2 came refused a b =
     let r = body_refused view old new count fault refused in rw (a, b) (until_on fault r.0 (view old).story (view new).story r.1)
 
--- a body that was not read, behind the leave to send it
+-- a body that was not read, after the leave to send it
 pub no_body : (head : Head) (fault : HttpFault) (a b c : Option Story) → SaysOn true (leave_for head) a b
     → ((bytes : List ℕ) × HearsUntil fault bytes b c × RefusesBody head.length bytes (HasEnded c) fault) → NoBody head (fault_of_http fault) a c
 no_body head http.Memory a b c leave refused = tt

@@ -1,4 +1,4 @@
--- The requests of a connection, one behind the other.
+-- The requests of a connection, one after the other.
 use Rattle.std.proofs.Common.{◌≡◌, ◌<◌, ℕ, ◌+◌, false, true, not, ◌||◌, Bool, Some, None, Ok, Err, Option, Result, List, [], ◌∷◌, ◌++◌, length, inl, inr, refl, sym, ap, subst, ◌∙◌, arith}
 use Rattle.oc_http.specs.Taking.{SaysRequest}
 use Rattle.oc_http.specs.declared.framing.Connection.{Connection}
@@ -43,7 +43,7 @@ use Rattle.oc_answer.specs.declared.requests.Request.{Request}
 
 -- Reading
 
--- what is read behind a head, with the head
+-- what is read after a head, with the head
 pub behind_reads : (t : Terms) (number : ℕ) (head : Head) (bytes : List ℕ) (a b c : Option Story) (r : Result (Option Request) RouteFault) → HearsOn bytes a b → SaysRequest bytes head
     → ReadsBehind t number head r b c → Reads t number r a c
 behind_reads t number head bytes a b c (Ok (Some request)) heard says (body, asks_are, behind, input_is, last_is) = record {
@@ -138,7 +138,7 @@ module _ {D K : Type 0} (view : D → DiskView) (takes fails : K → List ℕ �
     done = λ honest. let done = did.done honest in (done.0, does_before (setting k addresses) d (node_of k) o a b done.0 is talked done.1, done.2);
   }
 
-  -- the same where it ended behind the deed
+  -- the same where it ended after the deed
   pub still_behind : (end : TurnEnd) (under : Under) (d : Deed) (k : KeptView D) (o : List Message) (sink : K) (a b : Outside) (c : Scene D K) → IsRequest d → TalksOnly a b
       → EndsStill view takes fails count addresses end (d ∷ []) under (scene k o sink b) c → EndsStill view takes fails count addresses end (d ∷ []) under (scene k o sink a) c
   still_behind end under d k o sink a b c is talked (kept, outbox, after, did, stops, meets) =
@@ -194,7 +194,7 @@ cuts_input addresses request i end under (deeds.Dials m x) n a b is cut = absurd
 cuts_input addresses request i end under deeds.Empties n a b is cut = absurd cut
 cuts_input addresses request i end under (deeds.Probes p h x) n a b is cut = absurd cut
 
--- a request that is refused, and ended in the line that tells it, behind which nothing was written yet
+-- a request that is refused, and ended in the line that tells it, after which nothing was written yet
 pub refused_at : {K : Type 0} (t : Terms) (number : ℕ) (refused : Refused) (takes fails : K → List ℕ → K → Type 0) (count : K → ℕ) (end : TurnEnd) (a b c : Option Story) (sink after : K) → c ≡ b
     → IsRefused t number refused a b → NoteStops takes fails count end (why_text refused) sink after → CutsHearing t number end (note_under end (note_line (why_text refused))) a c
 refused_at t number refused takes fails count ends.Sink a b c sink after same is stops = (refused, subst (λ (x : Option Story). IsRefused t number refused a x) (sym same) is, refl)
@@ -205,7 +205,7 @@ refused_at t number refused takes fails count ends.Link a b c sink after same is
 refused_at t number refused takes fails count ends.Disk a b c sink after same is stops = absurd stops
 refused_at t number refused takes fails count ends.Full a b c sink after same is stops = absurd stops
 
--- Requests one behind the other
+-- Requests one after the other
 
 -- one more request that kept the connection
 pub keeps_one : (t : Terms) (addresses : List (List ℕ)) (number : ℕ) (ds : List Deed) (d : Deed) (n : Node) (a b c : Option Story)
@@ -293,7 +293,7 @@ terms_stay a b rules same =
     ∙ ap (λ (h : Header). terms_of a.node.control.me h.nodes rules) same.header
 
 module _ {D K : Type 0} (view : D → DiskView) (takes fails : K → List ℕ → K → Type 0) (count : K → ℕ) where
-  -- what is said of a request by the node behind some deeds
+  -- what is said of a request by the node after some deeds
   pub serves_then : (rules : List Rule) (addresses : List (List ℕ)) (number : ℕ) (ds : List Deed) (d : Deed) (kept : Connection) (a b : Scene D K) (st st2 : Option Story) → Did view takes count [] ds a b → IsHonest view a.kept
       → (IsHonest view b.kept → Serves (terms b.kept rules) addresses number d kept (node_of b.kept) st st2)
       → Serves (terms a.kept rules) addresses number d kept (after_inputs (node_of a.kept) (inputs_of ds)) st st2

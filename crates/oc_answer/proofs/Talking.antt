@@ -110,7 +110,7 @@ module _ {D K : Type 0} (view : D → DiskView) (takes fails : K → List ℕ �
           ∙ ap (λ (x : OutcomeView). sight_of (step (node_of k0) i).node (with_messages o (for_outbox i x.sends)) (outside_of st2 f2 seconds millis)) (took.kept.outcome_is honest)
 
 module _ {D K : Type 0} (view : D → DiskView) (takes fails : K → List ℕ → K → Type 0) (count : K → ℕ) where
-  -- it ended behind the line of the input
+  -- it ended after the line of the input
   pub reply_ends : (takes_nothing : (k : K) → takes k [] k) (end : TurnEnd) (k k2 : KeptView D) (s s2 : K)
       → ReplyStops view takes fails count end k k2 s s2 → Stops view takes fails count ⊥ end [] (reply_under end) k k2 s s2 × MeetsFull view end (reply_under end) k k2
   reply_ends takes_nothing ends.Disk k k2 s s2 so = (record { text = subst (λ (x : K). takes s [] x) (sym so.cause.1) (takes_nothing s); leaves = so.leaves; goes_on = so.goes_on; cause = so.cause.0 }, tt)
@@ -153,7 +153,7 @@ took_talked view old new bytes http.Source took = talks_talked (HearsThenBreaks 
 took_talked view old new bytes fault took = talks_talked (Hears bytes) (view old) (view new) took
 
 module _ {D K : Type 0} (view : D → DiskView) (takes fails : K → List ℕ → K → Type 0) (count : K → ℕ) (addresses : List (List ℕ)) where
-  -- a talk behind deeds
+  -- a talk after deeds
   pub talk_behind : (takes_nothing : (k : K) → takes k [] k) (takes_then : (a b c : K) (x y : List ℕ) → takes a x b → takes b y c → takes a (x ++ y) c)
       → (ds : List Deed) (a : Scene D K) (k : KeptView D) (o : List Message) (s : K) (st st2 : Option Story) (f f2 : LinkFaults) (seconds millis : Series)
       → Did view takes count addresses ds a (scene k o s (outside_of st f seconds millis)) → Talked st st2 f f2
@@ -192,7 +192,7 @@ pub closed_by : (st st2 : Option Story) (f f2 : LinkFaults) → st2 ≡ option_m
 closed_by st st2 f f2 is same =
     subst (λ (x : Option Story). Talked st x f f2) (sym is) (subst (λ (x : LinkFaults). Talked st (option_map closed st) f x) (sym same) (closed_talked st f))
 
--- counts of talks, one behind another
+-- counts of talks, one after another
 pub counts_then : (f g h : LinkFaults) → CountsTalking f g → CountsTalking g h → CountsTalking f h
 counts_then f g h p q = record {
   listening = q.listening ∙ p.listening;
@@ -215,7 +215,7 @@ module _ {D K : Type 0} (view : D → DiskView) (takes fails : K → List ℕ �
   pub memory_reply : (k : KeptView D) (s : K) → (IsHonest view k → NodeSurvives view k (node_of k)) → ReplyStops view takes fails count ends.Memory k k s s
   memory_reply k s survives = record { goes_on = go_on_none view (disks_of k); leaves = survives; cause = (tt, refl) }
 
-  -- the output failed in the line behind a reply whose write failed
+  -- the output failed in the line after a reply whose write failed
   pub line_reply : (end : TurnEnd) (k k2 : KeptView D) (s s2 : K) → LooksOnly view k k2 → (k2.closed ≡ false → IsHonest view k2 → NodeSurvives view k2 (node_of k2)) → LineStops takes fails count end (failed_line true) s s2 → ReplyStops view takes fails count end k k2 s s2
   line_reply ends.Sink k k2 s s2 looks survives stops = record {
     goes_on = looks.goes_on;

@@ -95,7 +95,7 @@ front_said false text a b said = cut a b said
         let c = told.current in
         (c.0, (c.1, c.2), record { current = breaks_writes c.0 x.current c.3.0 y.current (says_writes c.0 x.current c.3.0 c.3.1) c.3.2; rest = told.rest })
 
--- a silence behind a front
+-- a silence after a prefix
 pub front_then : (text : List ℕ) (a b c : Option Story) → WritesFront text a b → Told (OnCurrent (Writes [])) b c → WritesFront text a c
 front_then text a b c (front, is, wrote) silent =
     (front, is, subst (λ (x : List ℕ). Told (OnCurrent (Writes x)) a c) (append-nil front) (on_then (Writes front) (Writes []) (Writes (front ++ [])) (writes_then front []) a b c wrote silent))
@@ -103,11 +103,11 @@ front_then text a b c (front, is, wrote) silent =
 pub front_still : (text : List ℕ) (a b c : Option Story) → WritesFront text a b → c ≡ b → WritesFront text a c
 front_still text a b c wrote same = subst (λ (x : Option Story). WritesFront text a x) (sym same) wrote
 
--- a front behind a silence
+-- a prefix after a silence
 pub front_behind : (text : List ℕ) (a b c : Option Story) → Told (OnCurrent (Writes [])) a b → WritesFront text b c → WritesFront text a c
 front_behind text a b c silent (front, is, wrote) = (front, is, on_then (Writes []) (Writes front) (Writes front) (writes_then [] front) a b c silent wrote)
 
--- a front of a text behind another text
+-- a prefix of a text after another text
 pub text_then : (x y : List ℕ) (a b c : Option Story) → SaysOn true x a b → WritesFront y b c → WritesFront (x ++ y) a c
 text_then x y a b c said (front, (rest, is), wrote) = (
   x ++ front,
@@ -115,7 +115,7 @@ text_then x y a b c said (front, (rest, is), wrote) = (
   on_then (Says x) (Writes front) (Writes (x ++ front)) (λ p q r h k. writes_then x front p q r (says_writes x p q h) k) a b c said wrote,
 )
 
--- a front of a text is one of a longer text
+-- a prefix of a text is one of a longer text
 pub front_longer : (x y : List ℕ) (a b : Option Story) → WritesFront x a b → WritesFront (x ++ y) a b
 front_longer x y a b (front, (rest, is), wrote) = (front, (rest ++ y, ap (λ (t : List ℕ). t ++ y) is ∙ append_assoc front rest y), wrote)
 

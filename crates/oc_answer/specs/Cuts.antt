@@ -30,7 +30,7 @@ Writes bytes (Some old) (Some new) = new.written ≡ old.written ++ bytes
 Writes bytes None None = Unit {0}
 Writes bytes old new = ⊥
 
--- some front of a text was written on the current connection
+-- some prefix of a text was written on the current connection
 abbrev pub WritesFront : List ℕ → Option Story → Option Story → Type 0
 WritesFront text old new = (front : List ℕ) × IsFront front text × Told (OnCurrent (Writes front)) old new
 
@@ -46,13 +46,13 @@ OnlyLeave old new = WritesFront CONTINUE.now old new
 abbrev pub answer_text : List (List ℕ) → Asks → Bool → Input → Node → List ℕ
 answer_text addresses asked last i n = whole_text asked (response_for addresses asked last i n) (step n i).node.groups
 
--- some front of a reply was written on the current connection, whose writing ended so; where the output failed, in the line of a write
+-- some prefix of a reply was written on the current connection, whose writing ended so; where the output failed, in the line of a write
 -- that failed, that write did
 abbrev pub WritesUntil : TurnEnd → List ℕ → Option Story → Option Story → Type 0
 WritesUntil ends.Sink text old new = SaysOn false text old new
 WritesUntil end text old new = WritesFront text old new
 
--- the input of a request was heard and taken, and a front of the text of its step's outcome was written until it ended so
+-- the input of a request was heard and taken, and a prefix of the text of its step's outcome was written until it ended so
 pub record IsCutReply (t : Terms) (addresses : List (List ℕ)) (number : ℕ) (i : Input) (end : TurnEnd) (n : Node) (old new : Option Story) : Type 0 where
   pub asked : Asks
   pub last : Bool
@@ -72,7 +72,7 @@ CutsHearing t number end Idle old new = end ≡ ends.Memory
 CutsHearing t number end (Taking i) old new = (asked : Asks) × (last : Bool) × HearsRequest t number asked (Some i) last old new
 CutsHearing t number end (Noting line) old new = (refused : Refused) × IsRefused t number refused old new × (line ≡ note_line (why_text refused))
 
--- What the deed of a request that ended so in its midst, with this under way, is on its connection: its input was taken, and a front of
+-- What the deed of a request that ended so in its midst, with this under way, is on its connection: its input was taken, and a prefix of
 -- its reply was written; or none was taken, and nothing was written but the leave to send its body.
 abbrev pub CutsOff : Terms → List (List ℕ) → ℕ → TurnEnd → Under → Deed → Node → Option Story → Option Story → Type 0
 CutsOff t addresses number end under (Answers i failed) n old new = IsCutReply t addresses number i end n old new × (under ≡ reply_under end)
@@ -98,7 +98,7 @@ CutsReply addresses request end under (Answers i failed) n old new =
 CutsReply addresses request end under Talks n old new = (new ≡ old) × IsUnderOf request end under
 CutsReply addresses request end under d n old new = ⊥
 
--- a front of the response to this answer of a step, and to this message that goes back to a sender, was written until it ended so
+-- a prefix of the response to this answer of a step, and to this message that goes back to a sender, was written until it ended so
 abbrev pub CutsResponse : List (List ℕ) → Asks → Bool → Answer → Option Message → List Group → TurnEnd → Option Story → Option Story → Type 0
 CutsResponse addresses asked last answer reply groups end old new =
     Fits asked (response_to asked answer reply (is_sealed asked (shelf groups)) addresses last).content groups

@@ -40,7 +40,7 @@ abbrev pub HearsUntil : HttpFault → List ℕ → Option Story → Option Story
 HearsUntil http.Source bytes old new = Told (OnCurrent (HearsThenBreaks bytes)) old new
 HearsUntil fault bytes old new = HearsOn bytes old new
 
--- a text was written on it, or else a front of the text, and then a call failed
+-- a text was written on it, or else a prefix of the text, and then a call failed
 abbrev pub SaysOn : Bool → List ℕ → Option Story → Option Story → Type 0
 SaysOn true text old new = Told (OnCurrent (Says text)) old new
 SaysOn false text old new = Told (OnCurrent (SaysFrontThenBreaks text)) old new
@@ -60,7 +60,7 @@ pub record Opens (rules : List Rule) (head : Head) (asks : Asks) (old new : Opti
   pub says : SaysRequest bytes head
   pub asks_are : asked head rules ≡ Ok asks
 
--- behind the leave to send it the body was read
+-- after the leave to send it the body was read
 pub record HearsBody (head : Head) (body : List ℕ) (old new : Option Story) : Type 0 where
   pub between : Option Story
   pub leave : SaysOn true (leave_for head) old between
@@ -132,7 +132,7 @@ pub record RefusedByBody (t : Terms) (head : Head) (asks : Asks) (refused : Refu
   pub heard : HearsBody head body old new
   pub none : input_asked t.nodes t.me asks body ≡ Err refused
 
--- behind a head that has a route
+-- after a head that has a route
 pub record RefusedBehind (t : Terms) (refused : Refused) (old new : Option Story) : Type 0 where
   pub head : Head
   pub asks : Asks
@@ -164,7 +164,7 @@ abbrev pub NoBody : Head → RouteFault → Option Story → Option Story → Ty
 NoBody head (faults.Refused refused) old new = RefusedByLeave head refused old new ⊎ RefusedInBody head refused old new
 NoBody head faults.Memory old new = Unit {0}
 
--- what came of the reading behind a head
+-- what came of the reading after a head
 abbrev pub ReadsBehind : Terms → ℕ → Head → Result (Option Request) RouteFault → Option Story → Option Story → Type 0
 ReadsBehind t number head (Ok (Some request)) old new =
     (body : List ℕ) × (asked head t.rules ≡ Ok request.asks) × HearsBody head body old new

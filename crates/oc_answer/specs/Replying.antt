@@ -1,4 +1,4 @@
--- What a request is answered, behind its input.
+-- What a request is answered, after its input.
 use Rattle.std.specs.Prelude.{◌≡◌, ℕ, Bool, true, Option, Some, None, List}
 use Rattle.oc_keep.specs.Files.{AllGoOn, Survives}
 use Rattle.oc_keep.specs.KeptView.{IsHonest, KeptView, disks_of, header_of, node_of}
@@ -29,7 +29,7 @@ abbrev pub sent_back : Option ℕ → List Message → Option Message
 sent_back None sends = None
 sent_back (Some sender) sends = reply_to sends sender
 
--- a request was answered behind its line; where the write of its reply failed, that is told
+-- a request was answered after its line; where the write of its reply failed, that is told
 pub record Replied {D K : Type 0} (view : D → DiskView) (takes : K → List ℕ → K → Type 0) (count : K → ℕ) (failed : Bool) (old new : KeptView D) (sink after : K) : Type 0 where
   pub looks : LooksOnly view old new
   pub text : takes sink (failed_line failed) after
@@ -40,7 +40,7 @@ abbrev pub ReplyCause : {D K : Type 0} → (D → DiskView) → (K → List ℕ 
 ReplyCause view takes fails count ends.Sink old new sink after = LineStops takes fails count ends.Sink (failed_line true) sink after
 ReplyCause view takes fails count end old new sink after = LookCause view end old new × (after ≡ sink)
 
--- it ended behind the line of the input, and every crash leaves the node behind it
+-- it ended after the line of the input, and every crash leaves the node after it
 pub record ReplyStops {D K : Type 0} (view : D → DiskView) (takes fails : K → List ℕ → K → Type 0) (count : K → ℕ) (end : TurnEnd) (old new : KeptView D) (sink after : K) : Type 0 where
   pub goes_on : AllGoOn view (disks_of old) (disks_of new)
   pub leaves : IsHonest view old → Survives view (header_of old.node.control) old.node.control.me (disks_of new) (node_of old)

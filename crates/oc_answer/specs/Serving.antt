@@ -1,4 +1,4 @@
--- What the requests of a connection are answered, one behind the other.
+-- What the requests of a connection are answered, one after the other.
 use Rattle.std.specs.Prelude.{◌≡◌, ◌⊎◌, ℕ, ◌+◌, ◌-◌, ◌<◌, ◌≤◌, Bool, true, false, ◌&&◌, not, Option, Some, None, List, [], ◌∷◌, ◌++◌, length, take, drop}
 use Rattle.std.specs.List.{list_any}
 use Rattle.std.specs.Option.{option_map}
@@ -44,7 +44,7 @@ abbrev pub back_to_sender : Input → List Message → Option Message
 back_to_sender (Delivered m) sends = reply_to sends m.from
 back_to_sender i sends = None
 
--- whether the group of this name stands on a shelf as sealed
+-- whether a shelf lists the group of this name as sealed
 abbrev pub is_line_sealed : List ℕ → List Shelf → Bool
 is_line_sealed group lines = list_any (λ line. bytes_eq line.group group && line.sealed) lines
 
@@ -72,12 +72,12 @@ abbrev pub coded : Bool → List ℕ → List ℕ
 coded true bytes = chunked_text bytes
 coded false bytes = bytes
 
--- the content of a group that stands behind the head
+-- the content of a group that follows the head
 abbrev pub content_text : Asks → Option Content → List Group → List ℕ
 content_text (asks.Client group area start manner) (Some content) groups = coded content.chunked (part_of group content.start content.count groups)
 content_text asked content groups = []
 
--- the group has as many bytes behind the start as are sent
+-- the group has as many bytes from the start on as are sent
 abbrev pub FitsIn : List ℕ → Content → List Group → Type 0
 FitsIn group content groups = content.count ≤ length (bytes_of group groups) - content.start
 
@@ -92,7 +92,7 @@ whole_text asked response groups = response.text ++ content_text asked response.
 
 -- Requests
 
--- the text was written, and what becomes of the connection is what the response says; or a front of it, and the connection ends
+-- the text was written, and what becomes of the connection is what the response says; or a prefix of it, and the connection ends
 abbrev pub IsSaid : Bool → List ℕ → Connection → Connection → Option Story → Option Story → Type 0
 IsSaid true text wanted kept old new = SaysOn true text old new × (kept ≡ wanted)
 IsSaid false text wanted kept old new = SaysOn false text old new × (kept ≡ Close)
@@ -132,7 +132,7 @@ pub record IsShown (t : Terms) (addresses : List (List ℕ)) (number : ℕ) (kep
   pub heard : HearsRequest t number asked None last old between
   pub answered : IsSaid said (shown addresses asked last).text (shown addresses asked last).connection kept between new
 
--- a refusal is answered by its text or a front of it; some have none
+-- a refusal is answered by its text or a prefix of it; some have none
 abbrev pub SaysRefusal : Option (List ℕ) → Option Story → Option Story → Type 0
 SaysRefusal None old new = new ≡ old
 SaysRefusal (Some text) old new = (said : Bool) × SaysOn said text old new

@@ -285,7 +285,7 @@ fn is_sealed(shelf: &[Shelf], asks: &Asks) -> bool
     is_line_sealed(shelf, group)
 }
 
-/// Whether the group of this name stands on the shelf as sealed.
+/// Whether the shelf lists the group of this name as sealed.
 fn is_line_sealed(shelf: &[Shelf], group: &GroupName) -> bool
     ensures { result ≡ is_line_sealed group.now shelf.now }
 {

@@ -20,7 +20,7 @@ use oc_routes::MAX_REQUESTS;
 use oc_turn::{Outbox, TurnEnd};
 use std::alloc::Global;
 
-/// Serves the current connection: its requests, one behind the other, and then ends it.
+/// Serves the current connection: its requests, one after the other, and then ends it.
 #[allow(clippy::too_many_arguments)]
 pub fn serve_connection<D: Disk, L: Link, K: Sink>(
     alloc: Global,

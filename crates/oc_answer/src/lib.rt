@@ -8,11 +8,11 @@
 //! Over a link that tells its bytes the contract says what each deed is on the connection
 //! (`specs/Serving`, `IsConnection`). `specs/Hearing` says which bytes were read of the request, what they
 //! ask under the access rules, and why it is refused. The answer to an input is the text of its step's
-//! outcome, whole, or a front of it where the write failed; that to a refused request is the text of its
-//! fault, or a front of it. A further request is read only behind a reply that keeps the connection.
+//! outcome, whole, or a prefix of it where the write failed; that to a refused request is the text of its
+//! fault, or a prefix of it. A further request is read only after a reply that keeps the connection.
 //!
 //! Where it ended in the midst of a request, `specs/Cuts` says what was written of that
-//! (`IsCutConnection`): where its input was taken, with its line, a front of the text of its step's outcome;
+//! (`IsCutConnection`): where its input was taken, with its line, a prefix of the text of its step's outcome;
 //! and else nothing but the leave to send its body. An input that was under way then is the one that the
 //! request asks for, as it was read, and a line of no input is that of a refusal or of a write that failed.
 #![tactic(auto)]

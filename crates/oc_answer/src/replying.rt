@@ -190,7 +190,7 @@ fn send_piece<L: Link>(
         return Ok(say(link, piece));
     }
     let text = chunk_text(alloc, piece)?;
-    // The last chunk stands behind the last piece alone.
+    // The last chunk follows only the last piece.
     let end = text.len().saturating_sub(LAST_CHUNK.len());
     Ok(say(link, &text[..end]))
 }

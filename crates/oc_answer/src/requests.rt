@@ -83,7 +83,7 @@ fn unread(fault: HttpFault, number: u64, begun: bool) -> Result<Option<Head>, Ro
     }
 }
 
-/// Reads what stands behind the head of a request.
+/// Reads what follows the head of a request.
 fn read_behind<L: Link>(
     alloc: Global,
     me: NodeId,
@@ -110,7 +110,7 @@ fn read_behind<L: Link>(
     }))
 }
 
-/// Takes the body of a request, behind the leave to send it where the client waits for that.
+/// Takes the body of a request, after the leave to send it where the client waits for that.
 fn take_body<L: Link>(alloc: Global, link: &mut L, head: &Head) -> Result<Vec<u8>, RouteFault>
     ensures body { IfOk result (λ body. HearsBody head.now body.items (L.story link.old) (L.story link.new)) }
     ensures none { IfErr result (λ fault. NoBody head.now fault (L.story link.old) (L.story link.new)) }

@@ -24,7 +24,7 @@ pub fn lose(draft: &mut Draft) -> Result<(), Memory>
     }
 }
 
-/// The ask that stands goes to p.
+/// The current ask goes to `peer`.
 pub fn send_ask(draft: &mut Draft, peer: NodeId) -> Result<(), Memory>
     ensures { OnOk result (draft.new ≡ goes draft.old (send_ask draft.old.step peer)) }
 {
@@ -68,7 +68,7 @@ pub fn act(draft: &mut Draft) -> Result<(), Memory>
 
 // The rule Next try
 
-/// A node is asked how it stands, on the way down to a place.
+/// A node is asked for its position, on the way down to a place.
 pub fn descend(draft: &mut Draft, peer: NodeId) -> Result<(), Memory>
     ensures { OnOk result (draft.new ≡ goes draft.old (descend draft.old.step peer)) }
 {
@@ -110,7 +110,7 @@ pub fn next_try(draft: &mut Draft) -> Result<(), Memory>
 
 // The rule Round
 
-/// A fresh attempt to find a parent, but for one node.
+/// A fresh attempt to find a parent, leaving out one node.
 pub fn round(draft: &mut Draft, without: Option<NodeId>) -> Result<(), Memory>
     ensures { OnOk result (draft.new ≡ goes draft.old (round draft.old.step without)) }
 {
@@ -209,7 +209,7 @@ pub fn took_no(draft: &mut Draft, from: NodeId, seq: u64, why: Refusal) -> Resul
 
 // The rule Unreachable
 
-/// A node that is no parent does not say how it stands.
+/// A node that is no parent does not tell its position.
 #[tactic(auto, using(crate::proofs::ByMode::not_seen_is))]
 fn not_seen(draft: &mut Draft, peer: NodeId) -> Result<(), Memory>
     ensures { OnOk result (draft.new ≡ goes draft.old (not_seen draft.old.step.node.soft.search draft.old.step peer)) }

@@ -11,7 +11,7 @@ use Rattle.oc_base.specs.Steps.{◌>>=◌}
 use Rattle.oc_base.specs.Reading.{Reading, within_at, byte_at, long_at, count_at, id_at, rate_at, flag_at, text_at}
 use Rattle.oc_base.proofs.TextsAt.{IsBytes, Takes, bind_ok, guard_ok, ok_is, IsWide, wide8, wide16, wide32, wide64, number_takes, number_again, within_takes, within_again}
 
--- reading gives exactly the lawful values whose text is there, with the index behind it
+-- reading gives exactly the lawful values whose text is there, with the index after it
 pub record Reads {A : Type 0} (nodes : ℕ) (bytes : List ℕ) (read : ℕ → Reading A) (text : A → List ℕ) (IsLawful : A → Type 0) : Type 0 where
   pub takes : IsBytes bytes → (at : ℕ) (x : A) (next : ℕ) → read at ≡ Ok (x, next) → IsLawful x × Takes bytes at (text x) next
   pub again : nodes < 2 ^ 32 → (at : ℕ) (x : A) (next : ℕ) → IsLawful x → Takes bytes at (text x) next → read at ≡ Ok (x, next)

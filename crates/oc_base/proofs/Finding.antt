@@ -26,7 +26,7 @@ pub passed_more : {A : Type 0} (name : A → List ℕ) (g : List ℕ) (xs : List
 passed_more name g xs i x inside is past before =
     subst (λ l. HasPassed name g l) (sym (take_more xs i x inside ∙ ap (λ y. take i xs ++ y ∷ []) (sym is))) (all_append (λ y. slice_cmp nat_cmp g (name y) ≡ Greater) (take i xs) (x ∷ []) before (past, tt))
 
--- behind the names that it has passed, and before greater ones, a name would be
+-- after the names that it has passed, and before greater ones, a name would be
 free_here : {A : Type 0} (name : A → List ℕ) (xs : List A) (g : List ℕ) (i : ℕ) → i ≤ length xs → HasPassed name g (take i xs) → AreAbove name g (drop i xs) → IsFreeAt name xs g i
 free_here name xs g zero within past above = above
 free_here name [] g (suc i) within past above = absurd (omega (arith, within))
@@ -45,7 +45,7 @@ free_before name g xs i x up inside is less past =
     let rest : AreAscending name (x ∷ drop (suc i) xs) = subst (AreAscending name) from (ascending_from name xs i up) in
     free_here name xs g i (omega (arith, inside)) past (subst (λ l. AreAbove name g l) (sym from) (less, above_lower name g (name x) (drop (suc i) xs) less rest.0))
 
--- a name behind all others
+-- a name after all others
 pub free_last : {A : Type 0} (name : A → List ℕ) (g : List ℕ) (xs : List A) (i : ℕ) → i ≡ length xs → HasPassed name g (take i xs) → IsFreeAt name xs g (length xs)
 free_last name g xs i end past =
     free_here name xs g (length xs) (omega arith) (subst (λ (j : ℕ). HasPassed name g (take j xs)) end past) (subst (λ l. AreAbove name g l) (sym (drop_all (length xs) xs (omega arith))) tt)

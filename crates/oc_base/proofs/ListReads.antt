@@ -77,7 +77,7 @@ reads_each nodes bytes read text P reads =
 pub ends_within : (bytes : List ℕ) (at : ℕ) (text : List ℕ) (next : ℕ) → 0 < length text → Takes bytes at text next → next ≤ length bytes
 ends_within bytes at text next some t = omega (arith, some, t.moved, length-drop at bytes, ap (λ (x : List ℕ). length x) t.there.1, length-append text t.there.0)
 
--- a list behind its length
+-- a list after its length
 pub reads_list : {A : Type 0} (nodes : ℕ) (bytes : List ℕ) (size : ℕ → Reading ℕ) (digits : ℕ → List ℕ) (Q : ℕ → Type 0) (items : ℕ → ℕ → Reading (List A)) (text : List A → List ℕ) (P : List A → Type 0)
     → ((n : ℕ) → 0 < length (digits n)) → Reads nodes bytes size digits Q → ReadsCounted nodes bytes items text P → Reads nodes bytes (list_at size items) (λ xs. digits (length xs) ++ text xs) (λ xs. Q (length xs) × P xs)
 reads_list {A = A} nodes bytes size digits Q items text P some r s = record {

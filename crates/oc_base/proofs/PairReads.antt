@@ -1,4 +1,4 @@
--- Fields one behind the other are read exactly where their texts are there, one behind the other.
+-- Fields one after the other are read exactly where their texts are there, one after the other.
 use Rattle.std.proofs.Common.{◌≡◌, ℕ, Bool, ◌+◌, ◌^◌, ◌<◌, ◌≤◌, List, ◌++◌, length, Result, Ok, Err, refl, sym, subst, ◌∙◌, arith}
 use Rattle.std.specs.Int.{w32}
 use Rattle.oc_base.specs.declared.cert.Cert.{Cert}
@@ -11,7 +11,7 @@ use Rattle.oc_base.specs.Reading.{Reading, one_field, two_fields, three_fields, 
 use Rattle.oc_base.proofs.TextsAt.{IsBytes, Takes, takes_both, takes_first, takes_second, bind_ok, ok_is, wide32}
 use Rattle.oc_base.proofs.FieldReads.{Reads, reads_within, reads_id, reads_count, reads_long, reads_flag}
 
--- two readings one behind the other, as a reading of the pair
+-- two readings one after the other, as a reading of the pair
 abbrev pub pair_at : {A B : Type 0} → (ℕ → Reading A) → (ℕ → Reading B) → ℕ → Reading (A × B)
 pair_at first second at = two_fields first second (λ a b. (a, b)) at
 

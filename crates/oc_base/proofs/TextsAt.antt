@@ -29,22 +29,22 @@ IsBytes-take n bytes h i =
 abbrev pub IsAt : List ℕ → ℕ → List ℕ → Type 0
 IsAt bytes at text = (rest : List ℕ) × (drop at bytes ≡ text ++ rest)
 
--- the front of a text is where the text is
+-- a prefix of a text is where the text is
 pub first_at : (bytes : List ℕ) (at : ℕ) (a b : List ℕ) → IsAt bytes at (a ++ b) → IsAt bytes at a
 first_at bytes at a b s = (b ++ s.0, s.1 ∙ append_assoc a b s.0)
 
--- and what is behind the front is behind it there
+-- and what follows the prefix follows it there
 pub second_at : (bytes : List ℕ) (at : ℕ) (a b : List ℕ) → IsAt bytes at (a ++ b) → IsAt bytes (at + length a) b
 second_at bytes at a b s =
     (s.0, sym (drop-drop (length a) at bytes) ∙ ap (drop (length a)) (s.1 ∙ append_assoc a b s.0) ∙ drop_at a (b ++ s.0) (length a) refl)
 
--- two texts, one behind the other
+-- two texts, one after the other
 pub both_at : (bytes : List ℕ) (at : ℕ) (a b : List ℕ) → IsAt bytes at a → IsAt bytes (at + length a) b → IsAt bytes at (a ++ b)
 both_at bytes at a b s t =
     let behind : drop (at + length a) bytes ≡ s.0 = sym (drop-drop (length a) at bytes) ∙ ap (drop (length a)) s.1 ∙ drop_at a s.0 (length a) refl in
     (t.0, s.1 ∙ ap (λ (x : List ℕ). a ++ x) (sym behind ∙ t.1) ∙ sym (append_assoc a b t.0))
 
--- the text is at this index, and the next index is behind it
+-- the text is at this index, and the next index is after it
 pub record Takes (bytes : List ℕ) (at : ℕ) (text : List ℕ) (next : ℕ) : Type 0 where
   pub there : IsAt bytes at text
   pub moved : next ≡ at + length text
@@ -55,7 +55,7 @@ takes_both bytes at a mid b next s t = record {
   moved = omega (arith, s.moved, t.moved, length-append a b);
 }
 
--- of two texts one behind the other, the first and the second
+-- of two texts one after the other, the first and the second
 pub takes_first : (bytes : List ℕ) (at : ℕ) (a b : List ℕ) (next : ℕ) → Takes bytes at (a ++ b) next → Takes bytes at a (at + length a)
 takes_first bytes at a b next t = record { there = first_at bytes at a b t.there; moved = refl }
 

@@ -8,7 +8,7 @@ use Rattle.oc_base.specs.declared.rank.Rank.{Rank}
 use Rattle.oc_base.specs.declared.refusal.Refusal.{Refusal}
 use Rattle.oc_base.specs.declared.refusal.Refusal.TheVariants as refusals
 
--- the id of one of so many nodes
+-- the id of one of `nodes` nodes
 abbrev pub IsNode : ℕ → ℕ → Type 0
 IsNode nodes x = (1 ≤ x) × (x ≤ nodes)
 

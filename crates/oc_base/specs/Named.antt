@@ -20,13 +20,13 @@ abbrev pub AreAscending : {A : Type 0} → (A → List ℕ) → List A → Type 
 AreAscending name [] = Unit {0}
 AreAscending name (x ∷ xs) = AreAbove name (name x) xs × AreAscending name xs
 
--- the name is at index i, behind lesser ones
+-- the name is at index i, after lesser ones
 abbrev pub IsFoundAt : {A : Type 0} → (A → List ℕ) → List A → List ℕ → ℕ → Type 0
 IsFoundAt name [] g i = ⊥
 IsFoundAt name (x ∷ xs) g zero = name x ≡ g
 IsFoundAt name (x ∷ xs) g (suc i) = (slice_cmp nat_cmp g (name x) ≡ Greater) × IsFoundAt name xs g i
 
--- the name is absent and would be at index i, behind the lesser ones and before the greater
+-- the name is absent and would be at index i, after the lesser ones and before the greater
 abbrev pub IsFreeAt : {A : Type 0} → (A → List ℕ) → List A → List ℕ → ℕ → Type 0
 IsFreeAt name xs g zero = AreAbove name g xs
 IsFreeAt name [] g (suc i) = ⊥

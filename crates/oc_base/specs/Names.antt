@@ -10,7 +10,7 @@ is_name_byte b =
     (nat_le 97 b && nat_le b 122) || (nat_le 65 b && nat_le b 90) || (nat_le 48 b && nat_le b 57)
     || b == 47 || b == 46 || b == 95 || b == 126 || b == 45
 
--- what stands between two slashes: neither nothing, nor one dot, nor two
+-- what comes between two slashes: neither nothing, nor one dot, nor two
 abbrev pub is_segment : List ℕ → Bool
 is_segment [] = false
 is_segment (a ∷ []) = not (a == 46)

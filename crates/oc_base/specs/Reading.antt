@@ -57,7 +57,7 @@ flag_at bytes at = do
 unfoldable pub text_at : List ℕ → ℕ → ℕ → Reading (List ℕ)
 text_at bytes count at = if nat_lt (length bytes) (at + count) then Err faults.Short else Ok (take count (drop at bytes), at + count)
 
--- Fields one behind the other, and what is made of them
+-- Fields one after the other, and what is made of them
 
 -- one field
 abbrev pub one_field : {A Y : Type 0} → (ℕ → Reading A) → (A → Y) → ℕ → Reading Y
@@ -113,7 +113,7 @@ cert_at nodes bytes at =
 
 -- Lists
 
--- a count of items one behind the other; the range of an item may depend on the item before it, of which kept is what matters
+-- a count of items one after the other; the range of an item may depend on the item before it, of which kept is what matters
 unfoldable pub items_at : {A S : Type 0} → (S → ℕ → Reading A) → (A → S) → S → ℕ → ℕ → Reading (List A)
 items_at read kept before zero at = Ok ([], at)
 items_at read kept before (suc count) at = do
@@ -125,7 +125,7 @@ items_at read kept before (suc count) at = do
 abbrev pub each_at : {A : Type 0} → (ℕ → Reading A) → ℕ → ℕ → Reading (List A)
 each_at read count at = items_at (λ (before : Unit {0}). read) (λ item. tt) tt count at
 
--- a list behind its length
+-- a list after its length
 abbrev pub list_at : {A : Type 0} → (ℕ → Reading ℕ) → (ℕ → ℕ → Reading (List A)) → ℕ → Reading (List A)
 list_at size items at = do
   count ← size at

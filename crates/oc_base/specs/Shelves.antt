@@ -27,7 +27,7 @@ AreLinesAbove g ls = AreAbove (λ (l : Shelf). l.group) g ls
 abbrev pub AreLinesAscending : List Shelf → Type 0
 AreLinesAscending ls = AreAscending (λ (l : Shelf). l.group) ls
 
--- the line of this name is at index i, behind those of lesser names
+-- the line of this name is at index i, after those of lesser names
 abbrev pub IsLineAt : List Shelf → List ℕ → ℕ → Type 0
 IsLineAt ls g i = IsFoundAt (λ (l : Shelf). l.group) ls g i
 

@@ -2,7 +2,7 @@
 -- and sync.
 use Rattle.std.specs.Prelude.{◌≡◌, ℕ, Bool, ◌==◌, ◌&&◌, ◌||◌, ◌⊎◌}
 
--- of the four calls the first k work, and behind them an image has this byte as the gate: the frame is kept
+-- of the four calls the first k work, and after them an image has this byte as the gate: the frame is kept
 abbrev pub IsKeptNew : ℕ → ℕ → Type 0
 IsKeptNew k image = (k ≡ 4) ⊎ ((k ≡ 3) × (image ≡ 1))
 

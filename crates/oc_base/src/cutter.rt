@@ -1,7 +1,7 @@
 ghost use Rattle.std.specs.Prelude.{◌≡◌, ◌<◌, ◌==◌, [], ◌∷◌, length, IfNone, IfSome, position};
 ghost use Rattle.std.specs.List.{slice_split};
 
-/// The bytes before the first separator, and what stands behind it; `None` where there is no
+/// The bytes before the first separator, and what follows it; `None` where there is no
 /// separator. Lines, words and the segments of a name all come from this.
 pub fn cut(bytes: &[u8], separator: u8) -> (&[u8], Option<&[u8]>)
     ensures last { IfNone result.1

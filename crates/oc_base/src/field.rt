@@ -42,7 +42,7 @@ pub fn take_u64(input: &[u8], at: usize) -> Result<(u64, usize), Short>
     Ok((number, next))
 }
 
-/// So many bytes from a place on, and the next place.
+/// `count` bytes from a place on, and the next place.
 pub fn take_bytes(input: &[u8], at: usize, count: usize) -> Result<(&[u8], usize), Short>
     ensures bytes { IfOk result (λ field. field.0.now ≡ take count (drop at input.now)) }
     ensures next { IfOk result (λ field. field.1 ≡ at + count) }

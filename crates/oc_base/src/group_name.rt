@@ -17,7 +17,7 @@ use std::marker::Model;
 /// The name of a group: the path of its URL. Names are ordered by their bytes.
 ///
 /// It is 2 to 200 bytes, each a letter, a digit, `/`, `.`, `_`, `~` or `-`. It begins with `/`, and
-/// no segment between slashes or behind the last is empty, `.` or `..`.
+/// no segment between slashes or after the last is empty, `.` or `..`.
 #[derive(Clone, Copy)]
 pub struct GroupName {
     bytes: [u8; MAX_NAME_BYTES],
@@ -49,7 +49,7 @@ impl Model for GroupName {
 pub enum NameFault {
     /// Fewer than 2 bytes or more than 200.
     Length,
-    /// The byte at this place, counted from 0, may not stand in a name.
+    /// The byte at this place, counted from 0, may not occur in a name.
     Byte(usize),
     /// The first byte is no `/`, or a segment is empty, `.` or `..`.
     Form,

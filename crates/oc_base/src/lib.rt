@@ -1,7 +1,7 @@
 //! What every other crate names: node ids, ranks, certificates, group names, the small list types
 //! and want of memory.
 //!
-//! The types stand here for good, and the definitions of the model speak of them. A list type is a
+//! The types live here for good, and the definitions of the model speak of them. A list type is a
 //! vector that contracts see as the list of its items, so a message, an event or a record that holds
 //! one *is* a value of the model. A [`NodeId`] is seen as its number, a [`GroupName`] as its bytes.
 //!

@@ -9,7 +9,7 @@ pub enum Refusal {
     NotJoined,
     /// The asker is among the host's ancestors.
     Ancestor,
-    /// The host stands too deep.
+    /// The host is too deep in the tree.
     Depth,
     /// This member of the chain is to be asked in the host's place.
     Chain(NodeId),

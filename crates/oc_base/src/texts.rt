@@ -22,7 +22,7 @@ pub fn put_number(out: &mut Vec<u8>, number: u64) -> Result<(), Memory>
     put(out, Buffer::new().format(number).as_bytes())
 }
 
-/// Puts a text, and behind it a number in decimal.
+/// Puts a text, and after it a number in decimal.
 pub fn put_with_number(out: &mut Vec<u8>, text: &[u8], number: u64) -> Result<(), Memory>
     ensures ok { OnOk result (out.new.items ≡ out.old.items ++ text.now ++ decimal number) }
     ensures err { OnErr result (out.new.items ≡ out.old.items) }

@@ -8,7 +8,7 @@ use std::fmt;
 pub enum Why {
     /// The first line is not the header in full.
     Header,
-    /// The word names nothing that may stand there.
+    /// The word names nothing that may appear there.
     Word,
     /// The number of words is wrong.
     Count,

@@ -1,6 +1,6 @@
 //! The lines of a text, the words of a line, and what one word spells.
 //!
-//! Words stand between runs of spaces. A field is spelled as a number where it is decimal digits,
+//! Words are separated by runs of spaces. A field is spelled as a number where it is decimal digits,
 //! the first of which is no zero unless it is the only one.
 ghost use Rattle.std.specs.Prelude.{◌≡◌, ◌^◌, ◌<◌, ◌≤◌, ◌==◌, [], ◌∷◌, length, IsTrue, IfNone, IfSome, IfOk, IfErr, OnOk};
 ghost use Rattle.std.specs.Char.{is_ascii_digit};
@@ -15,7 +15,7 @@ ghost use Rattle.oc_base.specs.declared.why.Why.TheVariants.{Count};
 use crate::{NodeId, Why, cut};
 use std::str;
 
-/// The first line of bytes that are not empty, and what is behind it.
+/// The first line of bytes that are not empty, and what follows it.
 pub fn first_line(bytes: &[u8]) -> (&[u8], &[u8])
     requires { 0 < length bytes.now }
     ensures first { lines bytes.now ≡ result.0.now ∷ lines result.1.now }
@@ -37,7 +37,7 @@ fn without_return(line: &[u8]) -> &[u8]
     }
 }
 
-/// The first word of a line, and what is behind it.
+/// The first word of a line, and what follows it.
 pub fn first_word(line: &[u8]) -> Option<(&[u8], &[u8])>
     ensures none { IfNone result (words line.now ≡ []) }
     ensures first { IfSome result (λ found. words line.now ≡ found.0.now ∷ words found.1.now) }

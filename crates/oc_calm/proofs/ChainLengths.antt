@@ -192,7 +192,7 @@ length_above w (suc k) x y e = by_parent (length_above w k) (parent_of w x) refl
       let there : above w k q ≡ Some y = rw g at e in
       length_linked w x q g ∙ (ap (longer 1) (rest q y there) ∙ both (chain_length w y))
 
--- a shorter way up from the same node is the front of a longer one
+-- a shorter way up from the same node is a prefix of a longer one
 pub above_between : (w : World) (j k x y z : ℕ) → j ≤ k → above w j x ≡ Some y → above w k x ≡ Some z → above w (k - j) y ≡ Some z
 unfolding above
 above_between w zero k x y z within e f = let same : x ≡ y = cc in let all : k - 0 ≡ k = omega arith in rw (all, ← same) f

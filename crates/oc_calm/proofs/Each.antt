@@ -20,7 +20,7 @@ use Rattle.oc_calm.proofs.Ways.{IsLeft, less_left, none_left, cut_in_rest}
 next_is : (xs : List ℕ) (i x : ℕ) → i < length xs → x ≡ get_or xs i x → drop i xs ≡ x ∷ drop (i + 1) xs
 next_is xs i x within is = drop_more xs i x within ∙ ap (λ (y : ℕ). y ∷ drop (i + 1) xs) (sym is)
 
--- what holds of all that are left holds of the next, and of those behind it
+-- what holds of all that are left holds of the next, and of those after it
 pub all_next : (P : ℕ → Type 0) (xs : List ℕ) (i x : ℕ) → i < length xs → x ≡ get_or xs i x → AllByRecursion P (drop i xs) → P x × AllByRecursion P (drop (i + 1) xs)
 all_next P xs i x within is all = let both : AllByRecursion P (x ∷ drop (i + 1) xs) = subst (AllByRecursion P) (next_is xs i x within is) all in both
 
@@ -36,12 +36,12 @@ left_as g e left = record {
   count = left.count;
 }
 
--- the next one is left, and then those behind it
+-- the next one is left, and then those after it
 pub next_left : {whole : World → Run} (f : ℕ → World → Run) {w v : World} {n k : ℕ} (xs : List ℕ) (i x : ℕ) → i < length xs → x ≡ get_or xs i x
     → IsLeft whole w n (for_each (drop i xs) f) v k → IsLeft whole w n (λ z. and_then (f x z) (for_each (drop (i + 1) xs) f)) v k
 next_left f {w} {v} xs i x within is left = left_as (λ z. and_then (f x z) (for_each (drop (i + 1) xs) f)) (ap (λ (ys : List ℕ). for_each ys f v) (next_is xs i x within is)) left
 
--- once the next did its work, those behind it are left
+-- once the next did its work, those after it are left
 pub each_more : {whole : World → Run} (f : ℕ → World → Run) {w v u : World} {n k j : ℕ} (xs : List ℕ) (i x : ℕ) → i < length xs → x ≡ get_or xs i x
     → IsLeft whole w n (for_each (drop i xs) f) v k → Plays (f x) v u k j → IsLeft whole w n (for_each (drop (i + 1) xs) f) u j
 each_more f xs i x within is left played = less_left (next_left f xs i x within is left) played
@@ -51,7 +51,7 @@ pub each_cut : {whole : World → Run} (f : ℕ → World → Run) {w v u : Worl
     → IsLeft whole w n (for_each (drop i xs) f) v k → Begins (f x) v u → Begins whole w u
 each_cut f xs i x within is left begun = cut_in_rest (for_each (drop (i + 1) xs) f) (next_left f xs i x within is left) begun
 
--- behind the last nothing is left
+-- after the last nothing is left
 pub each_done : {whole : World → Run} (f : ℕ → World → Run) {w v : World} {n k : ℕ} (xs : List ℕ) (i : ℕ) → length xs ≤ i
     → IsLeft whole w n (for_each (drop i xs) f) v k → Plays whole w v n k
 each_done f {w} {v} xs i past left = none_left (left_as rests (ap (λ (ys : List ℕ). for_each ys f v) (drop_all i xs past)) left)
@@ -66,7 +66,7 @@ timely_front r g all = timely_first r.acts (g r.world).acts all
 pub timely_rest : {f : World → Run} (g : World → Run) {w v : World} {n k : ℕ} → Plays f w v n k → AreTimely (and_then (f w) g).acts → AreTimely (g v).acts
 timely_rest {f} g {w} {v} played all = subst (λ (z : World). AreTimely (g z).acts) (sym played.world) (timely_later (f w).acts (g (f w).world).acts all)
 
--- those of the next, and then of those behind it
+-- those of the next, and then of those after it
 pub next_timely : (f : ℕ → World → Run) (v : World) (xs : List ℕ) (i x : ℕ) → i < length xs → x ≡ get_or xs i x → AreTimely (for_each (drop i xs) f v).acts
     → AreTimely (and_then (f x v) (for_each (drop (i + 1) xs) f)).acts
 next_timely f v xs i x within is all = subst (λ (ys : List ℕ). AreTimely (for_each ys f v).acts) (next_is xs i x within is) all

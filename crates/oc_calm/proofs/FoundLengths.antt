@@ -77,7 +77,7 @@ unknown_few (Some n ∷ ls) = omega (arith, unknown_few ls)
 pub climb_begins : (w : World) (x : ℕ) (ls : List (Option ℕ)) → AreFound w ls → AreFoundBut w 0 x ls
 climb_begins w x ls found = record { places = found.places; found = λ y node. inl (found.found y node) }
 
--- what stands at a node is the length of its chain, also where the way comes round
+-- what is found at a node is the length of its chain, also where the way comes round
 pub climb_ends : (w : World) (k x y n : ℕ) (ls : List (Option ℕ)) → IsNodeOf w y → above w k x ≡ Some y → AreFoundBut w k x ls → at ls y None ≡ Some n → EndsAt w x k n
 climb_ends w k x y n ls node way found known = record { top = y; above = way; length = ⊎_elim here there (found.found y node) } where
   here : IsFound w y (at ls y None) → n ≡ chain_length w y
@@ -189,7 +189,7 @@ none_noted w k x n ls ends none found = record { places = found.places; found = 
       let no_chain : chain_length w y ≡ 0 = length_above w (k - h.links) y ends.top up ∙ ap (longer (k - h.links)) (sym ends.length ∙ none) in
       subst (IsFound w y) (sym h.noted) (sym no_chain)
 
--- so many links are left from here to the top, whose chain has some nodes
+-- k links are left from here to the top, whose chain has some nodes
 pub record IsLeftOf (w : World) (k x n : ℕ) (ls : List (Option ℕ)) : Type 0 where
   pub ends : EndsAt w x k n
   pub some : 0 < n

@@ -125,7 +125,7 @@ heal_two m w = and_then (rise_run m w) five_run
 abbrev pub heal_three : ℕ → World → Run
 heal_three m w = and_then (heal_two m w) (places_run m)
 
--- and settle behind them
+-- and settle after them
 pub heal_is : (m : ℕ) (w : World) → and_then (heal_three m w) settle_run ≡ heal_run m w
 unfolding rise_run five_run places_run settle_run heal_run
 heal_is m w = refl

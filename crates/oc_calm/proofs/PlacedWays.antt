@@ -79,7 +79,7 @@ top_only w x r (a ∷ d ∷ ds) none chain = let has : parent_of w x ≡ Some d 
 pub unlinked : (w : World) (m x : ℕ) → parent_of w x ≡ None → (x ≡ m → is_root w x ≡ false) → false ≡ is_placed_under w m x
 unlinked w m x none other = not_so (is_placed_under w m x) (λ e. let placed = placed_true w m x e in let top = top_only w x m placed.0 none placed.1 in true≢false (sym top.1 ∙ other top.0))
 
--- a way of so many links as there are nodes leads to none that is placed
+-- a way of as many links as there are nodes leads to none that is placed
 long_chain : (w : World) (k x y r : ℕ) (c : List ℕ) → length (ids w) ≤ k → above w k x ≡ Some y → IsTrueChain w y r c → ⊥
 long_chain w k x y r c long way chain = absurd (by_length (chain_length w y) refl (length_of_true w y r c chain)) where
   by_length : (n : ℕ) → chain_length w y ≡ n → 0 < chain_length w y → ⊥

@@ -76,7 +76,7 @@ found_length w ls n x lengths node = ap (λ (f : Option ℕ). is_number f (suc n
   by_found None = ne_eqb 0 (suc n) (λ e. omega (arith, e))
   by_found (Some c) = refl
 
--- the nodes that are up and have true chains of at most so many nodes
+-- the nodes that are up and have true chains of at most n nodes
 sorted_levels : (w : World) (ls : List (Option ℕ)) (xs : List ℕ) → AreLengths w ls → IsRoll w xs → AllByRecursion (IsNodeOf w) xs → (n : ℕ) → longest_first ls xs n ≡ deepest_first n w
 unfolding longest_first
 sorted_levels w ls xs lengths roll nodes zero = refl
@@ -131,7 +131,7 @@ filter_passes test xs i x out all within is fails so_far =
     let next : filter test (drop i xs) ≡ filter test (drop (i + 1) xs) = rw (here, fails) refl in
     ap (λ (ys : List ℕ). out ++ ys) (sym next) ∙ so_far
 
--- and behind the last nothing is left
+-- and after the last nothing is left
 pub filter_done : (test : ℕ → Bool) (xs : List ℕ) (i : ℕ) (out all : List ℕ) → length xs ≤ i → out ++ filter test (drop i xs) ≡ all → out ≡ all
 filter_done test xs i out all past so_far =
     let none : filter test (drop i xs) ≡ [] = ap (filter test) (drop_all i xs past) in

@@ -67,7 +67,7 @@ tick_other w x more y t other before =
     let i : Input = inputs.Tick (clock_of w x + more) in
     cond_both (process w x).up (stepped w i (step (node w x) i)) w (λ v. clock_of v y ≤ t) (λ _. clock_stepped w x y t i (λ same. absurd (other (sym same))) before) (λ _. before)
 
--- by so many seconds at most
+-- by `more` seconds at most
 tick_before : (w : World) (x more y t : ℕ) → clock_of w x ≤ t → clock_of w y ≤ t + more → clock_of (ticks more x w).world y ≤ t + more
 tick_before w x more y t here before =
     let i : Input = inputs.Tick (clock_of w x + more) in
@@ -97,7 +97,7 @@ ticks_timely more t (x ∷ xs) w late distinct early before =
 
 -- Runs
 
--- the ids stay, and where there are so many seconds left its ticks are timely
+-- the ids stay, and where there are k seconds left its ticks are timely
 record IsInTime (k : ℕ) (w : World) (r : Run) : Type 0 where
   same : ids r.world ≡ ids w
   timely : IsDistinct (ids w) → (t : ℕ) → t + k ≤ LAST_SECOND → UpAreBefore t w → AreTimely r.acts × UpAreBefore (t + k) r.world

@@ -24,7 +24,7 @@ pub even_on_err : {A E P : Type 0} (r : Result A E) → P → OnErr r P
 even_on_err (Ok x) p = tt
 even_on_err (Err e) p = p
 
--- One run behind another
+-- One run after another
 
 -- one act
 pub act_played : (a : Act) (w v : World) (n k : ℕ) → v ≡ after_act w a → k ≡ n + 1 → Plays (act_run a) w v n k
@@ -39,7 +39,7 @@ rest_played w n = record { world = refl; reached = refl; count = omega arith }
 pub not_begun : (f : World → Run) (w v : World) → v ≡ w → Begins f w v
 not_begun f w v e = record { way = record { done = []; rest = (f w).acts; whole = refl; reached = e } }
 
--- a front of a front
+-- a prefix of a prefix
 pub cut_first : (all more : List Act) (w v : World) → IsOnTheWay all w v → IsOnTheWay (all ++ more) w v
 cut_first all more w v way = record {
   done = way.done;
@@ -48,7 +48,7 @@ cut_first all more w v way = record {
   reached = way.reached;
 }
 
--- a front of what follows
+-- a prefix of what follows
 pub cut_later : (all more : List Act) (w v u : World) → v ≡ after_acts w all → IsOnTheWay more v u → IsOnTheWay (all ++ more) w u
 cut_later all more w v u here way = record {
   done = all ++ way.done;
@@ -57,7 +57,7 @@ cut_later all more w v u here way = record {
   reached = way.reached ∙ (ap (λ (z : World). after_acts z way.done) here ∙ sym (after_acts-append w all way.done));
 }
 
--- the second run behind the first
+-- the second run after the first
 pub then_played : {f g : World → Run} {w v u : World} {n k j : ℕ} → Plays f w v n k → Plays g v u k j → Plays (λ z. and_then (f z) g) w u n j
 then_played {f} {g} {w} {v} {u} {n} {k} {j} first second = record {
   world = second.world ∙ ap (λ (z : World). (g z).world) first.world;
@@ -81,7 +81,7 @@ cut_in_second {f} {g} {w} {v} {u} first begun =
 
 -- Loops
 
--- of a whole run from w on, so much was played: its acts are those that were played, which lead to v, and those of the rest, which
+-- of a whole run from w on, this much was played: its acts are those that were played, which lead to v, and those of the rest, which
 -- leads where the whole does
 pub record IsLeft (whole : World → Run) (w : World) (n : ℕ) (rest : World → Run) (v : World) (k : ℕ) : Type 0 where
   pub done : List Act

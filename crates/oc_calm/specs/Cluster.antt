@@ -24,7 +24,7 @@ IsNodeOf w x = IsNode (length (ids w)) x
 abbrev pub IsUpNode : World → ℕ → Type 0
 IsUpNode w x = IsNodeOf w x × IsUp w x
 
--- an act that a cluster of so many nodes takes: a tick up to the last second of a clock, a delivery of any number, and any other
+-- an act that a cluster of `nodes` nodes takes: a tick up to the last second of a clock, a delivery of any number, and any other
 -- act within the ranges of a schedule
 abbrev pub IsStep : ℕ → Act → Type 0
 IsStep nodes (acts.Tick x t) = IsNode nodes x × (t ≤ LAST_SECOND)

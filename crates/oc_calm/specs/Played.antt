@@ -38,7 +38,7 @@ check_ins_run w = all_check_in w
 unfoldable pub five_run : World → Run
 five_run w = first_five_steps w
 
--- one node tells all that waits, by so many check-ins at most; one tells all; and each does, those of longer true chains first
+-- one node tells all that waits, by n check-ins at most; one tells all; and each does, those of longer true chains first
 unfoldable pub telling_left : ℕ → ℕ → World → Run
 telling_left n x w = tells_while n x (node w x).control.kept.log.waiting w
 
@@ -62,7 +62,7 @@ leader_of w = leader w
 unfoldable pub room_of : World → ℕ → Bool
 room_of w x = has_room w x
 
--- the leader comes to act as root, by so many acts at most, and by as many as it may need
+-- the leader comes to act as root, by one act at most, by n acts at most, and by as many as it may need
 unfoldable pub rise_once_run : ℕ → World → Run
 rise_once_run m w = rises (mode_of w m) m w
 

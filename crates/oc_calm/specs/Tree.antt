@@ -30,7 +30,7 @@ chain_length w x = nodes_in (chain_from w x)
 unfoldable pub length_alone : World → ℕ → ℕ
 length_alone w x = if is_root w x then 1 else 0
 
--- the node so many links above x
+-- the node k links above x
 abbrev pub above_of : (ℕ → Option ℕ) → Option ℕ → Option ℕ
 above_of up None = None
 above_of up (Some p) = up p
@@ -39,7 +39,7 @@ unfoldable pub above : World → ℕ → ℕ → Option ℕ
 above w zero x = Some x
 above w (suc k) x = above_of (above w k) (parent_of w x)
 
--- so many links above x is a node whose true chain has this length
+-- `steps` links above x is a node whose true chain has this length
 pub record EndsAt (w : World) (x steps nodes : ℕ) : Type 0 where
   pub top : ℕ
   pub above : above w steps x ≡ Some top
@@ -56,14 +56,14 @@ pub record AreFound (w : World) (lengths : List (Option ℕ)) : Type 0 where
   pub places : length lengths ≡ length (ids w)
   pub found : (y : ℕ) → IsNodeOf w y → IsFound w y (at lengths y None)
 
--- y is fewer than so many links above x, and it is noted to have no chain
+-- y is fewer than k links above x, and it is noted to have no chain
 pub record IsOnWay (w : World) (k x y : ℕ) (found : Option ℕ) : Type 0 where
   pub links : ℕ
   pub fewer : links < k
   pub above : above w links x ≡ Some y
   pub noted : found ≡ Some 0
 
--- the same but for nodes on the way up from x by so many links
+-- the same except for nodes on the way up from x by k links
 pub record AreFoundBut (w : World) (k x : ℕ) (lengths : List (Option ℕ)) : Type 0 where
   pub places : length lengths ≡ length (ids w)
   pub found : (y : ℕ) → IsNodeOf w y → IsFound w y (at lengths y None) ⊎ IsOnWay w k x y (at lengths y None)
@@ -113,6 +113,6 @@ abbrev pub is_positive : ℕ → Bool
 is_positive zero = false
 is_positive (suc n) = true
 
--- under the root r, a node stands as in a ready world: it is down, or the root, or no root and has a true chain and its lease
+-- under the root r, a node is as in a ready world: it is down, or the root, or no root and has a true chain and its lease
 unfoldable pub fits_under : World → ℕ → ℕ → Bool
 fits_under w r x = not (is_up w x) || x == r || (not (is_acting (mode_of w x)) && is_positive (chain_length w x) && is_linked w x)

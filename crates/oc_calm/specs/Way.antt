@@ -10,14 +10,14 @@ pub record Plays (run : World → Run) (w v : World) (n k : ℕ) : Type 0 where
   pub reached : v ≡ after_acts w (run w).acts
   pub count : k ≡ n + length (run w).acts
 
--- a front of these acts leads from one world to the other
+-- a prefix of these acts leads from one world to the other
 pub record IsOnTheWay (all : List Act) (w v : World) : Type 0 where
   pub done : List Act
   pub rest : List Act
   pub whole : all ≡ done ++ rest
   pub reached : v ≡ after_acts w done
 
--- a front of the acts of a run was played
+-- a prefix of the acts of a run was played
 pub record Begins (run : World → Run) (w v : World) : Type 0 where
   pub way : IsOnTheWay (run w).acts w v
 

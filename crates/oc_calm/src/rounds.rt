@@ -59,7 +59,7 @@ fn all_check_in<C: Cluster>(cluster: &mut C, up: &[NodeId], acts: &mut u64) -> R
 /// The seconds after which the nodes check in once more.
 const PAUSE: u64 = 15;
 
-/// The first five steps of settle, in which each lease that does not stand ends: all tick now, check in,
+/// The first five steps of settle, in which each lease that is not current ends: all tick now, check in,
 /// tick 15 seconds on, check in, and tick another 15 seconds on.
 pub(crate) fn five_steps<C: Cluster>(
     cluster: &mut C,

@@ -14,7 +14,7 @@ use oc_base::NodeId;
 use oc_model::Mode;
 
 /// Whether one node that is up acts as root, every other that is up has a true chain to it and the lease
-/// of its last ask, no other lease stands at a node that is up, and nothing waits there for a parent.
+/// of its last ask, no node that is up holds any other lease, and nothing waits there for a parent.
 ///
 /// It takes no memory, so it climbs from each node anew, and it looks for a lease between any two nodes.
 pub fn is_settled<C: Cluster>(cluster: &C) -> bool
@@ -23,7 +23,7 @@ pub fn is_settled<C: Cluster>(cluster: &C) -> bool
     is_ready(cluster, None) && all_calm(cluster)
 }
 
-/// Whether each node is down, or holds the leases that stand alone and has told its parent all.
+/// Whether each node is down, or holds only current leases and has told its parent all.
 fn all_calm<C: Cluster>(cluster: &C) -> bool
     ensures { result ≡ list_all (is_calm (C.world cluster.now)) (ids (C.world cluster.now)) }
 {

@@ -23,7 +23,7 @@ use std::alloc::Global;
 
 /// Settles a world that is ready, and answers `Settled` with the number of the acts that it played;
 /// `Unready` exactly where the world is not ready, and then nothing is done. No clock of a node that is up
-/// may be in its last minute. Where memory is wanted, a front of the acts was played.
+/// may be in its last minute. Where memory is wanted, a prefix of the acts was played.
 pub fn settle<C: Cluster>(alloc: Global, cluster: &mut C) -> Result<Word, Memory>
     requires { UpAreBefore (LAST_SECOND - 60) (C.world cluster.old) }
     ensures word { IfOk result (λ word. word ≡ word_of (C.world cluster.old) Settle) }

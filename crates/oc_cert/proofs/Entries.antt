@@ -76,7 +76,7 @@ pub found_row : (row : Option (Bor (Option Cert))) → option_flatten (option_co
 found_row None = refl
 found_row (Some row) = refl
 
--- what stands in a row, with what it is about
+-- what is in a row, with what it is about
 pub row_fits : (rows : List (Option Cert)) (y : ℕ) (row : Option Cert) → AreRows rows → row ≡ newest (entries_of rows) y → IfSome row (λ k. (k.subject ≡ y) × IsCert (length rows) k)
 row_fits rows y None fit e = tt
 row_fits rows y (Some k) fit e = newest_fits (length rows) 1 y rows k fit (sym e)

@@ -34,7 +34,7 @@ lines_go_on t r rows i row before after whole within e put so =
     let here : lines_among t r (drop i rows) ≡ lines_of_row t r row ++ lines_among t r (drop (i + 1) rows) = ap (lines_among t r) (rows_at rows i row within e) ∙ lines_cons t r row (drop (i + 1) rows) in
     rw put (append_assoc before (lines_of_row t r row) (lines_among t r (drop (i + 1) rows)) ∙ (sym (ap (λ (ls : List Line). before ++ ls) here) ∙ so))
 
--- the rows behind a row are of the nodes behind its node
+-- the rows after a row are of the nodes after its node
 pub rows_go_on : (nodes i : ℕ) (rows : List (Option Cert)) (row : Option Cert) → i < length rows → row ≡ get_or rows i row → AreRowsFrom nodes (i + 1) (drop i rows) → AreRowsFrom nodes ((i + 1) + 1) (drop (i + 1) rows)
 rows_go_on nodes i rows row within e fit = by_row row (subst (λ (rs : List (Option Cert)). AreRowsFrom nodes (i + 1) rs) (rows_at rows i row within e) fit) where
   by_row : (row : Option Cert) → AreRowsFrom nodes (i + 1) (row ∷ drop (i + 1) rows) → AreRowsFrom nodes ((i + 1) + 1) (drop (i + 1) rows)

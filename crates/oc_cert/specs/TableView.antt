@@ -11,7 +11,7 @@ pub record TableView : Type 0 where
   pub entries : List Cert
   pub room : ℕ
 
--- the rows of the nodes from x on: what stands at the place of a node is about that node
+-- the rows of the nodes from x on: what is at the place of a node is about that node
 abbrev pub AreRowsFrom : ℕ → ℕ → List (Option Cert) → Type 0
 AreRowsFrom nodes x [] = Unit {0}
 AreRowsFrom nodes x (None ∷ rows) = AreRowsFrom nodes (x + 1) rows

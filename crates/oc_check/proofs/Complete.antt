@@ -11,7 +11,7 @@ use Rattle.oc_keep.specs.declared.errors.Which.TheVariants.{Control, Alternate, 
 use Rattle.oc_io.specs.DiskView.{DiskView}
 use Rattle.oc_store.specs.ControlFiles.{IsBadAt, IsGood}
 
--- frames behind a bad one mean nothing
+-- frames after a bad one mean nothing
 still_none : (bodies : List (List ℕ)) → fold more None bodies ≡ None
 still_none [] = refl
 still_none (body ∷ bodies) = still_none bodies

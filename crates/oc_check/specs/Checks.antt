@@ -11,7 +11,7 @@ use Rattle.oc_report.specs.Lines.{held_text}
 use Rattle.oc_report.specs.Shows.{show_text}
 use Rattle.oc_stage.specs.Sight.{sight_of}
 
--- among so many nodes, with a chain of this length, and areas of 0
+-- among `nodes` nodes, with a chain of this length, and areas of 0
 abbrev pub header_without_areas : ℕ → ℕ → Header
 header_without_areas nodes chain = header nodes chain (replicate nodes 0)
 

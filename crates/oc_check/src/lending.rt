@@ -14,7 +14,7 @@ use oc_keep::KeepLoad;
 use oc_loans::Loan;
 use std::alloc::Global;
 
-/// The block of `show` and the block of `held` of the node with this id among so many, with a chain of this
+/// The block of `show` and the block of `held` of the node with this id among `nodes` nodes, with a chain of this
 /// length, as its first control file, its second one and its content file recover it. Its areas are 0.
 pub fn recovered_text<D: Disk>(
     alloc: Global,
@@ -72,7 +72,7 @@ pub fn recovered_text<D: Disk>(
     let Loan::Third(content) = content else {
         return text;
     };
-    // One loan ends behind another, each with its own disk.
+    // One loan ends after another, each with its own disk.
     leave(control);
     leave(alternate);
     leave(content);

@@ -17,7 +17,7 @@ pub record IsFirstFrom (h : Host) (x : ℕ) (r : Option Rank) (n : ℕ) (o : Opt
   pub first : (why : Refusal) → o ≡ Some why → HasCause h x r why × ((other : Refusal) → n ≤ place_of other → HasCause h x r other → place_of why ≤ place_of other)
   pub none : o ≡ None → (other : Refusal) → n ≤ place_of other → ¬ HasCause h x r other
 
--- what is at the place n and has no cause, or lies behind
+-- what is at the place n and has no cause, or comes later
 pub at_or_behind : (n m : ℕ) → n ≤ m → (m ≡ n) ⊎ (n + 1 ≤ m)
 at_or_behind n m le = elim (m == n) as (λ b. (m == n) ≡ b → (m ≡ n) ⊎ (n + 1 ≤ m)) [ true ↦ λ e. inl (grind (arith, nat_tests)) | false ↦ λ e. inr (grind (arith, nat_tests)) ] refl
 
@@ -32,7 +32,7 @@ place_before h x r n false why rest at met unmet behind = record {
   none = λ e other le cause. elim (at_or_behind n (place_of other) le) [ inl same ↦ unmet refl other same cause | inr past ↦ behind.none e other past cause ];
 }
 
--- at the first place stands that the asker is the host
+-- at the first place comes that the asker is the host
 at_own : (h : Host) (x : ℕ) (r : Option Rank) (why : Refusal) → place_of why ≡ 0 → HasCause h x r why → x ≡ h.me
 at_own h x r Own at cause = cause
 at_own h x r _ at cause = absurd (omega arith)
@@ -57,7 +57,7 @@ at_chain : (h : Host) (x : ℕ) (r : Option Rank) (why : Refusal) → place_of w
 at_chain h x r (Chain k) at cause = (k, cause)
 at_chain h x r _ at cause = absurd (omega arith)
 
--- and behind these, that the host does not precede the asker
+-- and after these, that the host does not precede the asker
 at_rank : (h : Host) (x : ℕ) (r : Option Rank) (why : Refusal) → 5 ≤ place_of why → HasCause h x r why → (why ≡ TooLow) × IsNotBefore h.rank r
 at_rank h x r TooLow at cause = (refl, cause)
 at_rank h x r _ at cause = absurd (omega arith)
@@ -90,7 +90,7 @@ not_false : (b : Bool) → not b ≡ false → b ≡ true
 not_false true e = refl
 not_false false e = absurd cc
 
--- nothing is refused by rank, and the rank of x is none or behind the host's
+-- nothing is refused by rank, and the rank of x is none or after the host's
 rank_fits : (own : Rank) (r : Option Rank) → rank_refusal own r ≡ None → ¬ IsNotBefore own r
 rank_fits own None e = λ f. f
 rank_fits own (Some s) e = λ f. f (precedes_test own s (untaken (precedes own s) TooLow e))

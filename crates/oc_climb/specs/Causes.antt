@@ -36,6 +36,6 @@ place_of refusals.Depth = 3
 place_of (refusals.Chain k) = 4
 place_of refusals.Rank = 5
 
--- this refusal has a cause, and each other that has one stands behind it
+-- this refusal has a cause, and each other that has one comes after it
 abbrev pub IsFirst : Host → ℕ → Option Rank → Refusal → Type 0
 IsFirst h x r why = HasCause h x r why × ((other : Refusal) → HasCause h x r other → place_of why ≤ place_of other)

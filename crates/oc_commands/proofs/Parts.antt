@@ -1,4 +1,4 @@
--- Parts of a text, taken one behind the other.
+-- Parts of a text, taken one after the other.
 use Rattle.std.proofs.Common.{◌≡◌, ℕ, suc, ◌+◌, ◌<◌, List, [], ◌∷◌, ◌++◌, length, take, drop, get_or, refl, sym, ap, ◌∙◌, arith, append_assoc, append-nil, inl, inr}
 use Rattle.std.specs.Borrow.{Bor}
 use Rattle.std.proofs.lemmas.List.{take_more, take-append-le, take-append-drop, get_or_default}
@@ -17,7 +17,7 @@ joined_more parts i d inside =
     ap (λ (l : List ℕ). joined (take i parts) ++ l) (sym (append-nil (get_or parts i d).now))
     ∙ (sym (joined-append (take i parts) (get_or parts i d ∷ [])) ∙ ap joined (sym (take_more parts i d inside)))
 
--- the parts so far and a front of the next are a front of all
+-- the parts so far and a prefix of the next are a prefix of all
 pub joined_front : (parts : List (Bor (List ℕ))) (i n : ℕ) (d : Bor (List ℕ)) → i < length parts → n < length (get_or parts i d).now →
     joined (take i parts) ++ take n (get_or parts i d).now ≡ take (length (joined (take i parts)) + n) (joined parts)
 joined_front parts i n d inside few =

@@ -32,13 +32,13 @@ header_of s = header_of_settings (length s.addresses) s
 abbrev pub HasNode : Settings → Service → Type 0
 HasNode s v = IsNode (length s.addresses) v.id
 
--- the lines of these deeds were written; where the output is to blame, some front of this line behind them, and then it failed
+-- the lines of these deeds were written; where the output is to blame, some prefix of this line after them, and then it failed
 abbrev pub WritesDeeds : Output → ℕ → TurnEnd → List Deed → Under → Type 0
 WritesDeeds output me ends.Sink deeds under = (front : List ℕ) × IsFront front (under_line me under) × output.cut_off (deeds_text me deeds ++ front)
 WritesDeeds output me end deeds under = output.written (deeds_text me deeds)
 
 -- A node was not loaded, and nothing was done; or it did the deeds of the measures that are its own and of all its turns; or it ended
--- before, behind some deeds.
+-- early, after some deeds.
 abbrev pub RunsNode : OnFiles → OnNode → Output → Settings → Service → NodeEnd → Type 0
 RunsNode files node output s v (Load error) =
     files.are_refused (length s.addresses) error × files.load_safely (header_of s) v.id × output.written [] × node.idle
@@ -63,7 +63,7 @@ abbrev pub UnlessRan : ServiceEnd → Type 0 → Type 0
 UnlessRan (Ran end) so = ⊤
 UnlessRan end so = so
 
--- the node of this id among so many, if there is one
+-- the node of this id among `nodes` nodes, if there is one
 abbrev pub IsMemberOf : ℕ → ℕ → Option ℕ → Type 0
 IsMemberOf nodes id (Some me) = IsNode nodes id × (me ≡ id)
 IsMemberOf nodes id None = IsNode nodes id → ⊥

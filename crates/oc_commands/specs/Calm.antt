@@ -21,7 +21,7 @@ pub record IsCalm (w : World) : Type 0 where
   pub lists : ListsExactly w
   pub counts : CountsExactly w
 
--- settle is refused exactly where the world is not ready, and then nothing changes; behind `settled n` the world is calm, and n is the
+-- settle is refused exactly where the world is not ready, and then nothing changes; after `settled n` the world is calm, and n is the
 -- stated number of acts
 pub record SettleHolds (w : World) : Type 0 where
   pub refused : (word_of w Settle ≡ Unready) ↔ (IsReady w → ⊥)
@@ -29,7 +29,7 @@ pub record SettleHolds (w : World) : Type 0 where
   pub calm : (n : ℕ) → word_of w Settle ≡ Settled n → IsCalm (next_world w Settle)
   pub number : (n : ℕ) → word_of w Settle ≡ Settled n → n ≡ acts_to_settle w
 
--- heal is refused exactly where the world is not able, and then nothing changes; behind `healed n` the world is settled, parents know
+-- heal is refused exactly where the world is not able, and then nothing changes; after `healed n` the world is settled, parents know
 -- their children's last numbers, the least chain member that is up is the root, and n is the stated number of acts
 pub record HealHolds (w : World) : Type 0 where
   pub refused : (word_of w Heal ≡ Unready) ↔ (IsAble w → ⊥)

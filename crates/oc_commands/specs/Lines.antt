@@ -146,7 +146,7 @@ line_of_service (services.Config end) = line_of_config end
 line_of_service services.Stranger = line (codes "overcast: config: value ") (key_text Id) [] []
 line_of_service (services.Ran end) = line_of_run end
 
--- the line of each end; behind that of bad words stands a text on usage
+-- the line of each end; that of bad words is followed by a text on usage
 abbrev pub line_of : End → List ℕ → List ℕ
 line_of Helped usage = []
 line_of HelpFailed usage = output_failed

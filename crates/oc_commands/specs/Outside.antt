@@ -67,7 +67,7 @@ pub record OnStage : Type 1 where
 pub record OnFiles : Type 1 where
   -- the node of this id, among the nodes of this header, as they recover it, is shown by this text
   pub show : Header → ℕ → List ℕ → Type 0
-  -- among so many nodes no node was loaded from them, for this cause
+  -- among this many nodes no node was loaded from them, for this cause
   pub are_refused : ℕ → KeepLoad → Type 0
   -- at every moment a crash leaves what one at the start would have left
   pub load_safely : Header → ℕ → Type 0
@@ -92,10 +92,10 @@ pub record OnClock : Type 1 where
 
 -- of a node that runs on the files, the link and the clock
 pub record OnNode : Type 1 where
-  -- the node that the files recovered, which this configuration has under this id, did these deeds, with probes or without, in so many
-  -- turns, in which it answered the connections that came, and every crash leaves it behind them
+  -- the node that the files recovered, which this configuration has under this id, did these deeds, with probes or without, in this many
+  -- turns, in which it answered the connections that came, and every crash leaves it after them
   pub did : Settings → ℕ → Bool → ℕ → List Deed → Type 0
-  -- behind these deeds it ended so, perhaps with one more input under way
+  -- after these deeds it ended so, perhaps with one more input under way
   pub stopped : Header → ℕ → TurnEnd → List Deed → Under → Type 0
   -- nothing was done on the link and the clock
   pub idle : Type 0

@@ -19,12 +19,12 @@ use Rattle.oc_commands.specs.Outside.{Outside}
 use Rattle.oc_commands.specs.declared.ending.End.{End}
 use Rattle.oc_commands.specs.declared.ending.End.TheVariants.{Helped, HelpFailed, Misused, NoMemory, Replayed, Generated, Listed, Checked, Got, Served}
 
--- parts of a text, one behind the other
+-- parts of a text, one after the other
 abbrev pub joined : List (Bor (List ℕ)) → List ℕ
 joined [] = []
 joined (part ∷ parts) = part.now ++ joined parts
 
--- the text was taken, or a front of it and then a call failed
+-- the text was taken, or a prefix of it and then a call failed
 abbrev pub IsWrittenOrCut : {E : Type 0} → (E → List ℕ → E → Type 0) → (E → List ℕ → E → Type 0) → (E → ℕ) → E → E → List ℕ → Type 0
 IsWrittenOrCut takes fails count old new text = takes old text new ⊎ (SomeFront text (λ front. fails old front new) × Rose (count old) (count new))
 

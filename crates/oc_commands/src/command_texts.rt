@@ -1,4 +1,4 @@
-//! The texts that answer `--help` behind a command.
+//! The texts that answer `--help` after a command.
 
 ghost use Rattle.std.specs.Prelude.{◌<◌, length};
 

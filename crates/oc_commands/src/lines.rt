@@ -139,7 +139,7 @@ fn line_of_fault(fault: ConfigFault, digits: &mut Buffer) -> Line<'_>
     }
 }
 
-/// The line of a text and a key behind it.
+/// The line of a text and a key after it.
 fn key_line(text: &str, key: Key) -> Line<'_>
     ensures { text_of result ≡ line text.entry.now (key_text key) [] [] }
 {
@@ -172,7 +172,7 @@ fn measure_line(line: u32, why: Why, digits: &mut Buffer) -> Line<'_>
     }
 }
 
-/// The line of a text and a word behind it.
+/// The line of a text and a word after it.
 fn with_word<'a>(text: &'a str, word: &'a str) -> Line<'a>
     ensures { text_of result ≡ line text.entry.now word.entry.now [] [] }
 {

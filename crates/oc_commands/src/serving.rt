@@ -28,7 +28,7 @@ pub enum ServiceEnd {
     Ran(NodeEnd),
 }
 
-/// Runs a node of the configuration on the input for so many turns, on its three files.
+/// Runs a node of the configuration on the input for the given number of turns, on its three files.
 #[allow(clippy::too_many_arguments)]
 pub fn run_service<S: Source, K: Sink, D: Disk, L: Link, C: Clock>(
     alloc: Global,

@@ -14,7 +14,7 @@ use crate::texts::usage;
 use itoa::Buffer;
 use oc_io::{Failed, Sink, write_all};
 
-/// Has the sink take these parts, one behind the other.
+/// Has the sink take these parts, one after the other.
 fn write_parts<K: Sink>(sink: &mut K, parts: &[&[u8]]) -> Result<(), Failed>
     ensures told { IsWrittenOrCut K.takes K.fails K.faults sink.old sink.new (joined parts.now) }
     ensures takes { OnOk result (K.takes sink.old (joined parts.now) sink.new) }
@@ -26,7 +26,7 @@ fn write_parts<K: Sink>(sink: &mut K, parts: &[&[u8]]) -> Result<(), Failed>
     Ok(())
 }
 
-/// Writes the line of an end on the error output. Where that output fails, a front of it stands there.
+/// Writes the line of an end on the error output. Where that output fails, a prefix of it is written.
 pub fn tell<E: Sink>(err: &mut E, end: End)
     ensures told { (usage : List ℕ) × IsWrittenOrCut E.takes E.fails E.faults err.old err.new (line_of end usage) }
     ensures count { NoFall (E.faults err.old) (E.faults err.new) }
@@ -36,7 +36,7 @@ pub fn tell<E: Sink>(err: &mut E, end: End)
     write_line(err, line);
 }
 
-/// Writes a line, or a front of it where the output fails.
+/// Writes a line, or a prefix of it where the output fails.
 fn write_line<E: Sink>(err: &mut E, line: Line<'_>)
     ensures told { IsWrittenOrCut E.takes E.fails E.faults err.old err.new (text_of line.entry) }
     ensures count { NoFall (E.faults err.old) (E.faults err.new) }

@@ -73,7 +73,7 @@ With each status but 0, one line on standard error says why.
 "
 }
 
-/// The text behind the line `overcast: usage`, which says what the words may be.
+/// The text after the line `overcast: usage`, which says what the words may be.
 pub fn usage() -> &'static str {
     "\
 Usage: overcast node ID --turns N [--probe] < CONFIGURATION > LINES

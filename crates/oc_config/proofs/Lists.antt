@@ -1,4 +1,4 @@
--- Lists of places at which something may stand.
+-- Lists of places that may hold something.
 use Rattle.std.proofs.Common.{◌≡◌, ℕ, zero, suc, ◌+◌, ◌<◌, ◌≤◌, ◌⊎◌, inl, inr, Option, Some, None, List, [], ◌∷◌, length, get_or, refl, arith}
 use Rattle.std.specs.Prelude.{slice_get, slice_set}
 use Rattle.std.specs.List.{filter_map}
@@ -8,7 +8,7 @@ pub none_or_some : {B : Type 0} (o : Option B) → (o ≡ None) ⊎ ((b : B) × 
 none_or_some None = inl refl
 none_or_some (Some b) = inr (b, refl)
 
--- what stands at places is no more than there are places
+-- what places hold is no more than there are places
 pub filter_map_few : {A B : Type 0} (f : A → Option B) (xs : List A) → length (filter_map f xs) ≤ length xs
 filter_map_few f [] = omega arith
 filter_map_few f (x ∷ xs) = elim (none_or_some (f x)) [
@@ -16,7 +16,7 @@ filter_map_few f (x ∷ xs) = elim (none_or_some (f x)) [
   | inr some ↦ rw (some.1) (omega (arith, filter_map_few f xs))
 ]
 
--- where nothing stood, something more stands
+-- where an empty place is filled, one more place holds something
 pub filter_map_put : {A B : Type 0} (f : A → Option B) (xs : List A) (i : ℕ) (d y : A) (z : B) → i < length xs → f (get_or xs i d) ≡ None → f y ≡ Some z → length (filter_map f (slice_set xs i y)) ≡ length (filter_map f xs) + 1
 filter_map_put f [] i d y z inside none some = absurd (omega arith)
 filter_map_put f (x ∷ xs) zero d y z inside none some = rw (none, some) (omega arith)
@@ -27,7 +27,7 @@ filter_map_put f (x ∷ xs) (suc i) d y z inside none some =
       | inr one ↦ rw (one.1) (omega (arith, rest))
     ]
 
--- where something stands at each place, that of each place stands there
+-- where each place holds something, what each place holds is at that place
 pub filter_map_full : {A B : Type 0} (f : A → Option B) (xs : List A) (i : ℕ) (d : A) (y : B) → length (filter_map f xs) ≡ length xs → i < length xs → f (get_or xs i d) ≡ Some y → slice_get (filter_map f xs) i ≡ Some y
 filter_map_full f [] i d y full inside is = absurd (omega arith)
 filter_map_full f (a ∷ xs) zero d y full inside is = rw is refl

@@ -16,7 +16,7 @@ use Rattle.oc_config.proofs.Results.{steps, there}
 use Rattle.oc_config.proofs.Lists.{none_or_some, filter_map_put}
 use Rattle.oc_config.proofs.Tables.{within_range}
 
--- a table that was put into a place where nothing stood
+-- a table that was put into an empty place
 pub record IsPut (places next : List (Option Place)) (t : Members) : Type 0 where
   pub id : ℕ
   pub place : Place
@@ -63,7 +63,7 @@ put places next t e =
 pub put_length : (places next : List (Option Place)) (t : Members) → IsPut places next t → length next ≡ length places
 put_length places next t p = ap length p.next_is ∙ length-set places (p.id - 1) (Some p.place)
 
--- and what stands at other places
+-- and what is at other places
 put_keeps : (places next : List (Option Place)) (t : Members) (i : ℕ) (place : Place) → IsPut places next t → get_or places i None ≡ Some place → get_or next i None ≡ Some place
 put_keeps places next t i place p there = elim (cases_eq i (p.id - 1)) [
   | inl same ↦
@@ -72,7 +72,7 @@ put_keeps places next t i place p there = elim (cases_eq i (p.id - 1)) [
   | inr other ↦ ap (λ (xs : List (Option Place)). get_or xs i None) p.next_is ∙ get_or-set_other places (p.id - 1) i (Some p.place) None other ∙ there
 ]
 
--- it stands at its own
+-- it is at its own
 put_there : (places next : List (Option Place)) (t : Members) → (p : IsPut places next t) → get_or next (p.id - 1) None ≡ Some p.place
 put_there places next t p =
     ap (λ (xs : List (Option Place)). get_or xs (p.id - 1) None) p.next_is ∙ get_or-set_same places (p.id - 1) (Some p.place) None (omega (arith, p.first, p.last))
@@ -83,7 +83,7 @@ put_more places next t p =
     ap (λ (xs : List (Option Place)). length (addresses_of xs)) p.next_is
     ∙ filter_map_put address_at places (p.id - 1) None (Some p.place) p.place.address (omega (arith, p.first, p.last)) (ap address_at p.free) refl
 
--- what stands at a place has an address
+-- what is at a place has an address
 abbrev pub IsGood : Option Place → Type 0
 IsGood None = Unit {0}
 IsGood (Some place) = is_address place.address ≡ true
@@ -187,7 +187,7 @@ put_all (t ∷ ts) places after e =
       );
     }
 
--- at first nothing stands anywhere
+-- at first all places are empty
 pub none_first : (n : ℕ) → length (addresses_of (replicate n None)) ≡ 0
 none_first zero = refl
 none_first (suc n) = none_first n

@@ -33,7 +33,7 @@ record IsBefore (o : Option Members) (rest : Option (List Members)) (ts : List M
   pub rest_is : rest ≡ Some others
   pub ts_is : ts ≡ first ∷ others
 
--- a table and the tables behind it
+-- a table and the tables after it
 before : (o : Option Members) (rest : Option (List Members)) (ts : List Members) → table_before o rest ≡ Some ts → IsBefore o rest ts
 before (Some first) (Some others) ts e = record { first = first; others = others; o_is = refl; rest_is = refl; ts_is = cc }
 before (Some first) None ts e = cc
@@ -89,11 +89,11 @@ front_before : (front : List Members) (t : Members) (rest : Option (List Members
 front_before front t None = refl
 front_before front t (Some others) = ap Some (sym (append_assoc front (t ∷ []) others))
 
--- a value and those behind it
+-- a value and those after it
 next_value : (vs : List Value) (i : ℕ) (v : Value) → i < length vs → v ≡ get_or vs i v → drop i vs ≡ v ∷ drop (i + 1) vs
 next_value vs i v inside is = rw (add-one, drop-cons vs i v) (ap (λ (x : Value). x ∷ drop (suc i) vs) (sym is))
 
--- a value that is a table goes behind the front
+-- a value that is a table goes after the front
 pub table_next : (front : List Members) (vs : List Value) (i : ℕ) (v : Value) (t : Members) → i < length vs → v ≡ get_or vs i v → as_table (view v) ≡ Some t → with_front (front ++ t ∷ []) (all_tables (items_view (drop (i + 1) vs))) ≡ with_front front (all_tables (items_view (drop i vs)))
 table_next front vs i v t inside is table =
     let rest = all_tables (items_view (drop (i + 1) vs)) in
@@ -117,7 +117,7 @@ pub front_more : (refs : List (Bor (BTreeMap (String Global) Value))) (t : Bor (
 front_more [] t = refl
 front_more (r ∷ refs) t = ap (λ (ts : List Members). table_view r.now ∷ ts) (front_more refs t)
 
--- behind the last value
+-- after the last value
 values_end : (vs : List Value) (i : ℕ) → length vs ≤ i → all_tables (items_view (drop i vs)) ≡ Some []
 values_end [] zero past = refl
 values_end [] (suc i) past = refl

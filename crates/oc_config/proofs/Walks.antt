@@ -21,13 +21,13 @@ use Rattle.oc_config.specs.declared.fault.ConfigFault.TheVariants.{Toml, Missing
 abbrev Tables : Type 0
 Tables = List (Bor (BTreeMap (String Global) TomlValue))
 
--- a table and those behind it
+-- a table and those after it
 next_table : (ts : Tables) (i : ℕ) (t : Bor (BTreeMap (String Global) TomlValue)) → i < length ts → t ≡ get_or ts i t → tables_at (drop i ts) ≡ table_view t.now ∷ tables_at (drop (i + 1) ts)
 next_table ts i t inside is =
     let same : drop i ts ≡ t ∷ drop (i + 1) ts = rw (add-one, drop-cons ts i t) (ap (λ (x : Bor (BTreeMap (String Global) TomlValue)). x ∷ drop (suc i) ts) (sym is)) in
     ap tables_at same
 
--- behind the last there is none
+-- after the last there is none
 nothing_left : (ts : Tables) (i : ℕ) → length ts ≤ i → tables_at (drop i ts) ≡ []
 nothing_left [] zero h = refl
 nothing_left [] (suc i) h = refl
@@ -36,7 +36,7 @@ nothing_left (t ∷ ts) (suc i) h = nothing_left ts i (omega (arith, h))
 
 -- Nodes
 
--- behind a node that was put
+-- after a node that was put
 pub node_put : (places next : List (Option Place)) (ts : Tables) (i : ℕ) (t : Bor (BTreeMap (String Global) TomlValue)) → i < length ts → t ≡ get_or ts i t → node_in places (table_view t.now) ≡ Ok next → nodes_in next (tables_at (drop (i + 1) ts)) ≡ nodes_in places (tables_at (drop i ts))
 node_put places next ts i t inside is put =
     let rest = tables_at (drop (i + 1) ts) in
@@ -59,7 +59,7 @@ node_fault said places next Memory ts i t inside is rest gives = tt
 
 -- Rules
 
--- behind a rule
+-- after a rule
 pub rule_put : (rules : List Rule) (rule : Rule) (ts : Tables) (i : ℕ) (t : Bor (BTreeMap (String Global) TomlValue)) → i < length ts → t ≡ get_or ts i t → Ok rule ≡ rule_in (table_view t.now) → rules_from (rules ++ rule ∷ []) (tables_at (drop (i + 1) ts)) ≡ rules_from rules (tables_at (drop i ts))
 rule_put rules rule ts i t inside is put =
     let rest = tables_at (drop (i + 1) ts) in
@@ -84,6 +84,6 @@ gives_fault view said Memory is = tt
 pub rule_fault : (said : Result (List Rule) ConfigFault) (rules : List Rule) (fault : ConfigFault) (ts : Tables) (i : ℕ) (t : Bor (BTreeMap (String Global) TomlValue)) → i < length ts → t ≡ get_or ts i t → rules_from rules (tables_at (drop i ts)) ≡ said → Err fault ≡ rule_in (table_view t.now) → GivesBy {X = Vec Rule Global} (λ v. v.items) (Err fault) said
 rule_fault said rules fault ts i t inside is rest refused = gives_fault {X = Vec Rule Global} (λ v. v.items) said fault (sym rest ∙ rule_refused rules fault ts i t inside is refused)
 
--- behind the last rule all are read
+-- after the last rule all are read
 pub rules_end : (rules : List Rule) (ts : Tables) (i : ℕ) → length ts ≤ i → Ok rules ≡ rules_from rules (tables_at (drop i ts))
 rules_end rules ts i past = sym (ap (rules_from rules) (nothing_left ts i past))

@@ -3,7 +3,7 @@ use Rattle.std.specs.Prelude.{ℕ, List, codes}
 use Rattle.oc_config.specs.declared.key.Key.{Key}
 use Rattle.oc_config.specs.declared.key.Key.TheVariants.{Chain, Node, Id, Address, Area, Measures, Rule, Allow, Prefix, Method}
 
--- a key as it stands in the text
+-- a key as it appears in the text
 abbrev pub key_text : Key → List ℕ
 key_text Chain = codes "chain"
 key_text Node = codes "node"

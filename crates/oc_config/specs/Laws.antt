@@ -4,7 +4,7 @@ use Rattle.toml.specs.Data.{Members}
 use Rattle.oc_config.specs.Nodes.{id_in, entry_in}
 use Rattle.oc_config.specs.Settings.{Place, Settings}
 
--- the settings say of the node with this table's id, one of so many nodes, what the table says
+-- the settings say of the node with this table's id, one of `nodes` nodes, what the table says
 pub record IsSaid (s : Settings) (nodes : ℕ) (table : Members) : Type 0 where
   pub id : ℕ
   pub place : Place

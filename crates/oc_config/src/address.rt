@@ -15,7 +15,7 @@ pub(crate) fn is_address(text: &[u8]) -> bool
     text.len() <= MAX_ADDRESS_BYTES && is_host(host) && is_port(port)
 }
 
-/// The bytes up to the first colon, and what stands behind it.
+/// The bytes up to the first colon, and what follows it.
 fn cut_at_colon(text: &[u8]) -> (&[u8], &[u8])
     ensures before { result.0.now ≡ before_first is_colon text.now }
     ensures after { result.1.now ≡ after_first is_colon text.now }

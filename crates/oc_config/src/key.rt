@@ -20,7 +20,7 @@ pub enum Key {
 }
 
 impl Key {
-    /// The key as it stands in the text.
+    /// The key as it appears in the text.
     pub fn word(self) -> &'static str
         ensures { result.now ≡ key_text self }
     {

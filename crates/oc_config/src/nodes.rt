@@ -14,7 +14,7 @@ use oc_base::{MAX_AREA, MAX_NODES, Memory};
 use std::alloc::Global;
 use toml::{Table, Value};
 
-/// What is said of each node, by its id. Each id from 1 to the number of tables stands in one of them.
+/// What is said of each node, by its id. Each id from 1 to the number of tables occurs in one of them.
 pub(crate) fn nodes(alloc: Global, tables: &[&Table]) -> Result<Vec<Option<Entry>>, ConfigFault>
     requires { length tables.now ≤ MAX_NODES }
     ensures { GivesBy (λ v. v.items) result (nodes_in (replicate (length tables.now) None) (tables_at tables.now)) }
@@ -26,7 +26,7 @@ pub(crate) fn nodes(alloc: Global, tables: &[&Table]) -> Result<Vec<Option<Entry
     Ok(places)
 }
 
-/// This many places at which nothing stands.
+/// `count` empty places.
 fn free_places(alloc: Global, count: usize) -> Result<Vec<Option<Entry>>, Memory>
     ensures { IfOk result (λ v. v.items ≡ replicate count None) }
 {
@@ -116,7 +116,7 @@ pub(crate) fn split(
     Ok((addresses, areas))
 }
 
-/// Puts what is said of a node behind what is said of those before it.
+/// Puts what is said of a node after what is said of those before it.
 fn put_place(
     addresses: &mut Vec<String>,
     areas: &mut Vec<u8>,

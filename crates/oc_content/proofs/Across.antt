@@ -7,14 +7,14 @@ use Rattle.oc_content.specs.declared.track.Span.{Span}
 use Rattle.oc_content.specs.Indexes.{bytes_at}
 use Rattle.oc_content.specs.Founds.{BeginsWithin}
 
--- a front that goes past the first of two lists
+-- a prefix that goes past the first of two lists
 pub take_beyond : (xs zs : List ℕ) (n : ℕ) → take (length xs + n) (xs ++ zs) ≡ xs ++ take n zs
 take_beyond [] zs n = ap (λ (k : ℕ). take k zs) (zero-add n)
 take_beyond (x ∷ xs) zs n =
     let e : suc (length xs) + n ≡ suc (length xs + n) = omega arith in
     rw e (ap (λ (l : List ℕ). x ∷ l) (take_beyond xs zs n))
 
--- a front of two lists in a row, as the parts of both
+-- a prefix of two lists in a row, as the parts of both
 take_row : (m : ℕ) (xs ys : List ℕ) → take (min m (length xs)) xs ++ take (m - min m (length xs)) ys ≡ take m (xs ++ ys)
 take_row m xs ys = by_order (cases_lt (length xs) m) where
   by_order : (length xs < m) ⊎ (m ≤ length xs) → take (min m (length xs)) xs ++ take (m - min m (length xs)) ys ≡ take m (xs ++ ys)
@@ -27,7 +27,7 @@ take_row m xs ys = by_order (cases_lt (length xs) m) where
       let sum : length xs + (m - length xs) ≡ m = omega (arith, lt) in
       rw (p, take_all (length xs) xs (omega arith)) (sym (take_beyond xs ys (m - length xs)) ∙ ap (λ (k : ℕ). take k (xs ++ ys)) sum)
 
--- what was read of the first span, and what those behind it give, is what all give
+-- what was read of the first span, and what those after it give, is what all give
 pub read_step : (most count n skip : ℕ) (xs ys : List ℕ) → count ≤ most → skip ≤ length xs → n ≡ count + min (most - count) (length xs - skip) → take (n - count) (drop skip xs) ++ take (most - n) (drop 0 ys) ≡ take (most - count) (drop skip (xs ++ ys))
 read_step most count n skip xs ys within inside is =
     let len : length xs - skip ≡ length (drop skip xs) = sym (length-drop skip xs) in
@@ -35,7 +35,7 @@ read_step most count n skip xs ys within inside is =
     let f : most - n ≡ (most - count) - min (most - count) (length (drop skip xs)) = omega (arith, is, len, within) in
     rw (e, f) (take_row (most - count) (drop skip xs) ys ∙ ap (take (most - count)) (sym (drop-append-le skip xs ys inside)))
 
--- what is in a buffer after a read behind what was there
+-- what is in a buffer after a read that follows what was there
 pub read_behind : (count k more : ℕ) (buf part : List ℕ) → count ≤ length buf → more ≤ length part → take (count + more) (put_mid count k buf part) ≡ take count buf ++ take more part
 read_behind count k more buf part within inside =
     let len : length (take count buf) ≡ count = length-take-le count buf within in

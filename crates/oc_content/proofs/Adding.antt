@@ -20,7 +20,7 @@ use Rattle.oc_content.proofs.Lines.{length-shelf, stands_within, goes_within, st
 use Rattle.oc_content.proofs.Meanings.{content_of-good, content_of-push, fits_held, fits_new}
 use Rattle.oc_content.proofs.Tracking.{AreTracked-more, AreTracked-changed, AreTracked-insert, IsTracked-push}
 
--- the line that stands at a place
+-- the line at a place
 line_at : (ks : List Group) (i : ℕ) (k : Group) → i < length ks → k ≡ get_or ks i k → shelf_of k ≡ get_or (shelf ks) i (shelf_of k)
 line_at [] i k h e = absurd (omega (arith, h))
 line_at (j ∷ ks) zero k h e = ap shelf_of e

@@ -28,7 +28,7 @@ refused_load old new loads.Disk why = why
 refused_load old new loads.NotJournal why = why
 refused_load old new loads.Memory why = tt
 
--- a read that failed behind a load
+-- a read that failed after a load
 fails_later : (u v w : DiskView) → GoesOn u v → FailsToRead v w → FailsToRead u w
 fails_later u v w goes fails = record {
   count = Rose-after _ _ _ goes.count fails.count;
@@ -43,7 +43,7 @@ refused_index u v w frames (BadFrame i) goes are journal why = λ honest.
     (journal honest, subst (λ (fs : List (List ℕ)). IsFirstBad fs i) (are honest) (why (still_honest u v goes honest)))
 refused_index u v w frames Memory goes are journal why = tt
 
--- frames behind a bad one are bad
+-- frames after a bad one are bad
 none_more : (bodies : List (List ℕ)) → fold more None bodies ≡ None
 none_more [] = refl
 none_more (body ∷ bodies) = none_more bodies

@@ -17,7 +17,7 @@ use Rattle.oc_content.specs.Tracks.{IsLastBefore}
 leb_false : (a b : ℕ) → leb a b ≡ false → b < a
 leb_false a b h = grind (arith, nat_tests)
 
--- the place before the point where the spans begin behind a byte
+-- the place before the point where the spans begin after a byte
 pub last_before_point : (spans : List Span) (start i : ℕ) (r : Option ℕ) → SomeIff r (1 ≤ i) (i - 1) → i ≤ length spans → (IsNonDecreasingBy (λ s. s.start) spans → IsPartitionPoint (λ s. leb s.start start ≡ true) (λ s. leb s.start start ≡ false) spans i) → IsLastBefore spans start r
 last_before_point spans start i None few within point =
     λ up k d least below. let p = point up in leb_false (get_or spans k d).start start (p.1 k d (omega (arith, few, least)) below)
@@ -29,7 +29,7 @@ last_before_point spans start i (Some j) some within point = (
   ),
 )
 
--- a part of a list joined behind another
+-- a part of a list joined after another
 drop_past : (n : ℕ) (xs ys : List ℕ) → length xs ≤ n → drop n (xs ++ ys) ≡ drop (n - length xs) ys
 drop_past n xs ys h =
     let e : n ≡ length xs + (n - length xs) = omega (arith, h) in
@@ -52,7 +52,7 @@ spans_ascend bodies g at (s ∷ ss) are (suc i) zero d least below = absurd (ome
 spans_ascend bodies g at (s ∷ ss) are (suc i) (suc j) d least below =
     spans_ascend bodies g (at + length (bytes_at bodies s)) ss are.1 i j d (omega (arith, least)) (omega (arith, below))
 
--- the last span that begins at a byte or before it holds that byte, and what stands from it on is there and behind
+-- the last span that begins at a byte or before it holds that byte, and the rest from it on is there and after
 pub record Holds (bodies : List (List ℕ)) (g : List ℕ) (at start i : ℕ) (ss : List Span) (d : Span) : Type 0 where
   pub span : IsSpan bodies g (get_or ss i d).start (get_or ss i d)
   pub here : start - (get_or ss i d).start < length (bytes_at bodies (get_or ss i d))

@@ -1,4 +1,4 @@
--- Where a group stands among the lines, and what an entry makes of them there.
+-- Where a group is among the lines, and what an entry makes of them there.
 use Rattle.std.proofs.Common.{◌≡◌, ℕ, zero, suc, ◌<◌, ◌≤◌, Bool, true, false, List, [], ◌∷◌, length, get_or, drop, insert, Option, Some, None, option_map, Greater, nat_cmp, refl, sym, ap, ◌∙◌, arith}
 use Rattle.std.specs.Cmp.Lexicographic.{slice_cmp}
 use Rattle.oc_base.specs.declared.shelf.Shelf.{Shelf}
@@ -20,19 +20,19 @@ pub length-shelf : (ks : List Group) → length (shelf ks) ≡ length ks
 length-shelf [] = refl
 length-shelf (k ∷ ks) = ap suc (length-shelf ks)
 
--- a name that stands there stands within the list
+-- a name that is there is within the list
 pub stands_within : (ss : List Shelf) (g : List ℕ) (i : ℕ) → IsLineAt ss g i → i < length ss
 stands_within [] g i h = absurd h
 stands_within (s ∷ ss) g zero h = omega arith
 stands_within (s ∷ ss) g (suc i) h = omega (arith, stands_within ss g i h.1)
 
--- a name that would stand there goes into the list or behind it
+-- a name that would be there goes into the list or after it
 pub goes_within : (ss : List Shelf) (g : List ℕ) (i : ℕ) → IsFreeLineAt ss g i → i ≤ length ss
 goes_within ss g zero h = omega arith
 goes_within [] g (suc i) h = absurd h
 goes_within (s ∷ ss) g (suc i) h = omega (arith, goes_within ss g i h.1)
 
--- its line is the one that stands there
+-- its line is the one that is there
 pub line_of-stands : (ss : List Shelf) (g : List ℕ) (i : ℕ) (s : Shelf) → IsLineAt ss g i → s ≡ get_or ss i s → line_of g ss ≡ Some s
 line_of-stands [] g i s h e = absurd h
 line_of-stands (t ∷ ss) g zero s h e =
@@ -51,7 +51,7 @@ absent_below : (g : List ℕ) (ss : List Shelf) → AreLinesAbove g ss → line_
 absent_below g [] all = refl
 absent_below g (s ∷ ss) all = rw all.0 (absent_below g ss all.1)
 
--- a name that would stand there is absent
+-- a name that would be there is absent
 pub line_of-goes : (ss : List Shelf) (g : List ℕ) (i : ℕ) → IsFreeLineAt ss g i → line_of g ss ≡ None
 line_of-goes ss g zero h = absent_below g ss h
 line_of-goes [] g (suc i) h = refl
@@ -74,7 +74,7 @@ with_entry-past : (e : Entry) (k : Group) (ks : List Group) → slice_cmp nat_cm
 with_entry-past e k ks h =
     ap (λ (found : Option Group). with_group (grown e (or_empty e.group found)) (k ∷ ks)) (group_of-past e.group k ks h) ∙ rw h
 
--- where a group stands, an entry changes it alone
+-- where a group is present, an entry changes it alone
 pub with_entry-stands : (ks : List Group) (e : Entry) (i : ℕ) → IsLineAt (shelf ks) e.group i → with_entry e ks ≡ changed (grown e) i ks
 with_entry-stands [] e i h = absurd h
 with_entry-stands (k ∷ ks) e zero h =
@@ -96,7 +96,7 @@ group_of-above : (ks : List Group) (g : List ℕ) → AreLinesAbove g (shelf ks)
 group_of-above [] g h = refl
 group_of-above (k ∷ ks) g h = rw h.0 (group_of-above ks g h.1)
 
--- where a group would stand, an entry puts it in
+-- where a group would be, an entry puts it in
 pub with_entry-goes : (ks : List Group) (e : Entry) (i : ℕ) → IsFreeLineAt (shelf ks) e.group i → with_entry e ks ≡ insert ks i (fresh e)
 with_entry-goes ks e zero h = rw (group_of-above ks e.group h) (with_entry-above ks e h)
 with_entry-goes [] e (suc i) h = absurd h

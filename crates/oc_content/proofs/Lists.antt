@@ -15,7 +15,7 @@ length-changed f (suc i) [] = refl
 length-changed f zero (x ∷ xs) = refl
 length-changed f (suc i) (x ∷ xs) = ap suc (length-changed f i xs)
 
--- a change is a write of what f makes of the element that stands there
+-- a change is a write of what f makes of the element there
 pub changed_is : {X : Type 0} (f : X → X) (i : ℕ) (xs : List X) (x : X) → i < length xs → x ≡ get_or xs i x → changed f i xs ≡ set xs i (f x)
 changed_is f i [] x h e = absurd (omega (arith, h))
 changed_is f zero (y ∷ xs) x h e = ap (λ z. f z ∷ xs) (sym e)
@@ -70,7 +70,7 @@ get_or-map_set_least m zero (z ∷ xs) x y e h (suc k) = omega arith
 get_or-map_set_least m (suc i) (z ∷ xs) x y e h zero = omega arith
 get_or-map_set_least m (suc i) (z ∷ xs) x y e h (suc k) = get_or-map_set_least m i xs x y e h k
 
--- what stands at a place, seen through a map
+-- what is at a place, seen through a map
 pub map_at : {X Y : Type 0} (m : X → Y) (xs : List X) (i : ℕ) (x : X) (d : Y) → i < length xs → x ≡ get_or xs i x → get_or (map m xs) i d ≡ m x
 map_at m [] i x d h e = absurd (omega (arith, h))
 map_at m (y ∷ xs) zero x d h e = ap m (sym e)

@@ -12,7 +12,7 @@ use Rattle.oc_content.specs.Founds.{IsRest, IsSpot}
 use Rattle.oc_base.proofs.NameOrder.{same_name-itself}
 use Rattle.oc_content.proofs.Lines.{group_of-past, line_of-goes}
 
--- the group that stands at a place, with its spans and its line
+-- the group at a place, with its spans and its line
 pub record GroupAt (bodies : List (List ℕ)) (groups : List Group) (ss : List Shelf) (ps : List (List Span)) (g : List ℕ) (at : ℕ) : Type 0 where
   pub group : Group
   pub named : group.name ≡ g
@@ -34,7 +34,7 @@ pub group_at : (bodies : List (List ℕ)) (groups : List Group) (x : Index) (hon
 group_at bodies groups x honest g at is h stands =
     subst (λ (ss : List Shelf). GroupAt bodies groups ss (paths x.tracks.items) g at) (sym is.lines) (group_stands bodies groups (paths x.tracks.items) g at (is.tracked h) (subst (λ (ss : List Shelf). IsLineAt ss g at) is.lines stands))
 
--- the length of the group that stands at a place
+-- the length of the group at a place
 pub held_of-stands : (ss : List Shelf) (g : List ℕ) (at : ℕ) → IsLineAt ss g at → held_of g ss ≡ Some (get_or (helds ss) at 0)
 held_of-stands [] g at stands = absurd stands
 held_of-stands (s ∷ ss) g zero stands =

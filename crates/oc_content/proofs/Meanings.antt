@@ -31,7 +31,7 @@ and_four true true false d h = absurd cc
 and_four true false c d h = absurd cc
 and_four false b c d h = absurd cc
 
--- what is put among greater names stands among them
+-- what is put among greater names is among them
 above_more : (g : List ℕ) (k : Group) (ks : List Group) → slice_cmp nat_cmp g k.name ≡ Less → AreLinesAbove g (shelf ks) → AreLinesAbove g (shelf (with_group k ks))
 above_more g k [] h all = (h, tt)
 above_more g k (j ∷ js) h all = by_order (above_more g k js h all.1) (slice_cmp nat_cmp k.name j.name) refl where
@@ -71,7 +71,7 @@ length-with_group k (j ∷ js) = by_order (length-with_group k js) (slice_cmp na
   by_order rest Equal e = rw e (omega arith)
   by_order rest Greater e = rw e (omega (arith, rest))
 
--- and none more where one of its name stands
+-- and none more where one of its name is there
 length-with_group_same : (k : Group) (ks : List Group) → AreLinesAscending (shelf ks) → is_some (line_of k.name (shelf ks)) ≡ true → length (with_group k ks) ≡ length ks
 length-with_group_same k [] up h = absurd cc
 length-with_group_same k (j ∷ js) up h = by_order (length-with_group_same k js up.1) (slice_cmp nat_cmp k.name j.name) refl where
@@ -169,7 +169,7 @@ taken-good (Some e) ks js name h good = by_test (fits (line_of e.group (shelf ks
       let none : None ≡ Some js = rw t at h in
       absurd cc
 
--- behind a bad frame there are no groups
+-- after a bad frame there are no groups
 fold-none : (bodies : List (List ℕ)) → fold more None bodies ≡ None
 fold-none [] = refl
 fold-none (b ∷ bodies) = fold-none bodies

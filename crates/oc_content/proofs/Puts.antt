@@ -49,7 +49,7 @@ allowed s start count h = by_tests (nat_lt s.held start) s.sealed (nat_lt s.held
     short = not_less MAX_GROUP_BYTES (start + count) pe;
   }
 
--- what is put to a group that is there may stand behind it, if it adds anything
+-- what is put to a group that is there may follow it, if it adds anything
 fits_there : (line : Shelf) (groups start : ℕ) (bytes : List ℕ) (last : Bool) (name : List ℕ) → line.held ≤ MAX_GROUP_BYTES → IsAllowed (standing (Some line) groups) start (length bytes) → (nat_lt 0 (length (drop (line.held - start) bytes)) || (last && not line.sealed && nat_le line.held (start + length bytes))) ≡ true → fits (Some line) groups line.held (length (drop (line.held - start) bytes)) (last && not line.sealed && nat_le line.held (start + length bytes)) ≡ true
 fits_there line groups start bytes last name held ok adds = by_seal line.sealed refl where
   len : length (drop (line.held - start) bytes) ≡ length bytes - (line.held - start)
@@ -100,7 +100,7 @@ fits_first groups start bytes seals ok = all_three (0 == 0) (nat_lt groups MAX_G
   all_three : (a b c : Bool) → a ≡ true → b ≡ true → c ≡ true → (a && b && c) ≡ true
   all_three a b c p q r = rw (p, q, r)
 
--- what is put may stand behind what is held, if it adds anything
+-- what is put may follow what is held, if it adds anything
 pub put_fits : (ss : List Shelf) (name : List ℕ) (place : Place) (start : ℕ) (bytes : List ℕ) (last : Bool) → All (λ s. s.held ≤ MAX_GROUP_BYTES) ss → IsLinePlace ss name place → fault_of (standing_in ss name) start (length bytes) ≡ None → (is_free place || nat_lt 0 (length (put_entry (standing_in ss name) name start bytes last).bytes) || (put_entry (standing_in ss name) name start bytes last).seals) ≡ true → fits (line_of name ss) (length ss) (put_entry (standing_in ss name) name start bytes last).start (length (put_entry (standing_in ss name) name start bytes last).bytes) (put_entry (standing_in ss name) name start bytes last).seals ≡ true
 put_fits ss name (Found i) start bytes last short at none adds =
     let d : Shelf = record { group = []; held = 0; sealed = false } in

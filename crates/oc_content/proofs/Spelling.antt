@@ -30,12 +30,12 @@ fields_read seals n rest name start long is at =
     let p = parsed (take n rest) name (name_fault (take n rest)) is in
     rw (not_below (length rest) (n + 8) long, p.0) (ap (λ (g : List ℕ). Some (record { group = g; start = from_be_bytes w64 (take 8 (drop n rest)); bytes = drop 8 (drop n rest); seals = seals })) (sym p.1) ∙ ap (λ (k : ℕ). Some (record { group = name; start = k; bytes = drop 8 (drop n rest); seals = seals })) (sym at))
 
--- behind the first
+-- after the first
 drop_behind : (k : ℕ) (x : ℕ) (xs : List ℕ) → 0 < k → drop k (x ∷ xs) ≡ drop (k - 1) xs
 drop_behind zero x xs h = absurd (omega (arith, h))
 drop_behind (suc k) x xs h = let e : suc k - 1 ≡ k = omega arith in rw e
 
--- the bytes stand behind the length, the name and the start
+-- the bytes follow the length, the name and the start
 pub bytes_behind : (before n : ℕ) (rest : List ℕ) → drop (before + 9 + n - before) (n ∷ rest) ≡ drop 8 (drop n rest)
 bytes_behind before n rest =
     let e : before + 9 + n - before ≡ 9 + n = omega arith in
@@ -113,7 +113,7 @@ entry_of-written e is small = by_mark e.seals where
 pub bytes_at-written : (h : Heading) (bytes : List ℕ) → h.skip ≡ length (heading h.seals h.group h.start) → drop h.skip (heading h.seals h.group h.start ++ bytes) ≡ bytes
 bytes_at-written h bytes skip = drop_at (heading h.seals h.group h.start) bytes h.skip (sym skip)
 
--- the entry behind a heading that says it
+-- the entry after a heading that says it
 pub entry_at-written : (h : Heading) (bytes : List ℕ) → IsGroupName h.group → h.start < 2 ^ 64 → h.skip ≡ length (heading h.seals h.group h.start) → entry_of (heading h.seals h.group h.start ++ bytes) ≡ Some (entry_at h (heading h.seals h.group h.start ++ bytes))
 entry_at-written h bytes is small skip =
     entry_of-written (record { group = h.group; start = h.start; bytes = bytes; seals = h.seals }) is small

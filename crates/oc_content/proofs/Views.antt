@@ -164,7 +164,7 @@ spot_some view j x g start r is spots honest =
 abbrev pub Finds : Index → ℕ → ℕ → Option (List Span × ℕ) → Type 0
 Finds x at start r = (bodies : List (List ℕ)) (k : Group) → IsTracked bodies k (get_or (paths x.tracks.items) at []) → length k.bytes ≡ get_or (helds x.shelves.items) at 0 → MatchOption r (length k.bytes ≤ start) (λ rest. IsRest bodies k start rest.0 rest.1)
 
--- the bytes of the group that stands there
+-- the bytes of the group that is there
 bytes_there : {D : Type 0} (view : D → DiskView) (j : JournalView D) (x : Index) (g : List ℕ) (k : Group) (is : IsIndexed view j x) → IsTrue (view j.disk).honest → group_of g is.groups ≡ Some k → bytes_in g j.frames ≡ k.bytes
 bytes_there view j x g k is honest found =
     ap (bytes_of g) (groups_are view j x is honest) ∙ ap (λ (f : Option Group). (or_empty g f).bytes) found
@@ -205,7 +205,7 @@ disk_is_no_group r e is disk no_group =
     let other : ReadDisk ≡ NoGroup = sym disk ∙ same in
     absurd cc
 
--- a group that stands there is not absent
+-- a group that is there is not absent
 pub stands_there : (ss : List Shelf) (g : List ℕ) (at : ℕ) → IsLineAt ss g at → held_of g ss ≢ None
 stands_there ss g at stands none =
     let some : Some (get_or (helds ss) at 0) ≡ None = sym (held_of-stands ss g at stands) ∙ none in

@@ -9,7 +9,7 @@ use Rattle.oc_base.specs.Shelves.{line_of}
 use Rattle.oc_content.specs.Entries.{Entry, entry_of}
 use Rattle.oc_base.specs.declared.limits.TheConstants.{MAX_GROUPS, MAX_GROUP_BYTES}
 
--- Whether an entry with this start, so many bytes and perhaps a seal may stand behind what is held. It begins where its group ends, which is
+-- Whether an entry with this start, `count` bytes and perhaps a seal may follow what is held. It begins where its group ends, which is
 -- not sealed and does not grow past its limit. A group that is new is not one too many, and to one that is held the entry adds something.
 abbrev pub fits : Option Shelf → ℕ → ℕ → ℕ → Bool → Bool
 fits None groups start count seals = (start == 0) && nat_lt groups MAX_GROUPS && nat_le count MAX_GROUP_BYTES
@@ -24,7 +24,7 @@ grown e k = record { name = e.group; bytes = k.bytes ++ e.bytes; sealed = k.seal
 abbrev pub with_entry : Entry → List Group → List Group
 with_entry e ks = with_group (grown e (group_or_empty e.group ks)) ks
 
--- the groups after an entry, if it may stand there
+-- the groups after an entry, if it may come there
 abbrev pub taken : List Group → Option Entry → Option (List Group)
 taken ks None = None
 taken ks (Some e) = if fits (line_of e.group (shelf ks)) (length ks) e.start (length e.bytes) e.seals then Some (with_entry e ks) else None

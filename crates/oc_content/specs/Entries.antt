@@ -3,7 +3,7 @@ use Rattle.std.specs.Prelude.{ℕ, ◌+◌, Bool, true, false, ◌==◌, nat_lt,
 use Rattle.std.specs.Int.{w64, to_be_bytes, from_be_bytes}
 use Rattle.oc_base.specs.Names.{name_fault}
 
--- bytes at the end of a group, whose length is `start` before them, and perhaps its seal behind them
+-- bytes at the end of a group, whose length is `start` before them, and perhaps its seal after them
 pub record Entry : Type 0 where
   pub group : List ℕ
   pub start : ℕ
@@ -31,7 +31,7 @@ entry_of (b ∷ rest) = if b == 0 then fields true rest else fields false (b ∷
 abbrev pub mark : Bool → List ℕ
 mark seals = if seals then 0 ∷ [] else []
 
--- what stands before the bytes
+-- what comes before the bytes
 abbrev pub heading : Bool → List ℕ → ℕ → List ℕ
 heading seals name start = mark seals ++ ((length name ∷ name) ++ to_be_bytes w64 start)
 

@@ -7,7 +7,7 @@ use Rattle.oc_base.specs.declared.group.Group.{Group}
 use Rattle.oc_content.specs.Entries.{Entry, entry_of}
 use Rattle.oc_content.specs.Indexes.{bytes_at, IsSpan}
 
--- the byte is at that place of the span, and what stands from it on is in this span and those behind it
+-- the byte is at that place of the span, and the rest from it on is in this span and those after it
 pub record IsHit (bodies : List (List ℕ)) (k : Group) (path : List Span) (start : ℕ) (f : Found) : Type 0 where
   pub at : ℕ
   pub span : (d : Span) → IsSpan bodies k.name at (get_or path f.span d)

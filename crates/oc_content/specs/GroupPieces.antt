@@ -24,7 +24,7 @@ entry_piece g (Some e) = if same_name g e.group then e.bytes else []
 abbrev pub piece_for : List ℕ → List ℕ → List ℕ
 piece_for g body = entry_piece g (entry_of body)
 
--- the pieces for this group, one behind the other
+-- the pieces for this group, one after the other
 abbrev pub pieces_for : List ℕ → List (List ℕ) → List ℕ
 pieces_for g bodies = flat_map (piece_for g) bodies
 

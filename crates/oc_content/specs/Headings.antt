@@ -1,4 +1,4 @@
--- A heading that was read, and the body behind it.
+-- A heading that was read, and the body after it.
 use Rattle.std.specs.Prelude.{◌≡◌, ℕ, ◌+◌, ◌-◌, ◌<◌, ◌≤◌, Option, None, Some, List, drop, length}
 use Rattle.oc_content.specs.declared.heading.Heading.{Heading}
 use Rattle.oc_content.specs.Entries.{Entry}
@@ -12,7 +12,7 @@ abbrev pub IsBehind : Option Heading → List ℕ → Option Entry → Type 0
 IsBehind None body said = said ≡ None
 IsBehind (Some h) body said = said ≡ Some (entry_at h body)
 
--- the same of the fields, before which so many bytes stand in the body
+-- the same of the fields, which come after `before` bytes in the body
 abbrev pub IsHeadingOf : ℕ → List ℕ → Option Heading → Option Entry → Type 0
 IsHeadingOf before bytes None said = said ≡ None
 IsHeadingOf before bytes (Some h) said =

@@ -33,7 +33,7 @@ pub record IsSpan (bodies : List (List ℕ)) (group : List ℕ) (at : ℕ) (s : 
   pub seals : Bool
   pub says : entry_of (get_or bodies s.frame []) ≡ Some (record { group = group; start = at; bytes = bytes_at bodies s; seals = seals })
 
--- the spans stand one behind the other, from this place of the group on
+-- the spans follow one another, from this place of the group on
 abbrev pub AreSpans : List (List ℕ) → List ℕ → ℕ → List Span → Type 0
 AreSpans bodies group at [] = Unit {0}
 AreSpans bodies group at (s ∷ ss) =
@@ -72,7 +72,7 @@ pub record IsSized (x : Index) : Type 0 where
   pub few : length x.shelves.items ≤ MAX_GROUPS
   pub short : All (λ s. s.held ≤ MAX_GROUP_BYTES) x.shelves.items
 
--- the place is one of so many groups, or free for one more
+-- the place is one of n groups, or free for one more
 abbrev pub IsWithin : Place → ℕ → Type 0
 IsWithin (Found i) n = i < n
 IsWithin (Free i) n = (i ≤ n) × (n < MAX_GROUPS)
@@ -100,7 +100,7 @@ pub record KeepsTracks (old new : List Track) : Type 0 where
   pub paths : paths new ≡ paths old
   pub rooms : (i : ℕ) → get_or (rooms old) i 0 ≤ get_or (rooms new) i 0
 
--- the line of a group with an entry of so many bytes
+-- the line of a group with an entry of `count` bytes
 abbrev pub line_with : Heading → ℕ → Shelf → Shelf
 line_with h count s = record { group = s.group; held = s.held + count; sealed = s.sealed || h.seals }
 

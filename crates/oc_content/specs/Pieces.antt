@@ -5,7 +5,7 @@ use Rattle.oc_content.specs.declared.track.Track.{Track}
 use Rattle.oc_content.specs.Entries.{entry_of}
 use Rattle.oc_content.specs.Headings.{entry_at}
 
--- the body says what the heading and the bytes behind it say, of which there are so many; and the track is one of no spans
+-- the body says what the heading and the `count` bytes after it say; and the track is one of no spans
 pub record IsPiece (body : List ℕ) (h : Heading) (count : ℕ) (track : Track) : Type 0 where
   pub says : entry_of body ≡ Some (entry_at h body)
   pub count_is : count ≡ length (entry_at h body).bytes

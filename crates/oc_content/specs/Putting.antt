@@ -8,16 +8,16 @@ use Rattle.oc_base.specs.Shelves.{line_of}
 use Rattle.oc_base.specs.declared.limits.TheConstants.{MAX_GROUPS, MAX_GROUP_BYTES}
 use Rattle.oc_content.specs.Entries.{Entry}
 
--- how a group stands that has this line, or none, among so many: an absent one is empty, and perhaps one too many
+-- the standing of a group that has this line, or none, among `groups` groups: an absent one is empty, and perhaps one too many
 abbrev pub standing : Option Shelf → ℕ → Standing
 standing None groups = record { held = 0; sealed = false; one_too_many = nat_le MAX_GROUPS groups }
 standing (Some line) groups = record { held = line.held; sealed = line.sealed; one_too_many = false }
 
--- how the group of this name stands among these lines
+-- the standing of the group of this name among these lines
 abbrev pub standing_in : List Shelf → List ℕ → Standing
 standing_in shelves group = standing (line_of group shelves) (length shelves)
 
--- the first that refuses so many bytes from a place on
+-- the first that refuses `count` bytes from a place on
 abbrev pub fault_of : Standing → ℕ → ℕ → Option PutError
 fault_of s start count =
     if nat_lt s.held start then Some (Gap s.held)

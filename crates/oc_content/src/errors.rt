@@ -28,7 +28,7 @@ pub enum ContentError {
 /// Why bytes were not put, in the order in which it is tested.
 #[derive(Clone, Copy, Debug, PartialEq, Eq)]
 pub enum PutError {
-    /// They begin past the bytes that are held, of which there are so many.
+    /// They begin past the bytes that are held, whose number is `held`.
     Gap { held: u64 },
     /// The group is sealed and they end past its end.
     Sealed,

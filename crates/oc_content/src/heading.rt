@@ -21,7 +21,7 @@ pub struct Heading {
     pub start: u64,
     /// The offset in the body where its bytes begin.
     pub skip: u16,
-    /// Whether the group is sealed behind the bytes.
+    /// Whether the group is sealed after the bytes.
     pub seals: bool,
 }
 
@@ -94,7 +94,7 @@ fn short_frame(alloc: Global, body: &[u8]) -> Result<Frame, AllocError>
     }
 }
 
-/// Reads the length of a name, the name and the start, which are behind `before` bytes.
+/// Reads the length of a name, the name and the start, which follow `before` bytes.
 fn read_fields(bytes: &[u8], seals: bool, before: u16) -> Option<Heading>
     requires { before ≤ 1 }
     ensures { IsHeadingOf before bytes.now result (fields seals bytes.now) }

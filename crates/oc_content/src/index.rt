@@ -240,7 +240,7 @@ fn fits_held(shelf: &Shelf, heading: &Heading, count: u64) -> bool
         && (heading.seals || 0 < count)
 }
 
-/// Whether an entry with `count` bytes may begin a group, behind this many others.
+/// Whether an entry with `count` bytes may begin a group, after this many others.
 fn fits_new(groups: usize, heading: &Heading, count: u64) -> bool
     ensures { result ≡ fits None groups heading.now.start count heading.now.seals }
 {

@@ -2,7 +2,7 @@
 //!
 //! The body of a frame says: these bytes at the end of this group, and perhaps its seal. What the
 //! frames mean together is one definition, `content_of`: the groups ascending by name, each with its
-//! bytes and its seal, or nothing where a frame may not stand where it stands.
+//! bytes and its seal, or nothing where a frame is not allowed where it is.
 //!
 //! A contract sees a [`Content`] as its journal, the line of each group, and for how many more
 //! frames of each group its index has memory. The layers above rest on this: over every honest disk

@@ -146,7 +146,7 @@ fn standing_of(shelf: &Shelf) -> Standing
     }
 }
 
-/// The first that refuses so many bytes from a place on.
+/// The first that refuses `count` bytes from a place on.
 pub fn refusal(standing: &Standing, start: u64, count: u64) -> Option<PutError>
     requires held { standing.now.held ≤ MAX_GROUP_BYTES }
     requires count { count ≤ MAX_GROUP_BYTES }

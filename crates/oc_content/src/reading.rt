@@ -70,7 +70,7 @@ pub fn read_spans<D: Disk>(
     Ok(count)
 }
 
-/// Reads the bytes of a span from an offset on, behind the `count` bytes that are in the buffer;
+/// Reads the bytes of a span from an offset on, after the `count` bytes that are in the buffer;
 /// answers how many are there then.
 fn read_span<D: Disk>(
     journal: &mut Journal<D>,

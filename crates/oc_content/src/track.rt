@@ -20,7 +20,7 @@ pub struct Span {
     pub skip: u16,
 }
 
-/// The spans of a group, one behind the other.
+/// The spans of a group, one after the other.
 #[derive(Drop)]
 pub struct Track {
     pub spans: Vec<Span>,

@@ -312,7 +312,7 @@ impl<'a> Draft<'a> {
         self.plan.touch(touch)
     }
 
-    /// The nodes still to be asked become those of a round, but for one. No node has refused since.
+    /// The nodes still to be asked become those of a round, except for one. No node has refused since.
     pub fn set_tries(&mut self, without: Option<NodeId>) -> Result<(), Memory>
         ensures { OnOk result (self.new ≡ goes self.old (set_tries self.old.step without)) }
     {

@@ -51,7 +51,7 @@ still a b c first second = omega arith
 
 -- What was passed on so far
 
--- bytes came that lead to this stage; of their content so much was taken, and this is still gathered
+-- bytes came that lead to this stage; of their content this much was taken, and this is still gathered
 pub record HasPassed {S K : Type 0} (gives : S → List ℕ → S → Type 0) (takes : K → List ℕ → K → Type 0) (old new : S) (before after : K) (stage : Stage) (count : ℕ) (gathered : List ℕ) : Type 0 where
   pub bytes : List ℕ
   pub content : List ℕ
@@ -226,7 +226,7 @@ passed_too_long gives fails ended_by takes breaks a b p q s count gathered has l
   cause = (has.bytes, [], has.content ++ gathered, s, sym (append-nil has.bytes), has.taken, inr (inr (omega (arith, long, has.long, length-append has.content gathered))));
 }
 
--- the sink failed behind a front of what was gathered
+-- the sink failed after a prefix of what was gathered
 pub passed_unsent : {S K : Type 0} (gives fails : S → List ℕ → S → Type 0) (ended_by : S → Type 0) (takes breaks : K → List ℕ → K → Type 0) → Then takes breaks → (a b : S) (p q r : K) (s : Stage) (count : ℕ) (gathered : List ℕ) (n : ℕ) → HasPassed gives takes a b p q s count gathered → breaks q (take n gathered) r → StopsPassing gives fails ended_by takes breaks Chunked a b p r ends.Sink
 passed_unsent gives fails ended_by takes breaks fail a b p q r s count gathered n has unsent = record {
   body = has.bytes;

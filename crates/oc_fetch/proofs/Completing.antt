@@ -18,7 +18,7 @@ use Rattle.oc_http.specs.declared.reply.ReplyHead.{ReplyHead}
 use Rattle.url.specs.Parser.{parse_url}
 use Rattle.url.specs.Parts.{Parts}
 
--- the reply of a turn is a front of all that its connection gave
+-- the reply of a turn is a prefix of all that its connection gave
 pub record IsFrontOf (turn : Turn) (text : List ℕ) : Type 0 where
   pub left : List ℕ
   pub split : text ≡ turn.reply ++ left
@@ -50,7 +50,7 @@ one_place place h k p q e r s =
     let url = one_url place.target r.follows.points.text s.follows.points.text r.follows.url s.follows.url (some_is _ _ location) r.follows.points.leads s.follows.points.leads in
     r.follows.next_is ∙ ap (λ (u : Parts). sent_to u place) url ∙ sym s.follows.next_is
 
--- behind a content of which one was wanted none is wanted
+-- after a content of which one was wanted none is wanted
 none_wanted : (length : Option ℕ) (replies : ℕ) → replies ≡ 1 → wanted_behind length replies ≡ 0
 none_wanted None replies one = omega arith
 none_wanted (Some count) replies one = refl
@@ -72,7 +72,7 @@ none_goes_on wish place [] content reached (Some turn) rest end none leads ends 
 
 -- Where the last turn ended
 
--- no whole content behind a head that has one no whole content ever
+-- where a whole content follows a head, its first bytes do not rule that out
 not_cut : (extent : Extent) (behind left : List ℕ) (over : Bool) → (over ≡ true → left ≡ []) → HoldsWhole extent (behind ++ left) → IsBodiless extent behind over → ⊥
 not_cut (Counted count) behind left over end holds none =
     let nothing : length left ≡ 0 = ap length (end none.1) in

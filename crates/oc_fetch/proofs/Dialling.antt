@@ -30,7 +30,7 @@ cut_dials true place at e f = cc
 cut_dials false place None e f = absurd f
 cut_dials false place (Some address) e f = (address, refl)
 
--- behind a turn for a whole content no connection is kept
+-- after a turn for a whole content no connection is kept
 still_new : (place : Place) (turn : Turn) (content : List ℕ) (next : Place) → GoesOn whole place turn content next → next.kept ≡ false
 still_new place turn content next goes = elim goes.leads.so [
   | inl redirects ↦ ap (λ (p : Place). p.kept) redirects.0.follows.next_is
@@ -72,7 +72,7 @@ told_split (t ∷ talks) talk (d ∷ made) told =
 all_behind : (talks : Talks) (turn : Turn) (at : Option (List ℕ)) (address : List ℕ) → at ≡ Some address → (talks.ended ++ ended_by at talks.last) ++ option_to_list (last_by at turn talks.last) ≡ all_of talks ++ begun address turn ∷ []
 all_behind talks turn at address e = let P : Option (List ℕ) → Type 0 = λ o. (talks.ended ++ ended_by o talks.last) ++ option_to_list (last_by o turn talks.last) ≡ all_of talks ++ begun address turn ∷ [] in subst P (sym e) refl
 
--- the dials of turns that dial, behind those of others
+-- the dials of turns that dial, after those of others
 pub record HasFronts (talks : List Talk) (turns : List Turn) (made : List Dial) : Type 0 where
   pub before : List Dial
   pub of_turns : List Dial

@@ -53,7 +53,7 @@ outgoing_last view story takes breaks So old new a b p q end first last h = reco
   so = h.so;
 }
 
--- A request and what came behind it
+-- A request and what came after it
 
 told_heard : (at : Option (List ℕ)) (request bytes : List ℕ) (over : Bool) (a b c : Option Story) → Told (Speaks (asking at request)) a b → Told (OnOutgoing (Hears bytes)) b c → (over ≡ true → IfTold c IsHeardOut) → Told (Speaks (heard at request bytes over)) a c
 told_heard at request bytes over a b None p q e = tt

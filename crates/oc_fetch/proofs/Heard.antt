@@ -1,4 +1,4 @@
--- A reply is its head and what stands behind it.
+-- A reply is its head and what follows it.
 use Rattle.std.proofs.Common.{◌≡◌, ℕ, Bool, true, false, Option, List, [], ◌++◌, refl, sym, inl, inr}
 use Rattle.std.proofs.lemmas.List.{append-nil}
 use Rattle.oc_fetch.specs.Conversations.{Replied, Serves, Brings, LeadsOn, StopsContent, EndsWith}
@@ -20,7 +20,7 @@ use Rattle.oc_http.specs.declared.reply.ReplyHead.{ReplyHead}
 abbrev Rests : {S : Type 0} → (S → List ℕ → S → Type 0) → Type 0
 Rests {S} gives = (s : S) → gives s [] s
 
--- Behind the head of a 200
+-- After the head of a 200
 
 -- its content is not taken
 pub untaken : {S K : Type 0} (gives fails : S → List ℕ → S → Type 0) (ended : S → Type 0) (takes breaks : K → List ℕ → K → Type 0) → Rests gives → Rests takes → (wish : Wish) (head : ReplyHead) (s : S) (k : K) → head.status ≡ 200 → ¬ (Takes wish head) → IsLastHeard gives fails ended takes breaks (StopsContent wish head) s s k k ends.Reply
@@ -56,9 +56,9 @@ stopped_content gives fails ended takes breaks wish head a c p r end serves stop
   so = passing_stops gives fails ended takes breaks wish head a c p r end serves stops;
 }
 
--- A head and what is behind it
+-- A head and what follows it
 
--- a reply of this head, and of bytes behind it
+-- a reply of this head, and of bytes after it
 whole_reply : (P : ReplyHead → List ℕ → Type 0) (bytes behind : List ℕ) (head : ReplyHead) → SaysReplyHead bytes head → P head behind → Replied (bytes ++ behind) P
 whole_reply P bytes behind head says so = record {
   head = head;
@@ -88,7 +88,7 @@ heard_content gives ended takes then wish place next head bytes a b c p r came s
   so = whole_reply _ bytes heard.reply head says (inr heard.so);
 }
 
--- the head of a 200, behind which the content stopped
+-- the head of a 200, after which the content stopped
 content_ends : (wish : Wish) (place : Place) (head : ReplyHead) (bytes behind : List ℕ) (over : Bool) (written : List ℕ) (end : GetEnd) → SaysReplyHead bytes head → StopsContent wish head behind over written end → EndsWith wish place (bytes ++ behind) over written end
 content_ends wish place head bytes behind over written ends.Reply says stops = inr (whole_reply _ bytes behind head says (inr stops))
 content_ends wish place head bytes behind over written ends.Link says stops = inr (whole_reply _ bytes behind head says stops)

@@ -1,4 +1,4 @@
--- Turns one behind another, and the dials that they make.
+-- Turns one after another, and the dials that they make.
 use Rattle.std.proofs.Common.{◌≡◌, ℕ, Bool, Option, Some, None, List, [], ◌∷◌, ◌++◌, option_to_list, refl, sym, ap, ◌∙◌, subst}
 use Rattle.std.proofs.lemmas.List.{append-nil, append_assoc}
 use Rattle.oc_fetch.specs.Turns.{Turn, Talk, Talks, begun, went_on, ended_by, last_by, behind_turn, behind_turns, no_talks, IsTold, AreTold, Makes, Carries, ready_for, Speaks}
@@ -89,7 +89,7 @@ pub behind_turns-push : (talks : Talks) (turns : List Turn) (turn : Turn) → be
 behind_turns-push talks [] turn = refl
 behind_turns-push talks (t ∷ turns) turn = behind_turns-push (behind_turn talks t) turns turn
 
--- behind a turn there is a connection
+-- after a turn there is a connection
 pub last_behind : (at : Option (List ℕ)) (turn : Turn) (last : Option Talk) → IsReady at last → IsReady None (last_by at turn last)
 last_behind None turn None ready = absurd ready
 last_behind None turn (Some talk) ready = tt

@@ -1,4 +1,4 @@
--- Pieces that move from a source to a sink, one behind another.
+-- Pieces that move from a source to a sink, one after another.
 use Rattle.std.proofs.Common.{◌≡◌, ℕ, ◌+◌, ◌<◌, ◌≤◌, Bool, true, false, List, [], ◌++◌, refl, sym, ap, ◌∙◌, arith, length-append}
 use Rattle.std.proofs.lemmas.List.{append_assoc, append-nil}
 use Rattle.oc_fetch.specs.Passing.{Came, Sent, IsMoved, IsHalted, IsOfCall, IsPassed, StopsBody, StopsPassing}
@@ -9,7 +9,7 @@ use Rattle.oc_fetch.specs.declared.extent.Extent.TheVariants.{Counted, ToTheEnd}
 use Rattle.oc_fetch.specs.declared.extent.TheConstants.{MAX_OPEN_BYTES}
 use Rattle.oc_outside.specs.LinkCalls.{IsFront}
 
--- one relation behind another
+-- one relation after another
 abbrev pub Then : {S : Type 0} → (S → List ℕ → S → Type 0) → (S → List ℕ → S → Type 0) → Type 0
 Then {S} gives next = (a b c : S) (x y : List ℕ) → gives a x b → next b y c → next a (x ++ y) c
 
@@ -33,7 +33,7 @@ sent_then takes breaks then fail Reply a b c x y = then a b c x y
 sent_then takes breaks then fail Link a b c x y = then a b c x y
 sent_then takes breaks then fail Memory a b c x y = then a b c x y
 
--- a front behind the same bytes
+-- a prefix after the same bytes
 pub front_behind : (x front whole : List ℕ) → IsFront front whole → IsFront (x ++ front) (x ++ whole)
 front_behind x front whole (rest, e) = (rest, ap (λ (s : List ℕ). x ++ s) e ∙ sym (append_assoc x front rest))
 
@@ -101,7 +101,7 @@ open_halted gives fails ended takes breaks most a c p r end halted = record {
   cause = stopped ToTheEnd halted.bytes false end halted.cause;
 }
 
--- a whole list is a front of itself
+-- a whole list is a prefix of itself
 pub front_whole : (xs : List ℕ) → IsFront xs xs
 front_whole xs = ([], sym (append-nil xs))
 

@@ -21,7 +21,7 @@ same_head one text h k b c p q =
     let both = one text b c (Ok h) (Ok k) (p.bytes, p.split, p.says) (q.bytes, q.split, q.says) tt tt in
     (ok_is h k both.0, both.1)
 
--- more bytes behind a reply
+-- more bytes after a reply
 pub says_more : (reply left text : List ℕ) (head : ReplyHead) (behind : List ℕ) → text ≡ reply ++ left → Says reply head behind → Says text head (behind ++ left)
 says_more reply left text head behind split says = record {
   bytes = says.bytes;

@@ -7,7 +7,7 @@ use Rattle.oc_outside.specs.Exchange.{Gives, Hears, Says, HearsThenBreaks, SaysT
 use Rattle.oc_outside.specs.LinkCalls.{Told, OnOutgoing, connection_of, address_of, DialsTo, DialFails}
 use Rattle.oc_outside.specs.Story.{Connection, Dial, Story, dials, unused, wrote, broken, hung_up, IsHeardOut}
 
--- what is told stands, where more follows from it
+-- what is told holds, where more follows from it
 pub told_so : (R Q : Story → Story → Type 0) → ((a b : Story) → R a b → Q a b) → (a b : Option Story) → Told R a b → Told Q a b
 told_so R Q so a None p = tt
 told_so R Q so None (Some b) p = absurd p
@@ -76,13 +76,13 @@ told_cut at request R whole cut a None p = (asking at request, record { address 
 told_cut at request R whole cut None (Some b) p = absurd p
 told_cut at request R whole cut (Some a) (Some b) p = cut a b p
 
--- A reply behind it
+-- A reply after it
 
 -- a turn with a reply
 abbrev pub heard : Option (List ℕ) → List ℕ → List ℕ → Bool → Turn
 heard at request reply over = record { dialled = at; request = request; reply = reply; over = over }
 
--- a dial from which bytes were read behind a request
+-- a dial from which bytes were read after a request
 heard_told : (bytes : List ℕ) (over : Bool) (talk : Talk) (old new : Dial) → IsTold talk old → Gives bytes old.connection new.connection → Some new.address ≡ Some old.address → (over ≡ true → new.connection.left ≡ []) → IsTold (record { address = talk.address; written = talk.written; read = talk.read ++ bytes; over = over }) new
 heard_told bytes over talk old new told gives a end = record {
   address = some_is new.address old.address a ∙ told.address;
@@ -109,7 +109,7 @@ heard_carries (Some at) request bytes over o None n c h a end = absurd c
 heard_carries (Some at) request bytes over o (Some m) None c h a end = absurd h
 heard_carries (Some at) request bytes over o (Some m) (Some n) c h a end = heard_told bytes over (begun at (asking (Some at) request)) m n c h a end
 
--- a change of the outgoing connection behind a change of it
+-- a change of the outgoing connection after a change of it
 behind : (at : Option (List ℕ)) (a b c : Story) → b ≡ record (ready_for at a) { outgoing = b.outgoing } → c ≡ record b { outgoing = c.outgoing } → c ≡ record (ready_for at a) { outgoing = c.outgoing }
 behind at a b c p q = q ∙ ap (λ (s : Story). record s { outgoing = c.outgoing }) p
 

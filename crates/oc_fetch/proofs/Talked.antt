@@ -149,12 +149,12 @@ hung_talked takes breaks So a b c p q end hung talked = record {
   so = talked.so;
 }
 
--- behind a content fewer replies are wanted
+-- after a content fewer replies are wanted
 fewer_wanted : (length : Option ℕ) (replies : ℕ) → 0 < replies → wanted_behind length replies < replies
 fewer_wanted None replies wanted = omega arith
 fewer_wanted (Some count) replies wanted = wanted
 
--- behind each turn fewer replies and redirections are left
+-- after each turn fewer replies and redirections are left
 pub goes_down : (wish : Wish) (place next : Place) (turn : Turn) (content : List ℕ) → 0 < place.replies → GoesOn wish place turn content next → next.replies + next.redirections < place.replies + place.redirections
 goes_down wish place next turn content wanted goes = elim goes.leads.so [
   | inl redirects ↦

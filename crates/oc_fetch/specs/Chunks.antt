@@ -22,7 +22,7 @@ StopsAt stage front rest over Link = front ++ rest ≡ []
 StopsAt stage front rest over Memory = ⊤
 StopsAt stage front rest over end = ⊥
 
--- of what was gathered a front was written, of this length, and this is left
+-- of what was gathered a prefix was written, of this length, and this is left
 pub record IsPut {K : Type 0} (takes : K → List ℕ → K → Type 0) (old new : K) (before after : List ℕ) (count : ℕ) : Type 0 where
   pub written : List ℕ
   pub split : before ≡ written ++ after

@@ -17,7 +17,7 @@ use Rattle.url.specs.Parts.{Parts}
 abbrev pub text_of : Dial → List ℕ
 text_of dial = dial.connection.read ++ dial.connection.left
 
--- the bytes behind a head hold a whole content, which has no chunks
+-- the bytes after a head hold a whole content, which has no chunks
 abbrev pub HoldsWhole : Extent → List ℕ → Type 0
 HoldsWhole (Counted count) behind = count ≤ length behind
 HoldsWhole Chunked behind = ⊥

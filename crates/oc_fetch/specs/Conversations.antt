@@ -12,7 +12,7 @@ use Rattle.oc_http.specs.declared.reply.ReplyHead.{ReplyHead}
 use Rattle.oc_outside.specs.LinkCalls.{IsFront}
 use Rattle.url.specs.Parts.{Parts}
 
--- a reply of a head, and of bytes behind it, of which this holds
+-- a reply of a head, and of bytes after it, of which this holds
 pub record Replied (reply : List ℕ) (P : ReplyHead → List ℕ → Type 0) : Type 0 where
   pub head : ReplyHead
   pub behind : List ℕ
@@ -39,12 +39,12 @@ pub record Serves (wish : Wish) (head : ReplyHead) : Type 0 where
   pub status : head.status ≡ 200
   pub taken : Takes wish head
 
--- how many replies are wanted behind one: none where it tells its length
+-- how many replies are wanted after one: none where it tells its length
 abbrev pub wanted_behind : Option ℕ → ℕ → ℕ
 wanted_behind (Some count) replies = 0
 wanted_behind None replies = replies - 1
 
--- the place behind a content
+-- the place after a content
 abbrev pub behind_content : ReplyHead → List ℕ → Place → Place
 behind_content head content place = record place {
   start = min (place.start + length content) (2 ^ 64 - 1);
@@ -52,7 +52,7 @@ behind_content head content place = record place {
   replies = wanted_behind head.length place.replies;
 }
 
--- the reply is a whole content, behind which the client is at this place
+-- the reply is a whole content, after which the client is at this place
 pub record Brings (wish : Wish) (place : Place) (head : ReplyHead) (body : List ℕ) (over : Bool) (content : List ℕ) (next : Place) : Type 0 where
   pub serves : Serves wish head
   pub whole : IsWhole (extent_of head) body content over
@@ -80,7 +80,7 @@ pub record IsUntaken (wish : Wish) (head : ReplyHead) : Type 0 where
   pub status : head.status ≡ 200
   pub untaken : ¬ (Takes wish head)
 
--- behind the head of a 200 bytes came, of which this was written, and the conversation ends so
+-- after the head of a 200, bytes came, of which this was written, and the conversation ends so
 abbrev pub StopsContent : Wish → ReplyHead → List ℕ → Bool → List ℕ → GetEnd → Type 0
 StopsContent wish head body over written Reply = (IsUntaken wish head × (written ≡ [])) ⊎ CutsOff wish head body over written
 StopsContent wish head body over written Link = Passes wish head body written

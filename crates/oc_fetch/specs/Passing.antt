@@ -18,7 +18,7 @@ abbrev pub Sent : {K : Type 0} → (K → List ℕ → K → Type 0) → (K → 
 Sent takes fails old bytes new Sink = fails old bytes new
 Sent takes fails old bytes new end = takes old bytes new
 
--- so many bytes came and were taken
+-- `count` bytes came and were taken
 pub record IsMoved {S K : Type 0} (gives : S → List ℕ → S → Type 0) (takes : K → List ℕ → K → Type 0) (old new : S) (before after : K) (count : ℕ) : Type 0 where
   pub bytes : List ℕ
   pub came : gives old bytes new
@@ -31,7 +31,7 @@ IsOfCall Link = ⊤
 IsOfCall Sink = ⊤
 IsOfCall end = ⊥
 
--- some bytes came, at most so many, a front of them was taken, and then a call failed
+-- some bytes came, at most `most`, a prefix of them was taken, and then a call failed
 pub record IsHalted {S K : Type 0} (gives fails : S → List ℕ → S → Type 0) (takes breaks : K → List ℕ → K → Type 0) (most : ℕ) (old new : S) (before after : K) (end : GetEnd) : Type 0 where
   pub bytes : List ℕ
   pub written : List ℕ
@@ -60,7 +60,7 @@ StopsBody extent body over Sink = ⊤
 StopsBody extent body over Memory = ⊤
 StopsBody extent body over end = ⊥
 
--- a body began, a front of its content was taken, and then this ended it
+-- a body began, a prefix of its content was taken, and then this ended it
 pub record StopsPassing {S K : Type 0} (gives fails : S → List ℕ → S → Type 0) (ended : S → Type 0) (takes breaks : K → List ℕ → K → Type 0) (extent : Extent) (old new : S) (before after : K) (end : GetEnd) : Type 0 where
   pub body : List ℕ
   pub content : List ℕ

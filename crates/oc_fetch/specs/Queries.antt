@@ -6,13 +6,13 @@ use Rattle.oc_base.specs.declared.limits.TheConstants.{MAX_START}
 use Rattle.oc_base.specs.declared.why.Why.{Why}
 use Rattle.oc_base.specs.Words.{number_in}
 
--- what stands behind a prefix, where the bytes begin with it
+-- what follows a prefix, where the bytes begin with it
 abbrev pub behind : List ℕ → List ℕ → Option (List ℕ)
 behind [] bytes = Some bytes
 behind (p ∷ prefix) [] = None
 behind (p ∷ prefix) (b ∷ bytes) = if b == p then behind prefix bytes else None
 
--- the parts of a query, which stand between `&`
+-- the parts of a query, which are separated by `&`
 abbrev pub parts : List ℕ → List (List ℕ)
 parts query = slice_split (λ b. b == byte "&") query
 
@@ -46,7 +46,7 @@ abbrev pub start_of : Option (List ℕ) → ℕ
 start_of None = 0
 start_of (Some query) = unwrap_or (first_start (parts query)) 0
 
--- the area of a URL, as it stands there
+-- the area of a URL, as it is written there
 abbrev pub area_of : Option (List ℕ) → Option (List ℕ)
 area_of None = None
 area_of (Some query) = first_value (codes "area=") (parts query)

@@ -25,7 +25,7 @@ pub record IsServed (reply : List ℕ) : Type 0 where
   pub says : Says reply head behind
   pub status : head.status ≡ 200
 
--- the replies to a client that asks for this URL are so many redirections, a last one behind them, and any contents between
+-- the replies to a client that asks for this URL are `many` redirections, a last one after them, and any contents between
 abbrev pub EndInRedirection : ℕ → Parts → List Turn → Type 0
 EndInRedirection many asked [] = ⊥
 EndInRedirection many asked (turn ∷ turns) =

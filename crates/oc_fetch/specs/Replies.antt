@@ -11,7 +11,7 @@ use Rattle.oc_stream.specs.Stages.{Stage, ended, refused, is_final}
 use Rattle.oc_stream.specs.Taken.{IsTaken}
 use Rattle.oc_stream.specs.declared.fault.ChunkFault.{ChunkFault}
 
--- a reply is a head that says this, and these bytes behind it
+-- a reply is a head that says this, and these bytes after it
 pub record Says (reply : List ℕ) (head : ReplyHead) (behind : List ℕ) : Type 0 where
   pub bytes : List ℕ
   pub says : SaysReplyHead bytes head
@@ -39,13 +39,13 @@ extent_by false None = ToTheEnd
 abbrev pub extent_of : ReplyHead → Extent
 extent_of head = extent_by head.chunked head.length
 
--- bytes behind a head are a whole body with this content; over says that the connection ended behind them
+-- bytes after a head are a whole body with this content; over says that the connection ended after them
 abbrev pub IsWhole : Extent → List ℕ → List ℕ → Bool → Type 0
 IsWhole (Counted count) body content over = (body ≡ content) × (length content ≡ count)
 IsWhole Chunked body content over = IsTaken body content ended × (length content ≤ MAX_OPEN_BYTES)
 IsWhole ToTheEnd body content over = (body ≡ content) × (length content ≤ MAX_OPEN_BYTES) × (over ≡ true)
 
--- bytes behind a head begin a body, and bring this content
+-- bytes after a head begin a body, and bring this content
 abbrev pub Begins : Extent → List ℕ → List ℕ → Type 0
 Begins (Counted count) body content = (body ≡ content) × (length content ≤ count)
 Begins Chunked body content =
@@ -59,7 +59,7 @@ BreaksOff stage content rest over =
     ⊎ ((fault : ChunkFault) × (stage ≡ refused fault))
     ⊎ (MAX_OPEN_BYTES < length content)
 
--- bytes behind a head are no whole body, and none that follow make them one
+-- bytes after a head are no whole body, and none that follow make them one
 abbrev pub IsBodiless : Extent → List ℕ → Bool → Type 0
 IsBodiless (Counted count) body over = (length body < count) × (over ≡ true)
 IsBodiless Chunked body over =

@@ -1,9 +1,9 @@
--- What goes between a client and the servers: requests, and what was read behind each.
+-- What goes between a client and the servers: requests, and what was read after each.
 use Rattle.std.specs.Prelude.{◌≡◌, ℕ, Bool, true, false, Option, Some, None, option_map, option_to_list, List, [], ◌∷◌, ◌++◌, ⊤}
 use Rattle.oc_outside.specs.LinkCalls.{IsFront}
 use Rattle.oc_outside.specs.Story.{Dial, Story, dials, hung_up}
 
--- a request and what was read behind it
+-- a request and what was read after it
 pub record Turn : Type 0 where
   -- where a connection was made to for it; none where it went on the one before
   pub dialled : Option (List ℕ)
@@ -11,7 +11,7 @@ pub record Turn : Type 0 where
   pub request : List ℕ
   -- what was read
   pub reply : List ℕ
-  -- whether the connection was seen to end behind it
+  -- whether the connection was seen to end after it
   pub over : Bool
 
 -- a connection that was made, and what went through it
@@ -39,19 +39,19 @@ abbrev pub ended_by : Option (List ℕ) → Option Talk → List Talk
 ended_by None last = []
 ended_by (Some address) last = option_to_list last
 
--- the last connection behind a turn, which dialled to here
+-- the last connection after a turn, which dialled to here
 abbrev pub last_by : Option (List ℕ) → Turn → Option Talk → Option Talk
 last_by None turn last = option_map (went_on turn) last
 last_by (Some address) turn last = Some (begun address turn)
 
--- the connections behind a turn
+-- the connections after a turn
 abbrev pub behind_turn : Talks → Turn → Talks
 behind_turn talks turn = record {
   ended = talks.ended ++ ended_by turn.dialled talks.last;
   last = last_by turn.dialled turn talks.last;
 }
 
--- the connections behind some turns
+-- the connections after some turns
 abbrev pub behind_turns : Talks → List Turn → Talks
 behind_turns talks [] = talks
 behind_turns talks (turn ∷ turns) = behind_turns (behind_turn talks turn) turns
@@ -125,7 +125,7 @@ MaySpeakLast (Some turn) old new = SpeaksLast turn old new
 abbrev pub asking : Option (List ℕ) → List ℕ → Turn
 asking dialled request = record { dialled = dialled; request = request; reply = []; over = false }
 
--- of where a connection is made to, a front may be all that was kept
+-- of where a connection is made to, a prefix may be all that was kept
 abbrev pub IsCutAddress : Option (List ℕ) → Option (List ℕ) → Type 0
 IsCutAddress None None = Unit {0}
 IsCutAddress (Some kept) (Some address) = IsFront kept address

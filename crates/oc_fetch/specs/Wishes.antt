@@ -39,6 +39,6 @@ abbrev pub Takes : Wish → ReplyHead → Type 0
 Takes whole head = head.chunked ≡ false
 Takes (news area) head = Unit {0}
 
--- the connection is kept behind such a reply: it does not close it, and its content does not go to its end
+-- the connection is kept after such a reply: it does not close it, and its content does not go to its end
 abbrev pub keeps : ReplyHead → Bool
 keeps head = not head.closes && head.chunked

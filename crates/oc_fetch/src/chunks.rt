@@ -14,7 +14,7 @@ use oc_io::{Sink, Source, write_all};
 use oc_stream::{ChunkFault, Unchunker};
 use std::alloc::Global;
 
-/// Passes a chunked content on from a source to a sink, at most `MAX_OPEN_BYTES`. Nothing that is behind the
+/// Passes a chunked content on from a source to a sink, at most `MAX_OPEN_BYTES`. Nothing that follows the
 /// text may be taken, so no more is read at once than surely belongs to it. The content is gathered, and written
 /// in pieces of `PIECE_BYTES`. Gives its length in bytes.
 pub(crate) fn pass_chunked<S: Source, K: Sink>(

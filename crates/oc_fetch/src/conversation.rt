@@ -1,4 +1,4 @@
-//! A conversation: one request behind another.
+//! A conversation: one request after another.
 
 ghost use Rattle.std.specs.Prelude.{◌≡◌, ◌<◌, false, IfErr, OnOk, IsErrOf};
 ghost use Rattle.oc_fetch.specs.Conversations.{Converses};
@@ -40,7 +40,7 @@ pub(crate) fn converse<L: Link, K: Sink>(
     }
 }
 
-/// Makes one request behind another.
+/// Makes one request after another.
 fn talk<L: Link, K: Sink>(
     alloc: Global,
     wish: &Wish,

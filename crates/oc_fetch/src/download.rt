@@ -33,13 +33,13 @@ pub const MAX_REDIRECTIONS: u8 = 2;
 /// Downloads the content of a URL onto a sink, in pieces of at most 64 KiB as they come (RFC 9110, section
 /// 9.3.1). The address is an `http` URL with a host, without a user and a password. Each Location of a 302
 /// is followed, at most `MAX_REDIRECTIONS` of them. A chunked reply is `Reply`. With another end than `Done`
-/// a front of the content was written, and nothing where no 200 came.
+/// a prefix of the content was written, and nothing where no 200 came.
 pub fn get<L: Link, K: Sink>(alloc: Global, address: &str, link: &mut L, sink: &mut K) -> GetEnd
     ensures talked { IsTalked K.takes K.fails (Downloads content_of address.now 1)
         (L.story link.old) (L.story link.new) sink.old sink.new result }
     ensures bad { IsBadAddress address.now → IsUnasked address.now result }
 
-    // Behind a third 302 with a good Location, and nowhere else, it ends with `Redirects`.
+    // After a third 302 with a good Location, and nowhere else, it ends with `Redirects`.
     ensures redirects { IsTalked K.takes K.fails (λ turns written end. StopsAtThird address.now turns end)
         (L.story link.old) (L.story link.new) sink.old sink.new result }
 
@@ -60,7 +60,7 @@ pub fn get<L: Link, K: Sink>(alloc: Global, address: &str, link: &mut L, sink: &
 }
 
 /// Downloads what is new of a group onto a sink, again and again: until a reply tells the length of its
-/// content, or until so many replies of 200 have come. Each request asks from the byte behind what was
+/// content, or until `times` replies of 200 have come. Each request asks from the byte after what was
 /// written, at first from the `start` of the URL's query, on the connection of the one before where that is
 /// kept (RFC 9112, section 9.3). A reply may be chunked. Redirections are counted over the whole call. It
 /// ends as `get` does.
@@ -75,7 +75,7 @@ pub fn follow<L: Link, K: Sink>(
         (L.story link.old) (L.story link.new) sink.old sink.new result }
     ensures bad { IsBadAddress address.now → IsUnasked address.now result }
 
-    // Behind a third 302 with a good Location, and nowhere else, it ends with `Redirects`.
+    // After a third 302 with a good Location, and nowhere else, it ends with `Redirects`.
     ensures redirects { IsTalked K.takes K.fails (λ turns written end. StopsAtThird address.now turns end)
         (L.story link.old) (L.story link.new) sink.old sink.new result }
 
@@ -114,7 +114,7 @@ fn news(alloc: Global, url: &Url) -> Result<Wish, Memory>
     }
 }
 
-/// Talks with servers, from a URL on, until so many replies have come.
+/// Talks with servers, from a URL on, until `times` replies have come.
 fn download<L: Link, K: Sink>(
     alloc: Global,
     wish: &Wish,

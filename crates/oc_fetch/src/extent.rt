@@ -1,7 +1,7 @@
 /// Where the content of a reply ends (RFC 9112, section 6.3).
 #[derive(Clone, Copy, Debug, PartialEq, Eq)]
 pub(crate) enum Extent {
-    /// Behind this many bytes.
+    /// After this many bytes.
     Counted(u64),
     /// With the last chunk (RFC 9112, section 7.1).
     Chunked,

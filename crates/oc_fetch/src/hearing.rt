@@ -46,7 +46,7 @@ pub(crate) fn hear<S: Source, K: Sink>(
     }
 }
 
-/// Passes the content of a reply of 200 on, and goes to the place behind it.
+/// Passes the content of a reply of 200 on, and goes to the place after it.
 fn take_content<S: Source, K: Sink>(
     alloc: Global,
     wish: &Wish,
@@ -100,14 +100,14 @@ fn extent_of(head: &ReplyHead) -> Extent
     }
 }
 
-/// Whether the connection is kept behind a reply.
+/// Whether the connection is kept after a reply.
 fn keeps(head: &ReplyHead) -> bool
     ensures { result ≡ keeps head.now }
 {
     !head.closes && head.chunked
 }
 
-/// How many replies are wanted behind one of this length.
+/// How many replies are wanted after one of this length.
 fn wanted_behind(length: Option<u64>, replies: u64) -> u64
     ensures { result ≡ wanted_behind length replies }
 {

@@ -1,17 +1,17 @@
 //! A client that downloads over HTTP/1.1: the content of a URL, or what is new of a group.
 //!
 //! [`get`] asks for a URL, follows two redirections, and passes the content of the reply on to a sink as it
-//! comes. [`follow`] asks for a group again and again, each time from the byte behind what it has written, on
+//! comes. [`follow`] asks for a group again and again, each time from the byte after what it has written, on
 //! the same connection where the server keeps it.
 //!
 //! Both have one contract, `Downloads`. It names the turns: which request was written where, and what was read
-//! behind it. `specs/Addresses` says which URLs are asked and where, `specs/Wishes` has the requests,
+//! after it. `specs/Addresses` says which URLs are asked and where, `specs/Wishes` has the requests,
 //! `specs/Replies` says what a reply is and what of it is content, and `specs/Conversations` says from which
 //! place each reply leads to which, and how each [`GetEnd`] comes of what was read. `specs/Turns` says which
 //! dials the turns make: a link that tells its story shows these and no others. The content of each reply of
-//! 200 was written in order and nothing else, and of one that was not read whole a front.
+//! 200 was written in order and nothing else, and of one that was not read whole a prefix.
 //!
-//! `StopsAtThird` says of the same turns that `Redirects` comes exactly behind a third 302 with a good Location,
+//! `StopsAtThird` says of the same turns that `Redirects` comes exactly after a third 302 with a good Location,
 //! unless a call or memory failed (`specs/Redirections`).
 //!
 //! [`get`] has one more clause, `Completes`: where the dials give replies that lead to a whole content, nothing

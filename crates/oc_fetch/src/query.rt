@@ -20,7 +20,7 @@ pub(crate) fn start(query: Option<&str>) -> u64
     }
 }
 
-/// The area that a URL with this query says, as it stands there.
+/// The area that a URL with this query says, as it is written there.
 pub(crate) fn area(query: Option<&str>) -> Option<&str>
     ensures { option_map (λ a. a.now) result ≡ area_of (option_map (λ q. q.now) query.entry) }
 {
@@ -61,7 +61,7 @@ fn start_in(part: &str) -> Option<u64>
     number(value.as_bytes(), 0, MAX_START).ok()
 }
 
-/// The first part of a query, and what stands behind it; `None` where it is the only part.
+/// The first part of a query, and what follows it; `None` where it is the only part.
 fn first_part(query: &str) -> (&str, Option<&str>)
     ensures last { IfNone result.1 (parts query.now ≡ result.0.now ∷ []) }
     ensures first { IfSome result.1 (λ rest. parts query.now ≡ result.0.now ∷ parts rest.now) }

@@ -28,12 +28,12 @@ node_or_none id = if id == 0 then None else Some id
 unfoldable pub parent_at : ℕ → List ℕ → ℕ → Reading (Option ℕ)
 parent_at nodes bytes at = one_field (within_at w32 0 nodes bytes) node_or_none at
 
--- the rank behind a tag
+-- the rank after a tag
 abbrev pub tagged_rank_at : Bool → List ℕ → ℕ → Reading (Option Rank)
 tagged_rank_at false bytes at = Ok (None, at)
 tagged_rank_at true bytes at = one_field (rank_at bytes) (λ rank. Some rank) at
 
--- a tag, and behind a tag of 1 a rank
+-- a tag, and after a tag of 1 a rank
 unfoldable pub rank_or_none_at : List ℕ → ℕ → Reading (Option Rank)
 rank_or_none_at bytes at = do
   tag ← flag_at bytes at
@@ -58,12 +58,12 @@ refusal_at nodes bytes at = do
 
 -- Names
 
--- the parsed name, and the index behind it
+-- the parsed name, and the index after it
 abbrev pub if_name : Result (List ℕ) NameFault → ℕ → Reading (List ℕ)
 if_name (Ok name) next = Ok (name, next)
 if_name (Err fault) next = Err fields.Value
 
--- a name behind its length
+-- a name after its length
 unfoldable pub name_at : List ℕ → ℕ → Reading (List ℕ)
 name_at bytes at = do
   text ← list_at (within_at w8 MIN_NAME_BYTES MAX_NAME_BYTES bytes) (text_at bytes) at

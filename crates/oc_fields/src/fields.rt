@@ -33,7 +33,7 @@ fn node_or_none(id: u32) -> Option<NodeId>
     if id == 0 { None } else { Some(NodeId(id)) }
 }
 
-/// A tag, and behind a tag of 1 a rank.
+/// A tag, and after a tag of 1 a rank.
 #[tactic(auto, unfolding(crate::specs::Reading::rank_or_none_at))]
 pub fn rank_or_none_at(bytes: &[u8], at: usize) -> Result<(Option<Rank>, usize), FieldFault>
     ensures { result ≡ rank_or_none_at bytes.now at }
@@ -87,7 +87,7 @@ fn refusal_with(
     }
 }
 
-/// A name behind its length.
+/// A name after its length.
 #[tactic(auto, unfolding(crate::specs::Reading::name_at, oc_base::specs::Reading::text_at))]
 pub fn name_at(bytes: &[u8], at: usize) -> Result<(GroupName, usize), FieldFault>
     ensures { result ≡ name_at bytes.now at }

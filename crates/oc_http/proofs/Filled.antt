@@ -3,7 +3,7 @@ use Rattle.std.proofs.Common.{◌≡◌, ℕ, ◌+◌, ◌≤◌, List, ◌++◌
 use Rattle.std.proofs.lemmas.List.{append_assoc, length-take-le, take-append-le, take-take, take_at, drop_at}
 use Rattle.std.proofs.Math.Seq.{take-add}
 
--- more than a front's length is the front, and some of what is behind it
+-- more than a prefix's length is the prefix, and some of what follows it
 take_past : (m n : ℕ) (a b : List ℕ) → length a ≡ m → take (m + n) (a ++ b) ≡ a ++ take n b
 take_past m n a b long =
     take-add m n (a ++ b)

@@ -17,7 +17,7 @@ ended-some (b ∷ line) rest h = cc
 pub longer : (before line after : List ℕ) → after ≡ before ++ ended line → length before < length after
 longer before line after grown = omega (arith, ap length grown, length-append before (ended line), length-append line (line_feed ∷ []))
 
--- what ends a line at the front of bytes with a line that has not ended stands before that line
+-- what ends a line at the front of bytes with a line that has not ended comes before that line
 pub ends_before : (line rest before piece : List ℕ) → HasNoLineEnd piece → ended line ++ rest ≡ before ++ piece → (behind : List ℕ) × (before ≡ ended line ++ behind)
 ends_before [] rest [] [] none h = cc
 ends_before [] rest [] (c ∷ piece) none h = absurd (none.0 cc)

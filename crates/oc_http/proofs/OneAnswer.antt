@@ -11,7 +11,7 @@ use Rattle.oc_http.specs.declared.fault.HttpFault.TheVariants.{Source, Ended, He
 use Rattle.oc_http.proofs.LineEnds.{ended, ends_or_whole}
 use Rattle.oc_http.proofs.Heads.{IsForm}
 
--- of two fronts the shorter is a front of the other
+-- of two prefixes the shorter is a prefix of the other
 pub shorter_front : (x y r s : List ℕ) → x ++ r ≡ y ++ s → length x ≤ length y → (z : List ℕ) × (y ≡ x ++ z)
 shorter_front [] y r s e less = (y, refl)
 shorter_front (a ∷ x) [] r s e less = absurd (omega (arith, less))
@@ -20,7 +20,7 @@ shorter_front (a ∷ x) (b ∷ y) r s e less =
     let found = shorter_front x y r s inner (omega (arith, less)) in
     (found.0, cc (found.1))
 
--- two fronts that are equally long are one, and so is what is behind them
+-- two prefixes that are equally long are one, and so is what follows them
 pub same_front : (x y r s : List ℕ) → x ++ r ≡ y ++ s → length x ≡ length y → (x ≡ y) × (r ≡ s)
 same_front [] [] r s e long = (refl, e)
 same_front [] (b ∷ y) r s e long = absurd (omega (arith, long))
@@ -64,19 +64,19 @@ outcome Reads read left rest (Err (Length missing)) h own = (h.0, h.1, inl h.2)
 outcome Reads read left rest (Err BodyLong) h own = (h.0, h.1, inl h.2)
 outcome Reads read left rest (Err Memory) h own = absurd own
 
--- a whole head and bytes that are unfinished are no fronts of the same bytes, unless the unfinished ones are shorter
+-- a whole head and bytes that are unfinished are no prefixes of the same bytes, unless the unfinished ones are shorter
 whole_not_unfinished : {H A : Type 0} {Reads : List ℕ → H → List ℕ → Type 0} {read : H → Result A HttpFault} → IsForm Reads → (bytes rest other behind : List ℕ) (answer : Result A HttpFault) → bytes ++ rest ≡ other ++ behind → IsAnswered Reads read bytes answer → IsUnfinished Reads other → length bytes ≤ length other → ⊥
 whole_not_unfinished form bytes rest other behind answer same answered unfinished less =
     let found = shorter_front bytes other rest behind same less in
     let text : other ≡ ended (form.line answered.head) ++ found.0 = found.1 ∙ ap (λ (x : List ℕ). x ++ found.0) (form.front bytes answered.head [] answered.whole ∙ append-nil (ended (form.line answered.head))) in
     unfinished.no_head answered.head found.0 (form.again bytes other answered.head [] found.0 answered.whole text)
 
--- where bytes are a whole head, it stands at the front of all that begins with them
+-- where bytes are a whole head, it is at the front of all that begins with them
 reads_left : {H A : Type 0} {Reads : List ℕ → H → List ℕ → Type 0} {read : H → Result A HttpFault} → IsForm Reads → (bytes rest left : List ℕ) (answer : Result A HttpFault) → left ≡ bytes ++ rest → (answered : IsAnswered Reads read bytes answer) → Reads left answered.head rest
 reads_left form bytes rest left answer e answered =
     form.again bytes left answered.head [] rest answered.whole (e ∙ ap (λ (x : List ℕ). x ++ rest) (form.front bytes answered.head [] answered.whole ∙ append-nil (ended (form.line answered.head))))
 
--- bytes that no head can come of are no front of bytes that are unfinished
+-- bytes that no head can come of are no prefix of bytes that are unfinished
 never_not_unfinished : {H : Type 0} {Reads : List ℕ → H → List ℕ → Type 0} → (bytes rest other behind : List ℕ) → bytes ++ rest ≡ other ++ behind → IsHopeless Reads bytes → IsUnfinished Reads other → length bytes ≤ length other → ⊥
 never_not_unfinished {H} {Reads} bytes rest other behind same hopeless unfinished less =
     let found = shorter_front bytes other rest behind same less in

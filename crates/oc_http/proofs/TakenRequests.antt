@@ -16,7 +16,7 @@ use Rattle.oc_http.proofs.LineEnds.{ended}
 use Rattle.oc_http.proofs.Heads.{IsUnfinished-open, whole_at_end, IsHopeless-line}
 use Rattle.oc_http.proofs.Forms.{request_form, CanBecome-request, request_fits}
 
--- a head that was found has nothing behind it
+-- a head that was found has nothing after it
 pub taken_request : (bytes before line : List ℕ) (spans : List HeaderSpan) (parts : RequestSpans) → bytes ≡ before ++ ended line → IsUnfinished ReadsRequest before → HasNoLineEnd line → length bytes ≤ MAX_HEAD_BYTES → IsRequestWithin bytes spans parts → IsRequestOf bytes spans parts → IsRequestTaken bytes spans parts
 taken_request bytes before line spans parts grown unfinished one fits within found =
     let rest = drop parts.len bytes in

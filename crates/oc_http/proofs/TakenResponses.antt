@@ -14,7 +14,7 @@ use Rattle.oc_http.proofs.LineEnds.{ended}
 use Rattle.oc_http.proofs.Heads.{IsUnfinished-open, whole_at_end, IsHopeless-line}
 use Rattle.oc_http.proofs.Forms.{response_form, response_fits}
 
--- a head that was found has nothing behind it
+-- a head that was found has nothing after it
 pub taken_response : (bytes before line : List ℕ) (spans : List HeaderSpan) (parts : ResponseSpans) → bytes ≡ before ++ ended line → IsUnfinished ReadsResponse before → HasNoLineEnd line → length bytes ≤ MAX_HEAD_BYTES → IsResponseWithin bytes spans parts → IsResponseOf bytes spans parts → IsResponseTaken bytes spans parts
 taken_response bytes before line spans parts grown unfinished one fits within found =
     let rest = drop parts.len bytes in

@@ -40,7 +40,7 @@ skip_ows-visible p visible (x ∷ xs) all =
     let parts = and_parts (p x) (list_all p xs) all in
     ap (λ (t : Bool). cond t (skip_ows xs) (x ∷ xs)) (visible x parts.0)
 
--- a value without spaces is what is left of it behind a space
+-- a value without spaces is what is left of it after a space
 pub trim_ows-visible : (p : ℕ → Bool) → ((b : ℕ) → p b ≡ true → is_ows b ≡ false) → (xs : List ℕ) → list_all p xs ≡ true → trim_ows (32 ∷ xs) ≡ xs
 trim_ows-visible p visible xs all =
     trim_ows_space xs (skip_ows-visible p visible xs all) (skip_ows-visible p visible (reverse xs) (list_all-reverse p xs all))

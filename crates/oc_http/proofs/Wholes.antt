@@ -1,4 +1,4 @@
--- A head for a reader of whole messages: what it says to a reader that understands chunks, save what is left to refuse.
+-- A head for a reader of whole messages: what it says to a reader that understands chunks, except what is left to refuse.
 use Rattle.std.proofs.Common.{◌≡◌, ℕ, Bool, true, false, cond, List, [], ◌∷◌, length, Option, Some, None, Ok, Err, codes, refl, ap, ◌∙◌, subst}
 use Rattle.std.specs.Prelude.{IsErrOf, ◌&&◌, not, nat_lt, unwrap_or}
 use Rattle.httparse.specs.Grammar.{ResponseHead, ReadsResponse, status_code}

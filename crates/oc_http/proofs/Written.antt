@@ -47,7 +47,7 @@ abbrev fields_with : List ℕ → List ℕ → List Named
 fields_with host digits =
     (codes "Host", host) ∷ (codes "Content-Type", codes "application/octet-stream") ∷ (codes "Content-Length", digits) ∷ (codes "Connection", codes "close") ∷ []
 
--- what is written, with the host and the digits standing between texts
+-- what is written, with the host and the digits between texts
 shape_of_text : (host digits end kind length close : List ℕ) → ((((host ++ end) ++ kind) ++ ((length ++ digits) ++ end)) ++ close) ++ end ≡ host ++ ((end ++ (kind ++ length)) ++ (digits ++ (end ++ (close ++ end))))
 shape_of_text host digits end kind length close = simp append_assoc
 

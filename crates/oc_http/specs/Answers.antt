@@ -18,7 +18,7 @@ IsDecided (Err Source) = ⊥
 IsDecided (Err Memory) = ⊥
 IsDecided (Err fault) = ⊤
 
--- from the bytes left a head was taken, and these bytes are left behind it
+-- from the bytes left a head was taken, and these bytes are left after it
 abbrev pub AnswersHead : {H A : Type 0} → (List ℕ → H → List ℕ → Type 0) → (H → Result A HttpFault) → List ℕ → List ℕ → Result A HttpFault → Type 0
 AnswersHead Reads read left rest (Ok value) = (bytes : List ℕ) × (left ≡ bytes ++ rest) × IsAnswered Reads read bytes (Ok value)
 AnswersHead Reads read left rest (Err fault) = (bytes : List ℕ) × (left ≡ bytes ++ rest) × RefusesHead Reads read bytes (rest ≡ []) fault
@@ -36,6 +36,6 @@ abbrev pub AnswersReply : List ℕ → List ℕ → Result Reply HttpFault → T
 AnswersReply left rest (Ok reply) = (head body : List ℕ) × (left ≡ (head ++ body) ++ rest) × SaysReply head body (rest ≡ []) reply
 AnswersReply left rest (Err fault) = (bytes : List ℕ) × (left ≡ bytes ++ rest) × RefusesReply bytes (rest ≡ []) fault
 
--- what the head of a node's request says, with a body of so many bytes
+-- what the head of a node's request says, with a body of `count` bytes
 abbrev pub written_head : ℕ → Head
 written_head count = record { method = Post; path = codes "/!overcast"; query = []; length = count; expects = false; minor = 1; closes = true }

@@ -22,7 +22,7 @@ coding_is value = (codes "Transfer-Encoding", value)
 abbrev connection_is : List ℕ → Named
 connection_is value = (codes "connection", value)
 
--- the faults of requests, each before those behind it
+-- the faults of requests, each before those that follow it
 pub record AreRefused : Type 0 where
   pub none : head_fault Get 1 (host ∷ []) ≡ None
   pub old : head_fault Get 0 [] ≡ None

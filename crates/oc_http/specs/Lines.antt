@@ -21,7 +21,7 @@ bytes_of (Some byte) = byte ∷ []
 abbrev pub HasNoLineEnd : List ℕ → Type 0
 HasNoLineEnd line = AllByRecursion (λ b. b ≢ line_feed) line
 
--- a line and its end came, and stand behind the bytes before it
+-- a line and its end came, and follow the bytes before it
 pub record IsLineTaken {S : Type 0} (gives : S → List ℕ → S → Type 0) (old new : S) (before after : List ℕ) : Type 0 where
   pub line : List ℕ
   pub one : HasNoLineEnd line
@@ -29,7 +29,7 @@ pub record IsLineTaken {S : Type 0} (gives : S → List ℕ → S → Type 0) (o
   pub grown : after ≡ before ++ (line ++ line_feed ∷ [])
   pub fits : length after ≤ MAX_HEAD_BYTES
 
--- why a line was cut off behind so many bytes of a head; done says that the source ended
+-- why a line was cut off after `count` bytes of a head; done says that the source ended
 abbrev pub CutsLine : ℕ → Type 0 → HttpFault → Type 0
 CutsLine count done Source = count < MAX_HEAD_BYTES
 CutsLine count done Ended = (count < MAX_HEAD_BYTES) × done

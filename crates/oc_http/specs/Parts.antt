@@ -3,7 +3,7 @@ use Rattle.std.specs.Prelude.{ℕ, List, [], ◌∷◌, ◌++◌}
 use Rattle.std.specs.Borrow.{Bor}
 use Rattle.oc_http.specs.declared.writing_replies.Line.{Line}
 
--- the parts, one behind the other
+-- the parts, one after the other
 abbrev pub joined : List (Bor (List ℕ)) → List ℕ
 joined [] = []
 joined (part ∷ parts) = part.now ++ joined parts

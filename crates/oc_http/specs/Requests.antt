@@ -48,7 +48,7 @@ origin_form target = if is_absolute target then from_slash (drop (length scheme)
 abbrev pub path_of : List ℕ → List ℕ
 path_of target = before_first (λ b. b == byte "?") (origin_form target)
 
--- what stands behind that question mark
+-- what follows that question mark
 abbrev pub query_of : List ℕ → List ℕ
 query_of target = after_first (λ b. b == byte "?") (origin_form target)
 

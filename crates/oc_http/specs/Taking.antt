@@ -32,7 +32,7 @@ pub record IsHopeless {H : Type 0} (Reads : List ℕ → H → List ℕ → Type
   pub unfinished : IsUnfinished Reads before
   pub never : (more : List ℕ) (head : H) (rest : List ℕ) → ¬ (Reads (bytes ++ more) head rest)
 
--- the bytes are a whole head with nothing behind it, to which this is the answer
+-- the bytes are a whole head with nothing after it, to which this is the answer
 pub record IsAnswered {H A : Type 0} (Reads : List ℕ → H → List ℕ → Type 0) (read : H → Result A HttpFault) (bytes : List ℕ) (answer : Result A HttpFault) : Type 0 where
   pub head : H
   pub whole : Reads bytes head []
@@ -96,7 +96,7 @@ RefusesContent None bytes done BodyLong = MAX_BODY_BYTES < length bytes
 RefusesContent None bytes done Memory = length bytes ≤ MAX_BODY_BYTES
 RefusesContent None bytes done fault = ⊥
 
--- the bytes are the head of a response, which says this, and these are the body behind it
+-- the bytes are the head of a response, which says this, and these are the body after it
 pub record SaysReply (bytes body : List ℕ) (done : Type 0) (reply : Reply) : Type 0 where
   pub head : ReplyHead
   pub says : SaysReplyStart bytes head
@@ -104,7 +104,7 @@ pub record SaysReply (bytes body : List ℕ) (done : Type 0) (reply : Reply) : T
   pub whole : body_length head ≡ None → done
   pub reply_is : reply ≡ reply_of head body
 
--- the bytes are the head of a response, and with these bytes behind it the reading of the body ended with a fault
+-- the bytes are the head of a response, and with these bytes after it the reading of the body ended with a fault
 pub record StopsInBody (bytes body : List ℕ) (done : Type 0) (fault : HttpFault) : Type 0 where
   pub head : ReplyHead
   pub says : SaysReplyStart bytes head

@@ -35,12 +35,12 @@ type_line = codes "Content-Type: application/octet-stream\r\n"
 abbrev pub length_line : ℕ → List ℕ
 length_line count = codes "Content-Length: " ++ decimal count ++ line_end
 
--- `Connection: close`, save where the connection is kept
+-- `Connection: close`, except where the connection is kept
 abbrev pub connection_line : Connection → List ℕ
 connection_line Close = codes "Connection: close\r\n"
 connection_line Keep = []
 
--- the head of a node's request with a body of so many bytes
+-- the head of a node's request with a body of `count` bytes
 abbrev pub request_head_text : List ℕ → ℕ → List ℕ
 request_head_text host count =
     codes "POST /!overcast HTTP/1.1\r\n" ++ host_line host ++ type_line ++ length_line count ++ connection_line Close ++ line_end
@@ -134,7 +134,7 @@ abbrev pub framing_line : Framing → List ℕ
 framing_line (framings.Length count) = length_line count
 framing_line framings.Chunked = codes "Transfer-Encoding: chunked\r\n"
 
--- the same, save of a 204, which has no content
+-- the same, except for a 204, which has no content
 abbrev pub content_line : ℕ → Framing → List ℕ
 content_line status framing = if status == 204 then [] else framing_line framing
 

@@ -10,7 +10,7 @@ use oc_base::MAX_BODY_BYTES;
 use oc_io::{Source, read_all};
 use std::alloc::{AllocError, Global};
 
-/// Takes the next bytes of a source, as many as are wanted, and nothing behind them. The memory is taken
+/// Takes the next bytes of a source, as many as are wanted, and nothing after them. The memory is taken
 /// first.
 pub(crate) fn take_body<S: Source>(
     alloc: Global,

@@ -46,7 +46,7 @@ impl<'a> Fields<'a> {
         self.spans.len()
     }
 
-    /// The value of the first field of a name, in any case, and the fields behind it.
+    /// The value of the first field of a name, in any case, and the fields after it.
     pub(crate) fn next(&self, name: &str) -> Option<(&'a [u8], Fields<'a>)>
         ensures none { IfNone result (values name.now self.now ≡ []) }
         ensures first { IfSome result (λ found. values name.now self.now ≡ found.0.now ∷ values name.now found.1) }

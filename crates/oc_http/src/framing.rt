@@ -7,7 +7,7 @@ pub enum Framing {
     Chunked,
 }
 
-/// What becomes of the connection behind a message (RFC 9112, section 9.6).
+/// What becomes of the connection after a message (RFC 9112, section 9.6).
 #[derive(Clone, Copy, Debug)]
 pub enum Connection {
     Close,

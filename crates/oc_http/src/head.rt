@@ -15,7 +15,7 @@ pub struct Head {
     pub method: Verb,
     /// The target up to the first `?`, without scheme and authority.
     pub path: Text,
-    /// What stands behind that `?`.
+    /// What follows that `?`.
     pub query: Text,
     /// The length of the body in bytes.
     pub length: u64,
@@ -23,6 +23,6 @@ pub struct Head {
     pub expects: bool,
     /// 1 for version 1.1, and 0 for 1.0.
     pub minor: u8,
-    /// The client closes the connection behind this request (RFC 9112, section 9.6).
+    /// The client closes the connection after this request (RFC 9112, section 9.6).
     pub closes: bool,
 }

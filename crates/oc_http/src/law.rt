@@ -12,7 +12,7 @@ ghost use Rattle.oc_http.specs.declared.reply.Reply.{Reply};
 ghost use Rattle.oc_http.specs.declared.reply.ReplyHead.{ReplyHead};
 
 /// There is one answer to the bytes of a source, however they come: the head of a request that is read, or
-/// the fault, and what is left behind. A failed call and want of memory are left out.
+/// the fault, and what is left after it. A failed call and want of memory are left out.
 pub fn a_request_has_one_answer()
     ensures { (left r s : List ℕ) (first second : Result Head HttpFault) → AnswersRequest left r first → AnswersRequest left s second
         → IsDecided first → IsDecided second → (first ≡ second) × (r ≡ s) }
@@ -31,7 +31,7 @@ pub fn a_response_has_one_answer()
 {}
 
 /// What `write_request` writes is read as the head of a POST to `/!overcast` with the body's length, and
-/// behind it the body is left.
+/// after it the body is left.
 pub fn a_written_request_is_read()
     ensures says { (host : List ℕ) (count : ℕ) → IsHost host → count ≤ MAX_BODY_BYTES
         → SaysRequest (request_head_text host count) (written_head count) }

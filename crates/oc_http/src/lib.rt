@@ -1,7 +1,7 @@
 //! HTTP/1.1 messages: heads and bodies are read from a source, requests and replies are written.
 //!
 //! A head is found by `httparse`, which is asked at the end of each line, and the bytes are taken one
-//! at a time, so nothing behind a head is taken. `specs/Requests` and `specs/Responses` say what a head
+//! at a time, so nothing after a head is taken. `specs/Requests` and `specs/Responses` say what a head
 //! says and which fault it has, as one chain of tests in the order of the faults; `specs/Taking` says
 //! which bytes are taken, and with which bytes each answer comes; `specs/Writing` has the texts.
 //!

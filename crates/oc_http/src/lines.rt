@@ -1,4 +1,4 @@
-//! The lines of a head, taken of a source one byte at a time, so that nothing behind the head is taken.
+//! The lines of a head, taken of a source one byte at a time, so that nothing after the head is taken.
 
 ghost use Rattle.std.specs.Prelude.{◌≡◌, ◌≤◌, [], IfOk, IfErr, OnErr, OnOk, IsErrOf, None, vec_len, vec_capacity};
 ghost use Rattle.oc_io.specs.Faults.{NoFall, Rose};
@@ -24,7 +24,7 @@ fn take_byte<S: Source>(source: &mut S) -> Result<Option<u8>, Failed>
     Ok(Some(byte[0]))
 }
 
-/// Takes the rest of a line, with its end, and puts it behind the bytes of the head so far. There is
+/// Takes the rest of a line, with its end, and puts it after the bytes of the head so far. There is
 /// room for them, so no memory is taken.
 pub(crate) fn take_line<S: Source>(source: &mut S, bytes: &mut Vec<u8>) -> Result<(), HttpFault>
     requires short { vec_len bytes.old ≤ MAX_HEAD_BYTES }

@@ -10,7 +10,7 @@ use crate::reply::{Reply, ReplyHead};
 use oc_io::Source;
 use std::alloc::Global;
 
-/// The head of a request (RFC 9112, sections 2 to 5). It is taken one byte at a time, and nothing behind
+/// The head of a request (RFC 9112, sections 2 to 5). It is taken one byte at a time, and nothing after
 /// it.
 pub fn read_head<S: Source>(alloc: Global, source: &mut S) -> Result<Head, HttpFault>
     ensures read { IfOk result (λ head. (bytes : List ℕ) × S.gives source.old bytes source.new × SaysRequest bytes head) }
@@ -22,7 +22,7 @@ pub fn read_head<S: Source>(alloc: Global, source: &mut S) -> Result<Head, HttpF
     HeadReader::new(alloc)?.read_head(source)
 }
 
-/// The body of a request, the bytes behind its head that the head tells, and nothing behind them. The
+/// The body of a request, the bytes after its head that the head tells, and nothing after them. The
 /// memory is taken first.
 pub fn read_body<S: Source>(
     alloc: Global,
@@ -39,7 +39,7 @@ pub fn read_body<S: Source>(
     take_body(alloc, source, head.length)
 }
 
-/// The head of a response (RFC 9112, sections 2 to 5), whose body may be chunked. Nothing behind it is
+/// The head of a response (RFC 9112, sections 2 to 5), whose body may be chunked. Nothing after it is
 /// taken.
 pub fn read_response_head<S: Source>(alloc: Global, source: &mut S) -> Result<ReplyHead, HttpFault>
     ensures read { IfOk result (λ head. (bytes : List ℕ) × S.gives source.old bytes source.new × SaysReplyHead bytes head) }

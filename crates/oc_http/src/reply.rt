@@ -25,6 +25,6 @@ pub struct ReplyHead {
     pub length: Option<u64>,
     /// The body is sent in chunks (RFC 9112, section 7.1).
     pub chunked: bool,
-    /// The server closes the connection behind this response (RFC 9112, section 9.6).
+    /// The server closes the connection after this response (RFC 9112, section 9.6).
     pub closes: bool,
 }

@@ -59,7 +59,7 @@ fn read_parts(
     })
 }
 
-/// The target up to the first `?`, and what stands behind it, without scheme and authority.
+/// The target up to the first `?`, and what follows it, without scheme and authority.
 fn path_and_query(alloc: Global, target: &[u8]) -> Result<(Text, Text), Memory>
     ensures { IfOk result (λ texts. (texts.0 ≡ path_of target.now) × (texts.1 ≡ query_of target.now)) }
 {
@@ -131,7 +131,7 @@ fn from_slash(rest: &[u8]) -> &[u8]
     }
 }
 
-/// Whether Host stands more than once, or is missing in a request of version 1.1.
+/// Whether Host occurs more than once, or is missing in a request of version 1.1.
 fn has_host_fault(minor: u8, fields: &Fields) -> bool
     ensures { result ≡ has_host_fault minor (hosts fields.now) }
 {

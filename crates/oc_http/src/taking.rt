@@ -16,7 +16,7 @@ use oc_io::Source;
 /// How many fields there is room for: more than `MAX_HEAD_BYTES` hold, since each takes three bytes.
 pub(crate) const FIELD_ROOM: usize = 2_731;
 
-/// Takes the head of a request, and nothing behind it. No memory is taken.
+/// Takes the head of a request, and nothing after it. No memory is taken.
 pub(crate) fn take_request<S: Source>(
     source: &mut S,
     bytes: &mut Vec<u8>,
@@ -42,7 +42,7 @@ pub(crate) fn take_request<S: Source>(
     }
 }
 
-/// Takes the head of a response, and nothing behind it. No memory is taken.
+/// Takes the head of a response, and nothing after it. No memory is taken.
 pub(crate) fn take_response<S: Source>(
     source: &mut S,
     bytes: &mut Vec<u8>,

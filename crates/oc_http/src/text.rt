@@ -79,7 +79,7 @@ pub(crate) fn lists_close(value: &[u8]) -> bool
     }
 }
 
-/// The bytes up to the first such byte, and what stands behind it.
+/// The bytes up to the first such byte, and what follows it.
 pub(crate) fn cut_at_first(bytes: &[u8], byte: u8) -> (&[u8], &[u8])
     ensures before { result.0.now ≡ before_first (λ b. b == byte) bytes.now }
     ensures after { result.1.now ≡ after_first (λ b. b == byte) bytes.now }

@@ -6,7 +6,7 @@ ghost use Rattle.oc_http.specs.Parts.{joined};
 use oc_base::Memory;
 use std::alloc::Global;
 
-/// The parts, one behind the other. The memory for all of them is taken at once.
+/// The parts, one after the other. The memory for all of them is taken at once.
 pub(crate) fn join(alloc: Global, parts: &[&[u8]]) -> Result<Vec<u8>, Memory>
     ensures { IfOk result (λ text. text.items ≡ joined parts.now) }
 {

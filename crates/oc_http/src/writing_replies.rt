@@ -76,7 +76,7 @@ pub fn write_reply_head(
 /// A line of a head, all of it empty where the head has no such line.
 #[derive(Clone, Copy)]
 struct Line<'a> {
-    /// The name, with the colon and the space behind it.
+    /// The name, with the colon and the space after it.
     name: &'a [u8],
     value: &'a [u8],
     /// The end of the line.
@@ -124,7 +124,7 @@ fn phrase_of<'a>(status: u16) -> &'a str
     }
 }
 
-/// The last lines of a head: `Connection: close`, save where the connection is kept, and the empty line.
+/// The last lines of a head: `Connection: close`, except where the connection is kept, and the empty line.
 fn head_end<'a>(connection: Connection) -> &'a [u8]
     ensures { result.now ≡ head_end connection }
 {
@@ -176,7 +176,7 @@ fn content_type_line<'a>(told: bool) -> &'a [u8]
     }
 }
 
-/// Where the content ends, save of a 204.
+/// Where the content ends, except for a 204.
 fn content_line(status: u16, framing: Framing, digits: &mut Buffer) -> Line<'_>
     ensures { line_text result ≡ content_line status framing }
 {

@@ -29,7 +29,7 @@ pub fn write_request(alloc: Global, host: &str, body: &[u8]) -> Result<Vec<u8>, 
 }
 
 /// The request of a download: a GET of a path, and of a query where there is one. `host` has its port
-/// behind a `:` where the URL has one.
+/// after a `:` where the URL has one.
 pub fn write_get(
     alloc: Global,
     path: &str,
@@ -61,7 +61,7 @@ pub fn write_probe(alloc: Global, address: &str) -> Result<Vec<u8>, Memory>
 }
 
 /// The request of a download that follows a group: a GET from byte `start` on, which keeps the
-/// connection. `area` is what the URL says of it, as it stands there.
+/// connection. `area` is what the URL says of it, as it is written there.
 pub fn write_follow<'a>(
     alloc: Global,
     path: &'a str,

@@ -40,7 +40,7 @@ drop-blotted_is (suc m) zero (suc n) byte (b ∷ bytes) =
 drop-blotted_is (suc m) zero zero byte (b ∷ bytes) =
     sym (blotted-none byte (drop m bytes)) ∙ same_blot zero (zero - suc m) zero (zero - (suc m - zero)) byte (drop m bytes) (omega arith) (omega arith)
 
--- what is behind an offset depends on what was behind it
+-- what follows an offset depends on what followed it
 drop-blotted : (m at n byte : ℕ) (a b : List ℕ) → drop m a ≡ drop m b → drop m (blotted at n byte a) ≡ drop m (blotted at n byte b)
 drop-blotted m at n byte a b same =
     drop-blotted_is m at n byte a ∙ ap (blotted (at - m) (n - (m - at)) byte) same ∙ sym (drop-blotted_is m at n byte b)

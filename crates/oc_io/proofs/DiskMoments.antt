@@ -69,7 +69,7 @@ Takes-then u v w m n k j first second = record {
 pub still_reliable : (u v : DiskView) → GoesOn u v → IsTrue u.reliable → IsTrue v.reliable
 still_reliable u v goes reliable = subst (λ (b : Bool). IsTrue b) (sym goes.reliable) reliable
 
--- calls behind some of a run that cannot fail
+-- calls after some of a run that cannot fail
 pub CannotFail-then : (u v : DiskView) (m n k j : ℕ) → Takes m k u v → CannotFail (m + n) (k + j) u → CannotFail n j v
 CannotFail-then u v m n k j first sure = record {
   reliable = still_reliable u v first.goes_on sure.reliable;
@@ -91,7 +91,7 @@ Fails-then u v w m n k j first failed = record {
   unsure = λ sure. failed.unsure (CannotFail-then u v m n k j first sure);
 }
 
--- a run that fails behind reads
+-- a run that fails after reads
 pub Fails-later : (u v w : DiskView) (n j : ℕ) → StaysAsItWas u v → Fails n j v w → Fails n j u w
 Fails-later u v w n j stays failed = record {
   count = Rose-after _ _ _ stays.goes_on.count failed.count;

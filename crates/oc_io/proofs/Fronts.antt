@@ -1,4 +1,4 @@
--- Fronts of lists, and what is behind them.
+-- Prefixes of lists, and what follows them.
 use Rattle.std.proofs.Common.{ℕ, ◌≡◌, ◌≤◌, ◌+◌, ◌-◌, List, ◌++◌, length, take, drop, sym, subst, ap, ◌∙◌, arith}
 use Rattle.std.proofs.lemmas.List.{length-drop, length-take-le, take-append-le, take-append-drop, drop-drop}
 use Rattle.std.proofs.Math.Seq.{take-add, take-length}
@@ -13,22 +13,22 @@ rest-is done bytes =
 pub length-rest : (done : ℕ) (bytes : List ℕ) → length (take (length bytes - done) (drop done bytes)) ≡ length bytes - done
 length-rest done bytes = ap length (rest-is done bytes) ∙ length-drop done bytes
 
--- a front, and the front of the bytes that follow it
+-- a prefix, and a prefix of the bytes that follow it
 pub next-front : (done n : ℕ) (bytes : List ℕ) → take done bytes ++ take n (take (length bytes - done) (drop done bytes)) ≡ take (done + n) bytes
 next-front done n bytes = rw (rest-is done bytes) (sym (take-add done n bytes))
 
--- a front of the bytes that follow ends within them
+-- a prefix of the bytes that follow ends within them
 pub next-within : (done n : ℕ) (bytes : List ℕ) → done ≤ length bytes → n ≤ length (take (length bytes - done) (drop done bytes)) → done + n ≤ length bytes
 next-within done n bytes within fits =
     omega (arith, length-rest done bytes)
 
--- a front that was copied over the front of a buffer is the buffer's front
+-- a prefix that was copied over the front of a buffer is the buffer's front
 pub front_of-copied : (n : ℕ) (xs behind : List ℕ) → n ≤ length xs → take n (take n xs ++ behind) ≡ take n xs
 front_of-copied n xs behind fits =
     let long : n ≤ length (take n xs) = omega (arith, length-take-le n xs fits) in
     take-append-le n (take n xs) behind long ∙ subst (λ k. take k (take n xs) ≡ take n xs) (length-take-le n xs fits) (take-length (take n xs))
 
--- what is left is what was copied, and what is left behind it
+-- what is left is what was copied, and what is left after it
 pub left-copied : (at n : ℕ) (bytes copied behind : List ℕ) → n ≤ length bytes - at → copied ≡ take n (take (length bytes - at) (drop at bytes)) → drop at bytes ≡ take n (copied ++ behind) ++ drop (at + n) bytes
 left-copied at n bytes copied behind fits e =
     let left = drop at bytes in

@@ -17,20 +17,20 @@ sink_of room listed = record { text = []; room = room; calls = fresh listed }
 abbrev pub IsFull : SinkView → Type 0
 IsFull s = length s.text ≡ s.room
 
--- these bytes were added behind the text, and no call failed
+-- these bytes were added after the text, and no call failed
 pub record TakesBehind (old : SinkView) (bytes : List ℕ) (new : SinkView) : Type 0 where
   pub text : new.text ≡ old.text ++ bytes
   pub room : new.room ≡ old.room
   pub calls : Passes old.calls new.calls
 
--- these bytes were added behind the text, and then a call failed: it is listed, or the room is full
+-- these bytes were added after the text, and then a call failed: it is listed, or the room is full
 pub record FailsFull (old : SinkView) (bytes : List ℕ) (new : SinkView) : Type 0 where
   pub text : new.text ≡ old.text ++ bytes
   pub room : new.room ≡ old.room
   pub calls : Stops old.calls new.calls
   pub cause : Contains old.calls.listed new.calls.made ⊎ IsFull new
 
--- an addition behind an addition
+-- an addition after an addition
 adds : (a b c x y : List ℕ) → b ≡ a ++ x → c ≡ b ++ y → c ≡ a ++ (x ++ y)
 adds a b c x y e f = f ∙ ap (λ front. front ++ y) e ∙ append_assoc a x y
 

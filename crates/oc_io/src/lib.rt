@@ -8,7 +8,7 @@
 //!
 //! The layers above use [`read_all`] and [`write_all`]. `read_all` gives exactly the bytes up to
 //! the end, or says that a call failed or that more bytes came than were allowed. `write_all` has
-//! all bytes taken, or says that a call failed when a front of them had been taken.
+//! all bytes taken, or says that a call failed when a prefix of them had been taken.
 //!
 //! A [`Disk`] is a file that may crash at any moment. One view of it holds all that is said: what a
 //! read gives, what a crash now or since an earlier moment may leave, whether it keeps the disk

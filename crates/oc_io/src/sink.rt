@@ -17,7 +17,7 @@ pub trait Sink {
     /// How many calls failed so far.
     ghost faults: { Self → ℕ };
 
-    /// Takes a front of these bytes and answers its length in bytes. A sink that takes nothing of
+    /// Takes a prefix of these bytes and answers its length in bytes. A sink that takes nothing of
     /// a piece that is not empty counts that as a fault and answers `Failed`.
     fn write(&mut self, bytes: &[u8]) -> Result<usize, Failed>
         ensures within { IfOk result (λ n. n ≤ length bytes.now) }

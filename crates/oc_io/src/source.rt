@@ -20,7 +20,7 @@ pub trait Source {
     /// How many calls failed so far.
     ghost faults: { Self → ℕ };
 
-    /// Fills a front of the buffer and answers its length in bytes. 0 for a buffer that is not
+    /// Fills a prefix of the buffer and answers its length in bytes. 0 for a buffer that is not
     /// empty is the end.
     fn read(&mut self, buf: &mut [u8]) -> Result<usize, Failed>
         ensures within { IfOk result (λ n. n ≤ length buf.old) }

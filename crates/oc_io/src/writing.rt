@@ -11,7 +11,7 @@ pub fn write_all<K: Sink>(sink: &mut K, bytes: &[u8]) -> Result<(), Failed>
     // It writes no more when all were taken.
     ensures calls { OnOk result (K.calls sink.new ≤ K.calls sink.old + length bytes.now) }
 
-    // A front had been taken when a call failed.
+    // A prefix had been taken when a call failed.
     ensures fails { OnErr result
         ((n : ℕ) × (n < length bytes.now) × K.fails sink.old (take n bytes.now) sink.new) }
 

@@ -54,7 +54,7 @@ module _ (d : MemDiskView) (end : ℕ) (body : List ℕ) (settled : IsSettled (v
   kept_at : (k : ℕ) (r : List ℕ) → left_of d.failing.stop ≡ k → IsJournalOf (frames_after k (image_of d.failing.stop) frames body) r → IsJournalOf kept r
   kept_at k r is left = subst (λ (n : ℕ). IsJournalOf (frames_after n (image_of d.failing.stop) frames body) r) (sym is) left
 
-  -- cut short before the frame is whole behind the gate
+  -- cut short before the frame is whole after the gate
   pub cut_behind : (e : MemDiskView) (r : List ℕ) → IsCut d (end + 1) (encoded body) e → MayLeave e.bytes e.past r → IsJournalOf kept r
   cut_behind e r (before none is) left =
       let image = subst (λ (x : MemDiskView). MayLeave x.bytes x.past r) is left in
@@ -65,7 +65,7 @@ module _ (d : MemDiskView) (end : ℕ) (body : List ℕ) (settled : IsSettled (v
       let from = subst (λ (f : List ℕ). IsTorn (end + 1) (length (encoded body)) f r) (settled.safe torn.0 torn.1) torn.2 in
       kept_at 1 r one (journal_of r frames end (EndsAt-same_front d.bytes r frames end settled.ends from.before))
 
-  -- the disk with the frame behind the gate, all of it safe
+  -- the disk with the frame after the gate, all of it safe
   abbrev behind : MemDiskView
   behind = synced (wrote d (end + 1) (encoded body))
 

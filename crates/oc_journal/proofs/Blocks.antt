@@ -35,7 +35,7 @@ module _ (body tail : List ℕ) (short : length body < 2 ^ 32) (more : 0 < lengt
   pub next_gate-written : next_gate behind_gate ≡ tail
   next_gate-written = ap (λ (n : ℕ). drop (4 + n) behind_gate) reads ∙ drop_at (to_be_bytes w32 (length body) ++ body) tail (4 + length body) (omega arith)
 
--- the frame behind an open gate
+-- the frame after an open gate
 frames_within-frame : (n : ℕ) (body tail : List ℕ) → length body < 2 ^ 32 → 0 < length tail → frames_within (suc n) (1 ∷ (to_be_bytes w32 (length body) ++ (body ++ tail))) ≡ body ∷ frames_within n tail
 frames_within-frame n body tail short more =
     let rest = to_be_bytes w32 (length body) ++ (body ++ tail) in
@@ -49,7 +49,7 @@ is_broken_within-frame n body tail short more =
     ap (λ (w : Bool). cond w (is_broken_within n (next_gate rest)) true) (whole body tail short more)
     ∙ ap (is_broken_within n) (next_gate-written body tail short more)
 
--- one frame more before what is behind
+-- one frame more before what follows
 blocks-cons : (body : List ℕ) (bodies : List (List ℕ)) (tail : List ℕ) → blocks (body ∷ bodies) ++ tail ≡ 1 ∷ (to_be_bytes w32 (length body) ++ (body ++ (blocks bodies ++ tail)))
 blocks-cons body bodies tail =
     ap (λ (l : List ℕ). 1 ∷ (to_be_bytes w32 (length body) ++ l)) (append_assoc body (blocks bodies) tail)
@@ -57,7 +57,7 @@ blocks-cons body bodies tail =
 more_behind : (bodies : List (List ℕ)) (tail : List ℕ) → 0 < length tail → 0 < length (blocks bodies ++ tail)
 more_behind bodies tail more = omega (arith, length-append (blocks bodies) tail)
 
--- frames, and then what is behind them
+-- frames, and then what follows them
 pub frames_within-blocks : (bodies : List (List ℕ)) (k : ℕ) (tail : List ℕ) → AreShort bodies → 0 < length tail → frames_within (length bodies + k) (blocks bodies ++ tail) ≡ bodies ++ frames_within k tail
 frames_within-blocks [] k tail short more = ap (λ (n : ℕ). frames_within n tail) (zero-add k)
 frames_within-blocks (body ∷ bodies) k tail short more =
@@ -106,7 +106,7 @@ unbroken : (n gate : ℕ) (rest : List ℕ) → gate ≢ 1 → is_broken_within 
 unbroken zero gate rest shut = refl
 unbroken (suc n) gate rest shut = grind (arith, nat_tests)
 
--- Frames, and behind them more bytes than none.
+-- Frames, and after them more bytes than none.
 module _ (bodies : List (List ℕ)) (tail : List ℕ) (short : AreShort bodies) (more : 0 < length tail) where
   abbrev whole_file : List ℕ
   whole_file = (magic ++ blocks bodies) ++ tail
@@ -131,7 +131,7 @@ module _ (bodies : List (List ℕ)) (tail : List ℕ) (short : AreShort bodies) 
   none_in-short : length whole_file ≤ 9 → bodies ≡ []
   none_in-short small = nil_from_length bodies (omega (arith, length-whole_file, length-blocks_least bodies))
 
-  -- where no frame is behind them, they are the frames of the file
+  -- where no frame is after them, they are the frames of the file
   pub frames_of-file : frames_within left tail ≡ [] → frames_of whole_file ≡ bodies
   frames_of-file no_more = elim (cases_lt 9 (length whole_file)) [
     | inl longer ↦
@@ -164,7 +164,7 @@ journal_ended file bodies offset e bad =
 pub journal_of : (file : List ℕ) (bodies : List (List ℕ)) (offset : ℕ) → EndsAt file bodies offset → IsJournalOf bodies file
 journal_of file bodies offset e = record { journal = journal_ended file bodies offset e; frames = frames_of-ended file bodies offset e }
 
--- frames, an open gate, and no whole frame behind it
+-- frames, an open gate, and no whole frame after it
 pub broken_file : (bodies : List (List ℕ)) (rest : List ℕ) → AreShort bodies → is_whole rest ≡ false → 9 < length ((magic ++ blocks bodies) ++ (1 ∷ rest)) → IsNoJournal ((magic ++ blocks bodies) ++ (1 ∷ rest))
 broken_file bodies rest short cut longer =
     let tail = 1 ∷ rest in

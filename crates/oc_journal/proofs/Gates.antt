@@ -115,7 +115,7 @@ IsFound-shut v spots gate scanned law shut = record {
   };
 }
 
--- the gate that was reached has no whole frame behind it
+-- the gate that was reached has no whole frame after it
 pub IsNoJournal-broken : (v : DiskView) (spots : List Spot) (gate : ℕ) → IsScanned v spots gate → v.size ≡ length v.seen → 9 < v.size → IsTrue v.honest → IsBrokenAt v.seen gate → IsNoJournal v.seen
 IsNoJournal-broken v spots gate scanned law long h broken =
     let parts : v.seen ≡ (magic ++ blocks (at_spots v.seen spots)) ++ (1 ∷ broken.rest) = sym (take-append-drop gate v.seen) ∙ ap (λ (l : List ℕ). l ++ drop gate v.seen) (scanned.front h) ∙ ap (λ (l : List ℕ). (magic ++ blocks (at_spots v.seen spots)) ++ l) broken.gate_open in

@@ -25,7 +25,7 @@ OnlyReads-then view u v w law first second = record {
 pub NoneFailed-then : {D : Type 0} (view : D → DiskView) (u v w : JournalView D) → NoneFailed view u v → NoneFailed view v w → NoneFailed view u w
 NoneFailed-then view u v w first second = record { closed = second.closed ∙ first.closed; no_fault = second.no_fault ∙ first.no_fault }
 
--- a read that failed behind others
+-- a read that failed after others
 pub ClosesByRead-then : {D : Type 0} (view : D → DiskView) (u v w : JournalView D) → OnlyReads view u v → ClosesByRead view v w → ClosesByRead view u w
 ClosesByRead-then view u v w first second = record { fails = Fails-later (view u.disk) (view v.disk) (view w.disk) 0 0 first.disk second.fails; closes = second.closes }
 

@@ -7,12 +7,12 @@ use Rattle.oc_journal.specs.JournalFile.{frames_of}
 use Rattle.oc_journal.specs.JournalView.{at_spot, at_spots, IsSettled, IsIndexed, HasFrames}
 use Rattle.oc_journal.specs.declared.spot.Spot.{Spot}
 
--- a body in the front of a file
+-- a body in a prefix of a file
 at_spot-front : (file : List ℕ) (at len offset : ℕ) → at + len ≤ offset → take len (drop at file) ≡ drop at (take (at + len) (take offset file))
 at_spot-front file at len offset within =
     sym (drop-take at len file) ∙ ap (λ (l : List ℕ). drop at l) (sym (take-take (at + len) offset file within))
 
--- so two files with the same front have the same bodies there
+-- so two files with the same prefix have the same bodies there
 pub at_spots-same_front : (a b : List ℕ) (spots : List Spot) (offset : ℕ) → take offset a ≡ take offset b → All (λ spot. (9 ≤ spot.at) × (spot.at + spot.len ≤ offset)) spots → at_spots a spots ≡ at_spots b spots
 at_spots-same_front a b [] offset same within = refl
 at_spots-same_front a b (spot ∷ spots) offset same within =
@@ -21,7 +21,7 @@ at_spots-same_front a b (spot ∷ spots) offset same within =
     ap (λ (l : List ℕ). l ∷ at_spots a spots) first
     ∙ ap (λ (l : List (List ℕ)). at_spot b spot ∷ l) (at_spots-same_front a b spots offset same (λ k d inside. within (suc k) d (omega arith)))
 
--- and so have two files with the same bytes behind the first gate
+-- and so have two files with the same bytes after the first gate
 pub at_spots-same_back : (a b : List ℕ) (spots : List Spot) (offset : ℕ) → drop 9 a ≡ drop 9 b → All (λ spot. (9 ≤ spot.at) × (spot.at + spot.len ≤ offset)) spots → at_spots a spots ≡ at_spots b spots
 at_spots-same_back a b [] offset same within = refl
 at_spots-same_back a b (spot ∷ spots) offset same within =
@@ -55,7 +55,7 @@ at_spots-push v w spots spot offset body same within new =
 pub HasFrames-settled : (v : DiskView) (offset : ℕ) → IsSettled v offset → HasFrames v (frames_of v.seen)
 HasFrames-settled v offset settled = λ c left. ap frames_of (settled.safe c left)
 
--- A frame was written behind the frames of an index, and its spot was added.
+-- A frame was written after the frames of an index, and its spot was added.
 module _ (v w : DiskView) (spots new : List Spot) (offset len : ℕ) (body : List ℕ) (closed : Bool) (indexed : IsIndexed v spots offset closed) (shut : closed ≡ false) (items : new ≡ spots ++ record { at = offset + 5; len = len } ∷ []) (same_len : len ≡ length body) (honest : w.honest ≡ v.honest) (size : offset + 5 + length body < w.size) (settled : IsTrue v.honest → IsSettled w (offset + 5 + length body)) (added : IsTrue v.honest → frames_of w.seen ≡ frames_of v.seen ++ body ∷ []) (there : IsTrue v.honest → take (length body) (drop (offset + 5) w.seen) ≡ body) (front : IsTrue v.honest → take offset w.seen ≡ take offset v.seen) where
   abbrev spot : Spot
   spot = record { at = offset + 5; len = len }

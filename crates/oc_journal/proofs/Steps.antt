@@ -7,13 +7,13 @@ use Rattle.oc_io.specs.DiskView.{Holds, IsTorn}
 use Rattle.oc_journal.specs.JournalFile.{magic, header, frames_of, frames_within, encoded, blocks, AreShort, EndsAt, IsBeforeOrAfter, IsAllOrNone}
 use Rattle.oc_journal.proofs.Blocks.{frames_of-ended, blocks-push, length-blocks_push, AreShort-push}
 
--- a front, one byte, and what is behind it
+-- a prefix, one byte, and what follows it
 at_byte : (c p q : List ℕ) (n : ℕ) → length p ≡ n → n < length c → take n c ≡ p → drop (n + 1) c ≡ q → c ≡ p ++ (get_or c n 0 ∷ q)
 at_byte c p q n long inside front back =
     sym (take-append-drop n c) ∙ ap (λ (l : List ℕ). l ++ drop n c) front
     ∙ ap (λ (l : List ℕ). p ++ l) (drop_more c n 0 inside ∙ ap (λ (l : List ℕ). get_or c n 0 ∷ l) back)
 
--- the byte of a list with such parts, and what is before and behind it
+-- the byte of a list with such parts, and what is before and after it
 pub front_of : (p q : List ℕ) (x n : ℕ) → length p ≡ n → take n (p ++ (x ∷ q)) ≡ p
 front_of p q x n long = take_at p (x ∷ q) n long
 
@@ -61,7 +61,7 @@ EndsAt-same_front file c bodies offset e same =
       short = e.short;
     }
 
--- a frame is whole behind the gate that is not open
+-- a frame is whole after the gate that is not open
 pub record IsStaged (file : List ℕ) (bodies : List (List ℕ)) (offset : ℕ) (body : List ℕ) : Type 0 where
   pub gate : ℕ
   pub stale : List ℕ
@@ -81,7 +81,7 @@ EndsAt-staged file bodies offset body s = record {
   short = s.short;
 }
 
--- a torn write behind the gate leaves the frames
+-- a torn write after the gate leaves the frames
 pub torn_behind : (file c : List ℕ) (bodies : List (List ℕ)) (offset n : ℕ) → EndsAt file bodies offset → IsTorn (offset + 1) n file c → frames_of c ≡ bodies
 torn_behind file c bodies offset n e torn =
     frames_of-ended c bodies offset (EndsAt-same_front file c bodies offset e torn.before)
@@ -121,7 +121,7 @@ opened file bodies offset gate body stale is_open is end short one =
       short = AreShort-push bodies body short one;
     }
 
--- the body of a frame is behind its gate and its length
+-- the body of a frame is after its gate and its length
 pub body_there : (file p body rest : List ℕ) (offset gate : ℕ) → length p ≡ offset → file ≡ p ++ (gate ∷ (to_be_bytes w32 (length body) ++ (body ++ rest))) → take (length body) (drop (offset + 5) file) ≡ body
 body_there file p body rest offset gate long is =
     let head = gate ∷ to_be_bytes w32 (length body) in

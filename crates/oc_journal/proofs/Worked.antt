@@ -6,7 +6,7 @@ use Rattle.oc_journal.specs.JournalFile.{magic, header, frames_of, encoded, is_b
 control : frames_of (magic ++ (1 ∷ 0 ∷ 0 ∷ 0 ∷ 13 ∷ 1 ∷ 0 ∷ 0 ∷ 0 ∷ 0 ∷ 0 ∷ 0 ∷ 0 ∷ 1 ∷ 0 ∷ 0 ∷ 0 ∷ 1 ∷ 0 ∷ [])) ≡ (1 ∷ 0 ∷ 0 ∷ 0 ∷ 0 ∷ 0 ∷ 0 ∷ 0 ∷ 1 ∷ 0 ∷ 0 ∷ 0 ∷ 1 ∷ []) ∷ []
 control = refl
 
--- two frames, an empty one and one of two bytes, and stale bytes behind the closed gate
+-- two frames, an empty one and one of two bytes, and stale bytes after the closed gate
 two : frames_of (magic ++ (1 ∷ 0 ∷ 0 ∷ 0 ∷ 0 ∷ 1 ∷ 0 ∷ 0 ∷ 0 ∷ 2 ∷ 8 ∷ 9 ∷ 7 ∷ 1 ∷ 1 ∷ [])) ≡ [] ∷ (8 ∷ 9 ∷ []) ∷ []
 two = refl
 

@@ -42,7 +42,7 @@ module _ (v w : DiskView) (small : length v.seen ≤ 9) where
 pub torn_seen : (v w : DiskView) (at n : ℕ) → LeavesOnly v w (IsTorn at n v.seen) → IsConsistent w → IsTorn at n v.seen w.seen
 torn_seen v w at n run law = LeavesOnly-now v w (IsTorn at n v.seen) run law w.seen law.reads
 
--- A frame is written behind the gate at the end of a settled file, and the gate is opened.
+-- A frame is written after the gate at the end of a settled file, and the gate is opened.
 module _ (v m w : DiskView) (end : ℕ) (body : List ℕ) (settled : IsSettled v end) (short : length body ≤ MAX_FRAME_BYTES) where
   abbrev frames : List (List ℕ)
   frames = frames_of v.seen
@@ -50,7 +50,7 @@ module _ (v m w : DiskView) (end : ℕ) (body : List ℕ) (settled : IsSettled v
   fits : length body < 2 ^ 32
   fits = omega arith
 
-  -- any write behind the gate
+  -- any write after the gate
   pub behind_torn : (n : ℕ) (c : List ℕ) → IsTorn (end + 1) n v.seen c → IsBeforeOrAfter frames body c
   behind_torn n c torn = inl (torn_behind v.seen c frames end n settled.ends torn)
 
@@ -63,6 +63,6 @@ module _ (v m w : DiskView) (end : ℕ) (body : List ℕ) (settled : IsSettled v
   pub gate_ends : Holds v.seen (end + 1) (encoded body) m.seen → Holds m.seen end (1 ∷ []) w.seen → EndsAt w.seen (frames ++ body ∷ []) (end + 5 + length body)
   gate_ends behind gate = written_gate m.seen w.seen frames end body (staged behind) fits gate
 
-  -- the body is behind its gate and its length
+  -- the body is after its gate and its length
   pub gate_body : Holds v.seen (end + 1) (encoded body) m.seen → Holds m.seen end (1 ∷ []) w.seen → take (length body) (drop (end + 5) w.seen) ≡ body
   gate_body behind gate = body_there w.seen (magic ++ blocks frames) body (0 ∷ (staged behind).stale) end 1 (sym (staged behind).end) (opened_parts m.seen w.seen frames end body (staged behind) gate)

@@ -22,7 +22,7 @@ is_whole behind_gate = nat_lt (4 + length_in behind_gate) (length behind_gate)
 abbrev pub body_in : List ℕ → List ℕ
 body_in behind_gate = take (length_in behind_gate) (drop 4 behind_gate)
 
--- the next gate, and what is behind it
+-- the next gate, and what follows it
 abbrev pub next_gate : List ℕ → List ℕ
 next_gate behind_gate = drop (4 + length_in behind_gate) behind_gate
 
@@ -44,21 +44,21 @@ is_broken_within (suc n) [] = false
 is_broken_within (suc n) (gate ∷ rest) =
     if gate == 1 then (if is_whole rest then is_broken_within n (next_gate rest) else true) else false
 
--- a file that is longer than a header, and does not begin with the magic or has an open gate with no whole frame behind it
+-- a file that is longer than a header, and does not begin with the magic or has an open gate with no whole frame after it
 abbrev pub IsNoJournal : List ℕ → Type 0
 IsNoJournal file =
     (9 < length file) × ((take 8 file ≢ magic) ⊎ (is_broken_within (length file) (drop 8 file) ≡ true))
 
--- what is written behind the closed gate: the length, the body and the next gate
+-- what is written after the closed gate: the length, the body and the next gate
 abbrev pub encoded : List ℕ → List ℕ
 encoded body = to_be_bytes w32 (length body) ++ (body ++ 0 ∷ [])
 
--- open gates, and a frame of each of these bodies behind its gate
+-- open gates, and a frame of each of these bodies after its gate
 abbrev pub blocks : List (List ℕ) → List ℕ
 blocks [] = []
 blocks (body ∷ bodies) = 1 ∷ (to_be_bytes w32 (length body) ++ (body ++ blocks bodies))
 
--- the offset where the frames of these bodies end, which is that of the gate behind them
+-- the offset where the frames of these bodies end, which is that of the gate after them
 abbrev pub end_of : List (List ℕ) → ℕ
 end_of bodies = length (magic ++ blocks bodies)
 

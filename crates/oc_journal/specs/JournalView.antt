@@ -26,7 +26,7 @@ pub record IsSettled (v : DiskView) (end : ℕ) : Type 0 where
   pub ends : EndsAt v.seen (frames_of v.seen) end
   pub safe : IsSafe v
 
--- Each body is behind the first gate and before the end of the frames, which is within the file; without bodies the end is the first gate.
+-- Each body is after the first gate and before the end of the frames, which is within the file; without bodies the end is the first gate.
 -- While no call on an honest disk has failed, the bodies are the frames of what a read gives, and all is safe.
 pub record IsIndexed (v : DiskView) (spots : List Spot) (end : ℕ) (closed : Bool) : Type 0 where
   pub within : All (λ spot. (9 ≤ spot.at) × (spot.at + spot.len ≤ end)) spots

@@ -7,7 +7,7 @@ use Rattle.oc_journal.specs.JournalFile.{magic, blocks, is_whole, AreShort, Ends
 use Rattle.oc_journal.specs.JournalView.{at_spots}
 use Rattle.oc_journal.specs.declared.spot.Spot.{Spot}
 
--- These spots were found before a gate. Each is behind the first gate and before this one, which is the first where there is none.
+-- These spots were found before a gate. Each is after the first gate and before this one, which is the first where there is none.
 pub record IsScanned (v : DiskView) (spots : List Spot) (gate : ℕ) : Type 0 where
   pub within : All (λ spot. (9 ≤ spot.at) × (spot.at + spot.len ≤ gate)) spots
   pub start : 8 ≤ gate
@@ -24,12 +24,12 @@ pub record IsFound (v : DiskView) (spots : List Spot) (end : ℕ) : Type 0 where
   pub size : end < v.size
   pub ends : IsTrue v.honest → EndsAt v.seen (at_spots v.seen spots) end
 
--- what is read at a gate: it is not open, or it is open and a frame with a body of this length is whole behind it
+-- what is read at a gate: it is not open, or it is open and a frame with a body of this length is whole after it
 abbrev pub IsGate : List ℕ → ℕ → Option ℕ → Type 0
 IsGate file gate None = get_or file gate 0 ≢ 1
 IsGate file gate (Some len) = drop gate file ≡ 1 ∷ (to_be_bytes w32 len ++ drop (gate + 5) file)
 
--- the gate is open, and no frame is whole behind it
+-- the gate is open, and no frame is whole after it
 pub record IsBrokenAt (file : List ℕ) (gate : ℕ) : Type 0 where
   pub rest : List ℕ
   pub gate_open : drop gate file ≡ 1 ∷ rest

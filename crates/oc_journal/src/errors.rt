@@ -10,7 +10,7 @@ use std::alloc::{AllocError, AllocFailed};
 pub enum LoadError {
     /// A call on the disk failed.
     Disk,
-    /// The file does not begin with the magic, or an open gate has no whole frame behind it.
+    /// The file does not begin with the magic, or an open gate has no whole frame after it.
     NotJournal,
     /// Memory ran out.
     Memory,

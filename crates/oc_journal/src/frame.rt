@@ -6,7 +6,7 @@ use oc_base::MAX_FRAME_BYTES;
 use std::alloc::{AllocError, Global};
 use std::marker::Model;
 
-/// The closed gate behind a frame.
+/// The closed gate after a frame.
 const CLOSED: u8 = 0;
 
 /// A body that can be appended to a journal. A contract sees it as its bytes.
@@ -66,7 +66,7 @@ impl Frame {
         (self.bytes.len() - 5) as u32
     }
 
-    /// What is written behind the closed gate: the length, the body and a closed gate.
+    /// What is written after the closed gate: the length, the body and a closed gate.
     pub fn bytes(&self) -> &[u8]
         ensures bytes { result.now ≡ encoded self.now }
         ensures short { length self.now ≤ MAX_FRAME_BYTES }

@@ -75,7 +75,7 @@ impl<D: Disk> Journal<D> {
         self.spots.len() as u64
     }
 
-    /// The offset in the file where the frames end, which is that of the gate behind them.
+    /// The offset in the file where the frames end, which is that of the gate after them.
     pub fn end(&self) -> u64
         ensures end { result ≡ self.now.end }
         ensures within { self.now.end < (D.view self.now.disk).size }

@@ -1,6 +1,6 @@
 //! A journal of frames that survives a crash at any moment.
 //!
-//! The file is a magic and then gates. Behind a gate that is open come a length, a body and the next
+//! The file is a magic and then gates. After a gate that is open come a length, a body and the next
 //! gate. The frames are the bodies up to the first gate that is not open. These are the bytes of a
 //! journal with the frames `ab` and `c`:
 //!
@@ -12,8 +12,8 @@
 //!         magic   gate length      body gate length   body gate
 //! ```
 //!
-//! A frame is written behind the closed gate and made safe before the gate is opened, and that is
-//! made safe too. What is behind the last gate was never a frame, or is one no more.
+//! A frame is written after the closed gate and made safe before the gate is opened, and that is
+//! made safe too. What follows the last gate was never a frame, or is one no more.
 //!
 //! A contract sees a [`Journal`] as its disk, the bodies of its frames, where they end, how many more
 //! its index has memory for, and whether it is closed. `specs/Promises` names what each call

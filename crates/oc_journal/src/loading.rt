@@ -140,7 +140,7 @@ fn find_frames<D: Disk>(alloc: Global, disk: &mut D, size: u64) -> Result<Index,
     Ok(Index { spots, end: gate })
 }
 
-/// Reads a gate and the length behind it: `None` where the gate is not open, and else the length of
+/// Reads a gate and the length after it: `None` where the gate is not open, and else the length of
 /// the body of a whole frame.
 fn read_gate<D: Disk>(disk: &mut D, gate: u64, size: u64) -> Result<Option<u32>, LoadError>
     requires size { size ≡ (D.view disk.old).size }
@@ -167,7 +167,7 @@ fn read_gate<D: Disk>(disk: &mut D, gate: u64, size: u64) -> Result<Option<u32>,
     Ok(Some(len))
 }
 
-/// The length behind the byte of a gate.
+/// The length after the byte of a gate.
 fn len_in(head: &[u8; 5]) -> u32
     ensures { drop 1 head.now ≡ to_be_bytes w32 result }
 {

@@ -35,7 +35,7 @@ pub fn write_safely<D: Disk>(disk: &mut D, at: u64, bytes: &[u8]) -> Result<(), 
     disk.sync()
 }
 
-/// Writes a frame behind the frames, which end at that offset, and opens the gate before it.
+/// Writes a frame after the frames, which end at that offset, and opens the gate before it.
 pub fn write_frame<D: Disk>(disk: &mut D, end: u64, frame: &Frame) -> Result<(), Failed>
     requires size { end < (D.view disk.old).size }
     requires settled { IsTrue (D.view disk.old).honest → IsSettled (D.view disk.old) end }
@@ -79,7 +79,7 @@ pub fn close_first_gate<D: Disk>(disk: &mut D) -> Result<(), Failed>
     ensures none { OnOk result (IsTrue (D.view disk.old).honest
         → frames_of (D.view disk.new).seen ≡ []) }
 
-    // What is behind the gate stays.
+    // What follows the gate stays.
     ensures behind { IsTrue (D.view disk.old).honest
         → drop 9 (D.view disk.new).seen ≡ drop 9 (D.view disk.old).seen }
     ensures no_smaller { (D.view disk.old).size ≤ (D.view disk.new).size }

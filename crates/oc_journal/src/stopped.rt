@@ -7,7 +7,7 @@ ghost use Rattle.oc_journal.specs.Stopped.{IsCut, frames_after, left_of, image_o
 use crate::frame::Frame;
 use oc_io::{Disk, Failed, MemDisk};
 
-/// Writes a frame behind the frames, which end at that offset, and opens the gate before it, by the
+/// Writes a frame after the frames, which end at that offset, and opens the gate before it, by the
 /// calls of `append`; stops where the disk does, and crashes.
 pub fn write_until_stop(mut disk: MemDisk, end: u64, frame: &Frame) -> MemDisk
     requires stop { IsSome disk.failing.stop }

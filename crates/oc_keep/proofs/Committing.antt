@@ -134,7 +134,7 @@ records_more reads n rs bodies frame few lawful spells folds =
 
 -- After a commit
 
--- what a commit leaves, but for the node
+-- what a commit leaves, except for the node
 record After {D : Type 0} (view : D → DiskView) (k k2 : KeptView D) (rs : List Record) : Type 0 where
   open_store : k2.store.closed ≡ false
   open_content : k2.content.journal.closed ≡ false

@@ -63,7 +63,7 @@ limit_free false false h = (refl, refl)
 no_fault : (s : Standing) (start count : ℕ) → nat_lt s.held start ≡ false → (s.sealed && nat_lt s.held (start + count)) ≡ false → s.one_too_many ≡ false → nat_lt MAX_GROUP_BYTES (start + count) ≡ false → fault_of s start count ≡ None
 no_fault s start count gap shut many long = rw (gap, shut, many, long) refl
 
--- How a group stands among the lines
+-- The standing of a group among the lines
 
 held_is : (g : List ℕ) (line : Option Shelf) (n : ℕ) → (standing line n).held ≡ (line_or_none g line).held
 held_is g None n = refl

@@ -28,7 +28,7 @@ after_push : (n : Node) (t : List Input) (i : Input) → after_inputs n (t ++ i 
 after_push n [] i = refl
 after_push n (x ∷ t) i = after_push (step n x).node t i
 
--- the front of two lists in a row
+-- a prefix of two lists in a row
 take_front : (t rest : List Input) → take (length t) (t ++ rest) ≡ t
 take_front [] rest = refl
 take_front (x ∷ t) rest = ap (λ (xs : List Input). x ∷ xs) (take_front t rest)
@@ -53,7 +53,7 @@ all_reliable view a b on sure = record {
   content = still_reliable (view a.content) (view b.content) on.content sure.content;
 }
 
--- a count that rose behind others
+-- a count that rose after others
 pub one_rose_after : {D : Type 0} (view : D → DiskView) (a b c : Disks D) → AllGoOn view a b → OneRose view b c → OneRose view a c
 one_rose_after view a b c on (inl rose) = inl (Rose-after _ _ _ on.control.count rose)
 one_rose_after view a b c on (inr (inl rose)) = inr (inl (Rose-after _ _ _ on.alternate.count rose))

@@ -217,7 +217,7 @@ closed_kept view k s is = record {
   short = is.short;
 }
 
--- Calls behind one that wrote nothing
+-- Calls after one that wrote nothing
 
 -- what every crash leaves at any moment since such a call it leaves at any moment since the start
 since_stays : {D : Type 0} (view : D → DiskView) (h : Header) (me : ℕ) (old mid new : Disks D) (P : Node → Type 0) → AreHonest view old → AllStay view old mid → AlwaysLeaves view h me mid new P → AlwaysLeaves view h me old new P

@@ -15,7 +15,7 @@ use Rattle.oc_keep.proofs.Settled.{Turned}
 use Rattle.oc_keep.proofs.Stays.{Law, all_go_on, closed_kept, nothing_kept, nothing_moments, nothing_stays, puts_none}
 
 module _ {D : Type 0} (view : D → DiskView) (k : KeptView D) (s2 : StoreView D) (b : Bool) where
-  -- the node behind the call
+  -- the node after the call
   abbrev k2 : KeptView D
   k2 = record k { store = s2; closed = b }
 

@@ -30,7 +30,7 @@ pub record KeptView (D : Type 0) : Type 0 where
   pub content : ContentView D
   pub closed : Bool
 
--- among so many nodes, with a chain of this length and these areas
+-- among `nodes` nodes, with a chain of this length and these areas
 abbrev pub header : ℕ → ℕ → List ℕ → Header
 header nodes chain areas = record { nodes = nodes; chain = chain; areas = areas }
 
@@ -64,7 +64,7 @@ AtAnyMoment view old new P = AlwaysLeaves view (header_of old.node.control) old.
 
 -- While no disk failed: what is durable is the fold of the current control file, all frames of both are lists of records, and every crash
 -- of honest disks leaves what is on them.
--- The change log is within its limit, since a certificate that is noted behind a base has its own record in the file.
+-- The change log is within its limit, since a certificate that is noted after a base has its own record in the file.
 pub record IsKept {D : Type 0} (view : D → DiskView) (k : KeptView D) : Type 0 where
   pub reached : IsReached k.node.control
   pub open_store : k.closed ≡ false → k.store.closed ≡ false

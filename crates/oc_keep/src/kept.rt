@@ -394,7 +394,7 @@ impl<D: Disk> Kept<D> {
 impl Kept<MemDisk> {
     /// Takes an input that was made ready as `commit` does, with a stop after `calls` of the four calls
     /// that write its frame, if it writes one, and hands back what a crash leaves then; `image` is the
-    /// byte that stands wherever something was written and not synced. It takes no memory.
+    /// byte that is found wherever something was written and not synced. It takes no memory.
     pub fn commit_stopped(self, ready: Ready, calls: u8, image: u8) -> (MemDisk, MemDisk, MemDisk)
         requires open { self.closed ≡ false }
         requires ready { CanCommit view_of self ready }
@@ -435,7 +435,7 @@ impl Kept<MemDisk> {
     }
 }
 
-/// The files of a node, and what an input that was made ready writes to them. The rest is let go here, where
+/// The files of a node, and what an input that was made ready writes to them. The rest is dropped here, where
 /// the disk is a parameter: of a disk that is known there is far more to prove.
 fn files_of<D: Disk>(kept: Kept<D>, ready: Ready) -> (Store<D>, Content<D>, Write)
     ensures store { result.0 ≡ kept.store }

@@ -183,7 +183,7 @@ pub record CanPlace (h : Header) (m : ℕ) (w0 : World) (xs : List ℕ) (most : 
   pub room : most + 2 * length xs < number_end
   pub asks : (y : ℕ) → IsUp w y → seq_of w0 y + 1 < number_end
 
--- behind them
+-- after them
 pub record HasPlaced (h : Header) (m : ℕ) (w0 : World) (xs : List ℕ) (w : World) (r : Run) : Type 0 where
   pub healing : IsHealing h m r.world
   pub up : (y : ℕ) → is_up r.world y ≡ is_up w y

@@ -93,7 +93,7 @@ module _ (h : Header) (w0 : World) (held : AreHeld w0) where
         by_test true = omega arith
         by_test false = omega arith
 
--- the acts of the five steps, one behind another
+-- the acts of the five steps, one after another
 five_sum : (w : World) → let w1 : World = (all_tick 0 w).world in let w2 : World = (all_check_in w1).world in let w3 : World = (all_tick 15 w2).world in let w4 : World = (all_check_in w3).world in
     length (first_five_steps w).acts ≡ length (all_tick 0 w).acts + length (all_check_in w1).acts + length (all_tick 15 w2).acts + length (all_check_in w3).acts + length (all_tick 15 w4).acts
 five_sum w =

@@ -79,7 +79,7 @@ drop_one : (xs ys : List ℕ) → 1 ≤ length xs → drop 1 (xs ++ ys) ≡ drop
 drop_one [] ys some = absurd (omega (arith, some))
 drop_one (x ∷ xs) ys some = refl
 
--- a node comes behind those above it
+-- a node comes after those above it
 top_down_then : (y d : ℕ) (ds : List ℕ) → top_down (Some (y ∷ d ∷ ds)) ≡ top_down (Some (d ∷ ds)) ++ y ∷ []
 top_down_then y d ds =
     ap (drop 1) (reverse-append (y ∷ []) (d ∷ ds)) ∙ drop_one (reverse (d ∷ ds)) (y ∷ []) (omega (arith, length-reverse (d ∷ ds)))

@@ -1,4 +1,4 @@
--- Step 6 of settle, level by level: behind it nothing waits at any node of a ready tree.
+-- Step 6 of settle, level by level: after it nothing waits at any node of a ready tree.
 use Rattle.std.proofs.Common.{◌≡◌, ℕ, zero, suc, ◌+◌, ◌*◌, ◌≤◌, ◌<◌, List, [], ◌∷◌, ◌++◌, inl, inr, length, refl, ap, sym, subst, ◌∙◌, ⊎_elim, arith, length-append, append_assoc, eq-eqb, eqb-true}
 use Rattle.std.proofs.lemmas.Bool.{cases_eq}
 use Rattle.oc_base.specs.declared.cert.Cert.{Cert}
@@ -26,7 +26,7 @@ use Rattle.oc_laws_calm.proofs.ReadyStays.{ready_held, chain_first_up, chain_fro
 use Rattle.oc_laws_calm.proofs.Reached.{Reached, of_reached}
 use Rattle.oc_laws_calm.proofs.Telling.{TellsAll, tells_while_all}
 
--- what is done for two lists in a row is done for one behind the other
+-- what is done for two lists in a row is done for one after the other
 pub for_each-append : (f : ℕ → World → Run) (xs ys : List ℕ) (w : World) → for_each (xs ++ ys) f w ≡ and_then (for_each xs f w) (for_each ys f)
 for_each-append f [] ys w = refl
 for_each-append f (x ∷ xs) ys w =
@@ -137,7 +137,7 @@ module _ (h : Header) (u : World) (r : ℕ) (ready : IsReadyUnder u r) where
 
   -- All levels
 
-  -- behind those of longer chains come those of shorter ones, and then nothing waits
+  -- after those of longer chains come those of shorter ones, and then nothing waits
   record AllDone (xs : List ℕ) (w : World) (run : Run) : Type 0 where
     acts : length run.acts ≡ acts_to_tell xs w
     all : AllTell 0 run.world

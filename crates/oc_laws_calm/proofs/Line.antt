@@ -1,4 +1,4 @@
--- The chain is one line: a chain member asks earlier members alone, and looks for no place; a root stands above all. What every rule
+-- The chain is one line: a chain member asks earlier members alone, and looks for no place; a root is above all. What every rule
 -- keeps of that.
 use Rattle.std.proofs.Common.{◌≡◌, ℕ, zero, suc, ◌+◌, ◌-◌, ◌<◌, ◌≤◌, Bool, true, false, not, ◌&&◌, ◌||◌, ◌==◌, nat_lt, nat_le, if◌then◌else◌, Option, Some, None, List, [], ◌∷◌, ◌++◌, filter, length, refl, ap, sym, subst, ◌∙◌, arith, eqb-true, ltb-true, ltb-false}
 use Rattle.std.specs.List.{AllByRecursion, range_with_len}

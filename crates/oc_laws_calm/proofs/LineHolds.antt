@@ -1,4 +1,4 @@
--- In every world that is reached the chain is one line, and each root stands above all.
+-- In every world that is reached the chain is one line, and each root is above all.
 use Rattle.std.proofs.Common.{◌≡◌, ℕ, ◌<◌, ◌≤◌, Bool, true, ◌==◌, nat_le, if◌then◌else◌, Option, Some, None, List, [], ◌∷◌, refl, ap, ap₂, sym, subst, ◌∙◌, arith, leb-true, eq-eqb}
 use Rattle.std.specs.List.{range_with_len}
 use Rattle.std.proofs.lemmas.Bool.{le-leb}

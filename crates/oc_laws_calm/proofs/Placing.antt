@@ -130,7 +130,7 @@ IsBefore h w q x = (k : ℕ) → IsUp w k → k ≤ h.chain → k < x → k ≤ 
 table_is : (h : Header) (w : World) (y : ℕ) → Reached h w → IsTable (table_of w y)
 table_is h w y reached = (of_reached AreSound sound_after h w reached y).kept.table
 
--- a member that is a leased child of q comes behind it
+-- a member that is a leased child of q comes after it
 child_behind : (h : Header) (m : ℕ) (w : World) (q x k : ℕ) → IsHealing h m w → IsUp w q → chain_child (table_of w q) q h.chain x ≡ Some k → (k ≤ h.chain) × IsUp w k × (q < k)
 child_behind h m w q x k healing up found =
     let test : ℕ → Bool = λ z. nat_le z h.chain && not (z == x) in

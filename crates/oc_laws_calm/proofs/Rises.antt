@@ -53,7 +53,7 @@ record CanAsk (n : Control) : Type 0 where
   member : is_member n ≡ true
   more : (n.kept.seq == number_end) ≡ false
 
--- the tries that are left, with a fresh round behind them where it is not silent
+-- the tries that are left, with a fresh round after them where it is not silent
 abbrev tries_left : Bool → ℕ → ℕ → ℕ
 tries_left true tries me = tries
 tries_left false tries me = tries + me

@@ -7,7 +7,7 @@ use Rattle.oc_model.specs.WorldBounds.{IsOneOf}
 use Rattle.oc_model.proofs.Members.{of_filter}
 use Rattle.oc_laws_calm.proofs.Spans.{of_range}
 
--- each is less than all behind it
+-- each is less than all after it
 abbrev pub IsRising : List ℕ → Type 0
 IsRising [] = Unit {0}
 IsRising (x ∷ xs) = ((q : ℕ) → IsOneOf q xs → x < q) × IsRising xs

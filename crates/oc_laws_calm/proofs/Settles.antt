@@ -1,4 +1,4 @@
--- A ready world settles: what holds behind all six steps, and how many acts they take.
+-- A ready world settles: what holds after all six steps, and how many acts they take.
 use Rattle.std.proofs.Common.{◌≡◌, ℕ, inl, inr, Option, Some, None, List, [], ◌∷◌, length, refl, ap, sym, subst, ◌∙◌, arith, length-append}
 use Rattle.oc_base.specs.declared.cert.Cert.{Cert}
 use Rattle.oc_model.specs.declared.event.Event.TheVariants.{Settle}

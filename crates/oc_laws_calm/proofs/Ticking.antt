@@ -46,7 +46,7 @@ leased_id h w y z s reached leased =
 pub leases_long : (h : Header) (w : World) (y : ℕ) → Reached h w → IsId h y → length (control_of w y).leases ≡ h.nodes
 leases_long h w y reached id = (of_reached AreSound sound_after h w reached y).leases ∙ (among_them h w y reached id).0
 
--- The tick of x, which is up, so many seconds on
+-- The tick of x, which is up, `more` seconds on
 pub record TickKeeps (h : Header) (more : ℕ) (w : World) (x : ℕ) (v : World) : Type 0 where
   pub reached : Reached h v
   pub steady : Steady w v
@@ -89,7 +89,7 @@ tick_keeps h more w x reached up =
 
 -- Leases that are not current end by a second, and those that are end no sooner than one
 
--- each lease of y that is not current ends no later than so many seconds from now
+-- each lease of y that is not current ends no later than d seconds from now
 abbrev pub IsStaleBy : World → ℕ → ℕ → Type 0
 IsStaleBy w d y = (z s : ℕ) → HoldsLease w y z s → IsCurrent w y z s ⊎ ((e : ℕ) × (at (control_of w y).leases z None ≡ Some e) × (e ≤ clock_of w y + d))
 

@@ -24,7 +24,7 @@ HealHeals w = IsAble w → IsSettled (next_world w Heal) × IsTold (next_world w
 
 -- Its steps
 
--- the worlds behind the first three of them, where m leads
+-- the worlds after the first three of them, where m leads
 abbrev pub behind_one : World → ℕ → World
 behind_one w m = (comes_to_act m w).world
 
@@ -38,12 +38,12 @@ behind_three w m = (all_join m (behind_two w m)).world
 abbrev pub nodes_to_place : World → ℕ → List ℕ
 nodes_to_place w m = filter (nat_lt m) (up_members w) ++ up_others w
 
--- behind step 1 m acts, after 2m acts at most
+-- after step 1 m acts as root, and the step takes 2m acts at most
 pub record DoesStepOne (w : World) (m : ℕ) : Type 0 where
   pub root : IsRoot (behind_one w m) m
   pub few : length (comes_to_act m w).acts ≤ 2 * m
 
--- behind step 2 a lease is at a node that is up only where the child is up and joined to it at that number; nine acts at most for
+-- after step 2 a lease is at a node that is up only where the child is up and joined to it at that number; nine acts at most for
 -- each node that is up
 pub record DoesStepTwo (w : World) (m : ℕ) : Type 0 where
   pub leases : (y x seq : ℕ) → IsUp (behind_two w m) y → HoldsLease (behind_two w m) y x seq → IsUp (behind_two w m) x × IsJoined (behind_two w m) x y × (seq_of (behind_two w m) x ≡ seq)
@@ -73,7 +73,7 @@ pub record DoesStepThree (w : World) (m : ℕ) : Type 0 where
   pub asks : (x : ℕ) → seq_of (behind_three w m) x ≤ seq_of (behind_two w m) x + 2
   pub few : length (all_join m (behind_two w m)).acts ≤ 51 * length (unplaced (behind_two w m) m)
 
--- behind the three the world is ready under m, so that step 4 settles it
+-- after the three the world is ready under m, so that step 4 settles it
 pub record DoesStepFour (w : World) (m : ℕ) : Type 0 where
   pub ready : IsReadyUnder (behind_three w m) m
   pub settles : next_world w Heal ≡ (settles (behind_three w m)).world

@@ -42,7 +42,7 @@ SettleLists w = IsReady w → ListsExactly (next_world w Settle) × CountsExactl
 abbrev pub up_joined : World → List ℕ
 up_joined w = filter (λ x. is_joined (mode_of w x)) (up_ids w)
 
--- the check-ins that tell so many certificates, as many at a time as one has
+-- the check-ins that tell n certificates, as many at a time as one has
 abbrev pub batches : ℕ → ℕ
 batches n = (n + (MAX_CHECK_IN_CERTS - 1)) / MAX_CHECK_IN_CERTS
 
@@ -55,7 +55,7 @@ abbrev pub acts_to_tell : List ℕ → World → ℕ
 acts_to_tell [] w = 0
 acts_to_tell (x ∷ xs) w = 3 * batches (waiting_at w x) + acts_to_tell xs (tells_all x w).world
 
--- those of step 6, which comes behind the other five
+-- those of step 6, which comes after the other five
 abbrev pub acts_of_step_six : World → ℕ
 acts_of_step_six v = acts_to_tell (deepest_first (length v.processes) v) v
 

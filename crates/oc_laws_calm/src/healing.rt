@@ -8,7 +8,7 @@ ghost use Rattle.oc_laws_calm.specs.Healing.{HealHeals, WhereAble, DoesStepOne, 
 
 /// Heal heals an able world: after any events, from any new world within the limits.
 ///
-/// Behind it the world is settled, and parents know their children's numbers. The root is the least chain
+/// After it the world is settled, and parents know their children's numbers. The root is the least chain
 /// member that is up.
 pub fn able_worlds_heal()
     ensures { (h : Header) (events : List Event) → IsHeader h → HealHeals (world_after (new_world h) events) }

@@ -1,6 +1,6 @@
 //! Laws of settle and heal: when they are refused, what they leave, and how many acts they take.
 //!
-//! They stand on the laws of the tree, and are stated in the same way: a law is a public function with an
+//! They rest on the laws of the tree, and are stated in the same way: a law is a public function with an
 //! empty body. [`ready_worlds_settle`] is the one that is used above: from every ready world that events
 //! lead to, settle leaves a tree whose root lists exactly what is there. [`able_worlds_heal`] says that of
 //! heal, within the limits of a header, and [`heal_goes_step_by_step`] what its four steps do.

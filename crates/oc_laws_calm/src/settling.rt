@@ -7,7 +7,7 @@ ghost use Rattle.oc_laws_calm.specs.Settling.{SettleSettles, SettleTells, Settle
 
 /// Settle settles a ready world: after any events, from any new world.
 ///
-/// Behind it the leases that nodes hold are those of the live tree and no others, nothing waits to be
+/// After it the leases that nodes hold are those of the live tree and no others, nothing waits to be
 /// told, and each parent knows its children's last numbers. So the one root, which is the same, lists
 /// exactly the live tree, with each node's own number and client count.
 pub fn ready_worlds_settle()

@@ -6,7 +6,7 @@ use Rattle.oc_base.specs.Cert.{Outranks}
 use Rattle.oc_model.specs.Certificates.{outranks, same_state}
 use Rattle.oc_laws_step.specs.Order.{AreEven}
 
--- death stands behind life
+-- death comes after life
 abbrev dead_as : Bool → ℕ
 dead_as true = 1
 dead_as false = 0
@@ -15,7 +15,7 @@ dead_most : (d : Bool) → dead_as d ≤ 1
 dead_most true = omega arith
 dead_most false = omega arith
 
--- two states that stand at one place are one
+-- two states that are at one place are one
 dead_same : (d e : Bool) → dead_as d ≡ dead_as e → d ≡ e
 dead_same true true h = refl
 dead_same true false h = absurd (omega (arith, h))
@@ -27,7 +27,7 @@ dead_less true true h = absurd (omega arith)
 dead_less true false h = (refl, refl)
 dead_less false e h = absurd (omega arith)
 
--- a certificate's place in the order of one subject, but for its own number
+-- a certificate's place in the order of one subject, except for its own number
 abbrev pub stamp : Cert → ℕ
 stamp k = 2 * k.seq + dead_as k.dead
 

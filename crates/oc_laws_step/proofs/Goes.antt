@@ -84,7 +84,7 @@ pub record GoesBy (o q : Plan) (rs : List Record) : Type 0 where
   pub keeps : q.keeps ≡ o.keeps
   pub wants : q.wants ≡ o.wants
 
--- from o to q some records are written, at most so many entries and so many others
+-- from o to q some records are written, at most `entries` entries and `others` others
 pub record Goes (entries others : ℕ) (o q : Plan) : Type 0 where
   pub written : List Record
   pub by : GoesBy o q written

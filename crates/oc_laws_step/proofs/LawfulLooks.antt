@@ -50,7 +50,7 @@ told_nodes : (nodes : ℕ) (cs : List Child) → AreChildren nodes cs → AllByR
 told_nodes nodes [] all = tt
 told_nodes nodes (c ∷ cs) all = (all.0, told_nodes nodes cs all.3)
 
--- how another node stands, as it told, within the ranges
+-- the position of another node, as it told it, within the ranges
 pub record IsLawfulStand (nodes : ℕ) (s : Stand) : Type 0 where
   pub parent : IsNodeOrNone nodes s.parent
   pub children : AreChildren nodes s.children

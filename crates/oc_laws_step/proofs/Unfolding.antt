@@ -28,7 +28,7 @@ use Rattle.oc_laws_step.proofs.Goes.{folded-append}
 abbrev AreBelow : List Cert → ℕ → Type 0
 AreBelow ks x = AllByRecursion (λ k. k.subject < x) ks
 
--- a row above all others is put behind them
+-- a row above all others is put after them
 put_last : (t : List Cert) (c : Cert) → AreBelow t c.subject → put t c ≡ t ++ c ∷ []
 put_last [] c below = refl
 put_last (k ∷ ks) c below =
@@ -47,7 +47,7 @@ none_above (k ∷ ks) x below =
 merge_last : (t : List Cert) (c : Cert) → AreBelow t c.subject → merge t c ≡ t ++ c ∷ []
 merge_last t c below = let none : newest t c.subject ≡ None = none_above t c.subject below in rw none (put_last t c below)
 
--- rows that are merged in their order, behind lesser ones, make a table in that order
+-- rows that are merged in their order, after lesser ones, make a table in that order
 in_order : (ks t : List Cert) → IsTable ks → AllByRecursion (λ k. AreBelow t k.subject) ks → merge_all t ks ≡ t ++ ks
 in_order [] t up below = sym (append-nil t)
 in_order (k ∷ ks) t up below =
@@ -78,7 +78,7 @@ state seq mode rank number clients table log ancestors measures = record {
   measures = measures;
 }
 
--- with a table alone, and the own pair behind it
+-- with a table alone, and the own pair after it
 abbrev with_table : List Cert → List Reading → Durable
 with_table t ms = state 0 modes.Idle None 0 0 t empty_log [] ms
 
@@ -172,7 +172,7 @@ ancestors_part (x ∷ xs) seq mode rank number clients t l ms = refl
 
 -- Measures
 
--- the item behind these is replaced
+-- the item after these is replaced
 set_behind : (xs ys : List Reading) (y r : Reading) → set (xs ++ y ∷ ys) (length xs) r ≡ xs ++ r ∷ ys
 set_behind [] ys y r = refl
 set_behind (x ∷ xs) ys y r = ap (λ zs. x ∷ zs) (set_behind xs ys y r)
@@ -222,7 +222,7 @@ folded_in_turn d a b c f g h k =
     ∙ ap (λ s. folded s f) (folded-append d (a ++ b) c
     ∙ ap (λ s. folded s c) (folded-append d a b)))))
 
--- with no reading yet, for so many nodes
+-- with no reading yet, for n nodes
 abbrev unread : ℕ → List Reading
 unread n = replicate n no_reading
 

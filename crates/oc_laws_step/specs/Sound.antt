@@ -30,7 +30,7 @@ IsSoundAs (Joined p) d =
 IsSoundAs (Asking p) d = (d.seq ≡ 0 → ⊥) × (d.log ≡ empty_log)
 IsSoundAs mode d = d.log ≡ empty_log
 
--- what is durable of a node among so many
+-- what is durable of a node among `nodes` nodes
 pub record IsSoundDurable (nodes : ℕ) (d : Durable) : Type 0 where
   pub table : IsTable d.table
   pub mode : IsSoundAs d.mode d

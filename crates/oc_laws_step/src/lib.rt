@@ -4,7 +4,7 @@
 //! A law is a public function with an empty body; code that relies on it calls it, and then knows its
 //! clauses. [`folding_is_stepping`] says that the records a step writes are all that is durable in it,
 //! so that "the state after the input" and "the state after a crash and a restart" are one fold of one
-//! list. [`snapshots_stand_for_all`] says that a snapshot may stand in the place of all records before
+//! list. [`snapshots_stand_for_all`] says that a snapshot may take the place of all records before
 //! it. [`steps_fit_a_frame`] says that what one input writes fits one frame. [`reached_nodes_are_sound`]
 //! has what all this needs of a node, and that a new node has it and keeps it, whatever its inputs.
 //! [`lawful_nodes_stay_lawful`] says that lawful inputs lead to lawful nodes, records and messages. The

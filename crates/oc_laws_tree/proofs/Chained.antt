@@ -1,4 +1,4 @@
--- Along a true chain: while a node's lease stands at its parent and nothing about it waits above, each node above has the row of
+-- Along a true chain: while a node's parent holds its lease and nothing about it waits above, each node above has the row of
 -- that lease, and no older one than the parent's own.
 use Rattle.std.proofs.Common.{◌≡◌, ℕ, Some, List, [], ◌∷◌, ◌⊎◌, inl, inr, sym, subst, ◌∙◌, arith}
 use Rattle.std.specs.List.{AllByRecursion}

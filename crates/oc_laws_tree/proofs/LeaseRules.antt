@@ -159,7 +159,7 @@ module _ (Q : ℕ → List Cert → List (Option ℕ) → ℕ → Type 0) where
   stays_looks_round modes.Idle o h = h
   stays_looks_round (modes.Asking p) o h = h
 
-  -- what a tick does behind the leases
+  -- what a tick does after the leases
   pub stays_checks_if_due : (o : Plan) → OfPlan Q o → OfPlan Q (checks_if_due o)
   stays_checks_if_due o h =
       either (is_due o.node.soft.due o.node.soft.clock) (OfPlan Q) (looks_round o.node.kept.mode (checks o)) o (stays_looks_round o.node.kept.mode (checks o) (stays_checks o h)) h

@@ -28,7 +28,7 @@ use Rattle.oc_laws_tree.proofs.LeaseTicks.{tick_ahead}
 
 -- Check-ins
 
--- certificates that are about x, or that y knows where they name it, and lease ends that lie ahead but for that of x
+-- certificates that are about x, or that y knows where they name it, and lease ends that lie ahead except for that of x
 abbrev TakesCerts : ℕ → List Cert → ℕ → List Cert → List (Option ℕ) → ℕ → Type 0
 TakesCerts x cs y t ends clock = ((c : Cert) → IsAmong c cs → (x ≡ c.subject) ⊎ (c.parent ≡ y → Knows t c)) × AreAheadBut (x ∷ []) y t ends clock
 

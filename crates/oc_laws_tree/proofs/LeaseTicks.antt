@@ -27,7 +27,7 @@ leased_among (k ∷ ks) y z s e = by_tests (k.subject == z) (is_lease_of y k) (�
   by_tests false true rest away leased found = inr (rest found)
   by_tests false false rest away loose found = rest found
 
--- the lease ends lie ahead but for the leases that have ended
+-- the lease ends lie ahead except for the leases that have ended
 ahead_but_ended : (me : ℕ) (t : List Cert) (ends : List (Option ℕ)) (clock : ℕ) → AreAheadBut (ended t me ends clock) me t ends clock
 ahead_but_ended me t ends clock z out s end leased is_set = by_test (nat_le end clock) refl where
   by_test : (b : Bool) → nat_le end clock ≡ b → clock < end
@@ -54,7 +54,7 @@ dead_unleased t y x k found = by_test (is_news t dead) refl where
   by_test true e = leased_put_none t dead y x (newest-subject t x k found) refl
   by_test false e = old k.dead refl e
 
--- once one of them is dead, the lease ends lie ahead but for the others
+-- once one of them is dead, the lease ends lie ahead except for the others
 dies_ahead : (e : Option Cert) (x : ℕ) (xs : List ℕ) (o : Plan) → newest o.node.kept.table x ≡ e → OfPlan (AreAheadBut (x ∷ xs)) o → OfPlan (AreAheadBut xs) (dies e o)
 dies_ahead None x xs o found but = λ z out s end leased is_set. but z (apart z out s leased) s end leased is_set where
   apart : (z : ℕ) → (IsOneOf z xs → ⊥) → (s : ℕ) → leased_by o.node.kept.table o.node.me z ≡ Some s → IsOneOf z (x ∷ xs) → ⊥

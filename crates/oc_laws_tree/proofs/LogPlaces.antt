@@ -1,4 +1,4 @@
--- The places of a change log: which of its facts stand before a place, and what a log keeps of them as it grows and is acknowledged.
+-- The places of a change log: which of its facts come before a place, and what a log keeps of them as it grows and is acknowledged.
 use Rattle.std.proofs.Common.{◌≡◌, ℕ, zero, suc, ◌+◌, ◌-◌, ◌<◌, ◌≤◌, true, List, [], ◌∷◌, ◌++◌, length, take, drop, ◌⊎◌, inl, inr, refl, sym, subst, arith, ⊎_elim, length-append, length-drop, leb-true, ltb-true}
 use Rattle.std.proofs.lemmas.List.{length-take, take-append-le}
 use Rattle.std.proofs.lemmas.Bool.{and_parts}
@@ -43,7 +43,7 @@ among_take-drop x (suc n) (suc k) (suc m) (y ∷ ys) e h = inr (among_take-drop 
 abbrev pub IsWhole : Log → Type 0
 IsWhole l = l.length ≡ l.acked + length l.waiting
 
--- this place is within the log, and this holds of each fact that stands before it
+-- this place is within the log, and this holds of each fact that comes before it
 abbrev pub HoldsBefore : Log → ℕ → (Cert → Type 0) → Type 0
 HoldsBefore l place Q = (place ≤ l.length) × ((f : Cert) → IsAmong f (before_place l place) → Q f)
 
@@ -106,7 +106,7 @@ whole_ack l place e whole = let parts = ahead_parts l place e in rw e (whole_to 
 pub before_ack : (l : Log) (place : ℕ) → is_ahead l place ≡ true → (upto : ℕ) (Q : Cert → Type 0) → HoldsBefore l upto Q → HoldsBefore (ack l place) upto Q
 before_ack l place e upto Q h = rw e ((h.0, λ f among. h.1 f (before_to l place (ahead_parts l place e).0 upto f among)))
 
--- what waits stood before the place, or goes on waiting
+-- what waits came before the place, or goes on waiting
 pub among_ack : (l : Log) (place : ℕ) → is_ahead l place ≡ true → (f : Cert) → IsAmong f l.waiting → IsAmong f (before_place l place) ⊎ IsAmong f (ack l place).waiting
 among_ack l place e f h = rw e (among_parts f (place - l.acked) l.waiting h)
 

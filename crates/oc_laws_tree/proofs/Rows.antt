@@ -17,7 +17,7 @@ pub record IsLiveRow (t : List Cert) (x p s n : ℕ) (k : Cert) : Type 0 where
 abbrev pub HasLiveRow : List Cert → ℕ → ℕ → ℕ → ℕ → Type 0
 HasLiveRow t x p s n = (k : Cert) × IsLiveRow t x p s n k
 
--- a lease that stands is a row
+-- a lease that is held is a row
 pub lease_row : (t : List Cert) (y x s : ℕ) → HasLease t y x s → (k : Cert) × IsLiveRow t x y s k.number k
 lease_row t y x s leased = by_found (newest t x) refl leased where
   by_found : (was : Option Cert) → newest t x ≡ was → lease_number y was ≡ Some s → (k : Cert) × IsLiveRow t x y s k.number k

@@ -69,7 +69,7 @@ and_checked_in w x n ms p rate joined h = record {
   m : Message
   m = record { from = n.me; to = p; body = bodies.CheckIn n.kept.seq (place_after n.kept.log) rate n.kept.number n.kept.clients (next_certs n.kept.log) }
 
-  -- it tells all that stand before its place
+  -- it tells all that come before its place
   all_told : (y upto : ℕ) (certs : List Cert) → (n.kept.seq ≡ n.kept.seq) × (place_after n.kept.log ≡ upto) × (next_certs n.kept.log ≡ certs)
       → HoldsBefore n.kept.log upto (IsToldIn (table_with w x n.kept.table y) certs)
   all_told y upto certs e =

@@ -27,10 +27,10 @@ pub record SessionsHold (w : World) : Type 0 where
   -- who asks has not checked in by the number of its ask
   pub silent : (x p : ℕ) → mode_of w x ≡ modes.Asking p → (y upto : ℕ) (certs : List Cert) → HasCheckedIn w x y (seq_of w x) upto certs → ⊥
   pub whole : (x : ℕ) → IsWhole (log_of w x)
-  -- what stands before the place of a check-in with the parent is in it, or the parent knows it
+  -- what comes before the place of a check-in with the parent is in it, or the parent knows it
   pub tells : (x y : ℕ) → IsJoined w x y → (upto : ℕ) (certs : List Cert) → HasCheckedIn w x y (seq_of w x) upto certs
       → HoldsBefore (log_of w x) upto (IsToldIn (table_of w y) certs)
-  -- and what stands before an acknowledged place the parent knows
+  -- and what comes before an acknowledged place the parent knows
   pub known : (x y : ℕ) → IsJoined w x y → (upto : ℕ) → HasAcknowledged w y x (seq_of w x) upto → HoldsBefore (log_of w x) upto (Knows (table_of w y))
   -- what a child knows its parent knows, or it waits
   pub rows : (x y : ℕ) (f : Cert) → IsJoined w x y → IsAmong f (table_of w x) → Knows (table_of w y) f ⊎ IsAmong f (log_of w x).waiting

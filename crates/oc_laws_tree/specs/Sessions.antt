@@ -16,7 +16,7 @@ use Rattle.oc_model.specs.World.{World, node, mode_of}
 abbrev pub log_of : World → ℕ → Log
 log_of w x = (node w x).control.kept.log
 
--- x checked in with y under this ask number, and told these certificates, which stand before this place
+-- x checked in with y under this ask number, and told these certificates, which come before this place
 abbrev pub HasCheckedInAmong : List Message → ℕ → ℕ → ℕ → ℕ → List Cert → Type 0
 HasCheckedInAmong net x y s upto certs = (rate number clients : ℕ) × IsAmong (record { from = x; to = y; body = CheckIn s upto rate number clients certs }) net
 
@@ -30,7 +30,7 @@ HasAcknowledgedAmong net y x s upto = (r : Rank) × (ancestors : List ℕ) × Is
 abbrev pub HasAcknowledged : World → ℕ → ℕ → ℕ → ℕ → Type 0
 HasAcknowledged w y x s upto = HasAcknowledgedAmong w.net y x s upto
 
--- of the facts that wait, those that stand before this place of the whole log
+-- of the facts that wait, those that come before this place of the whole log
 abbrev pub before_place : Log → ℕ → List Cert
 before_place l place = take (place - l.acked) l.waiting
 
@@ -48,12 +48,12 @@ AskersAreNew w = (x p : ℕ) → mode_of w x ≡ Asking p →
     ((y upto : ℕ) (certs : List Cert) → HasCheckedIn w x y (seq_of w x) upto certs → ⊥)
     × ((y upto : ℕ) → HasAcknowledged w y x (seq_of w x) upto → ⊥)
 
--- each fact of a child's log that stands before the place of a check-in with its parent is in it, or its parent knows it or a later word
+-- each fact of a child's log that comes before the place of a check-in with its parent is in it, or its parent knows it or a later word
 abbrev pub CheckInsTell : World → Type 0
 CheckInsTell w = (x y upto : ℕ) (certs : List Cert) → IsJoined w x y → HasCheckedIn w x y (seq_of w x) upto certs →
     (upto ≤ (log_of w x).length) × ((f : Cert) → IsAmong f (before_place (log_of w x) upto) → IsAmong f certs ⊎ IsCovered (table_of w y) f)
 
--- and of each that stands before an acknowledged place the parent knows it or a later word
+-- and of each that comes before an acknowledged place the parent knows it or a later word
 abbrev pub AcksAreKnown : World → Type 0
 AcksAreKnown w = (x y upto : ℕ) → IsJoined w x y → HasAcknowledged w y x (seq_of w x) upto →
     (upto ≤ (log_of w x).length) × ((f : Cert) → IsAmong f (before_place (log_of w x) upto) → IsCovered (table_of w y) f)

@@ -204,7 +204,7 @@ seal_fair s n g ready =
 abbrev pub comes : ℕ → ℕ → Body → Input
 comes x p b = Delivered (record { from = p; to = x; body = b })
 
--- a chunk of a group that is held, of so many bytes from a place on, is true
+-- a chunk of a group that is held, of `count` bytes from a place on, is true
 chunk_true : (s : List Group) (n : Node) (x p : ℕ) (k : Group) (have : List Shelf) (start : ℕ) → Ready s n → group_of k.name n.groups ≡ Some k
     → Fair s s n (finished n (comes x p (Fetch have)) (sends_chunk (begun n.control) p (shelf_of k) start (count_from (shelf_of k) start)))
 chunk_true s n x p k have start ready found = by_test (count == 0) refl where

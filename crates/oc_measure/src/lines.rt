@@ -39,7 +39,7 @@ pub fn read_lines(alloc: Global, text: &[u8], nodes: u32) -> Result<Vec<Measure>
     Ok(measures)
 }
 
-/// Puts the measure of a line, if it has one, behind those of the lines before it.
+/// Puts the measure of a line, if it has one, after those of the lines before it.
 fn put_line(
     measures: &mut Vec<Measure>,
     line: &[u8],

@@ -8,7 +8,7 @@ use oc_rows::Rows;
 use std::alloc::Global;
 use std::marker::Model;
 
-/// What stands where nothing was measured.
+/// The reading where nothing was measured.
 const NOTHING: Reading = Reading { rate: 0, hops: 0 };
 
 /// The last reading of each peer. Contracts see it as the list of readings by the number of the peer.

@@ -11,7 +11,7 @@ use Rattle.oc_message.specs.declared.fault.WireFault.TheVariants.{Kind}
 use Rattle.oc_message.specs.Faults.{of_field}
 use Rattle.oc_message.specs.Reading.{fields_at, body_at}
 
--- what stands behind the last row
+-- what follows the last row
 abbrev no_row : CodeRow
 no_row = record { code = 0; least = 0 }
 

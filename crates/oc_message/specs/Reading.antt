@@ -56,7 +56,7 @@ abbrev pub message_at : ℕ → ℕ → ℕ → ℕ → List ℕ → ℕ → Res
 message_at nodes from to code bytes at =
     if is_node nodes from && is_node nodes to then (body_at code nodes bytes at >>= λ body. closed from to (length bytes) body) else Err faults.Stranger
 
--- the message that all of the bytes are; too few bytes for sender, receiver and kind come first, then strangers, the kind, the fields and what is behind them
+-- the message that all of the bytes are; too few bytes for sender, receiver and kind come first, then strangers, the kind, the fields and what follows them
 unfoldable pub decoded : ℕ → List ℕ → Result Message WireFault
 decoded nodes bytes = do
   from ← of_field (or_short (number_at w32 bytes 0))

@@ -1,4 +1,4 @@
-//! The fields of a `LookIs`: its children stand with ascending ids.
+//! The fields of a `LookIs`: its children have ascending ids.
 
 ghost use Rattle.std.specs.Prelude.{◌≡◌};
 ghost use Rattle.oc_base.specs.Reading.{items_at, Gives};

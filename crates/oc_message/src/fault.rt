@@ -16,7 +16,7 @@ pub enum WireFault {
     Short,
     /// A field is out of its range.
     Value,
-    /// There are bytes behind the last field.
+    /// There are bytes after the last field.
     Trailing,
     /// Memory ran out.
     Memory,

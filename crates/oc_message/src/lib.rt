@@ -1,7 +1,7 @@
 //! The bytes of a message read: its sender, its receiver, its kind, the fields of that kind, or the first fault.
 //!
 //! A message is its sender, its receiver, its kind's code and the fields of that kind, numbers big-endian,
-//! and nothing behind them. `specs/Reading` has what bytes stand for as a message, or what is wrong with
+//! and nothing after them. `specs/Reading` has what bytes stand for as a message, or what is wrong with
 //! them.
 //!
 //! The contract used above: [`read_message`] gives the message that bytes stand for, or the first fault.

@@ -102,7 +102,7 @@ ticks_before more t (x ∷ xs) w distinct early before =
 
 -- Runs
 
--- the ids stay, and where no id comes twice no clock goes past the latest by more than so many seconds
+-- the ids stay, and where no id comes twice no clock goes past the latest by more than k seconds
 record Lasts (k : ℕ) (w : World) (r : Run) : Type 0 where
   same : ids r.world ≡ ids w
   before : IsDistinct (ids w) → (t : ℕ) → AreBefore t w → AreBefore (t + k) r.world

@@ -15,14 +15,14 @@ put_at g k was = if same_name g k.name then Some k else was
 abbrev put_found : List ℕ → Group → List Group → Type 0
 put_found g k ks = group_of g (with_group k ks) ≡ put_at g k (group_of g ks)
 
--- the group that is put stands before all others of its name
+-- the group that is put comes before all others of its name
 over_head : (g : List ℕ) (k j : Group) (js : List Group) → k.name ≡ j.name → put_at g k (group_of g js) ≡ put_at g k (group_of g (j ∷ js))
 over_head g k j js e = by_test (same_name g k.name) refl where
   by_test : (b : Bool) → same_name g k.name ≡ b → put_at g k (group_of g js) ≡ put_at g k (group_of g (j ∷ js))
   by_test true h = rw h
   by_test false h = let other : same_name g j.name ≡ false = rw (← e) h in rw (h, other)
 
--- a group with a greater name than the head is put behind it
+-- a group with a greater name than the head is put after it
 past_head : (g : List ℕ) (k j : Group) (js : List Group) → slice_cmp nat_cmp k.name j.name ≡ Greater → put_found g k js → group_of g (j ∷ with_group k js) ≡ put_at g k (group_of g (j ∷ js))
 past_head g k j js e rest = by_test (same_name g j.name) refl where
   by_test : (b : Bool) → same_name g j.name ≡ b → group_of g (j ∷ with_group k js) ≡ put_at g k (group_of g (j ∷ js))
@@ -99,7 +99,7 @@ ascend-with_group k (j ∷ js) up = by_order (ascend-with_group k js up.1) (slic
 abbrev pub AreFoundIn : List Group → List Group → Type 0
 AreFoundIn all ks = AllByRecursion (λ k. group_of k.name all ≡ Some k) ks
 
--- what is found behind a lesser name is found with it
+-- what is found after a lesser name is found with it
 behind_head : (j k : Group) (js : List Group) → slice_cmp nat_cmp j.name k.name ≡ Less → group_of k.name js ≡ Some k → group_of k.name (j ∷ js) ≡ Some k
 behind_head j k js e h = rw (names_apart j.name k.name e) h
 

@@ -1,4 +1,4 @@
--- What a step leaves of a node: its id, its clock but for a tick, and its groups within the limits.
+-- What a step leaves of a node: its id, its clock except for a tick, and its groups within the limits.
 use Rattle.std.proofs.Common.{◌≡◌, ℕ, ◌+◌, ◌-◌, ◌≤◌, max, Bool, true, false, not, ◌&&◌, ◌==◌, nat_lt, nat_le, if◌then◌else◌, Option, Some, None, is_some, option_map, List, [], length, drop, refl, ap, sym, subst, ◌∙◌, arith, ltb-false, length-append, length-drop}
 use Rattle.std.proofs.lemmas.Bool.{cond_both, leb-false}
 use Rattle.oc_base.specs.declared.shelf.Shelf.{Shelf}
@@ -266,7 +266,7 @@ received_leaves n x p (bodies.Rejoin seq) = of_calm n (comes x p (bodies.Rejoin 
 received_leaves n x p (bodies.Fetch have) = of_kept n (comes x p (bodies.Fetch have)) refl (fetch_kept n x p have)
 received_leaves n x p (bodies.Chunk g start bytes last) = of_kept n (comes x p (bodies.Chunk g start bytes last)) refl (chunk_kept n x p g start bytes last)
 
--- every step leaves the id, the clock but for a tick, and the groups within the limits
+-- every step leaves the id, the clock except for a tick, and the groups within the limits
 pub step_leaves : (n : Node) (i : Input) → Leaves n i
 step_leaves n (Tick t) =
     of_calm n (Tick t)

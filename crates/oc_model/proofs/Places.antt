@@ -25,7 +25,7 @@ pub ids-new : (h : Header) (xs : List ℕ) → ids_in (map (λ x. down (new_node
 ids-new h [] = refl
 ids-new h (x ∷ xs) = ap (λ ys. x ∷ ys) (ids-new h xs)
 
--- the process of an id stands at the id's place
+-- the process of an id is at the id's place
 pub process_in-place : (b n : ℕ) (ps : List Process) (k : ℕ) (d : Process) → ids_in ps ≡ range_with_len b n → k < length ps → process_in ps (b + k) ≡ get_or ps k d
 process_in-place b n [] k d is within = absurd (omega arith)
 process_in-place b zero (p ∷ ps) k d is within = absurd cc

@@ -83,7 +83,7 @@ stands_true w r x e up = by_tests (is_up w x) (x == r) (is_some (chain_to w r x)
   by_tests false false false leased h f g l e = absurd cc
   by_tests false false true false h f g l e = absurd cc
 
--- in a ready world each node stands so
+-- in a ready world each node passes the test
 stands_test : (w : World) (r x : ℕ) → IsReadyUnder w r → stands_under w r x ≡ true
 stands_test w r x ready = by_tests (is_up w x) (x == r) (is_some (chain_to w r x)) (is_leased w x) refl refl
     (λ up other. chained_test w r x (ready.chains x up (λ is. true≢false (sym (eq-eqb x r is) ∙ other))))
@@ -95,7 +95,7 @@ stands_test w r x ready = by_tests (is_up w x) (x == r) (is_some (chain_to w r x
       by_tests true true chained leased h f g l = refl
       by_tests true false chained leased h f g l = rw (g h f, l h f) refl
 
--- where each node stands under a root, the world is ready
+-- where `Stands` holds of each node that is up, the world is ready
 ready_if : (w : World) (r : ℕ) → IsRoot w r → ((x : ℕ) → IsUp w x → Stands w r x) → IsReadyUnder w r
 unfolding Stands
 ready_if w r root stands = record {

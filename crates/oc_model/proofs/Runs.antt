@@ -1,4 +1,4 @@
--- What every run of settle and heal has, if no act, one act, one run behind another, and a round of ticks have it.
+-- What every run of settle and heal has, if no act, one act, one run after another, and a round of ticks have it.
 use Rattle.std.proofs.Common.{◌≡◌, ℕ, zero, suc, ◌+◌, ◌*◌, Bool, true, false, ◌==◌, nat_lt, filter, Option, Some, List, [], ◌∷◌, ◌++◌, length, refl, ap, sym, ◌∙◌}
 use Rattle.oc_base.specs.declared.cert.Cert.{Cert}
 use Rattle.oc_model.specs.declared.event.Act.{Act}
@@ -17,7 +17,7 @@ abbrev pub IsNoTick : Act → Type 0
 IsNoTick (acts.Tick x t) = ⊥
 IsNoTick a = Unit {0}
 
--- a run from this world on has it, with so many seconds of ticks
+-- a run from this world on has it, with this many seconds of ticks
 pub record IsCourse (R : ℕ → World → Run → Type 0) : Type 0 where
   pub rests : (w : World) → R 0 w (rests w)
   pub does : (w : World) (a : Act) → IsNoTick a → R 0 w (does a w)
@@ -140,7 +140,7 @@ after_acts-append w (a ∷ rest) bs = after_acts-append (after_act w a) rest bs
 abbrev pub LeadsTo : World → Run → Type 0
 LeadsTo w r = r.world ≡ after_acts w r.acts
 
--- one run behind another
+-- one run after another
 leads_then : (w : World) (r : Run) (f : World → Run) → LeadsTo w r → LeadsTo r.world (f r.world) → LeadsTo w (and_then r f)
 leads_then w r f first second =
     second ∙ (ap (λ v. after_acts v (f r.world).acts) first ∙ sym (after_acts-append w r.acts (f r.world).acts))

@@ -26,7 +26,7 @@ line_at-shelf g ks = ap (line_or_none g) (line_of-shelf g ks) ∙ by_found (grou
   by_found None = refl
   by_found (Some k) = refl
 
--- a line stands there where a group does
+-- a line is there where a group is
 pub is_some-shelf : (g : List ℕ) (ks : List Group) → is_some (line_of g (shelf ks)) ≡ is_some (group_of g ks)
 is_some-shelf g ks = ap is_some (line_of-shelf g ks) ∙ by_found (group_of g ks) where
   by_found : (found : Option Group) → is_some (option_map shelf_of found) ≡ is_some found

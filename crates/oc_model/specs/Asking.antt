@@ -29,7 +29,7 @@ lost_from mode o = write o records.Lost
 abbrev pub lost : Plan → Plan
 lost o = lost_from o.node.kept.mode o
 
--- the ask that stands goes to p
+-- the current ask goes to p
 abbrev pub send_ask : Plan → ℕ → Plan
 send_ask o p = send o p (bodies.Ask o.node.kept.seq o.node.kept.rank)
 
@@ -50,7 +50,7 @@ act o = write (write o records.Acting) (records.Epoch (next_epoch (rank_or_last 
 
 -- The rule Next try
 
--- p is asked how it stands, on the way down to a place
+-- p is asked for its position, on the way down to a place
 abbrev pub descend : Plan → ℕ → Plan
 descend o p = send (searching o (Some (Descend p))) p bodies.Look
 
@@ -119,7 +119,7 @@ took_no o p seq why =
 
 -- The rule Unreachable
 
--- p does not say how it stands
+-- p does not tell its position
 abbrev pub not_seen : Option Search → Plan → ℕ → Plan
 not_seen (Some (Descend q)) o p = if q == p then next_try (searching o None) else ignored o
 not_seen search o p = ignored o

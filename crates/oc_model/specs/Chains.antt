@@ -62,7 +62,7 @@ ending_at r (Some (x ∷ c)) = if last_from x c == r then Some (x ∷ c) else No
 abbrev pub chain_to : World → ℕ → ℕ → Option (List ℕ)
 chain_to w r x = ending_at r (chain_from w x)
 
--- the node behind the first
+-- the node after the first
 abbrev pub first_link : Option (List ℕ) → Option ℕ
 first_link (Some (x ∷ y ∷ ys)) = Some y
 first_link c = None

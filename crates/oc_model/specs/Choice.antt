@@ -58,7 +58,7 @@ below zero = []
 below (suc zero) = []
 below (suc (suc n)) = suc n ∷ below (suc n)
 
--- each of these once, in its first place, but for those that are left out
+-- each of these once, in its first place, except for those that are left out
 abbrev pub each_once : List ℕ → List ℕ → List ℕ
 each_once out [] = []
 each_once out (x ∷ xs) = if has out x then each_once out xs else x ∷ each_once (x ∷ out) xs

@@ -28,7 +28,7 @@ keeps o at closes = record o { keeps = Some at; seals = closes }
 abbrev pub grows : List Shelf → List ℕ → ℕ → Bool
 grows shelf g count = not (is_some (line_of g shelf)) || not (count == 0)
 
--- a publish of so many bytes to this group
+-- a publish of `count` bytes to this group
 abbrev pub publish_to : Plan → List Shelf → Shelf → ℕ → Plan
 publish_to o shelf l count =
     if l.sealed then answers o words.Sealed
@@ -59,7 +59,7 @@ count_from l start = min MAX_CHUNK_BYTES (l.held - start)
 abbrev pub wanted : Shelf → ℕ → ℕ → Option Want
 wanted l start count = if count == 0 then None else Some (record { group = l.group; start = start; count = count })
 
--- a chunk of this group goes to p, with so many bytes from a place on; it is last where they end a sealed group
+-- a chunk of this group goes to p, with `count` bytes from a place on; it is last where they end a sealed group
 abbrev pub sends_chunk : Plan → ℕ → Shelf → ℕ → ℕ → Plan
 sends_chunk o p l start count =
     record (send o p (bodies.Chunk l.group start [] (l.sealed && start + count == l.held))) { wants = wanted l start count }

@@ -82,7 +82,8 @@ told_of events messages nodes p = record {
   shown = map (λ x. shown_process (process p.world x)) nodes;
 }
 
--- the example of this header and these events, without so many events and messages at its beginning, and these nodes at its end
+-- the example of this header and these events, without the first `events` words and the first `messages` messages,
+-- and with these nodes at its end
 abbrev pub told : Header → List Event → ℕ → ℕ → List ℕ → Told
 told h es events messages nodes = told_of events messages nodes (plays (new_world h) es)
 

@@ -89,7 +89,7 @@ rises (Asking p) m w = does (acts.Fail m p) w
 rises (Joined p) m w = does (acts.Fail m p) w
 rises Acting m w = rests w
 
--- so many times at most
+-- n times at most
 abbrev pub rises_in : ℕ → ℕ → World → Run
 rises_in zero m w = rests w
 rises_in (suc n) m w = and_then (rises (mode_of w m) m w) (rises_in n m)

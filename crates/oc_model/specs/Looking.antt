@@ -31,11 +31,11 @@ rate_to_some n (Some p) = rate_to n p
 abbrev pub children : Control → List Child
 children n = map (λ x. record { id = x; rate = at n.rates x 0 }) (leased_children n.kept.table n.me)
 
--- p is told how the node stands
+-- p is told the node's position
 abbrev pub looked : Plan → ℕ → Plan
 looked o p = send o p (bodies.LookIs (in_tree o.node.kept.mode) (parent_of o.node.kept.mode) (rate_to_some o.node (parent_of o.node.kept.mode)) (children o.node))
 
--- how another node stands, as it told
+-- the position of another node, as it told it
 pub record Stand : Type 0 where
   pub in_tree : Bool
   pub parent : Option ℕ
@@ -54,7 +54,7 @@ abbrev pub goes_down : Option ℕ → Plan → ℕ → Plan
 goes_down None o p = ask o p
 goes_down (Some k) o p = descend o k
 
--- on its way down the node sees how p stands
+-- on its way down the node sees p's position
 abbrev pub descends : Plan → ℕ → Stand → Plan
 descends o p s =
     if s.in_tree then goes_down (chosen (rate_to o.node p) (candidates o.node s.children)) o p
@@ -74,7 +74,7 @@ goes_where reviews.Stay o = o
 goes_where (reviews.Up g) o = ask_before o g
 goes_where (reviews.Beneath k) o = ask_before o k
 
--- a joined node sees how its parent p stands
+-- a joined node sees the position of its parent p
 abbrev pub reviews_place : Plan → ℕ → Stand → Plan
 reviews_place o p s = goes_where (reviewed (view o.node p s)) (searching o None)
 
@@ -95,6 +95,6 @@ sees_as modes.Idle (Some (searches.Descend q)) o p s = if q == p then descends o
 sees_as (modes.Joined q) (Some searches.Review) o p s = if q == p then reviews_place o p s else keeps_line o p s
 sees_as mode search o p s = keeps_line o p s
 
--- p tells how it stands
+-- p tells its position
 abbrev pub sees : Plan → ℕ → Stand → Plan
 sees o p s = sees_as o.node.kept.mode o.node.soft.search o p s

@@ -38,7 +38,7 @@ pub record Durable : Type 0 where
   pub measures : List Reading
 
 -- all of a node but its content: who it is, what a stop leaves, and what a start clears. Of the last are the lease ends, the
--- children's rates and the redirection counts, which stand in lists by the number of a node
+-- children's rates and the redirection counts, which are in lists by the number of a node
 pub record Control : Type 0 where
   pub me : ℕ
   pub nodes : ℕ

@@ -21,7 +21,7 @@ HoldsLease w p x seq = HasLease (node w p).control.kept.table p x seq
 abbrev pub IsLeased : World → ℕ → Type 0
 IsLeased w x = (p : ℕ) × IsJoined w x p × HoldsLease w p x (node w x).control.kept.seq
 
--- one node that is up acts as root; every other that is up has a true chain to it, and its lease stands
+-- one node that is up acts as root; every other that is up has a true chain to it, and its parent holds its lease
 pub record IsReadyUnder (w : World) (r : ℕ) : Type 0 where
   pub root : IsRoot w r
   pub alone : (x : ℕ) → IsRoot w x → x ≡ r
@@ -31,7 +31,7 @@ pub record IsReadyUnder (w : World) (r : ℕ) : Type 0 where
 abbrev pub IsReady : World → Type 0
 IsReady w = (r : ℕ) × IsReadyUnder w r
 
--- besides, no stale lease stands, and nothing is left to tell
+-- besides, no stale lease is held, and nothing is left to tell
 pub record IsSettled (w : World) : Type 0 where
   pub ready : IsReady w
   pub leases : (y x seq : ℕ) → IsUp w y → HoldsLease w y x seq → IsUp w x × IsJoined w x y × ((node w x).control.kept.seq ≡ seq)
@@ -49,7 +49,7 @@ is_leased_as w x mode = false
 abbrev pub is_leased : World → ℕ → Bool
 is_leased w x = is_leased_as w x (mode_of w x)
 
--- under the root r, this node stands as in a ready world
+-- under the root r, this node is as in a ready world
 abbrev pub stands_under : World → ℕ → ℕ → Bool
 stands_under w r x = not (is_up w x) || x == r || (is_some (chain_to w r x) && is_leased w x)
 
@@ -60,7 +60,7 @@ ready_under w (Some r) = list_all (stands_under w r) (ids w)
 abbrev pub is_ready : World → Bool
 is_ready w = ready_under w (find (is_root w) (ids w))
 
--- a lease that y holds stands, if it does, for a node that is up and joined to y at that number
+-- a lease that y holds, if it holds one, is of a node that is up and joined to y at that number
 abbrev pub is_current : World → ℕ → ℕ → Option ℕ → Bool
 is_current w y x None = true
 is_current w y x (Some seq) = is_up w x && is_joined_to (mode_of w x) y && (node w x).control.kept.seq == seq

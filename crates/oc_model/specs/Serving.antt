@@ -11,7 +11,7 @@ use Rattle.oc_base.specs.Shelves.{line_of}
 
 -- The rules Client and Measured.
 
--- the node serves so many bytes itself
+-- the node serves `count` bytes itself
 abbrev pub serves : Plan → ℕ → Plan
 serves o count = answers (with_soft o (record o.node.soft { served = capped (o.node.soft.served + 1) })) (words.Serve count)
 

@@ -48,7 +48,7 @@ first_five_steps w = and_then (and_then (and_then (and_then (all_tick 0 w) all_c
 
 -- Step 6: by falling depth below the root, each tells all that waits
 
--- while something waits, it checks in, so many times at most
+-- while something waits, it checks in, n times at most
 abbrev pub tells_while : ℕ → ℕ → List Cert → World → Run
 tells_while zero x waiting w = rests w
 tells_while (suc n) x [] w = rests w
@@ -62,11 +62,11 @@ abbrev pub has_length : ℕ → Option (List ℕ) → Bool
 has_length n None = false
 has_length n (Some c) = length c == n
 
--- the nodes that are up and whose true chain has so many nodes
+-- the nodes that are up and whose true chain has n nodes
 abbrev pub with_chain_of : ℕ → World → List ℕ
 with_chain_of n w = filter (λ x. has_length n (chain_from w x)) (up_ids w)
 
--- the nodes whose true chain has at most so many nodes, those of longer chains first
+-- the nodes whose true chain has at most n nodes, those of longer chains first
 abbrev pub deepest_first : ℕ → World → List ℕ
 deepest_first zero w = []
 deepest_first (suc n) w = with_chain_of (suc n) w ++ deepest_first n w

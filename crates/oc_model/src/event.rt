@@ -14,7 +14,7 @@ pub enum Event {
     Do(Act),
     /// What the node holds is shown.
     Held(NodeId),
-    /// How the node stands is shown.
+    /// The state of the node is shown.
     Show(NodeId),
     /// All nodes that are up tell and renew until nothing waits.
     Settle,

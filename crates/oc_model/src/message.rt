@@ -11,9 +11,9 @@ pub struct Message {
 /// What a message says. Each rate is in bytes per second, 0 where nothing was measured.
 #[derive(Clone, Debug, Drop)]
 pub enum Body {
-    /// Asks how the receiver stands in the tree.
+    /// Asks for the receiver's position in the tree.
     Look,
-    /// How the sender stands: its parent with the rate to it, and its leased children with theirs.
+    /// The sender's position: its parent with the rate to it, and its leased children with theirs.
     LookIs {
         in_tree: bool,
         parent: Option<NodeId>,

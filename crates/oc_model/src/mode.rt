@@ -1,6 +1,6 @@
 use oc_base::NodeId;
 
-/// Where a node stands in the tree.
+/// The position of a node in the tree.
 #[derive(Clone, Copy, Debug, PartialEq, Eq)]
 pub enum Mode {
     /// Out of the tree.

@@ -9,7 +9,7 @@ pub enum Search {
     Review,
 }
 
-/// What a start clears of a node, but for what it keeps by the number of another node.
+/// What a start clears of a node, except for what it keeps by the number of another node.
 #[derive(Clone, Debug, Drop)]
 pub struct Soft {
     /// The time, in seconds.

@@ -48,7 +48,7 @@ digit_inside b passes = grind (arith, nat_tests)
 digit_host : (b : ℕ) → is_ascii_digit b ≡ true → is_host_byte b ≡ true
 digit_host b passes = grind (arith, nat_tests)
 
--- what is written, with the host, the digits and the body standing between texts
+-- what is written, with the host, the digits and the body between texts
 shape : (host digits end kind length close body : List ℕ)
     → (((((host ++ end) ++ kind) ++ ((length ++ digits) ++ end)) ++ close) ++ end) ++ body ≡ host ++ ((end ++ (kind ++ length)) ++ (digits ++ (end ++ (close ++ (end ++ body)))))
 shape host digits end kind length close body = simp append_assoc
@@ -68,7 +68,7 @@ parts_of host digits body = opening ++ (host ++ ((line_end ++ (type_line ++ leng
 written_parts : (host body : List ℕ) → request_text host body ≡ parts_of host (decimal (length body)) body
 written_parts host body = ap (λ (x : List ℕ). opening ++ x) (shape host (decimal (length body)) line_end type_line length_name closing body)
 
--- the body is what is behind the first empty line
+-- the body is what follows the first empty line
 parts_body : (host digits body : List ℕ) → list_all is_inside host ≡ true → list_all is_inside digits ≡ true → body_in (parts_of host digits body) ≡ body
 parts_body host digits body hosts numbers =
     skipped host ((line_end ++ (type_line ++ length_name)) ++ (digits ++ (line_end ++ (closing ++ (line_end ++ body))))) hosts

@@ -27,7 +27,7 @@ begins (c ∷ cs) (b ∷ bs) = b == c && begins cs bs
 abbrev pub head_end : List ℕ
 head_end = 13 ∷ 10 ∷ 13 ∷ 10 ∷ []
 
--- what is behind the first empty line
+-- what follows the first empty line
 abbrev pub body_in : List ℕ → List ℕ
 body_in [] = []
 body_in (byte ∷ rest) = if begins head_end (byte ∷ rest) then drop 3 rest else body_in rest
@@ -36,7 +36,7 @@ abbrev pub message_or_look : Result Message WireFault → Message
 message_or_look (Ok m) = m
 message_or_look (Err fault) = record { from = 0; to = 0; body = Look }
 
--- the message between so many nodes that a text brings
+-- the message between `nodes` nodes that a text brings
 abbrev pub message_in : ℕ → List ℕ → Message
 message_in nodes text = message_or_look (decoded nodes (body_in text))
 
@@ -51,7 +51,7 @@ pub record NetView : Type 0 where
   pub messages : List Message
   pub room : ℕ
 
--- the net of these texts, where the list has room for so many more
+-- the net of these texts, where the list has room for `room` more
 abbrev pub net_of : ℕ → List (List ℕ) → ℕ → NetView
 net_of nodes texts room = record { nodes = nodes; messages = map (message_in nodes) texts; room = room }
 

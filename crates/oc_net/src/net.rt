@@ -16,7 +16,7 @@ use std::marker::Model;
 /// The most messages that are ever sent: their numbers stay below 2^63.
 pub const MOST_SENT: usize = (1 << 63) - 2;
 
-/// The messages between so many nodes, in the order of sending. Contracts see the messages, and for how
+/// The messages between `nodes` nodes, in the order of sending. Contracts see the messages, and for how
 /// many more there is room.
 #[derive(Drop)]
 pub struct Net {
@@ -86,7 +86,7 @@ impl Net {
         Ok(())
     }
 
-    /// Makes room for so many more messages. It is wanted, too, once 2^63 - 2 messages were sent.
+    /// Makes room for `more` further messages. It is wanted, too, once 2^63 - 2 messages were sent.
     pub fn make_room(&mut self, more: usize) -> Result<(), Memory>
         ensures nodes { self.new.nodes ≡ self.old.nodes }
         ensures messages { self.new.messages ≡ self.old.messages }
@@ -99,7 +99,7 @@ impl Net {
         Ok(())
     }
 
-    /// Puts the messages of another net behind these, for which there is room. It takes no memory.
+    /// Puts the messages of another net after these, for which there is room. It takes no memory.
     pub fn append(&mut self, mut sent: Net)
         requires nodes { sent.nodes ≡ self.old.nodes }
         requires room { length sent.messages ≤ self.old.room }

@@ -45,7 +45,7 @@ pub(crate) fn message_in(alloc: Global, text: &[u8], nodes: u32) -> Result<Messa
     }
 }
 
-/// What is behind the first empty line.
+/// What follows the first empty line.
 fn body_in(text: &[u8]) -> &[u8]
     ensures { result.now ≡ body_in text.now }
 {

@@ -1,4 +1,4 @@
--- The earlier members that are asked how they stand, one after another.
+-- The earlier members that are asked for their positions, one after another.
 use Rattle.std.proofs.Common.{◌≡◌, ℕ, zero, suc, ◌-◌, ◌<◌, ◌≤◌, Bool, true, false, nat_lt, List, [], ◌∷◌, refl, ap, sym, ◌∙◌, arith}
 use Rattle.std.specs.Prelude.{filter}
 use Rattle.oc_model.specs.declared.mode.Mode.TheVariants.{Acting}

@@ -176,7 +176,7 @@ fn end_leases(draft: &mut Draft) -> Result<(), Memory>
     Ok(())
 }
 
-/// An earlier member is asked how it stands, if it is nearer than another.
+/// An earlier member is asked for its position, if it is nearer than another.
 fn look_past(draft: &mut Draft, other: u32, earlier: u32) -> Result<(), Memory>
     ensures { OnOk result (draft.new ≡ goes draft.old (looks_at_each (filter (λ x. nat_lt other x) (earlier ∷ [])) draft.old.step)) }
 {
@@ -187,7 +187,7 @@ fn look_past(draft: &mut Draft, other: u32, earlier: u32) -> Result<(), Memory>
     }
 }
 
-/// The earlier members nearer than another are asked how they stand, the nearest first.
+/// The earlier members nearer than another are asked for their positions, the nearest first.
 fn look_at_earlier(draft: &mut Draft, other: u32) -> Result<(), Memory>
     ensures { OnOk result (draft.new ≡ goes draft.old (looks_at_each (filter (λ x. nat_lt other x) (below draft.old.step.node.me)) draft.old.step)) }
 {

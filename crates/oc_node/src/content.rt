@@ -161,7 +161,7 @@ pub(crate) fn fetched(
 
 // Chunks
 
-/// A chunk that came, but for its bytes: the line of its group here, the places where it begins and ends,
+/// A chunk that came, except for its bytes: the line of its group here, the places where it begins and ends,
 /// and whether it is the last.
 #[derive(Drop)]
 struct Chunk {

@@ -28,7 +28,7 @@ fn rate_to_some(draft: &Draft, peer: Option<NodeId>) -> u64
     }
 }
 
-/// A node is told how this one stands.
+/// A node is told this one's position.
 pub(crate) fn looked(draft: &mut Draft, from: NodeId) -> Result<(), Memory>
     requires { draft.old.step ≡ begun draft.old.base }
     ensures { OnOk result (draft.new ≡ goes draft.old (looked draft.old.step from)) }
@@ -95,7 +95,7 @@ fn go_down(draft: &mut Draft, child: Option<NodeId>, from: NodeId) -> Result<(),
     }
 }
 
-/// On its way down the node sees how another stands.
+/// On its way down the node sees another's position.
 fn descends(draft: &mut Draft, from: NodeId, stand: &Stand) -> Result<(), Memory>
     requires { AreTold draft.old.step.records }
     ensures { OnOk result (draft.new ≡ goes draft.old (descends draft.old.step from stand.now)) }
@@ -151,7 +151,7 @@ fn go_where(draft: &mut Draft, review: Review) -> Result<(), Memory>
     }
 }
 
-/// A joined node sees how its parent stands.
+/// A joined node sees its parent's position.
 fn review_place(draft: &mut Draft, from: NodeId, stand: &Stand) -> Result<(), Memory>
     requires { AreTold draft.old.step.records }
     ensures { OnOk result (draft.new ≡ goes draft.old (reviews_place draft.old.step from stand.now)) }
@@ -176,7 +176,7 @@ fn keep_line(draft: &mut Draft, from: NodeId, stand: &Stand) -> Result<(), Memor
     }
 }
 
-/// A node tells how it stands.
+/// A node tells its position.
 #[tactic(auto, using(crate::proofs::ByMode::sees_is))]
 pub(crate) fn sees(draft: &mut Draft, from: NodeId, stand: &Stand) -> Result<(), Memory>
     requires { AreTold draft.old.step.records }

@@ -32,7 +32,7 @@ use oc_updown::{ChangeLog, Leases};
 use std::alloc::Global;
 use std::marker::Model;
 
-/// One node, but for its content. Contracts see the model's control state, and how many certificates
+/// One node, except for its content. Contracts see the model's control state, and how many certificates
 /// there is room for in the change log.
 #[derive(Drop)]
 pub struct Node {
@@ -252,7 +252,7 @@ impl Node {
         parent_of(self.mode())
     }
 
-    /// Where the node stands in the tree.
+    /// The position of the node in the tree.
     pub fn mode(&self) -> Mode
         ensures { result ≡ self.now.control.kept.mode }
     {

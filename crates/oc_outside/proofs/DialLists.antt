@@ -1,4 +1,4 @@
--- Dials in memory, one behind another.
+-- Dials in memory, one after another.
 use Rattle.std.proofs.Common.{◌≡◌, ℕ, ◌+◌, ◌-◌, ◌<◌, ◌≤◌, zero, suc, Option, None, Some, List, [], ◌∷◌, ◌++◌, length, drop, refl, sym, ap, ◌∙◌, arith, length-append, replicate, add-one, length-drop}
 use Rattle.std.proofs.lemmas.List.{append-nil, append_assoc, length-replicate}
 use Rattle.std.proofs.lemmas.Option.{slice_get_past}
@@ -29,14 +29,14 @@ dials_of-push (d ∷ cs) [] c some = absurd (omega (arith, some))
 dials_of-push (d ∷ cs) (a ∷ rows) c some =
     ap (λ (ds : List Dial). record { address = a; connection = d } ∷ ds) (dials_of-push cs rows c (omega (arith, some)))
 
--- addresses behind do not matter
+-- later addresses do not matter
 dials_of-more : (cs : List Connection) (rows more : List (List ℕ)) → length cs ≤ length rows → dials_of cs (rows ++ more) ≡ dials_of cs rows
 dials_of-more [] rows more some = refl
 dials_of-more (d ∷ cs) [] more some = absurd (omega (arith, some))
 dials_of-more (d ∷ cs) (a ∷ rows) more some =
     ap (λ (ds : List Dial). record { address = a; connection = d } ∷ ds) (dials_of-more cs rows more (omega (arith, some)))
 
--- nor does the last address, if it is behind
+-- nor does the last address, if it comes later
 dials_of-grown : (cs : List Connection) (rows : List (List ℕ)) (more : List ℕ) → length cs < length rows → dials_of cs (grown rows more) ≡ dials_of cs rows
 dials_of-grown [] rows more some = refl
 dials_of-grown (d ∷ cs) [] more some = absurd (omega (arith, some))

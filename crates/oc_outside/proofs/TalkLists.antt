@@ -1,4 +1,4 @@
--- Connections in memory, one behind another.
+-- Connections in memory, one after another.
 use Rattle.std.proofs.Common.{◌≡◌, ℕ, ◌+◌, ◌-◌, ◌<◌, ◌≤◌, zero, suc, Option, None, Some, List, [], ◌∷◌, ◌++◌, length, drop, refl, sym, ap, subst, ◌∙◌, arith, length-append, false}
 use Rattle.std.proofs.Math.Seq.{take-add}
 use Rattle.std.proofs.lemmas.List.{drop-drop, get_or-drop}
@@ -28,7 +28,7 @@ connections-push (t ∷ past) (b ∷ given) [] talk some_given some_rows = absur
 connections-push (t ∷ past) (b ∷ given) (w ∷ rows) talk some_given some_rows =
     ap (λ (cs : List Connection). connection_of b t w ∷ cs) (connections-push past given rows talk (omega (arith, some_given)) (omega (arith, some_rows)))
 
--- strings behind do not matter
+-- later strings do not matter
 connections-more : (past : List Talk) (given rows more : List (List ℕ)) → length past ≤ length rows → connections past given (rows ++ more) ≡ connections past given rows
 connections-more [] given rows more some = refl
 connections-more (t ∷ past) [] [] more some = absurd (omega (arith, some))
@@ -37,7 +37,7 @@ connections-more (t ∷ past) (b ∷ given) [] more some = absurd (omega (arith,
 connections-more (t ∷ past) (b ∷ given) (w ∷ rows) more some =
     ap (λ (cs : List Connection). connection_of b t w ∷ cs) (connections-more past given rows more (omega (arith, some)))
 
--- nor does the last string, if it is behind
+-- nor does the last string, if it comes later
 connections-grown : (past : List Talk) (given rows : List (List ℕ)) (more : List ℕ) → length past < length rows → connections past given (grown rows more) ≡ connections past given rows
 connections-grown [] given rows more some = refl
 connections-grown (t ∷ past) given [] more some = absurd (omega (arith, some))

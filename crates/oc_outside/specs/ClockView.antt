@@ -14,7 +14,7 @@ abbrev pub next_of : List ℕ → ℕ
 next_of [] = 0
 next_of (n ∷ ns) = n
 
--- those that are then to come: the first is dropped, save that the last one stays
+-- those that are then to come: the first is dropped, except that the last one stays
 abbrev pub after_next : List ℕ → List ℕ
 after_next [] = []
 after_next (n ∷ []) = n ∷ []

@@ -1,4 +1,4 @@
--- Dials in memory, one behind another, of which one may be outgoing.
+-- Dials in memory, one after another, of which one may be outgoing.
 use Rattle.std.specs.Prelude.{ℕ, Option, None, option_to_list, List, [], ◌∷◌, ◌++◌, drop}
 use Rattle.std.specs.Option.{option_map}
 use Rattle.oc_outside.specs.Story.{Connection, Dial, unused, broken}
@@ -26,7 +26,7 @@ cut_dial reply = record { address = []; connection = broken (unused reply) }
 abbrev pub nowhere : Dial
 nowhere = cut_dial []
 
--- the outgoing dial, which comes behind those that ended
+-- the outgoing dial, which comes after those that ended
 abbrev pub outgoing_of : ℕ → Option Connection → List (List ℕ) → Option Dial
 outgoing_of k current addresses = option_map (λ c. record { address = at addresses k; connection = c }) current
 

@@ -36,12 +36,12 @@ HearsThenBreaks bytes old new = (between : Option Connection) × Hears bytes old
 abbrev pub SaysThenBreaks : List ℕ → Option Connection → Option Connection → Type 0
 SaysThenBreaks bytes old new = (between : Option Connection) × Says bytes old between × Breaks between new
 
--- some front of these bytes was written, and then a call failed
+-- some prefix of these bytes was written, and then a call failed
 abbrev pub SaysFrontThenBreaks : List ℕ → Option Connection → Option Connection → Type 0
 SaysFrontThenBreaks bytes old new =
     (front : List ℕ) × (rest : List ℕ) × (bytes ≡ front ++ rest) × SaysThenBreaks front old new
 
--- Nothing, and one behind another
+-- Nothing, and one after another
 
 pub Hears-nothing : (c : Option Connection) → Hears [] c c
 Hears-nothing None = refl
@@ -51,15 +51,15 @@ pub Says-nothing : (c : Option Connection) → Says [] c c
 Says-nothing None = refl
 Says-nothing (Some c) = ap (λ (written : List ℕ). record c { written = written }) (sym (append-nil c.written))
 
--- the front of a front
+-- a prefix of a prefix
 fronts : (a b c x y : List ℕ) → a ≡ x ++ b → b ≡ y ++ c → a ≡ (x ++ y) ++ c
 fronts a b c x y e f = e ∙ ap (λ (rest : List ℕ). x ++ rest) f ∙ sym (append_assoc x y c)
 
--- an addition behind an addition
+-- an addition after an addition
 adds : (a b c x y : List ℕ) → b ≡ a ++ x → c ≡ b ++ y → c ≡ a ++ (x ++ y)
 adds a b c x y e f = f ∙ ap (λ (front : List ℕ). front ++ y) e ∙ append_assoc a x y
 
--- no bytes behind no bytes
+-- no bytes after no bytes
 nothing : (x y : List ℕ) → x ≡ [] → y ≡ [] → x ++ y ≡ []
 nothing x y e f = ap (λ (front : List ℕ). front ++ y) e ∙ f
 

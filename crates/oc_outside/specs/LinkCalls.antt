@@ -81,11 +81,11 @@ abbrev pub DialsTo : List ℕ → List ℕ → Story → Story → Type 0
 DialsTo address bytes old new = (reply : List ℕ)
     × (new ≡ record (hung_up old) { outgoing = Some (record { address = address; connection = wrote bytes (unused reply) }) })
 
--- some front of a list
+-- some prefix of a list
 abbrev pub IsFront : List ℕ → List ℕ → Type 0
 IsFront front whole = (rest : List ℕ) × (whole ≡ front ++ rest)
 
--- a dial to an address that failed; fronts of the address and of these bytes were kept of it
+-- a dial to an address that failed; prefixes of the address and of these bytes were kept of it
 pub record IsCutDial (to bytes : List ℕ) (dial : Dial) : Type 0 where
   pub address : IsFront dial.address to
   pub written : IsFront dial.connection.written bytes

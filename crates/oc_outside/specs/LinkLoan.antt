@@ -23,7 +23,7 @@ pub record Dials (R : Option Connection → Option Connection → Type 0) (old n
   pub story : Told (OnOutgoing R) old.story new.story
   pub counts : CountsDialling old.faults new.faults
 
--- One behind another
+-- One after another
 
 pub Told-same : (R : Story → Story → Type 0) → ((s : Story) → R s s) → (o : Option Story) → Told R o o
 Told-same R same None = tt

@@ -1,4 +1,4 @@
--- Byte strings one behind another in one buffer.
+-- Byte strings one after another in one buffer.
 use Rattle.std.specs.Prelude.{ℕ, ◌≤◌, List, [], ◌∷◌, ◌++◌, take, drop}
 
 -- the strings, the bytes and the strings for which there is room
@@ -13,13 +13,13 @@ rows_in bytes [] = []
 rows_in bytes (a ∷ []) = drop a bytes ∷ []
 rows_in bytes (a ∷ b ∷ starts) = drop a (take b bytes) ∷ rows_in bytes (b ∷ starts)
 
--- the last string with these bytes behind it
+-- the last string with these bytes after it
 abbrev pub grown : List (List ℕ) → List ℕ → List (List ℕ)
 grown [] more = []
 grown (row ∷ []) more = (row ++ more) ∷ []
 grown (row ∷ next ∷ rows) more = row ∷ grown (next ∷ rows) more
 
--- each place is within those behind it and within the buffer
+-- each place is within those after it and within the buffer
 abbrev pub AreStarts : ℕ → List ℕ → Type 0
 AreStarts len [] = Unit {0}
 AreStarts len (a ∷ []) = a ≤ len

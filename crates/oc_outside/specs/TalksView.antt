@@ -1,4 +1,4 @@
--- Connections in memory, one behind another, of which one may be current.
+-- Connections in memory, one after another, of which one may be current.
 use Rattle.std.specs.Prelude.{ℕ, ◌≤◌, Option, None, Some, option_to_list, List, [], ◌∷◌, ◌++◌, length, take, drop, slice_index_or}
 use Rattle.std.specs.Option.{option_map}
 use Rattle.oc_outside.specs.Story.{Connection, unused}
@@ -35,7 +35,7 @@ count_of (Some talk) = 1
 abbrev pub at : List (List ℕ) → ℕ → List ℕ
 at xs k = slice_index_or xs k []
 
--- the current connection, which comes behind those that ended
+-- the current connection, which comes after those that ended
 abbrev pub current_of : List (List ℕ) → ℕ → Option Talk → List (List ℕ) → Option Connection
 current_of given k talk rows = option_map (λ t. connection_of (at given k) t (at rows k)) talk
 

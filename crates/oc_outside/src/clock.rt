@@ -5,7 +5,7 @@ ghost use Rattle.oc_outside.specs.ClockView.{Series, Ticks};
 ///
 /// A clock may tell which number a call gave last, and which ones are to come; a real clock cannot
 /// tell the latter. Where the numbers to come are told a call gives the first of them and drops it,
-/// save that the last one stays; where none is to come it gives 0.
+/// except that the last one stays; where none is to come it gives 0.
 pub trait Clock {
     /// What is told of the numbers of `now`.
     ghost seconds: { Self → Series };

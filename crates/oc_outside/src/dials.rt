@@ -11,7 +11,7 @@ use crate::talks::Talks;
 use std::alloc::{AllocError, Global};
 use std::marker::Model;
 
-/// Dials in memory, one behind another, of which one may be outgoing. Each takes the next of the
+/// Dials in memory, one after another, of which one may be outgoing. Each takes the next of the
 /// replies.
 #[derive(Debug, Drop)]
 pub struct Dials {
@@ -124,7 +124,7 @@ impl Dials {
         }
     }
 
-    /// Reads from the outgoing dial, at most `most` bytes: fills a front of the buffer and answers its
+    /// Reads from the outgoing dial, at most `most` bytes: fills a prefix of the buffer and answers its
     /// length. Without an outgoing dial there is nothing to read.
     pub fn read(&mut self, buf: &mut [u8], most: usize) -> usize
         ensures count { result ≡ min (min (length buf.old) most) (length (left_of (connection_of self.old.outgoing))) }

@@ -41,7 +41,7 @@ pub trait Link {
         ensures count { CountsListening (faults self.old) (faults self.new) }
         ensures cause { OnErr result (Rose (faults self.old).listening (faults self.new).listening) };
 
-    /// Reads from the current connection: fills a front of the buffer and answers its length. 0 for
+    /// Reads from the current connection: fills a prefix of the buffer and answers its length. 0 for
     /// a buffer that is not empty is the end.
     fn read(&mut self, buf: &mut [u8]) -> Result<usize, Failed>
         ensures within { IfOk result (λ n. n ≤ length buf.old) }
@@ -52,7 +52,7 @@ pub trait Link {
         ensures count { CountsTalking (faults self.old) (faults self.new) }
         ensures cause { OnErr result (Rose (faults self.old).talking (faults self.new).talking) };
 
-    /// Writes a front of these bytes on the current connection and answers its length. A link that
+    /// Writes a prefix of these bytes on the current connection and answers its length. A link that
     /// takes nothing of a piece that is not empty counts that as a fault and answers `Failed`.
     fn write(&mut self, bytes: &[u8]) -> Result<usize, Failed>
         ensures within { IfOk result (λ n. n ≤ length bytes.now) }

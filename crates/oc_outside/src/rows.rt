@@ -5,7 +5,7 @@ ghost use Rattle.oc_outside.specs.Rows.{grown, rows_in, AreStarts};
 use std::alloc::{AllocError, Global};
 use std::marker::Model;
 
-/// Byte strings one behind another in one buffer, which never grows past what was made. Only the last
+/// Byte strings one after another in one buffer, which never grows past what was made. Only the last
 /// string grows.
 #[derive(Debug, Drop)]
 pub struct Rows {
@@ -68,7 +68,7 @@ impl Rows {
         self.places -= 1;
     }
 
-    /// Puts these bytes behind the last string.
+    /// Puts these bytes after the last string.
     pub fn extend(&mut self, more: &[u8])
         requires room { length more.now ≤ self.old.room }
         requires some { 0 < length self.old.rows }

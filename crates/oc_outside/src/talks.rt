@@ -14,7 +14,7 @@ pub struct Talk {
     pub failed: bool,
 }
 
-/// Connections in memory, one behind another: those that wait, those that ended, and one that may be
+/// Connections in memory, one after another: those that wait, those that ended, and one that may be
 /// current. What is written on them is kept.
 #[derive(Debug, Drop)]
 pub struct Talks {
@@ -22,7 +22,7 @@ pub struct Talks {
     given: Vec<Vec<u8>>,
     /// Those that ended.
     past: Vec<Talk>,
-    /// The current one, which comes behind them.
+    /// The current one, which comes after them.
     current: Option<Talk>,
     /// What was written on each of those that ended and on the current one.
     written: Rows,
@@ -106,7 +106,7 @@ impl Talks {
         });
     }
 
-    /// Reads from the current connection, at most `most` bytes: fills a front of the buffer and
+    /// Reads from the current connection, at most `most` bytes: fills a prefix of the buffer and
     /// answers its length. Without a current connection there is nothing to read.
     pub fn read(&mut self, buf: &mut [u8], most: usize) -> usize
         ensures count { result ≡ min (min (length buf.old) most) (length (left_of self.old.current)) }
@@ -166,7 +166,7 @@ fn unread(bytes: &[u8], talk: Talk) -> &[u8]
     &bytes[talk.read..]
 }
 
-/// Fills a front of the buffer with a front of these bytes, at most `most`, and answers its length.
+/// Fills a prefix of the buffer with a prefix of these bytes, at most `most`, and answers its length.
 fn fill(buf: &mut [u8], bytes: &[u8], most: usize) -> usize
     ensures count { result ≡ min (min (length buf.old) most) (length bytes.now) }
     ensures front { take result buf.new ≡ take result bytes.now }

@@ -1,4 +1,4 @@
--- What a start clears, but for what is kept by the number of a node.
+-- What a start clears, except for what is kept by the number of a node.
 use Rattle.std.specs.Prelude.{ℕ, false, None, List}
 use Rattle.oc_model.specs.declared.soft.Soft.{Soft}
 use Rattle.oc_parts.specs.declared.volatile.Volatile.{Volatile}

@@ -6,7 +6,7 @@ ghost use Rattle.oc_parts.specs.Standing.{standing_of, new_standing};
 use oc_base::Rank;
 use oc_model::{Mode, Record};
 
-/// Where a node stands in the tree, and what it counted: the small parts of what is durable.
+/// The position of a node in the tree, and what it counted: the small parts of what is durable.
 #[derive(Clone, Copy)]
 pub struct Standing {
     /// The number of its last ask.

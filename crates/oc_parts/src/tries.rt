@@ -38,7 +38,7 @@ impl Tries {
         Tries { list, taken: 0 }
     }
 
-    /// The one behind the first ones, this many.
+    /// The one after the first `place` ones.
     pub fn get(&self, place: usize) -> Option<NodeId>
         ensures first { result ≡ first_of (drop place self.now) }
         ensures fits { IfSome result (λ _. place + 1 < 2 ^ 64) }

@@ -53,7 +53,7 @@ taken direct best x xs h =
 pub left : (direct : ℕ) (best : Option Candidate) (x : Candidate) (xs : List Candidate) → is_suitable direct x ≡ false → with_rest best (nearest (filter (is_suitable direct) xs)) ≡ with_rest best (nearest (filter (is_suitable direct) (x ∷ xs)))
 left direct best x xs h = ap (λ (cs : List Candidate). with_rest best (nearest cs)) (sym (filter_left (is_suitable direct) x xs h))
 
--- the rest at a place is what stands there and the rest behind it
+-- the rest at a place is what is there and the rest after it
 pub rest_at : (xs : List Candidate) (i : ℕ) (x : Candidate) → i < length xs → x ≡ get_or xs i x → drop i xs ≡ x ∷ drop (i + 1) xs
 rest_at xs i x short here = rw (add-one, drop-cons xs i x) (ap (λ (y : Candidate). y ∷ drop (suc i) xs) (sym here))
 

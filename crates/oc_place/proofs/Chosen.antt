@@ -49,14 +49,14 @@ pub record IsNearest (cs : List Candidate) (c : Candidate) : Type 0 where
   pub among : IsAmong c cs
   pub least : (d : Candidate) → IsAmong d cs → is_nearer d c ≡ false
 
--- the nearest behind the first, where it is nearer
+-- the nearest after the first, where it is nearer
 behind_is_nearest : (y : Candidate) (ys : List Candidate) (b : Candidate) → IsNearest ys b → is_nearer b y ≡ true → IsNearest (y ∷ ys) b
 behind_is_nearest y ys b n near = record {
   among = inr n.among;
   least = λ d h. elim h [ inl same ↦ subst (λ (x : Candidate). is_nearer x b ≡ false) same (nearer_one_way b y near) | inr behind ↦ n.least d behind ];
 }
 
--- the first, where the nearest behind it is not nearer
+-- the first, where the nearest after it is not nearer
 first_is_nearest : (y : Candidate) (ys : List Candidate) (b : Candidate) → IsNearest ys b → is_nearer b y ≡ false → IsNearest (y ∷ ys) y
 first_is_nearest y ys b n far = record {
   among = inl refl;
@@ -68,7 +68,7 @@ nearest_more : (y : Candidate) (ys : List Candidate) (b : Candidate) → IsNeare
 nearest_more y ys b n true e = behind_is_nearest y ys b n e
 nearest_more y ys b n false e = first_is_nearest y ys b n e
 
--- the nearest so taken, by what is nearest behind the first
+-- the nearest so taken, by what is nearest after the first
 nearest_step : (y : Candidate) (ys : List Candidate) (o : Option Candidate) → nearest ys ≡ o → ((b : Candidate) → o ≡ Some b → IsNearest ys b) → IsNearest (y ∷ ys) (nearer_of y o)
 nearest_step y ys None e ih = record {
   among = inl refl;

@@ -9,7 +9,7 @@ abbrev pub nearer_yet : Option Candidate → Candidate → Candidate
 nearer_yet None c = c
 nearer_yet (Some b) c = if is_nearer c b then c else b
 
--- the nearest of the best so far and of the nearest behind it
+-- the nearest of the best so far and of the nearest after it
 abbrev pub with_rest : Option Candidate → Option Candidate → Option Candidate
 with_rest None rest = rest
 with_rest (Some b) rest = Some (nearer_of b rest)

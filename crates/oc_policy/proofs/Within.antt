@@ -53,7 +53,7 @@ some_from_prefix p h = elim (prefix_cases p h) [
   | inr named ↦ omega (arith, some_from_name p named)
 ]
 
--- no list is a slash behind something and more
+-- no list is a slash after something and more
 no_slash_behind : {P : Type 0} (a r : List ℕ) → 0 < length a → 47 ∷ [] ≡ (a ++ 47 ∷ []) ++ r → P
 no_slash_behind a r some e = absurd (omega (arith, simp length-append at (ap length e)))
 
@@ -98,12 +98,12 @@ within_from_all a b good other all = elim (prefix_cases b other) [
 same_head : (b : ℕ) (test : Bool) → (nat_eq b b && test) ≡ test
 same_head b test = grind (arith, nat_tests)
 
--- behind what both begin with, the rests decide
+-- after what both begin with, the rests decide
 pub starts-behind : (p x n : List ℕ) → starts_with nat_eq (p ++ x) (p ++ n) ≡ starts_with nat_eq x n
 starts-behind [] x n = refl
 starts-behind (b ∷ p) x n = same_head b (starts_with nat_eq (p ++ x) (p ++ n)) ∙ starts-behind p x n
 
--- what is behind a prefix begins with a slash, or the whole does not begin with both
+-- what follows a prefix begins with a slash, or the whole does not begin with both
 pub starts-with_prefix : (s p rest : List ℕ) → s ≡ p ++ rest → starts_with nat_eq rest (codes "/") ≡ starts_with nat_eq s (p ++ codes "/")
 starts-with_prefix s p rest e = rw e (sym (starts-behind p rest (codes "/")))
 

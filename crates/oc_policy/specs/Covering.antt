@@ -8,7 +8,7 @@ abbrev pub BothCover : Option Rule → Option Rule → Type 0
 BothCover (Some j) (Some i) = rule_covers j i
 BothCover j i = ⊥
 
--- rule j stands before rule i and covers it; rules are counted from 1
+-- rule j comes before rule i and covers it; rules are counted from 1
 pub record Shadows (rules : List Rule) (j i : ℕ) : Type 0 where
   pub some : 1 ≤ j
   pub before : j < i

@@ -47,7 +47,7 @@ count-more p q (x ∷ xs) more =
 not_less : (x y : ℕ) → is_lt (nat_cmp x y) ≡ false → y ≤ x
 not_less x y h = grind (arith, nat_tests, h)
 
--- a number is at the place behind those that are split off before it
+-- a number is at the place after those that are split off before it
 pub split_at : (xs front back : List ℕ) (m k : ℕ) → IsPermutation xs (front ++ m ∷ back) → length front ≡ k → IsSplitAround nat_cmp front m back → IsAtPlace (k + 1) xs m
 split_at xs front back m k same long (before, behind) =
     let less : count_by (λ x. nat_lt x m) (front ++ m ∷ back) ≡ count_by (λ x. nat_lt x m) front + count_by (λ x. nat_lt x m) (m ∷ back) = sum_by-append (λ x. cond (nat_lt x m) 1 0) front (m ∷ back) in

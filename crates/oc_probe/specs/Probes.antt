@@ -14,7 +14,7 @@ use Rattle.oc_probe.specs.Rates.{rate_of, probe_bytes}
 use Rattle.oc_probe.specs.declared.fault.ProbeFault.{ProbeFault}
 use Rattle.oc_probe.specs.declared.fault.ProbeFault.TheVariants.{Link as DialFault, Reply as NoReply, Memory as NoMemory}
 
--- The bytes that come, and whether nothing comes behind them
+-- The bytes that come, and whether nothing comes after them
 
 -- they are a response of status 200 with a body of as many bytes as a probe downloads
 abbrev pub IsAnswer : Reply → Type 0
@@ -75,7 +75,7 @@ ReadTimes zero old new = new ≡ old
 ReadTimes (suc n) old new = (reading : ℕ) × (between : Series) × Ticks old reading between × ReadTimes n between new
 
 -- What a probe of this address answers, and what it did to the link: with an answer the dial was asked and came to that; it
--- is `Link` where a call of the dial failed; and memory ran out before the dial or behind it.
+-- is `Link` where a call of the dial failed; and memory ran out before the dial or after it.
 abbrev pub Probed : Result ℕ ProbeFault → List ℕ → Option Story → Option Story → Type 0
 Probed (Ok rate) to old new = Told (Asked to IsAnswered) old new
 Probed (Err NoReply) to old new = Told (Asked to IsUnanswered) old new

@@ -191,7 +191,7 @@ impl Process {
     }
 
     /// A stop of a node that is up in the midst of an input, once `calls` of the calls that write its frame
-    /// have worked; the byte `image` stands wherever something was written and not synced. Answers whether
+    /// have worked; the byte `image` is found wherever something was written and not synced. Answers whether
     /// the frame is kept. Where memory is wanted, the node stays as it is.
     pub fn stop(&mut self, input: Input, calls: u8, image: u8) -> Result<bool, Memory>
         requires up { self.old.process.up ≡ true }
@@ -248,7 +248,7 @@ impl Process {
         groups_recovered(self.alloc, self.load()?)
     }
 
-    /// How the node stands.
+    /// The state of the node.
     pub fn sight(&self) -> Result<Sight, Memory>
         ensures { IfOk result (λ sight. sight ≡ sight_of self.now.process.node.control self.now.process.up) }
     {

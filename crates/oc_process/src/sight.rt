@@ -1,4 +1,4 @@
-//! How a node stands in the tree, and what it knows of it.
+//! A node's position in the tree, and what it knows of the tree.
 
 ghost use Rattle.std.specs.Prelude.{◌≡◌, false, IfOk};
 ghost use Rattle.oc_base.specs.Groups.{shelf};

@@ -1,4 +1,4 @@
-//! How a node stands: on its files, or down.
+//! The state of a node: on its files, or down.
 
 ghost use Rattle.std.specs.Prelude.{◌≡◌, [], true, IfOk};
 ghost use Rattle.oc_io.specs.MemDiskView.{disk_of};
@@ -27,7 +27,7 @@ pub(crate) enum Standing<D: Disk> {
 }
 
 impl<D: Disk + Drop> Standing<D> {
-    /// Stands so from now on.
+    /// Has this state from now on.
     pub(crate) fn set(&mut self, next: Standing<D>)
         ensures { self.new ≡ next }
     {

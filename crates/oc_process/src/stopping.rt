@@ -25,7 +25,7 @@ pub(crate) fn crash(kept: Kept<MemDisk>) -> Files<MemDisk>
 }
 
 /// A node that runs stops in an input that was made ready, once `calls` of the calls that write its frame
-/// have worked; the byte `image` stands wherever something was written and not synced.
+/// have worked; the byte `image` is found wherever something was written and not synced.
 pub(crate) fn stop(kept: Kept<MemDisk>, ready: Ready, calls: u8, image: u8) -> Files<MemDisk>
     requires open { IsOpen view_of kept }
     requires ready { CanCommit view_of kept ready }
@@ -41,7 +41,7 @@ pub(crate) fn stop(kept: Kept<MemDisk>, ready: Ready, calls: u8, image: u8) -> F
     }
 }
 
-/// Whether a frame is kept that was stopped after so many calls.
+/// Whether a frame is kept that was stopped after `calls` calls.
 pub(crate) fn is_kept_new(calls: u8, image: u8) -> bool
     ensures { result ≡ is_kept_new calls image }
 {

@@ -25,7 +25,7 @@ at_bytes bytes read = record {
 abbrev pub at_text : List ℕ → Output
 at_text output = record { written = λ text. output ≡ text; cut_off = λ text. output ≡ text }
 
--- the error output is this line, or a front of it
+-- the error output is this line, or a prefix of it
 abbrev pub IsLineOrFront : List ℕ → List ℕ → Type 0
 IsLineOrFront output line = (output ≡ line) ⊎ SomeFront line (λ front. output ≡ front)
 
@@ -62,6 +62,6 @@ at_output traffic = record {
   cut_off = λ text. IsCountOf traffic text × HasFailed traffic;
 }
 
--- as many bytes were written as the line has, or as a front of it, and then a call failed
+-- as many bytes were written as the line has, or as a prefix of it, and then a call failed
 abbrev pub IsCountOfLineOrFront : Traffic → List ℕ → Type 0
 IsCountOfLineOrFront traffic line = IsCountOf traffic line ⊎ (SomeFront line (IsCountOf traffic) × HasFailed traffic)

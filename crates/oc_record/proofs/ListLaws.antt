@@ -12,7 +12,7 @@ use Rattle.oc_record.specs.Spelling.{record_bytes, records_bytes, HasSpelling, H
 use Rattle.oc_record.specs.Reading.{record_at, records_at, decoded}
 use Rattle.oc_record.proofs.RecordReads.{given_is, record_takes, record_again}
 
--- from a text on the bytes are the text and what is behind it
+-- from a text on the bytes are the text and what follows it
 behind : (bytes : List ℕ) (at : ℕ) (text : List ℕ) (next : ℕ) → Takes bytes at text next → drop at bytes ≡ text ++ drop next bytes
 behind bytes at text next t =
     let rest : drop next bytes ≡ t.there.0 = ap (λ (k : ℕ). drop k bytes) t.moved ∙ sym (drop-drop (length text) at bytes) ∙ ap (drop (length text)) t.there.1 ∙ drop_at text t.there.0 (length text) refl in

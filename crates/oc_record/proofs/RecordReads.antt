@@ -21,7 +21,7 @@ given x = Ok x
 pub given_is : {A : Type 0} (x y : A) → given x ≡ given y → x ≡ y
 given_is x y e = cc
 
--- a record with nothing behind its code
+-- a record with nothing after its code
 abbrev plain_at : Record → ℕ → Result (Record × ℕ) RecordFault
 plain_at r at = Ok (r, at)
 

@@ -58,7 +58,7 @@ ends nodes bytes front at faults.Short lt read way = first_fault nodes bytes fro
 ends nodes bytes front at faults.Value lt read way = first_fault nodes bytes front at faults.Value lt read way
 ends nodes bytes front at (faults.Kind code) lt read way = first_fault nodes bytes front at (faults.Kind code) lt read way
 
--- nothing is read behind the end
+-- nothing is read after the end
 at_end : (nodes : ℕ) (bytes : List ℕ) (at most : ℕ) → length bytes ≤ at → records_at nodes most bytes at ≡ Ok []
 unfolding records_at
 at_end nodes bytes at zero le = refl

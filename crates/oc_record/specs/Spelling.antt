@@ -22,7 +22,7 @@ code_of (Snapshot generation) = 12
 code_of (Entry cert) = 13
 code_of (Info number clients) = 14
 
--- its fields, one behind the other
+-- its fields, one after the other
 abbrev pub fields_bytes : Record → List ℕ
 fields_bytes (Ask seq peer) = eight seq ++ four peer
 fields_bytes (Joined peer rank) = four peer ++ rank_bytes rank
@@ -43,7 +43,7 @@ fields_bytes (Info number clients) = eight number ++ eight clients
 abbrev pub record_bytes : Record → List ℕ
 record_bytes r = code_of r ∷ fields_bytes r
 
--- a list: one record behind the other
+-- a list: one record after the other
 abbrev pub records_bytes : List Record → List ℕ
 records_bytes records = flat_map record_bytes records
 

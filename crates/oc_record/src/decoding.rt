@@ -14,7 +14,7 @@ use oc_base::reading::byte_at;
 use oc_base::row_of;
 use std::alloc::Global;
 
-/// The records that the bytes spell for so many nodes: all of the bytes, or the first fault.
+/// The records that the bytes spell for `nodes` nodes: all of the bytes, or the first fault.
 pub fn decode(alloc: Global, bytes: &[u8], nodes: u32) -> Result<Vec<Record>, RecordFault>
     // Exactly the one spelling of a lawful list is read.
     ensures found { IfOk result (λ list. AreRecords nodes list.items × (bytes.now ≡ records_bytes list.items)) }

@@ -2,7 +2,7 @@
 //! fault from the left.
 //!
 //! A record is its kind's code and its fields, numbers big-endian. The body of a control frame is a
-//! list of records, one behind the other, to its end. `specs/Spelling` has the one spelling of each
+//! list of records, one after the other, to its end. `specs/Spelling` has the one spelling of each
 //! record and what a lawful one is, `specs/Reading` what bytes stand for or what is wrong with them.
 //!
 //! The contracts used above: `decode` gives a list exactly where the bytes are its spelling, and else

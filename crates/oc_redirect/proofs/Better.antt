@@ -116,7 +116,7 @@ pub record IsBestOf (better : ℕ → ℕ → Bool) (xs : List ℕ) (k : ℕ) : 
   pub among : IsAmong k xs
   pub least : (y : ℕ) → IsAmong y xs → better y k ≡ false
 
--- the best of one and of those behind it, by the test
+-- the best of one and of those after it, by the test
 best_of_more : (areas counts : List ℕ) (area x : ℕ) (xs : List ℕ) (b : ℕ) → IsBestOf (is_better areas counts area) xs b → (t : Bool) → is_better areas counts area b x ≡ t → IsBestOf (is_better areas counts area) (x ∷ xs) (if t then b else x)
 best_of_more areas counts area x xs b n true e = record {
   among = inr n.among;
@@ -132,7 +132,7 @@ pub best_none : (better : ℕ → ℕ → Bool) (xs : List ℕ) (d : ℕ) → be
 best_none better [] d e = λ h. h
 best_none better (x ∷ xs) d e = absurd cc
 
--- the best of one and of those behind it, if there are any
+-- the best of one and of those after it, if there are any
 best_step : (areas counts : List ℕ) (area x : ℕ) (xs : List ℕ) (o : Option ℕ) → best_of (is_better areas counts area) xs ≡ o → ((b : ℕ) → o ≡ Some b → IsBestOf (is_better areas counts area) xs b) → IsBestOf (is_better areas counts area) (x ∷ xs) (with_best (is_better areas counts area) x o)
 best_step areas counts area x xs None e ih = record {
   among = inl refl;

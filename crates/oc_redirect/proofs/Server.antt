@@ -32,7 +32,7 @@ listed_parent : (t : List Cert) (r x : ℕ) (ys : List ℕ) → IsWay t r x ys �
 listed_parent t r x [] way = (r, way)
 listed_parent t r x (y ∷ ys) way = (y, way.0)
 
--- each that stands among the servers is one
+-- each that is among the servers is one
 pub among_servers : (t : List Cert) (me chain x : ℕ) → IsAmong x (servers t me chain) → IsServer t me chain x
 among_servers t me chain x h =
     let a = among_filtered (λ y. nat_lt chain y) (filter (is_listed t me) (map (λ (c : Cert). c.subject) t)) x h in
@@ -40,7 +40,7 @@ among_servers t me chain x h =
     let past : nat_lt chain x ≡ true = a.1 in
     (grind (arith, nat_tests), (is_listed-exact t me x).0 b.1)
 
--- each server stands among them
+-- each server is among them
 pub servers_among : (t : List Cert) (me chain x : ℕ) → IsServer t me chain x → IsAmong x (servers t me chain)
 servers_among t me chain x s =
     let past : nat_lt chain x ≡ true = (let h = s.0 in grind (arith, nat_tests)) in

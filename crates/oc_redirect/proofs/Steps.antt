@@ -36,20 +36,20 @@ after_worse areas counts area p best new x xs h e = elim (cases_Bool (p x)) [
   | inr t ↦ after_failed areas counts area p best new x xs t e
 ]
 
--- the nodes from one on are that one and those behind it
+-- the nodes from one on are that one and those after it
 pub next_node : (n i : ℕ) → i < n → range_with_len (i + 1) (n - i) ≡ (i + 1) ∷ range_with_len (i + 1 + 1) (n - (i + 1))
 next_node n i h = let more : n - i ≡ suc (n - (i + 1)) = omega arith in ap (λ (m : ℕ). range_with_len (i + 1) m) more
 
--- behind the last there is none
+-- after the last there is none
 pub no_node : (n i : ℕ) → n ≤ i → range_with_len (i + 1) (n - i) ≡ []
 no_node n i h = let none : n - i ≡ 0 = omega arith in ap (λ (m : ℕ). range_with_len (i + 1) m) none
 
--- with nothing behind it the best so far is the best
+-- with nothing after it the best so far is the best
 pub rest_none : (better : ℕ → ℕ → Bool) (best : Option ℕ) → with_rest better best None ≡ best
 rest_none better None = refl
 rest_none better (Some b) = refl
 
--- what stands before a node stands before the next
+-- what comes before a node comes before the next
 pub behind_more : (best : Option ℕ) (i : ℕ) → IfSome best (λ b. (1 ≤ b) × (b < i + 1)) → IfSome best (λ b. (1 ≤ b) × (b < i + 1 + 1))
 behind_more None i h = tt
 behind_more (Some b) i h = (h.0, omega (arith, h.1))

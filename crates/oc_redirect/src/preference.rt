@@ -17,7 +17,7 @@ pub(crate) struct Preference<'a> {
 }
 
 impl<'a> Preference<'a> {
-    /// Whether the node is better than the best so far, which stands before it.
+    /// Whether the node is better than the best so far, which comes before it.
     pub fn beats(&self, node: NodeId, best: &Option<NodeId>) -> bool
         requires first { 1 ≤ node }
         requires areas { node ≤ length self.now.areas.now }

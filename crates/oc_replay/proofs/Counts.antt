@@ -27,7 +27,7 @@ sum_step f i n within = ap (sum_by f) (from_to i n within) ∙ sum_by-cons f i (
 pub sum_end : (f : ℕ → ℕ) (i n : ℕ) → n + 1 ≤ i → sum_by f (range_with_len i (n + 1 - i)) ≡ 0
 sum_end f i n past = let none : n + 1 - i ≡ 0 = omega arith in ap (λ k. sum_by f (range_with_len i k)) none
 
--- of so many numbers, each at most b
+-- of n numbers, each at most b
 pub sum_at_most : (f : ℕ → ℕ) (b : ℕ) → ((x : ℕ) → f x ≤ b) → (i n : ℕ) → sum_by f (range_with_len i n) ≤ n * b
 sum_at_most f b each i zero = omega arith
 sum_at_most f b each i (suc n) = omega (arith, sum_by-cons f i (range_with_len (i + 1) n), each i, sum_at_most f b each (i + 1) n)

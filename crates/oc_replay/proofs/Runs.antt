@@ -10,13 +10,13 @@ use Rattle.oc_report.specs.Lines.{end_line, event_line}
 use Rattle.oc_replay.specs.Report.{block_text, event_text, sent_text, told_from}
 use Rattle.oc_replay.proofs.Written.{IsWritten, gathers, gathers_all}
 
--- what holds of the rest holds of its first item, and of the rest behind it
+-- what holds of the rest holds of its first item, and of the rest after it
 pub All-drop : {A : Type 0} (P : A → Type 0) (xs : List A) (i : ℕ) (x : A) → i < length xs → x ≡ get_or xs i x → AllByRecursion P (drop i xs) → P x × AllByRecursion P (drop (i + 1) xs)
 All-drop P xs i x within read all =
     let both : P (get_or xs i x) × AllByRecursion P (drop (i + 1) xs) = subst (AllByRecursion P) (drop_more xs i x within) all in
     (subst P (sym read) both.0, both.1)
 
--- the line of an event, the messages that it sent and its block, put one behind the other, are what is told of it
+-- the line of an event, the messages that it sent and its block, put one after the other, are what is told of it
 pub event_told : (a b c d : List ℕ) (i : ℕ) (said word : Word) (first : ℕ) (old new : World) (e : Event) → said ≡ word → first ≡ length old.net + 1 → b ≡ a ++ event_line i said → c ≡ b ++ sent_text first new e → d ≡ c ++ block_text new e → d ≡ a ++ event_text i word old new e
 event_told a b c d i said word first old new e words firsts line sent block =
     let x = event_line i word in
@@ -27,7 +27,7 @@ event_told a b c d i said word first old new e words firsts line sent block =
     block ∙ ap (λ l. l ++ z) sent_put ∙ append_assoc a (x ++ y) z
 
 module _ (after : World → Event → World) (word : World → Event → Word) where
-  -- the next event is told, and then the events behind it
+  -- the next event is told, and then the events after it
   pub told_from-drop : (i : ℕ) (w new : World) (es : List Event) (e : Event) → i < length es → e ≡ get_or es i e → new ≡ after w e → told_from after word i w (drop i es) ≡ event_text (i + 1) (word w e) w new e ++ told_from after word (i + 1) new (drop (i + 1) es)
   told_from-drop i w new es e within read next =
       at_drop_more (told_from after word i w) es i e within
@@ -39,14 +39,14 @@ module _ (after : World → Event → World) (word : World → Event → Word) w
   fold-take i first w new es e within read next so_far =
       next ∙ ap (λ (v : World). after v e) so_far ∙ ap (after (fold after first (take i es))) read ∙ sym (fold_more after first es i e within)
 
-  -- with one event more gathered, the events behind it are left
+  -- with one event more gathered, the events after it are left
   pub written-next : {K : Type 0} (takes : K → List ℕ → K → Type 0) (old mid : K) (gathered put text : List ℕ) (i : ℕ) (w new : World) (es : List Event) (e : Event) → i < length es → e ≡ get_or es i e → new ≡ after w e → put ≡ gathered ++ event_text (i + 1) (word w e) w new e → IsWritten takes old mid gathered (told_from after word i w (drop i es)) text → IsWritten takes old mid put (told_from after word (i + 1) new (drop (i + 1) es)) text
   written-next takes old mid gathered put text i w new es e within read next told written =
       let more = event_text (i + 1) (word w e) w new e in
       let rest = told_from after word (i + 1) new (drop (i + 1) es) in
       gathers takes old mid gathered more put rest text told (subst (λ left. IsWritten takes old mid gathered left text) (told_from-drop i w new es e within read next) written)
 
-  -- behind the last event comes the end
+  -- after the last event comes the end
   pub written-end : {K : Type 0} (takes : K → List ℕ → K → Type 0) (old mid : K) (gathered put text : List ℕ) (i sent : ℕ) (w : World) (es : List Event) → length es ≤ i → i ≤ length es → sent ≡ length w.net → put ≡ gathered ++ end_line (length es) sent → IsWritten takes old mid gathered (told_from after word i w (drop i es)) text → IsWritten takes old mid put [] text
   written-end takes old mid gathered put text i sent w es past within count told written =
       let last : i ≡ length es = omega arith in

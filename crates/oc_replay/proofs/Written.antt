@@ -3,13 +3,13 @@ use Rattle.std.proofs.Common.{◌≡◌, ℕ, List, [], ◌++◌, length, take, 
 use Rattle.std.proofs.lemmas.List.{append_assoc, append-nil, take_at, take-append-drop}
 use Rattle.oc_replay.specs.Report.{PassesOn, SomeFront}
 
--- a front of the text was taken, what is gathered is behind it, and then comes the rest
+-- a prefix of the text was taken, what is gathered is after it, and then comes the rest
 pub record IsWritten {K : Type 0} (takes : K → List ℕ → K → Type 0) (old new : K) (gathered rest text : List ℕ) : Type 0 where
   pub front : List ℕ
   pub taken : takes old front new
   pub whole : front ++ (gathered ++ rest) ≡ text
 
--- a front is as many bytes of the text
+-- a prefix is as many bytes of the text
 front-is : (front rest text : List ℕ) → front ++ rest ≡ text → front ≡ take (length front) text
 front-is front rest text e = sym (ap (take (length front)) (sym e) ∙ take_at front rest (length front) refl)
 
@@ -42,7 +42,7 @@ module _ {K : Type 0} (takes : K → List ℕ → K → Type 0) where
     whole = rw (append-nil, e) w.whole;
   }
 
-  -- a front of what is gathered is passed on
+  -- a prefix of what is gathered is passed on
   pub passes : Joins takes takes → (old mid new : K) (gathered left rest text : List ℕ) → PassesOn (λ bytes. takes mid bytes new) gathered left → IsWritten takes old mid gathered rest text → IsWritten takes old new left rest text
   passes joins old mid new gathered left rest text p w = record {
     front = w.front ++ p.front;
@@ -56,12 +56,12 @@ module _ {K : Type 0} (takes : K → List ℕ → K → Type 0) where
       let whole : w.front ++ gathered ≡ text = ap (λ g. w.front ++ g) (sym (append-nil gathered)) ∙ w.whole in
       subst (λ bytes. takes old bytes new) whole (joins old mid new w.front gathered w.taken taken)
 
-  -- a front of the text was taken
+  -- a prefix of the text was taken
   pub stops : (old new : K) (gathered rest text : List ℕ) → IsWritten takes old new gathered rest text → SomeFront text (λ front. takes old front new)
   stops old new gathered rest text w =
       (length w.front, subst (λ bytes. takes old bytes new) (front-is w.front (gathered ++ rest) text w.whole) w.taken)
 
-  -- a call fails when a front of what is gathered was taken
+  -- a call fails when a prefix of what is gathered was taken
   pub fails_on : (fails : K → List ℕ → K → Type 0) → Joins takes fails → (old mid new : K) (gathered rest text : List ℕ) → IsWritten takes old mid gathered rest text → SomeFront gathered (λ front. fails mid front new) → SomeFront text (λ front. fails old front new)
   fails_on fails joins old mid new gathered rest text w (n, failed) =
       let part = take n gathered in

@@ -48,11 +48,11 @@ module _ (after : World → Event → World) (word : World → Event → Word) w
   abbrev pub run_text : World → List Event → List ℕ
   run_text w es = told_from 0 w es
 
--- this holds of some front of a list
+-- this holds of some prefix of a list
 abbrev pub SomeFront : {A : Type 0} → List A → (List A → Type 0) → Type 0
 SomeFront xs P = (n : ℕ) × P (take n xs)
 
--- a front of what was gathered was taken, and the rest is what is gathered now
+-- a prefix of what was gathered was taken, and the rest is what is gathered now
 pub record PassesOn (takes : List ℕ → Type 0) (old new : List ℕ) : Type 0 where
   pub front : List ℕ
   pub taken : takes front

@@ -49,7 +49,7 @@ summary_of_tally events messages tally =
     ++ count_line (codes "acting") tally.acting
     ++ count_line (codes "bytes") tally.bytes
 
--- the summary of the world after so many events, over all its nodes
+-- the summary of the world after `events` events, over all its nodes
 abbrev pub summary_text : ℕ → World → List ℕ
 summary_text events w = summary_of_tally events (length w.net) (tally_over w (ids w))
 

@@ -51,7 +51,7 @@ pub fn replay<S: Source, K: Sink, T: Stage>(
     ensures unwritten { OnRefusal result (K.takes sink.old [] sink.new) }
     ensures unplayed { OnRefusal result (stage.new ≡ stage.old) }
 
-    // All input came and is a schedule, a front of its text had been taken when a call on the sink
+    // All input came and is a schedule, a prefix of its text had been taken when a call on the sink
     // failed, and the stage is at a world on the way.
     ensures sink { OnSink result ((s : Script)
         × IsInput S.gives S.ended source.old source.new (Ok s)
@@ -60,7 +60,7 @@ pub fn replay<S: Source, K: Sink, T: Stage>(
     ensures sink_cause { OnSink result (Rose (K.faults sink.old) (K.faults sink.new)) }
 
     // Some input came, nothing is written, and the stage is as it was; or all input came and is a
-    // schedule, and a front of its text was taken.
+    // schedule, and a prefix of its text was taken.
     ensures memory { OnMemory result (
         (((bytes : List ℕ) × S.gives source.old bytes source.new) × K.takes sink.old [] sink.new × (stage.new ≡ stage.old))
         ⊎ ((s : Script)
@@ -136,7 +136,7 @@ fn play<K: Sink, T: Stage>(
 }
 
 /// Gives the stage each event once, in order, and writes the report of the run or its summary, in which
-/// each of so many nodes is counted.
+/// each of `nodes` nodes is counted.
 fn tell<K: Sink, T: Stage>(
     alloc: Global,
     sink: &mut K,

@@ -60,14 +60,14 @@ pub(crate) fn report<K: Sink, T: Stage>(
     ensures played { OnOk result
         (T.world stage.new ≡ fold T.after (T.world stage.old) events.now) }
 
-    // A front of it had been taken when a call failed, and the stage is at a world on the way.
+    // A prefix of it had been taken when a call failed, and the stage is at a world on the way.
     ensures failed { IsErrOf result ReportFault.Sink
         → SomeFront (run_text T.after T.word (T.world stage.old) events.now)
         (λ front. K.fails sink.old front sink.new) }
     ensures stopped { IsErrOf result ReportFault.Sink
         → SomeFront events.now (λ played. T.world stage.new ≡ fold T.after (T.world stage.old) played) }
 
-    // A front of it had been taken when memory ran out.
+    // A prefix of it had been taken when memory ran out.
     ensures memory { IsErrOf result ReportFault.Memory
         → SomeFront (run_text T.after T.word (T.world stage.old) events.now)
         (λ front. K.takes sink.old front sink.new) }

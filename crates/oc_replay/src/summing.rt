@@ -54,7 +54,7 @@ impl Tally {
 }
 
 /// Gives the stage each event once, in order, and writes the summary of the last world, where each of
-/// so many nodes is counted.
+/// `nodes` nodes is counted.
 pub(crate) fn summarize<K: Sink, T: Stage>(
     alloc: Global,
     sink: &mut K,
@@ -71,7 +71,7 @@ pub(crate) fn summarize<K: Sink, T: Stage>(
         (K.takes sink.old (run_summary T.after (T.world stage.old) events.now) sink.new) }
     ensures played { OnOk result (T.world stage.new ≡ fold T.after (T.world stage.old) events.now) }
 
-    // A front of it had been taken when a call failed, and the stage is at the last world.
+    // A prefix of it had been taken when a call failed, and the stage is at the last world.
     ensures failed { IsErrOf result ReportFault.Sink
         → SomeFront (run_summary T.after (T.world stage.old) events.now)
         (λ front. K.fails sink.old front sink.new) }

@@ -1,4 +1,4 @@
--- Parts of a text, put one behind the other.
+-- Parts of a text, put one after the other.
 use Rattle.std.proofs.Common.{◌≡◌, ◌∙◌, ℕ, List, ◌++◌, ap, append_assoc}
 
 -- four parts are put as one

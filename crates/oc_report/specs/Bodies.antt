@@ -33,7 +33,7 @@ pair_text line = line.group ++ codes "@" ++ decimal line.held ++ mark line.seale
 abbrev pub child_text : Child → List ℕ
 child_text child = decimal child.id ++ codes ":" ++ decimal child.rate
 
--- `n:c` behind such a text, where the own number n is not 0
+-- `n:c` after such a text, where the own number n is not 0
 abbrev pub count_text : List ℕ → ℕ → ℕ → List ℕ
 count_text before number clients = mark (not (number == 0)) (before ++ decimal number ++ codes ":" ++ decimal clients)
 

@@ -5,7 +5,7 @@ use Rattle.oc_model.specs.declared.mode.Mode.TheVariants.{Idle, Asking, Joined, 
 use Rattle.oc_stage.specs.declared.sight.Sight.{Sight}
 use Rattle.oc_report.specs.Bodies.{cert_text, list_text, rank_or_dash}
 
--- How a node stands, as a report shows it.
+-- The state of a node, as a report shows it.
 
 abbrev pub state_text : Bool → List ℕ
 state_text true = codes "up"
@@ -32,7 +32,7 @@ node_line x s =
 abbrev pub list_line : {A : Type 0} → List ℕ → (A → List ℕ) → List A → List ℕ
 list_line word text xs = codes "  " ++ word ++ codes " " ++ list_text text xs ++ codes "\n"
 
--- the block of `show`: how the node stands, its ancestors, its table, and the listing of its table beneath itself
+-- the block of `show`: the node's state, its ancestors, its table, and the listing of its table beneath itself
 abbrev pub show_text : ℕ → Sight → List ℕ
 show_text x s =
     node_line x s

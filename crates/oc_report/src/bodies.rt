@@ -155,7 +155,7 @@ fn put_why(out: &mut Vec<u8>, why: Refusal) -> Result<(), Memory>
     }
 }
 
-/// Puts `checkin S U R [certs]`, without the count of clients behind it.
+/// Puts `checkin S U R [certs]`, without the count of clients after it.
 fn put_check_in(
     out: &mut Vec<u8>,
     seq: u64,
@@ -198,7 +198,7 @@ fn put_fetch(out: &mut Vec<u8>, have: &[Shelf]) -> Result<(), Memory>
     put_list(out, have)
 }
 
-/// Puts `chunk G START HEX`, and ` last` behind the last one of a group.
+/// Puts `chunk G START HEX`, and ` last` after the last one of a group.
 fn put_chunk(
     out: &mut Vec<u8>,
     group: &GroupName,

@@ -7,7 +7,7 @@ ghost use Rattle.oc_report.specs.Shows.{listed_text};
 use crate::texts::put_mark;
 use oc_base::{Cert, Child, Line, Memory, NodeId, Shelf, put, put_number, put_with_number};
 
-/// What stands in a list.
+/// What a list contains.
 pub(crate) trait Item {
     /// Its text.
     ghost text: { Self → List ℕ };
@@ -96,7 +96,7 @@ fn sign(dead: bool) -> &'static str
     if dead { "-" } else { "+" }
 }
 
-/// Puts a count of clients behind such a text, where the own number is not 0.
+/// Puts a count of clients after such a text, where the own number is not 0.
 pub(crate) fn put_count(
     out: &mut Vec<u8>,
     before: &str,

@@ -2,8 +2,8 @@
 //!
 //! `oc_replay` puts the line of each event, of each message and of the end, and `oc_check` shows a node
 //! and what it holds in the same words. Each function gives exactly the text that a definition names:
-//! `specs/Lines` has the lines of a report, `specs/Bodies` what messages say and `specs/Shows` how a
-//! node stands. What is told of a run, and in which order, is above.
+//! `specs/Lines` has the lines of a report, `specs/Bodies` what messages say and `specs/Shows` the state
+//! of a node. What is told of a run, and in which order, is above.
 #![tactic(auto)]
 
 mod bodies;

@@ -1,4 +1,4 @@
-//! The block of `show`: how a node stands.
+//! The block of `show`: the state of a node.
 
 ghost use Rattle.std.specs.Prelude.{◌≡◌, ◌++◌, OnOk, IfOk};
 ghost use Rattle.oc_report.specs.Shows.{list_line, mode_text, node_line, show_text, state_text};
@@ -19,7 +19,7 @@ pub fn show_text(alloc: Global, node: NodeId, sight: &Sight) -> Result<Vec<u8>, 
     Ok(text)
 }
 
-/// Puts the block of `show`: four lines on a node, as it stands.
+/// Puts the block of `show`: four lines on the state of a node.
 pub fn put_show(out: &mut Vec<u8>, node: NodeId, sight: &Sight) -> Result<(), Memory>
     ensures { OnOk result (out.new.items ≡ out.old.items ++ show_text node sight.now) }
 {
@@ -65,7 +65,7 @@ fn state_word(up: bool) -> &'static str
     if up { "up" } else { "down" }
 }
 
-/// Puts where a node stands in the tree.
+/// Puts a node's position in the tree.
 fn put_mode(out: &mut Vec<u8>, mode: Mode) -> Result<(), Memory>
     ensures { OnOk result (out.new.items ≡ out.old.items ++ mode_text mode) }
 {

@@ -51,7 +51,7 @@ pub taken_once : (out xs : List ℕ) → IsOnce (each_once out xs)
 taken_once out [] = tt
 taken_once out (y ∷ xs) = taken_once_by out y xs (has out y) (taken_once out xs) (taken_once (y ∷ out) xs)
 
--- the number before a bound is the last one or stands before it
+-- the number before a bound is the last one or comes before it
 last_or_before : (m x : ℕ) → x < suc m → (m ≡ x) ⊎ (x < m)
 last_or_before m x h = elim (at_or_behind x m (omega arith)) [ inl same ↦ inl same | inr past ↦ inr (omega arith) ]
 
@@ -61,7 +61,7 @@ among_below zero x low high = absurd (omega arith)
 among_below (suc zero) x low high = absurd (omega arith)
 among_below (suc (suc n)) x low high = elim (last_or_before (suc n) x high) [ inl same ↦ inl same | inr before ↦ inr (among_below (suc n) x low before) ]
 
--- and those below it stand before it
+-- and those below it come before it
 pub below_among : (n x : ℕ) → IsAmong x (below n) → (1 ≤ x) × (x < n)
 below_among zero x h = absurd h
 below_among (suc zero) x h = absurd h

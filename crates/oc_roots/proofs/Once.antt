@@ -1,4 +1,4 @@
--- A list in which each stands once, as it grows.
+-- A list in which each occurs once, as it grows.
 use Rattle.std.proofs.Common.{◌≡◌, ℕ, zero, suc, ◌+◌, ◌-◌, ◌<◌, ◌≤◌, Bool, true, false, ◌==◌, ◌||◌, nat_le, if◌then◌else◌, List, [], ◌∷◌, ◌++◌, reverse, length, get_or, drop, refl, ap, sym, ◌∙◌, append_assoc, append-nil, arith, add-one}
 use Rattle.std.proofs.Math.Seq.{drop-cons}
 use Rattle.std.proofs.lemmas.List.{reverse-append}
@@ -20,7 +20,7 @@ or_group : (a b c : Bool) → ((a || b) || c) ≡ (a || (b || c))
 or_group true b c = refl
 or_group false b c = refl
 
--- what stands in two lists in a row stands in one of them
+-- what occurs in two lists in a row occurs in one of them
 pub has_append : (xs ys : List ℕ) (x : ℕ) → has (xs ++ ys) x ≡ (has xs x || has ys x)
 has_append [] ys x = refl
 has_append (y ∷ xs) ys x = ap (λ (b : Bool). y == x || b) (has_append xs ys x) ∙ sym (or_group (y == x) (has xs x) (has ys x))
@@ -54,7 +54,7 @@ once_more out list xs x =
     once_by out list xs x (has out x || has list x) refl
     ∙ ap (λ (b : Bool). list ++ (if b then each_once (reverse list ++ out) xs else x ∷ each_once (x ∷ (reverse list ++ out)) xs)) (sym (has_seen out list x))
 
--- with nothing behind it the list stays
+-- with nothing after it the list stays
 pub once_none : (out list : List ℕ) → with_once out list [] ≡ list
 once_none out list = append-nil list
 

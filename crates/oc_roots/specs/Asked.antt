@@ -3,7 +3,7 @@ use Rattle.oc_model.specs.Numbers.{IsAmong}
 
 -- Whom a node asks for a place, in words.
 
--- none stands there twice
+-- none occurs there twice
 abbrev pub IsOnce : List ℕ → Type 0
 IsOnce [] = Unit {0}
 IsOnce (x ∷ xs) = (¬ IsAmong x xs) × IsOnce xs

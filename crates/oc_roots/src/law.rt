@@ -3,7 +3,7 @@ ghost use Rattle.oc_model.specs.Choice.{ask_order};
 ghost use Rattle.oc_model.specs.Numbers.{IsAmong};
 ghost use Rattle.oc_roots.specs.Asked.{IsOnce, MayBeAsked, IsNotLeftOut};
 
-/// Each node that may be asked is asked, once, but for the asker and the one that is left out; and no
+/// Each node that may be asked is asked, once, except for the asker and the one that is left out; and no
 /// other is.
 pub fn each_is_asked_once()
     ensures once { (me chain : ℕ) (ancestors : List ℕ) (without : Option ℕ)

@@ -10,7 +10,7 @@ use oc_base::{Memory, NodeId};
 
 /// Puts into `into`, in the place of what was there, the nodes that are asked for a place, in their
 /// order: for a member of the chain the earlier members, the nearest first; for any other node its
-/// ancestors and then the chain. Each stands once, and neither `me` nor `without` stands there.
+/// ancestors and then the chain. Each occurs once, and neither `me` nor `without` occurs there.
 ///
 /// Where memory is wanted `into` is as it was. Each id is looked for among those before it, so the
 /// work is the square of the list's length: for the longest, of 1,016 nodes, half a million steps.

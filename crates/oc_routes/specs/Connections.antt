@@ -3,7 +3,7 @@ use Rattle.std.specs.Prelude.{ℕ, Bool, not, ◌&&◌, ◌||◌, ◌==◌, nat_
 use Rattle.oc_http.specs.declared.head.Head.{Head}
 use Rattle.oc_routes.specs.declared.connections.TheConstants.{MAX_REQUESTS}
 
--- the client closes the connection behind it, or it is the last that the connection may have; requests are counted from 1
+-- the client closes the connection after it, or it is the last that the connection may have; requests are counted from 1
 abbrev pub is_last : Head → ℕ → Bool
 is_last head number = head.closes || nat_le MAX_REQUESTS number
 

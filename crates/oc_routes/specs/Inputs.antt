@@ -22,7 +22,7 @@ abbrev pub delivered : ℕ → Result Message WireFault → Result (Option Input
 delivered me (Ok message) = if message.to == me then Ok (Some (inputs.Delivered message)) else Err refusals.Message
 delivered me (Err fault) = Err refusals.Message
 
--- The input of the node me, of so many nodes, that comes of what was asked and of the body; none of a probe.
+-- The input of the node `me`, one of `nodes` nodes, that comes of what was asked and of the body; none of a probe.
 abbrev pub input_asked : ℕ → ℕ → Asks → List ℕ → Result (Option Input) Refused
 input_asked nodes me asks.Message body = delivered me (decoded nodes body)
 input_asked nodes me (asks.Publish group) body = Ok (Some (inputs.Publish group body))

@@ -9,7 +9,7 @@ use Rattle.oc_routes.specs.declared.query.Query.{Query}
 use Rattle.oc_routes.specs.declared.refused.Refused.{Refused}
 use Rattle.oc_routes.specs.declared.refused.Refused.TheVariants as refusals
 
--- the parts of a query, which stand between `&`
+-- the parts of a query, which are separated by `&`
 abbrev pub parts : List ℕ → List (List ℕ)
 parts query = slice_split (λ b. b == byte "&") query
 

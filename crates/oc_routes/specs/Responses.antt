@@ -71,7 +71,7 @@ abbrev pub content_for : Manner → Content → Option Content
 content_for HeadAlone content = None
 content_for manner content = Some content
 
--- so many bytes of a group from a byte on
+-- `count` bytes of a group from a byte on
 abbrev pub served : Manner → Bool → Bool → ℕ → ℕ → Response
 served manner sealed last start count = record {
   text = head_text (typed []) (framing_for (is_chunked manner sealed) count) (connection_for manner last);
@@ -99,7 +99,7 @@ client_response group start manner (answers.Redirect node) sealed addresses last
 client_response group start manner (answers.Serve count) sealed addresses last = served manner sealed last start count
 client_response group start manner refusal sealed addresses last = status_alone 404
 
--- a byte so many times
+-- a byte `count` times
 unfoldable pub copies : ℕ → ℕ → List ℕ
 copies count b = replicate count b
 
@@ -107,7 +107,7 @@ copies count b = replicate count b
 abbrev pub probe_content : List ℕ
 probe_content = copies PROBE_BYTES (byte "x")
 
--- the same, save of a HEAD
+-- the same, except for a HEAD
 abbrev pub probe_body : Manner → List ℕ
 probe_body HeadAlone = []
 probe_body manner = probe_content

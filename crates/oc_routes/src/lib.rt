@@ -10,7 +10,7 @@
 //! `input_asked` of what was asked and of the body, and what it gives is an input of this node;
 //! [`put_input_line`] puts the line of an input; [`respond`] gives exactly `response_to` of the answer;
 //! [`split_reply`] takes the reply out of the messages of a step. What is sent for the content of a
-//! group stands in the [`Response`] as a start, a count and a coding; the layer above reads and sends it.
+//! group is given in the [`Response`] as a start, a count and a coding; the layer above reads and sends it.
 //! [`steps_answer_by_the_table`] says that a step gives such an input an answer of the table of routes.
 #![tactic(auto)]
 

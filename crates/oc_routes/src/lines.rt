@@ -156,7 +156,7 @@ fn put_why(out: &mut Vec<u8>, refused: Refused) -> Result<(), Memory>
     }
 }
 
-/// Puts the line of a reply whose write failed, which stands behind the line of its input.
+/// Puts the line of a reply whose write failed, which follows the line of its input.
 pub fn put_write_line(out: &mut Vec<u8>) -> Result<(), Memory>
     ensures { OnOk result (out.new.items ≡ out.old.items ++ codes "! write\n") }
 {

@@ -6,9 +6,9 @@ use oc_http::Connection;
 pub struct Response {
     /// What is written first: the head, and the body where it is not the content of a group.
     pub text: Text,
-    /// The content that is written behind it, where there is one.
+    /// The content that is written after it, where there is one.
     pub content: Option<Content>,
-    /// What becomes of the connection behind it.
+    /// What becomes of the connection after it.
     pub connection: Connection,
 }
 

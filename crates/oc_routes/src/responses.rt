@@ -165,7 +165,7 @@ fn location_for(
     }
 }
 
-/// Gives a client so many bytes of a group from a byte on.
+/// Gives a client `count` bytes of a group from a byte on.
 fn served(
     alloc: Global,
     manner: Manner,
@@ -207,7 +207,7 @@ fn to_probe(alloc: Global, manner: Manner, last: bool) -> Result<Response, Memor
     })
 }
 
-/// Puts the content by which rates are measured, save for a HEAD.
+/// Puts the content by which rates are measured, except for a HEAD.
 fn put_probe_body(text: &mut Vec<u8>, manner: Manner) -> Result<(), Memory>
     ensures { OnOk result (text.new.items ≡ text.old.items ++ probe_body manner) }
 {
@@ -217,7 +217,7 @@ fn put_probe_body(text: &mut Vec<u8>, manner: Manner) -> Result<(), Memory>
     }
 }
 
-/// Puts a byte so many times.
+/// Puts a byte `count` times.
 #[tactic(auto, unfolding(crate::specs::Responses::copies))]
 fn put_copies(text: &mut Vec<u8>, count: usize, byte: u8) -> Result<(), Memory>
     ensures { OnOk result (text.new.items ≡ text.old.items ++ copies count byte) }
@@ -269,7 +269,7 @@ fn connection_for(manner: Manner, last: bool) -> Connection
     }
 }
 
-/// The content, save for a HEAD.
+/// The content, except for a HEAD.
 fn content_for(manner: Manner, content: Content) -> Option<Content>
     ensures { result ≡ content_for manner content }
 {

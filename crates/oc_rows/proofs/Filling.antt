@@ -21,7 +21,7 @@ put_within count place blank value xs within =
     let same : length (set xs place value) ≡ length xs = length-set xs place value in
     rw same (sym (set-append_left xs (replicate (count - length xs) blank) place value within))
 
--- and so is one behind them, once the blank value is written up to it
+-- and so is one after them, once the blank value is written up to it
 pub put_written : {X : Type 0} (count place : ℕ) (blank value : X) (xs : List X) → length xs ≤ count → place < count → filled_up count blank (set (xs ++ replicate (place + 1 - length xs) blank) place value) ≡ set (filled_up count blank xs) place value
 put_written count place blank value xs few within =
     let more : ℕ = place + 1 - length xs in

@@ -8,6 +8,6 @@ pub record RowsView (X : Type 0) : Type 0 where
   pub blank : X
   pub room : ℕ
 
--- the values that are written, and behind them the blank one until there are this many
+-- the values that are written, and after them the blank one until there are this many
 abbrev pub filled_up : {X : Type 0} → ℕ → X → List X → List X
 filled_up count blank written = written ++ replicate (count - length written) blank

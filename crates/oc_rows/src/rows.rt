@@ -7,7 +7,7 @@ use std::collections::VecDeque;
 use std::marker::Model;
 
 /// A value for each place below a count, the same everywhere at first. All memory is taken at the
-/// beginning, but what is behind the last place that was put is not written, so that to make one takes
+/// beginning, but what follows the last place that was put is not written, so that to make one takes
 /// no longer for a thousand places than for ten.
 ///
 /// A contract sees the list of the values, how many of them are in use, the value of all others, and
@@ -58,7 +58,7 @@ impl<T: Copy> Rows<T> {
         self.count
     }
 
-    /// How many places are in use: each behind them has the blank value.
+    /// How many places are in use: each after them has the blank value.
     pub fn used(&self) -> usize
         ensures used { result ≡ self.now.used }
         ensures within { result ≤ length self.now.items }

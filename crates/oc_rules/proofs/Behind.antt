@@ -1,4 +1,4 @@
--- Texts put one behind the other, and lines.
+-- Texts put one after the other, and lines.
 use Rattle.std.proofs.Common.{◌≡◌, ◌∙◌, ℕ, ◌+◌, ◌<◌, List, ◌++◌, ap, append_assoc, add-one, refl, subst, sym, Option, Some, None}
 use Rattle.std.specs.Prelude.{IfSome, IfNone, OnOk, Result, Ok, Err}
 use Rattle.std.specs.List.{slice_get}

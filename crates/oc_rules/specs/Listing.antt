@@ -44,7 +44,7 @@ abbrev pub IsLineOf : List Rule → ℕ → Option Rule → List ℕ → Type 0
 IsLineOf rules number None line = ⊥
 IsLineOf rules number (Some rule) line = (by : Option ℕ) × IsShadowedBy rules number by × (line ≡ rule_line number rule by)
 
--- the lines of so many rules, the first one first
+-- the lines of the first n rules, in their order
 abbrev pub AreLines : List Rule → ℕ → List ℕ → Type 0
 AreLines rules zero text = text ≡ []
 AreLines rules (suc n) text =

@@ -9,7 +9,7 @@ use oc_policy::{Action, Rule, shadow};
 use std::alloc::Global;
 
 /// The lines of these rules, in their order: the number of a rule from 1, whether it allows, the method,
-/// the prefix and the area of which it speaks, with `any` for what is absent; and behind a rule that is
+/// the prefix and the area of which it speaks, with `any` for what is absent; and after a rule that is
 /// shadowed the number of the first rule that shadows it.
 pub fn rules_text(alloc: Global, rules: &[Rule]) -> Result<Vec<u8>, Memory>
     requires few { length rules.now ≤ MOST_RULES }

@@ -93,7 +93,7 @@ said_range i (Some s) word fields t first before h =
       | inr event ↦ said_event i s word fields t before event.1
     ]
 
--- behind the limit on published bytes all of it is in range
+-- after the limit on published bytes all of it is in range
 statement_range : (i : ℕ) (so_far : Option Script) (word : List ℕ) (fields : List (List ℕ)) (t : Script) → 1 ≤ i → AreBefore i so_far → read_statement i so_far word fields ≡ Ok t → IsBefore (i + 1) t
 statement_range i so_far word fields t first before h =
     steps (at_line i (script_after so_far word fields)) _ _ h λ s is_said then.

@@ -8,7 +8,7 @@ use Rattle.oc_schedule.specs.Script.{Script}
 
 -- Draws
 
--- the state behind a state: a linear congruential generator of 64 bits
+-- the state after a state: a linear congruential generator of 64 bits
 abbrev pub next_state : ℕ → ℕ
 next_state x = (x * 6364136223846793005 + 1442695040888963407) % 2 ^ 64
 
@@ -17,13 +17,13 @@ abbrev pub state_after : ℕ → ℕ → ℕ
 state_after seed zero = seed
 state_after seed (suc n) = next_state (state_after seed n)
 
--- the draw at an index: the upper 31 bits of the state behind it
+-- the draw at an index: the upper 31 bits of the state after it
 abbrev pub draw_at : ℕ → ℕ → ℕ
 draw_at seed i = state_after seed (suc i) / 2 ^ 33
 
 -- Events
 
--- event number i, made of a kind below 16, a node, and the draw behind them
+-- event number i, made of a kind below 16, a node, and the draw after them
 abbrev pub made : ℕ → ℕ → ℕ → ℕ → Event
 made i kind node third =
     if nat_le kind 5 then Do (Tick node i)

@@ -82,7 +82,7 @@ abbrev pub alone : Event → List (List ℕ) → Result Event Why
 alone event [] = Ok event
 alone event (field ∷ fields) = Err causes.Count
 
--- the first three fields and those behind them
+-- the first three fields and those after them
 abbrev pub first_three : List (List ℕ) → Result (List ℕ × List ℕ × List ℕ × List (List ℕ)) Why
 first_three (a ∷ b ∷ c ∷ rest) = Ok (a, b, c, rest)
 first_three fields = Err causes.Count

@@ -43,7 +43,7 @@ after_event s word fields = do
   event ← event_in s.header.nodes word fields
   Ok (with_event s event)
 
--- the script after a line behind the header: an area, as long as there is no event, or an event
+-- the script after a line that follows the header: an area, as long as there is no event, or an event
 abbrev pub after_line : Script → List ℕ → List (List ℕ) → Result Script Why
 after_line s word fields =
     if bytes_eq word (codes "area") && length s.events == 0 then after_area s fields else after_event s word fields
@@ -60,7 +60,7 @@ within_limits s =
     else if nat_lt MAX_SCHEDULE_SETTLES (settles_in s.events) then Err (Limit limits.Settles)
     else Ok s
 
--- a line that is not skipped: its cause, and behind it these limits
+-- a line that is not skipped: its cause, and after it these limits
 abbrev pub read_statement : ℕ → Option Script → List ℕ → List (List ℕ) → Result Script ScheduleFault
 read_statement i so_far word fields = do
   s ← at_line i (script_after so_far word fields)
@@ -83,12 +83,12 @@ read_words i so_far (word ∷ fields) =
 abbrev pub read_line : ℕ → Option Script → List ℕ → Result (Option Script) ScheduleFault
 read_line i so_far line = if nat_lt MAX_SCHEDULE_LINES i then Err (Limit limits.Lines) else read_words i so_far (words line)
 
--- the end of the text; without a header the line behind the last is refused
+-- the end of the text; without a header the line after the last is refused
 abbrev pub script_at_end : ℕ → Option Script → Result Script ScheduleFault
 script_at_end i None = Err (Line i causes.Header)
 script_at_end i (Some s) = Ok s
 
--- the lines from this number on, behind the script of the lines before them
+-- the lines from this number on, after the script of the lines before them
 abbrev pub read_lines : ℕ → Option Script → List (List ℕ) → Result Script ScheduleFault
 read_lines i so_far [] = script_at_end i so_far
 read_lines i so_far (line ∷ rest) = do

@@ -80,7 +80,7 @@ fn heal(fields: &[u8]) -> Result<Event, LineFault>
     }
 }
 
-/// The first three fields of a line, and what is behind them.
+/// The first three fields of a line, and what follows them.
 type FirstThree<'a> = (&'a [u8], &'a [u8], &'a [u8], &'a [u8]);
 
 fn three_and_more(line: &[u8]) -> Result<FirstThree<'_>, Why>

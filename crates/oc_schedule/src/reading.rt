@@ -17,7 +17,7 @@ use std::alloc::Global;
 ///
 /// A text of too many bytes is refused before all else. Then each line is refused in this order:
 /// where there are too many lines, for the cause of the line, where too many bytes are published,
-/// where it settles or heals too often. A text without a header is refused at the line behind its last.
+/// where it settles or heals too often. A text without a header is refused at the line after its last.
 pub fn read(alloc: Global, bytes: &[u8]) -> Result<Schedule, ScheduleFault>
     ensures exact { Gives result (schedule_of bytes.now) }
 

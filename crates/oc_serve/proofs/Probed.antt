@@ -126,7 +126,7 @@ all_turned : (P : ℕ → Type 0) (xs : List ℕ) → AllByRecursion P xs → Al
 all_turned P [] all = all
 all_turned P (x ∷ xs) all = all_last P x xs all.0 all.1
 
--- what is kept to probe stands for a further turn
+-- what is kept to probe is ready for a further turn
 pub made_next : (nodes : ℕ) (old : Probing) (gauge : List (List ℕ)) (rotation : RotationView) → IsMadeFor nodes old → length gauge ≡ length old.gauge → rotation ≡ record old.rotation { coming = turned old.rotation.coming }
     → IsMadeFor nodes (record { gauge = gauge; rotation = rotation })
 made_next nodes old gauge rotation made long turns = record {

@@ -41,7 +41,7 @@ errands_push : (es : List Errand) (e : Errand) → errands_deeds (es ++ e ∷ []
 errands_push [] e = append-nil (errand_deeds e)
 errands_push (x ∷ es) e = ap (λ (ds : List Deed). errand_deeds x ++ ds) (errands_push es e) ∙ sym (append_assoc (errand_deeds x) (errands_deeds es) (errand_deeds e))
 
--- so many messages were sent, and there may be more
+-- n messages were sent, and there may be more
 pub record AreSoFar (n : ℕ) (ds : List Deed) : Type 0 where
   pub errands : List Errand
   pub count : length errands ≡ n
@@ -106,7 +106,7 @@ rest_probed had has ds probe rest probed = record {
   deeds_are = ap (λ (x : List Deed). x ++ probe) (rest_next ds rest);
 }
 
--- these deeds make so many turns, with any further ones behind them
+-- these deeds make n turns, with any further ones after them
 abbrev pub AreTurnsSoFar : Option Probing → Option Probing → ℕ → List Deed → Type 0
 AreTurnsSoFar old now n ds = (new : Option Probing) (more : ℕ) (rest : List Deed) → AreTurns now new more rest → AreTurns old new (n + more) (ds ++ rest)
 
@@ -136,7 +136,7 @@ same_terms a b rules same =
     ap (λ (me : ℕ). terms_of me b.node.control.nodes rules) same.me
     ∙ ap (λ (h : Header). terms_of a.node.control.me h.nodes rules) same.header
 
--- these deeds serve so many turns, with any further ones behind them
+-- these deeds serve n turns, with any further ones after them
 abbrev pub ServesSoFar : Setting → Terms → Option Probing → Option Probing → ℕ → List Deed → Sight → Sight → Type 0
 ServesSoFar s t old now n ds a b = (new : Option Probing) (more : ℕ) (rest : List Deed) (c : Sight) → ServesTurns s t now new more rest b c → ServesTurns s t old new (n + more) (ds ++ rest) a c
 
@@ -198,7 +198,7 @@ module _ {D K : Type 0} (view : D → DiskView) (takes fails : K → List ℕ �
         goes_on = subst (λ (s : Setting). DoAll s next (sight c) (sight d)) (same_setting b.kept c.kept addresses talked.same ∙ same_setting a.kept b.kept addresses asked.same) (sent.done c_honest);
       }
 
-  -- and the tick and the messages behind it leave the connection as it is
+  -- and the tick and the messages after it leave the connection as it is
   served_one : (rules : List Rule) (a b c d : Scene D K) (arrival : Arrival) (requests next : List Deed) → IsTickedAndSent next
       → Did view takes count addresses (Calls arrival ∷ []) a b → Did view takes count addresses requests b c → Did view takes count addresses next c d
       → (IsHonest view b.kept → IsServed (terms b.kept rules) addresses arrival requests (node_of b.kept) b.outside.story c.outside.story)
@@ -237,7 +237,7 @@ module _ {D K : Type 0} (view : D → DiskView) (takes fails : K → List ℕ �
     served_one rules a b c d arrival requests next sent asked talked done answered,
   )
 
-  -- a probe behind a turn
+  -- a probe after a turn
   probes_then : (rules : List Rule) (arrival : Arrival) (ds rest probe : List Deed) (served : Sight) (a b c : Scene D K)
       → Did view takes count addresses ds a b → Did view takes count addresses probe b c → IsHonest view a.kept → ServesThen (setting a.kept addresses) (terms a.kept rules) arrival ds rest (sight a) served (sight b)
       → ServesThen (setting a.kept addresses) (terms a.kept rules) arrival (ds ++ probe) (rest ++ probe) (sight a) served (sight c)
@@ -269,7 +269,7 @@ module _ {D K : Type 0} (view : D → DiskView) (takes fails : K → List ℕ �
         still = same_then one.served.outside.story b.outside.story c.outside.story one.still still;
       }
 
-  -- the same of so many turns with a further one
+  -- the same of n turns with a further one
   pub serves_then : (rules : List Rule) (old between now : Option Probing) (n : ℕ) (arrival : Arrival) (ds es : List Deed) (a b c : Scene D K)
       → Did view takes count addresses ds a b
       → (IsHonest view a.kept → ServesSoFar (setting a.kept addresses) (terms a.kept rules) old between n ds (sight a) (sight b))
@@ -287,7 +287,7 @@ one_served s t had ds a c one = record { rest = one.rest; served = one.served; s
 
 -- Turns that ended in their midst
 
--- behind the connection
+-- after the connection
 cuts_behind : (s : Setting) (t : Terms) (had : Option Probing) (arrival : Arrival) (end : TurnEnd) (ds rest : List Deed) (under : Under) (a served c : Sight) → ServesThen s t arrival ds rest a served c → CutsRest had arrival end rest under → CutsBehind s t had end under ds a c
 cuts_behind s t had arrival end ds rest under a served c serves cut =
     let aside = rest_cut had arrival end rest under cut in
@@ -350,7 +350,7 @@ module _ {D K : Type 0} (view : D → DiskView) (takes fails : K → List ℕ �
     breaks_as view takes fails count addresses ⊥ _ (λ none. absurd none) end under at c breaks,
   )
 
-  -- behind its connection
+  -- after its connection
   pub stops_behind : (takes_then : (a b c : K) (x y : List ℕ) → takes a x b → takes b y c → takes a (x ++ y) c)
       → (had : Option Probing) (end : TurnEnd) (a b c d : Scene D K) (arrival : Arrival) (requests next : List Deed) (under : Under)
       → Did view takes count addresses (Calls arrival ∷ []) a b → Did view takes count addresses requests b c
@@ -386,7 +386,7 @@ module _ {D K : Type 0} (view : D → DiskView) (takes fails : K → List ℕ �
     breaks_as view takes fails count addresses ⊥ _ (λ none. absurd none) end under at c breaks,
   )
 
-  -- a turn behind so many
+  -- a turn after `done` turns
   pub stops_then : (takes_then : (a b c : K) (x y : List ℕ) → takes a x b → takes b y c → takes a (x ++ y) c)
       → (end : TurnEnd) (had between : Option Probing) (done turns : ℕ) (a b c : Scene D K) (ds : List Deed) → done < turns
       → Did view takes count addresses ds a b → (IsHonest view a.kept → ServesSoFar (setting a.kept addresses) (terms a.kept rules) had between done ds (sight a) (sight b))
@@ -423,7 +423,7 @@ served_too had ds turn = record {
   deeds_are = turn.deeds_are;
 }
 
--- a probe behind a quiet turn
+-- a probe after a quiet turn
 pub probed_too : (had has : Probing) (ds probe : List Deed) → IsTurn None None (end_with arrivals.Quiet) ds → ProbesNext had has probe → IsTurn (Some had) (Some has) (end_with arrivals.Quiet) (ds ++ probe)
 probed_too had has ds probe turn probed = record {
   arrival = turn.arrival;

@@ -1,4 +1,4 @@
--- What a turn did behind its connection where it ended in its midst: its deeds, and what was under way.
+-- What a turn did after its connection where it ended in its midst: its deeds, and what was under way.
 use Rattle.std.specs.Prelude.{◌≡◌, ◌⊎◌, ℕ, ◌<◌, min, slice_get, Option, Some, Result, Ok, Err, List, [], ◌∷◌, ◌++◌, codes, length}
 use Rattle.oc_base.specs.declared.limits.TheConstants.{MAX_RATE}
 use Rattle.oc_model.specs.declared.input.Input.{Input}
@@ -21,7 +21,7 @@ abbrev pub CutsErrand : TurnEnd → List Deed → Under → Type 0
 CutsErrand end ds under = ((ds ≡ []) × (under ≡ Idle) × (end ≡ ends.Memory))
     ⊎ ((m : Message) × (i : Input) × (ds ≡ Dials m (Some i) ∷ []) × (under ≡ Taking i))
 
--- fewer messages than so many were sent, and the next one ended so
+-- fewer than `most` messages were sent, and the next one ended so
 pub record CutsSending (most : ℕ) (end : TurnEnd) (ds : List Deed) (under : Under) : Type 0 where
   pub errands : List Errand
   pub last : List Deed
@@ -29,7 +29,7 @@ pub record CutsSending (most : ℕ) (end : TurnEnd) (ds : List Deed) (under : Un
   pub cut : CutsErrand end last under
   pub deeds_are : ds ≡ errands_deeds errands ++ last
 
--- the tick ended so, or it was taken, and the messages behind it ended so
+-- the tick ended so, or it was taken, and the messages after it ended so
 abbrev pub CutsTickOrSending : TurnEnd → List Deed → Under → Type 0
 CutsTickOrSending end ds under = CutsTick end ds under
     ⊎ ((t : ℕ) × (sent : List Deed) × CutsSending MAX_DIALS end sent under × (ds ≡ ticked t ++ sent))
@@ -57,7 +57,7 @@ abbrev pub CutsProbeAt : Arrival → Option Probing → TurnEnd → List Deed �
 CutsProbeAt arrivals.Quiet (Some had) end ds under = CutsProbing had end ds under
 CutsProbeAt arrival had end ds under = ⊥
 
--- The deeds of a turn behind its connection, in whose midst it ended so: the tick or the messages that are sent ended so, or they were
+-- The deeds of a turn after its connection, in whose midst it ended so: the tick or the messages that are sent ended so, or they were
 -- all done, and the probe ended so.
 abbrev pub CutsRest : Option Probing → Arrival → TurnEnd → List Deed → Under → Type 0
 CutsRest had arrival end ds under = CutsTickOrSending end ds under

@@ -29,7 +29,7 @@ MakesTurn view takes count addresses rules had has arrival old new = (deeds : Li
     × Did view takes count addresses deeds old new
     × (IsHonest view old.kept → ServesOne (setting old.kept addresses) (terms old.kept rules) had has arrival deeds (sight old) (sight new))
 
--- some deeds that make so many turns were done, and the connections that came were answered
+-- some deeds that make `turns` turns were done, and the connections that came were answered
 abbrev pub MakesTurns : {D K : Type 0} → (D → DiskView) → (K → List ℕ → K → Type 0) → (K → ℕ) → List (List ℕ) → List Rule → Option Probing → Option Probing → ℕ → Scene D K → Scene D K → Type 0
 MakesTurns view takes count addresses rules had has turns old new = (deeds : List Deed) × AreTurns had has turns deeds
     × Did view takes count addresses deeds old new
@@ -42,7 +42,7 @@ StopsTurn {D} {K} view takes fails count addresses rules had end old new = (deed
     × (IsHonest view old.kept → ServesPart (setting old.kept addresses) (terms old.kept rules) had end under deeds (sight old) (sight at))
     × Breaks view takes fails count addresses (Rose old.outside.faults.listening new.outside.faults.listening) end under at new
 
--- the same of so many turns
+-- the same of `turns` turns
 abbrev pub StopsTurns : {D K : Type 0} → (D → DiskView) → (K → List ℕ → K → Type 0) → (K → List ℕ → K → Type 0) → (K → ℕ) → List (List ℕ) → List Rule → Option Probing → ℕ → TurnEnd → Scene D K → Scene D K → Type 0
 StopsTurns {D} {K} view takes fails count addresses rules had turns end old new = (deeds : List Deed) × (under : Under) × (at : Scene D K)
     × Did view takes count addresses deeds old at
@@ -59,7 +59,7 @@ TurnEnds view takes fails count addresses rules had has ends.Served old new = Ma
 TurnEnds view takes fails count addresses rules had has ends.Quiet old new = MakesTurn view takes count addresses rules had has arrivals.Quiet old new × Renews view old.kept new.kept
 TurnEnds view takes fails count addresses rules had has end old new = StopsTurn view takes fails count addresses rules had end old new
 
--- so many turns ended so
+-- `turns` turns ended so
 abbrev pub ServeEnds : {D K : Type 0} → (D → DiskView) → (K → List ℕ → K → Type 0) → (K → List ℕ → K → Type 0) → (K → ℕ) → List (List ℕ) → List Rule → Option Probing → Option Probing → ℕ → TurnEnd → Scene D K → Scene D K → Type 0
 ServeEnds view takes fails count addresses rules had has turns ends.Served old new = MakesTurns view takes count addresses rules had has turns old new
 ServeEnds view takes fails count addresses rules had has turns ends.Quiet old new = ⊥

@@ -35,7 +35,7 @@ SameTaken old new = (new.past ≡ old.past) × (new.current ≡ old.current)
 abbrev pub SameConnections : Option Story → Option Story → Type 0
 SameConnections old new = Told SameTaken old new
 
--- The deeds of a turn, from a sight to another: behind the link's answer the requests of the connection are answered, and the rest
+-- The deeds of a turn, from a sight to another: after the link's answer the requests of the connection are answered, and the rest
 -- follows once it is served.
 pub record ServesThen (s : Setting) (t : Terms) (arrival : Arrival) (ds rest : List Deed) (a served c : Sight) : Type 0 where
   pub requests : List Deed
@@ -64,7 +64,7 @@ ServesTurns s t old new (suc n) ds a c = (first rest : List Deed) × (b : Sight)
 
 -- Turns that ended in their midst
 
--- The deeds of a turn that ended so with its connection, with this under way: behind the link's answer some requests were answered, and
+-- The deeds of a turn that ended so with its connection, with this under way: after the link's answer some requests were answered, and
 -- then one ended in its midst.
 pub record CutsOne (s : Setting) (t : Terms) (end : TurnEnd) (under : Under) (ds : List Deed) (a c : Sight) : Type 0 where
   pub requests : List Deed
@@ -74,7 +74,7 @@ pub record CutsOne (s : Setting) (t : Terms) (end : TurnEnd) (under : Under) (ds
   pub talks : DoAll s requests called c
   pub cut : IsCutConnection t s.addresses end under requests called.node called.outside.story c.outside.story
 
--- The deeds of a turn that ended so behind its connection, with this under way: the connection, where one came, was answered, and the rest,
+-- The deeds of a turn that ended so after its connection, with this under way: the connection, where one came, was answered, and the rest,
 -- in whose midst it ended, is its own and leaves the connections that were taken as they were once served.
 pub record CutsBehind (s : Setting) (t : Terms) (had : Option Probing) (end : TurnEnd) (under : Under) (ds : List Deed) (a c : Sight) : Type 0 where
   pub arrival : Arrival
@@ -85,12 +85,12 @@ pub record CutsBehind (s : Setting) (t : Terms) (had : Option Probing) (end : Tu
   pub own : AllByRecursion IsOwn rest
   pub still : SameConnections served.outside.story c.outside.story
 
--- The deeds of a turn that ended so in its midst, with this under way: there are none, and nothing was; or it ended behind its
+-- The deeds of a turn that ended so in its midst, with this under way: there are none, and nothing was; or it ended after its
 -- connection, or with it. What the turn probes with is given as it was before it.
 abbrev pub ServesPart : Setting → Terms → Option Probing → TurnEnd → Under → List Deed → Sight → Sight → Type 0
 ServesPart s t had end under ds a c = ((ds ≡ []) × (c ≡ a) × (under ≡ Idle)) ⊎ CutsBehind s t had end under ds a c ⊎ CutsOne s t end under ds a c
 
--- fewer than so many turns, and then one that ended so in its midst
+-- fewer than `turns` turns, and then one that ended so in its midst
 abbrev pub ServesUpTo : Setting → Terms → Option Probing → ℕ → TurnEnd → Under → List Deed → Sight → Sight → Type 0
 ServesUpTo s t old turns end under ds a c = (done : ℕ) × (first rest : List Deed) × (b : Sight) × (between : Option Probing)
     × (done < turns) × ServesTurns s t old between done first a b × ServesPart s t between end under rest b c × (ds ≡ first ++ rest)

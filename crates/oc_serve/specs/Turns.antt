@@ -42,7 +42,7 @@ abbrev pub IsOneSent : Bool → List Deed → Type 0
 IsOneSent false ds = ds ≡ Empties ∷ []
 IsOneSent true ds = (e : Errand) × (ds ≡ errand_deeds e)
 
--- so many messages were taken out of the outbox, or all that it had
+-- `most` messages were taken out of the outbox, or all that it had
 abbrev pub AreSent : ℕ → List Deed → Type 0
 AreSent most ds = (es : List Errand)
     × (((length es ≡ most) × (ds ≡ errands_deeds es)) ⊎ ((length es < most) × (ds ≡ errands_deeds es ++ Empties ∷ [])))
@@ -88,14 +88,14 @@ abbrev pub ProbesAt : TurnEnd → Option Probing → Option Probing → List Dee
 ProbesAt ends.Quiet old new ds = MayProbe old new ds
 ProbesAt end old new ds = (new ≡ old) × (ds ≡ [])
 
--- what is kept to probe was made for so many nodes: it has the rates of each, and the peers are among them
+-- what is kept to probe was made for `nodes` nodes: it has the rates of each, and the peers are among them
 pub record IsMadeFor (nodes : ℕ) (probing : Probing) : Type 0 where
   pub rates : length probing.gauge ≡ nodes
   pub peers : AllByRecursion (IsNode nodes) probing.rotation.coming
 
 -- A turn
 
--- the deeds behind the answer whether a connection waits: none, or those of its requests
+-- the deeds after the answer whether a connection waits: none, or those of its requests
 abbrev pub IsArrival : Arrival → List Deed → Type 0
 IsArrival arrivals.Conn ds = AreRequests ds
 IsArrival arrivals.Quiet ds = ds ≡ []
@@ -107,7 +107,7 @@ pub record IsTickedAndSent (ds : List Deed) : Type 0 where
   pub are_sent : AreSent MAX_DIALS sent
   pub deeds_are : ds ≡ ticked t ++ sent
 
--- the deeds of a turn that ends so behind its connection: the tick, the messages that are sent, and the probe
+-- the deeds of a turn that ends so after its connection: the tick, the messages that are sent, and the probe
 pub record IsRest (old new : Option Probing) (end : TurnEnd) (ds : List Deed) : Type 0 where
   pub next : List Deed
   pub probe : List Deed

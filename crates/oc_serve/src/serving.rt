@@ -48,7 +48,7 @@ pub fn turn<D: Disk, L: Link, C: Clock, K: Sink>(
         (scene kept.old outbox.old sink.old (outside_of (L.story link.old) (L.faults link.old) (C.seconds clock.old) (C.milliseconds clock.old)))
         (scene kept.new outbox.new sink.new (outside_of (L.story link.new) (L.faults link.new) (C.seconds clock.new) (C.milliseconds clock.new))) }
 
-    // What it probes with stands for a further turn.
+    // What it probes with is ready for a further turn.
     ensures made { ForSome (left_behind probing.exit) (IsMadeFor kept.old.node.control.nodes) }
 {
     let mut heads = None;
@@ -60,7 +60,7 @@ pub fn turn<D: Disk, L: Link, C: Clock, K: Sink>(
     }
 }
 
-/// So many turns of a running node, or those up to one that ends in its midst, and then that end. The
+/// `turns` turns of a running node, or those up to one that ends in its midst, and then that end. The
 /// conditions are those of [`turn`].
 #[allow(clippy::too_many_arguments)]
 pub fn serve<D: Disk, L: Link, C: Clock, K: Sink>(
@@ -80,12 +80,12 @@ pub fn serve<D: Disk, L: Link, C: Clock, K: Sink>(
     requires rules { length config.now.rules ≤ MOST_RULES }
     requires probing { ForSome (option_map (λ p. p.now) probing) (IsMadeFor kept.old.node.control.nodes) }
 
-    // Exactly so many turns, or what was done until one ended.
+    // Exactly `turns` turns, or what was done until one ended.
     ensures ends { ServeEnds D.view K.takes K.fails K.faults config.now.addresses config.now.rules (option_map (λ p. p.now) probing.entry) (left_behind probing.exit) turns result
         (scene kept.old outbox.old sink.old (outside_of (L.story link.old) (L.faults link.old) (C.seconds clock.old) (C.milliseconds clock.old)))
         (scene kept.new outbox.new sink.new (outside_of (L.story link.new) (L.faults link.new) (C.seconds clock.new) (C.milliseconds clock.new))) }
 
-    // What it probes with stands for a further turn.
+    // What it probes with is ready for a further turn.
     ensures made { ForSome (left_behind probing.exit) (IsMadeFor kept.old.node.control.nodes) }
 {
     match probing {

@@ -24,6 +24,6 @@ measure_more me ms i m deeds within is so_far =
     ∙ append_assoc deeds (measure_deeds me m) (measured me (drop (suc i) ms))
     ∙ ap (λ (l : List Measure). deeds ++ measured me l) (sym next) ∙ so_far
 
--- behind the last measure there are all
+-- after the last measure there are all
 pub all_measured : (me : ℕ) (ms : List Measure) (i : ℕ) (deeds : List Deed) → length ms ≤ i → deeds ++ measured me (drop i ms) ≡ measured me ms → deeds ≡ measured me ms
 all_measured me ms i deeds past so_far = sym (append-nil deeds) ∙ ap (λ (l : List Measure). deeds ++ measured me l) (sym (drop_all i ms past)) ∙ so_far

@@ -73,7 +73,7 @@ module _ (text : List ℕ) (is : config.is_address text ≡ true) where
   parts : (config.is_host (before_first config.is_colon text) ≡ true) × (config.is_port (after_first config.is_colon text) ≡ true)
   parts = both (config.is_host (before_first config.is_colon text)) (config.is_port (after_first config.is_colon text)) (both (nat_le (length text) 255) _ is).1
 
-  -- there is a colon, since a port stands behind it
+  -- there is a colon, since a port follows it
   colon_within : position_or_len config.is_colon text < length text
   colon_within = by_place (nat_lt (position_or_len config.is_colon text) (length text)) refl where
     by_place : (b : Bool) → nat_lt (position_or_len config.is_colon text) (length text) ≡ b → position_or_len config.is_colon text < length text

@@ -1,4 +1,4 @@
--- A run of a loaded node, part behind part.
+-- A run of a loaded node, part after part.
 use Rattle.std.proofs.Common.{◌≡◌, ℕ, Bool, Result, Ok, Err, OnOk, List, [], ◌++◌, refl, subst}
 use Rattle.oc_answer.specs.Hearing.{terms_of}
 use Rattle.oc_config.specs.Settings.{Settings}

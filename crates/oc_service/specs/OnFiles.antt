@@ -27,7 +27,7 @@ abbrev pub header_of_settings : ℕ → Settings → Header
 header_of_settings nodes c = header nodes c.chain c.areas
 
 -- The deeds were done by the node that the files recovered: the link and the clock are as they leave them, every crash leaves the node
--- behind them, and so it answered the connections that came. Its link waited at its address, and nothing was to be sent at first.
+-- after them, and so it answered the connections that came. Its link waited at its address, and nothing was to be sent at first.
 pub record DidOnFiles {D : Type 0} (view : D → DiskView) (c : Settings) (nodes me : ℕ) (probes : Bool) (turns : ℕ) (deeds : List Deed) (old new : Disks D) (before out : Outside) : Type 0 where
   pub goes_on : AllGoOn view old new
   pub listened : LinkFaults
@@ -61,13 +61,13 @@ HasCauseOnFiles view ends.Served under old new before out = ⊥
 HasCauseOnFiles view ends.Quiet under old new before out = ⊥
 HasCauseOnFiles view end under old new before out = Unit {0}
 
--- It ended so behind these deeds, perhaps with one more input under way.
+-- It ended so after these deeds, perhaps with one more input under way.
 pub record StopsOnFiles {D : Type 0} (view : D → DiskView) (h : Header) (me : ℕ) (end : TurnEnd) (deeds : List Deed) (under : Under) (old new : Disks D) (before out : Outside) : Type 0 where
   pub goes_on : AllGoOn view old new
   pub leaves : AreHonest view old → LeavesBehind view h me new end (after_inputs (first_node view h me old) (inputs_of deeds)) under
   pub cause : HasCauseOnFiles view end under old new before out
 
--- this text was written; where the output is to blame, behind it a front of this line, and then a call failed
+-- this text was written; where the output is to blame, after it a prefix of this line, and then a call failed
 abbrev pub Writes : {K : Type 0} → (K → List ℕ → K → Type 0) → (K → List ℕ → K → Type 0) → (K → ℕ) → TurnEnd → List ℕ → List ℕ → K → K → Type 0
 Writes takes fails count ends.Sink text line sink after = WritesAt takes fails sink after ends.Sink text line × Rose (count sink) (count after)
 Writes takes fails count end text line sink after = takes sink text after

@@ -29,7 +29,7 @@ abbrev pub measured : ℕ → List Measure → List Deed
 measured me [] = []
 measured me (m ∷ ms) = measure_deeds me m ++ measured me ms
 
--- what the node me among so many keeps to probe its peers at first: no rate of any, and all other nodes in turn
+-- what the node `me` among `nodes` nodes keeps to probe its peers at first: no rate of any, and all other nodes in turn
 abbrev pub first_probing : ℕ → ℕ → Probing
 first_probing me nodes = record {
   gauge = replicate nodes [];
@@ -41,14 +41,14 @@ abbrev pub probing_at_first : Bool → ℕ → ℕ → Option Probing
 probing_at_first true me nodes = Some (first_probing me nodes)
 probing_at_first false me nodes = None
 
--- the deeds of a run: what was measured, and then so many turns, with probes or without
+-- the deeds of a run: what was measured, and then `turns` turns, with probes or without
 pub record IsRun (me nodes : ℕ) (measures : List Measure) (probes : Bool) (turns : ℕ) (deeds : List Deed) : Type 0 where
   pub has : Option Probing
   pub rest : List Deed
   pub turned : AreTurns (probing_at_first probes me nodes) has turns rest
   pub deeds_are : deeds ≡ measured me measures ++ rest
 
--- The deeds of a run, from a sight to another: what was measured was taken, and then there were so many turns, each of which answered the
+-- The deeds of a run, from a sight to another: what was measured was taken, and then there were `turns` turns, each of which answered the
 -- connection that came.
 pub record ServesRun (s : Setting) (t : Terms) (measures : List Measure) (probes : Bool) (turns : ℕ) (deeds : List Deed) (a c : Sight) : Type 0 where
   pub has : Option Probing
@@ -79,7 +79,7 @@ RunEnds view takes fails count c probes turns ends.Quiet old new sink after befo
 RunEnds view takes fails count c probes turns end old new sink after before out =
     Stopped view takes fails count (Rose before.faults.listening out.faults.listening) end old new sink after
 
--- so many turns were served from the first on
+-- `turns` turns were served from the first on
 abbrev pub ServesSo : {D K : Type 0} → (D → DiskView) → (K → List ℕ → K → Type 0) → (K → ℕ) → Settings → Bool → ℕ → Scene D K → Scene D K → Type 0
 ServesSo view takes count c probes turns old new = (has : Option Probing)
     × MakesTurns view takes count c.addresses c.rules (probing_at_first probes old.kept.node.control.me old.kept.node.control.nodes) has turns old new

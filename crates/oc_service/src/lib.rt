@@ -4,8 +4,8 @@
 //! [`run_node`] is what the layer above uses. Its contract names the deeds of the run (`IsRun`): the
 //! measures of the configuration, in their order, and then the deeds of each turn. The lines of these deeds
 //! were written, the node and the link are what the deeds make of them, and every crash leaves the node
-//! behind them; where it ended before, also with one input more under way. Where all turns were served, the
-//! connections that came were answered as `ServesRun` says, one turn behind the other.
+//! after them; where it ended before, also with one input more under way. Where all turns were served, the
+//! connections that came were answered as `ServesRun` says, one turn after the other.
 #![tactic(auto)]
 
 mod measuring;

@@ -9,7 +9,7 @@ use oc_base::{Memory, NodeId};
 use oc_probe::{Gauge, Probing, Rotation};
 use std::alloc::Global;
 
-/// No rate yet of any peer, and the first peer to be probed, for this node among so many.
+/// No rate yet of any peer, and the first peer to be probed, for this node among `nodes` nodes.
 pub(crate) fn make_probing(alloc: Global, me: NodeId, nodes: u32) -> Result<Probing, Memory>
     requires { IsNode nodes me }
     ensures first { IfOk result (λ probing. probing ≡ first_probing me nodes) }

@@ -110,7 +110,7 @@ fn make_outbox<D: Disk>(alloc: Global, kept: &Kept<D>) -> Result<Outbox, TurnEnd
     Ok(Outbox::new(alloc)?)
 }
 
-/// Serves so many turns, with probes or without.
+/// Serves `turns` turns, with probes or without.
 #[allow(clippy::too_many_arguments)]
 fn serve_so<D: Disk, L: Link, C: Clock, K: Sink>(
     alloc: Global,
@@ -140,7 +140,7 @@ fn serve_so<D: Disk, L: Link, C: Clock, K: Sink>(
     }
 }
 
-/// Serves so many turns, with a probe in each that is quiet.
+/// Serves `turns` turns, with a probe in each that is quiet.
 #[allow(clippy::too_many_arguments)]
 fn serve_probing<D: Disk, L: Link, C: Clock, K: Sink>(
     alloc: Global,
@@ -185,7 +185,7 @@ fn probing_for<D: Disk>(alloc: Global, kept: &Kept<D>) -> Result<Probing, TurnEn
     Ok(make_probing(alloc, node.id(), node.nodes())?)
 }
 
-/// Serves so many turns, without probes.
+/// Serves `turns` turns, without probes.
 #[allow(clippy::too_many_arguments)]
 fn serve_plain<D: Disk, L: Link, C: Clock, K: Sink>(
     alloc: Global,

@@ -44,7 +44,7 @@ struct Left<D: Disk> {
 }
 
 /// Runs a node of a configuration on its three files, which are lent: loads it, waits at its address, takes
-/// what was measured before, and serves so many turns, with probes where they are wanted.
+/// what was measured before, and serves `turns` turns, with probes where they are wanted.
 #[allow(clippy::too_many_arguments)]
 pub fn run_node<D: Disk, L: Link, C: Clock, K: Sink>(
     alloc: Global,
@@ -62,7 +62,7 @@ pub fn run_node<D: Disk, L: Link, C: Clock, K: Sink>(
     requires config { IsConfig config.now }
     requires me { IsNode (length config.now.addresses) me }
 
-    // All turns were served: the deeds are the measures and exactly so many turns. Where it ended before:
+    // All turns were served: the deeds are the measures and exactly `turns` turns. Where it ended before:
     // what was done until then, what every crash leaves, and why it ended. Where it was not loaded: which
     // file is to blame, and a crash at any moment leaves what one at the start would have left.
     ensures ends { NodeEnds D.view K.takes K.fails K.faults config.now (length config.now.addresses) me probes turns result
@@ -106,7 +106,7 @@ pub fn run_node<D: Disk, L: Link, C: Clock, K: Sink>(
     let Loan::Third(content) = content else {
         return end;
     };
-    // One loan ends behind another, each with its own disk.
+    // One loan ends after another, each with its own disk.
     leave(control);
     leave(alternate);
     leave(content);

@@ -18,7 +18,7 @@ line_beneath x (Some y) = Some (record { node = x; parent = y })
 abbrev pub listing : List Cert → ℕ → List Line
 listing t r = filter_map (λ x. line_beneath x (table_line t r x)) (map (λ k. k.subject) t)
 
--- how a node stands, with the listing of its own table beneath itself
+-- the state of a node, with the listing of its own table beneath itself
 abbrev pub sight_of : Control → Bool → Sight
 sight_of n up = record {
   up = up;
@@ -32,6 +32,6 @@ sight_of n up = record {
   listed = listing n.kept.table n.me;
 }
 
--- how the node of this id stands
+-- the state of the node of this id
 abbrev pub sight_in : World → ℕ → Sight
 sight_in w x = sight_of (node w x).control (is_up w x)

@@ -67,7 +67,7 @@ pub trait Stage {
         requires { IsNode (length (ids (world self.now))) node }
         ensures { IfOk result (λ lines. lines.items ≡ shelf (node_in (world self.now) node).groups) };
 
-    /// How a node stands.
+    /// The state of a node.
     fn sight(&self, node: NodeId) -> Result<Sight, Memory>
         requires { IsNode (length (ids (world self.now))) node }
         ensures { IfOk result (λ sight. sight ≡ sight_in (world self.now) node) };

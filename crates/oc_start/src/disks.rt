@@ -27,7 +27,7 @@ use std::alloc::Global;
 /// that of the content, or none where the world has no such node.
 ///
 /// The world is where the schedule led, and every crash of the disks leaves what is durable of the node in
-/// it. A front of a schedule is one too, so this holds after each event.
+/// it. A prefix of a schedule is one too, so this holds after each event.
 #[allow(clippy::too_many_arguments)]
 pub fn run_to_disks<S: Source, K: Sink, E: Sink, D: Disk, L: Link, C: Clock>(
     alloc: Global,

@@ -35,7 +35,7 @@ pub record HasRoom (v : DurableView) (more : ℕ) : Type 0 where
   pub places : v.kept.log.length + more < 2 ^ 63
   pub based : MAX_BASE_ACKED + more < 2 ^ 63
 
--- what is durable of a node among so many, as it may be
+-- what is durable of a node among `nodes` nodes, as it may be
 pub record IsKept (nodes : ℕ) (d : Durable) : Type 0 where
   pub few : nodes ≤ MAX_NODES
   pub sound : IsSoundDurable nodes d

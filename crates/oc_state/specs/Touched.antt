@@ -8,7 +8,7 @@ use Rattle.oc_model.specs.Numbers.{capped, at, put_at}
 use Rattle.oc_state.specs.declared.touch.Touch.{Touch}
 use Rattle.oc_state.specs.declared.touch.Touch.TheVariants as touches
 
--- a touch of one of so many nodes, while the clock runs
+-- a touch of one of `nodes` nodes, while the clock runs
 abbrev pub IsTouch : ℕ → Touch → Type 0
 IsTouch nodes (touches.Start now) = now ≤ LAST_SECOND
 IsTouch nodes (touches.Renew x now) = IsNode nodes x × (now ≤ LAST_SECOND)

@@ -67,7 +67,7 @@ pub one_frame_more : (nodes : ℕ) (frames : List (List ℕ)) (body : List ℕ) 
 one_frame_more nodes frames body =
     flat_map-append (records_in nodes) frames (body ∷ []) ∙ ap (λ (rs : List Record). records_of nodes frames ++ rs) (one_frame nodes body)
 
--- a good frame behind good ones leaves them good
+-- a good frame after good ones leaves them good
 pub good_more : (nodes : ℕ) (frames : List (List ℕ)) (body : List ℕ) → first_bad nodes frames ≡ None → first_bad nodes (body ∷ []) ≡ None → first_bad nodes (frames ++ body ∷ []) ≡ None
 good_more nodes [] body good one = one
 good_more nodes (x ∷ frames) body good one = by_read (decoded nodes x) (first_bad nodes frames) (first_bad nodes (frames ++ body ∷ [])) good (λ h. good_more nodes frames body h one) where

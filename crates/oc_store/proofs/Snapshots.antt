@@ -16,7 +16,7 @@ use Rattle.oc_record.proofs.ListLaws.{is_spelled}
 use Rattle.oc_store.specs.ControlFiles.{generation_in, begun_generation}
 use Rattle.oc_store.specs.StoreView.{BeginsAbove}
 
--- eight bytes behind the code
+-- eight bytes after the code
 generation_at : (text rest : List ℕ) → length text ≡ 8 → generation_in (12 ∷ (text ++ rest)) ≡ from_be_bytes w64 text
 generation_at text rest long =
     rw (le-leb 8 (length (text ++ rest)) (omega (arith, long, length-append text rest)), take_at text rest 8 long) refl

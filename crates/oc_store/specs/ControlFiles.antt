@@ -53,7 +53,7 @@ current_frames a b = at_side (current_side a b) a b
 abbrev pub recovered_frames : List ℕ → List ℕ → List (List ℕ)
 recovered_frames file alternate = current_frames (frames_of file) (frames_of alternate)
 
--- the records of a body for so many nodes
+-- the records of a body for `nodes` nodes
 abbrev pub or_none : Result (List Record) RecordFault → List Record
 or_none (Ok records) = records
 or_none (Err fault) = []

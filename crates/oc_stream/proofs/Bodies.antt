@@ -1,4 +1,4 @@
--- What stands behind a size line leads to one stage.
+-- What follows a size line leads to one stage.
 use Rattle.std.proofs.Common.{◌≡◌, ◌≢◌, ℕ, ◌+◌, ◌-◌, ◌<◌, ◌≤◌, ◌⊎◌, inl, inr, true, false, List, [], ◌∷◌, ◌++◌, length, take, drop, slice_index, refl, sym, ap, ◌∙◌, subst, arith, length-append}
 use Rattle.std.specs.Prelude.{nat_le, if◌then◌else◌}
 use Rattle.std.proofs.lemmas.Bool.{cases_lt, false≢true}
@@ -50,7 +50,7 @@ pub record IsBroken (size : ℕ) (v c : List ℕ) (s : Stage) : Type 0 where
 abbrev pub IsChunkBody : ℕ → List ℕ → List ℕ → Stage → Type 0
 IsChunkBody size v c s = IsPart size v c s ⊎ IsBroken size v c s
 
--- the byte behind a chunk's bytes is a carriage return where a part of its end stands there
+-- the byte after a chunk's bytes is a carriage return where a part of its end is there
 first_of_end : (size : ℕ) (before rest : List ℕ) (b : ℕ) → length before ≡ size → drop size (before ++ b ∷ rest) ≡ 13 ∷ [] → b ≡ 13
 first_of_end size before rest b long end =
     let e : b ∷ rest ≡ 13 ∷ [] = sym (drop_at before (b ∷ rest) size long) ∙ end in
@@ -158,7 +158,7 @@ whole_not_body size bytes rest v x c s long e (inr broken) comparable =
           broken.other (is ∙ sym (ap (λ (n : ℕ). slice_index crlf_bytes (2 - n)) two))
     ]
 
--- the stage behind closing fields that were collected so far
+-- the stage after closing fields that were collected so far
 abbrev pub stage_behind : List ℕ → Outcome (List Field × LineEnd) → Stage
 stage_behind v unended = in_closing v
 stage_behind v hopeless = refused Bad
@@ -198,7 +198,7 @@ pub record IsGreatBody (v c : List ℕ) (s : Stage) : Type 0 where
   pub content : c ≡ []
   pub stage : s ≡ refused Bad
 
--- what stands behind a size line that says this size
+-- what follows a size line that says this size
 pub data IsBody (size : ℕ) (v c : List ℕ) (s : Stage) : Type 0 where
   closing : size ≡ 0 → IsClosingBody v c s → IsBody size v c s
   chunk : 0 < size → size ≤ MAX_CHUNK_SIZE → IsChunkBody size v c s → IsBody size v c s

@@ -1,4 +1,4 @@
--- A byte of the CR LF behind a chunk.
+-- A byte of the CR LF after a chunk.
 use Rattle.std.proofs.Common.{◌≡◌, ◌≢◌, ℕ, ◌+◌, ◌-◌, ◌≤◌, inl, inr, List, [], ◌∷◌, ◌++◌, length, take, drop, slice_index, refl, sym, ap, ◌∙◌, arith, length-append}
 use Rattle.std.proofs.lemmas.List.{append_assoc, append-nil, take-append-le, drop_at, take-append-drop, length-take-le}
 use Rattle.std.specs.List.{AllByRecursion}
@@ -44,7 +44,7 @@ chunk_bad left b near other = Takes-behind (in_chunk left) (refused Bad) (b ∷ 
       bytes_are = refl;
     }))))
 
--- a byte behind whole bytes of a chunk is none of them
+-- a byte after whole bytes of a chunk is none of them
 return_content : (size : ℕ) (behind content : List ℕ) (b : ℕ) → length behind ≡ size → content ≡ take size behind → content ++ [] ≡ take size (behind ++ b ∷ [])
 return_content size behind content b long is =
     append-nil content ∙ is ∙ sym (take-append-le size behind (b ∷ []) (omega arith))

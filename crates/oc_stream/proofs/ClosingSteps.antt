@@ -12,7 +12,7 @@ use Rattle.oc_stream.specs.Unfinished.{IsUnfinished, ReadsFields}
 use Rattle.oc_stream.proofs.Forms.{fields_form, whole_at_end}
 use Rattle.oc_stream.proofs.Steps.{Takes-behind}
 
--- one byte more behind the size line
+-- one byte more after the size line
 closed_more : (front behind more : List ℕ) (b : ℕ) → IsClosedBy front behind more → IsClosedBy (front ++ b ∷ []) (behind ++ b ∷ []) (more ++ [])
 closed_more front behind more b closed = record {
   line = closed.line;
@@ -55,7 +55,7 @@ closing_bad front never = Takes-behind (in_closing front) (refused Bad) (line_fe
       short = omega (arith, part.short, length-append front (line_feed ∷ []));
     }))))
 
--- where the last byte makes the fields whole, nothing is behind them
+-- where the last byte makes the fields whole, nothing is after them
 whole_fields : (front : List ℕ) (b : ℕ) (fields : List Field × LineEnd) (rest : List ℕ) → IsUnfinished ReadsFields front → ReadsFields (front ++ b ∷ []) fields rest → ReadsFields (front ++ b ∷ []) fields []
 whole_fields front b fields rest unfinished reads =
     let none = whole_at_end fields_form front b fields rest unfinished reads in

@@ -14,7 +14,7 @@ pub data Outcome (T : Type 0) : Type 0 where
   too_long : Outcome T
   whole : T → Outcome T
 
--- to these bytes, of which there may be so many, the collecting has come
+-- to these bytes, of which there may be at most `most`, the collecting has come
 abbrev pub Collects : {T : Type 0} → (List ℕ → T → List ℕ → Type 0) → ℕ → List ℕ → Outcome T → Type 0
 Collects Reads most bytes unended = IsUnfinished Reads bytes × (length bytes < most)
 Collects Reads most bytes hopeless = IsHopeless Reads bytes × (length bytes ≤ most)
@@ -54,11 +54,11 @@ pub record One {T : Type 0} (x : List ℕ) (a b : Outcome T) : Type 0 where
   pub none : x ≡ []
   pub same : a ≡ b
 
--- bytes and nothing behind them
+-- bytes and nothing after them
 back : (p x : List ℕ) → x ≡ [] → p ≡ p ++ x ++ []
 back p x none = sym (append-nil p) ∙ ap (λ (z : List ℕ). p ++ z) (sym none) ∙ sym (append-nil (p ++ x))
 
--- bytes as too_long as they with others have none behind them
+-- bytes as long as they with others have none after them
 nothing_more : (p x : List ℕ) → length (p ++ x) ≤ length p → x ≡ []
 nothing_more p [] less = refl
 nothing_more p (b ∷ x) less = absurd (omega (arith, less, length-append p (b ∷ x)))

@@ -1,7 +1,7 @@
 -- Fronts of bytes.
 use Rattle.std.proofs.Common.{◌≡◌, ℕ, ◌≤◌, ◌⊎◌, inl, inr, List, [], ◌∷◌, ◌++◌, length, refl, arith}
 
--- of two fronts the shorter is a front of the other
+-- of two prefixes the shorter is a prefix of the other
 pub shorter_front : (x y r s : List ℕ) → x ++ r ≡ y ++ s → length x ≤ length y → (z : List ℕ) × (y ≡ x ++ z)
 shorter_front [] y r s e less = (y, refl)
 shorter_front (a ∷ x) [] r s e less = absurd (omega (arith, less))
@@ -10,7 +10,7 @@ shorter_front (a ∷ x) (b ∷ y) r s e less =
     let found = shorter_front x y r s inner (omega (arith, less)) in
     (found.0, cc (found.1))
 
--- two fronts that are equally long are one, and so is what is behind them
+-- two prefixes that are equally long are one, and so is what follows them
 pub same_front : (x y r s : List ℕ) → x ++ r ≡ y ++ s → length x ≡ length y → (x ≡ y) × (r ≡ s)
 same_front [] [] r s e long = (refl, e)
 same_front [] (b ∷ y) r s e long = absurd (omega (arith, long))
@@ -20,7 +20,7 @@ same_front (a ∷ x) (b ∷ y) r s e long =
     let found = same_front x y r s inner (omega (arith, long)) in
     (cc (found.0), found.1)
 
--- a front of bytes is all of them, or is a front of all but the last
+-- a prefix of bytes is all of them, or is a prefix of all but the last
 pub all_or_less : (x r y : List ℕ) (b : ℕ) → x ++ r ≡ y ++ b ∷ [] → (r ≡ []) ⊎ ((z : List ℕ) × (y ≡ x ++ z))
 all_or_less [] r y b e = inr (y, refl)
 all_or_less (a ∷ x) r [] b e = inl (nothing x r cc)

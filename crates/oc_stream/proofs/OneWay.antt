@@ -37,7 +37,7 @@ pub record IsNoSize (u c : List ℕ) (s : Stage) : Type 0 where
   pub content : c ≡ []
   pub stage : s ≡ stage_in u outcome
 
--- a size line, and what stands behind it
+-- a size line, and what follows it
 pub record IsSized (u c : List ℕ) (s : Stage) : Type 0 where
   pub line : ChunkLine
   pub behind : List ℕ
@@ -45,7 +45,7 @@ pub record IsSized (u c : List ℕ) (s : Stage) : Type 0 where
   pub bytes : u ≡ print_chunk_line line ++ behind
   pub body : IsBody (chunk_size line) behind c s
 
--- a closing line and what stands behind it
+-- a closing line and what follows it
 sized_closing : (front u c : List ℕ) (s : Stage) (o : Outcome (List Field × LineEnd)) → IsClosedBy front u c → Collects ReadsFields MAX_CLOSING_BYTES front o → s ≡ stage_behind front o → IsSized u c s
 sized_closing front u c s o closed collects stage = record {
   line = closed.line;
@@ -58,7 +58,7 @@ sized_closing front u c s o closed collects stage = record {
 abbrev pub IsBehind : List ℕ → List ℕ → Stage → Type 0
 IsBehind u c s = IsNoSize u c s ⊎ IsSized u c s
 
--- what leads to a stage, as a size line and what stands behind it
+-- what leads to a stage, as a size line and what follows it
 pub behind : (s : Stage) (u c : List ℕ) → LeadsOn s u c → IsBehind u c s
 behind (in_size line) u c part = inl (record {
   outcome = unended;
@@ -176,7 +176,7 @@ behind_once u x c d s t (inr first) (inl second) comparable =
     absurd (no_size_no_line (u ++ x) [] (first.behind ++ x) d t first.line second first.size text (inl refl))
 behind_once u x c d s t (inr first) (inr second) comparable = sized_once u x c d s t first second comparable
 
--- behind the size line of a chunk that is not taken whole there is no whole chunk
+-- after the size line of a chunk that is not taken whole there is no whole chunk
 pub chunk_not_sized : (u x rest c : List ℕ) (s : Stage) (k : Chunk) → IsChunk k → u ++ x ≡ print_chunk k ++ rest → IsSized u c s → IsComparable x s → ⊥
 chunk_not_sized u x rest c s k is e first comparable =
     let text : print_chunk_line first.line ++ (first.behind ++ x) ≡ print_chunk_line k.line ++ ((k.bytes ++ crlf_bytes) ++ rest) =
@@ -190,7 +190,7 @@ chunk_not_sized u x rest c s k is e first comparable =
       | chunk some fits body ↦ whole_not_body (chunk_size first.line) k.bytes rest first.behind x c s (is.whole ∙ sym size) bytes body comparable
     ]
 
--- behind whole chunks there is no whole chunk
+-- after whole chunks there is no whole chunk
 no_more_chunk : (u x rest c : List ℕ) (s : Stage) (k : Chunk) → IsShortChunk k → u ++ x ≡ print_chunk k ++ rest → IsBehind u c s → IsComparable x s → ⊥
 no_more_chunk u x rest c s k short e (inl first) comparable =
     no_size_no_line u x ((k.bytes ++ crlf_bytes) ++ rest) c s k.line first (record { is_line = short.chunk.line; short = short.short }) (e ∙ append_assoc (print_chunk_line k.line) (k.bytes ++ crlf_bytes) rest) comparable
@@ -230,7 +230,7 @@ walk (k ∷ ks) (m ∷ ms) u w x c d s t all every first second e comparable =
       content = append_assoc k.bytes (content_of ks) c ∙ ap (λ (z : List ℕ). z ++ (content_of ks ++ c)) same.bytes ∙ ap (λ (z : List ℕ). m.bytes ++ z) rest.content ∙ sym (append_assoc m.bytes (content_of ms) d);
     }
 
--- the same bytes lead to one stage, with one content; behind a stage that takes none no bytes follow
+-- the same bytes lead to one stage, with one content; after a stage that takes none no bytes follow
 pub taken_once : (bytes x c d : List ℕ) (s t : Stage) → IsTaken bytes c s → IsTaken (bytes ++ x) d t → IsComparable x s → Agrees x s t c d
 taken_once bytes x c d s t first second comparable =
     let one = walk first.chunks second.chunks first.behind second.behind x first.more second.more s t first.all second.all (behind s first.behind first.more first.leads) (behind t second.behind second.more second.leads)

@@ -63,11 +63,11 @@ found_line line b l rest behind more reads part =
       bytes_are = ap (λ (z : List ℕ). z ++ b ∷ []) part.bytes_are ∙ whole;
     }
 
--- of no bytes behind a size line none are of the CR LF
+-- of no bytes after a size line none are of the CR LF
 nothing_behind : (size : ℕ) → drop size [] ≡ take (0 - size) crlf_bytes
 nothing_behind size = rw (drop-nil, zero-sub)
 
--- behind a size line a chunk begins
+-- after a size line a chunk begins
 to_chunk : (line : List ℕ) (b : ℕ) (l : ChunkLine) (rest : List ℕ) → ReadsChunkLine (line ++ b ∷ []) l rest → 0 < chunk_size l → chunk_size l ≤ MAX_CHUNK_SIZE → Takes (in_size line) (b ∷ []) [] (in_chunk (chunk_size l + 2))
 to_chunk line b l rest reads some fits = Takes-behind (in_size line) (in_chunk (chunk_size l + 2)) (b ∷ []) [] (λ behind more part.
     let found = found_line line b l rest behind more reads part in record {
@@ -110,7 +110,7 @@ to_great line b l rest reads great = Takes-behind (in_size line) (refused Bad) (
       content_is = append-nil more ∙ part.content_is;
     })))
 
--- behind a size line the text stands where its size says
+-- after a size line the text is where its size says
 pub size_found : (line : List ℕ) (b : ℕ) (l : ChunkLine) (rest : List ℕ) → ReadsChunkLine (line ++ b ∷ []) l rest → Takes (in_size line) (b ∷ []) [] (stage_at (behind_size_line (chunk_size l)) [])
 size_found line b l rest reads = elim (eqb_tells (chunk_size l) 0) [
   | inl none ↦ rw (none.0) (to_closing line b l rest reads none.1)

@@ -36,7 +36,7 @@ Takes-then a b c x y p q first second = record {
       };
 }
 
--- a step behind whole chunks is a step
+-- a step after whole chunks is a step
 pub Takes-behind : (s t : Stage) (x c : List ℕ) → ((behind more : List ℕ) → LeadsOn s behind more → LeadsOn t (behind ++ x) (more ++ c)) → Takes s x c t
 Takes-behind s t x c step = record {
   on = λ before given taken. record {
@@ -70,7 +70,7 @@ refused_in (in_closing front) fault is = cc
 refused_in ended fault is = cc
 refused_in (refused other) fault is = cc
 
--- the front of a piece that leads to a refusal
+-- the prefix of a piece that leads to a refusal
 pub refused_piece : (old new : Stage) (piece content : List ℕ) (count : ℕ) (fault : ChunkFault) → new ≡ refused fault → Takes old (take count piece) content new → RefusesPiece old piece fault
 refused_piece old new piece content count fault is takes = record {
   front = take count piece;

@@ -110,7 +110,7 @@ IsShortChunk-for piece some few =
 print-for : (piece : List ℕ) → print_chunk (chunk_for piece) ≡ chunk_written piece
 print-for piece = ap (λ (z : List ℕ). z ++ (piece ++ crlf_bytes)) (print-size (length piece))
 
--- chunks for a front of a content and for the rest
+-- chunks for a prefix of a content and for the rest
 written_more : (piece rest text : List ℕ) → 0 < length piece → length piece ≤ WRITTEN_BYTES → IsWritten text rest → IsWritten (chunk_written piece ++ text) (piece ++ rest)
 written_more piece rest text some few behind = record {
   chunks = chunk_for piece ∷ behind.chunks;
@@ -168,12 +168,12 @@ written_taken bytes =
 pub chunked_text-IsChunked : (bytes : List ℕ) → IsChunked (chunked_text bytes) bytes
 chunked_text-IsChunked bytes = whole_chunked (chunked_text bytes) bytes (written_taken bytes)
 
--- a first chunk and equal ones behind it
+-- a first chunk and equal ones after it
 enough_more : (m n b : ℕ) (bytes : List ℕ) → chunks_written m (drop WRITTEN_BYTES (b ∷ bytes)) ≡ chunks_written n (drop WRITTEN_BYTES (b ∷ bytes)) → chunks_written (suc m) (b ∷ bytes) ≡ chunks_written (suc n) (b ∷ bytes)
 enough_more m n b bytes same =
     written_cons m b bytes ∙ ap (λ (z : List ℕ). chunk_written (take WRITTEN_BYTES (b ∷ bytes)) ++ z) same ∙ sym (written_cons n b bytes)
 
--- so many chunks are enough
+-- as many chunks as there are bytes are enough
 chunks_enough : (m n : ℕ) (bytes : List ℕ) → length bytes ≤ m → length bytes ≤ n → chunks_written m bytes ≡ chunks_written n bytes
 unfolding chunks_written
 chunks_enough zero zero bytes few less = refl
@@ -195,7 +195,7 @@ chunks_first (b ∷ bytes) some =
     let long = length-drop WRITTEN_BYTES all in
     written_cons (length bytes) b bytes ∙ ap (λ (z : List ℕ). chunk_written (take WRITTEN_BYTES all) ++ z) (chunks_enough (length bytes) (length rest) rest (omega (arith, long)) (omega arith))
 
--- the front that is cut off is that of a chunk
+-- the prefix that is cut off is that of a chunk
 cut_front : (n : ℕ) (bytes : List ℕ) → n ≡ min (length bytes) WRITTEN_BYTES → (take n bytes ≡ take WRITTEN_BYTES bytes) × (drop n bytes ≡ drop WRITTEN_BYTES bytes)
 cut_front n bytes cut = elim (cases_lt WRITTEN_BYTES (length bytes)) [
   | inl more ↦
@@ -220,14 +220,14 @@ unfolding chunks_written
 chunks_done text [] bytes none invariant = ap (λ (z : List ℕ). z ++ end_written) (sym (append-nil text) ∙ invariant)
 chunks_done text (b ∷ rest) bytes none invariant = absurd (omega arith)
 
--- a front of it that leads to a refusal would be all of it
+-- a prefix of it that leads to a refusal would be all of it
 refused_is_end : (bytes front rest content : List ℕ) (fault : ChunkFault) → chunked_text bytes ≡ front ++ rest → IsTaken front content (refused fault) → ⊥
 refused_is_end bytes front rest content fault text taken =
     let all = subst (λ (x : List ℕ). IsTaken x bytes ended) text (written_taken bytes) in
     let agrees = taken_once front rest content bytes (refused fault) ended taken all (inr refl) in
     let e = agrees.stage in cc e
 
--- no front of it is refused
+-- no prefix of it is refused
 pub written_fine : (bytes front rest content : List ℕ) (s : Stage) → chunked_text bytes ≡ front ++ rest → IsTaken front content s → fault_in s ≡ None
 written_fine bytes front rest content (refused fault) text taken = absurd (refused_is_end bytes front rest content fault text taken)
 written_fine bytes front rest content s text taken = refl

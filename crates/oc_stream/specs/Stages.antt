@@ -14,9 +14,9 @@ pub data Stage : Type 0 where
   in_chunk : ℕ → Stage
   -- in the closing fields, of which these bytes came
   in_closing : List ℕ → Stage
-  -- behind a whole text
+  -- after a whole text
   ended : Stage
-  -- behind bytes that are refused
+  -- after bytes that are refused
   refused : ChunkFault → Stage
 
 -- whether the text is whole
@@ -42,7 +42,7 @@ wanted_at (in_chunk left) = max (left - 2) 1
 wanted_at ended = 0
 wanted_at stage = 1
 
--- so many bytes led from stage to stage: what was wanted at the old one came, or is wanted at the new one too, which is no refusal
+-- `count` bytes led from stage to stage: what was wanted at the old one came, or is wanted at the new one too, which is no refusal
 abbrev pub StillWants : Stage → ℕ → Stage → Type 0
 StillWants old count new = fault_in new ≡ None → wanted_at old ≤ count + wanted_at new
 

@@ -21,7 +21,7 @@ pub record IsShortChunk (c : Chunk) : Type 0 where
   pub chunk : IsChunk c
   pub short : length (print_chunk_line c.line) ≤ MAX_SIZE_LINE_BYTES
 
--- What can stand behind whole chunks:
+-- What can follow whole chunks:
 
 -- a part of a size line
 pub record IsPartOfSize (line bytes content : List ℕ) : Type 0 where
@@ -30,7 +30,7 @@ pub record IsPartOfSize (line bytes content : List ℕ) : Type 0 where
   pub unfinished : IsUnfinished ReadsChunkLine line
   pub short : length line < MAX_SIZE_LINE_BYTES
 
--- a size line and a part of the chunk behind it, of which this many bytes are left
+-- a size line and a part of the chunk after it, of which this many bytes are left
 pub record IsPartOfChunk (left : ℕ) (bytes content : List ℕ) : Type 0 where
   pub line : ChunkLine
   pub behind : List ℕ
@@ -43,7 +43,7 @@ pub record IsPartOfChunk (left : ℕ) (bytes content : List ℕ) : Type 0 where
   pub content_is : content ≡ take (chunk_size line) behind
   pub end : drop (chunk_size line) behind ≡ take (length behind - chunk_size line) crlf_bytes
 
--- a size line for 0 and these bytes behind it
+-- a size line for 0 and these bytes after it
 pub record IsClosedBy (behind bytes content : List ℕ) : Type 0 where
   pub line : ChunkLine
   pub size : IsSizeLine line
@@ -111,7 +111,7 @@ pub record HasLongClosing (bytes content : List ℕ) : Type 0 where
   pub unfinished : IsUnfinished ReadsFields front
   pub long : length front ≡ MAX_CLOSING_BYTES
 
--- behind whole chunks these bytes lead to this stage, with this content
+-- after whole chunks these bytes lead to this stage, with this content
 abbrev pub LeadsOn : Stage → List ℕ → List ℕ → Type 0
 LeadsOn (in_size line) bytes content = IsPartOfSize line bytes content
 LeadsOn (in_chunk left) bytes content = IsPartOfChunk left bytes content
@@ -135,7 +135,7 @@ pub record IsTaken (bytes content : List ℕ) (stage : Stage) : Type 0 where
 pub record Takes (old : Stage) (bytes content : List ℕ) (new : Stage) : Type 0 where
   pub on : (before given : List ℕ) → IsTaken before given old → IsTaken (before ++ bytes) (given ++ content) new
 
--- from the old stage a front of the piece leads to the refusal
+-- from the old stage a prefix of the piece leads to the refusal
 pub record RefusesPiece (old : Stage) (piece : List ℕ) (fault : ChunkFault) : Type 0 where
   pub front : List ℕ
   pub rest : List ℕ

@@ -13,7 +13,7 @@ use Rattle.oc_stream.specs.Taken.{Takes}
 abbrev pub stage_of : Progress → Stage
 stage_of p = stage_at p.place p.line.items
 
--- with these bytes it went on to the new stage, and their content was put behind what was given
+-- with these bytes it went on to the new stage, and their content was put after what was given
 pub record Advances (old new : Progress) (bytes before after : List ℕ) : Type 0 where
   pub content : List ℕ
   pub given : after ≡ before ++ content
@@ -30,17 +30,17 @@ IsLine Size = ⊤
 IsLine Closing = ⊤
 IsLine place = ⊥
 
--- where a text stands behind a size line that says this size
+-- the place in a text after a size line that says this size
 abbrev pub behind_size_line : ℕ → Place
 behind_size_line size =
     if size == 0 then Closing
     else if nat_le size MAX_CHUNK_SIZE then Chunk (size + 2)
     else Refused Bad
 
--- where a text stands behind this many closing fields
+-- the place in a text after this many closing fields
 abbrev pub behind_fields : ℕ → Place
 behind_fields count = if nat_le count MAX_FIELDS then End else Refused Bad
 
--- where a text stands in lines of so many bytes that may have fewer than the most
+-- the place in a text within lines of `count` bytes that may have fewer than the most
 abbrev pub place_within : ℕ → ℕ → Option Place
 place_within count most = if nat_lt count most then None else Some (Refused Long)

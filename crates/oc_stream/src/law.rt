@@ -4,8 +4,8 @@ ghost use Rattle.oc_stream.specs.Stages.{Stage, ended, is_final, fault_in};
 ghost use Rattle.oc_stream.specs.Taken.{IsTaken};
 ghost use Rattle.oc_stream.specs.Texts.{chunked_text};
 
-/// However a text is cut into pieces, the same bytes lead to one stage and have one content. Behind
-/// bytes that are refused, and behind a whole text, no byte is taken. So feeding in pieces gives what
+/// However a text is cut into pieces, the same bytes lead to one stage and have one content. After
+/// bytes that are refused, and after a whole text, no byte is taken. So feeding in pieces gives what
 /// feeding whole gives, a refusal too.
 pub fn a_text_is_read_in_one_way()
     ensures one { (bytes content other : List ℕ) (s t : Stage) → IsTaken bytes content s → IsTaken bytes other t
@@ -20,7 +20,7 @@ pub fn a_chunked_text_ends()
         → (s ≡ ended) × (given ≡ content) }
 {}
 
-/// What [`crate::chunk_text`] writes is read, however it is cut: no front of it is refused, and all of
+/// What [`crate::chunk_text`] writes is read, however it is cut: no prefix of it is refused, and all of
 /// it leads to the end, with the content.
 pub fn a_written_text_is_read()
     ensures whole { (bytes : List ℕ) → IsTaken (chunked_text bytes) bytes ended }

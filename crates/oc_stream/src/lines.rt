@@ -12,8 +12,8 @@ use httparse::spans::{HeaderSpan, parse_headers};
 use httparse::{Status, parse_chunk_size};
 use oc_base::MAX_FIELDS;
 
-/// Where the text stands behind the bytes of a size line so far, the last of which is `byte`; `None`
-/// where it stands in that line.
+/// The place in the text after the bytes of a size line so far, the last of which is `byte`; `None`
+/// where it is in that line.
 pub(crate) fn behind_size(line: &[u8], byte: u8) -> Option<Place>
     ensures { (before : List ℕ) → line.now ≡ before ++ byte ∷ [] → GoesOn in_size before byte result }
 {
@@ -27,7 +27,7 @@ pub(crate) fn behind_size(line: &[u8], byte: u8) -> Option<Place>
     }
 }
 
-/// Where the text stands behind a size line that says this size.
+/// The place in the text after a size line that says this size.
 fn behind_size_line(size: u64) -> Place
     ensures { result ≡ behind_size_line size }
 {
@@ -42,8 +42,8 @@ fn behind_size_line(size: u64) -> Place
     }
 }
 
-/// Where the text stands behind the bytes of the closing fields so far, the last of which is `byte`;
-/// `None` where it stands in these fields.
+/// The place in the text after the bytes of the closing fields so far, the last of which is `byte`;
+/// `None` where it is in these fields.
 pub(crate) fn behind_closing(line: &[u8], spans: &mut [HeaderSpan], byte: u8) -> Option<Place>
     requires { FIELD_ROOM ≤ length spans.old }
     ensures { (before : List ℕ) → line.now ≡ before ++ byte ∷ [] → GoesOn in_closing before byte result }
@@ -58,7 +58,7 @@ pub(crate) fn behind_closing(line: &[u8], spans: &mut [HeaderSpan], byte: u8) ->
     }
 }
 
-/// Where the text stands behind this many closing fields.
+/// The place in the text after this many closing fields.
 fn behind_fields(count: usize) -> Place
     ensures { result ≡ behind_fields count }
 {
@@ -69,7 +69,7 @@ fn behind_fields(count: usize) -> Place
     }
 }
 
-/// Where the text stands in lines that have no end so far, and may have fewer bytes than `most`: `None`
+/// The place in the text within lines that have no end so far, and may have fewer bytes than `most`: `None`
 /// where it is in them.
 fn place_within(line: &[u8], most: usize) -> Option<Place>
     ensures { result ≡ place_within (length line.now) most }
@@ -81,7 +81,7 @@ fn place_within(line: &[u8], most: usize) -> Option<Place>
     }
 }
 
-/// Where the text stands behind a byte of the CR LF after a chunk, of which so many bytes were left.
+/// The place in the text after a byte of the CR LF that follows a chunk, of which `left` bytes were left.
 pub(crate) fn behind_end(left: u32, byte: u8) -> Place
     requires { left ≤ 2 }
     ensures { Takes (in_chunk left) (byte ∷ []) [] (stage_at result []) }

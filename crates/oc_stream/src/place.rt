@@ -12,9 +12,9 @@ pub(crate) enum Place {
     Chunk { left: u32 },
     /// In the closing fields.
     Closing,
-    /// Behind the text.
+    /// After the text.
     End,
-    /// Behind bytes that are refused.
+    /// After bytes that are refused.
     Refused(Refusal),
 }
 

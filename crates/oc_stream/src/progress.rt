@@ -139,7 +139,7 @@ impl Progress {
         count
     }
 
-    /// Takes a byte of the CR LF behind a chunk.
+    /// Takes a byte of the CR LF after a chunk.
     fn take_end(&mut self, left: u32, byte: u8)
         requires place { self.old.place ≡ Chunk left }
         requires few { left ≤ 2 }

@@ -7,7 +7,8 @@ use Rattle.oc_io.specs.DiskView.{DiskView}
 abbrev pub untold_series : Series
 untold_series = record { last = None; coming = None }
 
--- a file of this size of which so many calls failed: nothing is claimed of its bytes or of a crash, and its spare room has no limit of its own
+-- a file of this size of which `faults` calls failed: nothing is claimed of its bytes or of a crash, and
+-- its spare room has no limit of its own
 abbrev pub file_view : ℕ → ℕ → DiskView
 file_view size faults = record {
   seen = [];

@@ -219,7 +219,7 @@ impl Connection {
         self.unsent.len().saturating_sub(self.sent)
     }
 
-    /// Has these bytes go out behind those that are to. Few bytes wait for more of them; many go out from where
+    /// Has these bytes go out after those that are to. Few bytes wait for more of them; many go out from where
     /// they are, and only what is left of them is kept.
     pub(crate) fn put(&mut self, bytes: &[u8]) -> io::Result<()> {
         let mut rest = bytes;
@@ -282,7 +282,7 @@ impl Connection {
     }
 
     /// Nothing more is read from it. Once nothing is left to send, tells the peer that nothing more comes, and
-    /// gives it so much time to end; only the socket is kept then.
+    /// gives it this much time to end; only the socket is kept then.
     pub(crate) fn leave(&mut self, alloc: Global, now: u64, linger: u64) {
         self.stage = Stage::Leaving;
         self.came = Vec::new(alloc);

@@ -124,7 +124,7 @@ impl<R: Files<File = File>> Disk for FileDisk<'_, R> {
     }
 }
 
-/// How many of so many bytes from this offset on are within the size.
+/// How many of `most` bytes from this offset on are within the size.
 fn within(at: u64, size: u64, most: usize) -> usize
     ensures { result ≡ min most (size - at) }
 {

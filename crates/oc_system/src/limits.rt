@@ -17,7 +17,7 @@ pub(crate) const LEAVING_MILLIS: u64 = 5_000;
 /// For how long the peer may take to end a connection on which nothing more goes out, in milliseconds.
 pub(crate) const LINGER_MILLIS: u64 = 1_000;
 
-/// For how long the current connection may send nothing behind a reply, and for how long a further request
+/// For how long the current connection may send nothing after a reply, and for how long a further request
 /// may take to come, in milliseconds. Nobody else is served meanwhile.
 pub(crate) const IDLE_MILLIS: u64 = 100;
 

@@ -70,7 +70,7 @@ impl Outgoing {
         Err(io::Error::from(ErrorKind::WriteZero))
     }
 
-    /// Writes a front of these bytes, until that time.
+    /// Writes a prefix of these bytes, until that time.
     fn write_some<R: Clock>(&mut self, rt: &R, bytes: &[u8], until: u64) -> io::Result<usize> {
         self.stream.set_write_timeout(Some(time_left(rt, until)?))?;
         self.stream.write(bytes)
@@ -144,7 +144,7 @@ fn time_left<R: Clock>(rt: &R, until: u64) -> io::Result<Duration> {
     Ok(Duration::from_millis(left))
 }
 
-/// Puts a front of the bytes at the front of the buffer, as many as fit.
+/// Puts a prefix of the bytes at the front of the buffer, as many as fit.
 pub(crate) fn copy_front(bytes: &[u8], buf: &mut [u8]) -> usize
     ensures within { result ≤ length buf.old }
     ensures length { length buf.new ≡ length buf.old }

@@ -2,7 +2,7 @@ use crate::limits::{LONG_WAIT, SHORT_WAIT};
 
 /// How long the next wait for a connection is.
 ///
-/// There is none behind work. Behind a turn that was quiet it grows. What is no work, such as a probe that
+/// There is none after work. After a turn that was quiet it grows. What is no work, such as a probe that
 /// somebody makes here, leaves it as it is, and the wait that it broke off goes on to its end: so two nodes that
 /// probe each other do not keep each other awake.
 #[derive(Drop)]

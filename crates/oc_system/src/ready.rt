@@ -29,7 +29,7 @@ impl Ready {
         self.poll.registry()
     }
 
-    /// Waits until something is ready or so many milliseconds are over.
+    /// Waits until something is ready or `millis` milliseconds are over.
     pub(crate) fn wait(&mut self, millis: u64) -> io::Result<()> {
         self.poll
             .poll(&mut self.events, Some(Duration::from_millis(millis)))?;

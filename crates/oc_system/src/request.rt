@@ -61,7 +61,7 @@ impl Look {
         true
     }
 
-    /// Takes a line, behind which the next one begins there. Empty lines before the head are none of it.
+    /// Takes a line, after which the next one begins at `next`. Empty lines before the head are none of it.
     fn take(&mut self, line: &[u8], next: usize) {
         self.line = next;
         self.seen = next;
@@ -86,7 +86,7 @@ impl Look {
         }
     }
 
-    /// Whether so many bytes are a whole request: a head, and as many bytes behind it as its Content-Length
+    /// Whether `count` bytes are a whole request: a head, and as many bytes after it as its Content-Length
     /// says. Of a request that expects `100-continue` the head is enough, as it is where the body is longer
     /// than a body may be.
     pub(crate) fn is_whole(&self, count: usize) -> bool {
@@ -100,7 +100,7 @@ impl Look {
         }
     }
 
-    /// Whether so many bytes are the whole request, and its peer has nothing more to send.
+    /// Whether `count` bytes are the whole request, and its peer has nothing more to send.
     pub(crate) fn is_all(&self, count: usize) -> bool {
         match self.body {
             Some(body) => {

@@ -147,7 +147,7 @@ impl Sockets {
     }
 
     /// Makes the kept connection that is to be served next the current one: the first whose request has come,
-    /// and else the first that is not waited for any longer. So many that run out of their time at once hold up
+    /// and else the first that is not waited for any longer. Thus many that run out of their time at once hold up
     /// nobody.
     fn take_ripe(&mut self, now: u64) -> bool {
         let Some(mut connection) = self.first_ripe() else {

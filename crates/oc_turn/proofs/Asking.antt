@@ -230,7 +230,7 @@ pub found_too : {X Y : Type 0} {P Q : X → Type 0} (r : Result X Y) → ((x : X
 found_too (Ok x) then found = then x found
 found_too (Err y) then found = tt
 
--- a fact that stands whatever the answer is
+-- a fact that holds whatever the answer is
 pub err_too : {X Y : Type 0} {P : Type 0} (r : Result X Y) → P → OnErr r P
 err_too (Ok x) fact = tt
 err_too (Err y) fact = fact

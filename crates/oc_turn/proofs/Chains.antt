@@ -1,4 +1,4 @@
--- Deeds behind deeds.
+-- Deeds after deeds.
 use Rattle.std.proofs.Common.{◌≡◌, ℕ, List, [], ◌∷◌, ◌++◌, refl, sym, ap, subst, ◌∙◌}
 use Rattle.std.proofs.lemmas.List.{append_assoc}
 use Rattle.oc_keep.specs.Trials.{after_inputs}
@@ -32,7 +32,7 @@ pub do_then : (s : Setting) (ds es : List Deed) (a b c : Sight) → DoAll s ds a
 do_then s [] es a b c first second = subst (λ (x : Sight). DoAll s es x c) first second
 do_then s (d ∷ ds) es a b c (between, does, rest) second = (between, does, do_then s ds es between b c rest second)
 
--- the node behind a deed
+-- the node after a deed
 pub does_node : (s : Setting) (d : Deed) (a b : Sight) → Does s d a b → b.node ≡ after_inputs a.node (deed_inputs d)
 does_node s (deeds.Calls arrival) a b does = ap (λ (x : Sight). x.node) does.1
 does_node s (deeds.Reads t) a b does = ap (λ (x : Sight). x.node) does.1
@@ -44,7 +44,7 @@ does_node s (deeds.Dials m came) a b does = does.2
 does_node s deeds.Empties a b does = ap (λ (x : Sight). x.node) does.1
 does_node s (deeds.Probes peer hops came) a b does = ap (λ (x : Sight). x.node) does.2
 
--- the node behind deeds is the fold of their inputs
+-- the node after deeds is the fold of their inputs
 pub do_node : (s : Setting) (ds : List Deed) (a b : Sight) → DoAll s ds a b → b.node ≡ after_inputs a.node (inputs_of ds)
 do_node s [] a b done = ap (λ (x : Sight). x.node) done
 do_node s (d ∷ ds) a c (b, does, rest) =

@@ -1,4 +1,4 @@
--- Looks, one behind another.
+-- Looks, one after another.
 use Rattle.std.proofs.Common.{◌≡◌, ℕ, false, List, ap, subst, ◌∙◌, arith}
 use Rattle.oc_content.specs.ContentFile.{groups_in}
 use Rattle.oc_keep.specs.Files.{AllGoOn, Survives}

@@ -1,4 +1,4 @@
--- Scenes behind scenes.
+-- Scenes after scenes.
 use Rattle.std.proofs.Common.{◌≡◌, ℕ, false, None, List, [], ◌∷◌, ◌++◌, inl, inr, refl, sym, ap, subst, ◌∙◌, arith}
 use Rattle.std.proofs.lemmas.List.{append_assoc}
 use Rattle.oc_keep.specs.Files.{Disks, AllGoOn, Leaves, SameAsEither, Survives}
@@ -54,7 +54,7 @@ module _ {D : Type 0} (view : D → DiskView) where
   pub keeps_one : (i : Input) (outcome : OutcomeView) (old at new : KeptView D) → old.closed ≡ false → KeepsOne view i outcome old at → LooksOnly view at new → KeepsAll view (i ∷ []) old new
   keeps_one i outcome old at new is_open keeps looks = (old, at, outcome, looks_none old is_open, keeps, looks)
 
-  -- inputs behind inputs
+  -- inputs after inputs
   pub keeps_then : (is js : List Input) (a b c : KeptView D) → KeepsAll view is a b → KeepsAll view js b c → KeepsAll view (is ++ js) a c
   keeps_then [] [] a b c p q = looks_then a b c p q
   keeps_then [] (j ∷ js) a b c p (at, next, outcome, looks, one, rest) = (at, next, outcome, looks_then a b at p looks, one, rest)
@@ -85,7 +85,7 @@ module _ {D K : Type 0} (view : D → DiskView) (takes fails : K → List ℕ �
       ap (λ (me : ℕ). record { me = me; nodes = b.node.control.nodes; addresses = addresses }) same.me
       ∙ ap (λ (h : Header). record { me = a.node.control.me; nodes = h.nodes; addresses = addresses }) same.header
 
-  -- the text behind a text, told of the same node
+  -- the text after a text, told of the same node
   text_then : (takes_then : (a b c : K) (x y : List ℕ) → takes a x b → takes b y c → takes a (x ++ y) c) (me other : ℕ) (ds es : List Deed) (a b c : K)
       → other ≡ me → takes a (deeds_text me ds) b → takes b (deeds_text other es) c → takes a (deeds_text me (ds ++ es)) c
   text_then takes_then me other ds es a b c same first second =
@@ -115,11 +115,11 @@ module _ {D K : Type 0} (view : D → DiskView) (takes fails : K → List ℕ �
         (subst (λ (s : Setting). DoAll s es (sight b) (sight c)) (setting_stays a.kept b.kept first.same) (second.done (all_honest view (disks_of a.kept) (disks_of b.kept) first.goes_on honest)));
   }
 
-  -- the node behind deeds
+  -- the node after deeds
   pub did_node : (ds : List Deed) (a b : Scene D K) → Did view takes count addresses ds a b → IsHonest view a.kept → node_of b.kept ≡ after_inputs (node_of a.kept) (inputs_of ds)
   did_node ds a b did honest = do_node (setting a.kept addresses) ds (sight a) (sight b) (did.done honest)
 
-  -- it ended so behind deeds
+  -- it ended so after deeds
 
   write_then : (takes_then : (a b c : K) (x y : List ℕ) → takes a x b → takes b y c → takes a (x ++ y) c) (takes_fails : (a b c : K) (x y : List ℕ) → takes a x b → fails b y c → fails a (x ++ y) c)
       → (a b c : K) (end : TurnEnd) (x y line : List ℕ) → takes a x b → WritesAt takes fails b c end y line → WritesAt takes fails a c end (x ++ y) line
@@ -168,7 +168,7 @@ module _ {D K : Type 0} (view : D → DiskView) (takes fails : K → List ℕ �
     cause = cause_of link linked so a.kept b.kept c end under a.sink b.sink z did.goes_on did.counts stops.cause;
   }
 
-  -- the same of what stopped behind some deeds
+  -- the same of what stopped after some deeds
   pub stopped_then : (takes_then : (a b c : K) (x y : List ℕ) → takes a x b → takes b y c → takes a (x ++ y) c) (takes_fails : (a b c : K) (x y : List ℕ) → takes a x b → fails b y c → fails a (x ++ y) c)
       → (link linked : Type 0) → (link → linked) → (ds : List Deed) (end : TurnEnd) (a b : Scene D K) (c : KeptView D) (z : K)
       → Did view takes count addresses ds a b → Stopped view takes fails count link end b.kept c b.sink z → Stopped view takes fails count linked end a.kept c a.sink z
@@ -265,7 +265,7 @@ module _ {D K : Type 0} (view : D → DiskView) (takes fails : K → List ℕ �
       by_end ends.Memory u cause = tt
 
 module _ {D K : Type 0} (view : D → DiskView) (takes fails : K → List ℕ → K → Type 0) (count : K → ℕ) (addresses : List (List ℕ)) where
-  -- it ended so behind further deeds
+  -- it ended so after further deeds
   pub breaks_then : (takes_then : (a b c : K) (x y : List ℕ) → takes a x b → takes b y c → takes a (x ++ y) c) (link linked : Type 0) → (link → linked) → (ds es : List Deed) (under : Under) (end : TurnEnd) (a b c : Scene D K)
       → Did view takes count addresses ds a b → BreaksOff view takes fails count addresses link end es under b c → BreaksOff view takes fails count addresses linked end (ds ++ es) under a c
   breaks_then takes_then link linked so ds es under end a b c did (at, more, breaks) = (at, did_then view takes fails count addresses takes_then ds es a b at did more, breaks_as view takes fails count addresses link linked so end under at c breaks)

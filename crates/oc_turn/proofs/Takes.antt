@@ -134,7 +134,7 @@ module _ {D K : Type 0} (view : D → DiskView) (takes fails : K → List ℕ �
           ap (λ (n : Node). sight_of n (with_messages outbox outcome.sends) out) (took.kept.node honest)
           ∙ ap (λ (o : OutcomeView). sight_of (step (node_of old) i).node (with_messages outbox o.sends) out) (took.kept.outcome_is honest)
 
--- some first bytes of a line are a front of it
+-- some first bytes of a line are a prefix of it
 pub front_of : (n : ℕ) (bytes line : List ℕ) → bytes ≡ line → IsFront (take n bytes) line
 front_of n bytes line is = (drop n bytes, sym is ∙ parts n bytes)
   where

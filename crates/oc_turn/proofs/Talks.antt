@@ -16,7 +16,7 @@ told_talks a None (Some c) p q = absurd q
 told_talks None (Some b) (Some c) p q = absurd p
 told_talks (Some a) (Some b) (Some c) p q = q ∙ ap (λ (s : Story). record s { past = c.past; current = c.current }) p
 
--- one talk behind another
+-- one talk after another
 pub talked_then : (a b c : Option Story) (f g h : LinkFaults) → Talked a b f g → Talked b c g h → Talked a c f h
 talked_then a b c f g h p q = record {
   story = told_talks a b c p.story q.story;

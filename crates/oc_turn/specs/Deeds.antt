@@ -143,7 +143,7 @@ address_in s node = slice_index_or s.addresses (node - 1) []
 abbrev pub took : Input → Sight → Sight
 took i a = record a { node = (step a.node i).node; outbox = with_messages a.outbox (step a.node i).sends }
 
--- what the outbox gets of a request's input: all that is sent, save that the first message back to the sender of a message is its reply
+-- what the outbox gets of a request's input: all that is sent, except that the first message back to the sender of a message is its reply
 abbrev pub for_outbox : Input → List Message → List Message
 for_outbox (Delivered m) sends = others sends m.from
 for_outbox i sends = sends

@@ -82,7 +82,7 @@ LeavesAt view old new ends.Disk n under = LeavesUnder view old new n under
 LeavesAt view old new ends.Sink n under = LeavesUnder view old new n under
 LeavesAt view old new end n under = LeavesUnder view old new n Idle
 
--- where the output failed, some front of a further line was written behind the text, and else nothing more was
+-- where the output failed, some prefix of a further line was written after the text, and else nothing more was
 abbrev pub WritesAt : {K : Type 0} → (K → List ℕ → K → Type 0) → (K → List ℕ → K → Type 0) → K → K → TurnEnd → List ℕ → List ℕ → Type 0
 WritesAt takes fails old new ends.Sink text line = (front : List ℕ) × IsFront front line × fails old (text ++ front) new
 WritesAt takes fails old new end text line = takes old text new

@@ -10,7 +10,7 @@
 //! What a turn does is a list of deeds (`specs/Deeds`): an input that was taken with its line, a message
 //! that was dialled, and so on. `specs/Scenes` says what it means that deeds were done (`Did`): the lines
 //! that were written, the node and what it has still to send, what went through the link, and that no file
-//! was full for an input. Where it ended behind them (`Breaks`), it says why, what every crash leaves, and
+//! was full for an input. Where it ended after them (`Breaks`), it says why, what every crash leaves, and
 //! what else went through the link. A [`TurnEnd`] is how a turn ended.
 //!
 //! Each message of a step can be sent, so that each message of an outbox can (`specs/Sending`).

@@ -39,7 +39,7 @@ impl Outbox {
         })
     }
 
-    /// Keeps a further message behind the others. The oldest is lost where there are more than are kept.
+    /// Keeps a further message after the others. The oldest is lost where there are more than are kept.
     /// It takes no memory.
     pub fn put(&mut self, message: Message)
         ensures { self.new ≡ with_message self.old message }
@@ -61,7 +61,7 @@ impl Outbox {
     }
 }
 
-/// Keeps further messages behind the others, in their order. It takes no memory.
+/// Keeps further messages after the others, in their order. It takes no memory.
 pub fn put_all(outbox: &mut Outbox, mut messages: Vec<Message>)
     ensures { outbox.new ≡ with_messages outbox.old messages.items }
 {

@@ -26,7 +26,7 @@ fn can_send_all(nodes: u32, messages: &[Message]) -> bool
     messages.iter().all(|message| can_send(nodes, message))
 }
 
-/// Whether a message can be sent: its receiver is one of so many nodes, and its body has a text.
+/// Whether a message can be sent: its receiver is one of `nodes` nodes, and its body has a text.
 fn can_send(nodes: u32, message: &Message) -> bool
     ensures { result ≡ can_send nodes message.now }
 {

@@ -65,7 +65,7 @@ next_not_yet y (Some k) rows ends nodes x z now fit before = by_tests (is_lease_
   by_tests true h false g = rw (h, g)
   by_tests false h b g = rw h
 
--- the rows behind the first are of the nodes behind its node
+-- the rows after the first are of the nodes after its node
 rows_rest : (nodes z : ℕ) (row : Option Cert) (rows : List (Option Cert)) → AreRowsFrom nodes z (row ∷ rows) → AreRowsFrom nodes (z + 1) rows
 rows_rest nodes z None rows fit = fit
 rows_rest nodes z (Some k) rows fit = fit.2
@@ -83,7 +83,7 @@ drop_fits nodes z zero rows fit = let e : z + 0 ≡ z = omega arith in rw e fit
 drop_fits nodes z (suc i) [] fit = tt
 drop_fits nodes z (suc i) (row ∷ rows) fit = let e : z + suc i ≡ (z + 1) + i = omega arith in rw e (drop_fits nodes (z + 1) i rows (rows_rest nodes z row rows fit))
 
--- the look begins behind the number
+-- the look begins after the number
 pub next_begins : (y : ℕ) (rows : List (Option Cert)) (ends : List (Option ℕ)) (x now : ℕ) → AreRows rows → next_among (drop x rows) y ends x now ≡ next_among rows y ends x now
 next_begins y rows ends x now fit = next_from y x rows ends (length rows) x 1 now fit (omega arith)
 

@@ -129,7 +129,7 @@ impl ChangeLog {
     }
 
     /// Puts the first certificates that wait, at most `limit`, at the end of a vector, and gives the
-    /// place behind them. Where memory is wanted the vector has what it had.
+    /// place after them. Where memory is wanted the vector has what it had.
     pub fn take(&self, limit: usize, into: &mut Vec<Cert>) -> Result<u64, Memory>
         ensures place { IfOk result (λ place. place ≡ self.now.log.acked + length (take limit self.now.log.waiting)) }
         ensures within { IfOk result (λ place. place ≤ self.now.log.length) }

@@ -1,4 +1,4 @@
-//! The up/down protocol of one node: the change log, in which stand the certificates for its parent,
+//! The up/down protocol of one node: the change log, which holds the certificates for its parent,
 //! and the leases of its children.
 //!
 //! They are those of the Overcast paper (section 4.3): a child reports births and deaths to its parent

@@ -20,7 +20,7 @@ given x = Ok x
 pub given_is : {A : Type 0} (x y : A) → given x ≡ given y → x ≡ y
 given_is x y e = cc
 
--- a body with nothing behind its code
+-- a body with nothing after its code
 abbrev plain_at : Body → ℕ → Result (Body × ℕ) WireFault
 plain_at b at = Ok (b, at)
 

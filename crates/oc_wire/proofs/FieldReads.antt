@@ -81,7 +81,7 @@ pub record IsWhy (nodes code : ℕ) (bytes : List ℕ) (at : ℕ) (why : Refusal
   pub kind : why_code why ≡ code
   pub text : Takes bytes at (why_fields why) next
 
--- a refusal with nothing behind its code
+-- a refusal with nothing after its code
 abbrev plain_at : Refusal → ℕ → Reading Refusal
 plain_at why at = Ok (why, at)
 

@@ -1,4 +1,4 @@
--- The least lengths of the fields of the kinds, and the lengths of what is behind the refusals' codes.
+-- The least lengths of the fields of the kinds, and the lengths of what follows the refusals' codes.
 use Rattle.std.proofs.Common.{◌≡◌, ℕ, ◌≤◌, Bool, true, false, ◌&&◌, ◌==◌, cond, Option, Some, None, List, [], ◌∷◌, length, refl, ap, subst, ◌∙◌, arith}
 use Rattle.std.specs.List.{AllByRecursion}
 use Rattle.std.proofs.lemmas.Bool.{and_parts, eqb-true}
@@ -83,7 +83,7 @@ shortest =
 pub are_lawful : AllByRecursion (IsBody 1) shortest
 are_lawful = search arith
 
--- what is behind the code of a refusal
+-- what follows the code of a refusal
 abbrev length_of : ℕ → ℕ
 length_of code = cond (code == 5) 4 0
 

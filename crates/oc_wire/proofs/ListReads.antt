@@ -18,7 +18,7 @@ use Rattle.oc_fields.specs.Reading.{next_name_at, child_at, children_at, certs_a
 use Rattle.oc_wire.proofs.Ascending.{IsNextChild, are_children, children_are_next, IsNextLine, are_lines, lines_are_next}
 use Rattle.oc_wire.proofs.NameReads.{reads_next_name}
 
--- a child behind another
+-- a child after another
 pub reads_child : (nodes : ℕ) (bytes : List ℕ) → (before : ℕ) → Reads nodes bytes (child_at before nodes bytes) child_bytes (IsNextChild nodes before)
 unfolding child_at
 reads_child nodes bytes before =
@@ -55,7 +55,7 @@ reads_certs nodes bytes =
       again = λ few at cs next h t. all.again few at cs next ((omega arith, h.1), h.0) t;
     }
 
--- a line behind another
+-- a line after another
 pub reads_line : (nodes : ℕ) (bytes : List ℕ) → (before : Option (List ℕ)) → Reads nodes bytes (line_at before bytes) line_bytes (IsNextLine before)
 unfolding line_at
 reads_line nodes bytes before =

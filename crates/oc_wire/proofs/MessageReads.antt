@@ -62,7 +62,7 @@ end_is nodes code from to bytes at body m from-is to-is front b e =
       exact = all_of bytes (spelling made) body.1 whole (eqb-true body.1 (length bytes) is);
     })) (λ e. absurd cc)
 
--- the fields of a message behind its front
+-- the fields of a message after its front
 body_is : (nodes from to code at : ℕ) (bytes : List ℕ) (m : Message) → IsBytes bytes → Takes bytes 0 (four from ++ four to ++ code ∷ []) at
     → cond (is_node nodes from && is_node nodes to) (body_at code nodes bytes at >>= λ body. closed from to (length bytes) body) (Err faults.Stranger) ≡ Ok m → Spells nodes bytes m
 body_is nodes from to code at bytes m fits front e =

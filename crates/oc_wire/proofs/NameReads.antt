@@ -33,7 +33,7 @@ name_size name is = by_test (ltb (length name) 2) (ltb 200 (length name)) refl r
     by_test true b short long is = absurd (cc (rw short at is))
     by_test false true short long is = absurd (cc (rw (short, long) at is))
 
--- a name behind its length
+-- a name after its length
 pub reads_name : (nodes : ℕ) (bytes : List ℕ) → Reads nodes bytes (name_at bytes) name_bytes IsGroupName
 unfolding name_at
 reads_name nodes bytes =
@@ -51,7 +51,7 @@ reads_name nodes bytes =
           rw (one, h) refl;
     }
 
--- a name behind a lesser one
+-- a name after a lesser one
 pub reads_next_name : (before : Option (List ℕ)) (nodes : ℕ) (bytes : List ℕ) → Reads nodes bytes (next_name_at before bytes) name_bytes (λ name. IsGroupName name × (is_after before name ≡ true))
 unfolding next_name_at
 reads_next_name before nodes bytes =

@@ -28,6 +28,6 @@ stranger = 0 ∷ 0 ∷ 0 ∷ 4 ∷ 0 ∷ 0 ∷ 0 ∷ 2 ∷ 99 ∷ []
 abbrev pub strange_kind : List ℕ
 strange_kind = 0 ∷ 0 ∷ 0 ∷ 3 ∷ 0 ∷ 0 ∷ 0 ∷ 2 ∷ 99 ∷ []
 
--- a look with a byte behind it
+-- a look with a byte after it
 abbrev pub trailing : List ℕ
 trailing = 0 ∷ 0 ∷ 0 ∷ 3 ∷ 0 ∷ 0 ∷ 0 ∷ 2 ∷ 1 ∷ 0 ∷ []

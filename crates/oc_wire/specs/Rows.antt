@@ -14,7 +14,7 @@ pub record HasLeast (row : CodeRow) : Type 0 where
   pub kind : code_of shortest ≡ row.code
   pub exact : length (fields_bytes shortest) ≡ row.least
 
--- the least length of a row is that of what is behind the refusal's code, and there is such a refusal
+-- the least length of a row is that of what follows the refusal's code, and there is such a refusal
 pub record HasLength (row : CodeRow) : Type 0 where
   pub exact : (why : Refusal) → why_code why ≡ row.code → length (why_fields why) ≡ row.least
   pub some : Refusal

@@ -81,7 +81,7 @@ code_of (Rejoin seq) = 8
 code_of (Fetch have) = 12
 code_of (Chunk group start bytes last) = 13
 
--- its fields, one behind the other
+-- its fields, one after the other
 abbrev pub fields_bytes : Body → List ℕ
 fields_bytes Look = []
 fields_bytes (LookIs in_tree parent rate children) = flag in_tree ++ parent_bytes parent ++ eight rate ++ children_bytes children

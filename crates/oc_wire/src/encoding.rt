@@ -54,7 +54,7 @@ fn code_of(body: &Body) -> u8
     }
 }
 
-/// The fields, one behind the other.
+/// The fields, one after the other.
 fn put_fields(out: &mut Vec<u8>, body: &Body) -> Result<(), AllocError>
     requires { HasSpelling body.now }
     ensures { OnOk result (out.new.items ≡ out.old.items ++ fields_bytes body.now) }

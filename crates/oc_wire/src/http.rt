@@ -32,7 +32,7 @@ pub fn to_http(alloc: Global, message: &Message, host: &str) -> Result<Vec<u8>, 
     write_request(alloc, host, &body)
 }
 
-/// The message between `nodes` nodes that a request brings. What is behind the request's body is not
+/// The message between `nodes` nodes that a request brings. What follows the request's body is not
 /// looked at.
 pub fn from_http(alloc: Global, bytes: &[u8], nodes: u32) -> Result<Message, HttpWireFault>
     ensures exact { AnswersRequest nodes bytes.now result }

@@ -27,7 +27,7 @@ pub fn codes_are_distinct()
     let _refusals = distinct(&REFUSALS);
 }
 
-/// Each row has the least length of what is behind its code. It is computed.
+/// Each row has the least length of what follows its code. It is computed.
 pub fn least_lengths_are_exact()
     ensures kinds { AllByRecursion HasLeast CODES }
     ensures refusals { AllByRecursion HasLength REFUSALS }

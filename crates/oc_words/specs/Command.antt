@@ -7,7 +7,7 @@ use Rattle.clap.specs.declared.builder.arg.Arg.{Arg}
 use Rattle.clap.specs.declared.builder.command.Command.{Command}
 use Rattle.clap.specs.declared.builder.command.Command.TheViews.{out-Command as fields_of}
 
--- the words begin behind the program's name, one of them has to be a subcommand, and there is no
+-- the words begin after the program's name, one of them has to be a subcommand, and there is no
 -- subcommand `help`
 abbrev pub bare_command : App
 bare_command = on_top (λ s. record s {
@@ -24,7 +24,7 @@ required_rule id = record (new_rule id) { required = true }
 abbrev pub flag_rule : Text → Rule
 flag_rule id = record (new_rule id) { long = Some id; action = Some SetTrue }
 
--- an option, which is given by two hyphens and its id, and one word behind them
+-- an option, which is given by two hyphens and its id, and one word after them
 abbrev pub option_rule : Text → Rule
 option_rule id = record (new_rule id) { long = Some id }
 

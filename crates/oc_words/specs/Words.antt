@@ -81,7 +81,7 @@ asked_by refused named = None
 unfoldable pub asked : List Text → Option Request
 asked words = asked_by (verdict_of words) (subcommand_of command words)
 
--- The words stand as in a row of the table of commands, with their numbers in range, and an address that does not begin with `-`.
+-- The words are as in a row of the table of commands, with their numbers in range, and an address that does not begin with `-`.
 pub data IsPlain (words : List Text) : Type 0 where
   plain_replay : words ≡ codes "replay" ∷ [] → IsPlain words
   plain_summary : words ≡ codes "replay" ∷ codes "--summary" ∷ [] → IsPlain words

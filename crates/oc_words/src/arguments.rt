@@ -23,7 +23,7 @@ pub(crate) fn flag<'a>(alloc: Global, id: &'a str) -> Arg<'a>
     Arg::new(alloc, id).long(id).action(ArgAction::SetTrue)
 }
 
-/// An option, which is given by two hyphens and its id and one word behind them, or not.
+/// An option, which is given by two hyphens and its id and one word after them, or not.
 pub(crate) fn option<'a>(alloc: Global, id: &'a str) -> Arg<'a>
     ensures { IsArgument (option_rule id.entry.now) result }
 {

@@ -1,4 +1,4 @@
-//! The words behind the program's name: what they ask for, exactly as `clap` reads them.
+//! The words after the program's name: what they ask for, exactly as `clap` reads them.
 //!
 //! [`read_words`] gives the [`Request`] that the words make (`asked`), or that they make none. Which command
 //! `clap` reads them by is a closed term (`command` in `specs/Command`), to which the one that the builders make is proved

@@ -1,4 +1,4 @@
-//! Reads the words behind the program's name.
+//! Reads the words after the program's name.
 ghost use Rattle.std.specs.Prelude.{◌≡◌, ◌≢◌, ◌∷◌, [], List, Some, None, Ok, IfOk, codes, ok_or, true, false};
 ghost use Rattle.std.specs.Result.{result_ok};
 ghost use Rattle.clap.specs.Words.{Text, found_of, rows_of, subcommand_rows_of};
@@ -55,7 +55,7 @@ impl From<Why> for WordsFault {
     }
 }
 
-/// Reads the words, of which the first is behind the program's name.
+/// Reads the words, of which the first is after the program's name.
 ///
 /// `Usage` comes exactly where `clap` refuses them for another cause than memory and does not answer
 /// by help, or where a number is not spelled as one or is out of its range.

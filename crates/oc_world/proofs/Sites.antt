@@ -31,7 +31,7 @@ pub on_err : {A E : Type 0} (r : Result A E) (P : Type 0) → P → OnErr r P
 on_err (Ok a) P said = tt
 on_err (Err e) P said = said
 
--- and one more behind them
+-- and one more after them
 pub one_behind : (ps : List ProcessView) (q : ProcessView) → processes_of (ps ++ q ∷ []) ≡ processes_of ps ++ q.process ∷ []
 one_behind [] q = refl
 one_behind (p ∷ ps) q = ap (λ (l : List Process). p.process ∷ l) (one_behind ps q)

@@ -52,7 +52,7 @@ above_found n g k (i ∷ is) above e = by_name (above_found n g k is above.1) (s
   by_name rest true t = let same : Some i ≡ Some k = rw t at e in let is_k : i ≡ k = cc in subst (λ (m : Group). slice_cmp nat_cmp n m.name ≡ Less) is_k above.0
   by_name rest false t = rest (rw t at e)
 
--- a group that is put where it stands changes nothing
+-- a group that is put where it is changes nothing
 pub put_itself : (g : List ℕ) (k : Group) (ks : List Group) → IsAscending ks → group_of g ks ≡ Some k → with_group k ks ≡ ks
 put_itself g k [] up found = absurd cc
 put_itself g k (j ∷ js) up found = by_test (put_itself g k js up.1) (same_name g j.name) refl where

@@ -1,4 +1,4 @@
--- What one call of the world does, seen as a world of the model: processes stand by their places, and the source is what node 1 holds.
+-- What one call of the world does, seen as a world of the model: processes are given by their places, and the source is what node 1 holds.
 use Rattle.std.proofs.Common.{◌≡◌, ◌≢◌, ℕ, zero, suc, ◌+◌, ◌-◌, ◌<◌, ◌≤◌, Bool, true, false, ◌==◌, nat_le, if◌then◌else◌, Some, List, [], ◌∷◌, ◌++◌, length, slice_set, get_or, map, refl, sym, ap, ◌∙◌, subst, arith, length-append, length-set, eqb-true, eq-eqb}
 use Rattle.std.specs.List.{AllByRecursion, range_with_len}
 use Rattle.std.proofs.lemmas.List.{append_assoc, length-map, set-get_or}
@@ -215,7 +215,7 @@ among_at chain nodes ps x i p is at within here = all_at (IsAmong nodes chain) p
 pub count_ids : (ps : List Process) (net : List Message) → length (ids (world_of ps net)) ≡ length ps
 count_ids ps net = length-map ps (λ p. p.node.control.me)
 
--- the process of a node stands at its place
+-- the process of a node is at its place
 pub process_at : (ps : List Process) (x : ℕ) → IsNumbered ps → IsNode (length ps) x → process_in ps x ≡ get_or ps (x - 1) (process_in ps x)
 process_at ps x numbered is =
     let same : 1 + (x - 1) ≡ x = omega (arith, is.0) in

@@ -49,7 +49,7 @@ seen_as ps net = record { world = world_of (processes_of ps) net; kept = map (λ
 abbrev pub IsNumbered : List Process → Type 0
 IsNumbered ps = map (λ p. p.node.control.me) ps ≡ range_with_len 1 (length ps)
 
--- a process among so many nodes, with a chain of this length, and groups within the limits
+-- a process among `nodes` nodes, with a chain of this length, and groups within the limits
 pub record IsAmong (nodes chain : ℕ) (p : Process) : Type 0 where
   pub among : p.node.control.nodes ≡ nodes
   pub members : p.node.control.chain ≡ chain

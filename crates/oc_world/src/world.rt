@@ -208,7 +208,7 @@ impl World {
         Ok(Word::Node(answer))
     }
 
-    /// An act, in which the node stops once so many calls on its disk have worked.
+    /// An act, in which the node stops once `calls` calls on its disk have worked.
     fn stop(&mut self, act: &Act, calls: u8, image: u8) -> Result<Word, Memory>
         requires act { IsStepOf self.old.world act.now }
         requires calls { calls ≤ 4 }
@@ -272,7 +272,7 @@ impl World {
         Ok(lines)
     }
 
-    /// How a node stands; what its files recover, where it is down.
+    /// The state of a node; what its files recover, where it is down.
     pub fn sight(&self, node: NodeId) -> Result<Sight, Memory>
         requires { IsNode (length (ids self.now.world)) node }
         ensures { IfOk result (λ sight. sight ≡ sight_in self.now.world node) }
@@ -316,7 +316,7 @@ impl World {
     }
 
     /// Whether the world is settled: one node that is up acts as root, every other one that is up has a true
-    /// chain to it and its lease, no other lease stands, and nothing waits to be told. It takes no memory.
+    /// chain to it and its lease, no other lease is held, and nothing waits to be told. It takes no memory.
     pub fn settled(&self) -> bool
         ensures { IsTrue result ↔ IsSettled self.now.world }
     {

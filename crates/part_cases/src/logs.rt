@@ -16,7 +16,7 @@ const NODES: u32 = 6;
 /// More certificates than a log notes in a row.
 const MOST: u64 = 1000;
 
-/// A log among so many nodes.
+/// A log among six nodes.
 #[derive(Drop)]
 struct Told {
     log: ChangeLog,
@@ -86,7 +86,7 @@ fn note(told: &mut Told, cert: &Cert) -> Result<(), Fault> {
     Ok(())
 }
 
-/// Notes so many births of node 2, ascending by the number of the ask from 1 on.
+/// Notes the given number of births of node 2, ascending by the number of the ask from 1 on.
 fn note_births(told: &mut Told, mut fields: Fields<'_>) -> Result<(), Fault> {
     for seq in 1..=fields.number()? {
         let cert = Cert {
@@ -116,7 +116,7 @@ fn rebase(told: &mut Told, mut fields: Fields<'_>) -> Result<(), Fault> {
     Ok(())
 }
 
-/// Puts the first certificates that wait, at most so many, and the place behind them.
+/// Puts the first certificates that wait, at most the given number, and the place after them.
 fn take(
     alloc: Global,
     told: &Told,

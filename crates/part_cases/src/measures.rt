@@ -11,7 +11,7 @@ use test_tools::{Fault, Fields, Step};
 /// The number of peers.
 const PEERS: u32 = 3;
 
-/// The readings of so many peers.
+/// The readings of three peers.
 #[derive(Drop)]
 struct Readings {
     measures: Measures,

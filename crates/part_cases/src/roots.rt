@@ -32,7 +32,7 @@ fn put_asked(
     parent: Option<NodeId>,
     said: &mut String,
 ) -> Result<(), Fault> {
-    // What stood in the list before is no part of the answer.
+    // What was in the list before is no part of the answer.
     let mut asked = vec![in alloc; NodeId(77)]?;
     ask_order(me, chain, ancestors, parent, &mut asked)?;
     put_ids(&asked, said)

@@ -58,7 +58,7 @@ fn put_merged(table: &mut Table, mut fields: Fields<'_>, said: &mut String) -> R
     put_shown(said, &is_new)
 }
 
-/// A table of so many nodes with these certificates.
+/// A table of `nodes` nodes with these certificates.
 pub fn table_in(alloc: Global, nodes: u32, certs: Fields<'_>) -> Result<Table, Fault>
     requires least { 1 ≤ nodes }
     requires most { nodes ≤ MAX_NODES }

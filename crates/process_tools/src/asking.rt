@@ -32,7 +32,7 @@ pub fn is_ok(reply: &[u8]) -> bool {
     reply.starts_with(b"HTTP/1.1 200 OK\r\n")
 }
 
-/// What stands behind the head of a reply.
+/// What follows the head of a reply.
 pub fn body_of(reply: &[u8]) -> &[u8] {
     for at in 0..reply.len() {
         if let Some(rest) = reply.get(at..) {

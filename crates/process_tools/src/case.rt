@@ -80,7 +80,7 @@ impl<'a> CommandLine<'a> {
         self.behind("@")
     }
 
-    /// What stands behind a sign.
+    /// What follows a sign.
     fn behind(&self, sign: &str) -> Option<&'a str> {
         for piece in self.0.split_ascii_whitespace() {
             if let Some(rest) = piece.strip_prefix(sign) {

@@ -11,7 +11,7 @@ pub struct Ending<'a> {
     status: Option<i32>,
     /// The file with the output, or nothing.
     output: Option<&'a str>,
-    /// The line on the error output; behind `<` the file with all that stands there; or nothing.
+    /// The line on the error output; after `<` the file with all that is there; or nothing.
     errors: Option<&'a str>,
 }
 
@@ -40,7 +40,7 @@ impl<'a> Ending<'a> {
         self.output_difference(rt, &got.stdout)
     }
 
-    /// All that has to stand on the error output.
+    /// All that has to be on the error output.
     fn wanted_errors(&self, rt: &HostRuntime) -> io::Result<Vec<u8>> {
         let Some(errors) = self.errors else {
             return Ok(Vec::new(rt.alloc()));

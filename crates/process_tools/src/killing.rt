@@ -13,7 +13,7 @@ const KILLS: u32 = 50;
 /// What is published again and again.
 const PIECE: &str = "one more piece.\n";
 
-/// The time between the last publish and the kill is one of so many, a step apart.
+/// The time between the last publish and the kill is one of this many, a step apart.
 const DELAYS: u32 = 9;
 
 const STEP_MICROS: u64 = 150;
@@ -77,7 +77,7 @@ fn publish_all(rt: &HostRuntime, home: &Home, text: &[u8], count: u32) -> io::Re
     Ok(answered)
 }
 
-/// Asks once more, and waits for so many steps and not for the answer. The connection stays until then.
+/// Asks once more, and waits for `steps` steps and not for the answer. The connection stays until then.
 fn begin_last(rt: &HostRuntime, home: &Home, text: &[u8], steps: u32) -> io::Result<()> {
     let mut last = home.connect(rt)?;
     last.write_all(text)?;
@@ -133,7 +133,7 @@ fn are_pieces(bytes: &[u8]) -> bool {
         .all(|piece| piece == PIECE.as_bytes())
 }
 
-/// How many pieces so many bytes are, where that is a whole number.
+/// How many pieces `bytes` bytes are, where that is a whole number.
 fn whole_pieces(bytes: usize) -> Option<usize> {
     if bytes % PIECE.len() == 0 {
         Some(bytes / PIECE.len())

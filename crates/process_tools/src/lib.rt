@@ -1,4 +1,4 @@
-//! Runs of a program as processes, on real files and sockets, row by row: what `program_cases` is made of but for the
+//! Runs of a program as processes, on real files and sockets, row by row: what `program_cases` is made of, except the
 //! program itself.
 //!
 //! The program is the one that runs: it starts itself, with the words of a row. [`play`] plays the rows of `cases.txt`,

@@ -21,12 +21,12 @@ pub fn first_difference<'a>(seen: &'a [u8], wanted: &[u8]) -> Option<(usize, &'a
     Some((number, b""))
 }
 
-/// The first line of a text, without its end, and what stands behind it.
+/// The first line of a text, without its end, and what follows it.
 pub fn cut_line(text: &[u8]) -> (&[u8], &[u8]) {
     cut(text, b'\n')
 }
 
-/// What stands before the first such byte, and what stands behind it.
+/// What comes before the first such byte, and what follows it.
 fn cut(text: &[u8], end: u8) -> (&[u8], &[u8]) {
     for at in 0..text.len() {
         if let Some((front, [byte, behind @ ..])) = text.split_at_checked(at) {
@@ -57,7 +57,7 @@ fn first_word(text: &[u8]) -> &[u8] {
 }
 
 /// The excerpt of a text that has the lines of another excerpt: a line `bytes` with the text's length, and then
-/// lines of it, each behind its number.
+/// lines of it, each after its number.
 pub fn excerpt(alloc: Global, text: &[u8], like: &[u8]) -> io::Result<Vec<u8>> {
     let mut out = Vec::new(alloc);
     let length = format!(in alloc; "bytes {}\n", text.len())?;
@@ -78,7 +78,7 @@ fn number_of(line: &[u8]) -> Option<usize> {
         .ok()
 }
 
-/// Puts a line of a text behind its number.
+/// Puts a line of a text after its number.
 fn put_line(alloc: Global, out: &mut Vec<u8>, text: &[u8], number: usize) -> io::Result<()> {
     if let Some(line) = line_of(text, number) {
         let front = format!(in alloc; "{number} ")?;

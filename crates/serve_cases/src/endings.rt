@@ -1,4 +1,4 @@
-//! Connections that end behind each of their bytes.
+//! Connections that end after each of their bytes.
 
 use crate::outcome::words_of;
 use crate::requests::PARTS;
@@ -8,7 +8,7 @@ use crate::table::Scenes;
 use std::alloc::Global;
 use test_tools::{Fault, spelled_in};
 
-/// The words of a row: behind how many numbers of bytes, from none to all, one behind another, the connection
+/// The words of a row: after how many numbers of bytes, from none to all, one after another, the connection
 /// comes to the same lines and replies, and to which.
 pub struct Rows;
 
@@ -21,7 +21,7 @@ impl Scenes for Rows {
     }
 }
 
-/// Puts the words of the connection that ends behind each number of these bytes.
+/// Puts the words of the connection that ends after each number of these bytes.
 fn put_all(alloc: Global, setting: &Setting, bytes: &[u8], runs: &mut Runs) -> Result<(), Fault> {
     for count in 0..bytes.len().saturating_add(1) {
         let front = bytes.get(..count).unwrap_or(bytes);

@@ -7,7 +7,7 @@ use crate::table::Scenes;
 use std::alloc::Global;
 use test_tools::{Fault, Fields};
 
-/// The words of a row: how often, one behind another, it comes to the same end and lines, and to which.
+/// The words of a row: how often, one after another, it comes to the same end and lines, and to which.
 pub struct Rows;
 
 impl Scenes for Rows {

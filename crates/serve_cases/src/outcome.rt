@@ -101,7 +101,7 @@ fn live_over(
 /// What the words of a row tell of an outcome.
 #[derive(Clone, Copy)]
 pub enum Part<'a> {
-    /// How the run of the node ended, and this behind it.
+    /// How the run of the node ended, and this after it.
     End(&'a str),
     /// The lines.
     Lines,
@@ -111,7 +111,7 @@ pub enum Part<'a> {
     Dialled,
 }
 
-/// The words of what comes of a scene: these parts, one behind another.
+/// The words of what comes of a scene: these parts, one after another.
 pub fn words_of(
     alloc: Global,
     setting: &Setting,

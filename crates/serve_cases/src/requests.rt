@@ -15,7 +15,7 @@ pub const PARTS: [Part<'static>; 2] = [Part::Lines, Part::Written];
 /// The words of a row: the lines, and what is written on the connection. Where they are others as the link
 /// gives the bytes of the connection one by one, two by two and so on, those.
 ///
-/// A head is read byte by byte however it comes, so what is cut is what stands behind the first head.
+/// A head is read byte by byte however it comes, so what is cut is what follows the first head.
 pub struct Rows;
 
 impl Scenes for Rows {
@@ -46,7 +46,7 @@ fn first_other(
     Ok(None)
 }
 
-/// The words of a connection that gives so many bytes at a time at most.
+/// The words of a connection that gives at most `cut` bytes at a time.
 fn words_of_pieces(
     alloc: Global,
     setting: &Setting,

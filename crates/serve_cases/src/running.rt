@@ -8,7 +8,7 @@ use oc_service::{NodeEnd, run_node};
 use std::alloc::Global;
 use test_tools::Fault;
 
-/// Runs a node of the configuration of this text for so many turns, and says how it ended.
+/// Runs a node of the configuration of this text for `turns` turns, and says how it ended.
 #[allow(clippy::too_many_arguments)]
 pub fn run<D: Disk, L: Link, C: Clock, K: Sink>(
     alloc: Global,

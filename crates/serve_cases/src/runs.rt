@@ -1,9 +1,9 @@
-//! Words that come one behind another.
+//! Words that come one after another.
 
 use std::alloc::Global;
 use test_tools::Fault;
 
-/// Words, of which those that are the same one behind another are counted.
+/// Words, of which those that are the same one after another are counted.
 #[derive(Drop)]
 pub struct Runs {
     text: String,

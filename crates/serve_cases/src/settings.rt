@@ -1,4 +1,4 @@
-//! The settings of the rows, which stand in a table of their own.
+//! The settings of the rows, which are in a table of their own.
 
 use oc_base::NodeId;
 use std::alloc::Global;

@@ -1,4 +1,4 @@
-//! The steps of a scene, with `^` between them, such as `come:TEXT` or `seconds:5,7`: a word, and behind a
+//! The steps of a scene, with `^` between them, such as `come:TEXT` or `seconds:5,7`: a word, and after a
 //! `:` what it says.
 
 use std::alloc::Global;

@@ -8,11 +8,11 @@ use test_tools::{Fault, Row, tell};
 
 /// What the rows of a table come to.
 pub trait Scenes {
-    /// The words that come of what a row is given behind its setting.
+    /// The words that come of what a row is given after its setting.
     fn answer(alloc: Global, setting: &Setting, given: &str) -> Result<String, Fault>;
 }
 
-/// Plays a table, which is the file of its name with `.txt` behind it. Prints for each row the names of the
+/// Plays a table, which is the file of its name with `.txt` after it. Prints for each row the names of the
 /// table and of the row and `ok`, or the words that came in place of those that are wanted.
 pub fn play<T: Scenes, R: Files + Print + AllocGlobal>(
     rt: &R,

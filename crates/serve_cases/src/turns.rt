@@ -1,4 +1,4 @@
-//! Turns one behind another, with the dials and the probes of a node.
+//! Turns one after another, with the dials and the probes of a node.
 
 use crate::outcome::{Part, words_of};
 use crate::settings::Setting;

@@ -50,12 +50,12 @@ fn append<D: Disk>(alloc: Global, journal: &mut Journal<D>, body: &[u8]) -> Resu
     }
 }
 
-/// The disk of a text: what it holds, and behind a `/` how it fails.
+/// The disk of a text: what it holds, and after a `/` how it fails.
 ///
 /// It holds `bytes:HEX`, or the journal of the frames `frames:HEX,HEX`, or that of the one frame
 /// `long:HEX,END`, which begins so, goes on with bytes 3, and ends at this place of the file. Then
-/// `fail:CALL` has that one of its later calls fail, and `stop:CALLS,IMAGE` all writes and syncs behind so
-/// many, where a crash leaves this byte wherever something was not synced.
+/// `fail:CALL` has that one of its later calls fail, and `stop:CALLS,IMAGE` all writes and syncs after the
+/// first `CALLS`, where a crash leaves this byte wherever something was not synced.
 pub fn disk_in(alloc: Global, text: &str) -> Result<MemDisk, Fault> {
     let (held, failing) = text.split_once('/').unwrap_or((text, ""));
     let mut disk = held_in(alloc, Step::of(held))?;

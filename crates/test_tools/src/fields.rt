@@ -13,7 +13,7 @@ pub struct Fields<'a> {
 }
 
 impl<'a> Fields<'a> {
-    /// The fields of a text, where this character stands between each two.
+    /// The fields of a text, where this character comes between each two.
     pub fn of(text: &'a str, between: char) -> Fields<'a> {
         Fields {
             left: text,

@@ -4,7 +4,7 @@
 use crate::fault::Fault;
 use std::alloc::Global;
 
-/// A byte that comes more often than this, one behind another, is spelled once.
+/// A byte that comes more often than this, one after another, is spelled once.
 const LONG: usize = 64;
 
 /// What the next character of a spelled text is.
@@ -12,13 +12,13 @@ const LONG: usize = 64;
 enum State {
     /// A byte, or the start of an escape.
     Plain,
-    /// What a `\` stands before.
+    /// What follows a `\`.
     Escape,
     /// The first digit of a byte.
     High,
-    /// The second digit of a byte, behind this value of the first.
+    /// The second digit of a byte, after this value of the first.
     Low(u8),
-    /// A digit of how often bytes come, behind the digits of this value.
+    /// A digit of how often bytes come, after the digits of this value.
     Count(usize),
 }
 
@@ -65,7 +65,7 @@ fn take_low(reading: &mut Reading, high: u8, byte: u8) -> Result<(), Fault> {
     Ok(reading.bytes.push(high.wrapping_mul(16) | low)?)
 }
 
-/// Takes a digit of how often bytes come, or the colon behind them.
+/// Takes a digit of how often bytes come, or the colon after them.
 fn take_count(reading: &mut Reading, count: usize, byte: u8) -> Result<(), Fault> {
     if byte == b':' {
         reading.repeated = Some((reading.bytes.len(), count));
@@ -101,7 +101,7 @@ fn take_escape(reading: &mut Reading, byte: u8) -> Result<(), Fault> {
     Ok(())
 }
 
-/// The byte for which this one stands behind a `\`.
+/// The byte that this one stands for after a `\`.
 fn unescaped(byte: u8) -> Result<u8, Fault> {
     match byte {
         b'r' => Ok(b'\r'),

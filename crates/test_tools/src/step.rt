@@ -1,6 +1,6 @@
 use crate::fields::Fields;
 
-/// A step such as `put:/a,0,616263`: its word, and the fields behind the `:`.
+/// A step such as `put:/a,0,616263`: its word, and the fields after the `:`.
 #[derive(Clone, Copy)]
 pub struct Step<'a> {
     pub word: &'a str,

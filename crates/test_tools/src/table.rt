@@ -10,7 +10,7 @@ pub trait Cases {
     fn words(alloc: Global, table: &str, given: &str) -> Result<String, Fault>;
 }
 
-/// Plays the tables of these names, one after another. Each is the file of its name with `.txt` behind it.
+/// Plays the tables of these names, one after another. Each is the file of its name with `.txt` after it.
 /// Prints for each row the names of the table and of the row and `ok`, or the words that came in place of
 /// those that are wanted.
 pub fn play<T: Cases, R: Files + Print + AllocGlobal>(rt: &R, tables: &[&str]) -> io::Result<()> {

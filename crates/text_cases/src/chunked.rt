@@ -33,7 +33,7 @@ fn put_back(said: &mut String, alloc: Global, text: &[u8]) -> Result<(), Fault> 
     put_fed(said, &fed_in_pieces(alloc, &written, 7)?)
 }
 
-/// The bytes of the fields, each in hexadecimal, with `N*` before it where it stands N times.
+/// The bytes of the fields, each in hexadecimal, with `N*` before it where it occurs N times.
 fn bytes_in(alloc: Global, mut fields: Fields<'_>) -> Result<Vec<u8>, Fault> {
     let mut bytes = Vec::new(alloc);
     for _ in 0..100u8 {
@@ -172,7 +172,7 @@ fn comes_to(alloc: Global, front: &[u8], rest: &[u8], wanted: &Fed) -> Result<bo
     Ok(end == wanted.end && taken == wanted.taken && content == wanted.content)
 }
 
-/// Puts what comes of a text that is refused, and of the end of a good one behind it.
+/// Puts what comes of a text that is refused, and of the end of a good one after it.
 fn put_again(said: &mut String, alloc: Global, text: &[u8]) -> Result<(), Fault> {
     let mut reader = Unchunker::new(alloc)?;
     let mut content = Vec::new(alloc);

@@ -27,7 +27,7 @@ enum Form {
     Message,
     Response,
     Reply,
-    /// A reply of which it is not said how many bytes are left behind it.
+    /// A reply of which it is not said how many bytes are left after it.
     Flood,
 }
 
@@ -200,7 +200,7 @@ fn put_message<S: Source>(alloc: Global, said: &mut String, source: &mut S) -> R
     }
 }
 
-/// Puts the head of a request and the body behind it.
+/// Puts the head of a request and the body after it.
 fn put_body<S: Source>(
     alloc: Global,
     said: &mut String,

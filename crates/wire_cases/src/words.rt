@@ -189,7 +189,7 @@ fn put_rank(out: &mut String, rank: Rank) -> Result<(), Fault> {
     put_numbers(out, "", &[rank.epoch, u64::from(rank.depth)])
 }
 
-/// Puts a word and the numbers behind it.
+/// Puts a word and the numbers after it.
 fn put_numbers(out: &mut String, word: &str, numbers: &[u64]) -> Result<(), Fault> {
     out.push_str(word)?;
     for number in numbers {
@@ -202,7 +202,7 @@ fn put_number(out: &mut String, number: u64) -> Result<(), Fault> {
     put_value(out, " ", number)
 }
 
-/// Puts a value behind its name.
+/// Puts a value after its name.
 pub fn put_value<T: Display + Copy>(out: &mut String, name: &str, value: T) -> Result<(), Fault> {
     Ok(write!(out, "{name}{value}")?)
 }

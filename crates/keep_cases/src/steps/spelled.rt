@@ -6,8 +6,8 @@ use test_tools::{Fault, Fields};
 /// More fields than a text of bytes has.
 const MOST_FIELDS: u32 = 1_000;
 
-/// The bytes of fields, one behind the other: `7` is a number in eight bytes, `#7` in four, `.7` in one, and
-/// `x2f61` is bytes. In front of a `#` and a `.` a word may stand that says what it is.
+/// The bytes of fields, one after the other: `7` is a number in eight bytes, `#7` in four, `.7` in one, and
+/// `x2f61` is bytes. A word that says what it is may come before a `#` and a `.`.
 pub fn spelled(alloc: Global, mut fields: Fields<'_>) -> Result<Vec<u8>, Fault> {
     let mut bytes = Vec::new(alloc);
     for _ in 0..MOST_FIELDS {

@@ -76,7 +76,7 @@ impl Sockets {
     }
 
     /// Whether a reply is still on its way out on the current connection: the time for a further request begins
-    /// behind it. This is waited for only so long.
+    /// after it. This is waited for only so long.
     fn is_replying(&self, begun: u64, now: u64) -> bool {
         match &self.current {
             Some(current) => {
@@ -88,7 +88,7 @@ impl Sockets {
         }
     }
 
-    /// The current connection has so much time from now on.
+    /// The current connection has this much time from now on.
     fn allow(&mut self, now: u64, time: u64) {
         if let Some(current) = &mut self.current {
             current.until = now.saturating_add(time);
@@ -115,7 +115,7 @@ impl Sockets {
         matches!(self.awaits, Awaits::Further) && !self.whole.is_empty()
     }
 
-    /// Writes a front of the bytes on the current connection: what cannot go out at once is kept. It waits
+    /// Writes a prefix of the bytes on the current connection: what cannot go out at once is kept. It waits
     /// only where too much is kept.
     pub(crate) fn write<R: Clock>(&mut self, rt: &R, bytes: &[u8]) -> io::Result<usize>
         ensures within { IfOk result (λ n. n ≤ length bytes.now) }
@@ -183,8 +183,8 @@ impl Sockets {
         put
     }
 
-    /// These bytes were put on the current connection. Behind a reply a further request has its time from then
-    /// on, and so has a body behind the leave to send it.
+    /// These bytes were put on the current connection. After a reply a further request has its time from then
+    /// on, and so has a body after the leave to send it.
     fn note_reply(&mut self, bytes: &[u8], now: u64) {
         if self.has_read {
             self.begin_reply(bytes);
@@ -197,7 +197,7 @@ impl Sockets {
         self.allow(now, time);
     }
 
-    /// These bytes stand first behind a request. Only such can be the leave to send its body. A probe is no
+    /// These bytes are the first after a request. Only such can be the leave to send its body. A probe is no
     /// work, and neither is a message that is only acknowledged: who sends it may do so again and again.
     fn begin_reply(&mut self, bytes: &[u8]) {
         self.awaits = if bytes.starts_with(b"HTTP/1.1 100") {

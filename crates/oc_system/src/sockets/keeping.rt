@@ -55,7 +55,7 @@ impl Sockets {
         }
     }
 
-    /// So many bytes went out that were kept.
+    /// `sent` bytes went out that were kept.
     pub(super) fn note_sent(&mut self, sent: u64) {
         self.went = self.went.saturating_add(sent);
         self.unsent = self.unsent.saturating_sub(sent as usize);
@@ -101,7 +101,7 @@ impl Sockets {
     }
 
     /// Takes the connections that wait. Where too many are kept, the oldest of those that are still sending has
-    /// to go; where the requests of so many have come, the others go on waiting.
+    /// to go; where the requests of `MOST_KEPT` have come, the others go on waiting.
     fn accept(&mut self, now: u64) {
         for _ in 0..MOST_KEPT {
             if !self.knocks || self.whole.len() >= MOST_KEPT {

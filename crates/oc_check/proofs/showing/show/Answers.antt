@@ -3,7 +3,7 @@ use Rattle.oc_report.specs.Lines.{held_text}
 use Rattle.oc_report.specs.Shows.{show_text}
 use Rattle.oc_check.proofs.showing.show.Goals as goal
 
--- one block behind the other
+-- one block after the other
 pub returns : goal.returns
 returns g c =
     c.in_ok-put.ensures.ok

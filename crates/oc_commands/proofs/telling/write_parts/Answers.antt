@@ -5,7 +5,7 @@ use Rattle.oc_commands.specs.Run.{joined}
 use Rattle.oc_commands.proofs.Parts.{joined_more, joined_front}
 use Rattle.oc_commands.proofs.telling.write_parts.Goals as goal
 
--- what stands behind the last part
+-- what follows the last part
 abbrev no_part : Bor (List ℕ)
 no_part = record { ref_ptr = (0, 0); now = [] }
 

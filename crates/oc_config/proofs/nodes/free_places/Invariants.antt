@@ -1,6 +1,6 @@
 use Rattle.std.proofs.Common.{◌≡◌, None, replicate}
 use Rattle.oc_config.proofs.nodes.free_places.Given as goal
 
--- nothing stands at the places so far
+-- the places so far are empty
 abbrev pub invariant-loop : goal.invariant-loop
 invariant-loop l = l.places.items ≡ replicate l.counter None

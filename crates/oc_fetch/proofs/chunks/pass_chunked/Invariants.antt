@@ -1,4 +1,4 @@
--- What came led to the stage of the reader; its content was passed on, save what is gathered.
+-- What came led to the stage of the reader; its content was passed on, except what is gathered.
 use Rattle.std.proofs.Common.{◌+◌, ◌<◌, ◌≤◌, length}
 use Rattle.oc_fetch.specs.declared.extent.TheConstants.{MAX_OPEN_BYTES}
 use Rattle.oc_fetch.specs.declared.room.TheConstants.{PIECE_BYTES}

@@ -2,7 +2,7 @@ use Rattle.std.proofs.Common.{◌≤◌, length, take, drop, sym, arith, take-ap
 use Rattle.std.proofs.lemmas.List.{length-take-le}
 use Rattle.oc_fetch.proofs.content.move_piece.Goals as goal
 
--- a front of the piece was taken, and then a call failed
+-- a prefix of the piece was taken, and then a call failed
 pub returns-in-Err-clause-halted : goal.returns-in-Err-clause-halted
 returns-in-Err-clause-halted g c =
     let piece = take c.in-Ok.count c.read.new.buf in

@@ -1,4 +1,4 @@
--- So many bytes were moved.
+-- This many bytes were moved.
 use Rattle.std.proofs.Common.{◌≤◌, ◌-◌}
 use Rattle.oc_fetch.specs.Passing.{IsMoved}
 use Rattle.oc_fetch.specs.declared.extent.TheConstants.{MAX_OPEN_BYTES}

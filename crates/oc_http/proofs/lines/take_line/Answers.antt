@@ -7,7 +7,7 @@ use Rattle.oc_http.specs.Lines.{bytes_of, HasNoLineEnd}
 use Rattle.oc_http.proofs.Faults.{Rose-later}
 use Rattle.oc_http.proofs.lines.take_line.Goals as goal
 
--- behind the bytes before it a piece is as long as the bytes that are shorter than the most
+-- after the bytes before it a piece is as long as the bytes that are shorter than the most
 short : (before piece after : List ℕ) (n : ℕ) → after ≡ before ++ piece → n ≡ length after → n < MAX_HEAD_BYTES → length before + length piece < MAX_HEAD_BYTES
 short before piece after n grown long less = omega (arith, length-append before piece, ap length grown)
 

@@ -1,4 +1,4 @@
--- A front of the bytes was taken.
+-- A prefix of the bytes was taken.
 use Rattle.std.proofs.Common.{◌≤◌, ◌+◌, ◌-◌, length, take}
 use Rattle.oc_io.specs.Faults.{NoFall}
 use Rattle.oc_io.proofs.writing.write_all.Given as goal

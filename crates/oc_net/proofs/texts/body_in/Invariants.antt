@@ -2,7 +2,7 @@ use Rattle.std.proofs.Common.{◌≡◌, length}
 use Rattle.oc_net.specs.Net.{body_in}
 use Rattle.oc_net.proofs.texts.body_in.Given as goal
 
--- what is behind the first empty line is still ahead
+-- what follows the first empty line is still ahead
 abbrev pub invariant-loop-rest : goal.invariant-loop-rest
 invariant-loop-rest l = body_in l.rest ≡ body_in l.fn.text
 

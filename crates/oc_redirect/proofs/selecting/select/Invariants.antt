@@ -5,7 +5,7 @@ use Rattle.oc_model.specs.Table.{is_listed}
 use Rattle.oc_redirect.specs.Better.{is_better, best_of, with_rest}
 use Rattle.oc_redirect.proofs.selecting.select.Given as goal
 
--- the best so far and the best listed of the rest are the best listed of all; and the best so far stands before the rest
+-- the best so far and the best listed of the rest are the best listed of all; and the best so far comes before the rest
 abbrev pub invariant-loop-before : goal.invariant-loop-before
 invariant-loop-before l =
     record {

@@ -29,7 +29,7 @@ tell-requires-clause-time g c =
     let stage = g.T.Stage in
     (next_given stage.after (stage.world c.args.stage.now) c.args.events.now c.requires (stage.world c.loop-place.stage) c.index-events-place.result c.loop-place.place (omega arith) c.index-events-place.is c.loop-place.invariant.way).time
 
--- one event more is gathered, and a front of what is gathered is passed on
+-- one event more is gathered, and a prefix of what is gathered is passed on
 pub loop-place-preserved : goal.loop-place-preserved
 loop-place-preserved g c =
     let stage = g.T.Stage in
@@ -49,14 +49,14 @@ loop-place-preserved g c =
       count = omega (arith, c.in_ok-pass_on.ensures.count);
     }
 
--- a front was taken when memory ran out
+-- a prefix was taken when memory ran out
 pub returns-in_err-sent-clause-memory : goal.returns-in_err-sent-clause-memory
 returns-in_err-sent-clause-memory g c = λ _. stops g.K.Sink.takes c.args.sink.now c.loop-place.sink c.loop-place.out.items _ _ c.loop-place.invariant.written
 
 pub returns-in_err-put_end-clause-memory : goal.returns-in_err-put_end-clause-memory
 returns-in_err-put_end-clause-memory g c = λ _. stops g.K.Sink.takes c.args.sink.now c.loop-place.sink c.loop-place.out.items _ _ c.loop-place.invariant.written
 
--- a front was taken when a call failed
+-- a prefix was taken when a call failed
 pub returns-in_err-pass_on-clause-failed : goal.returns-in_err-pass_on-clause-failed
 returns-in_err-pass_on-clause-failed g c = λ _.
     let stage = g.T.Stage in

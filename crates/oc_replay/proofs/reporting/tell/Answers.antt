@@ -13,7 +13,7 @@ put_block-requires g c =
     ap ids c.in_ok-said.ensures.world ∙ g.met.T.Stage.keeps_ids (stage.world c.args.stage.now) event c.requires.event in
     subst (λ (xs : List ℕ). IsEvent (length xs) event) (sym same) c.requires.event
 
--- the line, the messages and the block, one behind the other
+-- the line, the messages and the block, one after the other
 pub returns-clause-text : goal.returns-clause-text
 returns-clause-text g c =
     let stage = g.T.Stage in

@@ -2,7 +2,7 @@ use Rattle.std.proofs.Common.{◌≡◌, ◌∙◌, ℕ, List, length, take, ap,
 use Rattle.oc_replay.specs.Summary.{run_summary, summary_text}
 use Rattle.oc_replay.proofs.summing.summarize.Goals as goal
 
--- a front of the summary was taken when a call failed
+-- a prefix of the summary was taken when a call failed
 pub returns-in_err-write_all-clause-failed : goal.returns-in_err-write_all-clause-failed
 returns-in_err-write_all-clause-failed g c = λ _.
     let failed = c.in_err-write_all.ensures.fails in

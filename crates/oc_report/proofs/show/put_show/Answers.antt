@@ -4,7 +4,7 @@ use Rattle.oc_report.specs.Shows.{list_line, listed_text, node_line}
 use Rattle.oc_report.proofs.Shown.{four_parts}
 use Rattle.oc_report.proofs.show.put_show.Goals as goal
 
--- one line behind the other
+-- one line after the other
 pub returns : goal.returns
 returns c =
     four_parts c.args.out.now.items c.put_node_line.new.out.items c.put_list_line.new.out.items c.put_list_line-2.new.out.items c.put_list_line-3.new.out.items

@@ -3,7 +3,7 @@ use Rattle.oc_rules.specs.Listing.{rule_text, shadow_text}
 use Rattle.oc_rules.proofs.Behind.{last_part, one_more}
 use Rattle.oc_rules.proofs.listing.put_line.Goals as goal
 
--- one part behind the other
+-- one part after the other
 pub returns : goal.returns
 returns c =
     let out = c.args.out.now.items in

@@ -1,4 +1,4 @@
--- So many turns were made, and the node is as these left it.
+-- This many turns were made, and the node is as these left it.
 use Rattle.std.proofs.Common.{◌≡◌, false, Some, List}
 use Rattle.oc_turn.specs.Deeds.{Deed, outside_of, sight_of}
 use Rattle.oc_turn.specs.Scenes.{Did, scene, setting}

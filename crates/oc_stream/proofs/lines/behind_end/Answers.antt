@@ -1,4 +1,4 @@
--- The line feed behind a chunk.
+-- The line feed after a chunk.
 use Rattle.oc_stream.proofs.ChunkSteps.{chunk_feed}
 use Rattle.oc_stream.proofs.lines.behind_end.Goals as goal
 

@@ -27,7 +27,7 @@ returns-clause-refused g c =
     let answered = rw c.deref.ensures.value at c.read_request.ensures in
     refuses g.S.Source.gives g.S.Source.fails ReadsRequest read_request request_fields c.args.source.now c.take_request.new.source _ c.take_request.new.bytes.items answered.0 c.read_request.result taken.0 answered.1 taken.1.fits answered.2
 
--- no failed call is told behind a whole head
+-- no failed call is told after a whole head
 pub returns-clause-cause : goal.returns-clause-cause
 returns-clause-cause g c = λ is. absurd (never_source read_request request_fields c.read_request.ensures.0 c.read_request.result c.read_request.ensures.2 is)
 

@@ -1,4 +1,4 @@
--- A fault in the body, behind the head.
+-- A fault in the body, after the head.
 use Rattle.std.proofs.Common.{◌++◌, inl, inr, refl, arith}
 use Rattle.std.proofs.lemmas.Result.{err_from_is_err_and}
 use Rattle.oc_http.proofs.Faults.{Rose-later, same_cause}
@@ -41,7 +41,7 @@ returns-in_err-body-clause-cause g c =
 pub returns-clause-count : goal.returns-clause-count
 returns-clause-count g c = omega (arith, c.read_start.ensures.count, c.take_content.ensures.count)
 
--- the head, and the body behind it
+-- the head, and the body after it
 pub returns-clause-read : goal.returns-clause-read
 returns-clause-read g c =
     let head = c.in_ok-head.ensures.read in

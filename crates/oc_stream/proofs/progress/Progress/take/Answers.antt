@@ -34,7 +34,7 @@ open_fine (in_closing front) goes = refl
 open_fine ended goes = refl
 open_fine (refused fault) goes = cc
 
--- what is still wanted behind one step and the next
+-- what is still wanted after one step and the next
 wants_then : (a b c : Stage) (m n : ℕ) → true ≡ not (is_final b) → StillWants a m b → StillWants b n c → StillWants a (m + n) c
 wants_then a b c m n goes first second = λ fine.
     let before = first (open_fine b goes) in

@@ -1,4 +1,4 @@
--- The front of a piece that leads to a refusal.
+-- The prefix of a piece that leads to a refusal.
 use Rattle.std.proofs.Common.{◌∙◌, sym, subst}
 use Rattle.oc_stream.specs.Stages.{Stage}
 use Rattle.oc_stream.specs.Taken.{RefusesPiece}

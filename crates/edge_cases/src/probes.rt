@@ -22,7 +22,7 @@ pub fn put_words(alloc: Global, given: &str, said: &mut String) -> Result<(), Fa
     put_timed(alloc, said, &mut clock, fields)
 }
 
-/// Puts what comes of the link of these fields, by this clock.
+/// Puts what results from the link of these fields, by this clock.
 fn put_timed<C: Clock>(
     alloc: Global,
     said: &mut String,

@@ -42,7 +42,7 @@ pub fn texts_in(alloc: Global, mut list: Fields<'_>) -> Result<Vec<Vec<u8>>, Fau
     Ok(texts)
 }
 
-/// Puts a text as rows write it, except that `=` stands for itself, and of a long one its length.
+/// Puts a text as rows write it, except that `=` stands for itself, and for a long one its length.
 pub fn put_text(out: &mut String, text: &[u8]) -> Result<(), Fault> {
     let length = text.len();
     if length == 0 {

@@ -1,4 +1,4 @@
-//! Inputs that are stopped in the midst of what they write.
+//! Inputs that are stopped in the middle of what they write.
 
 use crate::disks::RowDisk;
 use crate::keeps;

@@ -27,7 +27,7 @@ abbrev pub fault_at : ℕ → LineFault → ScheduleFault
 fault_at i (lines.Cause why) = Line i why
 fault_at i lines.Memory = Memory
 
--- the same of one line, seen by view, where the only fault is a cause
+-- the same for one line, seen by view, where the only fault is a cause
 abbrev pub GivesLineBy : {X A : Type 0} → (X → A) → Result X LineFault → Result A Why → Type 0
 GivesLineBy view (Ok x) read = read ≡ Ok (view x)
 GivesLineBy view (Err (lines.Cause why)) read = read ≡ Err why

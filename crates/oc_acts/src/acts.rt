@@ -1,6 +1,6 @@
 //! Act lines: for each kind how it is read, and in `put_act` how it is written.
 //!
-//! A further kind is one more pair of definitions in `specs/Acts`, one reader here, and a branch of
+//! A new kind needs one more pair of definitions in `specs/Acts`, one reader here, and a branch of
 //! [`act`] and [`put_act`].
 
 ghost use Rattle.std.specs.Prelude.{◌≡◌, [], ◌∷◌, ◌++◌, OnOk, decimal};

@@ -3,11 +3,11 @@ use Rattle.std.specs.Prelude.{◌≡◌, ℕ, ◌+◌, ◌-◌, ◌^◌, ◌≤�
 use Rattle.std.proofs.Common.{inl, inr, arith}
 use Rattle.std.proofs.lemmas.List.{length-append}
 
--- the last value of a u64
+-- the greatest u64
 abbrev pub last_count : ℕ
 last_count = 2 ^ 64 - 1
 
--- the counter rose by n, or both it and the sum reach the last value of a u64, where it stays
+-- the counter rose by n, or both it and the sum reach the greatest u64, where it stays
 abbrev pub Rises : ℕ → ℕ → ℕ → Type 0
 Rises old n new = (new ≡ old + n) ⊎ ((last_count ≤ new) × (last_count ≤ old + n))
 

@@ -24,7 +24,7 @@ module _ {R : Type 0} (remaining : R → Option (List ℕ)) where
     pub passed : Passed old bytes new
     pub faults : new.faults ≡ counted old.faults
 
-  -- the last read that had room found nothing, and nothing is left that is known
+  -- the last read that had room found nothing, and nothing that is known is left
   pub record HasEnded (source : ReaderSource R) : Type 0 where
     pub found_nothing : IsTrue source.at_end
     pub known : IsAtEnd (remaining source.reader)

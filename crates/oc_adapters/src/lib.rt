@@ -2,8 +2,8 @@
 //!
 //! Their relations are std's own words. From one moment to a later one a [`ReaderSource`] gave the bytes
 //! that its reader lost of those that it had left, and a [`WriterSink`] took the bytes by which its writer
-//! grew, where the reader and the writer tell that. Of every reader and writer it holds that a counter rose
-//! by as many bytes as passed, and that a source has ended only once a read found nothing.
+//! grew, where the reader and the writer tell that. For every reader and writer a counter rose by as many
+//! bytes as passed, and a source has ended only once a read found nothing.
 #![tactic(auto)]
 
 mod reader_source;

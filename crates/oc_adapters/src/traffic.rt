@@ -1,4 +1,4 @@
-/// What passed through an adapter. A count stays at its last value.
+/// What passed through an adapter. A count that has reached the greatest `u64` stays there.
 #[derive(Clone, Copy, Debug, PartialEq, Eq)]
 pub struct Traffic {
     /// How many bytes passed.

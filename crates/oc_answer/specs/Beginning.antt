@@ -1,4 +1,4 @@
--- A source that tells whether any byte came of it.
+-- A source that tells whether any byte of it came.
 use Rattle.std.specs.Prelude.{◌≡◌, ℕ, Bool, true, false, ◌||◌, Option, List, [], ◌∷◌, ◌++◌, refl}
 use Rattle.std.proofs.Common.{ap, ◌∙◌}
 use Rattle.oc_outside.specs.Exchange.{Hears, HearsThenBreaks}

@@ -1,4 +1,4 @@
--- A connection that ended in the midst of a request.
+-- A connection that ended partway through a request.
 use Rattle.std.specs.Prelude.{◌≡◌, ℕ, ◌+◌, Bool, true, false, Option, Some, None, List, [], ◌∷◌, ◌++◌, length}
 use Rattle.std.specs.Option.{option_map}
 use Rattle.oc_keep.specs.Trials.{after_inputs}
@@ -38,11 +38,11 @@ WritesFront text old new = (front : List ℕ) × IsFront front text × Told (OnC
 abbrev pub WritesNothing : Option Story → Option Story → Type 0
 WritesNothing old new = Told (OnCurrent (Writes [])) old new
 
--- nothing was written on it but at most the leave to send a body
+-- nothing was written on it except at most the permission to send a body
 abbrev pub OnlyLeave : Option Story → Option Story → Type 0
 OnlyLeave old new = WritesFront CONTINUE.now old new
 
--- the text that the input of a request is answered
+-- the text by which the input of a request is answered
 abbrev pub answer_text : List (List ℕ) → Asks → Bool → Input → Node → List ℕ
 answer_text addresses asked last i n = whole_text asked (response_for addresses asked last i n) (step n i).node.groups
 
@@ -66,26 +66,26 @@ reply_under ends.Sink = Noting (failed_line true)
 reply_under end = Idle
 
 -- What was read of a request of which no input was taken, by what was under way where it ended so: the input that it asks for, the line
--- of what refuses it, or nothing, for want of memory.
+-- of what refuses it, or nothing, because memory ran out.
 abbrev pub CutsHearing : Terms → ℕ → TurnEnd → Under → Option Story → Option Story → Type 0
 CutsHearing t number end Idle old new = end ≡ ends.Memory
 CutsHearing t number end (Taking i) old new = (asked : Asks) × (last : Bool) × HearsRequest t number asked (Some i) last old new
 CutsHearing t number end (Noting line) old new = (refused : Refused) × IsRefused t number refused old new × (line ≡ note_line (why_text refused))
 
--- What the deed of a request that ended so in its midst, with this under way, is on its connection: its input was taken, and a prefix of
--- its reply was written; or none was taken, and nothing was written but the leave to send its body.
+-- What the deed of a request that ended so partway through, with this under way, is on its connection: its input was taken, and a prefix of
+-- its reply was written; or none was taken, and nothing was written but the permission to send its body.
 abbrev pub CutsOff : Terms → List (List ℕ) → ℕ → TurnEnd → Under → Deed → Node → Option Story → Option Story → Type 0
 CutsOff t addresses number end under (Answers i failed) n old new = IsCutReply t addresses number i end n old new × (under ≡ reply_under end)
 CutsOff t addresses number end under Talks n old new = OnlyLeave old new × CutsHearing t number end under old new
 CutsOff t addresses number end under d n old new = ⊥
 
--- the same of an input, from the moment on at which its request was read
+-- the same for an input, from the moment on at which its request was read
 abbrev pub CutsInput : List (List ℕ) → Asks → Bool → Input → TurnEnd → Under → Deed → Node → Option Story → Option Story → Type 0
 CutsInput addresses asked last i end under (Answers j failed) n old new = (j ≡ i) × WritesUntil end (answer_text addresses asked last i n) old new × (under ≡ reply_under end)
 CutsInput addresses asked last i end under Talks n old new = (new ≡ old) × (under ≡ Taking i)
 CutsInput addresses asked last i end under d n old new = ⊥
 
--- the input of a request that was read is under way, or nothing, for want of memory
+-- the input of a request that was read is under way, or nothing, because memory ran out
 abbrev pub IsUnderOf : Request → TurnEnd → Under → Type 0
 IsUnderOf request end Idle = end ≡ ends.Memory
 IsUnderOf request end (Taking i) = input_in request.entry ≡ Some i
@@ -104,7 +104,7 @@ CutsResponse addresses asked last answer reply groups end old new =
     Fits asked (response_to asked answer reply (is_sealed asked (shelf groups)) addresses last).content groups
     → WritesUntil end (whole_text asked (response_to asked answer reply (is_sealed asked (shelf groups)) addresses last) groups) old new
 
--- requests that kept the connection, and one that ended so in its midst
+-- requests that kept the connection, and one that ended so partway through
 pub record CutsAll (t : Terms) (addresses : List (List ℕ)) (end : TurnEnd) (under : Under) (ds : List Deed) (n : Node) (old new : Option Story) : Type 0 where
   pub before : List Deed
   pub last : Deed

@@ -49,25 +49,25 @@ SaysOn false text old new = Told (OnCurrent (SaysFrontThenBreaks text)) old new
 abbrev pub HasEnded : Option Story → Type 0
 HasEnded story = IfTold story IsReadOut
 
--- the leave to send the body, where the client waits for it
+-- the permission to send the body, where the client waits for it
 abbrev pub leave_for : Head → List ℕ
 leave_for head = if awaits_continue head then CONTINUE.now else []
 
--- a head was read that asks this under the access rules
+-- a head that asks this under the access rules was read
 pub record Opens (rules : List Rule) (head : Head) (asks : Asks) (old new : Option Story) : Type 0 where
   pub bytes : List ℕ
   pub heard : HearsOn bytes old new
   pub says : SaysRequest bytes head
   pub asks_are : asked head rules ≡ Ok asks
 
--- after the leave to send it the body was read
+-- after the permission to send it the body was read
 pub record HearsBody (head : Head) (body : List ℕ) (old new : Option Story) : Type 0 where
   pub between : Option Story
   pub leave : SaysOn true (leave_for head) old between
   pub heard : HearsOn body between new
   pub long : length body ≡ head.length
 
--- a whole request was read, which asks this; this input comes of it, if any; and whether it is the last of its connection
+-- a whole request was read, which asks this; this input results from it, if any; and whether it is the last of its connection
 pub record HearsRequest (t : Terms) (number : ℕ) (asks : Asks) (input : Option Input) (last : Bool) (old new : Option Story) : Type 0 where
   pub head : Head
   pub body : List ℕ
@@ -77,7 +77,7 @@ pub record HearsRequest (t : Terms) (number : ℕ) (asks : Asks) (input : Option
   pub input_is : input_asked t.nodes t.me asks body ≡ Ok input
   pub last_is : last ≡ is_last head number
 
--- the connection ended before the first byte of a further request
+-- the connection ended before the first byte of another request
 pub record EndsBefore (number : ℕ) (old new : Option Story) : Type 0 where
   pub further : 1 < number
   pub heard : HearsOn [] old new
@@ -111,7 +111,7 @@ pub record RefusedByRoute (rules : List Rule) (refused : Refused) (old new : Opt
   pub says : SaysRequest bytes head
   pub asks_none : asked head rules ≡ Err refused
 
--- the leave to send the body could not be written
+-- the permission to send the body could not be written
 pub record RefusedByLeave (head : Head) (refused : Refused) (old new : Option Story) : Type 0 where
   pub cut : SaysOn false (leave_for head) old new
   pub named : refused ≡ refusals.Source
@@ -147,12 +147,12 @@ IsRefused t number refused old new =
 
 -- What the calls give
 
--- what it means that no head was read, begun where a byte came: nothing where a further request did not begin, and else a refusal
+-- what it means that no head was read, begun where a byte came: nothing where another request did not begin, and else a refusal
 abbrev pub unread : HttpFault → ℕ → Bool → Result (Option Head) RouteFault
 unread http.Ended number false = if nat_lt 1 number then Ok None else Err (faults.Refused refusals.Ended)
 unread fault number begun = Err (fault_of_http fault)
 
--- what came of the reading of a head
+-- the result of reading a head
 abbrev pub ReadsHead : ℕ → Result (Option Head) RouteFault → Option Story → Option Story → Type 0
 ReadsHead number (Ok (Some head)) old new = (bytes : List ℕ) × HearsOn bytes old new × SaysRequest bytes head
 ReadsHead number (Ok None) old new = EndsBefore number old new
@@ -164,7 +164,7 @@ abbrev pub NoBody : Head → RouteFault → Option Story → Option Story → Ty
 NoBody head (faults.Refused refused) old new = RefusedByLeave head refused old new ⊎ RefusedInBody head refused old new
 NoBody head faults.Memory old new = Unit {0}
 
--- what came of the reading after a head
+-- the result of reading what follows a head
 abbrev pub ReadsBehind : Terms → ℕ → Head → Result (Option Request) RouteFault → Option Story → Option Story → Type 0
 ReadsBehind t number head (Ok (Some request)) old new =
     (body : List ℕ) × (asked head t.rules ≡ Ok request.asks) × HearsBody head body old new

@@ -29,7 +29,7 @@ abbrev pub sent_back : Option ℕ → List Message → Option Message
 sent_back None sends = None
 sent_back (Some sender) sends = reply_to sends sender
 
--- a request was answered after its line; where the write of its reply failed, that is told
+-- a request was answered after its line; where the write of its reply failed, a line says so
 pub record Replied {D K : Type 0} (view : D → DiskView) (takes : K → List ℕ → K → Type 0) (count : K → ℕ) (failed : Bool) (old new : KeptView D) (sink after : K) : Type 0 where
   pub looks : LooksOnly view old new
   pub text : takes sink (failed_line failed) after

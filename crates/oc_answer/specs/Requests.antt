@@ -12,7 +12,7 @@ use Rattle.oc_turn.specs.Lines.{IsEntry, input_in}
 use Rattle.oc_turn.specs.declared.entry.Entry.{Entry}
 use Rattle.oc_answer.specs.declared.requests.Request.{Request}
 
--- the entry is that of the input that comes of what was asked and of the body, unless memory ran out
+-- the entry is that of the input that results from what was asked and from the body, unless memory ran out
 abbrev pub EntryOf : ℕ → ℕ → Asks → List ℕ → Result (Option Entry) RouteFault → Type 0
 EntryOf nodes me asked body (Ok entry) = input_asked nodes me asked body ≡ Ok (input_in entry)
 EntryOf nodes me asked body (Err (faults.Refused refused)) = input_asked nodes me asked body ≡ Err refused
@@ -23,7 +23,7 @@ abbrev pub Belongs : Asks → Input → Type 0
 Belongs (asks.Client group area start manner) i = i ≡ inputs.Client area start group
 Belongs asked i = Unit {0}
 
--- what is asked is within its ranges, and the input that comes of it is one of the node me
+-- what is asked is within its ranges, and the input that results from it is one of the node me
 pub record IsLawfulRequest (nodes me : ℕ) (request : Request) : Type 0 where
   pub asks : IsAsked request.asks
   pub entry : IfSome request.entry (IsEntry nodes me)

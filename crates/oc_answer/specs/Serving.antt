@@ -53,7 +53,7 @@ abbrev pub is_sealed : Asks → List Shelf → Bool
 is_sealed (asks.Client group area start manner) lines = is_line_sealed group lines
 is_sealed asked lines = false
 
--- what a request is answered whose input comes to this node
+-- what a request whose input comes to this node is answered
 abbrev pub response_for : List (List ℕ) → Asks → Bool → Input → Node → Response
 response_for addresses asked last i n =
     response_to asked (step n i).answer (back_to_sender i (step n i).sends) (is_sealed asked (shelf (step n i).node.groups)) addresses last
@@ -81,7 +81,7 @@ content_text asked content groups = []
 abbrev pub FitsIn : List ℕ → Content → List Group → Type 0
 FitsIn group content groups = content.count ≤ length (bytes_of group groups) - content.start
 
--- the same of what a client is sent
+-- the same for what a client is sent
 abbrev pub Fits : Asks → Option Content → List Group → Type 0
 Fits (asks.Client group area start manner) (Some content) groups = FitsIn group content groups
 Fits asked content groups = Unit {0}
@@ -111,7 +111,7 @@ abbrev pub RepliesTo : List (List ℕ) → Asks → Bool → Input → Bool → 
 RepliesTo addresses asked last i said kept n old new =
     IsSaid said (whole_text asked (response_for addresses asked last i n) (step n i).node.groups) (response_for addresses asked last i n).connection kept old new
 
--- what a request is answered that is no input
+-- what a request that is no input is answered
 abbrev pub shown : List (List ℕ) → Asks → Bool → Response
 shown addresses asked last = response_to asked answers.Ok None false addresses last
 
@@ -167,7 +167,7 @@ KeepOn t addresses number [] n old new = new ≡ old
 KeepOn t addresses number (d ∷ ds) n old new =
     (between : Option Story) × Serves t addresses number d Keep n old between × KeepOn t addresses (number + 1) ds (after_inputs n (inputs_of (d ∷ []))) between new
 
--- The requests of a connection: each but the last kept it, and the last did not. There are at most 16.
+-- The requests of a connection: each except the last kept it, and the last did not. There are at most 16.
 pub record ServesAll (t : Terms) (addresses : List (List ℕ)) (ds : List Deed) (n : Node) (old new : Option Story) : Type 0 where
   pub before : List Deed
   pub last : Deed

@@ -7,7 +7,7 @@ ghost use Rattle.oc_answer.specs.Beginning.{Brings, Brings-nothing, Brings-then,
 use oc_io::{Failed, Source};
 use oc_outside::Link;
 
-/// The current connection of a link that is lent, as a source that tells whether any byte came of it.
+/// The current connection of a link that is lent, as a source that tells whether any byte of it came.
 #[derive(Drop)]
 pub struct Begun<'a, L: Link> {
     /// The lender's link.

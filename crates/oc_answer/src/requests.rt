@@ -21,7 +21,7 @@ use oc_routes::{Asks, CONTINUE, Refused, RouteFault, awaits_continue, input_of, 
 use oc_turn::{Entry, input_entry};
 use std::alloc::Global;
 
-/// What a request asks, with the input that comes of it, if any, and its line.
+/// What a request asks, with the input that results from it, if any, and its line.
 #[derive(Debug, Drop)]
 pub struct Request {
     pub asks: Asks,
@@ -31,7 +31,7 @@ pub struct Request {
 }
 
 /// Reads the request of this number, counted from 1, from the current connection. None where the
-/// connection ended before a further request.
+/// connection ended before another request.
 pub(crate) fn read_request<L: Link>(
     alloc: Global,
     reader: &mut HeadReader,
@@ -54,7 +54,7 @@ pub(crate) fn read_request<L: Link>(
     }
 }
 
-/// Reads the head of a request. None where the connection ended before a further one.
+/// Reads the head of a request. None where the connection ended before another one.
 fn read_head<L: Link>(
     reader: &mut HeadReader,
     link: &mut L,
@@ -73,7 +73,7 @@ fn read_head<L: Link>(
     }
 }
 
-/// What it means that no head was read of the request of this number, `begun` where a byte came of it.
+/// What it means that no head of the request of this number was read, `begun` where a byte of it came.
 fn unread(fault: HttpFault, number: u64, begun: bool) -> Result<Option<Head>, RouteFault>
     ensures { result ≡ unread fault number begun }
 {
@@ -110,7 +110,7 @@ fn read_behind<L: Link>(
     }))
 }
 
-/// Takes the body of a request, after the leave to send it where the client waits for that.
+/// Takes the body of a request, after the permission to send it where the client waits for that.
 fn take_body<L: Link>(alloc: Global, link: &mut L, head: &Head) -> Result<Vec<u8>, RouteFault>
     ensures body { IfOk result (λ body. HearsBody head.now body.items (L.story link.old) (L.story link.new)) }
     ensures none { IfErr result (λ fault. NoBody head.now fault (L.story link.old) (L.story link.new)) }
@@ -147,7 +147,7 @@ fn read_rest<L: Link>(alloc: Global, link: &mut L, head: &Head) -> Result<Vec<u8
     read_body(alloc, &mut Current::new(link), head)
 }
 
-/// The input that comes of a request, with its line.
+/// The input that results from a request, with its line.
 fn entry_of(
     alloc: Global,
     asks: &Asks,

@@ -172,7 +172,7 @@ pub fn took_yes(
 
 // The rule Take a no
 
-/// What comes of a refusal: one that names a chain member beneath leads a node from outside the
+/// What results from a refusal: one that names a chain member beneath leads a node from outside the
 /// chain there.
 fn refused(draft: &mut Draft, why: Refusal) -> Result<(), Memory>
     ensures { OnOk result (draft.new ≡ goes draft.old (refused draft.old.step why)) }

@@ -1,7 +1,7 @@
 use Rattle.std.specs.Prelude.{◌≡◌, ◌<◌, ◌⊎◌, true, false}
 use Rattle.oc_base.specs.declared.cert.Cert.{Cert}
 
--- of two words on one subject: the greater ask number is later, at one number death is, and at one state the greater own number
+-- which of two words on one subject is later: the greater ask number; at one number death; and at one state the greater own number
 abbrev pub Outranks : Cert → Cert → Type 0
 Outranks k f =
     (f.seq < k.seq)

@@ -11,7 +11,7 @@ use Rattle.oc_base.specs.declared.why.Why.TheVariants.{Count, Number, Range}
 abbrev pub words : List ℕ → List (List ℕ)
 words line = filter (λ word. not (length word == 0)) (slice_split (λ b. b == byte " ") line)
 
--- there is a field more
+-- there is one more field
 abbrev pub IsMore : List (List ℕ) → Type 0
 IsMore fields = (a : List ℕ) × (rest : List (List ℕ)) × (fields ≡ a ∷ rest)
 
@@ -56,7 +56,7 @@ number_in least most field =
 abbrev pub node_in : ℕ → List ℕ → Result ℕ Why
 node_in nodes field = number_in 1 nodes field
 
--- what a call gave, seen by view, is what is read of the words
+-- what a call gave, seen by view, is what is read from the words
 abbrev pub GivesFields : {X A : Type 0} → (X → A) → Result X Why → Result A Why → Type 0
 GivesFields view (Ok x) read = read ≡ Ok (view x)
 GivesFields view (Err why) read = read ≡ Err why

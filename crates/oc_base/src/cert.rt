@@ -3,7 +3,7 @@ ghost use Rattle.oc_base.specs.Cert.{Outranks};
 
 use crate::NodeId;
 
-/// A birth or death certificate: ask number `seq` of the subject went to the parent, that lease is
+/// A birth or death certificate: the subject's ask number `seq` went to the parent, the lease of that ask is
 /// alive or dead, and the subject had served `clients` clients at its own number `number`.
 #[derive(Clone, Copy, Debug, PartialEq, Eq)]
 pub struct Cert {

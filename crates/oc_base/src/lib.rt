@@ -1,11 +1,11 @@
 //! What every other crate names: node ids, ranks, certificates, group names, the small list types
-//! and want of memory.
+//! and the answer when memory runs out.
 //!
 //! The types live here for good, and the definitions of the model speak of them. A list type is a
 //! vector that contracts see as the list of its items, so a message, an event or a record that holds
 //! one *is* a value of the model. A [`NodeId`] is seen as its number, a [`GroupName`] as its bytes.
 //!
-//! [`reading`] and [`writing`] have the fields of which the binary formats are made.
+//! [`reading`] and [`writing`] have the fields that the binary formats are made of.
 //!
 //! The contracts used above: `GroupName::parse` accepts exactly the names with `IsGroupName`, and its
 //! refusals are `name_fault`; `of` and `items` of each list type are that list. What [`words`] reads

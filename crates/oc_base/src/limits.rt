@@ -99,5 +99,5 @@ pub const MAX_FIELDS: usize = 64;
 /// The greatest number of bytes of a request's body.
 pub const MAX_BODY_BYTES: u64 = 1_000_000;
 
-/// The greatest number of bytes of a reply's content whose length was not told: 2^40.
+/// The greatest number of bytes of a reply's content whose length was not given: 2^40.
 pub const MAX_CONTENT_BYTES: u64 = 1_099_511_627_776;

@@ -31,7 +31,7 @@ impl Bytes {
         self.items.as_slice()
     }
 
-    /// Puts more bytes at the end. Where memory is wanted the bytes stay as they were.
+    /// Puts more bytes at the end. If memory runs out, the bytes stay as they were.
     pub fn append(&mut self, more: &[u8]) -> Result<(), AllocError>
         ensures ok { OnOk result (self.new ≡ self.old ++ more.now) }
         ensures err { OnErr result (self.new ≡ self.old) }

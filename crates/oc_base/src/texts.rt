@@ -1,4 +1,4 @@
-//! Texts put at the end of a buffer. Where memory is wanted the buffer stays as it was.
+//! Texts put at the end of a buffer. If memory runs out, the buffer stays as it was.
 
 ghost use Rattle.std.specs.Prelude.{◌≡◌, ◌++◌, OnOk, OnErr, decimal};
 

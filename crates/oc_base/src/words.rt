@@ -53,7 +53,7 @@ pub fn first_word(line: &[u8]) -> Option<(&[u8], &[u8])>
     }
 }
 
-/// Whether a word is this one.
+/// Whether a word is this text.
 pub fn is(word: &[u8], text: &str) -> bool
     ensures { result ≡ bytes_eq word.now text.now }
 {

@@ -1,5 +1,5 @@
 //! The fields of binary formats, written: each function puts a field at the end of the bytes. Numbers
-//! are big-endian. Where memory is wanted, what was put before stays.
+//! are big-endian. If memory runs out, what was put before stays.
 
 ghost use Rattle.std.specs.Prelude.{◌≡◌, ◌<◌, ◌^◌, [], ◌∷◌, ◌++◌, length, OnOk};
 ghost use Rattle.oc_base.specs.Spelling.{eight, four, flag, rank_bytes, cert_bytes, ids_bytes};

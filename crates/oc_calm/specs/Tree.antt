@@ -26,7 +26,7 @@ nodes_in (Some c) = length c
 unfoldable pub chain_length : World → ℕ → ℕ
 chain_length w x = nodes_in (chain_from w x)
 
--- the same of a node that has no parent
+-- the same for a node that has no parent
 unfoldable pub length_alone : World → ℕ → ℕ
 length_alone w x = if is_root w x then 1 else 0
 
@@ -90,11 +90,11 @@ unfoldable pub greatest_length : List (Option ℕ) → ℕ
 greatest_length [] = 0
 greatest_length (f ∷ fs) = max (length_in f) (greatest_length fs)
 
--- whether this length was found of x
+-- whether this length was found for x
 unfoldable pub has_found : List (Option ℕ) → ℕ → ℕ → Bool
 has_found lengths n x = is_number (at lengths x None) n
 
--- those of these nodes of which a length from 1 to n was found, the greatest first
+-- those of these nodes for which a length from 1 to n was found, the greatest first
 unfoldable pub longest_first : List (Option ℕ) → List ℕ → ℕ → List ℕ
 longest_first lengths xs zero = []
 longest_first lengths xs (suc n) = filter (has_found lengths (suc n)) xs ++ longest_first lengths xs n
@@ -113,6 +113,6 @@ abbrev pub is_positive : ℕ → Bool
 is_positive zero = false
 is_positive (suc n) = true
 
--- under the root r, a node is as in a ready world: it is down, or the root, or no root and has a true chain and its lease
+-- under the root r, a node is as in a ready world: it is down, or is the root, or is no root but has a true chain and its lease
 unfoldable pub fits_under : World → ℕ → ℕ → Bool
 fits_under w r x = not (is_up w x) || x == r || (not (is_acting (mode_of w x)) && is_positive (chain_length w x) && is_linked w x)

@@ -20,7 +20,7 @@ pub trait Cluster {
     ghost world: { Self → WorldState };
 
     /// Does what an act does. A tick may go up to the last second of a clock, 2^41, and a delivery may
-    /// name any number: one that no message has does nothing. Where memory is wanted, the world stays
+    /// name any number: one that no message has does nothing. If memory runs out, the world stays
     /// as it was.
     fn act(&mut self, act: &Act) -> Result<(), Memory>
         requires { IsStepOf (world self.old) act.now }

@@ -27,7 +27,7 @@ const MOST_EPOCH: u64 = u64::MAX - 8_192;
 
 /// Joins all nodes that are up into one tree and settles it, and answers `Healed` with the number of the
 /// acts that it played; `Unready` exactly where the world is not able, and then nothing is done. No clock
-/// of a node that is up may be in its last minute. Where memory is wanted, a prefix of the acts was played.
+/// of a node that is up may be in its last minute. If memory runs out, a prefix of the acts was played.
 pub fn heal<C: Cluster>(alloc: Global, cluster: &mut C) -> Result<Word, Memory>
     requires { UpAreBefore (LAST_SECOND - 60) (C.world cluster.old) }
     ensures word { IfOk result (λ word. word ≡ word_of (C.world cluster.old) Heal) }

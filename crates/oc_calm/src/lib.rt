@@ -2,7 +2,7 @@
 //!
 //! [`Cluster`] is all that the layer below has to offer: it takes an act, and shows a few parts of the
 //! present world. [`settle`] and [`heal`] choose each act in the world that the earlier ones left, and
-//! make exactly the acts of the model, `settle_acts` and `heal_acts`. Where memory is wanted, a prefix of
+//! make exactly the acts of the model, `settle_acts` and `heal_acts`. If memory runs out, a prefix of
 //! these acts was made. [`is_settled`] says whether there is anything left to settle.
 #![tactic(auto)]
 

@@ -99,7 +99,7 @@ fn note_placed<C: Cluster>(cluster: &C, known: &mut [bool], leader: NodeId, node
     }
 }
 
-/// Of none of `nodes` nodes is it known that it is placed.
+/// None of `nodes` nodes is known to be placed.
 pub(crate) fn none_known(alloc: Global, nodes: u32) -> Result<Vec<bool>, Memory>
     ensures { IfOk result (λ known. known.items ≡ replicate nodes false) }
 {

@@ -10,7 +10,7 @@ use crate::Cluster;
 use oc_base::{Memory, NodeId};
 use oc_model::{Act, Mode};
 
-/// Plays one act. Memory is wanted, too, where the count cannot grow any more.
+/// Plays one act. It answers `Memory` also where the count cannot grow any more.
 pub(crate) fn play<C: Cluster>(cluster: &mut C, act: &Act, acts: &mut u64) -> Result<(), Memory>
     requires { IsStepOf (C.world cluster.old) act.now }
     ensures ok { OnOk result (Plays (act_run act.now) (C.world cluster.old) (C.world cluster.new) acts.old acts.new) }

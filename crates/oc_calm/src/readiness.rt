@@ -72,7 +72,7 @@ fn has_chain<C: Cluster>(cluster: &C, lengths: Option<&[Option<u32>]>, node: Nod
     }
 }
 
-/// Whether a node is down, or the root, or no root and has a true chain and its lease.
+/// Whether a node is down, or is the root, or is no root but has a true chain and its lease.
 #[tactic(auto, unfolding(crate::specs::Tree::fits_under))]
 fn fits_under<C: Cluster>(
     cluster: &C,
@@ -91,7 +91,7 @@ fn fits_under<C: Cluster>(
             && is_linked(cluster, node))
 }
 
-/// Whether each node does.
+/// Whether `fits_under` holds of each node.
 fn all_fit<C: Cluster>(cluster: &C, lengths: Option<&[Option<u32>]>, root: NodeId) -> bool
     requires { IfSome lengths (λ lengths. AreLengths (C.world cluster.now) lengths.now) }
     ensures { result ≡ list_all (fits_under (C.world cluster.now) root) (ids (C.world cluster.now)) }

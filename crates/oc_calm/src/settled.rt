@@ -35,7 +35,7 @@ fn all_calm<C: Cluster>(cluster: &C) -> bool
     true
 }
 
-/// Whether this node is down, or does so.
+/// Whether this node is down, or holds only current leases and has told its parent all.
 fn is_calm<C: Cluster>(cluster: &C, node: NodeId) -> bool
     requires { IsNodeOf (C.world cluster.now) node }
     ensures { result ≡ is_calm (C.world cluster.now) node }

@@ -23,7 +23,7 @@ use std::alloc::Global;
 
 /// Settles a world that is ready, and answers `Settled` with the number of the acts that it played;
 /// `Unready` exactly where the world is not ready, and then nothing is done. No clock of a node that is up
-/// may be in its last minute. Where memory is wanted, a prefix of the acts was played.
+/// may be in its last minute. If memory runs out, a prefix of the acts was played.
 pub fn settle<C: Cluster>(alloc: Global, cluster: &mut C) -> Result<Word, Memory>
     requires { UpAreBefore (LAST_SECOND - 60) (C.world cluster.old) }
     ensures word { IfOk result (λ word. word ≡ word_of (C.world cluster.old) Settle) }
@@ -85,8 +85,8 @@ fn each_tells<C: Cluster>(cluster: &mut C, nodes: &[NodeId], acts: &mut u64) -> 
     Ok(())
 }
 
-/// While something waits at a node, it checks in. Each check-in tells one certificate at least, so
-/// there are no more than wait at first.
+/// While something waits at a node, it checks in. Each check-in tells one certificate at least, so there are at
+/// most as many check-ins as certificates that wait at first.
 fn tell_all<C: Cluster>(cluster: &mut C, node: NodeId, acts: &mut u64) -> Result<(), Memory>
     requires { IsUpNode (C.world cluster.old) node }
     ensures ok { OnOk result (Plays (telling_run node) (C.world cluster.old) (C.world cluster.new) acts.old acts.new) }
@@ -102,8 +102,8 @@ fn tell_all<C: Cluster>(cluster: &mut C, node: NodeId, acts: &mut u64) -> Result
     Ok(())
 }
 
-/// Those of these nodes of which a length from 1 on was found, the longest first, and those of one length
-/// as they come.
+/// Those of these nodes for which a length from 1 on was found, the longest first, and those of one length in
+/// the order in which they come.
 fn sorted_by_length(
     alloc: Global,
     nodes: &[NodeId],
@@ -143,7 +143,7 @@ fn length_in(found: Option<u32>) -> u32
     }
 }
 
-/// Puts those of these nodes of which this length was found at the end.
+/// Puts at the end those of these nodes for which this length was found.
 fn push_of_length(
     sorted: &mut Vec<NodeId>,
     nodes: &[NodeId],
@@ -161,7 +161,7 @@ fn push_of_length(
     Ok(())
 }
 
-/// Whether this length was found of a node.
+/// Whether this length was found for a node.
 #[tactic(auto, unfolding(crate::specs::Tree::has_found))]
 fn has_found(lengths: &[Option<u32>], node: NodeId, wanted: u32) -> bool
     requires { IsNode (length lengths.now) node }

@@ -38,6 +38,6 @@ AreKnownFrom t r x [] = Unit {0}
 AreKnownFrom t r x (None ∷ known) = AreKnownFrom t r (x + 1) known
 AreKnownFrom t r x (Some b ∷ known) = (is_beneath t r x ≡ b) × AreKnownFrom t r (x + 1) known
 
--- the same of all nodes
+-- the same for all nodes
 abbrev pub AreKnown : List Cert → ℕ → List (Option Bool) → Type 0
 AreKnown t r known = AreKnownFrom t r 1 known

@@ -21,7 +21,7 @@ AreRowsFrom nodes x (Some c ∷ rows) = (c.subject ≡ x) × IsCert nodes c × A
 abbrev pub AreRows : List (Option Cert) → Type 0
 AreRows rows = AreRowsFrom (length rows) 1 rows
 
--- the same of rows that have none wherever nothing was put
+-- the same for rows that have none wherever nothing was put
 abbrev pub AreTableRows : RowsView (Option Cert) → Type 0
 AreTableRows rows = AreRows rows.items × (rows.blank ≡ None)
 

@@ -129,7 +129,7 @@ fn line_of_row(
     }
 }
 
-/// Puts the lines of all who are listed beneath the root at the end, ascending. Each row is looked at
+/// Puts at the end, ascending, the lines of all who are listed beneath the root. Each row is looked at
 /// a few times for all of them together.
 fn push_lines(
     lines: &mut Vec<Line>,

@@ -2,16 +2,16 @@ ghost use Rattle.std.specs.Prelude.{◌≡◌, ◌⊎◌};
 
 use oc_base::NodeId;
 
-/// A node that a climb came by: if it comes there again, it goes round in a loop.
+/// A node that a climb passed: if the climb comes there again, it goes round in a loop.
 ///
-/// The post is taken anew ever more seldom (Brent's way to find a loop), so a climb that goes round
-/// ends after about three times as many steps as it came by rows.
+/// The post is moved less and less often (Brent's way to find a loop), so a climb that goes round
+/// ends after about three times as many steps as the rows that it passed.
 #[derive(Clone, Copy)]
 pub(crate) struct Post {
     pub(crate) node: NodeId,
-    /// Steps until it is taken anew.
+    /// Steps until the post is moved.
     left: usize,
-    /// Steps between the last two times.
+    /// Steps between the last two moves.
     stride: usize,
 }
 

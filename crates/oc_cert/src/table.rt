@@ -49,7 +49,7 @@ impl Table {
         })
     }
 
-    /// Takes all certificates out. Takes no memory.
+    /// Removes all certificates. Takes no memory.
     #[tactic(auto, using(crate::proofs::Entries::no_entries))]
     pub fn clear(&mut self)
         ensures entries { self.new.entries ≡ [] }

@@ -39,7 +39,7 @@ pub fn recovered_text<D: Disk>(
     ensures refuses { IfErr result (λ error. RefusesNode D.view nodes
         (disks control.old alternate.old content.old) (disks control.new alternate.new content.new) error) }
 
-    // At every moment a crash leaves what one at the start would have left.
+    // At every moment a crash leaves what a crash at the start would have left.
     ensures safely { LoadsSafely D.view (header_without_areas nodes chain) id
         (disks control.old alternate.old content.old) (disks control.new alternate.new content.new) }
 

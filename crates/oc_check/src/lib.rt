@@ -2,7 +2,7 @@
 //!
 //! [`recovered_text`] is what the layer above uses: over lent disks it gives the block of `show` and the
 //! block of `held` of the node that they recover (`Shows`), or why they recover none. A load writes the
-//! header of a file that is new and nothing else, so at every moment a crash leaves what one at the start
+//! header of a file that is new and nothing else, so at every moment a crash leaves what a crash at the start
 //! would have left.
 #![tactic(auto)]
 

@@ -7,7 +7,7 @@ use Rattle.oc_base.specs.Rank.{Precedes}
 use Rattle.oc_model.specs.Adoption.{Host}
 use Rattle.oc_model.specs.Numbers.{IsAmong}
 
--- What each refusal says of the host and of the asker, whatever else holds.
+-- What each refusal says of the host and of the asker, whatever else is so.
 
 -- k is a chain member beneath the host, which is one too, and x is none or belongs beneath k
 abbrev pub BelongsBeneath : Host → ℕ → ℕ → Type 0

@@ -1,7 +1,7 @@
 use oc_base::{NodeId, Rank};
 use std::marker::Model;
 
-/// A node that is asked to be the parent, as far as the answer hangs on it. Contracts see the model's
+/// A node that is asked to be the parent, as far as the answer depends on it. Contracts see the model's
 /// record of the same name.
 #[derive(Debug, Drop)]
 pub struct Host<'a> {

@@ -1,4 +1,4 @@
--- What came of reading the input as a configuration.
+-- The result of reading the input as a configuration.
 use Rattle.std.specs.Prelude.{◌≡◌, ℕ, Result, Ok, Err, List}
 use Rattle.oc_config.specs.Reading.{settings_of}
 use Rattle.oc_config.specs.Settings.{Settings}

@@ -47,7 +47,7 @@ RunsNode files node output s v (Turned ends.Served) =
 RunsNode files node output s v (Turned end) =
     (deeds : List Deed) × (under : Under) × WritesDeeds output v.id end deeds under × node.stopped (header_of s) v.id end deeds under
 
--- the id is none of a node of the configuration, or the node was run
+-- no node of the configuration has this id, or the node was run
 abbrev pub RunsService : OnFiles → OnNode → Output → Settings → Service → ServiceEnd → Type 0
 RunsService files node output s v Stranger = (HasNode s v → ⊥) × output.written []
 RunsService files node output s v (Ran end) = HasNode s v × RunsNode files node output s v end
@@ -70,7 +70,7 @@ IsMemberOf nodes id None = IsNode nodes id → ⊥
 
 -- ---- which status has to come
 
--- Of a configuration that has no node of this id the status is 3. Where it has, over the files of a node it is 0, or 5 where a file is
+-- For a configuration that has no node of this id the status is 3. If it has one, over the files of a node it is 0, or 5 where a file is
 -- full.
 abbrev pub IsStatusOver : {D : Type 0} → (D → DiskView) → Disks D → Settings → Service → ℕ → Type 0
 IsStatusOver view d s v status =

@@ -15,7 +15,7 @@ IsDoneOrMemory status = (status ≡ 0) ⊎ (status ≡ 4)
 abbrev pub once : List ℕ → Download
 once address = record { address = address; times = None }
 
--- of an address that is a URL, the dials that were made gave replies of which each led on to the next, up to a 200 with a whole content
+-- the address is a URL, and the dials that were made gave replies each of which led on to the next, up to a 200 with a whole content
 pub record IsServed (address : List ℕ) (old new : Option Story) : Type 0 where
   pub url : Parts
   pub address_is : IsAddressOf address url

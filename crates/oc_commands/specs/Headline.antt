@@ -9,7 +9,7 @@ use Rattle.oc_model.specs.World.{new_world}
 use Rattle.oc_schedule.specs.Script.{Script}
 use Rattle.oc_commands.specs.Calm.{AtEach, CalmHolds}
 
--- of the new world of its header, of each world to which its events lead, one after another, and of those inside of settle and heal;
+-- of the new world of its header, of each world to which its events lead, one after another, and of those inside settle and heal;
 -- and what settle and heal do, at each such event
 pub record HeadlineHolds (s : Script) : Type 0 where
   pub prefixes : Throughout HoldPrefixes (new_world s.header) s.events

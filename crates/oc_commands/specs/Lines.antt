@@ -1,4 +1,4 @@
--- The line on the error output with which each end is told.
+-- The line on the error output that reports each end.
 use Rattle.std.specs.Prelude.{ℕ, List, [], ◌++◌, codes, decimal}
 use Rattle.oc_base.specs.Why.{why_text}
 use Rattle.oc_config.specs.Keys.{key_text}

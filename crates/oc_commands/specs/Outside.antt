@@ -69,7 +69,7 @@ pub record OnFiles : Type 1 where
   pub show : Header → ℕ → List ℕ → Type 0
   -- among this many nodes no node was loaded from them, for this cause
   pub are_refused : ℕ → KeepLoad → Type 0
-  -- at every moment a crash leaves what one at the start would have left
+  -- at every moment a crash leaves what a crash at the start would have left
   pub load_safely : Header → ℕ → Type 0
   -- they are as they were
   pub untouched : Type 0

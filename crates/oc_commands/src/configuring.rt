@@ -18,7 +18,7 @@ pub enum ConfigEnd {
     Source,
     /// The input has more bytes than a configuration may have.
     Long,
-    /// The text is none, or memory ran out.
+    /// The text is no configuration, or memory ran out.
     Fault(ConfigFault),
 }
 

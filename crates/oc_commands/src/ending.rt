@@ -20,23 +20,23 @@ use oc_service::{NodeEnd, TurnEnd};
 pub enum End {
     /// The help was written.
     Helped,
-    /// The output failed under the help.
+    /// The output failed while the help was written.
     HelpFailed,
     /// The words are no words of the program.
     Misused,
     /// Memory ran out before the words were read.
     NoMemory,
-    /// A replay ended so.
+    /// A replay ended in this way.
     Replayed(ReplayEnd),
-    /// The command `gen` ended so.
+    /// The command `gen` ended in this way.
     Generated(GenEnd),
-    /// The command `rules` ended so.
+    /// The command `rules` ended in this way.
     Listed(RulesEnd),
-    /// The command `check` ended so.
+    /// The command `check` ended in this way.
     Checked(CheckEnd),
-    /// The command `get` ended so.
+    /// The command `get` ended in this way.
     Got(GetEnd),
-    /// The command `node` ended so.
+    /// The command `node` ended in this way.
     Served(ServiceEnd),
 }
 

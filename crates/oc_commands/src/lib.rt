@@ -1,12 +1,12 @@
 //! The commands of the program: what each does, how it ends, and with which status and which line.
 //!
 //! Each command is a file: `replaying`, `generating`, `listing` (`rules`), `checking`, `getting`
-//! and `serving` (`node`), beside `helping`, which answers `--help`. [`End`] is the end of any of them, from which
+//! and `serving` (`node`), besides `helping`, which answers `--help`. [`End`] is the end of any of them, from which
 //! [`End::status`] and [`tell`] make the status and the line on the error output. `Outside` in `specs/` is all that
 //! their contracts speak of, and `Happened` says for each end what then holds.
 //!
-//! Where a replay is done, [`headline_holds`] is part of what holds: what is so of every world of the schedule,
-//! inside of settle and heal too, and what settle and heal leave and tell.
+//! Where a replay is done, [`headline_holds`] is part of that: what holds of every world of the schedule,
+//! also inside settle and heal, and what settle and heal leave and report.
 #![tactic(auto)]
 
 mod checking;

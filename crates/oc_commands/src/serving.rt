@@ -24,7 +24,7 @@ pub enum ServiceEnd {
     Config(ConfigEnd),
     /// No node of the configuration has this id.
     Stranger,
-    /// The node was run, and its run ended so.
+    /// The node was run, and its run ended in this way.
     Ran(NodeEnd),
 }
 

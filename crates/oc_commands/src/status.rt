@@ -17,7 +17,7 @@ pub enum Status {
     Memory = 4,
     /// A limit was passed.
     Limit = 5,
-    /// The content that was to be got was not got.
+    /// The content that was to be downloaded was not.
     NotGot = 6,
 }
 

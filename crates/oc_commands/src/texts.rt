@@ -14,7 +14,7 @@ pub fn help(words: &[String]) -> &'static str
     }
 }
 
-/// The text on this command, or that of the program where it is none.
+/// The text on this command, or that of the program where the word is no command.
 fn help_on(word: &str) -> &'static str
     ensures { 0 < length result.now }
 {

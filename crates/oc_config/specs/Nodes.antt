@@ -42,7 +42,7 @@ area_in members = do
 abbrev pub place_of : List ℕ → ℕ → Result Place ConfigFault
 place_of address area = Ok (record { address = address; area = area })
 
--- the same of a table, where this is the address
+-- the same for a table, where this is the address
 abbrev pub entry_with : Members → List ℕ → Result Place ConfigFault
 entry_with members address = do
   area ← area_in members
@@ -68,7 +68,7 @@ abbrev pub put_new : List (Option Place) → ℕ → Members → Result (List (O
 put_new places id members =
     if is_some (slice_index_or places (id - 1) None) then Err (Repeat id) else put_free places id members
 
--- the places of the nodes by their ids, with that of one table more
+-- the places of the nodes by their ids, with that of one more table
 abbrev pub node_in : List (Option Place) → Members → Result (List (Option Place)) ConfigFault
 node_in places members = do
   id ← id_in (length places) members
@@ -96,7 +96,7 @@ addresses_of places = filter_map address_at places
 abbrev pub areas_of : List (Option Place) → List ℕ
 areas_of places = filter_map area_at places
 
--- one table more was put, or its fault was given
+-- one more table was put, or its fault was given
 abbrev pub GivesNode : Result (Unit {0}) ConfigFault → List (Option Place) → List (Option Place) → Members → Type 0
 GivesNode (Ok done) old new t = node_in old t ≡ Ok new
 GivesNode (Err Memory) old new t = Unit {0}
@@ -106,7 +106,7 @@ GivesNode (Err fault) old new t = node_in old t ≡ Err fault
 abbrev pub GivesSplit : List (String Global) → List ℕ → List (Option Place) → Type 0
 GivesSplit addresses areas places = (map string_bytes addresses ≡ addresses_of places) × (areas ≡ areas_of places)
 
--- those of one place more
+-- those of one more place
 abbrev pub PutsPlace : List (String Global) → List ℕ → List (String Global) → List ℕ → Option Place → Type 0
 PutsPlace old_addresses old_areas addresses areas place =
     (map string_bytes addresses ≡ map string_bytes old_addresses ++ addresses_of (place ∷ []))

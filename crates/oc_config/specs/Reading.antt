@@ -110,7 +110,7 @@ settings_from (Some members) = settings_in members
 abbrev pub settings_of : List ℕ → Result Settings ConfigFault
 settings_of bytes = settings_from (document bytes)
 
--- the table that the text is, or that it is none
+-- the table that the text is, or that it is no table
 abbrev pub table_or_fault : Option Members → Result Members ConfigFault
 table_or_fault None = Err Toml
 table_or_fault (Some members) = Ok members

@@ -56,7 +56,7 @@ fn put_node(
     Ok(())
 }
 
-/// The id of a node, of which there are this many.
+/// The id that the table of one of `nodes` nodes says.
 fn id(table: &Table, nodes: usize) -> Result<u32, ConfigFault>
     requires { nodes ≤ MAX_NODES }
     ensures said { result ≡ id_in nodes (table_view table.now) }

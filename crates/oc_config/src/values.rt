@@ -59,7 +59,7 @@ pub(crate) fn tables<'a>(
 }
 
 /// The tables that these values are, from `least` to `most` of them; `fault` where there are fewer or more,
-/// or one of them is none.
+/// or one of them is no table.
 fn counted_tables<'a>(
     alloc: Global,
     values: &'a [Value],
@@ -80,7 +80,7 @@ fn counted_tables<'a>(
     all_tables(alloc, values, fault)
 }
 
-/// The tables that these values are; `fault` where one of them is none.
+/// The tables that these values are; `fault` where one of them is no table.
 fn all_tables<'a>(
     alloc: Global,
     values: &'a [Value],

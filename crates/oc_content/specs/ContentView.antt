@@ -44,7 +44,7 @@ pub record IsReady (shelves : List Shelf) (rooms : List ℕ) (frames_to_come : �
   pub room : HasTrackRoom rooms p.room p.place
   pub spare : 0 < frames_to_come
 
--- the same of a content log
+-- the same for a content log
 abbrev pub IsPrepared : {D : Type 0} → ContentView D → PieceView → Type 0
 IsPrepared c p = IsReady c.shelves c.rooms c.journal.spare p
 
@@ -55,7 +55,7 @@ pub record IsIndexed {D : Type 0} (view : D → DiskView) (j : JournalView D) (x
   pub is : IsIndexOf bodies groups x (view j.disk).honest
   pub frames : IsTrue (view j.disk).honest → j.frames ≡ bodies
 
--- the same of the first n frames
+-- the same for the first n frames
 pub record IsIndexedTo {D : Type 0} (view : D → DiskView) (j : JournalView D) (x : Index) (n : ℕ) : Type 0 where
   pub bodies : List (List ℕ)
   pub groups : List Group

@@ -20,7 +20,7 @@ abbrev pub IsFoundAt : List (List ℕ) → Group → List Span → ℕ → Optio
 IsFoundAt bodies k path start None = length k.bytes ≤ start
 IsFoundAt bodies k path start (Some f) = IsHit bodies k path start f
 
--- the spans from that on which holds the byte, and the place of the byte among those of the first
+-- the spans from the one that holds the byte on, and the place of the byte among those of the first
 pub record IsRest (bodies : List (List ℕ)) (k : Group) (start : ℕ) (spans : List Span) (skip : ℕ) : Type 0 where
   pub first : Span
   pub others : List Span

@@ -1,4 +1,4 @@
--- The bytes and the seal of a group, told body by body.
+-- The bytes and the seal of a group, body by body.
 use Rattle.std.specs.Prelude.{ℕ, Bool, false, ◌&&◌, ◌==◌, Option, None, Some, List, [], ◌∷◌, if◌then◌else◌}
 use Rattle.std.specs.List.{flat_map}
 use Rattle.oc_base.specs.Named.{same_name}

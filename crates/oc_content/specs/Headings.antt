@@ -12,7 +12,7 @@ abbrev pub IsBehind : Option Heading → List ℕ → Option Entry → Type 0
 IsBehind None body said = said ≡ None
 IsBehind (Some h) body said = said ≡ Some (entry_at h body)
 
--- the same of the fields, which come after `before` bytes in the body
+-- the same for the fields, which come after `before` bytes in the body
 abbrev pub IsHeadingOf : ℕ → List ℕ → Option Heading → Option Entry → Type 0
 IsHeadingOf before bytes None said = said ≡ None
 IsHeadingOf before bytes (Some h) said =

@@ -77,7 +77,7 @@ abbrev pub IsWithin : Place → ℕ → Type 0
 IsWithin (Found i) n = i < n
 IsWithin (Free i) n = (i ≤ n) × (n < MAX_GROUPS)
 
--- memory for one more frame: of a group that is held in its own track, of a new one in the track that it brings
+-- memory for one more frame: for a group that is held, in its own track; for a new one, in the track that it brings
 abbrev pub HasTrackRoom : List ℕ → ℕ → Place → Type 0
 HasTrackRoom rooms room (Found i) = 0 < get_or rooms i 0
 HasTrackRoom rooms room (Free i) = 0 < room

@@ -17,7 +17,7 @@ standing (Some line) groups = record { held = line.held; sealed = line.sealed; o
 abbrev pub standing_in : List Shelf → List ℕ → Standing
 standing_in shelves group = standing (line_of group shelves) (length shelves)
 
--- the first that refuses `count` bytes from a place on
+-- the first cause that refuses `count` bytes from a place on
 abbrev pub fault_of : Standing → ℕ → ℕ → Option PutError
 fault_of s start count =
     if nat_lt s.held start then Some (Gap s.held)
@@ -26,7 +26,7 @@ fault_of s start count =
     else if nat_lt MAX_GROUP_BYTES (start + count) then Some TooLong
     else None
 
--- the bytes past held; and the seal where they are the last, reach the end of what is held, and the group is not sealed
+-- the bytes past those held; and the seal where they are the last, reach the end of what is held, and the group is not sealed
 abbrev pub put_entry : Standing → List ℕ → ℕ → List ℕ → Bool → Entry
 put_entry s group start bytes last = record {
   group = group;

@@ -9,7 +9,7 @@ use Rattle.oc_content.specs.declared.track.Track.{Track}
 abbrev pub room_of : Track → ℕ
 room_of t = vec_capacity t.spans - vec_len t.spans
 
--- of spans that ascend: the last that begins at this byte or before it; none where each begins after it
+-- the last of the ascending spans that begins at this byte or before it; none where each begins after it
 abbrev pub IsLastBefore : List Span → ℕ → Option ℕ → Type 0
 IsLastBefore spans start None = IsNonDecreasingBy (λ s. s.start) spans → AllWithin (λ s. start < s.start) spans 0 (length spans)
 IsLastBefore spans start (Some i) =

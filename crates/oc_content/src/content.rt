@@ -103,7 +103,7 @@ impl<D: Disk> Content<D> {
         self.index.spot(group, start)
     }
 
-    /// Makes bytes of a group from an offset on ready, and takes all memory for them. Bytes that are
+    /// Makes ready the bytes of a group from an offset on, and takes all memory for them. Bytes that are
     /// held already are left out. On a refusal nothing is put.
     pub fn prepare(
         &mut self,
@@ -189,7 +189,7 @@ impl<D: Disk> Content<D> {
         read_group(&mut self.journal, &self.index, group, start, buf)
     }
 
-    /// The disk.
+    /// Hands back the disk.
     pub fn into_disk(self) -> D
         ensures disk { result ≡ self.journal.disk }
 

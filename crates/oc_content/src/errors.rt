@@ -25,7 +25,7 @@ pub enum ContentError {
     Memory,
 }
 
-/// Why bytes were not put, in the order in which it is tested.
+/// Why bytes were not put; the causes are tested in this order.
 #[derive(Clone, Copy, Debug, PartialEq, Eq)]
 pub enum PutError {
     /// They begin past the bytes that are held, whose number is `held`.

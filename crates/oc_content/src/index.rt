@@ -90,7 +90,7 @@ impl Index {
         }
     }
 
-    /// Finds a byte of the group at an index: the spans from that on which holds it, and the offset of
+    /// Finds a byte of the group at an index: the spans from the one that holds it on, and the offset of
     /// the byte among those of the first.
     pub fn find(&self, at: usize, start: u64) -> Option<(&[Span], u32)>
         requires within { at < length self.now.shelves.items }
@@ -257,7 +257,7 @@ fn reserve_at(tracks: &mut Vec<Track>, at: usize) -> Result<(), AllocError>
     tracks[at].reserve()
 }
 
-/// The line of the group at an index with `count` bytes more.
+/// Adds `count` bytes, and the seal if the heading has it, to the line of the group at an index.
 fn grow_at(shelves: &mut Vec<Shelf>, at: usize, heading: &Heading, count: u64)
     requires within { at < length shelves.old.items }
     requires short { All (λ s. s.held ≤ MAX_GROUP_BYTES) shelves.old.items }
@@ -268,7 +268,7 @@ fn grow_at(shelves: &mut Vec<Shelf>, at: usize, heading: &Heading, count: u64)
     grow(&mut shelves[at], heading, count);
 }
 
-/// The line of a group with `count` bytes more.
+/// Adds `count` bytes, and the seal if the heading has it, to the line of a group.
 fn grow(shelf: &mut Shelf, heading: &Heading, count: u64)
     requires { shelf.old.held + count < 2 ^ 64 }
     ensures { shelf.new ≡ line_with heading.now count shelf.old }
@@ -277,7 +277,7 @@ fn grow(shelf: &mut Shelf, heading: &Heading, count: u64)
     shelf.sealed = shelf.sealed || heading.seals;
 }
 
-/// The track of the group at an index with the span of an entry.
+/// Adds the span of an entry, if that has bytes, to the track of the group at an index.
 fn add_span_at(tracks: &mut Vec<Track>, at: usize, heading: &Heading, count: u64, frame: u64)
     requires within { at < length tracks.old.items }
     requires room { 0 < get_or (rooms tracks.old.items) at 0 }
@@ -289,7 +289,7 @@ fn add_span_at(tracks: &mut Vec<Track>, at: usize, heading: &Heading, count: u64
     add_span(&mut tracks[at], heading, count, frame);
 }
 
-/// The span of an entry that has bytes.
+/// Adds the span of an entry, if that has bytes, to a track that has room for it.
 fn add_span(track: &mut Track, heading: &Heading, count: u64, frame: u64)
     requires { 0 < room_of track.old }
     ensures spans { track.new.spans.items ≡ track.old.spans.items ++ span_of heading.now count frame }

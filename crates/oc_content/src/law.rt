@@ -1,4 +1,4 @@
-//! What a content file says, told frame by frame.
+//! What a content file says, frame by frame.
 
 ghost use Rattle.std.specs.Prelude.{◌≡◌, ◌↔◌, ℕ, ◌^◌, ◌<◌, true, List, Some, IsSome, IsTrue, Any};
 ghost use Rattle.oc_base.specs.Groups.{group_of};
@@ -7,7 +7,7 @@ ghost use Rattle.oc_content.specs.ContentFile.{content_of, groups_in, bytes_in};
 ghost use Rattle.oc_content.specs.Entries.{Entry, entry_of, written};
 ghost use Rattle.oc_content.specs.GroupPieces.{is_for, pieces_for, seals_for, sealed_in};
 
-/// Of frames that are all good: the bytes of a group are the pieces for it one after the other, it is
+/// If all frames are good, the bytes of a group are the pieces for it one after the other, the group is
 /// sealed exactly where a body for it begins with the byte 0, and it is held exactly where a body is
 /// for it.
 pub fn groups_are_their_pieces()

@@ -20,7 +20,7 @@ use oc_io::Disk;
 use oc_journal::Journal;
 use std::alloc::{AllocError, Global};
 
-/// Makes bytes from a place on ready for a group, with all memory for them.
+/// Makes ready the bytes from a place on for a group, with all memory for them.
 pub fn ready<D: Disk>(
     alloc: Global,
     journal: &mut Journal<D>,
@@ -115,7 +115,7 @@ pub struct Standing {
     /// Bytes held.
     pub held: u64,
     pub sealed: bool,
-    /// Whether it is new, and there are as many as there may be.
+    /// Whether it is new, and there are as many groups as there may be.
     pub one_too_many: bool,
 }
 
@@ -146,7 +146,7 @@ fn standing_of(shelf: &Shelf) -> Standing
     }
 }
 
-/// The first that refuses `count` bytes from a place on.
+/// The first cause that refuses `count` bytes from a place on, if any does.
 pub fn refusal(standing: &Standing, start: u64, count: u64) -> Option<PutError>
     requires held { standing.now.held ≤ MAX_GROUP_BYTES }
     requires count { count ≤ MAX_GROUP_BYTES }

@@ -273,7 +273,7 @@ impl<'a> Draft<'a> {
         self.plan.send(Message { from, to, body })
     }
 
-    /// The answer. It is always Ok, as the end of a rule that may want memory.
+    /// Sets the answer. The result is always Ok: the call ends a rule that may run out of memory.
     pub fn answer(&mut self, answer: Answer) -> Result<(), Memory>
         ensures { OnOk result (self.new ≡ goes self.old (answers self.old.step answer)) }
     {

@@ -100,8 +100,8 @@ impl Plan {
         self.wants
     }
 
-    /// The place in the input's group at which the input's bytes begin, exactly where the step writes a
-    /// frame of content.
+    /// The place in the input's group at which the input's bytes begin; there is one exactly where the step
+    /// writes a frame of content.
     pub fn keeps(&self) -> Option<u64>
         ensures { result ≡ self.now.keeps }
     {

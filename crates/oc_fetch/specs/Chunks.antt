@@ -22,7 +22,7 @@ StopsAt stage front rest over Link = front ++ rest ≡ []
 StopsAt stage front rest over Memory = ⊤
 StopsAt stage front rest over end = ⊥
 
--- of what was gathered a prefix was written, of this length, and this is left
+-- a prefix of this length of what was gathered was written, and this is left
 pub record IsPut {K : Type 0} (takes : K → List ℕ → K → Type 0) (old new : K) (before after : List ℕ) (count : ℕ) : Type 0 where
   pub written : List ℕ
   pub split : before ≡ written ++ after
@@ -35,7 +35,7 @@ EndsWritten takes breaks old new content end ended =
     ((ended ≡ end) × (takes old content new ⊎ (new ≡ old)))
     ⊎ ((ended ≡ Sink) × (end ≢ Link) × ((n : ℕ) × breaks old (take n content) new))
 
--- a piece came that was not taken
+-- a piece that was not taken came
 pub record StopsPiece {S : Type 0} (gives fails : S → List ℕ → S → Type 0) (ended : S → Type 0) (old new : S) (stage : Stage) (end : GetEnd) : Type 0 where
   pub front : List ℕ
   pub rest : List ℕ

@@ -23,7 +23,7 @@ HoldsWhole (Counted count) behind = count ≤ length behind
 HoldsWhole Chunked behind = ⊥
 HoldsWhole ToTheEnd behind = length behind ≤ MAX_OPEN_BYTES
 
--- replies of which each leads on to the next, up to a 200 with a whole content
+-- replies each of which leads on to the next, up to a 200 with a whole content
 abbrev pub LeadToContent : Place → List (List ℕ) → Type 0
 LeadToContent place [] = ⊤
 LeadToContent place (text ∷ texts) =

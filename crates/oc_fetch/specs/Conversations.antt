@@ -12,7 +12,7 @@ use Rattle.oc_http.specs.declared.reply.ReplyHead.{ReplyHead}
 use Rattle.oc_outside.specs.LinkCalls.{IsFront}
 use Rattle.url.specs.Parts.{Parts}
 
--- a reply of a head, and of bytes after it, of which this holds
+-- a reply that is a head and bytes after it, of which this holds
 pub record Replied (reply : List ℕ) (P : ReplyHead → List ℕ → Type 0) : Type 0 where
   pub head : ReplyHead
   pub behind : List ℕ
@@ -92,7 +92,7 @@ StopsContent wish head body over written end = ⊥
 abbrev pub IsPartial : Wish → List ℕ → List ℕ → Type 0
 IsPartial wish reply written = (written ≡ []) ⊎ Replied reply (λ head body. Passes wish head body written)
 
--- a reply that is none, or that leads nowhere
+-- what came is no reply, or a reply that leads nowhere, or one whose content stops with the end `Reply`
 abbrev pub IsBad : Wish → Place → List ℕ → Bool → List ℕ → Type 0
 IsBad wish place reply over written =
     (IsHeadless reply over × (written ≡ []))

@@ -10,7 +10,7 @@ use Rattle.oc_fetch.specs.declared.end.GetEnd.TheVariants.{BadUrl, Memory}
 use Rattle.oc_fetch.specs.declared.place.Place.{Place}
 use Rattle.url.specs.Parts.{Parts}
 
--- where a client begins that wants `times` replies
+-- where a client that wants `times` replies begins
 abbrev pub first_place : Parts → ℕ → Place
 first_place url times = record {
   target = url;

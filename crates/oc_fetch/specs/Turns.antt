@@ -5,7 +5,7 @@ use Rattle.oc_outside.specs.Story.{Dial, Story, dials, hung_up}
 
 -- a request and what was read after it
 pub record Turn : Type 0 where
-  -- where a connection was made to for it; none where it went on the one before
+  -- the address to which a connection was made for it; none where it went on the one before
   pub dialled : Option (List ℕ)
   -- what was written
   pub request : List ℕ
@@ -125,13 +125,13 @@ MaySpeakLast (Some turn) old new = SpeaksLast turn old new
 abbrev pub asking : Option (List ℕ) → List ℕ → Turn
 asking dialled request = record { dialled = dialled; request = request; reply = []; over = false }
 
--- of where a connection is made to, a prefix may be all that was kept
+-- a prefix of the address to which a connection is made may be all that was kept
 abbrev pub IsCutAddress : Option (List ℕ) → Option (List ℕ) → Type 0
 IsCutAddress None None = Unit {0}
 IsCutAddress (Some kept) (Some address) = IsFront kept address
 IsCutAddress kept address = ⊥
 
--- of this request some was written, and then a call failed
+-- some of this request was written, and then a call failed
 pub record IsCut (dialled : Option (List ℕ)) (request : List ℕ) (turn : Turn) : Type 0 where
   pub address : IsCutAddress turn.dialled dialled
   pub written : IsFront turn.request request

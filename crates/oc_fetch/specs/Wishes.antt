@@ -24,7 +24,7 @@ abbrev pub request_of : Wish → Place → List ℕ
 request_of whole place = get_text place.target.path place.target.query (host_of place.target)
 request_of (news area) place = follow_text place.target.path place.start area (host_of place.target)
 
--- where it makes a connection to, unless the one before is kept
+-- the address to which it makes a connection, unless the one before is kept
 abbrev pub dialled_at : Bool → Place → Option (List ℕ)
 dialled_at true place = None
 dialled_at false place = Some (dial_address place.target)

@@ -32,8 +32,8 @@ pub const MAX_REDIRECTIONS: u8 = 2;
 
 /// Downloads the content of a URL onto a sink, in pieces of at most 64 KiB as they come (RFC 9110, section
 /// 9.3.1). The address is an `http` URL with a host, without a user and a password. Each Location of a 302
-/// is followed, at most `MAX_REDIRECTIONS` of them. A chunked reply is `Reply`. With another end than `Done`
-/// a prefix of the content was written, and nothing where no 200 came.
+/// is followed, at most `MAX_REDIRECTIONS` of them. A chunked reply ends it with `Reply`. With an end other than
+/// `Done` a prefix of the content was written, and nothing where no 200 came.
 pub fn get<L: Link, K: Sink>(alloc: Global, address: &str, link: &mut L, sink: &mut K) -> GetEnd
     ensures talked { IsTalked K.takes K.fails (Downloads content_of address.now 1)
         (L.story link.old) (L.story link.new) sink.old sink.new result }
@@ -104,7 +104,7 @@ fn unasked(fault: UrlFault) -> GetEnd
     }
 }
 
-/// What a client wishes for that follows the group of a URL.
+/// What a client that follows the group of a URL wishes for.
 fn news(alloc: Global, url: &Url) -> Result<Wish, Memory>
     ensures { IfOk result (λ wish. wish_of wish ≡ news_of url.now) }
 {

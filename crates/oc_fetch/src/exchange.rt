@@ -19,7 +19,7 @@ use oc_io::Sink;
 use oc_outside::{Link, Outgoing};
 use std::alloc::Global;
 
-/// Makes the request of a client at a place, passes on what comes of content, and goes to the place to
+/// Makes the request of a client at a place, passes on the content that comes, and goes to the place to
 /// which the reply leads.
 pub(crate) fn exchange<L: Link, K: Sink>(
     alloc: Global,

@@ -9,5 +9,5 @@ pub(crate) enum Extent {
     ToTheEnd,
 }
 
-/// The greatest number of bytes of a content whose length is not told: 2^40.
+/// The greatest number of bytes of a content whose length is not given: 2^40.
 pub const MAX_OPEN_BYTES: u64 = 1_099_511_627_776;

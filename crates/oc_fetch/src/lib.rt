@@ -7,9 +7,9 @@
 //! Both have one contract, `Downloads`. It names the turns: which request was written where, and what was read
 //! after it. `specs/Addresses` says which URLs are asked and where, `specs/Wishes` has the requests,
 //! `specs/Replies` says what a reply is and what of it is content, and `specs/Conversations` says from which
-//! place each reply leads to which, and how each [`GetEnd`] comes of what was read. `specs/Turns` says which
+//! place to which each reply leads, and how each [`GetEnd`] results from what was read. `specs/Turns` says which
 //! dials the turns make: a link that tells its story shows these and no others. The content of each reply of
-//! 200 was written in order and nothing else, and of one that was not read whole a prefix.
+//! 200 was written in order, or a prefix of it where it was not read whole, and nothing else.
 //!
 //! `StopsAtThird` says of the same turns that `Redirects` comes exactly after a third 302 with a good Location,
 //! unless a call or memory failed (`specs/Redirections`).

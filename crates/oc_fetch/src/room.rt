@@ -12,7 +12,7 @@ pub(crate) const PIECE_BYTES: usize = 65_536;
 #[derive(Drop)]
 pub(crate) struct Room {
     pub(crate) heads: HeadReader,
-    /// What came of a reply.
+    /// The bytes of a reply that have come.
     pub(crate) buffer: Vec<u8>,
     /// What is gathered of its content, where that is chunked.
     pub(crate) content: Vec<u8>,

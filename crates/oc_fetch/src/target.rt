@@ -43,7 +43,7 @@ impl Target {
         &self.url
     }
 
-    /// Where the URL is asked for: its host and a port.
+    /// Where the URL is asked for: its host, and its port or 80.
     pub(crate) fn address(&self) -> &str
         ensures { result.now ≡ dial_address self.now }
     {

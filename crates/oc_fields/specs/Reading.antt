@@ -39,7 +39,7 @@ rank_or_none_at bytes at = do
   tag ← flag_at bytes at
   tagged_rank_at tag.0 bytes tag.1
 
--- the refusal with this code, of which one names a node
+-- the refusal with this code; one of them names a node
 unfoldable pub refusal_with : ℕ → ℕ → List ℕ → ℕ → Reading Refusal
 refusal_with code nodes bytes at =
     if code == 1 then Ok (refusals.Own, at)

@@ -1,4 +1,4 @@
-//! The fields of messages that are no plain numbers, but the children of a `LookIs`: each function reads a
+//! The fields of messages that are no plain numbers, except the children of a `LookIs`: each function reads a
 //! field at an index, and gives its value and the next index, or the fault.
 
 ghost use Rattle.std.specs.Prelude.{◌≡◌};

@@ -1,4 +1,4 @@
-//! The fields of each kind of message but a `LookIs`: each function reads those of one kind at an index,
+//! The fields of each kind of message except a `LookIs`: each function reads those of one kind at an index,
 //! and gives the body and the next index, or the first fault from the left.
 
 ghost use Rattle.std.specs.Prelude.{◌≡◌};

@@ -1,4 +1,4 @@
--- What is answered for the bytes that are left of a source, where these are told.
+-- What is answered for the bytes that are left of a source, where these are known.
 use Rattle.std.specs.Prelude.{◌≡◌, ℕ, true, false, Result, Ok, Err, List, [], ◌++◌, codes, ⊤}
 use Rattle.httparse.specs.Grammar.{ReadsRequest, ReadsResponse}
 use Rattle.oc_http.specs.Requests.{read_request}

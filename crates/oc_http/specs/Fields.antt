@@ -22,7 +22,7 @@ abbrev pub fault_or : {A : Type 0} → A → Option HttpFault → Result A HttpF
 fault_or value None = Ok value
 fault_or value (Some fault) = Err fault
 
--- two texts are one in any case
+-- two texts are the same, apart from upper and lower case
 abbrev pub is_alike : List ℕ → List ℕ → Bool
 is_alike = str_eq_ignore_ascii_case
 
@@ -46,7 +46,7 @@ abbrev pub first_of : List (List ℕ) → Option (List ℕ)
 first_of [] = None
 first_of (value ∷ more) = Some value
 
--- there is one such field, and its value is this text in any case
+-- there is one such field, and its value is this text in upper or lower case
 abbrev pub is_only : List ℕ → List (List ℕ) → Bool
 is_only text [] = false
 is_only text (value ∷ []) = is_alike value text
@@ -70,7 +70,7 @@ locations = values (codes "location")
 abbrev pub connections : List Named → List (List ℕ)
 connections = values (codes "connection")
 
--- some digits and nothing else, of a number that fits a u64; zeros may lead
+-- some digits and nothing else, of a number that fits a u64; leading zeros are allowed
 abbrev pub is_length : List ℕ → Bool
 is_length value = nat_lt 0 (length value) && list_all is_ascii_digit value && nat_lt (digits_value 10 value) (2 ^ 64)
 
@@ -85,7 +85,7 @@ abbrev pub length_of : List (List ℕ) → Option ℕ
 length_of [] = None
 length_of (value ∷ more) = Some (digits_value 10 value)
 
--- the length that the fields tell, if it is usable
+-- the length that the fields give, if it is usable
 abbrev pub told_length : List (List ℕ) → Result (Option ℕ) HttpFault
 told_length values = if is_unusable values then Err (Length false) else Ok (length_of values)
 

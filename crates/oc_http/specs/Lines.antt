@@ -1,4 +1,4 @@
--- How the lines of a head are taken of a source.
+-- How the lines of a head are taken from a source.
 use Rattle.std.specs.Prelude.{◌≡◌, ◌≢◌, ℕ, ◌+◌, ◌<◌, ◌≤◌, Option, Some, None, List, [], ◌∷◌, ◌++◌, length}
 use Rattle.std.specs.List.{AllByRecursion}
 use Rattle.httparse.specs.Ascii.{line_feed}
@@ -51,7 +51,7 @@ pub record IsRequestTaken (bytes : List ℕ) (spans : List HeaderSpan) (parts : 
   pub within : IsRequestWithin bytes spans parts
   pub cover : IsRequestAt bytes spans parts head
 
--- the same of a response
+-- the same for a response
 pub record IsResponseTaken (bytes : List ℕ) (spans : List HeaderSpan) (parts : ResponseSpans) : Type 0 where
   pub head : ResponseHead
   pub whole : ReadsResponse bytes head []

@@ -24,7 +24,7 @@ abbrev pub is_post : Verb → Bool
 is_post verbs.Post = true
 is_post verb = false
 
--- so a target begins that has scheme and authority, in any case
+-- how a target that has scheme and authority begins, in upper or lower case
 abbrev pub scheme : List ℕ
 scheme = codes "http://"
 
@@ -67,7 +67,7 @@ head_fault verb minor fields =
     else if nat_lt MAX_BODY_BYTES (unwrap_or (length_of (lengths fields)) 0) then Some faults.BodyLong
     else None
 
--- the length that is told, 0 where none is; one that is wanted and missing, or too great, is a fault
+-- the length that is given, 0 where none is; one that is required and missing, or too great, is a fault
 abbrev pub wanted_length : Bool → Option ℕ → Result ℕ HttpFault
 wanted_length wanted None = if wanted then Err (faults.Length true) else Ok 0
 wanted_length wanted (Some count) = if nat_lt MAX_BODY_BYTES count then Err faults.BodyLong else Ok count

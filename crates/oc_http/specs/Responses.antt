@@ -29,7 +29,7 @@ reply_fault fields =
     else if nat_lt MAX_BODY_BYTES (unwrap_or (length_of (lengths fields)) 0) then Some faults.BodyLong
     else None
 
--- the fault that is left for a reader of whole messages to a head that has no other
+-- the fault that a head that has no other can still have for a reader of whole messages
 abbrev pub whole_fault : ReplyHead → Option HttpFault
 whole_fault head =
     if head.chunked then Some (faults.Coding false)
@@ -60,7 +60,7 @@ read_reply_start head =
 abbrev pub body_length : ReplyHead → Option ℕ
 body_length head = if head.status == 204 then Some 0 else head.length
 
--- these bytes are as long as a body, which without a length goes to the end
+-- these bytes are as long as a body is, which without a length goes to the end
 abbrev pub IsLong : Option ℕ → List ℕ → Type 0
 IsLong (Some count) body = length body ≡ count
 IsLong None body = length body ≤ MAX_BODY_BYTES

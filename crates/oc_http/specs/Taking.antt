@@ -1,4 +1,4 @@
--- Which bytes are taken of a source for a message, and what then is answered.
+-- Which bytes are taken from a source for a message, and what is then answered.
 use Rattle.std.specs.Prelude.{◌≡◌, ℕ, ◌<◌, ◌≤◌, ◌⊎◌, Option, Some, None, Result, Ok, Err, List, [], ◌∷◌, ◌++◌, length, ⊤}
 use Rattle.httparse.specs.Ascii.{line_feed}
 use Rattle.httparse.specs.Grammar.{ReadsRequest, ReadsResponse}
@@ -88,7 +88,7 @@ RefusesBody count bytes done Ended = (length bytes < count) × done
 RefusesBody count bytes done Memory = bytes ≡ []
 RefusesBody count bytes done fault = ⊥
 
--- the same of a body that may go to the end of the source
+-- the same for a body that may go to the end of the source
 abbrev pub RefusesContent : Option ℕ → List ℕ → Type 0 → HttpFault → Type 0
 RefusesContent (Some count) bytes done fault = RefusesBody count bytes done fault
 RefusesContent None bytes done Source = length bytes ≤ MAX_BODY_BYTES

@@ -124,7 +124,7 @@ abbrev pub rule_line : Option ℕ → List ℕ
 rule_line None = []
 rule_line (Some rule) = codes "Overcast-Rule: " ++ decimal rule ++ line_end
 
--- `Content-Type`, where it is told
+-- `Content-Type`, where it is given
 abbrev pub content_type_line : Bool → List ℕ
 content_type_line true = type_line
 content_type_line false = []
@@ -138,7 +138,7 @@ framing_line framings.Chunked = codes "Transfer-Encoding: chunked\r\n"
 abbrev pub content_line : ℕ → Framing → List ℕ
 content_line status framing = if status == 204 then [] else framing_line framing
 
--- the last lines of a head, of which one is empty
+-- the last lines of a head, one of which is empty
 abbrev pub head_end : Connection → List ℕ
 head_end connection = connection_line connection ++ line_end
 

@@ -36,7 +36,7 @@ pub(crate) fn take_body<S: Source>(
     Ok(body)
 }
 
-/// Takes the next bytes of a source, as many as are told, or all up to the end where that is not told.
+/// Takes the next bytes of a source, `length` of them, or all up to the end where there is no length.
 pub(crate) fn take_content<S: Source>(
     alloc: Global,
     source: &mut S,

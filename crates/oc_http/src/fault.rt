@@ -26,7 +26,7 @@ pub enum HttpFault {
         /// There is a Content-Length too.
         both: bool,
     },
-    /// The Content-Length is unusable (RFC 9112, section 6.3), or it is missing where it is wanted
+    /// The Content-Length is unusable (RFC 9112, section 6.3), or it is missing where it is required
     /// (RFC 9110, section 15.5.12).
     Length {
         /// The field is missing, and is not just unusable.

@@ -46,7 +46,7 @@ impl<'a> Fields<'a> {
         self.spans.len()
     }
 
-    /// The value of the first field of a name, in any case, and the fields after it.
+    /// The value of the first field of a name, in upper or lower case, and the fields after it.
     pub(crate) fn next(&self, name: &str) -> Option<(&'a [u8], Fields<'a>)>
         ensures none { IfNone result (values name.now self.now ≡ []) }
         ensures first { IfSome result (λ found. values name.now self.now ≡ found.0.now ∷ values name.now found.1) }
@@ -63,7 +63,7 @@ impl<'a> Fields<'a> {
         None
     }
 
-    /// The fields of a name, in any case.
+    /// The fields of a name, in upper or lower case.
     pub(crate) fn find(&self, name: &str) -> Found<'a>
         ensures { IsFound result (values name.now self.now) }
     {
@@ -93,7 +93,7 @@ impl<'a> Fields<'a> {
         false
     }
 
-    /// Whether there is one field of a name, and its value is this text, both in any case.
+    /// Whether there is one field of a name, and its value is this text, both in upper or lower case.
     pub(crate) fn has_only(&self, name: &str, text: &str) -> bool
         ensures { result ≡ is_only text.now (values name.now self.now) }
     {
@@ -116,7 +116,7 @@ impl<'a> Fields<'a> {
         self.length()
     }
 
-    /// Whether there is a field of a name, in any case.
+    /// Whether there is a field of a name, in upper or lower case.
     pub(crate) fn is_present(&self, name: &str) -> bool
         ensures { result ≡ is_present (values name.now self.now) }
     {

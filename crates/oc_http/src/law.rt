@@ -12,19 +12,19 @@ ghost use Rattle.oc_http.specs.declared.reply.Reply.{Reply};
 ghost use Rattle.oc_http.specs.declared.reply.ReplyHead.{ReplyHead};
 
 /// There is one answer to the bytes of a source, however they come: the head of a request that is read, or
-/// the fault, and what is left after it. A failed call and want of memory are left out.
+/// the fault, and what is left after it. Failed calls and a lack of memory are left out.
 pub fn a_request_has_one_answer()
     ensures { (left r s : List ℕ) (first second : Result Head HttpFault) → AnswersRequest left r first → AnswersRequest left s second
         → IsDecided first → IsDecided second → (first ≡ second) × (r ≡ s) }
 {}
 
-/// The same of the head of a response.
+/// The same for the head of a response.
 pub fn a_response_head_has_one_answer()
     ensures { (left r s : List ℕ) (first second : Result ReplyHead HttpFault) → AnswersReplyHead left r first → AnswersReplyHead left s second
         → IsDecided first → IsDecided second → (first ≡ second) × (r ≡ s) }
 {}
 
-/// The same of a whole response, of which a body that is too long may be taken further.
+/// The same for a whole response, but not for what is left after it: more of a body that is too long may be taken.
 pub fn a_response_has_one_answer()
     ensures { (left r s : List ℕ) (first second : Result Reply HttpFault) → AnswersReply left r first → AnswersReply left s second
         → IsDecided first → IsDecided second → first ≡ second }

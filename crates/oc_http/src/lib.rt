@@ -10,7 +10,7 @@
 //! next bytes, as many as the head tells; what is written is the text. A [`HeadReader`] does the same
 //! for the messages of one connection, with the memory taken once.
 //!
-//! Two laws go with them. To the bytes of a source there is one answer, however they come
+//! Two laws go with them. There is one answer to the bytes of a source, however they come
 //! ([`a_request_has_one_answer`]). And what [`write_request`] writes is read as a POST to `/!overcast`
 //! with that body ([`a_written_request_is_read`]).
 #![tactic(auto)]

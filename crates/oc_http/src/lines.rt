@@ -1,4 +1,4 @@
-//! The lines of a head, taken of a source one byte at a time, so that nothing after the head is taken.
+//! The lines of a head, taken from a source one byte at a time, so that nothing after the head is taken.
 
 ghost use Rattle.std.specs.Prelude.{◌≡◌, ◌≤◌, [], IfOk, IfErr, OnErr, OnOk, IsErrOf, None, vec_len, vec_capacity};
 ghost use Rattle.oc_io.specs.Faults.{NoFall, Rose};

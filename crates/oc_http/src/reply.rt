@@ -1,13 +1,13 @@
 use oc_base::{Bytes, Text};
 
-/// A response that is written, or what is read of one.
+/// A response that is written, or what is read from one.
 #[derive(Drop)]
 pub struct Reply {
     /// The status code (RFC 9110, section 15).
     pub status: u16,
     /// Where the client is sent by a 302.
     pub location: Option<Text>,
-    /// The content is bytes of a group or a message, so its type is told.
+    /// The content is bytes of a group or a message, so its type is given.
     pub content_type: bool,
     pub body: Bytes,
     /// The number of the access rule that denied the request.
@@ -21,7 +21,7 @@ pub struct ReplyHead {
     pub status: u16,
     /// Where the client is sent by a 302.
     pub location: Option<Text>,
-    /// The length of the body in bytes, where it is told.
+    /// The length of the body in bytes, where the head gives it.
     pub length: Option<u64>,
     /// The body is sent in chunks (RFC 9112, section 7.1).
     pub chunked: bool,

@@ -16,7 +16,7 @@ use httparse::spans::{HeaderSpan, RequestSpans};
 use oc_base::{MAX_BODY_BYTES, MAX_FIELDS, Memory, Text};
 use std::alloc::Global;
 
-/// So a target begins that has scheme and authority, in any case.
+/// How a target that has scheme and authority begins, in upper or lower case.
 const SCHEME: &str = "http://";
 
 /// What the head of a request says, or its first fault. The head is all of the bytes.
@@ -68,7 +68,7 @@ fn path_and_query(alloc: Global, target: &[u8]) -> Result<(Text, Text), Memory>
     Ok((path, copy(alloc, query)?))
 }
 
-/// The length of the body in bytes, 0 where none is told, or the first fault of the head.
+/// The length of the body in bytes, 0 where none is given, or the first fault of the head.
 fn body_length(method: Verb, minor: u8, fields: &Fields) -> Result<u64, HttpFault>
     ensures { result ≡ body_length method minor fields.now }
 {
@@ -81,7 +81,7 @@ fn body_length(method: Verb, minor: u8, fields: &Fields) -> Result<u64, HttpFaul
     wanted_length(method, fields.checked_length()?)
 }
 
-/// The length that is told, 0 where none is; one that is wanted and missing, or too great, is a fault.
+/// The length that is given, 0 where none is; one that is required and missing, or too great, is a fault.
 fn wanted_length(method: Verb, length: Option<u64>) -> Result<u64, HttpFault>
     ensures { result ≡ wanted_length (is_post method) length }
 {

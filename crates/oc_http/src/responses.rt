@@ -31,7 +31,7 @@ pub(crate) fn read_response_head(
     read_reply_head(alloc, parts.code, &fields)
 }
 
-/// The fault that is left to a head for a reader of whole messages, which understands no transfer coding.
+/// The fault that a head can still have for a reader of whole messages, which understands no transfer coding.
 pub(crate) fn whole_fault(head: &ReplyHead) -> Option<HttpFault>
     ensures { result ≡ whole_fault head.now }
 {
@@ -69,7 +69,7 @@ fn read_reply_head(alloc: Global, status: u16, fields: &Fields) -> Result<ReplyH
     })
 }
 
-/// The length of the body in bytes, where it is told, or the first fault of the head.
+/// The length of the body in bytes, where it is given, or the first fault of the head.
 fn told_length(fields: &Fields) -> Result<Option<u64>, HttpFault>
     ensures { result ≡ fault_or (length_of (lengths fields.now)) (reply_head_fault fields.now) }
 {
@@ -84,7 +84,7 @@ fn told_length(fields: &Fields) -> Result<Option<u64>, HttpFault>
     fields.length()
 }
 
-/// Whether there is a transfer coding but `chunked` alone.
+/// Whether there is a transfer coding other than `chunked` alone.
 fn has_strange_coding(fields: &Fields) -> bool
     ensures { result ≡ (is_present (codings fields.now) && not (is_chunked fields.now)) }
 {

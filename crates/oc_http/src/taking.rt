@@ -1,4 +1,4 @@
-//! Whole heads, taken of a source. `httparse` is asked at the end of each line.
+//! Whole heads, taken from a source. `httparse` is asked at the end of each line.
 
 ghost use Rattle.std.specs.Prelude.{◌≡◌, ℕ, List, ◌≤◌, IfOk, IfErr, IsErrOf, length, vec_capacity};
 ghost use Rattle.httparse.specs.Grammar.{ReadsRequest, ReadsResponse};

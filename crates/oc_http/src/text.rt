@@ -21,7 +21,7 @@ pub(crate) fn copy(alloc: Global, bytes: &[u8]) -> Result<Text, Memory>
     Ok(Text::of(items))
 }
 
-/// Whether two texts are one in any case.
+/// Whether two texts are the same, apart from upper and lower case.
 pub(crate) fn is_alike(a: &[u8], b: &str) -> bool
     ensures { result ≡ is_alike a.now b.now }
 {
@@ -62,7 +62,7 @@ fn trim(bytes: &[u8]) -> &[u8]
     trim_end(trim_start(bytes))
 }
 
-/// Whether some part of a list at commas is `close`, in any case.
+/// Whether some part of a list at commas is `close`, in upper or lower case.
 pub(crate) fn lists_close(value: &[u8]) -> bool
     ensures { result ≡ lists_close value.now }
 {

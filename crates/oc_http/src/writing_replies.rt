@@ -24,8 +24,8 @@ pub fn write_response(alloc: Global, reply: &Reply) -> Result<Vec<u8>, Memory>
     Ok(out)
 }
 
-/// The head of a reply with a content of this length in bytes, which ends the connection. So begins a
-/// reply to HEAD, and one whose content is sent in pieces.
+/// The head of a reply with a content of this length in bytes, which ends the connection. A reply to HEAD
+/// begins with it, and so does one whose content is sent in pieces.
 pub fn write_response_head(alloc: Global, reply: &Reply, length: u64) -> Result<Vec<u8>, Memory>
     requires { HasPhrase reply.now.status }
     ensures { IfOk result (λ text. text.items ≡ head_text reply.now (OfLength length) Closing) }
@@ -165,7 +165,7 @@ fn rule_line(rule: Option<u32>, digits: &mut Buffer) -> Line<'_>
     }
 }
 
-/// `Content-Type`, where it is told.
+/// `Content-Type`, where it is given.
 fn content_type_line<'a>(told: bool) -> &'a [u8]
     ensures { result.now ≡ content_type_line told }
 {

@@ -23,7 +23,7 @@ pub record DiskView : Type 1 where
   pub calls : ℕ
   -- how many calls failed
   pub faults : ℕ
-  -- no call fails that keeps within the size and the spare room
+  -- no call that keeps within the size and the spare room fails
   pub reliable : Bool
   -- the names of the loans through which the disk is reached
   pub name : List ℕ
@@ -99,7 +99,7 @@ pub record Fails (bytes turns : ℕ) (old new : DiskView) : Type 0 where
   pub count : Rose old.faults new.faults
   pub unsure : ¬ CannotFail bytes turns old
 
--- a call failed that writes nothing, so the disk is not reliable
+-- a call that writes nothing failed, so the disk is not reliable
 abbrev pub FailsToRead : DiskView → DiskView → Type 0
 FailsToRead old new = Fails 0 0 old new
 
@@ -107,7 +107,7 @@ FailsToRead old new = Fails 0 0 old new
 abbrev pub HasNoFault : DiskView → DiskView → Type 0
 HasNoFault old new = new.faults ≡ old.faults
 
--- A crash at any moment since the old disk leaves a file that has P.
+-- A crash at any moment since the old disk leaves a file with the property P.
 pub record LeavesOnly (old new : DiskView) (P : List ℕ → Type 0) : Type 0 where
   pub later : old.moment ≤ new.moment
   pub each : (c : List ℕ) → new.since old.moment c → P c

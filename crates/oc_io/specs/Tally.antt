@@ -9,7 +9,7 @@ pub record Tally : Type 0 where
   pub made : ℕ
   pub faults : ℕ
 
--- one more, where a u64 has it
+-- one more, or the greatest u64 where there is no greater
 abbrev pub counted : ℕ → ℕ
 counted n = min (n + 1) (2 ^ 64 - 1)
 

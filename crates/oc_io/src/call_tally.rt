@@ -6,7 +6,7 @@ use crate::fault::Failed;
 use std::marker::Model;
 
 /// The calls of an object in memory: which of them fail, how many were made and how many failed.
-/// A count stays at its last value.
+/// A count that has reached the greatest `u64` stays there.
 #[derive(Debug, Drop)]
 pub struct CallTally {
     listed: Vec<u64>,
@@ -34,7 +34,7 @@ impl CallTally {
         }
     }
 
-    /// Of the later calls, counted from 1, those with these numbers fail.
+    /// From now on the calls with these numbers fail, counted from 1.
     pub fn list(&mut self, calls: Vec<u64>)
         ensures { self.new ≡ record self.old { listed = calls.items; made = 0 } }
     {

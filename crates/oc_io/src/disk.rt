@@ -14,12 +14,12 @@ pub const MAX_RELIABLE_BYTES: u64 = 1_099_511_627_776;
 /// crash, and other bytes stay. After a sync that succeeded a crash leaves what a read gives. A disk
 /// that keeps this is *honest*; what a clause says of bytes and crashes it says of an honest disk.
 /// Sizes, spare room and counts are kept by each disk. On a *reliable* disk, which is honest too, no
-/// call fails that keeps within the size and the spare room. Offsets and sizes are in bytes.
+/// call that keeps within the size and the spare room fails. Offsets and sizes are in bytes.
 pub trait Disk {
     /// All that is known of the disk at one time.
     ghost view: { Self → DiskView };
 
-    /// The size.
+    /// The size in bytes.
     fn size(&mut self) -> Result<u64, Failed>
         ensures size { IfOk result (λ size. size ≡ (view self.new).size) }
         ensures size_err { OnErr result ((view self.new).size ≡ (view self.old).size) }

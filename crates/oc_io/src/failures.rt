@@ -42,7 +42,7 @@ impl Failures {
         }
     }
 
-    /// Of the later calls, counted from 1, those with these numbers fail.
+    /// From now on the calls with these numbers fail, counted from 1.
     pub fn list(&mut self, calls: Vec<u64>)
         ensures { self.new ≡ record self.old {
           calls = record self.old.calls { listed = calls.items; made = 0 };

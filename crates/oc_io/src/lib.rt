@@ -3,7 +3,7 @@
 //! A [`Source`] gives bytes and a [`Sink`] takes them. Each is seen by relations between the value
 //! before a call and the value after it: `gives old bytes new` says that these bytes came and that
 //! nothing else happened, `fails old bytes new` that these bytes came and a call then failed. A
-//! source in memory gives the front of what is left, and a real stream any bytes. Each counts its
+//! source in memory gives a prefix of what is left, and a real stream any bytes. Each counts its
 //! faults: no count falls, and a call answers [`Failed`] only where its count rose.
 //!
 //! The layers above use [`read_all`] and [`write_all`]. `read_all` gives exactly the bytes up to
@@ -14,8 +14,8 @@
 //! read gives, what a crash now or since an earlier moment may leave, whether it keeps the disk
 //! model, its size, its spare room, its count of faults, whether it is reliable, and the loans
 //! through which it is reached. A layer above rests on the clauses of its five calls, on what each
-//! honest disk keeps, and on this: no call of a reliable disk fails that keeps within the size and
-//! the spare room.
+//! honest disk keeps, and on this: no call of a reliable disk that keeps within the size and the spare
+//! room fails.
 //!
 //! [`MemDisk`] tells the images of each moment from a record of its calls, and can be stopped and
 //! crashed. It is reliable where no stop is set and no call is listed to fail. [`Lent`] is a disk

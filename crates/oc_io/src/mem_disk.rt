@@ -61,8 +61,8 @@ impl MemDisk {
         self.failures.stop(Stop { left: calls, image });
     }
 
-    /// Of the later calls of `size`, `read_at`, `write_at` and `sync`, counted together from 1,
-    /// those with these numbers fail.
+    /// From now on the calls of `size`, `read_at`, `write_at` and `sync` are counted together from 1,
+    /// and those with these numbers fail.
     pub fn fail_at(&mut self, calls: Vec<u64>)
         ensures { self.new ≡ record self.old {
           failing = record self.old.failing {
@@ -241,7 +241,7 @@ impl Disk for MemDisk {
         ensures stays { StaysAsItWas (view_of self.old) (view_of self.new) }
         ensures no_fault { HasNoFault (view_of self.old) (view_of self.new) }
 
-        // It gives no more than a reliable disk may hold.
+        // It works only where the bytes and the room together are at most `MAX_RELIABLE_BYTES`.
         ensures ok { OnOk result (self.new ≡ reserved self.old bytes) }
         ensures err { OnErr result (self.new ≡ self.old) }
         ensures most { OnOk result (length self.old.bytes + bytes ≤ MAX_RELIABLE_BYTES) }

@@ -26,7 +26,7 @@ body_in behind_gate = take (length_in behind_gate) (drop 4 behind_gate)
 abbrev pub next_gate : List ℕ → List ℕ
 next_gate behind_gate = drop (4 + length_in behind_gate) behind_gate
 
--- of at most n frames from a gate on, the bodies of those whose gates are open
+-- the bodies of those whose gates are open, of at most n frames from a gate on
 abbrev pub frames_within : ℕ → List ℕ → List (List ℕ)
 frames_within zero bytes = []
 frames_within (suc n) [] = []
@@ -37,7 +37,7 @@ frames_within (suc n) (gate ∷ rest) =
 abbrev pub frames_of : List ℕ → List (List ℕ)
 frames_of file = if nat_lt 9 (length file) then frames_within (length file) (drop 8 file) else []
 
--- of at most n frames from a gate on, one whose gate is open is not whole
+-- one of at most n frames from a gate on has an open gate and is not whole
 abbrev pub is_broken_within : ℕ → List ℕ → Bool
 is_broken_within zero bytes = false
 is_broken_within (suc n) [] = false

@@ -51,7 +51,7 @@ pub record ClosesByRead {D : Type 0} (view : D → DiskView) (old new : JournalV
 
 -- Appending
 
--- the room that `append` of a body of n bytes needs, and one byte more for a `restart`
+-- the room that `append` of a body of n bytes needs, and one more byte for a `restart`
 pub record HasRoom {D : Type 0} (view : D → DiskView) (journal : JournalView D) (n : ℕ) : Type 0 where
   pub spare : 0 < journal.spare
   pub room : n + 7 ≤ (view journal.disk).room

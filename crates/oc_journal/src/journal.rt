@@ -88,7 +88,7 @@ impl<D: Disk> Journal<D> {
         self.end
     }
 
-    /// The disk.
+    /// Hands back the disk.
     pub fn into_disk(self) -> D
         ensures disk { result ≡ self.disk }
 
@@ -99,7 +99,7 @@ impl<D: Disk> Journal<D> {
         self.disk
     }
 
-    /// Makes the room that `append` of this frame needs, and one byte more for a `restart`.
+    /// Makes the room that `append` of this frame needs, and one more byte for a `restart`.
     pub fn reserve(&mut self, frame: &Frame) -> Result<(), Memory>
         ensures room { OnOk result (HasRoom D.view self.new (length frame.now)) }
         ensures same { OnlyReads D.view self.old self.new }

@@ -13,7 +13,7 @@
 //! ```
 //!
 //! A frame is written after the closed gate and made safe before the gate is opened, and that is
-//! made safe too. What follows the last gate was never a frame, or is one no more.
+//! made safe too. What follows the last gate was never a frame, or is no longer one.
 //!
 //! A contract sees a [`Journal`] as its disk, the bodies of its frames, where they end, how many more
 //! its index has memory for, and whether it is closed. `specs/Promises` names what each call

@@ -12,7 +12,7 @@ pub const HEADER: [u8; 9] = *b"OVERCST1\0";
 /// The offset of the first gate.
 pub const FIRST_GATE: u64 = 8;
 
-/// Writes at an offset within the size, and syncs. Everything that a journal writes is written so: on
+/// Writes at an offset within the size, and syncs. A journal writes everything in this way: on
 /// a disk that was safe a crash leaves at every moment only what a torn write leaves, and after Ok
 /// the disk is safe again.
 pub fn write_safely<D: Disk>(disk: &mut D, at: u64, bytes: &[u8]) -> Result<(), Failed>
@@ -92,7 +92,7 @@ pub fn close_first_gate<D: Disk>(disk: &mut D) -> Result<(), Failed>
     write_safely(disk, FIRST_GATE, &[0])
 }
 
-/// Writes the header of a new file, which is no longer than it. The room was reserved.
+/// Writes the header of a new file, whose size is at most that of the header. The room was reserved.
 pub fn write_header<D: Disk>(disk: &mut D) -> Result<(), Failed>
     requires size { (D.view disk.old).size ≤ 9 }
     requires safe { IsTrue (D.view disk.old).honest → IsSafe (D.view disk.old) }

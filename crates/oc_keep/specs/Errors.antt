@@ -1,4 +1,4 @@
--- What a fault of a file is called of a node's files.
+-- How a fault of a file is named for a node's files.
 use Rattle.oc_journal.specs.declared.errors.AppendError.{AppendError}
 use Rattle.oc_journal.specs.declared.errors.AppendError.TheVariants as appends
 use Rattle.oc_content.specs.declared.errors.ContentError.{ContentError}

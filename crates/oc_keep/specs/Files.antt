@@ -25,7 +25,7 @@ recovered h me control alternate content = record {
   groups = groups_in (frames_of content);
 }
 
--- all durable parts agree; of a change log those are its length, its acknowledged count and what waits
+-- all durable parts agree; for a change log those are its length, its acknowledged count and what waits
 pub record SameDurable (n m : Node) : Type 0 where
   pub kept : m.control.kept ≡ n.control.kept
   pub groups : m.groups ≡ n.groups
@@ -42,7 +42,7 @@ pub record AreHonest {D : Type 0} (view : D → DiskView) (d : Disks D) : Type 0
   pub alternate : IsTrue (view d.alternate).honest
   pub content : IsTrue (view d.content).honest
 
--- no call on them fails that keeps within the size and the spare room
+-- no call on them that keeps within the size and the spare room fails
 pub record AreReliable {D : Type 0} (view : D → DiskView) (d : Disks D) : Type 0 where
   pub control : IsTrue (view d.control).reliable
   pub alternate : IsTrue (view d.alternate).reliable
@@ -66,7 +66,7 @@ pub record AreLater {D : Type 0} (view : D → DiskView) (old new : Disks D) : T
   pub alternate : (view old.alternate).moment ≤ (view new.alternate).moment
   pub content : (view old.content).moment ≤ (view new.content).moment
 
--- every crash now leaves files that recover a node with P
+-- every crash now leaves files that recover a node with the property P
 pub record Leaves {D : Type 0} (view : D → DiskView) (h : Header) (me : ℕ) (d : Disks D) (P : Node → Type 0) : Type 0 where
   pub each : (a b c : List ℕ) → MayLeave view d a b c → P (recovered h me a b c)
 

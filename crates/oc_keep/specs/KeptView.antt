@@ -58,7 +58,7 @@ IsHonest view k = AreHonest view (disks_of k)
 abbrev pub NodeSurvives : {D : Type 0} → (D → DiskView) → KeptView D → Node → Type 0
 NodeSurvives view k n = Survives view (header_of k.node.control) k.node.control.me (disks_of k) n
 
--- every crash at any moment since the old disks leaves a node with P
+-- every crash at any moment since the old disks leaves a node with the property P
 abbrev pub AtAnyMoment : {D : Type 0} → (D → DiskView) → KeptView D → KeptView D → (Node → Type 0) → Type 0
 AtAnyMoment view old new P = AlwaysLeaves view (header_of old.node.control) old.node.control.me (disks_of old) (disks_of new) P
 
@@ -95,7 +95,7 @@ IsFullByPlan control content lines i o = IsFullWith control content lines i o.re
 abbrev pub IsFullAt : {D : Type 0} → KeptView D → Input → Type 0
 IsFullAt k i = IsFullByPlan k.store.current.end k.content.journal.end k.content.shelves i (plan k.node.control k.content.shelves i)
 
--- the same of three files and the node that is kept in them
+-- the same for three files and the node that is kept in them
 abbrev pub IsFullIn : List ℕ → List ℕ → List ℕ → Node → Input → Type 0
 IsFullIn control alternate content n i =
     IsFullByPlan (end_of (recovered_frames control alternate)) (end_of (frames_of content)) (shelf n.groups) i (plan n.control (shelf n.groups) i)

@@ -26,7 +26,7 @@ pub record CanPut (shelf : List Shelf) (p : Piece) (at : ℕ) (closes : Bool) : 
   pub adds : adds_to shelf (entry_for shelf p at closes) ≡ true
   pub seals : (entry_for shelf p at closes).seals ≡ closes
 
--- the same of what a step keeps, if it keeps anything
+-- the same for what a step keeps, if it keeps anything
 abbrev pub CanKeep : List Shelf → Piece → Option ℕ → Bool → Type 0
 CanKeep shelf p None closes = Unit {0}
 CanKeep shelf p (Some at) closes = CanPut shelf p at closes
@@ -38,7 +38,7 @@ pub record IsHeldWant (shelf : List Shelf) (w : Want) : Type 0 where
   pub within : w.start + w.count ≤ line.held
   pub few : w.count ≤ MAX_CHUNK_BYTES
 
--- the same of what a step wants, if it wants anything
+-- the same for what a step wants, if it wants anything
 abbrev pub CanWant : List Shelf → Option Want → Type 0
 CanWant shelf None = Unit {0}
 CanWant shelf (Some w) = IsHeldWant shelf w

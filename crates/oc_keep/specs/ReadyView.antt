@@ -64,7 +64,7 @@ pub record CanCommit {D : Type 0} (view : D → DiskView) (k : KeptView D) (r : 
 abbrev pub IsFullToWrite : {D : Type 0} → KeptView D → Write → Type 0
 IsFullToWrite k w = IsTooLong k.store k.content w
 
--- what is written can be stopped in the midst of it
+-- what is written can be stopped partway through
 abbrev pub CanStopWrite : KeptView MemDiskView → Write → Type 0
 CanStopWrite k writes.Nothing = Unit {0}
 CanStopWrite k (writes.Records frame) = CanStop (length frame) k.store.current

@@ -69,7 +69,7 @@ abbrev pub HasCause : {D : Type 0} → (D → DiskView) → ℕ → Disks D → 
 HasCause view nodes old new (Load error) = RefusesNode view nodes old new error
 HasCause view nodes old new end = HasRunCause view old new end
 
--- the first of these inputs is one with P
+-- the first of these inputs is one with the property P
 abbrev pub BeginsWith : (Input → Type 0) → List Input → Type 0
 BeginsWith P [] = ⊥
 BeginsWith P (i ∷ is) = P i

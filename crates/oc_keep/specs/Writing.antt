@@ -39,7 +39,7 @@ pub record IsPutAs {D : Type 0} (view : D → DiskView) (shelves : List Shelf) (
   pub body : piece.body ≡ written piece.entry
   pub can : CanPutPiece view c piece
 
--- the same of what a plan keeps
+-- the same for what a plan keeps
 pub record IsPieceOf {D : Type 0} (view : D → DiskView) (shelves : List Shelf) (c : ContentView D) (p : PlanView) (of : Piece) (piece : PieceView) : Type 0 where
   pub none : p.records ≡ []
   pub at : ℕ

@@ -73,7 +73,7 @@ impl<D: Disk> Kept<D> {
         ensures loaded { IfOk result (λ kept.
             IsNodeOf D.view (header nodes chain areas.items) me (disks control alternate content) kept) }
 
-        // At every moment a crash leaves what one at the start would have left.
+        // At every moment a crash leaves what a crash at the start would have left.
         ensures safely { IfOk result (λ kept. LoadsSafely D.view (header nodes chain areas.items) me
             (disks control alternate content) (disks_of kept)) }
         ensures safely_err { IfErr result (λ refused. LoadsSafely D.view (header nodes chain areas.items) me
@@ -186,7 +186,7 @@ impl<D: Disk> Kept<D> {
         ensures works { self.old.closed ≡ false → AreReliable D.view (disks_of self.old)
             → IfErr result (λ error. error ≡ ReadyError.Memory) }
     {
-        // Let go by a call, the input costs one proof; out of scope it costs one at each return.
+        // Dropped by a call, the input costs one proof; out of scope it costs one at each return.
         if self.closed {
             drop(input);
             return Err(ReadyError::Closed);
@@ -371,7 +371,7 @@ impl<D: Disk> Kept<D> {
     pub fn into_disks(self) -> (D, D, D)
         ensures disks { disks result.0 result.1 result.2 ≡ disks_of self }
 
-        // While no disk failed, every crash leaves files of a node, which are full for what it is full for.
+        // While no disk failed, every crash leaves files of a node, full for each input for which these files are full.
         ensures files { self.closed ≡ false → IsHonest D.view self
             → LeavesFiles D.view self.node.control.nodes (disks_of self) }
         ensures full { self.closed ≡ false → IsHonest D.view self
@@ -384,7 +384,7 @@ impl<D: Disk> Kept<D> {
             content,
             closed: _,
         } = self;
-        // A call lets the node go with less to prove than the end of its scope.
+        // Dropping the node by a call takes less to prove than the end of its scope.
         drop(node);
         let (control, alternate) = store.into_disks();
         (control, alternate, content.into_disk())
@@ -436,7 +436,7 @@ impl Kept<MemDisk> {
 }
 
 /// The files of a node, and what an input that was made ready writes to them. The rest is dropped here, where
-/// the disk is a parameter: of a disk that is known there is far more to prove.
+/// the disk is a parameter: for a disk that is known there is far more to prove.
 fn files_of<D: Disk>(kept: Kept<D>, ready: Ready) -> (Store<D>, Content<D>, Write)
     ensures store { result.0 ≡ kept.store }
     ensures content { result.1 ≡ kept.content }

@@ -56,7 +56,7 @@ pub fn make_ready<D: Disk>(
     prepare_refuses_nothing_that_is_kept();
     spellings_are_read();
     let mut plan = node.plan(input, content.groups())?;
-    // Let go by calls, the plan and what it writes cost less to prove than out of scope.
+    // Dropped by calls, the plan and what it writes cost less to prove than out of scope.
     let write = match writing(alloc, store, content, &plan, input) {
         Ok(write) => write,
         Err(Memory) => {

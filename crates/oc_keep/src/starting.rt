@@ -39,7 +39,7 @@ pub fn start(
     match node.recover(list) {
         Ok(()) => Ok(node),
         Err(Memory) => {
-            // A call lets it go with less to prove than the end of its scope.
+            // Dropping it by a call takes less to prove than the end of its scope.
             drop(node);
             Err(Memory)
         }

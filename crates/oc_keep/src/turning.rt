@@ -36,7 +36,7 @@ pub fn replace<D: Disk>(node: &Node, store: &mut Store<D>) -> Result<bool, TidyE
         return Ok(false);
     };
     let prepared = store.prepare_snapshot(&list);
-    // A call lets the list, and then the frame, go with less to prove than the end of its scope.
+    // Dropping the list, and then the frame, by a call takes less to prove than the end of their scope.
     drop(list);
     let frame = prepared?;
     let turned = store.turn_over(&frame);

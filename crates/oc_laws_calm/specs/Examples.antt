@@ -10,7 +10,7 @@ use Rattle.oc_model.specs.NextWorld.{world_after}
 use Rattle.oc_model.specs.Table.{newest, table_line}
 use Rattle.oc_model.specs.World.{World, new_world, node}
 
--- Worlds in which the causes occur by which lines and counts are explained.
+-- Worlds in which the causes occur that explain lines and counts.
 
 -- A parent with three children fails, and they go beneath their grandparent. Before the world settles the root still lists the parent.
 
@@ -53,10 +53,10 @@ HasOldCount w y x = (e : Cert) × (newest (table_of w y) x ≡ Some e) × (e.num
 abbrev IsBehind : World → Type 0
 IsBehind w = IsRoot w 1 × (table_line (table_of w 1) 1 3 ≡ Some 2) × (true_line w 1 3 ≡ Some 2) × HasOldCount w 1 3
 
--- for the parent was not told
+-- because the parent was not told
 abbrev pub UntoldOccurs : Type 0
 UntoldOccurs = IsBehind counted × HasOldCount counted 2 3
 
--- or a certificate waits at it
+-- or because a certificate waits at it
 abbrev pub WaitingOccurs : Type 0
 WaitingOccurs = IsBehind told × HasMissingCause told 1 3

@@ -43,7 +43,7 @@ pub record DoesStepOne (w : World) (m : ℕ) : Type 0 where
   pub root : IsRoot (behind_one w m) m
   pub few : length (comes_to_act m w).acts ≤ 2 * m
 
--- after step 2 a lease is at a node that is up only where the child is up and joined to it at that number; nine acts at most for
+-- after step 2 a node that is up holds a lease only where the child is up and joined to it at that number; nine acts at most for
 -- each node that is up
 pub record DoesStepTwo (w : World) (m : ℕ) : Type 0 where
   pub leases : (y x seq : ℕ) → IsUp (behind_two w m) y → HoldsLease (behind_two w m) y x seq → IsUp (behind_two w m) x × IsJoined (behind_two w m) x y × (seq_of (behind_two w m) x ≡ seq)
@@ -57,7 +57,7 @@ pub record PlacesOne (w : World) (m x : ℕ) : Type 0 where
   pub few : length (places m x w).acts ≤ 51
   pub none : IsPlaced w m x → length (places m x w).acts ≡ 0
 
--- so it is at the turn of each of these
+-- this holds at the turn of each of these
 abbrev pub PlacesEach : World → ℕ → List ℕ → Type 0
 PlacesEach w m [] = Unit {0}
 PlacesEach w m (x ∷ xs) = PlacesOne w m x × PlacesEach (places m x w).world m xs
@@ -78,12 +78,12 @@ pub record DoesStepFour (w : World) (m : ℕ) : Type 0 where
   pub ready : IsReadyUnder (behind_three w m) m
   pub settles : next_world w Heal ≡ (settles (behind_three w m)).world
 
--- heal tells the number of the acts of its four steps, of which the last takes what settle takes there
+-- heal tells the number of the acts of its four steps, the last of which takes what settle takes there
 abbrev pub acts_to_heal : World → ℕ → ℕ
 acts_to_heal w m =
     length (comes_to_act m w).acts + length (first_five_steps (behind_one w m)).acts + length (all_join m (behind_two w m)).acts + acts_to_settle (behind_three w m)
 
--- what is so of an able world and its leader
+-- what holds of an able world and its leader
 abbrev pub WhereAble : (World → ℕ → Type 0) → World → Type 0
 WhereAble P w = (m : ℕ) → IsAble w → leader w ≡ Some m → P w m
 

@@ -16,10 +16,10 @@ pub fn able_worlds_heal()
 
 /// What each step of heal does, in an able world that m leads, and how many acts it takes.
 ///
-/// Step 1: m acts, after 2m acts at most. Step 2: a lease is at a node that is up only where the child is
-/// up and joined to it at that number; nine acts at most for each node that is up. Step 3: at the turn of
-/// each node it is placed, and so stays every node that was, under the parent that it had; 51 acts at
-/// most for each that was not placed, and two asks. Step 4 is settle, in a world that is ready then.
+/// Step 1: m acts as root, after 2m acts at most. Step 2: a node that is up holds a lease only where the child
+/// is up and joined to it at that number; nine acts at most for each node that is up. Step 3: each node is
+/// placed at its turn, and each that was placed stays so, under the parent that it had; 51 acts at most for
+/// each that was not placed, and two asks at most of each. Step 4 is settle, in a world that is ready then.
 pub fn heal_goes_step_by_step()
     ensures one { (h : Header) (events : List Event) → IsHeader h → WhereAble DoesStepOne (world_after (new_world h) events) }
     ensures two { (h : Header) (events : List Event) → IsHeader h → WhereAble DoesStepTwo (world_after (new_world h) events) }

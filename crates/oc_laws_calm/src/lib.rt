@@ -7,8 +7,8 @@
 //!
 //! Two facts carry the proofs. No fact that is told is news to the node that it names as parent, nor one
 //! about a child whose lease that node holds at its present number; so a check-in neither makes nor ends
-//! such a lease. And each lease end lies ahead of the clock, by no more than a lease lasts; so ticks on
-//! thirty seconds, with the check-ins between, end each lease that is not current and no other. Passes
+//! such a lease. And each lease end lies ahead of the clock, by no more than a lease lasts; so ticks that go
+//! on by thirty seconds, with the check-ins between, end each lease that is not current and no other. Passes
 //! over the nodes (`proofs/Passes`) lift what one tick or one check-in does to a whole step.
 #![tactic(auto)]
 

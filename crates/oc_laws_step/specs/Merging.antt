@@ -3,7 +3,7 @@ use Rattle.oc_base.specs.declared.cert.Cert.{Cert}
 use Rattle.oc_model.specs.Certificates.{IsNewest}
 use Rattle.oc_model.specs.Numbers.{IsAmong}
 
--- What comes of merging certificates, in whatever order they come.
+-- The result of merging certificates, in whatever order they come.
 
 -- one ask of one subject went to one parent, and one own number in one state of it counts one number of clients
 pub record AreConsistent (cs : List Cert) : Type 0 where

@@ -16,7 +16,7 @@ use Rattle.oc_model.specs.Table.{is_news}
 abbrev pub AreAbove : ℕ → List Cert → Type 0
 AreAbove x ks = AllByRecursion (λ k. x < k.subject) ks
 
--- a table: ascending by subject, so one row a subject
+-- a table: ascending by subject, so it has one row per subject
 abbrev pub IsTable : List Cert → Type 0
 IsTable [] = Unit {0}
 IsTable (k ∷ ks) = AreAbove k.subject ks × IsTable ks

@@ -7,7 +7,7 @@ use Rattle.oc_model.specs.Numbers.{IsAmong}
 use Rattle.oc_model.specs.World.{World, node}
 use Rattle.oc_laws_world.specs.Numbers.{IsAnywhere}
 
--- One own number of a node names one count of its clients, wherever it is told.
+-- Each own number of a node names one count of its clients, wherever it is told.
 
 -- a check-in of x told this own number and count, among these messages
 abbrev pub HasToldIn : List Message → ℕ → ℕ → ℕ → Type 0

@@ -5,7 +5,7 @@ use Rattle.oc_model.specs.Ready.{IsSettled}
 use Rattle.oc_model.specs.Table.{table_line}
 use Rattle.oc_model.specs.World.{World}
 
--- the table of each root tells of each node the first link of its true chain, or none where it has none, so down nodes are not listed
+-- the table of each root tells the first link of each node's true chain, or none where it has none, so down nodes are not listed
 abbrev pub ListsExactly : World → Type 0
 ListsExactly w = (r x : ℕ) → IsRoot w r → table_line (table_of w r) r x ≡ true_line w r x
 

@@ -30,7 +30,7 @@ HasAcknowledgedAmong net y x s upto = (r : Rank) × (ancestors : List ℕ) × Is
 abbrev pub HasAcknowledged : World → ℕ → ℕ → ℕ → ℕ → Type 0
 HasAcknowledged w y x s upto = HasAcknowledgedAmong w.net y x s upto
 
--- of the facts that wait, those that come before this place of the whole log
+-- the facts that wait and that come before this place of the whole log
 abbrev pub before_place : Log → ℕ → List Cert
 before_place l place = take (place - l.acked) l.waiting
 
@@ -53,7 +53,7 @@ abbrev pub CheckInsTell : World → Type 0
 CheckInsTell w = (x y upto : ℕ) (certs : List Cert) → IsJoined w x y → HasCheckedIn w x y (seq_of w x) upto certs →
     (upto ≤ (log_of w x).length) × ((f : Cert) → IsAmong f (before_place (log_of w x) upto) → IsAmong f certs ⊎ IsCovered (table_of w y) f)
 
--- and of each that comes before an acknowledged place the parent knows it or a later word
+-- and the parent knows each that comes before an acknowledged place, or a later word
 abbrev pub AcksAreKnown : World → Type 0
 AcksAreKnown w = (x y upto : ℕ) → IsJoined w x y → HasAcknowledged w y x (seq_of w x) upto →
     (upto ≤ (log_of w x).length) × ((f : Cert) → IsAmong f (before_place (log_of w x) upto) → IsCovered (table_of w y) f)

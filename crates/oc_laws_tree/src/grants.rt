@@ -4,7 +4,7 @@ ghost use Rattle.oc_laws_tree.specs.Grants.{FactsAreGranted, YesesAreGranted, Pa
 /// The parent that a fact names knows that fact or a later word on its subject: after any events, in any
 /// order, from any new world.
 ///
-/// So it is of each fact in a table, in a log or in a check-in that was ever sent. Whoever said yes to an
+/// This holds for each fact in a table, in a log or in a check-in that was ever sent. Whoever said yes to an
 /// ask knows of that lease or a later word, and so does each parent of its child's present lease.
 pub fn grants_are_known()
     ensures facts { Always FactsAreGranted }

@@ -16,7 +16,7 @@ ghost use Rattle.oc_laws_tree.specs.Listing.{SettledListsExactly};
 /// Every missing or wrong line of an acting root's table has its cause at hand: after any events, from any
 /// new world, and in every world on the way.
 ///
-/// Of each root that is up and each other node, the root's table tells the first link of the node's live
+/// For each root that is up and each other node, the root's table tells the first link of the node's live
 /// way to it, or there is a cause. Where the node is missing or misplaced, some node on its way has ended
 /// the lease of the one beneath, or a certificate about one of them waits further up. Where it is listed
 /// and should not be, the topmost false link of the listed way still has its lease, or a certificate about
@@ -36,14 +36,14 @@ pub fn every_count_is_informed()
 
 /// A settled tree is listed exactly: after any events, from any new world, and in every world on the way.
 ///
-/// In a settled world the root's table tells of each node the first link of its live way, and lists no
-/// other, so no node that is down.
+/// In a settled world the root's table tells the first link of each node's live way, and lists no other
+/// node, so none that is down.
 pub fn settled_trees_are_listed_exactly()
     ensures { Always SettledListsExactly }
 {}
 
 /// Why lines and counts are explained: in a world of ascending tables it follows from what is said of ask
-/// numbers, of grants and of coverage, and for counts of own numbers.
+/// numbers, of grants and of coverage, and for counts also from what is said of own numbers.
 pub fn explanations_follow()
     ensures lines { (w : World) → ((x : ℕ) → IsTable (table_of w x)) → HaveOnePeer w → AskNumbersAreBelow w → FactsAreGranted w → ChildrenAreCovered w → IsExplained w }
     ensures counts { (w : World) → ((x : ℕ) → IsTable (table_of w x)) → HaveOnePeer w → AskNumbersAreBelow w → FactsAreGranted w → ChildrenAreCovered w
@@ -57,7 +57,7 @@ pub fn settled_trees_have_no_cause()
     ensures exact { (w : World) → IsExplained w → SettledListsExactly w }
 {}
 
-/// What a cause speaks of: there is a walk up a table from another node than the root exactly where the
+/// What a cause speaks of: there is a walk up a table from a node other than the root exactly where the
 /// table lists it, and a walk has one topmost false link at most.
 pub fn walks_are_listings()
     ensures walks { (table : List Cert) (r x : ℕ) → IsListed table r x ↔ ((x ≡ r → ⊥) × ((c : List ℕ) × IsWalk table x r c)) }

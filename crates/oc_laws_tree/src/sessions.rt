@@ -5,9 +5,9 @@ ghost use Rattle.oc_laws_tree.specs.Sessions.{CheckInsAreNumbered, AcksAnswer, A
 ///
 /// No check-in has an ask number above its sender's own; each acknowledgement answers a check-in of the
 /// same number and place; who asks has neither checked in with the number of its ask nor been
-/// acknowledged. Of a child's log, each fact that comes before the place of a check-in with its parent is
-/// told in it, or the parent knows it or a later word; each that comes before an acknowledged place the
-/// parent knows. Places lie within the log.
+/// acknowledged. Each fact in a child's log that comes before the place of a check-in with its parent is
+/// told in it, or the parent knows it or a later word; the parent knows each one that comes before an
+/// acknowledged place, or a later word. Places lie within the log.
 pub fn acknowledged_facts_are_known()
     ensures numbered { Always CheckInsAreNumbered }
     ensures answered { Always AcksAnswer }

@@ -10,7 +10,7 @@ use Rattle.oc_model.specs.ClaimsTree.{table_of, seq_of}
 use Rattle.oc_model.specs.Numbers.{IsAmong}
 use Rattle.oc_model.specs.World.{World, node, mode_of}
 
--- One number of an ask has one peer, wherever it is told.
+-- Each ask number has one peer, wherever it is told.
 
 -- an ask of x with this number went to p, among these messages
 abbrev pub HasAskedIn : List Message → ℕ → ℕ → ℕ → Type 0

@@ -18,7 +18,7 @@ use Rattle.oc_laws_step.specs.Order.{IsNoWorse}
 abbrev pub own_rank : World → ℕ → Option Rank
 own_rank w x = (node w x).control.kept.rank
 
--- the rank of a node, where none reads as the last of all
+-- the rank of a node, or the last of all where it has none
 abbrev pub rank_of : World → ℕ → Rank
 rank_of w x = rank_or_last (own_rank w x)
 
@@ -44,7 +44,7 @@ IsBacked w y (Yes seq rank ancestors) = IsRanked (own_rank w y) × IsAtLeast (ra
 IsBacked w y (CheckAck seq upto rank ancestors) = IsAtLeast (rank_of w y) rank
 IsBacked w y body = Unit {0}
 
--- so of each message that was ever sent
+-- this holds of each message that was ever sent
 abbrev pub ToldRanksHold : World → Type 0
 ToldRanksHold w = AllByRecursion (λ m. IsBacked w m.from m.body) w.net
 

@@ -23,7 +23,7 @@ Inside P w Settle = AlongAny P w (settle_acts w)
 Inside P w Heal = AlongAny P w (heal_acts w)
 Inside P w e = Unit {0}
 
--- this holds of the world, and of each world to which these events lead it, one after another, with those inside of settle and heal
+-- this holds of the world, and of each world to which these events lead it, one after another, with those inside settle and heal
 abbrev pub Throughout : (World → Type 0) → World → List Event → Type 0
 Throughout P w [] = P w
 Throughout P w (e ∷ es) = P w × Inside P w e × Throughout P (next_world w e) es

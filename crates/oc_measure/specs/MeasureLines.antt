@@ -39,7 +39,7 @@ abbrev pub at_line : {A : Type 0} → ℕ → Result A Why → Result A MeasureF
 at_line i (Ok x) = Ok x
 at_line i (Err why) = Err (Line i why)
 
--- the measures with that of a line more; an empty line has none
+-- the measures with that of one more line; an empty line has none
 abbrev pub with_line : ℕ → ℕ → List Measure → List (List ℕ) → Result (List Measure) MeasureFault
 with_line nodes i so_far [] = Ok so_far
 with_line nodes i so_far (word ∷ fields) = do
@@ -67,7 +67,7 @@ Gives (Ok measures) said = said ≡ Ok measures.items
 Gives (Err (Line i why)) said = said ≡ Err (Line i why)
 Gives (Err Memory) said = Unit {0}
 
--- the same of a line more
+-- the same for one more line
 abbrev pub GivesLine : ℕ → ℕ → List Measure → List Measure → List (List ℕ) → Result (Unit {0}) MeasureFault → Type 0
 GivesLine nodes number old new fields (Ok done) = with_line nodes number old fields ≡ Ok new
 GivesLine nodes number old new fields (Err (Line i why)) = with_line nodes number old fields ≡ Err (Line i why)

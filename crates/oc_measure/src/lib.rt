@@ -2,7 +2,7 @@
 //!
 //! A contract sees [`Measures`] as the list of readings by the number of a peer, as the model keeps
 //! it. The layers above rest on this: [`Measures::get`] gives what was put last for that peer, and
-//! `(0, 0)` where nothing was put; [`what_was_put_last_is_got`] says it of every row of puts.
+//! `(0, 0)` where nothing was put; [`what_was_put_last_is_got`] says it of every sequence of puts.
 //!
 //! [`read_lines`] reads what a configuration says was measured: exactly the measures of its lines, or
 //! the first bad line and its cause (`measures_in`).

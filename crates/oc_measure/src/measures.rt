@@ -35,7 +35,7 @@ impl Measures {
         Ok(Measures { readings })
     }
 
-    /// Takes all readings out. Takes no memory.
+    /// Removes all readings. Takes no memory.
     pub fn clear(&mut self)
         ensures { self.new ≡ replicate (length self.old) no_reading }
     {

@@ -15,7 +15,7 @@ use Rattle.oc_base.specs.declared.limits.TheConstants.{MAX_DEPTH}
 abbrev pub precedes : Rank → Rank → Bool
 precedes a b = nat_lt b.epoch a.epoch || (a.epoch == b.epoch && nat_lt a.depth b.depth)
 
--- a rank, where none reads as the last of all, of the greatest depth
+-- a rank, or the last of all, which has the greatest depth, where there is none
 abbrev pub rank_or_last : Option Rank → Rank
 rank_or_last None = record { epoch = 0; depth = MAX_DEPTH }
 rank_or_last (Some r) = r
@@ -25,7 +25,7 @@ abbrev pub precedes_any : Rank → Option Rank → Bool
 precedes_any a None = true
 precedes_any a (Some b) = precedes a b
 
--- whether the rank beneath the one that was told is better than the own
+-- whether the rank beneath the one that was told is better than the node's own
 abbrev pub is_better : Option Rank → Rank → Bool
 is_better own told = nat_lt told.depth MAX_DEPTH && precedes_any (beneath_of told) own
 

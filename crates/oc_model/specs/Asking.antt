@@ -106,7 +106,7 @@ took_yes o p seq r xs =
 
 -- The rule Take a no
 
--- what comes of a refusal: one that names a chain member beneath leads a node from outside the chain there
+-- what results from a refusal: one that names a chain member beneath leads a node from outside the chain there
 abbrev pub refused : Plan → Refusal → Plan
 refused o (refusals.Chain k) = if is_member o.node || k == o.node.me then next_try o else descend o k
 refused o why = next_try o

@@ -23,7 +23,7 @@ use Rattle.oc_model.specs.Table.{newest, is_news}
 
 -- The rule Check now
 
--- the clients that were served come into the own count, by its next number if there is one
+-- the clients that were served are added to the node's own count, by its next number if there is one
 abbrev pub counts_clients : Plan → Plan
 counts_clients o =
     if not (o.node.soft.served == 0) && nat_lt o.node.kept.number number_end
@@ -83,7 +83,8 @@ abbrev pub looks_at_each : List ℕ → Plan → Plan
 looks_at_each [] o = o
 looks_at_each (x ∷ xs) o = looks_at_each xs (send o x bodies.Look)
 
--- after its check a node in the tree looks for a better place: one of the chain among the earlier members, nearer than its parent
+-- after its check a node in the tree looks for a better place; a chain member looks among the earlier members that are nearer than
+-- its parent
 abbrev pub looks_round : Mode → Plan → Plan
 looks_round (modes.Joined p) o =
     if is_member o.node then looks_at_each (filter (λ x. nat_lt p x) (below o.node.me)) o

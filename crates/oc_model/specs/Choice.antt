@@ -32,8 +32,8 @@ nearest (c ∷ cs) = Some (nearer_of c (nearest cs))
 abbrev pub chosen : ℕ → List Candidate → Option ℕ
 chosen direct cs = option_map (λ c. c.id) (nearest (filter (is_suitable direct) cs))
 
--- what a joined node sees of its place: the own rate to its parent, that of its parent to the grandparent, the grandparent with
--- the own rate to it, and the other children of its parent
+-- what a joined node sees of its place: its own rate to its parent, that of its parent to the grandparent, the grandparent with
+-- its own rate to it, and the other children of its parent
 pub record View : Type 0 where
   pub direct : ℕ
   pub up : ℕ

@@ -24,7 +24,7 @@ WaitsBelow w [] x = ⊥
 WaitsBelow w (r ∷ []) x = ⊥
 WaitsBelow w (y ∷ z ∷ zs) x = WaitsAt w y x ⊎ WaitsBelow w (z ∷ zs) x
 
--- of some node of this chain the lease is not held, at its own ask number, by the next one: that has ended it
+-- the lease of some node of this chain is not held, at its own ask number, by the next one, which has ended it
 abbrev pub HasEndedLease : World → List ℕ → Type 0
 HasEndedLease w [] = ⊥
 HasEndedLease w (r ∷ []) = ⊥

@@ -74,7 +74,7 @@ fetched o shelf p have = answers_fetch o p have (first_behind have shelf)
 
 -- Chunks
 
--- whether a chunk closes the group: it is last, the group is open, and the chunk does not end before held
+-- whether a chunk closes the group: it is last, the group is open, and the chunk does not end before what is held
 abbrev pub adds_seal : Shelf → ℕ → Bool → Bool
 adds_seal l end last = last && not l.sealed && nat_le l.held end
 
@@ -86,7 +86,7 @@ adds shelf l end last = not (is_some (line_of l.group shelf)) || nat_lt l.held e
 abbrev pub grown_line : Shelf → ℕ → Bool → Shelf
 grown_line l end last = record { group = l.group; held = max l.held end; sealed = l.sealed || adds_seal l end last }
 
--- where joined to the sender, a fetch goes to it
+-- if the node is joined to the sender, a fetch goes to it
 abbrev pub asks_on : Mode → ℕ → List Shelf → Plan → Plan
 asks_on (modes.Joined q) p shelf o = if q == p then send o p (bodies.Fetch shelf) else o
 asks_on mode p shelf o = o

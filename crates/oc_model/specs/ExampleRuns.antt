@@ -19,7 +19,7 @@ use Rattle.oc_model.specs.Node.{Durable, Header}
 use Rattle.oc_model.specs.Table.{table_line}
 use Rattle.oc_model.specs.World.{World, Process, new_world, process, node}
 
--- What the worked examples are told in.
+-- The words in which the worked examples are reported.
 
 -- the words of events, and the world after them
 pub record Played : Type 0 where
@@ -67,7 +67,7 @@ shown_as up x d = record {
 abbrev shown_process : Process → Shown
 shown_process p = shown_as p.up p.node.control.me p.node.control.kept
 
--- what is told of an example: the words of its last events, its last messages and how many there were, and nodes as they are shown
+-- what is reported of an example: the words of its last events, its last messages and how many there were, and nodes as they are shown
 pub record Told : Type 0 where
   pub words : List Word
   pub sent : List Message

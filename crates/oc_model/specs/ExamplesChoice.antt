@@ -59,7 +59,7 @@ pub record CertificateRace : Type 0 where
   pub death_first : Race (dead 4 1 2 ∷ alive 4 1 2 ∷ alive 4 2 3 ∷ []) (true ∷ false ∷ true ∷ [])
   pub death_before : Race (dead 4 1 2 ∷ alive 4 2 3 ∷ alive 4 1 2 ∷ []) (true ∷ true ∷ false ∷ [])
 
--- Counts of clients: the own number tells at one state, and death stays.
+-- Counts of clients: the own number decides at one state, and death stays.
 
 abbrev counted : Cert → ℕ → ℕ → Cert
 counted c number clients = record c { number = number; clients = clients }

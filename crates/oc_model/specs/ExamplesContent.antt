@@ -85,7 +85,7 @@ TornGate = told (header 1 1 (0 ∷ [])) tearing 0 0 [] ≡ record {
 abbrev pub TornGateHeld : Type 0
 TornGateHeld = held (header 1 1 (0 ∷ [])) tearing 1 ≡ record { group = codes "/a"; held = 1; sealed = false } ∷ []
 
--- A node that is up does not start, one that is down takes nothing, and no message comes that was not sent.
+-- A node that is up does not start, one that is down takes nothing, and no message that was not sent comes.
 
 abbrev pub DownAndUnknown : Type 0
 DownAndUnknown = told (header 2 1 (0 ∷ 0 ∷ [])) (Up 1 ∷ Up 1 ∷ Do (Tick 2 0) ∷ Do (Deliver 9) ∷ []) 0 0 [] ≡ record {

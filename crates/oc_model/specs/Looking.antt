@@ -35,7 +35,7 @@ children n = map (λ x. record { id = x; rate = at n.rates x 0 }) (leased_childr
 abbrev pub looked : Plan → ℕ → Plan
 looked o p = send o p (bodies.LookIs (in_tree o.node.kept.mode) (parent_of o.node.kept.mode) (rate_to_some o.node (parent_of o.node.kept.mode)) (children o.node))
 
--- the position of another node, as it told it
+-- the position of another node, as that node told it
 pub record Stand : Type 0 where
   pub in_tree : Bool
   pub parent : Option ℕ
@@ -60,7 +60,7 @@ descends o p s =
     if s.in_tree then goes_down (chosen (rate_to o.node p) (candidates o.node s.children)) o p
     else next_try (searching o None)
 
--- the parent's parent with the own rate to it, unless that is the node itself
+-- the parent's parent with this node's own rate to it, unless that is the node itself
 abbrev pub grandparent : Control → Option ℕ → Option (ℕ × ℕ)
 grandparent n None = None
 grandparent n (Some g) = if g == n.me then None else Some (g, rate_to n g)

@@ -25,7 +25,7 @@ pub record Log : Type 0 where
   pub waiting : List Cert
 
 -- what a stop leaves of a node's control state: the number of its last ask, its mode and rank, its own number and count of
--- clients, its table (a row a subject, ascending), its change log, its ancestors (nearest first), its reading of each peer (by number)
+-- clients, its table (one row per subject, ascending), its change log, its ancestors (nearest first), its reading of each peer (by number)
 pub record Durable : Type 0 where
   pub seq : ℕ
   pub mode : Mode
@@ -37,7 +37,7 @@ pub record Durable : Type 0 where
   pub ancestors : List ℕ
   pub measures : List Reading
 
--- all of a node but its content: who it is, what a stop leaves, and what a start clears. Of the last are the lease ends, the
+-- all of a node except its content: who it is, what a stop leaves, and what a start clears. To the last belong the lease ends, the
 -- children's rates and the redirection counts, which are in lists by the number of a node
 pub record Control : Type 0 where
   pub me : ℕ

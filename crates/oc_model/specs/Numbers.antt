@@ -24,7 +24,7 @@ abbrev pub has : List ℕ → ℕ → Bool
 has [] x = false
 has (y ∷ ys) x = y == x || has ys x
 
--- what a list by number has for the node x, the first node's number being 1
+-- what a list by number has for the node x, where node 1 has the first place
 abbrev pub at : {X : Type 0} → List X → ℕ → X → X
 at xs x d = get_or xs (x - 1) d
 

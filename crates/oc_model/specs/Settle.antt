@@ -54,7 +54,7 @@ tells_while zero x waiting w = rests w
 tells_while (suc n) x [] w = rests w
 tells_while (suc n) x (f ∷ fs) w = and_then (checks_in x w) (λ v. tells_while n x (node v x).control.kept.log.waiting v)
 
--- each check-in tells one certificate at least, so there are no more than wait now
+-- each check-in tells one certificate at least, so there are at most as many check-ins as certificates that wait now
 abbrev pub tells_all : ℕ → World → Run
 tells_all x w = tells_while (length (node w x).control.kept.log.waiting) x (node w x).control.kept.log.waiting w
 

@@ -28,7 +28,7 @@ peer_or_first mode = 1
 abbrev pub last_ask : Durable → List Record
 last_ask d = if d.seq == 0 then [] else records.Ask d.seq (peer_or_first d.mode) ∷ []
 
--- the mode, as it goes on from the last ask; of a joined node the log too
+-- the mode, as it goes on from the last ask; for a joined node the log too
 abbrev pub mode_records : Mode → Durable → List Record
 mode_records modes.Idle d = if d.seq == 0 then [] else records.Lost ∷ []
 mode_records (modes.Asking p) d = []

@@ -2,7 +2,7 @@ use Rattle.std.specs.Prelude.{◌≡◌, ℕ, zero, suc, Bool, true, false, not,
 use Rattle.oc_base.specs.declared.cert.Cert.{Cert}
 use Rattle.oc_model.specs.Certificates.{outranks}
 
--- A table: one row a subject, ascending by subject.
+-- A table: one row per subject, ascending by subject.
 
 -- the last word of a table on x
 abbrev pub newest : List Cert → ℕ → Option Cert
@@ -64,7 +64,7 @@ abbrev pub IsWay : List Cert → ℕ → ℕ → List ℕ → Type 0
 IsWay t r x [] = parent_in t x ≡ Some r
 IsWay t r x (y ∷ ys) = (parent_in t x ≡ Some y) × IsWay t r y ys
 
--- x is another node than r, and there is a way from it up to r
+-- x is a node other than r, and there is a way from it up to r
 abbrev pub IsListed : List Cert → ℕ → ℕ → Type 0
 IsListed t r x = (x ≡ r → ⊥) × ((ys : List ℕ) × IsWay t r x ys)
 

@@ -13,7 +13,7 @@ abbrev pub IsOneOf : ℕ → List ℕ → Type 0
 IsOneOf x [] = ⊥
 IsOneOf x (y ∷ ys) = (x ≡ y) ⊎ IsOneOf x ys
 
--- no id comes twice
+-- no id occurs twice
 abbrev pub IsDistinct : List ℕ → Type 0
 IsDistinct [] = Unit {0}
 IsDistinct (x ∷ xs) = (IsOneOf x xs → ⊥) × IsDistinct xs

@@ -1,6 +1,6 @@
 use oc_base::{IdList, NodeId};
 
-/// A question by which a node looks for a place, and to whose answer it waits.
+/// A question by which a node looks for a place, and whose answer it waits for.
 #[derive(Clone, Copy, Debug, PartialEq, Eq)]
 pub enum Search {
     /// On the way down to a place: this node was asked for its children.

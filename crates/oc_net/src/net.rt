@@ -86,7 +86,7 @@ impl Net {
         Ok(())
     }
 
-    /// Makes room for `more` further messages. It is wanted, too, once 2^63 - 2 messages were sent.
+    /// Makes room for `more` further messages. It answers `Memory` also where there would be more than `MOST_SENT`.
     pub fn make_room(&mut self, more: usize) -> Result<(), Memory>
         ensures nodes { self.new.nodes ≡ self.old.nodes }
         ensures messages { self.new.messages ≡ self.old.messages }
@@ -111,8 +111,7 @@ impl Net {
         self.acks = acks;
     }
 
-    /// Whether the last message acknowledges a check-in, or where there is none whether the one before it
-    /// did.
+    /// Whether the last message acknowledges a check-in; `before` where there is no message.
     fn acks_behind(&self, before: bool) -> bool
         ensures { result ≡ ends_with_ack before self.now.messages }
     {

@@ -59,7 +59,7 @@ fn body_in(text: &[u8]) -> &[u8]
     rest
 }
 
-/// Want of memory, which alone keeps a text of the net from being read.
+/// Out of memory, which alone keeps a text of the net from being read.
 fn memory_of(fault: WireFault) -> Memory
     requires { fault ≡ WireFault.Memory }
 {

@@ -26,7 +26,7 @@ use oc_updown::LEASE_TIME;
 
 // The rule Check now
 
-/// The clients that were served come into the own count, by its next number if there is one.
+/// The clients that were served are added to the node's own count, by its next number if there is one.
 fn count_clients(draft: &mut Draft) -> Result<(), Memory>
     ensures { OnOk result (draft.new ≡ goes draft.old (counts_clients draft.old.step)) }
 {
@@ -197,8 +197,8 @@ fn look_at_earlier(draft: &mut Draft, other: u32) -> Result<(), Memory>
     Ok(())
 }
 
-/// After its check a node in the tree looks for a better place: one of the chain among the earlier
-/// members, nearer than its parent.
+/// After its check a node in the tree looks for a better place; a chain member looks among the earlier
+/// members that are nearer than its parent.
 fn look_round(draft: &mut Draft, mode: Mode) -> Result<(), Memory>
     ensures { OnOk result (draft.new ≡ goes draft.old (looks_round mode draft.old.step)) }
 {

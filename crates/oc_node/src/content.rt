@@ -172,7 +172,7 @@ struct Chunk {
 }
 
 /// Whether a chunk closes the group: it is last, the group is open, and the chunk does not end before
-/// held.
+/// what is held.
 fn adds_seal(chunk: &Chunk) -> bool
     ensures { result ≡ adds_seal chunk.now.line chunk.now.end chunk.now.last }
 {
@@ -197,7 +197,7 @@ fn grown_line(chunk: &Chunk) -> Shelf
     }
 }
 
-/// Where joined to the sender, a fetch goes to it, which names the shelf with this line.
+/// If the node is joined to the sender, a fetch that names the shelf with this line goes to it.
 fn ask_on(
     draft: &mut Draft,
     mode: Mode,

@@ -62,7 +62,7 @@ fn candidate(draft: &Draft, child: &Child) -> Candidate
     }
 }
 
-/// Puts a child that was told at the end, unless it is the node itself.
+/// Puts at the end a child that was told, unless it is the node itself.
 fn push_candidate(draft: &Draft, list: &mut Vec<Candidate>, child: &Child) -> Result<(), Memory>
     requires { AreTold draft.now.step.records }
     ensures { OnOk result (list.new.items ≡ list.old.items ++ candidates draft.now.step.node (child.now ∷ [])) }
@@ -110,7 +110,7 @@ fn descends(draft: &mut Draft, from: NodeId, stand: &Stand) -> Result<(), Memory
     }
 }
 
-/// The parent's parent with the own rate to it, unless that is the node itself.
+/// The parent's parent with this node's own rate to it, unless that is the node itself.
 fn grandparent(draft: &Draft, told: Option<NodeId>) -> Option<(NodeId, u64)>
     requires { AreTold draft.now.step.records }
     ensures { result ≡ grandparent draft.now.step.node told }

@@ -103,8 +103,8 @@ impl Node {
         })
     }
 
-    /// Recovers a new node from its records, those of its control file in their order. Where memory is
-    /// wanted the node stays new.
+    /// Recovers a new node from its records, those of its control file in their order. If memory runs
+    /// out, the node stays new.
     #[tactic(auto, using(crate::proofs::Reaching::reached_kept))]
     pub fn recover(&mut self, list: &[Record]) -> Result<(), Memory>
         requires new { self.old.control.kept ≡ new_durable self.old.control.nodes }
@@ -206,7 +206,7 @@ impl Node {
         Outcome { answer, sends }
     }
 
-    /// The snapshot of what is durable under this running number: records that give it, whatever was
+    /// The snapshot, under this running number, of what is durable: records that give it, whatever was
     /// before them. They are lawful where the log is no longer than a base may be.
     pub fn snapshot(&self, generation: u64) -> Result<Vec<Record>, Memory>
         ensures snapshot { IfOk result (λ list. list.items ≡ snapshot generation self.now.control.kept) }

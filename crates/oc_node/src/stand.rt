@@ -1,7 +1,7 @@
 use oc_base::{Child, NodeId};
 use std::marker::Model;
 
-/// The position of another node, as it told it. Contracts see the model's record of the same name.
+/// The position of another node, as that node told it. Contracts see the model's record of the same name.
 #[derive(Drop)]
 pub(crate) struct Stand<'a> {
     pub in_tree: bool,

@@ -4,9 +4,9 @@ use Rattle.std.specs.Option.{option_map}
 
 -- a series of numbers that are given one by one
 pub record Series : Type 0 where
-  -- the number that was given last, where it is told
+  -- the number that was given last, where it is known
   pub last : Option ℕ
-  -- the numbers to come, where they are told
+  -- the numbers to come, where they are known
   pub coming : Option (List ℕ)
 
 -- the number that is given next; 0 where none is to come

@@ -4,7 +4,8 @@ use Rattle.std.specs.Option.{option_map}
 use Rattle.oc_outside.specs.Story.{Connection, Dial, unused, broken}
 use Rattle.oc_outside.specs.TalksView.{at}
 
--- the replies of the dials to come, the dials that ended, the outgoing one, how many were refused since no reply was left, and the bytes that can still be written
+-- the replies of the dials to come, the dials that ended, the outgoing one, how many were refused after the last reply was taken,
+-- and the bytes that can still be written
 pub record DialsView : Type 0 where
   pub replies : List (List ℕ)
   pub past : List Dial
@@ -38,7 +39,7 @@ all_dials v = v.past ++ option_to_list v.outgoing
 abbrev pub over : DialsView → DialsView
 over v = record v { past = all_dials v; outgoing = None }
 
--- a further dial that failed, in the place of the outgoing one
+-- another dial that failed, in the place of the outgoing one
 abbrev pub with_failed : DialsView → DialsView
 with_failed v = record (over v) {
   replies = drop 1 v.replies;

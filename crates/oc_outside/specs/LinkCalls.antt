@@ -1,4 +1,4 @@
--- What each call does to the story of a link, where it is told, and to its counts of faults.
+-- What each call does to the story of a link, if the link tells it, and to its counts of faults.
 use Rattle.std.specs.Prelude.{◌≡◌, ℕ, true, Option, None, Some, Result, Ok, Err, List, [], ◌∷◌, ◌++◌}
 use Rattle.std.specs.Option.{option_map}
 use Rattle.oc_io.specs.Faults.{NoFall}
@@ -13,31 +13,31 @@ pub record LinkFaults : Type 0 where
   pub talking : ℕ
   pub dialling : ℕ
 
--- no other count changed than that of `listen` and `next`
+-- no count changed other than that of `listen` and `next`
 pub record CountsListening (old new : LinkFaults) : Type 0 where
   pub listening : NoFall old.listening new.listening
   pub talking : new.talking ≡ old.talking
   pub dialling : new.dialling ≡ old.dialling
 
--- no other count changed than that of `read` and `write`
+-- no count changed other than that of `read` and `write`
 pub record CountsTalking (old new : LinkFaults) : Type 0 where
   pub listening : new.listening ≡ old.listening
   pub talking : NoFall old.talking new.talking
   pub dialling : new.dialling ≡ old.dialling
 
--- no other count changed than that of `dial`, `dial_more` and `dial_read`
+-- no count changed other than that of `dial`, `dial_more` and `dial_read`
 pub record CountsDialling (old new : LinkFaults) : Type 0 where
   pub listening : new.listening ≡ old.listening
   pub talking : new.talking ≡ old.talking
   pub dialling : NoFall old.dialling new.dialling
 
--- where a link still tells its story it told it before, and the story went on in this way
+-- if a link still tells its story, it told it before, and the story went on in this way
 abbrev pub Told : (Story → Story → Type 0) → Option Story → Option Story → Type 0
 Told R old None = Unit {0}
 Told R None (Some new) = ⊥
 Told R (Some old) (Some new) = R old new
 
--- the story has this, where it is told
+-- the story has this, if the link tells it
 abbrev pub IfTold : Option Story → (Story → Type 0) → Type 0
 IfTold None P = Unit {0}
 IfTold (Some s) P = P s

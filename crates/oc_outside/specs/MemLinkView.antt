@@ -34,7 +34,7 @@ link_of arrivals replies room cut listed = record {
   faults = no_faults;
 }
 
--- the count of failed dials is below its last value
+-- the count of failed dials is below the greatest u64
 abbrev pub CountsDials : MemLinkView → Type 0
 CountsDials v = v.faults.dialling < 2 ^ 64 - 1
 

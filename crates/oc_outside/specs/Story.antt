@@ -17,7 +17,7 @@ pub record Dial : Type 0 where
   pub address : List ℕ
   pub connection : Connection
 
--- a link as far as it is told
+-- a link as far as its story goes
 pub record Story : Type 0 where
   -- the connections that wait, oldest first: the bytes that each will give
   pub waiting : List (List ℕ)

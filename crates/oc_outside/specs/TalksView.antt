@@ -52,7 +52,7 @@ ended v = record v { past = v.past ++ option_to_list v.current; current = None }
 abbrev pub begun : TalksView → TalksView
 begun v = record (ended v) { waiting = drop 1 v.waiting; current = Some (unused (at v.waiting 0)) }
 
--- this many bytes more were read of a connection
+-- this many more bytes of a connection were read
 abbrev pub further : ℕ → Connection → Connection
 further n c = record c { read = c.read ++ take n c.left; left = drop n c.left }
 

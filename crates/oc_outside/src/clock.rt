@@ -4,13 +4,13 @@ ghost use Rattle.oc_outside.specs.ClockView.{Series, Ticks};
 /// The time, as two series of numbers. Each counts from a moment of the clock's own choice.
 ///
 /// A clock may tell which number a call gave last, and which ones are to come; a real clock cannot
-/// tell the latter. Where the numbers to come are told a call gives the first of them and drops it,
-/// except that the last one stays; where none is to come it gives 0.
+/// tell the latter. If the numbers to come are known, a call gives the first of them and drops it,
+/// except that the last one stays; if none is to come, it gives 0.
 pub trait Clock {
-    /// What is told of the numbers of `now`.
+    /// What is known of the numbers of `now`.
     ghost seconds: { Self → Series };
 
-    /// What is told of the numbers of `millis`.
+    /// What is known of the numbers of `millis`.
     ghost milliseconds: { Self → Series };
 
     /// The time in seconds, any number.

@@ -18,7 +18,7 @@ pub struct Dials {
     talks: Talks,
     /// The address of each dial that took a reply.
     addresses: Rows,
-    /// The dials since no reply was left.
+    /// How many dials were made after the last reply was taken.
     refused: u64,
     /// The bytes for which there is room.
     room: usize,
@@ -86,7 +86,7 @@ impl Dials {
         self.talks.close();
     }
 
-    /// A further dial, with the next reply, in the place of the outgoing one.
+    /// Another dial, with the next reply, in the place of the outgoing one.
     pub fn begin(&mut self, address: &[u8], bytes: &[u8])
         requires reply { 0 < length self.old.replies }
         requires room { length address.now + length bytes.now ≤ self.old.room }
@@ -106,7 +106,7 @@ impl Dials {
         self.room -= address.len() + bytes.len();
     }
 
-    /// A further dial that failed, in the place of the outgoing one; it takes the next reply, if there
+    /// Another dial, which failed, in the place of the outgoing one; it takes the next reply, if there
     /// is one. Past the last reply such dials are only counted.
     pub fn refuse(&mut self)
         ensures view { self.old.refused < 2 ^ 64 - 1 → self.new ≡ record (with_failed self.old) { refused = self.new.refused } }

@@ -19,10 +19,10 @@ pub enum Arrival {
 /// A network: connections that come in, one of them the current one, and connections that are made,
 /// one of them the outgoing one.
 ///
-/// A link that tells its story says which bytes passed. Sockets tell nothing, and of them the clauses
-/// on counts and lengths hold alone. Lengths are in bytes.
+/// A link that tells its story says which bytes passed. Sockets tell nothing, and for them only the
+/// clauses on counts and lengths hold. Lengths are in bytes.
 pub trait Link {
-    /// What waits, what was taken and what was dialled, where it is told.
+    /// What waits, what was taken and what was dialled, if the link tells it.
     ghost story: { Self → Option Story };
 
     /// How many calls failed so far, by their kind.

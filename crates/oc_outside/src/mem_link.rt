@@ -17,7 +17,7 @@ use std::alloc::{AllocError, Global};
 use std::marker::Model;
 
 /// A link in memory, of which given calls fail. It keeps what is written on its connections and
-/// dials, as far as its room goes. Of a dial that fails it keeps neither address nor bytes.
+/// dials, as far as its room goes. It keeps neither address nor bytes of a dial that fails.
 #[derive(Debug, Drop)]
 pub struct MemLink {
     arrivals: Talks,
@@ -56,7 +56,7 @@ impl Model for MemLink {
 }
 
 impl MemLink {
-    /// A link on which connections wait that give the bytes of `arrivals`, and whose dials give those
+    /// A link on which connections that give the bytes of `arrivals` wait, and whose dials give those
     /// of `replies`, each in order. It keeps `room` bytes of what is written and of the addresses that
     /// are dialled, for which it takes the memory here. One read gives `cut` bytes at most, and `cut`
     /// is at least 1. The calls with the numbers `fails` fail, counted from 1, and so do a call past

@@ -58,7 +58,7 @@ impl Rows {
         self.starts.as_slice().len()
     }
 
-    /// Begins a further string.
+    /// Begins another string, which is empty at first.
     pub fn begin(&mut self)
         requires { 0 < self.old.places }
         ensures { self.new ≡ record self.old { rows = self.old.rows ++ [] ∷ []; places = self.old.places - 1 } }

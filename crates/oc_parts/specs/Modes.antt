@@ -22,6 +22,6 @@ abbrev pub is_reviewing : Option Search → Bool
 is_reviewing (Some searches.Review) = true
 is_reviewing search = false
 
--- the rank beneath the one that was told, where it is better than the own
+-- the rank beneath the one that was told, where it is better than the node's own
 abbrev pub better_rank : Option Rank → Rank → Option Rank
 better_rank own told = if is_better own told then Some (beneath_of told) else None

@@ -1,7 +1,7 @@
 //! The small parts of a node's state, and what its rules ask of modes, ranks, children and shelves.
 //!
-//! [`Standing`] is the position of a node in the tree, and what it counted; [`Volatile`] and [`Tries`] are of
-//! what a start clears.
+//! [`Standing`] is the position of a node in the tree, and what it counted; [`Volatile`] and [`Tries`] are part
+//! of what a start clears.
 //!
 //! The layers above rest on this: each test and each search gives what the model's definition of its name
 //! says.

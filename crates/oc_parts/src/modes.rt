@@ -39,7 +39,7 @@ pub fn parent_of(mode: Mode) -> Option<NodeId>
     }
 }
 
-/// Whether a node asks this one to be the parent.
+/// Whether a node of this mode asks `peer` to be its parent.
 pub fn is_asking(mode: Mode, peer: NodeId) -> bool
     ensures { result ≡ is_asking mode peer }
 {
@@ -49,7 +49,7 @@ pub fn is_asking(mode: Mode, peer: NodeId) -> bool
     }
 }
 
-/// Whether this one is the parent of a node.
+/// Whether `peer` is the parent of a node of this mode.
 pub fn is_joined_to(mode: Mode, peer: NodeId) -> bool
     ensures { result ≡ is_joined_to mode peer }
 {
@@ -59,7 +59,7 @@ pub fn is_joined_to(mode: Mode, peer: NodeId) -> bool
     }
 }
 
-/// Whether this one is the parent of a node, or is asked to be.
+/// Whether `peer` is the parent of a node of this mode, or is asked to be.
 pub fn is_peer(mode: Mode, peer: NodeId) -> bool
     ensures { result ≡ is_peer mode peer }
 {

@@ -8,7 +8,7 @@ use oc_climb::take_rank;
 use oc_roots::raise;
 use std::alloc::Global;
 
-/// A rank, where none reads as the last of all.
+/// A rank, or the last of all where there is none.
 pub fn rank_or_last(rank: Option<Rank>) -> Rank
     ensures { result ≡ rank_or_last rank }
 {
@@ -50,7 +50,7 @@ pub fn ancestors_by(alloc: Global, parent: NodeId, above: &[NodeId]) -> Result<I
     Ok(IdList::of(ids))
 }
 
-/// The rank beneath the one that was told, where it is better than the own.
+/// The rank beneath the one that was told, where it is better than the node's own.
 #[tactic(auto, using(crate::proofs::Better::better_left, crate::proofs::Better::better_found))]
 pub fn better_rank(own: Option<Rank>, told: Rank) -> Option<Rank>
     ensures { result ≡ better_rank own told }

@@ -24,21 +24,21 @@ impl Model for Tries {
 }
 
 impl Tries {
-    /// None.
+    /// No nodes.
     pub fn none(alloc: Global) -> Tries
         ensures { result ≡ [] }
     {
         Tries::of(IdList::of(Vec::new(alloc)))
     }
 
-    /// These.
+    /// These nodes, none of which is taken off yet.
     pub fn of(list: IdList) -> Tries
         ensures { result ≡ list }
     {
         Tries { list, taken: 0 }
     }
 
-    /// The one after the first `place` ones.
+    /// The one after the first `place` of those that are left.
     pub fn get(&self, place: usize) -> Option<NodeId>
         ensures first { result ≡ first_of (drop place self.now) }
         ensures fits { IfSome result (λ _. place + 1 < 2 ^ 64) }
@@ -47,7 +47,7 @@ impl Tries {
         left.get(place).copied()
     }
 
-    /// Takes the first off, this many.
+    /// Takes off the first `count`, or all where fewer are left.
     #[tactic(auto, using(crate::proofs::Lists::drop_more))]
     pub fn skip(&mut self, count: usize)
         ensures { self.new ≡ drop count self.old }
@@ -56,7 +56,7 @@ impl Tries {
         self.taken += count.min(left);
     }
 
-    /// They become these, if they are set anew, and then the first are taken off, this many.
+    /// Replaces them by `set`, if there is one, and then takes off the first `count`.
     pub fn step(&mut self, set: Option<Tries>, count: usize)
         ensures { self.new ≡ drop count (unwrap_or set self.old) }
     {

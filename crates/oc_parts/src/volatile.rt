@@ -3,7 +3,7 @@ ghost use Rattle.oc_parts.specs.Volatile.{new_volatile};
 
 use oc_model::Search;
 
-/// The small parts of what a start clears: all of it but the lists.
+/// The small parts of what a start clears: all of it except the lists.
 #[derive(Clone, Copy)]
 pub struct Volatile {
     /// The time, in seconds.

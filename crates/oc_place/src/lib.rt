@@ -6,7 +6,7 @@
 //! our own. Rates are in bytes per second, and 0 stands for a rate that was not measured.
 //!
 //! The layers above rest on this: [`choose`] is `chosen` and [`review`] is `reviewed` of the model, for
-//! all rates. [`the_nearest_suitable_is_chosen`] says what that is: a suitable candidate, of which no
+//! all rates. [`the_nearest_suitable_is_chosen`] says what that is: a suitable candidate such that no
 //! suitable one has fewer hops, or as many and a smaller id. Neither call takes memory.
 #![tactic(auto)]
 

@@ -3,7 +3,7 @@ use Rattle.std.specs.Prelude.{ℕ, ◌-◌, ◌<◌, ◌≤◌, Bool, ◌&&◌, 
 use Rattle.oc_policy.specs.Rules.{same_action, is_absent_or, rule_covers}
 use Rattle.oc_policy.specs.declared.rule.Rule.{Rule}
 
--- of two rules that are there the first covers the second
+-- both rules are there, and the first covers the second
 abbrev pub BothCover : Option Rule → Option Rule → Type 0
 BothCover (Some j) (Some i) = rule_covers j i
 BothCover j i = ⊥
@@ -14,11 +14,11 @@ pub record Shadows (rules : List Rule) (j i : ℕ) : Type 0 where
   pub before : j < i
   pub covers : BothCover (slice_get rules (j - 1)) (slice_get rules (i - 1))
 
--- the test of one part: what is there is spoken of, and of what is absent only what is absent speaks
+-- the test of one part: an absent one covers each, and one that is there covers only the same
 abbrev pub part_covers : {A : Type 0} → (A → A → Bool) → Option A → Option A → Bool
 part_covers same part None = is_none part
 part_covers same part (Some other) = is_absent_or same part other
 
--- the test of the parts of a rule but the prefix
+-- the test of the parts of a rule except the prefix
 abbrev pub parts_cover : Rule → Rule → Bool
 parts_cover j i = part_covers same_action j.action i.action && part_covers nat_eq j.area i.area

@@ -51,7 +51,7 @@ IsUnanswered bytes ended = IsNoResponse bytes ended ⊎ IsOtherResponse bytes en
 abbrev pub AreAny : List ℕ → Type 0 → Type 0
 AreAny bytes ended = Unit {0}
 
--- one dial was made to this address, with the request of a probe; what came has P; the dial is over, and so is the one before
+-- one dial was made to this address, with the request of a probe; what came has the property P; the dial is over, and so is the one before
 pub record Asked (to : List ℕ) (P : List ℕ → Type 0 → Type 0) (old new : Story) : Type 0 where
   pub dial : Dial
   pub address : dial.address ≡ to

@@ -19,7 +19,7 @@ rate_of start end = max (probe_bytes * 1_000 / max (end - start) 1) 1
 abbrev pub latest : List ℕ → List ℕ
 latest rates = drop (length rates - kept_rates) rates
 
--- the kept rates after a further one
+-- the kept rates after another one
 abbrev pub with_rate : List ℕ → ℕ → List ℕ
 with_rate rates rate = latest (rates ++ rate ∷ [])
 

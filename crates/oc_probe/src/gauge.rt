@@ -33,7 +33,7 @@ impl Gauge {
         Ok(Gauge { peers })
     }
 
-    /// Keeps a further rate of the peer, and gives the median of its last five. It takes no memory.
+    /// Keeps another rate of the peer, and gives the median of its last five. It takes no memory.
     pub fn put(&mut self, peer: NodeId, rate: u64) -> u64
         requires first { 1 ≤ peer }
         requires last { peer ≤ length self.old }

@@ -1,8 +1,8 @@
 //! Rates to other nodes, measured by timed downloads.
 //!
 //! [`probe`] downloads [`PROBE_BYTES`] bytes and gives bytes per second: `rate_of` the two readings of
-//! the clock, just before the dial and just after the last byte. It says of the link that one dial was
-//! made, with which bytes it was written and read, and that nothing else happened there. A [`Gauge`]
+//! the clock, just before the dial and just after the last byte. Its contract says of the link that one dial
+//! was made, which bytes were written and read on it, and that nothing else happened there. A [`Gauge`]
 //! keeps the last five rates of each peer and gives their median (`IsMedian`), and a [`Rotation`] gives
 //! the peers in turn, for ever. Only `probe` and the two constructors take memory.
 #![tactic(auto)]

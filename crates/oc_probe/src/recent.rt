@@ -35,7 +35,7 @@ impl Recent {
         }
     }
 
-    /// Keeps a further rate, and forgets the oldest where there are more than are kept.
+    /// Keeps another rate, and forgets the oldest where there are more than `KEPT`.
     pub(crate) fn put(&mut self, rate: u64)
         ensures { self.new ≡ with_rate self.old rate }
     {
@@ -48,7 +48,7 @@ impl Recent {
         }
     }
 
-    /// The median of the rates.
+    /// The median of the rates: the one in the middle, or the lower of the two there.
     pub(crate) fn median(&self) -> u64
         requires { 0 < length self.now }
         ensures { IsMedian self.now result }

@@ -20,7 +20,7 @@ disks_in f = disks f.control f.alternate f.content
 abbrev pub seen_in : {D : Type 0} → (D → DiskView) → Header → ℕ → Files D → Node
 seen_in view h x f = recovered h x (view f.control).seen (view f.alternate).seen (view f.content).seen
 
--- the same of files in memory
+-- the same for files in memory
 abbrev pub left_in : Header → ℕ → Files MemDiskView → Node
 left_in h x f = recovered h x f.control.bytes f.alternate.bytes f.content.bytes
 

@@ -55,7 +55,7 @@ fn prepare<D: Disk>(kept: &mut Kept<D>, input: Input) -> Result<Ready, Memory>
     }
 }
 
-/// Makes an input ready at a node that runs. Where memory is wanted the node is as it was; its files may
+/// Makes an input ready at a node that runs. If memory runs out, the node is as it was; its files may
 /// have been turned over.
 pub(crate) fn ready<D: Disk>(kept: &mut Kept<D>, input: Input) -> Result<Ready, Memory>
     requires open { IsOpen D.view kept.old }

@@ -31,8 +31,8 @@ use oc_stage::Sight;
 use std::alloc::Global;
 use std::marker::Model;
 
-/// A node on its files, which stay when it goes down. Contracts see the model's process, which where the
-/// node is down is the node that its files recover, and the node on its files, where it is up. Every crash
+/// A node on its files, which stay when it goes down. Contracts see the model's process, and the node on its
+/// files, where it is up. Where it is down, the process is the node that its files recover. Every crash
 /// leaves what is durable of it.
 #[derive(Drop)]
 pub struct Process {
@@ -113,7 +113,7 @@ impl Process {
         lawful_node(self.kept())
     }
 
-    /// A start of a node that is down. Where memory is wanted, the node stays as it is.
+    /// A start of a node that is down. If memory runs out, the node stays as it is.
     pub fn start(&mut self) -> Result<(), Memory>
         requires { self.old.process.up ≡ false }
         ensures ok { OnOk result (self.new.process ≡ record { node = restarted self.old.process.node; up = true }) }
@@ -124,8 +124,8 @@ impl Process {
         Ok(())
     }
 
-    /// The node that the files of one that is down recover, on copies of them: so want of memory leaves the
-    /// files as they are.
+    /// The node that the files of one that is down recover, on copies of them: so the files stay as they are if
+    /// memory runs out.
     fn load(&self) -> Result<Kept<MemDisk>, Memory>
         requires { self.now.process.up ≡ false }
         ensures running { IfOk result (λ kept.
@@ -190,9 +190,9 @@ impl Process {
         }
     }
 
-    /// A stop of a node that is up in the midst of an input, once `calls` of the calls that write its frame
+    /// A stop of a node that is up, partway through an input, once `calls` of the calls that write its frame
     /// have worked; the byte `image` is found wherever something was written and not synced. Answers whether
-    /// the frame is kept. Where memory is wanted, the node stays as it is.
+    /// the frame is kept. If memory runs out, the node stays as it is.
     pub fn stop(&mut self, input: Input, calls: u8, image: u8) -> Result<bool, Memory>
         requires up { self.old.process.up ≡ true }
         requires input { IsInput self.old.process.node.control.nodes self.old.process.node.control.me input }

@@ -32,7 +32,7 @@ pub(crate) fn groups_of<D: Disk>(alloc: Global, kept: &Kept<D>) -> Result<Vec<Sh
     Ok(kept.shelf().to_vec(alloc)?)
 }
 
-/// The same of a node that was recovered to be read.
+/// The same for a node that was recovered to be read.
 pub(crate) fn groups_recovered<D: Disk + Drop>(
     alloc: Global,
     kept: Kept<D>,

@@ -34,7 +34,7 @@ impl<D: Disk + Drop> Standing<D> {
         *self = next;
     }
 
-    /// Takes the node out that runs, and leaves these files.
+    /// Takes out the node that runs, and leaves these files.
     pub(crate) fn take_running(&mut self, left: Files<D>) -> Kept<D>
         requires { is_running self.old ≡ true }
         ensures { self.old ≡ Standing.Running result }

@@ -14,8 +14,8 @@ use oc_io::Disk;
 use oc_keep::{KeepLoad, Kept};
 use std::alloc::Global;
 
-/// The node that these files recover. Nothing but want of memory refuses files of a node on disks that do
-/// not fail.
+/// The node that these files recover. Files of a node on disks that do not fail are refused only where memory
+/// runs out.
 pub(crate) fn load<D: Disk + Drop>(
     alloc: Global,
     files: Files<D>,

@@ -41,7 +41,7 @@ pub(crate) fn stop(kept: Kept<MemDisk>, ready: Ready, calls: u8, image: u8) -> F
     }
 }
 
-/// Whether a frame is kept that was stopped after `calls` calls.
+/// Whether a frame whose writing was stopped after `calls` calls is kept.
 pub(crate) fn is_kept_new(calls: u8, image: u8) -> bool
     ensures { result ≡ is_kept_new calls image }
 {

@@ -9,7 +9,7 @@ use Rattle.oc_commands.specs.Outside.{Input, Output}
 
 -- ---- in memory
 
--- of the bytes of the input this many were read
+-- this many of the bytes of the input were read
 abbrev pub at_bytes : List ℕ → ℕ → Input
 at_bytes bytes read = record {
   says = λ says. (schedule_of bytes ≡ says) × (read ≡ length bytes);

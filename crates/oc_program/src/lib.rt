@@ -7,8 +7,8 @@
 //! readers and writers, where the same clause is about bytes and about counts of bytes; `main` calls
 //! the second.
 //!
-//! Where a replay ends with status 0, [`headline_holds`] is part of that clause: what is so of every world
-//! of the schedule, inside of settle and heal too, and what settle and heal leave and tell.
+//! Where a replay ends with status 0, [`headline_holds`] is part of that clause: what holds of every world
+//! of the schedule, also inside settle and heal, and what settle and heal leave and report.
 //!
 //! What the words ask for is read by `oc_words`, and done by `oc_commands`.
 #![tactic(auto)]

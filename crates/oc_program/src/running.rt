@@ -31,7 +31,7 @@ use std::alloc::Global;
 /// Runs the program: what the words ask for, from the input to the output, over the stage, the three files
 /// of a node, a link and a clock. `control_a` and `control_b` are the control files.
 ///
-/// The status is that of [`Status`](crate::Status); with each status but 0 a line on the error output
+/// The status is that of [`Status`](crate::Status); with each status other than 0 a line on the error output
 /// says why. What the words have no use for stays as it was.
 #[allow(clippy::too_many_arguments)]
 pub fn run<S: Source, K: Sink, E: Sink, T: Stage, D: Disk, L: Link, C: Clock>(
@@ -64,12 +64,12 @@ pub fn run<S: Source, K: Sink, E: Sink, T: Stage, D: Disk, L: Link, C: Clock>(
               (seen L.story L.faults C.seconds C.milliseconds link.new clock.new);
         }) end }
 
-    // Status 2 comes exactly where the words ask for nothing; want of memory comes before.
+    // Status 2 comes exactly where the words ask for nothing; if memory runs out, that comes first.
     ensures misused { asked (texts_of words.now) ≡ None → (result ≡ 2) ⊎ (result ≡ 4) }
     ensures only_misused { result ≡ 2 → asked (texts_of words.now) ≡ None }
     ensures plain { IsPlain (texts_of words.now) → result ≢ 2 }
 
-    // Where the output does not fail, help and `gen` do what they are asked for, or memory is wanting.
+    // Where the output does not fail, help and `gen` do what they are asked for, or memory runs out.
     ensures helped { asked (texts_of words.now) ≡ Some Request.Help
         → (Rose (K.faults out.old) (K.faults out.new) → ⊥)
         → IsDoneOrMemory result }
@@ -78,7 +78,7 @@ pub fn run<S: Source, K: Sink, E: Sink, T: Stage, D: Disk, L: Link, C: Clock>(
         → IsDoneOrMemory result }
 
     // Where neither input nor output fails, the status of a replay is that of what its input says, and so
-    // that of `rules`, or memory is wanting.
+    // that of `rules`, or memory runs out.
     ensures replayed { (summary : Bool) → asked (texts_of words.now) ≡ Some (Request.Replay summary)
         → (Rose (S.faults input.old) (S.faults input.new) → ⊥)
         → (Rose (K.faults out.old) (K.faults out.new) → ⊥)
@@ -89,7 +89,7 @@ pub fn run<S: Source, K: Sink, E: Sink, T: Stage, D: Disk, L: Link, C: Clock>(
         → HasConfigStatus S.gives S.ended input.old input.new result ⊎ (result ≡ 4) }
 
     // Where neither the output nor a disk fails, the files of a node on honest disks are shown by `check`, and
-    // where no dial fails, a URL that is served whole is downloaded by `get`; or memory is wanting.
+    // where no dial fails, a URL that is served whole is downloaded by `get`; or memory runs out.
     ensures checked { (member : Member) → asked (texts_of words.now) ≡ Some (Request.Check member)
         → AreHonest D.view (disks control_a.old control_b.old content.old)
         → HoldFiles D.view member.nodes (disks control_a.old control_b.old content.old)
@@ -103,8 +103,8 @@ pub fn run<S: Source, K: Sink, E: Sink, T: Stage, D: Disk, L: Link, C: Clock>(
         → IsDoneOrMemory result }
 
     // Where nothing fails that `node` names in its status, and it runs on honest disks: its status is that of
-    // what its configuration says, and over the files of a node it is done, or a file is full, or memory is
-    // wanting.
+    // what its configuration says, and over the files of a node it is done, or a file is full, or memory
+    // runs out.
     ensures served { (service : Service) → asked (texts_of words.now) ≡ Some (Request.Node service)
         → AreHonest D.view (disks control_a.old control_b.old content.old)
         → (OneRose D.view (disks control_a.old control_b.old content.old) (disks control_a.new control_b.new content.new) → ⊥)
@@ -117,8 +117,8 @@ pub fn run<S: Source, K: Sink, E: Sink, T: Stage, D: Disk, L: Link, C: Clock>(
     ensures input_count { NoFall (S.faults input.old) (S.faults input.new) }
     ensures error_count { NoFall (E.faults err.old) (E.faults err.new) }
 
-    // The output's count of faults never falls where the work is done, nor where the words ask for no node. Of a
-    // node that ends before, `serve` tells nothing of it.
+    // The output's count of faults never falls where the work is done, nor where the words ask for no node. For a
+    // node that ends before, `serve` says nothing of it.
     ensures output_count { IsNoNode (asked (texts_of words.now)) → NoFall (K.faults out.old) (K.faults out.new) }
     ensures done_count { result ≡ 0 → NoFall (K.faults out.old) (K.faults out.new) }
 {

@@ -67,7 +67,7 @@ pub fn run_in_memory<T: Stage, D: Disk, L: Link, C: Clock>(
               (seen L.story L.faults C.seconds C.milliseconds link.new clock.new);
         }) end }
 
-    // The status of a replay is that of what these bytes say, or the output failed, or memory is wanting.
+    // The status of a replay is that of what these bytes say, or the output failed, or memory runs out.
     ensures replayed { (summary : Bool) → asked (texts_of words.now) ≡ Some (Request.Replay summary)
         → (result.status ≡ status_for (schedule_of input.now)) ⊎ (result.status ≡ 1) ⊎ (result.status ≡ 4) }
 {
@@ -108,9 +108,9 @@ pub struct StreamsRun {
     pub error: Traffic,
 }
 
-/// [`run`] over the standard streams. Which bytes pass there no contract can say; how many, this one
-/// does: as many were read as some text has that says what the end tells, and exactly as many were
-/// written as the text has that had to be written, of `node` as many as the lines of its deeds have. Where
+/// [`run`] over the standard streams. No contract can say which bytes pass there; how many, this one does: as
+/// many were read as some text has that says what the end tells, and exactly as many were written as the
+/// text that had to be written has, for `node` as many as the lines of its deeds have. Where
 /// no end blames the input or the output, no call on it failed.
 #[allow(clippy::too_many_arguments)]
 pub fn run_on_streams<T: Stage, D: Disk, L: Link, C: Clock>(

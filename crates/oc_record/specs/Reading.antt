@@ -73,7 +73,7 @@ record_at nodes bytes at = do
   code ← of_field (byte_at bytes at)
   fields_at code.0 nodes bytes code.1
 
--- of at most this many records, those from a place to the end
+-- the records from a place to the end, at most this many
 unfoldable pub records_at : ℕ → ℕ → List ℕ → ℕ → Result (List Record) RecordFault
 records_at nodes zero bytes at = Ok []
 records_at nodes (suc most) bytes at =

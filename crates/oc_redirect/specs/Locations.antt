@@ -5,7 +5,7 @@ use Rattle.std.specs.Prelude.{ℕ, ◌==◌, if◌then◌else◌, List, [], ◌+
 abbrev pub start_query : ℕ → List ℕ
 start_query start = if start == 0 then [] else codes "?start=" ++ decimal start
 
--- the same of a client that follows the group
+-- the same for a client that follows the group
 abbrev pub follow_query : ℕ → List ℕ
 follow_query start = if start == 0 then codes "?follow" else codes "?start=" ++ decimal start ++ codes "&follow"
 

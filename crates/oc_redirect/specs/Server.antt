@@ -13,7 +13,7 @@ IsServer t me chain x = (chain < x) × IsListed t me x
 abbrev pub IsFreer : List ℕ → ℕ → ℕ → Type 0
 IsFreer counts x y = (at counts x 0 < at counts y 0) ⊎ ((at counts x 0 ≡ at counts y 0) × (x < y))
 
--- k is a server; it is in the area if any server is; and of the servers that are in the area, or of all where it is not, none is freer
+-- k is a server; it is in the area if any server is; and no server is freer among those in the area, or among all where k is not in it
 pub record IsBestServer (t : List Cert) (me chain : ℕ) (areas counts : List ℕ) (area k : ℕ) : Type 0 where
   pub server : IsServer t me chain k
   pub near : (x : ℕ) → IsServer t me chain x → at areas x 0 ≡ area → at areas k 0 ≡ area

@@ -9,7 +9,7 @@
 //! client's area if any such is, and of those the one that was sent the fewest clients, then the one
 //! with the least id.
 //!
-//! [`location`] and [`follow_location`] are the texts by which the client is told.
+//! [`location`] and [`follow_location`] are the texts that tell the client where to go.
 #![tactic(auto)]
 
 mod law;

@@ -6,9 +6,9 @@ use oc_base::NodeId;
 use oc_cert::Table;
 use oc_rows::Rows;
 
-/// The node to which this one, a member of the chain, sends a client of this area: of the nodes past
-/// the chain that its table lists beneath it, one in the client's area where there is any; of these
-/// the one that was sent the fewest clients, and of several the one with the least id. `areas` and
+/// The node to which this one, a member of the chain, sends a client of this area: a node past the chain
+/// that its table lists beneath it, in the client's area where there is any there; among these the one
+/// that was sent the fewest clients, and among several the one with the least id. `areas` and
 /// `counts` have a value for each node, by its number.
 ///
 /// Each node is looked at once, and the table is walked for a node only where that would be the best

@@ -8,7 +8,7 @@ use Rattle.oc_replay.specs.Replay.{brief_text, told_text}
 
 -- The worked examples, from the text of a schedule to that of its report.
 
--- what the model tells of the schedule that a text is
+-- what the model reports of the schedule that a text is
 abbrev told : List ℕ → Result (List ℕ) ScheduleFault
 told text = schedule_of text >>= λ s. Ok (told_text new_world next_world word_of s)
 

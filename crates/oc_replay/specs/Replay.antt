@@ -32,7 +32,7 @@ abbrev pub run_output : Bool → (World → Event → World) → (World → Even
 run_output true after word w es = run_summary after w es
 run_output false after word w es = run_text after word w es
 
--- a stage says which world a header opens, which world an event leads to, and in which word
+-- a stage says which world a header opens, which world an event leads to, and with which word
 module _ (first : Header → World) (after : World → Event → World) where
   -- the report of a schedule
   abbrev pub told_text : (World → Event → Word) → Script → List ℕ

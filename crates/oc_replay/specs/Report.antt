@@ -9,7 +9,7 @@ use Rattle.oc_stage.specs.Sight.{sight_in}
 use Rattle.oc_report.specs.Lines.{event_line, message_line, messages_text, held_text, end_line}
 use Rattle.oc_report.specs.Shows.{show_text}
 
--- What a report tells of a run.
+-- What a report says of a run.
 
 -- the block of an event, in the world after it
 abbrev pub block_text : World → Event → List ℕ
@@ -21,7 +21,7 @@ block_text w e = []
 abbrev pub sent_from : ℕ → World → List ℕ
 sent_from k w = messages_text k (drop (k - 1) w.net)
 
--- those that are told of an event; what settle and heal send is numbered, and not told
+-- those that are reported of an event; what settle and heal send is numbered, and not reported
 abbrev pub sent_text : ℕ → World → Event → List ℕ
 sent_text k w Settle = []
 sent_text k w Heal = []
@@ -37,7 +37,7 @@ abbrev pub event_text : ℕ → Word → World → World → Event → List ℕ
 event_text i word old new e =
     event_line i word ++ sent_text (length old.net + 1) new e ++ block_text new e
 
--- a stage says which world an event leads to, and in which word
+-- a stage says which world an event leads to, and with which word
 module _ (after : World → Event → World) (word : World → Event → Word) where
   -- the events from the world after the first i of them on, and the end
   abbrev pub told_from : ℕ → World → List Event → List ℕ

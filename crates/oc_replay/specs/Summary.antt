@@ -8,7 +8,7 @@ use Rattle.oc_model.specs.Records.{is_joined}
 use Rattle.oc_model.specs.World.{World, ids, is_up, mode_of, node}
 use Rattle.oc_replay.specs.declared.summing.Tally.{Tally}
 
--- What a summary tells of a world.
+-- What a summary says of a world.
 
 abbrev pub one_if : Bool → ℕ
 one_if is_so = if is_so then 1 else 0
@@ -26,7 +26,7 @@ tally_at w x = record {
   bytes = bytes_in (shelf (node w x).groups);
 }
 
--- the same of some nodes together
+-- the same for some nodes together
 abbrev pub tally_over : World → List ℕ → Tally
 tally_over w xs = record {
   up = sum_by (λ x. (tally_at w x).up) xs;

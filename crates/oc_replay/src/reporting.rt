@@ -1,4 +1,4 @@
-//! A run of events on a stage, told while it happens.
+//! A run of events on a stage, reported while it happens.
 
 ghost use Rattle.std.specs.Prelude.{◌≡◌, ℕ, ◌+◌, ◌-◌, ◌^◌, ◌<◌, ◌++◌, length, take, fold, OnOk, IfOk, OnErr, IsErrOf};
 ghost use Rattle.oc_model.specs.Lawful.{IsEvent};
@@ -16,7 +16,7 @@ use oc_report::{put_end, put_event, put_held, put_message, put_show};
 use oc_stage::{Said, Stage};
 use std::alloc::Global;
 
-/// As many bytes are gathered before they are written.
+/// How many bytes are gathered before they are written.
 const PIECE: usize = 65_536;
 
 /// Why a report was not written to its end.
@@ -86,7 +86,7 @@ pub(crate) fn report<K: Sink, T: Stage>(
     Ok(())
 }
 
-/// Gives the stage the event of this number, puts what is told of it, and answers how many messages
+/// Gives the stage the event of this number, puts what is reported of it, and answers how many messages
 /// were sent so far.
 fn tell<T: Stage>(
     out: &mut Vec<u8>,
@@ -108,7 +108,7 @@ fn tell<T: Stage>(
     Ok(said.first + said.count - 1)
 }
 
-/// Puts the messages that are told of an event. Settle and heal may send very many, which are not told.
+/// Puts the messages that are reported of an event. Settle and heal may send very many, which are not reported.
 fn put_told<T: Stage>(out: &mut Vec<u8>, stage: &T, event: &Event, said: Said) -> Result<(), Memory>
     requires first { 0 < said.first }
     requires all { said.first + said.count ≡ length (T.world stage.now).net + 1 }

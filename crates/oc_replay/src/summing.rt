@@ -1,4 +1,4 @@
-//! A run of events on a stage, told by a summary of its last world.
+//! A run of events on a stage, reported by a summary of its last world.
 
 ghost use Rattle.std.specs.Prelude.{◌≡◌, ℕ, ◌+◌, ◌^◌, ◌<◌, ◌≤◌, [], ◌++◌, length, fold, OnOk, IfOk, IsErrOf};
 ghost use Rattle.std.specs.List.{range_with_len};

@@ -10,7 +10,7 @@ use Rattle.oc_base.specs.declared.shelf.Shelf.{Shelf}
 use Rattle.oc_model.specs.declared.message.Body.{Body}
 use Rattle.oc_model.specs.declared.message.Body.TheVariants as bodies
 
--- What messages say, as a report tells it.
+-- What messages say, as a report shows it.
 
 -- a mark, where it is due
 abbrev pub mark : Bool → List ℕ → List ℕ

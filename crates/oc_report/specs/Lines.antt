@@ -8,7 +8,7 @@ use Rattle.oc_model.specs.declared.word.Word.{Word}
 use Rattle.oc_model.specs.declared.word.Word.TheVariants as words
 use Rattle.oc_report.specs.Bodies.{body_text, mark}
 
--- The lines of a report. A further word or block is one equation more.
+-- The lines of a report. Another word or block needs one more equation.
 
 -- the word of an answer
 abbrev pub answer_text : Answer → List ℕ
@@ -48,7 +48,7 @@ abbrev pub message_line : ℕ → Message → List ℕ
 message_line k m =
     codes "  m" ++ decimal k ++ codes " " ++ decimal m.from ++ codes ">" ++ decimal m.to ++ codes " " ++ body_text m.body ++ codes "\n"
 
--- a line for each message, of which the first has this number
+-- a line for each message, the first of which has this number
 abbrev pub messages_text : ℕ → List Message → List ℕ
 messages_text k [] = []
 messages_text k (m ∷ ms) = message_line k m ++ messages_text (k + 1) ms

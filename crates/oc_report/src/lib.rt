@@ -3,7 +3,7 @@
 //! `oc_replay` puts the line of each event, of each message and of the end, and `oc_check` shows a node
 //! and what it holds in the same words. Each function gives exactly the text that a definition names:
 //! `specs/Lines` has the lines of a report, `specs/Bodies` what messages say and `specs/Shows` the state
-//! of a node. What is told of a run, and in which order, is above.
+//! of a node. What a report says of a run, and in which order, is defined above.
 #![tactic(auto)]
 
 mod bodies;

@@ -9,7 +9,7 @@ use oc_base::{Memory, Shelf, put, put_with_number};
 use oc_model::{Answer, Message, Word};
 use std::alloc::Global;
 
-/// Puts `#i WORD`: the number of an event, and what came of it.
+/// Puts `#i WORD`: the number of an event, and its word.
 pub fn put_event(out: &mut Vec<u8>, number: u64, word: &Word) -> Result<(), Memory>
     ensures { OnOk result (out.new.items ≡ out.old.items ++ event_line number word.now) }
 {

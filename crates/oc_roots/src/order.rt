@@ -12,7 +12,7 @@ use oc_base::{Memory, NodeId};
 /// order: for a member of the chain the earlier members, the nearest first; for any other node its
 /// ancestors and then the chain. Each occurs once, and neither `me` nor `without` occurs there.
 ///
-/// Where memory is wanted `into` is as it was. Each id is looked for among those before it, so the
+/// If memory runs out, `into` is as it was. Each id is looked for among those before it, so the
 /// work is the square of the list's length: for the longest, of 1,016 nodes, half a million steps.
 pub fn ask_order(
     me: NodeId,

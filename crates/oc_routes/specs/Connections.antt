@@ -1,4 +1,4 @@
--- When a request is the last of its connection, and when its client waits for the leave to send its body.
+-- When a request is the last of its connection, and when its client waits for the permission to send its body.
 use Rattle.std.specs.Prelude.{ℕ, Bool, not, ◌&&◌, ◌||◌, ◌==◌, nat_le}
 use Rattle.oc_http.specs.declared.head.Head.{Head}
 use Rattle.oc_routes.specs.declared.connections.TheConstants.{MAX_REQUESTS}

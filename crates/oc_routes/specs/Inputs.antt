@@ -1,4 +1,4 @@
--- Which input comes of a request, and the lines of inputs.
+-- Which input results from a request, and the lines of inputs.
 use Rattle.std.specs.Prelude.{◌≡◌, ℕ, ◌==◌, if◌then◌else◌, Option, Some, None, Result, Ok, Err, List, ◌++◌, length, codes, decimal}
 use Rattle.oc_model.specs.declared.event.Act.TheVariants as acts
 use Rattle.oc_model.specs.declared.input.Input.{Input}
@@ -17,12 +17,12 @@ use Rattle.oc_routes.specs.declared.lines.ProbeFailure.TheVariants as failures
 use Rattle.oc_routes.specs.declared.refused.Refused.{Refused}
 use Rattle.oc_routes.specs.declared.refused.Refused.TheVariants as refusals
 
--- a message that was read comes to the node that it is to, and no other
+-- a message that was read goes to the node that it is addressed to, and to no other
 abbrev pub delivered : ℕ → Result Message WireFault → Result (Option Input) Refused
 delivered me (Ok message) = if message.to == me then Ok (Some (inputs.Delivered message)) else Err refusals.Message
 delivered me (Err fault) = Err refusals.Message
 
--- The input of the node `me`, one of `nodes` nodes, that comes of what was asked and of the body; none of a probe.
+-- The input of the node `me`, one of `nodes` nodes, that results from what was asked and from the body; a probe gives none.
 abbrev pub input_asked : ℕ → ℕ → Asks → List ℕ → Result (Option Input) Refused
 input_asked nodes me asks.Message body = delivered me (decoded nodes body)
 input_asked nodes me (asks.Publish group) body = Ok (Some (inputs.Publish group body))

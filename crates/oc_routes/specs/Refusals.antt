@@ -9,7 +9,7 @@ use Rattle.oc_routes.specs.declared.fault.RouteFault.TheVariants as faults
 use Rattle.oc_routes.specs.declared.refused.Refused.{Refused}
 use Rattle.oc_routes.specs.declared.refused.Refused.TheVariants.{Source, Ended, Head, HeadLong, Fields, Host, Coding, Length, BodyLong, Method, Path, Query, Denied, Message, Body}
 
--- a fault of a head or a body refuses its request by the same name; want of memory doesn't
+-- a fault of a head or a body refuses its request by the same name; running out of memory doesn't
 abbrev pub fault_of_http : HttpFault → RouteFault
 fault_of_http http.Source = faults.Refused Source
 fault_of_http http.Ended = faults.Refused Ended

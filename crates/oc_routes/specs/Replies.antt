@@ -11,7 +11,7 @@ abbrev pub message_at : List Message → Option ℕ → Option Message
 message_at sends None = None
 message_at sends (Some place) = slice_get sends place
 
--- all messages but that one
+-- all messages except that one
 abbrev pub without : List Message → Option ℕ → List Message
 without sends None = sends
 without sends (Some place) = remove sends place

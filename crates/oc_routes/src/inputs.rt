@@ -13,8 +13,8 @@ use oc_model::Input;
 use oc_wire::{WireFault, decode};
 use std::alloc::Global;
 
-/// The input of the node `me`, one of `nodes` nodes, that comes of what was asked and of the body of the
-/// request; none comes of a probe. Refused for a body that is no message to this node, and for a body of
+/// The input of the node `me`, one of `nodes` nodes, that results from what was asked and from the body of the
+/// request; a probe gives none. Refused for a body that is no message to this node, and for a body of
 /// a request to seal.
 pub fn input_of(
     alloc: Global,

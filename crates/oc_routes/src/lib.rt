@@ -2,7 +2,7 @@
 //! functions over values.
 //!
 //! `specs/Routes` says what a head asks (`asked`), with its faults in their order: method, path, query,
-//! access rules. `specs/Inputs` says which input comes of it and of the body, and the input's line;
+//! access rules. `specs/Inputs` says which input results from it and the body, and the input's line;
 //! `specs/Refusals` has the line and the reply of a refused request, and `specs/Responses` what is sent
 //! for the answer of a step.
 //!

@@ -1,4 +1,4 @@
-/// Why a request becomes no input. Of the faults that a request has at once, the first in this order
+/// Why a request becomes no input. If a request has several of these faults, the first in this order
 /// counts; `Source` and `Ended` come where the head is read and where the body is.
 #[derive(Clone, Copy, Debug, PartialEq, Eq)]
 pub enum Refused {
@@ -19,7 +19,7 @@ pub enum Refused {
         /// There is a Content-Length too.
         both: bool,
     },
-    /// The Content-Length is unusable, or missing where it is wanted.
+    /// The Content-Length is unusable, or missing where it is required.
     Length {
         /// The field is missing, and is not just unusable.
         missing: bool,

@@ -22,8 +22,8 @@ use std::alloc::Global;
 
 /// What is answered to what was asked.
 ///
-/// `answer` is that of the step; of a probe it is not looked at. `reply` is the message that goes back to
-/// the sender of a message, `sealed` tells whether the group is sealed that a client gets, `addresses` are
+/// `answer` is that of the step; for a probe it is not looked at. `reply` is the message that goes back to
+/// the sender of a message, `sealed` tells whether the group that a client gets is sealed, `addresses` are
 /// those of the nodes by their ids, and `last` says that the request is the last of its connection
 /// whatever it asks.
 pub fn respond(

@@ -67,7 +67,7 @@ impl<T: Copy> Rows<T> {
         self.written.len()
     }
 
-    /// The value at a place, and the other one past the last place.
+    /// The value at a place, or `other` past the last place.
     pub fn get_or(&self, place: usize, other: T) -> T
         ensures { result ≡ get_or self.now.items place other }
     {

@@ -24,7 +24,7 @@ pub fn rules_text(alloc: Global, rules: &[Rule]) -> Result<Vec<u8>, Memory>
     Ok(text)
 }
 
-/// Puts the line of the rule of this number, which that one shadows, if any.
+/// Puts the line of the rule with this number, which rule `by` shadows, if there is one.
 fn put_line(out: &mut Vec<u8>, number: u32, rule: &Rule, by: Option<u32>) -> Result<(), Memory>
     ensures { OnOk result (out.new.items ≡ out.old.items ++ rule_line number rule.now by) }
 {

@@ -27,7 +27,7 @@ first_script words = do
 abbrev pub with_area : Script → ℕ × ℕ → Script
 with_area s (node, area) = record s { header = record s.header { areas = slice_set s.header.areas (node - 1) area } }
 
--- the script with one event more
+-- the script with one more event
 abbrev pub with_event : Script → Event → Script
 with_event s event = record s { events = s.events ++ event ∷ [] }
 
@@ -99,7 +99,7 @@ read_lines i so_far (line ∷ rest) = do
 abbrev pub schedule_of : List ℕ → Result Script ScheduleFault
 schedule_of bytes = if nat_lt MAX_SCHEDULE_BYTES (length bytes) then Err (Limit limits.Bytes) else read_lines 1 None (lines bytes)
 
--- a schedule within the ranges and the limits: each line but the header gives an event at most
+-- a schedule within the ranges and the limits: each line except the header gives one event at most
 pub record IsSchedule (s : Script) : Type 0 where
   pub header : IsHeader s.header
   pub events : AllByRecursion (IsEvent s.header.nodes) s.events

@@ -50,7 +50,7 @@ impl Draft {
         })
     }
 
-    /// The draft after one line more, which is not skipped and has this number, first word and
+    /// The draft after one more line, which is not skipped and has this number, first word and
     /// fields.
     pub fn with_line(
         self,
@@ -102,7 +102,7 @@ impl Draft {
         }
     }
 
-    /// The draft with one event more, where it passes no limit.
+    /// The draft with one more event, where it passes no limit.
     fn with_event(self, event: Event) -> Result<Draft, ScheduleFault>
         ensures { GivesBy (λ d. d.schedule) result
             (within_limits (with_event self.schedule event)) }

@@ -7,7 +7,7 @@
 //! What is read is within the ranges and the limits (`IsSchedule`), so that each event may be given
 //! to a stage.
 //!
-//! A further kind of line is one definition in `specs/Lines`, one reader in `lines`, and a branch of
+//! A new kind of line needs one definition in `specs/Lines`, one reader in `lines`, and a branch of
 //! `event_in` and `event`.
 #![tactic(auto)]
 

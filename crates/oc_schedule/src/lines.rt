@@ -1,6 +1,6 @@
 //! The header, areas and event lines: for each kind how it is read, and in `put_event` how it is written.
 //!
-//! A further kind is one more definition in `specs/Lines`, one reader here, and a branch of [`event`]
+//! A new kind needs one more definition in `specs/Lines`, one reader here, and a branch of [`event`]
 //! and [`put_event`].
 
 ghost use Rattle.std.specs.Prelude.{◌≡◌, ◌++◌, OnOk, IfOk, codes, decimal};

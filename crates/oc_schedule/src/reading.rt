@@ -55,7 +55,7 @@ fn read_lines(alloc: Global, bytes: &[u8]) -> Result<Schedule, ScheduleFault>
     }
 }
 
-/// The draft after one line more, where there is none before the header.
+/// The draft after one more line, where there is none before the header.
 fn read_line(
     alloc: Global,
     draft: Option<Draft>,

@@ -1,4 +1,4 @@
--- What a turn did after its connection where it ended in its midst: its deeds, and what was under way.
+-- What a turn did after its connection where it ended partway through: its deeds, and what was under way.
 use Rattle.std.specs.Prelude.{◌≡◌, ◌⊎◌, ℕ, ◌<◌, min, slice_get, Option, Some, Result, Ok, Err, List, [], ◌∷◌, ◌++◌, codes, length}
 use Rattle.oc_base.specs.declared.limits.TheConstants.{MAX_RATE}
 use Rattle.oc_model.specs.declared.input.Input.{Input}
@@ -16,7 +16,7 @@ use Rattle.oc_turn.specs.Deeds.{CutsTick, EndsAt, Deed, Dials, Probes, Under, Id
 use Rattle.oc_serve.specs.declared.limits.TheConstants.{MAX_DIALS}
 use Rattle.oc_serve.specs.Turns.{Errand, IsTickedAndSent, errands_deeds, probe_note}
 
--- One message that ended so: memory ran out in its dial, or it was dialled, and the input that comes of it was under way.
+-- One message that ended so: memory ran out in its dial, or it was dialled, and the input that results from it was under way.
 abbrev pub CutsErrand : TurnEnd → List Deed → Under → Type 0
 CutsErrand end ds under = ((ds ≡ []) × (under ≡ Idle) × (end ≡ ends.Memory))
     ⊎ ((m : Message) × (i : Input) × (ds ≡ Dials m (Some i) ∷ []) × (under ≡ Taking i))
@@ -34,8 +34,8 @@ abbrev pub CutsTickOrSending : TurnEnd → List Deed → Under → Type 0
 CutsTickOrSending end ds under = CutsTick end ds under
     ⊎ ((t : ℕ) × (sent : List Deed) × CutsSending MAX_DIALS end sent under × (ds ≡ ticked t ++ sent))
 
--- A probe of a peer that ended so once this came of it: the median that is taken was next, or the line that tells the fault; one that
--- wants memory ends there.
+-- A probe of a peer that ended so once this was its result: the median that is taken was next, or the line that tells the fault; one that
+-- runs out of memory ends there.
 abbrev pub CutsAnswer : List (List ℕ) → ℕ → ℕ → Result ℕ ProbeFault → TurnEnd → Under → Type 0
 CutsAnswer gauge peer hops (Ok rate) end under = (median : ℕ)
     × IsMedian (with_rate (rates_of gauge peer) rate) median
@@ -52,12 +52,12 @@ CutsProbe gauge peer end ds under = (hops : ℕ) × (came : Result ℕ ProbeFaul
 abbrev pub CutsProbing : Probing → TurnEnd → List Deed → Under → Type 0
 CutsProbing had end ds under = (peer : ℕ) × (slice_get had.rotation.coming 0 ≡ Some peer) × CutsProbe had.gauge peer end ds under
 
--- the same of a turn, which probes where no connection waited and where there is something to probe with
+-- the same for a turn, which probes where no connection waited and where there is something to probe with
 abbrev pub CutsProbeAt : Arrival → Option Probing → TurnEnd → List Deed → Under → Type 0
 CutsProbeAt arrivals.Quiet (Some had) end ds under = CutsProbing had end ds under
 CutsProbeAt arrival had end ds under = ⊥
 
--- The deeds of a turn after its connection, in whose midst it ended so: the tick or the messages that are sent ended so, or they were
+-- The deeds of a turn that ended so partway through, after its connection: the tick or the messages that are sent ended so, or they were
 -- all done, and the probe ended so.
 abbrev pub CutsRest : Option Probing → Arrival → TurnEnd → List Deed → Under → Type 0
 CutsRest had arrival end ds under = CutsTickOrSending end ds under

@@ -35,14 +35,14 @@ MakesTurns view takes count addresses rules had has turns old new = (deeds : Lis
     × Did view takes count addresses deeds old new
     × (IsHonest view old.kept → ServesTurns (setting old.kept addresses) (terms old.kept rules) had has turns deeds (sight old) (sight new))
 
--- Some deeds of a turn were done, in whose midst it then ended so: what was answered until then, and what every crash leaves.
+-- Some deeds of a turn were done, and then it ended so partway through: what was answered until then, and what every crash leaves.
 abbrev pub StopsTurn : {D K : Type 0} → (D → DiskView) → (K → List ℕ → K → Type 0) → (K → List ℕ → K → Type 0) → (K → ℕ) → List (List ℕ) → List Rule → Option Probing → TurnEnd → Scene D K → Scene D K → Type 0
 StopsTurn {D} {K} view takes fails count addresses rules had end old new = (deeds : List Deed) × (under : Under) × (at : Scene D K)
     × Did view takes count addresses deeds old at
     × (IsHonest view old.kept → ServesPart (setting old.kept addresses) (terms old.kept rules) had end under deeds (sight old) (sight at))
     × Breaks view takes fails count addresses (Rose old.outside.faults.listening new.outside.faults.listening) end under at new
 
--- the same of `turns` turns
+-- the same for `turns` turns
 abbrev pub StopsTurns : {D K : Type 0} → (D → DiskView) → (K → List ℕ → K → Type 0) → (K → List ℕ → K → Type 0) → (K → ℕ) → List (List ℕ) → List Rule → Option Probing → ℕ → TurnEnd → Scene D K → Scene D K → Type 0
 StopsTurns {D} {K} view takes fails count addresses rules had turns end old new = (deeds : List Deed) × (under : Under) × (at : Scene D K)
     × Did view takes count addresses deeds old at
@@ -65,7 +65,7 @@ ServeEnds view takes fails count addresses rules had has turns ends.Served old n
 ServeEnds view takes fails count addresses rules had has turns ends.Quiet old new = ⊥
 ServeEnds view takes fails count addresses rules had has turns end old new = StopsTurns view takes fails count addresses rules had turns end old new
 
--- how a turn ends that answered so
+-- how a turn that answered so ends
 abbrev pub ended_with : Result Arrival TurnEnd → TurnEnd
 ended_with (Ok arrival) = end_with arrival
 ended_with (Err end) = end

@@ -31,7 +31,7 @@ IsOwn d = Unit {0}
 abbrev pub SameTaken : Story → Story → Type 0
 SameTaken old new = (new.past ≡ old.past) × (new.current ≡ old.current)
 
--- the same of a link, as far as it is told
+-- the same for a link, as far as its story goes
 abbrev pub SameConnections : Option Story → Option Story → Type 0
 SameConnections old new = Told SameTaken old new
 
@@ -46,7 +46,7 @@ pub record ServesThen (s : Setting) (t : Terms) (arrival : Arrival) (ds rest : L
   pub answered : IsServed t s.addresses arrival requests called.node called.outside.story served.outside.story
   pub goes_on : DoAll s rest served c
 
--- The same of a whole turn: the rest is that of a turn, it is its own, and it leaves the connections that were taken as they were once
+-- The same for a whole turn: the rest is that of a turn, it is its own, and it leaves the connections that were taken as they were once
 -- served. What the turn probes with is given as it was before and is after it.
 pub record ServesOne (s : Setting) (t : Terms) (old new : Option Probing) (arrival : Arrival) (ds : List Deed) (a c : Sight) : Type 0 where
   pub rest : List Deed
@@ -62,10 +62,10 @@ ServesTurns s t old new zero ds a c = (new ≡ old) × (ds ≡ []) × (c ≡ a)
 ServesTurns s t old new (suc n) ds a c = (first rest : List Deed) × (b : Sight) × (between : Option Probing) × (arrival : Arrival)
     × IsTurn old between (end_with arrival) first × ServesOne s t old between arrival first a b × ServesTurns s t between new n rest b c × (ds ≡ first ++ rest)
 
--- Turns that ended in their midst
+-- Turns that ended partway through
 
 -- The deeds of a turn that ended so with its connection, with this under way: after the link's answer some requests were answered, and
--- then one ended in its midst.
+-- then one ended partway through.
 pub record CutsOne (s : Setting) (t : Terms) (end : TurnEnd) (under : Under) (ds : List Deed) (a c : Sight) : Type 0 where
   pub requests : List Deed
   pub called : Sight
@@ -75,7 +75,7 @@ pub record CutsOne (s : Setting) (t : Terms) (end : TurnEnd) (under : Under) (ds
   pub cut : IsCutConnection t s.addresses end under requests called.node called.outside.story c.outside.story
 
 -- The deeds of a turn that ended so after its connection, with this under way: the connection, where one came, was answered, and the rest,
--- in whose midst it ended, is its own and leaves the connections that were taken as they were once served.
+-- partway through which it ended, is its own and leaves the connections that were taken as they were once served.
 pub record CutsBehind (s : Setting) (t : Terms) (had : Option Probing) (end : TurnEnd) (under : Under) (ds : List Deed) (a c : Sight) : Type 0 where
   pub arrival : Arrival
   pub rest : List Deed
@@ -85,12 +85,12 @@ pub record CutsBehind (s : Setting) (t : Terms) (had : Option Probing) (end : Tu
   pub own : AllByRecursion IsOwn rest
   pub still : SameConnections served.outside.story c.outside.story
 
--- The deeds of a turn that ended so in its midst, with this under way: there are none, and nothing was; or it ended after its
+-- The deeds of a turn that ended so partway through, with this under way: there are none, and nothing was; or it ended after its
 -- connection, or with it. What the turn probes with is given as it was before it.
 abbrev pub ServesPart : Setting → Terms → Option Probing → TurnEnd → Under → List Deed → Sight → Sight → Type 0
 ServesPart s t had end under ds a c = ((ds ≡ []) × (c ≡ a) × (under ≡ Idle)) ⊎ CutsBehind s t had end under ds a c ⊎ CutsOne s t end under ds a c
 
--- fewer than `turns` turns, and then one that ended so in its midst
+-- fewer than `turns` turns, and then one that ended so partway through
 abbrev pub ServesUpTo : Setting → Terms → Option Probing → ℕ → TurnEnd → Under → List Deed → Sight → Sight → Type 0
 ServesUpTo s t old turns end under ds a c = (done : ℕ) × (first rest : List Deed) × (b : Sight) × (between : Option Probing)
     × (done < turns) × ServesTurns s t old between done first a b × ServesPart s t between end under rest b c × (ds ≡ first ++ rest)

@@ -21,7 +21,7 @@ use Rattle.oc_turn.specs.Deeds.{ticked, Deed, Calls, Takes, Notes, Dials, Emptie
 
 -- The messages that are sent
 
--- a message that is taken out of the outbox and dialled, and what comes of it
+-- a message that is taken out of the outbox and dialled, and what results from it
 pub record Errand : Type 0 where
   pub message : Message
   pub came : Option Input
@@ -54,7 +54,7 @@ abbrev pub probe_note : ℕ → List ℕ → List ℕ
 probe_note peer word = codes "probe " ++ decimal peer ++ codes " " ++ word
 
 -- A probe of a peer whose last record has this many hops: its rate goes to the gauge, whose median is taken with these hops; or its
--- fault is told by its word, and the gauge stays. A turn whose probe wants memory ends there.
+-- fault is named by its word, and the gauge stays. A turn whose probe runs out of memory ends there.
 abbrev pub IsProbe : List (List ℕ) → List (List ℕ) → ℕ → ℕ → Result ℕ ProbeFault → List Deed → Type 0
 IsProbe gauge after peer hops (Ok rate) ds = (median : ℕ)
     × IsMedian (with_rate (rates_of gauge peer) rate) median

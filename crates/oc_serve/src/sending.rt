@@ -27,12 +27,12 @@ use std::alloc::Global;
 pub enum Sent {
     /// There was none.
     Empty,
-    /// It was dialled, and this comes of it.
+    /// It was dialled, and this results from it.
     Brought(Option<Entry>),
 }
 
-/// Takes the oldest messages out of the outbox, dials their receivers and takes what comes of them, as many
-/// as a turn dials or until the outbox is empty.
+/// Takes the oldest messages out of the outbox, dials their receivers and takes the inputs that result, for as
+/// many as a turn dials or until the outbox is empty.
 #[allow(clippy::too_many_arguments)]
 pub(crate) fn send_all<D: Disk, L: Link, K: Sink>(
     alloc: Global,
@@ -65,7 +65,7 @@ pub(crate) fn send_all<D: Disk, L: Link, K: Sink>(
     Ok(())
 }
 
-/// Takes the oldest message out of the outbox, dials its receiver and takes what comes of it. False where
+/// Takes the oldest message out of the outbox, dials its receiver and takes the input that results. False where
 /// the outbox is empty.
 #[allow(clippy::too_many_arguments)]
 fn send_one<D: Disk, L: Link, K: Sink>(

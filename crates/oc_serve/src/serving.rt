@@ -20,10 +20,10 @@ use oc_turn::{Outbox, TurnEnd};
 use std::alloc::Global;
 
 /// One turn of a running node: `Served` where a connection came, `Quiet` where none waited, and else why
-/// it ended in its midst. It keeps what was done until then.
+/// it ended partway through. It keeps what was done until then.
 ///
 /// The node is open, each of its nodes has an address in the configuration, and each message of the outbox
-/// can be sent, as it can of an empty one and after a turn. With a `Probing`, made for this node, a quiet
+/// can be sent, which is so for an empty one and after a turn. With a `Probing`, made for this node, a quiet
 /// turn ends with a probe of the next peer.
 #[allow(clippy::too_many_arguments)]
 pub fn turn<D: Disk, L: Link, C: Clock, K: Sink>(
@@ -42,13 +42,13 @@ pub fn turn<D: Disk, L: Link, C: Clock, K: Sink>(
     requires rules { length config.now.rules ≤ MOST_RULES }
     requires probing { ForSome (option_map (λ p. p.now) probing) (IsMadeFor kept.old.node.control.nodes) }
 
-    // What it did, deed by deed, and what its connection was answered; where it ended in its midst, the
+    // What it did, deed by deed, and what its connection was answered; where it ended partway through, the
     // same until then, what every crash leaves, and what else went through the link.
     ensures ends { TurnEnds D.view K.takes K.fails K.faults config.now.addresses config.now.rules (option_map (λ p. p.now) probing.entry) (left_behind probing.exit) result
         (scene kept.old outbox.old sink.old (outside_of (L.story link.old) (L.faults link.old) (C.seconds clock.old) (C.milliseconds clock.old)))
         (scene kept.new outbox.new sink.new (outside_of (L.story link.new) (L.faults link.new) (C.seconds clock.new) (C.milliseconds clock.new))) }
 
-    // What it probes with is ready for a further turn.
+    // What it probes with is ready for another turn.
     ensures made { ForSome (left_behind probing.exit) (IsMadeFor kept.old.node.control.nodes) }
 {
     let mut heads = None;
@@ -60,7 +60,7 @@ pub fn turn<D: Disk, L: Link, C: Clock, K: Sink>(
     }
 }
 
-/// `turns` turns of a running node, or those up to one that ends in its midst, and then that end. The
+/// `turns` turns of a running node, or those up to one that ends partway through, and then that end. The
 /// conditions are those of [`turn`].
 #[allow(clippy::too_many_arguments)]
 pub fn serve<D: Disk, L: Link, C: Clock, K: Sink>(
@@ -85,7 +85,7 @@ pub fn serve<D: Disk, L: Link, C: Clock, K: Sink>(
         (scene kept.old outbox.old sink.old (outside_of (L.story link.old) (L.faults link.old) (C.seconds clock.old) (C.milliseconds clock.old)))
         (scene kept.new outbox.new sink.new (outside_of (L.story link.new) (L.faults link.new) (C.seconds clock.new) (C.milliseconds clock.new))) }
 
-    // What it probes with is ready for a further turn.
+    // What it probes with is ready for another turn.
     ensures made { ForSome (left_behind probing.exit) (IsMadeFor kept.old.node.control.nodes) }
 {
     match probing {
@@ -161,7 +161,7 @@ fn serve_plain<D: Disk, L: Link, C: Clock, K: Sink>(
     Ok(())
 }
 
-/// How a turn ends that answered so.
+/// How a turn that answered this ends.
 fn ended_with(ended: Result<Arrival, TurnEnd>) -> TurnEnd
     ensures { result ≡ ended_with ended }
 {
@@ -172,7 +172,7 @@ fn ended_with(ended: Result<Arrival, TurnEnd>) -> TurnEnd
     }
 }
 
-/// How turns end that answered so.
+/// How turns that answered this end.
 fn served_with(served: Result<(), TurnEnd>) -> TurnEnd
     ensures { result ≡ served_with served }
 {

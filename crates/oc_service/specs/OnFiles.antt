@@ -41,7 +41,7 @@ pub record DidOnFiles {D : Type 0} (view : D → DiskView) (c : Settings) (nodes
       (sight_of (first_node view (header_of_settings nodes c) me old) [] (record before { faults = listened })) (sight_of node last out)
   pub survives : AreHonest view old → Survives view (header_of_settings nodes c) me new node
 
--- what every crash leaves where it ended so with this under way: where a disk or the output failed, perhaps with one input more
+-- what every crash leaves where it ended so with this under way: where a disk or the output failed, perhaps with one more input
 abbrev pub LeavesOne : {D : Type 0} → (D → DiskView) → Header → ℕ → Disks D → Node → Under → Type 0
 LeavesOne view h me d n (Taking i) = Leaves view h me d (SameAsEither n (step n i).node)
 LeavesOne view h me d n under = Survives view h me d n
@@ -51,7 +51,7 @@ LeavesBehind view h me d ends.Disk n under = LeavesOne view h me d n under
 LeavesBehind view h me d ends.Sink n under = LeavesOne view h me d n under
 LeavesBehind view h me d end n under = LeavesOne view h me d n Idle
 
--- why it ended, where that is not why its output is to blame
+-- why it ended, where its output is not to blame
 abbrev pub HasCauseOnFiles : {D : Type 0} → (D → DiskView) → TurnEnd → Under → Disks D → Disks D → Outside → Outside → Type 0
 HasCauseOnFiles view ends.Disk under old new before out = OneRose view old new
 HasCauseOnFiles view ends.Link under old new before out = Rose before.faults.listening out.faults.listening

@@ -4,7 +4,7 @@
 //! [`run_node`] is what the layer above uses. Its contract names the deeds of the run (`IsRun`): the
 //! measures of the configuration, in their order, and then the deeds of each turn. The lines of these deeds
 //! were written, the node and the link are what the deeds make of them, and every crash leaves the node
-//! after them; where it ended before, also with one input more under way. Where all turns were served, the
+//! after them; where it ended before, also with one more input under way. Where all turns were served, the
 //! connections that came were answered as `ServesRun` says, one turn after the other.
 #![tactic(auto)]
 

@@ -26,8 +26,8 @@ use oc_serve::serve;
 use oc_turn::{Outbox, TurnEnd};
 use std::alloc::Global;
 
-/// Waits at the address of the node, takes the measures of the configuration that are its own, and serves so
-/// many turns.
+/// Waits at the address of the node, takes the measures of the configuration that are its own, and serves
+/// `turns` turns.
 #[allow(clippy::too_many_arguments)]
 pub(crate) fn run_loaded<D: Disk, L: Link, C: Clock, K: Sink>(
     alloc: Global,

@@ -64,7 +64,7 @@ pub fn run_node<D: Disk, L: Link, C: Clock, K: Sink>(
 
     // All turns were served: the deeds are the measures and exactly `turns` turns. Where it ended before:
     // what was done until then, what every crash leaves, and why it ended. Where it was not loaded: which
-    // file is to blame, and a crash at any moment leaves what one at the start would have left.
+    // file is to blame, and a crash at any moment leaves what a crash at the start would have left.
     ensures ends { NodeEnds D.view K.takes K.fails K.faults config.now (length config.now.addresses) me probes turns result
         (disks control.old alternate.old content.old) (disks control.new alternate.new content.new) sink.old sink.new
         (outside_of (L.story link.old) (L.faults link.old) (C.seconds clock.old) (C.milliseconds clock.old))

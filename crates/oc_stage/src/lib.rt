@@ -1,6 +1,6 @@
 //! What a replay plays on.
 //!
-//! [`Stage`] shows a world of the model, and says which world an event leads to and in which word. So
+//! [`Stage`] shows a world of the model, and says which world an event leads to and with which word. So
 //! whoever writes a report over a stage of any type knows a word only from the stage. Its laws say what
 //! a caller may know of a world whatever its type; [`model_keeps_the_laws`] says that the model's own
 //! functions, `new_world`, `next_world` and `word_of`, keep them.

@@ -1,7 +1,7 @@
 use oc_base::{CertList, IdList, LineList, Rank};
 use oc_model::Mode;
 
-/// A node's position in the tree, and what it knows of the tree. Of a node that is down it is what a start
+/// A node's position in the tree, and what it knows of the tree. For a node that is down it is what a start
 /// would find.
 #[derive(Clone, Debug, Drop)]
 pub struct Sight {

@@ -27,7 +27,7 @@ pub struct Said {
 
 /// What a replay plays on. It shows a world of the model.
 ///
-/// Each stage type says which world a header opens, which world an event leads to, and in which
+/// Each stage type says which world a header opens, which world an event leads to, and with which
 /// word. So whoever writes a report over a stage of any type knows a word only from the stage. The
 /// laws below the calls hold of every stage: what a caller may know of a world whatever its type.
 pub trait Stage {
@@ -43,15 +43,15 @@ pub trait Stage {
     /// The word of an event.
     ghost word: { WorldState → ModelEvent → ModelWord };
 
-    /// Opens the world of a header: 1 to 1,024 nodes, a chain of 1 to 16 and no more than the nodes,
-    /// and the area of each node, ascending by id. Nothing is said of the stage after want of memory.
+    /// Opens the world of a header: 1 to 1,024 nodes, a chain of 1 to 16 members and at most all nodes,
+    /// and the area of each node, ascending by id. Nothing is said of the stage once memory ran out.
     fn open(&mut self, nodes: u32, chain: u32, areas: &[u8]) -> Result<(), Memory>
         requires { IsHeader (record { nodes = nodes; chain = chain; areas = areas.now }) }
         ensures { OnOk result (world self.new ≡ first (record { nodes = nodes; chain = chain; areas = areas.now })) };
 
     /// Does what an event does, any one within its ranges. Settle and heal are given only where no
-    /// clock of a node that is up is past the second 2^41 - 60. Nothing is said of the stage after want
-    /// of memory.
+    /// clock of a node that is up is past the second 2^41 - 60. Nothing is said of the stage once memory
+    /// ran out.
     fn event(&mut self, event: &Event) -> Result<Said, Memory>
         requires event { IsEvent (length (ids (world self.old))) event.now }
         requires time { HasTimeFor (world self.old) event.now }

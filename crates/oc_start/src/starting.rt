@@ -25,8 +25,8 @@ const CONTENT: &str = "content.log";
 /// A file is opened at the first call on it. Before it returns, what replies have still to go out is sent, as
 /// far as their receivers take it.
 ///
-/// What had happened is what [`run_on_streams`] ensures, which this calls; of it the status and the line are
-/// told here.
+/// What had happened is what [`run_on_streams`], which this calls, ensures; of it only the status and the line
+/// are said here.
 pub fn start(rt: &HostRuntime, words: &[String]) -> StreamsRun
     ensures ended { (end : End) × (usage : List ℕ)
         × (result.status ≡ number_of (status_of end))

@@ -4,7 +4,7 @@ use oc_program::End;
 use std::rt::Env;
 use std::{env, io};
 
-/// The words after the program's name; or how the program ends where they cannot be had. A word that is not
+/// The words after the program's name; or how the program ends where they cannot be read. A word that is not
 /// text is no word of the program.
 pub fn given_words<R: Env + AllocGlobal>(rt: &R) -> Result<Vec<String>, End> {
     let given = match env::args(rt) {

@@ -25,7 +25,7 @@ pub struct Durable {
     standing: Standing,
     table: Table,
     log: ChangeLog,
-    /// For how many certificates room was made in the log. A recovery that wants memory leaves it as it was,
+    /// For how many certificates room was made in the log. A recovery that runs out of memory leaves it as it was,
     /// though the log keeps the memory that it has.
     room: usize,
     /// Nearest first.
@@ -123,7 +123,7 @@ impl Durable {
         Ok(())
     }
 
-    /// Does what these records say to what is durable of a new node. Where memory is wanted it stays new.
+    /// Does what these records say to what is durable of a new node. If memory runs out, it stays new.
     pub fn recover(&mut self, list: &[Record]) -> Result<(), Memory>
         requires new { self.old.kept ≡ new_durable self.old.nodes }
         requires most { self.old.nodes ≤ MAX_NODES }
@@ -153,7 +153,7 @@ impl Durable {
         self.measures.clear();
     }
 
-    /// Does what these records say, one after another, of a log that is short yet.
+    /// Does what these records say, one after another. The log is at most `MAX_BASE_ACKED` long before.
     fn fold_list(&mut self, list: &[Record]) -> Result<(), Memory>
         requires lawful { AreRecords self.old.nodes list.now }
         requires kept { IsKept self.old.nodes self.old.kept }

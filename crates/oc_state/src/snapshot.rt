@@ -48,7 +48,7 @@ fn push_entries(list: &mut Vec<Record>, certs: &[Cert]) -> Result<(), Memory>
     Ok(())
 }
 
-/// Puts what was measured of a peer at the end, if anything was.
+/// Puts at the end what was measured of a peer, if anything was.
 fn push_rate(list: &mut Vec<Record>, measures: &Measures, peer: NodeId) -> Result<(), Memory>
     ensures { OnOk result (list.new.items ≡ list.old.items ++ rate_record peer (reading_of measures.now peer)) }
 {
@@ -59,7 +59,7 @@ fn push_rate(list: &mut Vec<Record>, measures: &Measures, peer: NodeId) -> Resul
     Ok(())
 }
 
-/// Puts what was measured at the end, of each peer.
+/// Puts at the end what was measured of each peer.
 fn push_rates(list: &mut Vec<Record>, measures: &Measures, nodes: u32) -> Result<(), Memory>
     requires { length measures.now ≡ nodes }
     ensures { OnOk result (list.new.items ≡ list.old.items ++ rates_from 1 measures.now) }
@@ -99,7 +99,7 @@ impl Durable {
         Ok(list)
     }
 
-    /// Puts the own number and count of clients at the end, where there were any.
+    /// Puts at the end the own number and the count of clients, if there were any.
     fn push_pair(&self, list: &mut Vec<Record>) -> Result<(), Memory>
         ensures { OnOk result (list.new.items ≡ list.old.items ++ own_pair self.now.kept) }
     {
@@ -126,7 +126,7 @@ impl Durable {
         Ok(())
     }
 
-    /// Puts the mode at the end, as it goes on from the last ask, and of a joined node the log.
+    /// Puts the mode at the end, as it goes on from the last ask, and for a joined node the log.
     fn push_mode(&self, alloc: Global, list: &mut Vec<Record>, mode: Mode) -> Result<(), Memory>
         ensures { OnOk result (list.new.items ≡ list.old.items ++ mode_records mode self.now.kept) }
     {
@@ -145,7 +145,7 @@ impl Durable {
         }
     }
 
-    /// Puts that there is no parent at the end, if there was an ask.
+    /// Puts at the end that there is no parent, if there was an ask.
     fn push_lost(&self, list: &mut Vec<Record>) -> Result<(), Memory>
         ensures { OnOk result (list.new.items ≡ list.old.items ++ mode_records Mode.Idle self.now.kept) }
     {
@@ -155,7 +155,7 @@ impl Durable {
         Ok(())
     }
 
-    /// Puts how much of the log is acknowledged at the end, and what waits.
+    /// Puts at the end how much of the log is acknowledged, and what waits.
     #[tactic(auto, using(crate::proofs::Snapshotting::all_waiting))]
     fn push_log(&self, alloc: Global, list: &mut Vec<Record>) -> Result<(), Memory>
         ensures { OnOk result (list.new.items ≡ list.old.items ++ Record.Base self.now.kept.log.acked ∷ entries self.now.kept.log.waiting) }

@@ -37,7 +37,7 @@ is_below x None = false
 is_below None (Some h) = true
 is_below (Some g) (Some h) = nat_lt g h
 
--- of two files of these frames, the one of the greater generation is current, and the first at a tie
+-- the file of the greater generation is current among two files of these frames, and the first at a tie
 abbrev pub current_side : List (List ℕ) → List (List ℕ) → Side
 current_side a b = if is_below (generation_of a) (generation_of b) then Second else First
 

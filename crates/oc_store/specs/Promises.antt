@@ -36,7 +36,7 @@ RefusesFiles nodes a b a2 b2 (stores.BadFrame First number) = RefusesFile nodes 
 RefusesFiles nodes a b a2 b2 (stores.BadFrame Second number) = HasGood nodes a × RefusesFile nodes b b2 (sides.BadFrame number)
 RefusesFiles nodes a b a2 b2 stores.Memory = Unit {0}
 
--- a load of both disks: at every moment a crash leaves of each the frames that a crash at the start would have left
+-- a load of both disks: at every moment a crash leaves on each the frames that a crash at the start would have left
 pub record LoadBothSafely (a b a2 b2 : DiskView) : Type 0 where
   pub first : LoadsSafely a a2
   pub second : LoadsSafely b b2

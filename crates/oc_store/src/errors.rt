@@ -76,7 +76,7 @@ pub enum SideError {
 }
 
 impl SideError {
-    /// The same of a store, for that file.
+    /// The same for a store, for that file.
     pub fn on(self, side: Side) -> StoreError
         ensures { result ≡ error_on side self }
     {

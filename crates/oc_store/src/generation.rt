@@ -48,7 +48,7 @@ pub fn generation_of<D: Disk>(
     }
 }
 
-/// The generation of a control file with this frame more: that of its first frame.
+/// The generation of a control file with this frame added: that of its first frame.
 pub fn generation_with<D: Disk>(journal: &Journal<D>, generation: u64, frame: &Frame) -> u64
     ensures first { journal.now.frames ≡ [] → result ≡ generation_in frame.now }
     ensures later { 0 < length journal.now.frames → result ≡ generation }

@@ -7,7 +7,7 @@ ghost use Rattle.oc_store.specs.ControlFiles.{records_in, records_of, first_bad,
 
 use oc_record::spellings_are_read;
 
-/// A frame of lawful records has these records, and a frame more adds its records.
+/// A frame of lawful records has these records, and one more frame adds its records.
 pub fn frames_add_their_records()
     ensures read { (nodes : ℕ) (list : List Record) → nodes < 2 ^ 32 → AreRecords nodes list
         → records_in nodes (records_bytes list) ≡ list }

@@ -11,7 +11,7 @@ use oc_journal::{AppendError, Frame, FrameFault, Journal};
 use oc_record::{Record, encode};
 use std::alloc::Global;
 
-/// Whether a file of the second generation is current beside one of the first.
+/// Whether a file of the second generation is current next to one of the first.
 pub fn is_below(first: Option<u64>, second: Option<u64>) -> bool
     ensures { result ≡ is_below first second }
 {

@@ -13,5 +13,5 @@ pub const MAX_CLOSING_BYTES: usize = 8_192;
 /// three bytes.
 pub(crate) const FIELD_ROOM: usize = 2_731;
 
-/// The number of bytes of each chunk that is written, but the last.
+/// The number of bytes of each chunk that is written, except the last.
 pub(crate) const WRITTEN_BYTES: usize = 4_096;

@@ -14,7 +14,7 @@ use std::alloc::Global;
 #[derive(Drop)]
 pub(crate) struct Progress {
     place: Place,
-    /// What came of the size line or of the closing fields.
+    /// What has come so far of the size line or of the closing fields.
     line: Vec<u8>,
     /// Room for the closing fields.
     spans: Vec<HeaderSpan>,

@@ -41,7 +41,7 @@ impl Unchunker {
 
     /// Takes a piece of the text, puts its content at the end of `out`, and gives how many bytes it
     /// took: the whole piece, or fewer where the text ended in it. Memory is taken first. `out` stays as
-    /// it was where the piece is refused; after `Bad` and `Long` every further piece is refused alike.
+    /// it was where the piece is refused; after `Bad` and `Long` every further piece is refused in the same way.
     pub fn feed(&mut self, piece: &[u8], out: &mut Vec<u8>) -> Result<usize, ChunkFault>
         ensures within { IfOk result (λ count. count ≤ length piece.now) }
         ensures whole { IfOk result (λ count. count < length piece.now → self.new ≡ ended) }

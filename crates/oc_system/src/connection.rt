@@ -161,7 +161,7 @@ impl Connection {
     }
 
     /// Whether it can be dropped without harm: all was sent, and its peer sends nothing more. Were more to come,
-    /// the system would take back what the peer has not taken of the reply; of a short one that is nothing, so
+    /// the system would take back what the peer has not taken of the reply; for a short reply that is nothing, so
     /// there it is enough that the whole request came.
     pub(crate) fn is_done(&self) -> bool {
         let is_taken = self.look.is_all(self.count) && self.went <= SEND_BYTES;
@@ -174,7 +174,7 @@ impl Connection {
     }
 
     /// Reads what has come, or answers `WouldBlock` where there is nothing yet. Where all was read that was
-    /// taken in, a further piece is, by the buffer `piece`: more may have come while nobody looked.
+    /// taken in, another piece is taken in, by the buffer `piece`: more may have come while nobody looked.
     pub(crate) fn read_next(&mut self, buf: &mut [u8], piece: &mut [u8]) -> io::Result<usize>
         ensures within { IfOk result (λ n. n ≤ length buf.old) }
     {
@@ -206,7 +206,7 @@ impl Connection {
         Err(io::Error::from(ErrorKind::WouldBlock))
     }
 
-    /// Lets go what was read, once all was.
+    /// Drops what was read, once all of it was.
     fn forget_read(&mut self) {
         if self.read >= self.came.len() {
             self.came.clear();
@@ -261,7 +261,7 @@ impl Connection {
         count as u64
     }
 
-    /// Lets go what was sent, once it is the greater part: so what is kept has about the length of what is
+    /// Drops what was sent, once it is the greater part: so what is kept has about the length of what is
     /// still to go out, and a byte is moved at most once for each byte that is sent.
     fn forget_sent(&mut self) {
         if self.sent >= self.unsent.len() {

@@ -9,9 +9,9 @@ use std::net::{Net, TcpStream};
 use std::rt::Clock;
 
 /// How long a dial may take at least and at most where something listens here, in milliseconds: one that brings
-/// a message, and one that does not, as a probe. Of two nodes of one thread that dial each other at once, one so
-/// gives up first and serves the other, and it is not the one with a message: a node that gives up a message to
-/// its parent leaves it.
+/// a message, and one that does not, as a probe. If two nodes, each of one thread, dial each other at once, one
+/// thus gives up first and serves the other, and it is not the one with a message: a node that gives up a message
+/// to its parent leaves it.
 const MESSAGE_DIAL: (u64, u64) = (1_100, 2_000);
 
 const OTHER_DIAL: (u64, u64) = (500, 900);
@@ -24,10 +24,10 @@ pub(crate) struct Dials<'a, R> {
     outgoing: Option<Outgoing>,
     /// Whether the reply to a message is still to come on the outgoing connection.
     awaits_reply: bool,
-    /// Whether such a reply came that is work.
+    /// Whether such a reply came, and is work.
     is_work: bool,
-    /// Where the outgoing connection leads, where it may be kept for further requests; and the further request
-    /// on it of whose reply no byte has come.
+    /// Where the outgoing connection leads, if it may be kept for further requests; and the further request
+    /// on it, if no byte of its reply has come.
     address: String,
     asked: Vec<u8>,
     /// When the outgoing connection is given up, in milliseconds; none where each call has its own time.
@@ -72,7 +72,7 @@ impl<'a, R: Net<Stream = TcpStream> + Clock> Dials<'a, R> {
         millis(self.rt).saturating_add(short).saturating_add(more)
     }
 
-    /// A number that is as good as drawn: the clock's finest digits.
+    /// A number that is as good as random: the clock's finest digits.
     fn drawn(&self) -> u64 {
         match self.rt.monotonic() {
             Ok(time) => u64::from(time.subsec_nanos()) / 64,
@@ -96,7 +96,7 @@ impl<'a, R: Net<Stream = TcpStream> + Clock> Dials<'a, R> {
         }
     }
 
-    /// Asks further on the outgoing connection. Its peer may have ended it meanwhile; then the request is made
+    /// Makes a further request on the outgoing connection. Its peer may have ended it meanwhile; then it is made
     /// on a new one (RFC 9112, section 9.3.1).
     pub(crate) fn ask(&mut self, bytes: &[u8]) -> io::Result<()> {
         self.asked.clear();
@@ -137,7 +137,7 @@ impl<'a, R: Net<Stream = TcpStream> + Clock> Dials<'a, R> {
         }
     }
 
-    /// Reads a further piece, from a new connection where this one ended before a further request was answered.
+    /// Reads another piece, from a new connection where this one ended before a further request was answered.
     fn refill_asked(&mut self) -> io::Result<usize> {
         let filled = self.refill();
         if !self.asked.is_empty() && has_ended(&filled) {
@@ -150,7 +150,7 @@ impl<'a, R: Net<Stream = TcpStream> + Clock> Dials<'a, R> {
         filled
     }
 
-    /// Reads a further piece from the outgoing connection, and answers its length. A reply that is more than an
+    /// Reads another piece from the outgoing connection, and answers its length. A reply that is more than an
     /// acknowledgement is work: there may be more of it.
     fn refill(&mut self) -> io::Result<usize> {
         let count = self.fill()?;
@@ -174,7 +174,7 @@ impl<'a, R: Net<Stream = TcpStream> + Clock> Dials<'a, R> {
         }
     }
 
-    /// Where a reply came that is work, the next wait for a connection is none.
+    /// Where a reply that is work came, the next wait for a connection is skipped.
     pub(crate) fn tell_work(&mut self, sockets: &mut Option<Sockets>) {
         if self.is_work {
             self.is_work = false;
@@ -184,7 +184,7 @@ impl<'a, R: Net<Stream = TcpStream> + Clock> Dials<'a, R> {
         }
     }
 
-    /// A call failed. Where that was for want of time, its receiver may have been dialling too.
+    /// A call failed. If that was because its time ran out, its receiver may have been dialling too.
     pub(crate) fn give_up(&self, sockets: &mut Option<Sockets>) {
         let is_late = match self.until {
             Some(until) => millis(self.rt) >= until,

@@ -11,7 +11,7 @@ pub(crate) const PLACES: usize = 1_024;
 /// For how long a connection is kept while its request comes, in milliseconds.
 pub(crate) const KEPT_MILLIS: u64 = 10_000;
 
-/// For how long a reply is written on without progress, in milliseconds.
+/// For how long a reply goes on being written without progress, in milliseconds.
 pub(crate) const LEAVING_MILLIS: u64 = 5_000;
 
 /// For how long the peer may take to end a connection on which nothing more goes out, in milliseconds.
@@ -26,7 +26,7 @@ pub(crate) const FURTHER_MILLIS: u64 = 300;
 /// For how long the current connection may send nothing while its request comes, in milliseconds.
 pub(crate) const SILENT_MILLIS: u64 = 1_000;
 
-/// For how long it may send nothing of a body that it was let send, and how long that body may take, in
+/// For how long it may send nothing of a body that it was allowed to send, and how long that body may take, in
 /// milliseconds. The nodes below give up a dial with a message after 1,100 at the earliest.
 pub(crate) const SILENT_BODY_MILLIS: u64 = 400;
 
@@ -38,7 +38,7 @@ pub(crate) const REPLYING_MILLIS: u64 = 1_000;
 /// For how long one look for progress waits, in milliseconds.
 pub(crate) const LOOK_MILLIS: u64 = 20;
 
-/// How often those are looked for whose time has run out, in milliseconds.
+/// After how many milliseconds those whose time has run out are looked for again.
 pub(crate) const SWEEP_MILLIS: u64 = 100;
 
 /// How many connections whose requests have come are served at most before the sockets are looked at again.
@@ -47,7 +47,7 @@ pub(crate) const MOST_IN_A_ROW: u32 = 16;
 /// How many bytes of a reply wait for more of it before they are sent.
 pub(crate) const SEND_BYTES: usize = 16_384;
 
-/// The most bytes of replies that are kept to be written on, of all connections together.
+/// The most bytes of replies that are kept to be sent later, of all connections together.
 pub(crate) const MOST_UNSENT: usize = 67_108_864;
 
 /// The shortest and the longest wait for a connection, in milliseconds.

@@ -85,7 +85,7 @@ impl Outgoing {
         count
     }
 
-    /// Reads a further piece from the system, until that time. Answers its length, and 0 at the end.
+    /// Reads another piece from the system, until that time. Answers its length, and 0 at the end.
     pub(crate) fn fill<R: Clock>(&mut self, rt: &R, until: Option<u64>) -> io::Result<usize> {
         let until = deadline(rt, until);
         self.given = 0;

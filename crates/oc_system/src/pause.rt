@@ -8,7 +8,7 @@ use crate::limits::{LONG_WAIT, SHORT_WAIT};
 #[derive(Drop)]
 pub(crate) struct Pause {
     millis: u64,
-    /// Until when the wait lasts that is under way.
+    /// Until when the wait that is under way lasts.
     until: Option<u64>,
 }
 
@@ -21,13 +21,13 @@ impl Pause {
         }
     }
 
-    /// There was work: the next wait is none.
+    /// There was work: the next wait is skipped.
     pub(crate) fn skip(&mut self) {
         self.millis = 0;
         self.until = None;
     }
 
-    /// The next wait is so long.
+    /// The next wait takes this many milliseconds.
     pub(crate) fn set(&mut self, millis: u64) {
         self.millis = millis;
         self.until = None;

@@ -24,7 +24,7 @@ impl Ready {
         })
     }
 
-    /// Where sockets are registered that are to be looked at.
+    /// Where sockets that are to be looked at are registered.
     pub(crate) fn registry(&self) -> &Registry {
         self.poll.registry()
     }

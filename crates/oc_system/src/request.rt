@@ -17,7 +17,7 @@ pub(crate) struct Look {
     length: usize,
     /// Whether the request waits for `100-continue` before it sends its body.
     expects: bool,
-    /// Whether something else than the Content-Length says where the body ends.
+    /// Whether something other than the Content-Length says where the body ends.
     is_coded: bool,
 }
 
@@ -61,7 +61,7 @@ impl Look {
         true
     }
 
-    /// Takes a line, after which the next one begins at `next`. Empty lines before the head are none of it.
+    /// Takes a line, after which the next one begins at `next`. Empty lines before the head are no part of it.
     fn take(&mut self, line: &[u8], next: usize) {
         self.line = next;
         self.seen = next;
@@ -87,7 +87,7 @@ impl Look {
     }
 
     /// Whether `count` bytes are a whole request: a head, and as many bytes after it as its Content-Length
-    /// says. Of a request that expects `100-continue` the head is enough, as it is where the body is longer
+    /// says. For a request that expects `100-continue` the head is enough, as it is where the body is longer
     /// than a body may be.
     pub(crate) fn is_whole(&self, count: usize) -> bool {
         match self.body {
@@ -116,7 +116,7 @@ pub(crate) fn is_probe(bytes: &[u8]) -> bool {
     bytes.starts_with(b"GET /!probe ") || bytes.starts_with(b"HEAD /!probe ")
 }
 
-/// The name and the value of a field, without the blanks round the value.
+/// The name and the value of a field, without the blanks around the value.
 fn field(line: &[u8]) -> Option<(&[u8], &[u8])> {
     let colon = line.iter().position(|byte| *byte == b':')?;
     match line.split_at_checked(colon) {
@@ -125,7 +125,7 @@ fn field(line: &[u8]) -> Option<(&[u8], &[u8])> {
     }
 }
 
-/// Whether this is the word, in any case.
+/// Whether this is the word, in upper or lower case.
 fn is_word(bytes: &[u8], word: &[u8]) -> bool {
     bytes.eq_ignore_ascii_case(word)
 }

@@ -16,7 +16,7 @@ use std::io::{self, ErrorKind};
 use std::net::{Net, SocketAddr, TcpStream, ToSocketAddrs};
 use std::rt::Clock;
 
-/// What is to come next on a connection: its first request, the body that it was let send, or a further request.
+/// What is to come next on a connection: its first request, the body that it may send now, or a further request.
 #[derive(Clone, Copy)]
 pub(crate) enum Awaits {
     Request,
@@ -27,7 +27,7 @@ pub(crate) enum Awaits {
 /// The listening side of a program's sockets.
 ///
 /// A connection is kept aside while its request comes, then it is the current one, and then it is kept until
-/// its reply has gone out. Only those are looked at that are ready; those whose time has run out are looked for
+/// its reply has gone out. Only those that are ready are looked at; those whose time has run out are looked for
 /// a few times a second. What is waited for on the current one is bounded in `limits`.
 #[derive(Drop)]
 pub(crate) struct Sockets {
@@ -56,7 +56,7 @@ pub(crate) struct Sockets {
     pause: Pause,
     /// How many connections were served since the sockets were looked at.
     in_a_row: u32,
-    /// When those are looked for next whose time has run out, in milliseconds.
+    /// When those whose time has run out are looked for next, in milliseconds.
     sweep: u64,
     /// How many bytes went out so far, by which progress is seen, and how many are kept to go out.
     went: u64,
@@ -104,7 +104,7 @@ impl Sockets {
         })
     }
 
-    /// There is work at hand: the next wait for a connection is none.
+    /// There is work at hand: the next wait for a connection is skipped.
     pub(crate) fn hurry(&mut self) {
         self.pause.skip();
     }

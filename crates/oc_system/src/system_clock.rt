@@ -19,7 +19,7 @@ impl<'a, R: SystemTime> SystemClock<'a, R> {
         }
     }
 
-    /// The time now, or where the system does not tell it the time that it told last.
+    /// The time now; or, where the system does not tell it, the time that it told last.
     fn read(&mut self) -> Duration {
         if let Ok(time) = self.rt.monotonic() {
             self.last = time;

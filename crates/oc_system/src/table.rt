@@ -29,7 +29,7 @@ impl Table {
         self.free.pop()
     }
 
-    /// Lets a place go.
+    /// Makes a place free again.
     pub(crate) fn release(&mut self, place: usize) {
         // There is room for each place.
         let _noted = self.free.push(place).is_ok();

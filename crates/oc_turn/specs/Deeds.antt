@@ -39,7 +39,7 @@ pub data Deed : Type 0 where
   Notes : List ℕ → Deed
   -- what else was read, written or ended of the connections that came
   Talks : Deed
-  -- the oldest message was taken out of the outbox and dialled, and this input comes of it, if any
+  -- the oldest message was taken out of the outbox and dialled, and this input results, if any
   Dials : Message → Option Input → Deed
   -- the outbox was found empty
   Empties : Deed
@@ -104,7 +104,7 @@ under_line me Idle = []
 under_line me (Taking i) = input_line me i
 under_line me (Noting line) = line
 
--- It ended so at what was next: in it, or before it for want of memory.
+-- It ended so at what was next: in it, or before it because memory ran out.
 abbrev pub EndsAt : TurnEnd → Under → Under → Type 0
 EndsAt end next under = (under ≡ next) ⊎ ((under ≡ Idle) × (end ≡ ends.Memory))
 
@@ -162,7 +162,7 @@ pub record Asks (arrival : Arrival) (a b : Outside) : Type 0 where
   pub counts : CountsListening a.faults b.faults
   pub rest : OnlyLink a b
 
--- of a link, only connections that came changed
+-- only connections that came changed on a link
 abbrev pub OnlyTalks : Story → Story → Type 0
 OnlyTalks old new = new ≡ record old { past = new.past; current = new.current }
 
@@ -174,7 +174,7 @@ pub record TalksOnly (a b : Outside) : Type 0 where
   pub talked : Talked a.story b.story a.faults b.faults
   pub rest : OnlyLink a b
 
--- a message was dialled, of which this comes; where the dial failed, the count of dials rose
+-- a message was dialled, and this results from it; where the dial failed, the count of dials rose
 pub record DialledTo (s : Setting) (m : Message) (came : Option Input) (old new : Option Story) (before after : LinkFaults) : Type 0 where
   pub dialled : Told (DialsMessage s.nodes s.me (address_in s m.to) m came) old new
   pub cause : Rose before.dialling after.dialling
@@ -190,7 +190,7 @@ abbrev pub ProbeCause : Result ℕ ProbeFault → LinkFaults → LinkFaults → 
 ProbeCause (Err faults.Link) old new = Rose old.dialling new.dialling
 ProbeCause came old new = Unit {0}
 
--- a peer was probed, of which this came
+-- a peer was probed, and this was the result
 pub record ProbesOne (s : Setting) (peer : ℕ) (came : Result ℕ ProbeFault) (a b : Outside) : Type 0 where
   pub probed : Probed came (address_in s peer) a.story b.story
   pub timed : Timed came a.millis b.millis
@@ -233,7 +233,7 @@ pub record AsksInVain (a b : Outside) : Type 0 where
   pub counts : CountsListening a.faults b.faults
   pub rest : OnlyLink a b
 
--- the oldest message was taken out of the outbox and dialled at most once; no input comes of it
+-- the oldest message was taken out of the outbox and dialled at most once; no input results
 pub record DialsInVain (s : Setting) (a : Sight) (b : Outside) : Type 0 where
   pub message : Message
   pub behind : List Message

@@ -1,4 +1,4 @@
--- A message that is dialled, and what comes of it.
+-- A message that is dialled, and what results from it.
 use Rattle.std.specs.Prelude.{◌≡◌, ℕ, ◌⊎◌, false, ◌==◌, if◌then◌else◌, Option, Some, None, Result, Ok, Err, List, [], ◌∷◌, ◌++◌}
 use Rattle.oc_http.specs.Taking.{SaysReply, RefusesReply}
 use Rattle.oc_http.specs.Writing.{request_text}
@@ -15,7 +15,7 @@ use Rattle.oc_message.specs.Reading.{decoded}
 use Rattle.oc_wire.specs.Spelling.{spelling}
 use Rattle.oc_message.specs.declared.fault.WireFault.{WireFault}
 
--- What comes of a reply
+-- What results from a reply
 
 -- the message to the node me that was read, if it was one
 abbrev pub message_to : ℕ → Result Message WireFault → Option Message
@@ -27,14 +27,14 @@ abbrev pub delivered_or : ℕ → Option Message → Input
 delivered_or peer (Some message) = Delivered message
 delivered_or peer None = Unreachable peer
 
--- the input that comes of a peer's reply to the node me: a reply of 200 that is a message to this node is that message, a 204 is no
+-- the input that results from a peer's reply to the node me: a reply of 200 that is a message to this node is that message, a 204 is no
 -- input, and any other says that the peer is not reached
 abbrev pub input_of_reply : ℕ → ℕ → ℕ → Reply → Option Input
 input_of_reply nodes me peer reply =
     if reply.status == 204 then None
     else Some (delivered_or peer (if reply.status == 200 then message_to me (decoded nodes reply.body) else None))
 
--- the bytes are a reply of which this comes
+-- the bytes are a reply from which this results
 pub record IsReply (nodes me peer : ℕ) (bytes : List ℕ) (ended : Type 0) (came : Option Input) : Type 0 where
   pub head : List ℕ
   pub body : List ℕ
@@ -58,7 +58,7 @@ pub record IsNoReply (peer : ℕ) (bytes : List ℕ) (ended : Type 0) (came : Op
 
 -- A dial
 
--- this dial to this address had the whole request, no call on it failed, and this comes of what was read
+-- this dial to this address had the whole request, no call on it failed, and this results from what was read
 pub record IsAnswered (nodes me peer : ℕ) (to request : List ℕ) (came : Option Input) (dial : Dial) : Type 0 where
   pub address : dial.address ≡ to
   pub written : dial.connection.written ≡ request
@@ -71,7 +71,7 @@ pub record IsFailed (peer : ℕ) (to request : List ℕ) (came : Option Input) (
   pub cut : IsCutDial to request dial
   pub came_is : came ≡ Some (Unreachable peer)
 
--- the dial of a request to a peer at this address, and what came of it
+-- the dial of a request to a peer at this address, and its result
 abbrev pub IsDialTo : ℕ → ℕ → ℕ → List ℕ → List ℕ → Option Input → Dial → Type 0
 IsDialTo nodes me peer to request came dial = IsAnswered nodes me peer to request came dial ⊎ IsFailed peer to request came dial
 
@@ -79,13 +79,13 @@ IsDialTo nodes me peer to request came dial = IsAnswered nodes me peer to reques
 abbrev pub text_of : List ℕ → Message → List ℕ
 text_of to message = request_text to (spelling message)
 
--- one dial was made with P, which is over, and so is the one before
+-- one dial was made with the property P, which is over, and so is the one before
 pub record Makes (P : Dial → Type 0) (old new : Story) : Type 0 where
   pub dial : Dial
   pub is : P dial
   pub after : new ≡ record (hung_up old) { ended = dials old ++ dial ∷ [] }
 
--- a message of the node me was dialled to its receiver's address, and this came of it
+-- a message of the node me was dialled to its receiver's address, and this was the result
 abbrev pub DialsMessage : ℕ → ℕ → List ℕ → Message → Option Input → Story → Story → Type 0
 DialsMessage nodes me to message came = Makes (IsDialTo nodes me message.to to (text_of to message) came)
 
@@ -98,13 +98,13 @@ pub record IsAsked (to request : List ℕ) (dial : Dial) : Type 0 where
 abbrev pub MayMake : List ℕ → List ℕ → Option Story → Option Story → Type 0
 MayMake to request old new = (new ≡ old) ⊎ Told (Makes (λ dial. IsAsked to request dial ⊎ IsCutDial to request dial)) old new
 
--- what came on a dial, a reply or the fault of its reading, and the input that comes of it
+-- what came on a dial, a reply or the fault of its reading, and the input that results from it
 abbrev pub ComesOf : ℕ → ℕ → ℕ → Result Reply HttpFault → Option Input → Type 0
 ComesOf nodes me peer (Ok reply) came = came ≡ input_of_reply nodes me peer reply
 ComesOf nodes me peer (Err NoMemory) came = ⊥
 ComesOf nodes me peer (Err fault) came = came ≡ Some (Unreachable peer)
 
--- What is read of a dial
+-- What is read from a dial
 
 -- the bytes are this reply, or its reading ended with this fault
 abbrev pub IsReading : Result Reply HttpFault → List ℕ → Type 0 → Type 0

@@ -7,7 +7,7 @@ use Rattle.oc_turn.specs.declared.outbox.TheConstants.{MAX_OUTBOX}
 abbrev pub latest : List Message → List Message
 latest ms = drop (length ms - MAX_OUTBOX) ms
 
--- with a further one after them
+-- with another one after them
 abbrev pub with_message : List Message → Message → List Message
 with_message ms m = latest (ms ++ m ∷ [])
 

@@ -71,7 +71,7 @@ pub record Did {D K : Type 0} (view : D → DiskView) (takes : K → List ℕ �
   pub text : takes old.sink (deeds_text old.kept.node.control.me deeds) new.sink
   pub done : IsHonest view old.kept → DoAll (setting old.kept addresses) deeds (sight old) (sight new)
 
--- What every crash leaves where a disk or the output failed: with one input more under way, the node before it or after it.
+-- What every crash leaves where a disk or the output failed: with one more input under way, the node before it or after it.
 abbrev pub LeavesUnder : {D : Type 0} → (D → DiskView) → KeptView D → KeptView D → Node → Under → Type 0
 LeavesUnder view old new n (Taking i) = Leaves view (header_of old.node.control) old.node.control.me (disks_of new) (SameAsEither n (step n i).node)
 LeavesUnder view old new n under = Survives view (header_of old.node.control) old.node.control.me (disks_of new) n
@@ -82,7 +82,7 @@ LeavesAt view old new ends.Disk n under = LeavesUnder view old new n under
 LeavesAt view old new ends.Sink n under = LeavesUnder view old new n under
 LeavesAt view old new end n under = LeavesUnder view old new n Idle
 
--- where the output failed, some prefix of a further line was written after the text, and else nothing more was
+-- where the output failed, some prefix of another line was written after the text, and else nothing more was
 abbrev pub WritesAt : {K : Type 0} → (K → List ℕ → K → Type 0) → (K → List ℕ → K → Type 0) → K → K → TurnEnd → List ℕ → List ℕ → Type 0
 WritesAt takes fails old new ends.Sink text line = (front : List ℕ) × IsFront front line × fails old (text ++ front) new
 WritesAt takes fails old new end text line = takes old text new

@@ -19,8 +19,8 @@ use oc_outside::Link;
 use oc_wire::{WireFault, decode, to_http};
 use std::alloc::Global;
 
-/// Brings a message of the node `me` to its receiver at an address, and gives the input that comes of it:
-/// the message in a reply of 200, none of a 204, and else that the receiver does not answer. The dial that
+/// Brings a message of the node `me` to its receiver at an address, and gives the input that results: the
+/// message in a reply of 200, none for a 204, and else that the receiver does not answer. The dial that
 /// it makes is over when it returns.
 pub fn dial<L: Link>(
     alloc: Global,
@@ -54,7 +54,7 @@ pub fn dial<L: Link>(
     entry_of(alloc, me, nodes, message.to, reply)
 }
 
-/// The input that comes of what came on a dial, with its line.
+/// The input that results from what came on a dial, with its line.
 fn entry_of(
     alloc: Global,
     me: NodeId,
@@ -73,7 +73,7 @@ fn entry_of(
     }
 }
 
-/// The input that comes of a reply, with its line.
+/// The input that results from a reply, with its line.
 fn entry_of_reply(
     alloc: Global,
     me: NodeId,

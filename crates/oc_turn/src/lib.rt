@@ -1,9 +1,9 @@
 //! What a turn of a running node is made of: the messages that are still to be sent, the line of an input,
-//! one message that is dialled with what comes of it, and one input that is taken into the node's files.
+//! one message that is dialled with what results from it, and one input that is taken into the node's files.
 //!
 //! An [`Outbox`] keeps the messages that are to be sent, oldest first. An [`Entry`] is an input with its
 //! line, made before the input is taken. [`dial`] brings one message to its receiver: it says of the link
-//! that one dial was made with exactly that message's request, and which entry came of it by what was read.
+//! that one dial was made with exactly that message's request, and which entry resulted from what was read.
 //! [`take`] and [`take_own`] take an entry into the files and then write its line; [`tick`] takes the
 //! clock's time, and [`tidy`] turns ripe files over.
 //!

@@ -30,7 +30,7 @@ impl Model for Outbox {
 }
 
 impl Outbox {
-    /// No message is to be sent.
+    /// An empty outbox, with room for `MAX_OUTBOX` messages.
     pub fn new(alloc: Global) -> Result<Outbox, Memory>
         ensures { IfOk result (λ outbox. outbox ≡ []) }
     {
@@ -39,7 +39,7 @@ impl Outbox {
         })
     }
 
-    /// Keeps a further message after the others. The oldest is lost where there are more than are kept.
+    /// Keeps another message after the others. The oldest is lost where there are more than `MAX_OUTBOX`.
     /// It takes no memory.
     pub fn put(&mut self, message: Message)
         ensures { self.new ≡ with_message self.old message }
@@ -53,7 +53,7 @@ impl Outbox {
         }
     }
 
-    /// Takes the oldest message out.
+    /// Takes the oldest message out, if there is one.
     pub fn take(&mut self) -> Option<Message>
         ensures { MatchOption result ((self.old ≡ []) × (self.new ≡ [])) (λ message. self.old ≡ message ∷ self.new) }
     {

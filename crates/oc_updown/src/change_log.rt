@@ -68,7 +68,7 @@ impl ChangeLog {
         self.waiting.push_rows(table.rows());
     }
 
-    /// Empties the log.
+    /// Empties the log: its length is 0 then. Takes no memory.
     pub fn clear(&mut self)
         ensures log { self.new.log ≡ empty_log }
         ensures room { self.new.room ≡ self.old.room }
@@ -103,7 +103,7 @@ impl ChangeLog {
         self.waiting.push(cert);
     }
 
-    /// How many are acknowledged.
+    /// How many certificates of the log are acknowledged.
     pub fn acked(&self) -> u64
         ensures acked { result ≡ self.now.log.acked }
         ensures below { result < 2 ^ 63 }
@@ -111,7 +111,7 @@ impl ChangeLog {
         self.acked
     }
 
-    /// How many there ever were since it was empty.
+    /// How many certificates the log has: those that are acknowledged, and those that wait.
     pub fn length(&self) -> u64
         ensures length { result ≡ self.now.log.length }
         ensures parts { result ≡ self.now.log.acked + length self.now.log.waiting }
@@ -129,7 +129,7 @@ impl ChangeLog {
     }
 
     /// Puts the first certificates that wait, at most `limit`, at the end of a vector, and gives the
-    /// place after them. Where memory is wanted the vector has what it had.
+    /// place after them. If memory runs out, the vector has what it had.
     pub fn take(&self, limit: usize, into: &mut Vec<Cert>) -> Result<u64, Memory>
         ensures place { IfOk result (λ place. place ≡ self.now.log.acked + length (take limit self.now.log.waiting)) }
         ensures within { IfOk result (λ place. place ≤ self.now.log.length) }

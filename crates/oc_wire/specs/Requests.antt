@@ -18,7 +18,7 @@ use Rattle.oc_message.specs.Reading.{decoded}
 abbrev pub is_route : Head → Bool
 is_route head = is_post head.method && bytes_eq head.path (codes "/!overcast") && length head.query == 0
 
--- the bytes begin with this head of a request and this body, which is as long as the head tells
+-- the bytes begin with this head of a request and this body, which is as long as the head says
 pub record IsRequest (bytes : List ℕ) (head : Head) (body : List ℕ) : Type 0 where
   pub behind : List ℕ
   pub reads : heads.AnswersRequest bytes behind (Ok head)
@@ -33,14 +33,14 @@ pub record HasNoHead (bytes : List ℕ) : Type 0 where
   pub reads : heads.AnswersRequest bytes behind (Err fault)
   pub decided : IsDecided {A = Head} (Err fault)
 
--- the bytes begin with a head of a request, and end before the body that it tells
+-- the bytes begin with a head of a request, and after it come fewer bytes than its body has
 pub record IsCutOff (bytes : List ℕ) : Type 0 where
   pub head : Head
   pub behind : List ℕ
   pub reads : heads.AnswersRequest bytes behind (Ok head)
   pub short : length behind < head.length
 
--- a call gave the request that the bytes begin with, or told why there is none
+-- a call gave the request that the bytes begin with, or said why there is none
 abbrev pub IsRequestOrFault : List ℕ → Result (Head × Vec ℕ) HttpFault → Type 0
 IsRequestOrFault bytes (Ok request) = IsRequest bytes request.0 request.1.items
 IsRequestOrFault bytes (Err http.Memory) = ⊤
@@ -69,7 +69,7 @@ AnswersRequest nodes bytes (Err faults.Route) = IsElsewhere bytes
 AnswersRequest nodes bytes (Err (faults.Wire fault)) = Brings nodes bytes (Err fault)
 AnswersRequest nodes bytes (Err faults.Memory) = ⊤
 
--- the answer is not for want of memory
+-- the answer is not that memory ran out
 abbrev pub HasMemory : Result Message HttpWireFault → Type 0
 HasMemory (Err faults.Memory) = ⊥
 HasMemory answer = ⊤

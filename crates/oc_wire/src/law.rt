@@ -47,7 +47,7 @@ pub fn spellings_are_read()
         → Spells nodes bytes message → decoded nodes bytes ≡ Ok message }
 {}
 
-/// There is one answer to the bytes of a request, want of memory left out.
+/// There is one answer to the bytes of a request, apart from running out of memory.
 pub fn requests_have_one_answer()
     ensures { (nodes : ℕ) (bytes : List ℕ) (first second : Result Message HttpWireFault) → AnswersRequest nodes bytes first
         → AnswersRequest nodes bytes second → HasMemory first → HasMemory second → first ≡ second }

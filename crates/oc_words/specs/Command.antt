@@ -32,7 +32,7 @@ option_rule id = record (new_rule id) { long = Some id }
 abbrev pub required_option_rule : Text → Rule
 required_option_rule id = record (option_rule id) { required = true }
 
--- a command with one argument more, the last
+-- a command with one more argument, the last
 abbrev pub with_argument : Shape → Rule → Shape
 with_argument shape rule = record shape { rules = shape.rules ++ rule ∷ [] }
 

@@ -52,7 +52,7 @@ asking make said = do
   fields ← said
   Ok (make fields)
 
--- what a subcommand but `get` asks for
+-- what a subcommand other than `get` asks for
 abbrev pub other_by : Text → List Row → Result Request Why
 other_by name rows =
     if bytes_eq name (codes "replay") then Ok (Replay (is_flagged (codes "summary") rows))
@@ -106,7 +106,7 @@ module _ {Z : Type 0} where
 
 -- ---- what the program answers
 
--- the answer is what the words ask for, or that they ask for nothing; or memory is wanting
+-- the answer is what the words ask for, or that they ask for nothing; or memory ran out
 abbrev pub Answers : {A : Type 0} → Option A → Result A WordsFault → Type 0
 Answers asked result = (result ≡ ok_or asked Usage) ⊎ (result ≡ Err Memory)
 

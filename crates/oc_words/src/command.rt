@@ -33,7 +33,7 @@ fn stateless_command<'a>(alloc: Global) -> Result<Command<'a>, AllocError>
     with(with(bare, replay_command(alloc)), gen_command(alloc))
 }
 
-/// A command with one subcommand more, where there was memory for both.
+/// A command with one more subcommand, where there was memory for both.
 fn with<'a>(
     command: Result<Command<'a>, AllocError>,
     subcommand: Result<Command<'a>, AllocError>,

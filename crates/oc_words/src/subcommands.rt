@@ -1,4 +1,4 @@
-//! The subcommands with their arguments, as `clap` is told of them.
+//! The subcommands with their arguments, as `clap` is given them.
 ghost use Rattle.std.specs.Prelude.{◌≡◌, IfOk};
 ghost use Rattle.clap.specs.Simple.{new_shape};
 ghost use Rattle.clap.specs.Words.{Rule, Shape};
@@ -70,7 +70,7 @@ fn named<'a>(alloc: Global, name: &'a str) -> Result<Command<'a>, AllocError>
     Ok(Command::new(alloc, name))
 }
 
-/// A command with one argument more, where there was memory for it.
+/// A command with one more argument, where there was memory for it.
 fn with<'a>(
     command: Result<Command<'a>, AllocError>,
     argument: Arg<'a>,

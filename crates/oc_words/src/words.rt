@@ -55,9 +55,9 @@ impl From<Why> for WordsFault {
     }
 }
 
-/// Reads the words, of which the first is after the program's name.
+/// Reads the words that come after the program's name.
 ///
-/// `Usage` comes exactly where `clap` refuses them for another cause than memory and does not answer
+/// `Usage` comes exactly where `clap` refuses them for a cause other than memory and does not answer
 /// by help, or where a number is not spelled as one or is out of its range.
 pub fn read_words(alloc: Global, words: &[String]) -> Result<Request, WordsFault>
     ensures answers { Answers (asked (texts_of words.now)) result }
@@ -70,7 +70,7 @@ pub fn read_words(alloc: Global, words: &[String]) -> Result<Request, WordsFault
     }
 }
 
-/// What words ask for that `clap` accepts.
+/// What words that `clap` accepts ask for.
 fn request_of(alloc: Global, matches: &ArgMatches<'_>) -> Result<Request, WordsFault>
     ensures answers { Answers (result_ok (request_of (subcommand_rows_of matches.now))) result }
     ensures range { IfOk result IsRequest }
@@ -93,7 +93,7 @@ fn request_by(alloc: Global, name: &str, arguments: &ArgMatches<'_>) -> Result<R
     }
 }
 
-/// What a subcommand but `get` asks for. It takes no memory.
+/// What a subcommand other than `get` asks for. It takes no memory.
 fn other_by(name: &str, arguments: &ArgMatches<'_>) -> Result<Request, Why>
     ensures said { result ≡ other_by name.now (rows_of (found_of arguments.now)) }
     ensures range { IfOk result IsRequest }

@@ -13,7 +13,7 @@ use oc_net::Net;
 use oc_process::Process;
 use std::alloc::Global;
 
-/// An input comes to a node that is up. What it sends goes into the net. Where memory is wanted the node
+/// An input comes to a node that is up. What it sends goes into the net. If memory runs out, the node
 /// and the net are as they were; the files may have been turned over.
 pub(crate) fn act(
     alloc: Global,

@@ -21,7 +21,7 @@ impl Stage for World {
 
     ghost word = { word_of };
 
-    /// Where memory is wanted, the world stays as it was.
+    /// If memory runs out, the world stays as it was.
     fn open(&mut self, nodes: u32, chain: u32, areas: &[u8]) -> Result<(), Memory>
         requires { IsHeader (record { nodes = nodes; chain = chain; areas = areas.now }) }
         ensures opened { OnOk result (self.new.world ≡ opened_world (record { nodes = nodes; chain = chain; areas = areas.now })) }

@@ -74,7 +74,7 @@ impl World {
     }
 
     /// The world of a header, where all nodes are down on empty files, and nothing was sent. There are 1
-    /// to 1,024 nodes, a chain of 1 to 16 and no more than the nodes, and an area for each node.
+    /// to 1,024 nodes, a chain of 1 to 16 members and at most all nodes, and an area for each node.
     pub fn new(alloc: Global, nodes: u32, chain: u32, areas: &[u8]) -> Result<World, Memory>
         requires { IsHeader (header nodes chain areas.now) }
         ensures { IfOk result (λ world. world.world ≡ new_world (header nodes chain areas.now)) }
@@ -90,9 +90,9 @@ impl World {
     /// Does what an event does. Settle and heal are given only where no clock of a node that is up is
     /// past the second 2^41 - 60.
     ///
-    /// Where memory is wanted, the world stays as it was, or for settle and heal as it was before one of
-    /// the acts that they are made of; the files of a node may have been turned over. It is wanted, too,
-    /// once 2^63 - 2 messages were sent.
+    /// If memory runs out, the world stays as it was, or for settle and heal as it was before one of
+    /// the acts that they are made of; the files of a node may have been turned over. It answers `Memory`
+    /// also once 2^63 - 2 messages were sent.
     pub fn event(&mut self, event: &Event) -> Result<Said, Memory>
         requires event { IsEvent (length (ids self.old.world)) event.now }
         requires time { HasTimeFor self.old.world event.now }

@@ -41,7 +41,7 @@ fn put_reviewed(alloc: Global, mut fields: Fields<'_>, said: &mut String) -> Res
     put_shown(said, &review(&view))
 }
 
-/// A grandparent and the own rate to it, as in `1:101`, or `-` for none.
+/// A grandparent and the node's own rate to it, as in `1:101`, or `-` for none.
 fn grand_in(text: &str) -> Result<Option<(NodeId, u64)>, Fault> {
     if text == "-" {
         return Ok(None);
@@ -50,7 +50,7 @@ fn grand_in(text: &str) -> Result<Option<(NodeId, u64)>, Fault> {
     Ok(Some((fields.node()?, fields.number()?)))
 }
 
-/// The candidates of the fields: each has its id, the own rate to it, its rate to the root, and the hops.
+/// The candidates of the fields: each has its id, the node's own rate to it, its rate to the root, and the hops.
 fn candidates_in(alloc: Global, mut fields: Fields<'_>) -> Result<Vec<Candidate>, Fault> {
     let mut list = Vec::new(alloc);
     for _ in 0..MOST {

@@ -87,7 +87,7 @@ fn told_status(alloc: Global, got: &Output) -> Result<String, AllocError> {
     }
 }
 
-/// Tells the first line of a text that is not as wanted.
+/// Tells the first line of a text that is not as expected.
 fn told_difference(
     rt: &HostRuntime,
     name: &str,

@@ -1,4 +1,4 @@
-//! Nodes that are killed in the midst of publishing.
+//! Nodes that are killed in the middle of publishing.
 
 use crate::asking::{ask, body_of, get_text, is_ok, publish_text};
 use crate::node::{Home, end};
@@ -106,7 +106,7 @@ fn served_pieces(rt: &HostRuntime, home: &Home) -> io::Result<Option<usize>> {
     Ok(pieces)
 }
 
-/// The same of a node that runs.
+/// The same for a node that runs.
 fn pieces_there(rt: &HostRuntime, home: &Home) -> io::Result<Option<usize>> {
     let request = get_text(rt, "/log")?;
     let reply = ask(rt, home, request.as_bytes())?;

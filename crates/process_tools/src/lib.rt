@@ -3,7 +3,7 @@
 //!
 //! The program is the one that runs: it starts itself, with the words of a row. [`play`] plays the rows of `cases.txt`,
 //! each a run with its words and its input; then those of `served.txt`, beside a node that it has started; and at last
-//! it kills nodes in the midst of publishing. It prints a line for each: its name and `ok`, or where it first differs
+//! it kills nodes in the middle of publishing. It prints a line for each: its name and `ok`, or where it first differs
 //! from what has to come.
 #![tactic(auto)]
 

@@ -1,9 +1,9 @@
-//! Texts beside the texts that are wanted.
+//! Texts compared with the texts that are expected.
 
 use std::alloc::Global;
 use std::io;
 
-/// The number, from 1 on, and the text of the first line that is not as wanted.
+/// The number, from 1 on, and the text of the first line that is not as expected.
 pub fn first_difference<'a>(seen: &'a [u8], wanted: &[u8]) -> Option<(usize, &'a [u8])> {
     if seen == wanted {
         return None;
@@ -38,7 +38,7 @@ fn cut(text: &[u8], end: u8) -> (&[u8], &[u8]) {
     (text, b"")
 }
 
-/// The end of a report, from the event on with which the wanted end begins, or nothing.
+/// The end of a report, from the event on with which the expected end begins, or nothing.
 pub fn from_event<'a>(report: &'a [u8], wanted: &[u8]) -> &'a [u8] {
     let event = first_word(wanted);
     let mut rest = report;

@@ -39,7 +39,7 @@ pub fn new_disk(alloc: Global) -> MemDisk {
     MemDisk::new(Vec::new(alloc))
 }
 
-/// Has the calls of a disk fail that a scene lists after this word, counted from here.
+/// Has those calls of a disk fail that a scene lists after this word, counted from here.
 pub fn fail_in(alloc: Global, scene: &str, word: &str, disk: &mut MemDisk) -> Result<(), Fault> {
     let calls = numbers_in(alloc, scene, word)?;
     disk.fail_at(calls);

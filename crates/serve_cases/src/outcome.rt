@@ -1,4 +1,4 @@
-//! What comes of a scene.
+//! The outcome of a scene.
 
 use crate::objects::{clock_in, fail_in, link_in, new_disk, sink_in};
 use crate::running::run;
@@ -13,7 +13,7 @@ use test_tools::{Fault, put_spelled};
 /// More connections or dials than a scene has.
 const MOST_CONNECTIONS: u64 = 100;
 
-/// What came of a scene: how the run of the node ended, its lines, and what was written on the link.
+/// What a scene led to: how the run of the node ended, its lines, and what was written on the link.
 #[derive(Drop)]
 struct Outcome {
     end: NodeEnd,
@@ -29,7 +29,7 @@ struct Files {
     content: MemDisk,
 }
 
-/// What comes of a scene in a setting.
+/// The outcome of a scene in a setting.
 fn outcome_of(alloc: Global, setting: &Setting, scene: &str) -> Result<Outcome, Fault> {
     let mut files = Files {
         control: new_disk(alloc),
@@ -111,7 +111,7 @@ pub enum Part<'a> {
     Dialled,
 }
 
-/// The words of what comes of a scene: these parts, one after another.
+/// The words of the outcome of a scene: these parts, one after another.
 pub fn words_of(
     alloc: Global,
     setting: &Setting,

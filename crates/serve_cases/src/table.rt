@@ -8,12 +8,12 @@ use test_tools::{Fault, Row, tell};
 
 /// What the rows of a table come to.
 pub trait Scenes {
-    /// The words that come of what a row is given after its setting.
+    /// The words that result from what a row is given after its setting.
     fn answer(alloc: Global, setting: &Setting, given: &str) -> Result<String, Fault>;
 }
 
 /// Plays a table, which is the file of its name with `.txt` after it. Prints for each row the names of the
-/// table and of the row and `ok`, or the words that came in place of those that are wanted.
+/// table and of the row and `ok`, or the words that came in place of those that are expected.
 pub fn play<T: Scenes, R: Files + Print + AllocGlobal>(
     rt: &R,
     settings: &str,
@@ -29,7 +29,7 @@ pub fn play<T: Scenes, R: Files + Print + AllocGlobal>(
     Ok(())
 }
 
-/// The words that come of a row.
+/// The words that result from a row.
 fn answer<T: Scenes>(alloc: Global, settings: &str, given: &str) -> Result<String, Fault> {
     let (name, given) = given.split_once(' ').unwrap_or((given, ""));
     let setting = Setting::find(alloc, settings, name)?;

@@ -5,7 +5,7 @@ use std::fmt;
 /// Why a row gave no words.
 #[derive(Clone, Copy)]
 pub enum Fault {
-    /// A field of the row is missing, or is not what is wanted in its place.
+    /// A field of the row is missing, or is not what is expected in its place.
     Field,
     /// What the row makes ready did not come about.
     Unready,

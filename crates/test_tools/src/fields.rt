@@ -113,7 +113,7 @@ impl<'a> Fields<'a> {
         Ok(numbers)
     }
 
-    /// The fields of the next field, which has commas between them; of `-` there are none.
+    /// The parts of the next field, which has commas between them; none where it is `-`.
     pub fn list(&mut self) -> Fields<'a> {
         match self.text() {
             "-" => Fields::of("", ','),

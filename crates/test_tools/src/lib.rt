@@ -1,7 +1,7 @@
 //! What the programs of worked cases share.
 //!
 //! A table is a text file with a case in each row: its name, what it is given, a `=`, and the words that
-//! have to come of it. A [`Cases`] says what comes of a row, and [`play`] prints a line for each row: its
+//! have to result. A [`Cases`] says what results from a row, and [`play`] prints a line for each row: its
 //! name and `ok`, or the words that came in their place. [`Fields`] cuts what a row is given into numbers,
 //! bytes, ids and certificates.
 #![tactic(auto)]

@@ -1,4 +1,4 @@
-/// A row of a table: the name of a case, what it is given, and what has to come of it.
+/// A row of a table: the name of a case, what it is given, and what has to result.
 #[derive(Clone, Copy)]
 pub struct Row<'a> {
     pub name: &'a str,

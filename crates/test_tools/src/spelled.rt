@@ -27,7 +27,7 @@ enum State {
 struct Reading {
     bytes: Vec<u8>,
     state: State,
-    /// Where the bytes begin that come several times, and how often they do.
+    /// Where the bytes that come several times begin, and how often they come.
     repeated: Option<(usize, usize)>,
 }
 

@@ -6,13 +6,13 @@ use std::{fs, io};
 
 /// What the rows of tables come to.
 pub trait Cases {
-    /// The words that come of what a row of this table is given.
+    /// The words that result from what a row of this table is given.
     fn words(alloc: Global, table: &str, given: &str) -> Result<String, Fault>;
 }
 
 /// Plays the tables of these names, one after another. Each is the file of its name with `.txt` after it.
 /// Prints for each row the names of the table and of the row and `ok`, or the words that came in place of
-/// those that are wanted.
+/// those that are expected.
 pub fn play<T: Cases, R: Files + Print + AllocGlobal>(rt: &R, tables: &[&str]) -> io::Result<()> {
     for table in tables {
         play_table::<T, R>(rt, table)?;
@@ -33,7 +33,7 @@ fn play_table<T: Cases, R: Files + Print + AllocGlobal>(rt: &R, table: &str) -> 
 }
 
 /// Prints the line of a row: the names of its table and of itself and `ok`, or the words that came in place of those
-/// that are wanted.
+/// that are expected.
 pub fn tell<R: Print>(
     rt: &R,
     table: &str,

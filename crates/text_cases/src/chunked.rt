@@ -4,7 +4,7 @@ use oc_stream::{ChunkFault, Unchunker, chunk_text};
 use std::alloc::Global;
 use test_tools::{Fault, Fields, put_hex};
 
-/// The words of a row: what was written, or what came of the text.
+/// The words of a row: what was written, or the result of the text.
 pub fn words(alloc: Global, given: &str) -> Result<String, Fault> {
     let mut fields = Fields::of(given, ' ');
     let kind = fields.text();
@@ -27,7 +27,7 @@ fn put_words(alloc: Global, said: &mut String, kind: &str, text: &[u8]) -> Resul
     }
 }
 
-/// Puts what comes of a text that is written, and fed in pieces of seven bytes.
+/// Puts the result of a text that is written, and fed in pieces of seven bytes.
 fn put_back(said: &mut String, alloc: Global, text: &[u8]) -> Result<(), Fault> {
     let written = chunk_text(alloc, text)?;
     put_fed(said, &fed_in_pieces(alloc, &written, 7)?)
@@ -51,7 +51,7 @@ fn bytes_in(alloc: Global, mut fields: Fields<'_>) -> Result<Vec<u8>, Fault> {
     Ok(bytes)
 }
 
-/// What came of a text: how many bytes were taken, their content, and whether the text ended, or the fault.
+/// The result of a text: how many bytes were taken, their content, and whether the text ended, or the fault.
 #[derive(Drop)]
 struct Fed {
     taken: usize,
@@ -106,7 +106,7 @@ fn feed(
     }
 }
 
-/// Puts what came of a text.
+/// Puts the result of a text.
 fn put_fed(said: &mut String, fed: &Fed) -> Result<(), Fault> {
     match fed.end {
         End::Open => put_taken(said, fed),
@@ -139,8 +139,8 @@ fn put_size(said: &mut String, text: &[u8]) -> Result<(), Fault> {
     put_hex(said, &text[count.saturating_sub(8)..])
 }
 
-/// Puts what comes of a text that is fed in two pieces, cut at each of its places, where that is always the
-/// same as what comes of it whole.
+/// Puts the result of a text that is fed in two pieces, cut at each of its places, where that is always the
+/// same as its result when it is fed whole.
 fn put_every(said: &mut String, alloc: Global, text: &[u8]) -> Result<(), Fault> {
     let whole = fed_in_pieces(alloc, text, text.len())?;
     for at in 0..text.len() {
@@ -152,7 +152,7 @@ fn put_every(said: &mut String, alloc: Global, text: &[u8]) -> Result<(), Fault>
     put_fed(said, &whole)
 }
 
-/// Whether a text in two pieces comes to what is wanted. Of a text that is refused the content is left
+/// Whether a text in two pieces comes to what is expected. If a text is refused, the content is left
 /// out, since the pieces before the refused one have given theirs.
 fn comes_to(alloc: Global, front: &[u8], rest: &[u8], wanted: &Fed) -> Result<bool, Fault> {
     let mut reader = Unchunker::new(alloc)?;
@@ -172,7 +172,7 @@ fn comes_to(alloc: Global, front: &[u8], rest: &[u8], wanted: &Fed) -> Result<bo
     Ok(end == wanted.end && taken == wanted.taken && content == wanted.content)
 }
 
-/// Puts what comes of a text that is refused, and of the end of a good one after it.
+/// Puts the result of a text that is refused, and of the end of a good one after it.
 fn put_again(said: &mut String, alloc: Global, text: &[u8]) -> Result<(), Fault> {
     let mut reader = Unchunker::new(alloc)?;
     let mut content = Vec::new(alloc);

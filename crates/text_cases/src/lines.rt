@@ -1,4 +1,4 @@
-//! Lines of inputs that come of no request, and of what went wrong.
+//! Lines of inputs that do not come from a request, and of what went wrong.
 
 use oc_base::NodeId;
 use oc_model::Input;

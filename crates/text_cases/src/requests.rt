@@ -1,4 +1,4 @@
-//! What requests ask: the line of the input that comes of a request, or the line and the reply of one that is
+//! What requests ask: the line of the input that results from a request, or the line and the reply of one that is
 //! refused.
 
 ghost use Rattle.std.specs.Prelude.{◌≤◌, length};
@@ -14,7 +14,7 @@ use test_tools::{Fault, Fields, put_spelled, spelled_in};
 /// The number of nodes.
 const NODES: u32 = 3;
 
-/// The words of a row: the line, and of a refused request the reply.
+/// The words of a row: the line, and for a refused request the reply.
 pub fn words(alloc: Global, given: &str) -> Result<String, Fault> {
     let (rules, rest) = given.split_once(' ').unwrap_or((given, ""));
     let (me, text) = rest.split_once(' ').unwrap_or((rest, ""));
@@ -30,7 +30,7 @@ pub fn words(alloc: Global, given: &str) -> Result<String, Fault> {
     Ok(said)
 }
 
-/// The line of the input that comes of a request; empty where none comes.
+/// The line of the input that results from a request; empty where there is none.
 fn line_of(alloc: Global, bytes: Vec<u8>, rules: &[Rule], me: NodeId) -> Result<Vec<u8>, RouteFault>
     requires { length rules.now ≤ RULE_LIMIT }
 {

@@ -137,7 +137,7 @@ fn words_of(alloc: Global, response: &Response) -> Result<String, Fault> {
     Ok(said)
 }
 
-/// Puts a text; of many bytes `x` at its end their number.
+/// Puts a text, with the number of the bytes `x` at its end in their place.
 fn put_text(said: &mut String, text: &[u8]) -> Result<(), Fault> {
     let mut front = text;
     for _ in 0..text.len() {

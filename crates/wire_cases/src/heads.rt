@@ -1,4 +1,4 @@
-//! Heads of HTTP messages, and what is read of them, however their bytes come.
+//! Heads of HTTP messages, and what is read from them, however their bytes come.
 
 use crate::pieces::Pieces;
 use crate::words::put_value;
@@ -48,7 +48,7 @@ pub fn put_words(alloc: Global, given: &str, said: &mut String) -> Result<(), Fa
     put_cuts(alloc, said, reader, &bytes)
 }
 
-/// Puts what is read of single bytes, where that is something else than the words so far.
+/// Puts what is read from single bytes, where that is something other than the words so far.
 fn put_alone(alloc: Global, said: &mut String, reader: Reader, bytes: &[u8]) -> Result<(), Fault> {
     let alone = words_of(alloc, reader, bytes, 1, 1)?;
     if alone.as_str() == said.as_str() {
@@ -92,7 +92,7 @@ fn put_cuts(alloc: Global, said: &mut String, reader: Reader, bytes: &[u8]) -> R
     Ok(())
 }
 
-/// Puts what is read with a cut at this place, where that is something else than the words so far. Says whether it is.
+/// Puts what is read with a cut at this place, where that is something other than the words so far. Says whether it is.
 fn put_cut(
     alloc: Global,
     said: &mut String,
@@ -147,7 +147,7 @@ fn source_of(alloc: Global, failing: u64, bytes: &[u8]) -> Result<MemSource, Fau
     Ok(MemSource::new(bytes, vec![in alloc; failing]?))
 }
 
-/// Puts what is read of a source, and how many bytes are left of it.
+/// Puts what is read from a source, and how many bytes are left of it.
 fn put_all<S: Source>(
     alloc: Global,
     said: &mut String,
@@ -169,7 +169,7 @@ fn put_rest<S: Source>(alloc: Global, said: &mut String, source: &mut S) -> Resu
     }
 }
 
-/// Puts what is read of a source.
+/// Puts what is read from a source.
 fn put_read<S: Source>(
     alloc: Global,
     said: &mut String,
@@ -263,7 +263,7 @@ fn put_reply_head(said: &mut String, head: &ReplyHead) -> Result<(), Fault> {
     put_value(said, " closes=", head.closes)
 }
 
-/// Puts a reply, of which reading tells neither a content type nor a rule.
+/// Puts a reply that was read; reading gives neither a content type nor a rule.
 fn put_reply(said: &mut String, reply: &Reply) -> Result<(), Fault> {
     put_status(said, reply.status, &reply.location)?;
     said.push_str(" body=")?;

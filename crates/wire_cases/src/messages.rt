@@ -20,7 +20,7 @@ pub fn put_words(alloc: Global, given: &str, said: &mut String) -> Result<(), Fa
     }
 }
 
-/// Puts a message, and what comes of it.
+/// Puts a message, and what results from it.
 fn put_read(
     alloc: Global,
     said: &mut String,

@@ -76,7 +76,7 @@ impl Sockets {
     }
 
     /// Whether a reply is still on its way out on the current connection: the time for a further request begins
-    /// after it. This is waited for only so long.
+    /// after it. It is waited for until `REPLYING_MILLIS` after `begun`, and no longer.
     fn is_replying(&self, begun: u64, now: u64) -> bool {
         match &self.current {
             Some(current) => {
@@ -184,7 +184,7 @@ impl Sockets {
     }
 
     /// These bytes were put on the current connection. After a reply a further request has its time from then
-    /// on, and so has a body after the leave to send it.
+    /// on, and so has a body after the permission to send it.
     fn note_reply(&mut self, bytes: &[u8], now: u64) {
         if self.has_read {
             self.begin_reply(bytes);
@@ -197,7 +197,7 @@ impl Sockets {
         self.allow(now, time);
     }
 
-    /// These bytes are the first after a request. Only such can be the leave to send its body. A probe is no
+    /// These bytes are the first after a request. Only such can be the permission to send its body. A probe is no
     /// work, and neither is a message that is only acknowledged: who sends it may do so again and again.
     fn begin_reply(&mut self, bytes: &[u8]) {
         self.awaits = if bytes.starts_with(b"HTTP/1.1 100") {

@@ -179,7 +179,7 @@ impl Sockets {
         self.line_up(place, stage);
     }
 
-    /// Takes the first kept connection whose request has come out of its place, and else the first of which no
+    /// Takes out of its place the first kept connection whose request has come, and else the first of which no
     /// more is waited for.
     pub(super) fn first_ripe(&mut self) -> Option<Connection> {
         if let Some(place) = self.whole.pop_front() {

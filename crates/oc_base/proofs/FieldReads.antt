@@ -1,15 +1,14 @@
 -- Reading a field at an index gives exactly the values in range whose text is there.
-use Rattle.std.proofs.Common.{◌≡◌, ℕ, zero, suc, ◌+◌, ◌-◌, ◌^◌, ◌<◌, ◌≤◌, Bool, true, false, cond, ltb, ◌==◌, List, [], ◌∷◌, ◌++◌, length, take, drop, Ok, Err, refl, sym, ap, subst, ◌∙◌, arith}
-use Rattle.std.specs.Int.{Width, w8, w16, w32, w64, to_be_bytes}
+use Rattle.std.proofs.Common.{◌≡◌, ℕ, zero, suc, ◌+◌, ◌-◌, ◌^◌, ◌<◌, ◌≤◌, Bool, true, false, ltb, ◌==◌, List, [], ◌∷◌, length, take, drop, Ok, refl, sym, ap, subst, arith}
+use Rattle.std.specs.Int.{Width, w8, w32, w64, to_be_bytes}
 use Rattle.std.proofs.lemmas.Bool.{ltb-false, le-ltb}
 use Rattle.std.proofs.lemmas.List.{take_at, take-append-drop, length-append, length-drop, length-take}
 use Rattle.oc_base.specs.declared.field_fault.FieldFault.TheVariants as faults
 use Rattle.oc_base.specs.declared.limits.TheConstants.{MAX_RATE}
 use Rattle.oc_base.specs.Lawful.{IsNode, IsLong, IsCount, IsRate}
 use Rattle.oc_base.specs.Spelling.{four, eight, flag}
-use Rattle.oc_base.specs.Steps.{◌>>=◌}
 use Rattle.oc_base.specs.Reading.{Reading, within_at, byte_at, long_at, count_at, id_at, rate_at, flag_at, text_at}
-use Rattle.oc_base.proofs.TextsAt.{IsBytes, Takes, bind_ok, guard_ok, ok_is, IsWide, wide8, wide16, wide32, wide64, number_takes, number_again, within_takes, within_again}
+use Rattle.oc_base.proofs.TextsAt.{IsBytes, Takes, bind_ok, guard_ok, ok_is, IsWide, wide8, wide32, wide64, number_takes, number_again, within_takes, within_again}
 
 -- reading gives exactly the lawful values whose text is there, with the index after it
 pub record Reads {A : Type 0} (nodes : ℕ) (bytes : List ℕ) (read : ℕ → Reading A) (text : A → List ℕ) (IsLawful : A → Type 0) : Type 0 where

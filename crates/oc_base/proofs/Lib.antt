@@ -4,6 +4,7 @@ pub mod Differing
 pub mod NameOrder
 pub mod Finding
 pub mod LineCuts
+pub mod FieldRuns
 pub mod Numerals
 pub mod TextsAt
 pub mod FieldReads

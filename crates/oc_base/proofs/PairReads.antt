@@ -1,11 +1,11 @@
 -- Fields one after the other are read exactly where their texts are there, one after the other.
-use Rattle.std.proofs.Common.{◌≡◌, ℕ, Bool, ◌+◌, ◌^◌, ◌<◌, ◌≤◌, List, ◌++◌, length, Result, Ok, Err, refl, sym, subst, ◌∙◌, arith}
+use Rattle.std.proofs.Common.{◌≡◌, ℕ, Bool, ◌+◌, ◌^◌, ◌<◌, List, ◌++◌, length, Result, Ok, Err, refl, sym, subst, ◌∙◌, arith}
 use Rattle.std.specs.Int.{w32}
 use Rattle.oc_base.specs.declared.cert.Cert.{Cert}
 use Rattle.oc_base.specs.declared.rank.Rank.{Rank}
 use Rattle.oc_base.specs.declared.limits.TheConstants.{MAX_DEPTH}
 use Rattle.oc_base.specs.Lawful.{IsRank, IsCert}
-use Rattle.oc_base.specs.Spelling.{four, eight, flag, rank_bytes, cert_bytes}
+use Rattle.oc_base.specs.Spelling.{rank_bytes, cert_bytes}
 use Rattle.oc_base.specs.Steps.{◌>>=◌}
 use Rattle.oc_base.specs.Reading.{Reading, one_field, two_fields, three_fields, four_fields, six_fields, within_at, id_at, count_at, long_at, flag_at, rank_at, cert_at}
 use Rattle.oc_base.proofs.TextsAt.{IsBytes, Takes, takes_both, takes_first, takes_second, bind_ok, ok_is, wide32}

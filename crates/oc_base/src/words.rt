@@ -74,8 +74,7 @@ pub fn two_fields(line: &[u8]) -> Result<(&[u8], &[u8]), Why>
     ensures { GivesFields (λ f. (f.0.now, f.1.now)) result (two (words line.now)) }
 {
     let (a, rest) = field(line)?;
-    let (b, rest) = field(rest)?;
-    end(rest)?;
+    let b = one_field(rest)?;
     Ok((a, b))
 }
 
@@ -84,9 +83,7 @@ pub fn three_fields(line: &[u8]) -> Result<(&[u8], &[u8], &[u8]), Why>
     ensures { GivesFields (λ f. (f.0.now, f.1.now, f.2.now)) result (three (words line.now)) }
 {
     let (a, rest) = field(line)?;
-    let (b, rest) = field(rest)?;
-    let (c, rest) = field(rest)?;
-    end(rest)?;
+    let (b, c) = two_fields(rest)?;
     Ok((a, b, c))
 }
 
@@ -95,10 +92,7 @@ pub fn four_fields(line: &[u8]) -> Result<(&[u8], &[u8], &[u8], &[u8]), Why>
     ensures { GivesFields (λ f. (f.0.now, f.1.now, f.2.now, f.3.now)) result (four (words line.now)) }
 {
     let (a, rest) = field(line)?;
-    let (b, rest) = field(rest)?;
-    let (c, rest) = field(rest)?;
-    let (d, rest) = field(rest)?;
-    end(rest)?;
+    let (b, c, d) = three_fields(rest)?;
     Ok((a, b, c, d))
 }
 
@@ -111,11 +105,7 @@ pub fn six_fields(line: &[u8]) -> Result<Six<'_>, Why>
 {
     let (a, rest) = field(line)?;
     let (b, rest) = field(rest)?;
-    let (c, rest) = field(rest)?;
-    let (d, rest) = field(rest)?;
-    let (e, rest) = field(rest)?;
-    let (f, rest) = field(rest)?;
-    end(rest)?;
+    let (c, d, e, f) = four_fields(rest)?;
     Ok((a, b, c, d, e, f))
 }
 

@@ -32,15 +32,22 @@ pub fn put_long(out: &mut Vec<u8>, number: &u64) -> Result<(), AllocError>
 pub fn put_id(out: &mut Vec<u8>, id: &NodeId) -> Result<(), AllocError>
     ensures { OnOk result (out.new.items ≡ out.old.items ++ four id.now) }
 {
-    out.extend_from_slice(&id.0.to_be_bytes())
+    put_int(out, id.0)
+}
+
+/// A number of four bytes.
+fn put_int(out: &mut Vec<u8>, number: u32) -> Result<(), AllocError>
+    ensures { OnOk result (out.new.items ≡ out.old.items ++ four number) }
+{
+    out.extend_from_slice(&number.to_be_bytes())
 }
 
 /// Epoch and depth.
 pub fn put_rank(out: &mut Vec<u8>, rank: &Rank) -> Result<(), AllocError>
     ensures { OnOk result (out.new.items ≡ out.old.items ++ rank_bytes rank.now) }
 {
-    out.extend_from_slice(&rank.epoch.to_be_bytes())?;
-    out.extend_from_slice(&rank.depth.to_be_bytes())
+    put_long(out, &rank.epoch)?;
+    put_int(out, rank.depth)
 }
 
 /// A certificate, in 33 bytes.

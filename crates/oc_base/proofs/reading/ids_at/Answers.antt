@@ -1,6 +1,6 @@
 use Rattle.std.proofs.Common.{sym}
 use Rattle.std.proofs.lemmas.Result.{err_from_is_err_and}
-use Rattle.oc_base.specs.Reading.{id_at, each_at}
+use Rattle.oc_base.specs.Reading.{id_at}
 use Rattle.oc_base.proofs.ItemRuns.{goes_on, ends, is_done, gives}
 use Rattle.oc_base.proofs.reading.ids_at.Goals as goal
 

@@ -4,3 +4,4 @@ pub mod RecordReads
 pub mod ListLaws
 pub mod Runs
 pub mod Leasts
+pub mod Puts

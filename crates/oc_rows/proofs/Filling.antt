@@ -1,6 +1,6 @@
 -- Rows of which more are written have the same values.
-use Rattle.std.proofs.Common.{◌≡◌, ℕ, ◌+◌, ◌-◌, ◌<◌, ◌≤◌, List, ◌++◌, length, replicate, set, ap, sym, ◌∙◌, arith}
-use Rattle.std.proofs.lemmas.List.{append_assoc, length-append, length-replicate, length-set, replicate-append-replicate, set-append_left}
+use Rattle.std.proofs.Common.{◌≡◌, ℕ, ◌+◌, ◌-◌, ◌<◌, ◌≤◌, List, [], ◌++◌, length, replicate, set, get_or, refl, ap, sym, ◌∙◌, arith}
+use Rattle.std.proofs.lemmas.List.{append_assoc, get_or-append_right, get_or-replicate, get_or_append_left, get_or_past, length-append, length-replicate, length-set, replicate-append-replicate, set-append_left}
 use Rattle.oc_rows.specs.RowsView.{filled_up}
 
 -- the blank value may be written in two parts
@@ -33,3 +33,23 @@ put_written count place blank value xs few within =
 pub filled_length : {X : Type 0} (count : ℕ) (blank : X) (xs : List X) → length xs ≤ count → length (filled_up count blank xs) ≡ count
 filled_length count blank xs few =
     length-append xs (replicate (count - length xs) blank) ∙ ap (λ n. length xs + n) (length-replicate (count - length xs) blank) ∙ omega (arith, few)
+
+-- where nothing is written, each place has the blank value
+pub none_written : {X : Type 0} (count : ℕ) (blank : X) (xs : List X) → xs ≡ [] → filled_up count blank xs ≡ replicate count blank
+none_written count blank xs none =
+    let whole : count - 0 ≡ count = omega arith in
+    ap (filled_up count blank) none ∙ ap (λ n. replicate n blank) whole
+
+-- a place among those that are written has what was put there
+pub value_written : {X : Type 0} (count place : ℕ) (blank other : X) (xs : List X) → place < length xs → get_or (filled_up count blank xs) place other ≡ get_or xs place other
+value_written count place blank other xs within = get_or_append_left xs (replicate (count - length xs) blank) other place within
+
+-- one behind them has the blank value
+pub value_blank : {X : Type 0} (count place : ℕ) (blank other : X) (xs : List X) → length xs ≤ place → place < count → get_or (filled_up count blank xs) place other ≡ blank
+value_blank count place blank other xs behind within =
+    get_or-append_right xs (replicate (count - length xs) blank) (length xs) place other refl behind
+    ∙ get_or-replicate (count - length xs) (place - length xs) blank other (omega (arith, behind, within))
+
+-- and past the last there is none
+pub value_past : {X : Type 0} (count place : ℕ) (blank other : X) (xs : List X) → length xs ≤ count → count ≤ place → get_or (filled_up count blank xs) place other ≡ other
+value_past count place blank other xs few past = get_or_past (filled_up count blank xs) place other (rw (filled_length count blank xs few) past)

@@ -1,7 +1,10 @@
 -- What a call answers, and so does not: each is told here of a few variables, since it would cost far more where all facts of a call are known.
-use Rattle.std.proofs.Common.{◌≡◌, ◌↔◌, Bool, true, false, IsTrue, IsErrOf, Result, Ok, Err}
+use Rattle.std.proofs.Common.{◌≡◌, ◌↔◌, Bool, true, false, IsTrue, IsErrOf, Result, Ok, Err, refl, ap, ◌∙◌}
 use Rattle.oc_content.specs.declared.errors.ReadError.{ReadError}
 use Rattle.oc_content.specs.declared.errors.ReadError.TheVariants as reads
+use Rattle.oc_journal.specs.declared.errors.AppendError.{AppendError}
+use Rattle.oc_journal.specs.declared.errors.AppendError.TheVariants as appends
+use Rattle.oc_keep.specs.Errors.{of_append}
 use Rattle.oc_keep.specs.declared.ended.TrialEnd.TheVariants as ends
 use Rattle.oc_keep.specs.declared.errors.CommitError.{CommitError}
 use Rattle.oc_keep.specs.declared.errors.CommitError.TheVariants as commits
@@ -9,6 +12,7 @@ use Rattle.oc_keep.specs.declared.errors.KeepError.{KeepError}
 use Rattle.oc_keep.specs.declared.errors.KeepError.TheVariants as keeps
 use Rattle.oc_keep.specs.declared.errors.KeepLoad.{KeepLoad}
 use Rattle.oc_keep.specs.declared.errors.KeptRead.TheVariants as kepts
+use Rattle.oc_keep.specs.declared.errors.TidyError.TheVariants as tidies
 
 -- one that is closed is not open
 pub shut_open : (closed : Bool) → closed ≡ true → closed ≡ false → ⊥
@@ -53,3 +57,19 @@ kept_none wrong = absurd cc
 
 pub kept_disk : {T : Type 0} → IsErrOf {T = T} (Err kepts.Disk) kepts.Closed → ⊥
 kept_disk wrong = absurd cc
+
+-- a node that is closed did not just fail
+pub tidy_closed : {T : Type 0} → IsErrOf {T = T} (Err tidies.Closed) tidies.Disk → ⊥
+tidy_closed wrong = absurd cc
+
+-- a frame that is told as too long is too long for its file, and the other way round
+append_full : {T : Type 0} (e : AppendError) (r : CommitError) → r ≡ of_append e → IsErrOf {T = T} (Err r) commits.Full → e ≡ appends.Full
+append_full appends.Full r is full = refl
+append_full appends.Disk r is full = absurd cc
+append_full appends.Closed r is full = absurd cc
+
+pub append_too_long : {T U : Type 0} (r : CommitError) (e : AppendError) (Open Long : Type 0) → r ≡ of_append e → Open → IsErrOf {T = T} (Err e) appends.Full ↔ (Open × Long) → IsErrOf {T = U} (Err r) commits.Full ↔ Long
+append_too_long r e Open Long is is_open full = (
+  λ failed. (full.0 (ap (λ (x : AppendError). Err x) (append_full e r is failed))).1,
+  λ long. let same : e ≡ appends.Full = let failed = full.1 (is_open, long) in cc in ap (λ (x : CommitError). Err x) (is ∙ ap of_append same),
+)

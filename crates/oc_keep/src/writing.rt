@@ -119,7 +119,7 @@ pub fn put<D: Disk>(
         },
         Write::Content(piece) => match content.commit(piece) {
             Ok(_) => Ok(()),
-            Err(error) => Err(cause(error)),
+            Err(why) => Err(cause(why)),
         },
     }
 }

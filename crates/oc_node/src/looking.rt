@@ -1,9 +1,11 @@
-ghost use Rattle.std.specs.Prelude.{◌≡◌, [], ◌∷◌, ◌++◌, OnOk, IfOk};
+ghost use Rattle.std.specs.Prelude.{◌≡◌, ◌&&◌, [], ◌∷◌, ◌++◌, OnOk, IfOk};
+ghost use Rattle.oc_model.specs.Checking.{is_joined_to};
 ghost use Rattle.oc_model.specs.Choice.{reviewed};
 ghost use Rattle.oc_model.specs.Looking.{rate_to_some, looked, candidate, candidates, goes_down, descends, grandparent, view, goes_where, reviews_place, keeps_line, sees};
 ghost use Rattle.oc_model.specs.Plan.{begun};
 ghost use Rattle.oc_draft.specs.DraftView.{goes};
 ghost use Rattle.oc_draft.specs.Since.{AreTold};
+ghost use Rattle.oc_parts.specs.Modes.{is_reviewing};
 
 use crate::stand::Stand;
 use oc_asks::asking::{ask, ask_before, descend, next_try};
@@ -176,6 +178,13 @@ fn keep_line(draft: &mut Draft, from: NodeId, stand: &Stand) -> Result<(), Memor
     }
 }
 
+/// Whether this node is the parent, which was asked for the other places near by.
+fn is_review(draft: &Draft, from: NodeId) -> bool
+    ensures { result ≡ is_joined_to draft.now.step.node.kept.mode from && is_reviewing draft.now.step.node.soft.search }
+{
+    is_joined_to(draft.standing().mode, from) && is_reviewing(draft.volatile().search)
+}
+
 /// A node tells its position.
 #[tactic(auto, using(crate::proofs::ByMode::sees_is))]
 pub(crate) fn sees(draft: &mut Draft, from: NodeId, stand: &Stand) -> Result<(), Memory>
@@ -184,7 +193,7 @@ pub(crate) fn sees(draft: &mut Draft, from: NodeId, stand: &Stand) -> Result<(),
 {
     if is_idle(draft.standing().mode) && is_descending(&draft.volatile().search, from) {
         descends(draft, from, stand)
-    } else if is_joined_to(draft.standing().mode, from) && is_reviewing(draft.volatile().search) {
+    } else if is_review(draft, from) {
         review_place(draft, from, stand)
     } else {
         keep_line(draft, from, stand)

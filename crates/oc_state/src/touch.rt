@@ -1,5 +1,7 @@
-ghost use Rattle.std.specs.Prelude.{◌≡◌, length};
+ghost use Rattle.std.specs.Prelude.{◌≡◌, ◌+◌, length};
 ghost use Rattle.std.specs.List.{AllByRecursion};
+ghost use Rattle.oc_base.specs.Lawful.{IsNode};
+ghost use Rattle.oc_model.specs.Numbers.{at, capped, put_at};
 ghost use Rattle.oc_state.specs.Touched.{IsTouch, leases_by, rates_by, counts_by, leases_after, rates_after, counts_after};
 
 use oc_base::NodeId;
@@ -65,9 +67,16 @@ fn touch_one(
         Touch::Start { now } => leases.start_all(table, me, *now),
         Touch::Renew { child, now } => leases.renew(*child, *now),
         Touch::Tell { child, rate } => rates.put(child.index(), *rate),
-        Touch::Redirect { node } => {
-            let index = node.index();
-            counts.put(index, counts.get_or(index, 0).saturating_add(1));
-        }
+        Touch::Redirect { node } => count(counts, *node),
     }
+}
+
+/// One client more was sent to this node.
+fn count(counts: &mut Rows<u64>, node: NodeId)
+    requires { IsNode (length counts.old.items) node }
+    ensures counts { counts.new.items ≡ put_at counts.old.items node (capped (at counts.old.items node 0 + 1)) }
+    ensures length { length counts.new.items ≡ length counts.old.items }
+{
+    let index = node.index();
+    counts.put(index, counts.get_or(index, 0).saturating_add(1));
 }

@@ -1,5 +1,5 @@
 use Rattle.std.proofs.Common.{refl}
-use Rattle.oc_keep.proofs.Ends.{done}
+use Rattle.oc_keep.proofs.Ends.{append_too_long, done}
 use Rattle.oc_keep.proofs.writing.put.Goals as goal
 
 pub commit-requires : goal.commit-requires
@@ -67,3 +67,6 @@ returns-clause-safely g c = rw c.in-Content.is (c.commit-in-Content.ensures.safe
 
 pub returns-clause-lines : goal.returns-clause-lines
 returns-clause-lines g c = tt
+
+pub returns-in-Records-clause-full : goal.returns-in-Records-clause-full
+returns-in-Records-clause-full g c = rw c.in-Records.is (append_too_long c.cause.result c.in-Err.error _ _ c.cause.ensures c.requires.open_store c.in-Err.ensures.full)

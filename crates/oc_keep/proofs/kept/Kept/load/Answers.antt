@@ -1,6 +1,7 @@
-use Rattle.std.proofs.Common.{ℕ, ◌+◌, ◌≤◌, refl, subst}
+use Rattle.std.proofs.Common.{ℕ, ◌+◌, ◌≤◌, refl, ap, subst, ◌∙◌}
 use Rattle.oc_base.specs.declared.limits.TheConstants.{MAX_BASE_ACKED}
 use Rattle.oc_store.specs.StoreView.{first_disk, second_disk}
+use Rattle.oc_keep.specs.Errors.{of_content, of_store}
 use Rattle.oc_keep.specs.Files.{disks}
 use Rattle.oc_keep.specs.KeptView.{header}
 use Rattle.oc_keep.proofs.Loads.{loaded_kept, loaded_node, loads_controls, loads_files, refused_content, refused_control}
@@ -108,3 +109,9 @@ start-requires-clause-header g c = c.requires.header
 
 pub start-requires-clause-me : goal.start-requires-clause-me
 start-requires-clause-me g c = c.requires.me
+
+pub returns-in-Err-clause-works : goal.returns-in-Err-clause-works
+returns-in-Err-clause-works g c = λ sure files. c.from.ensures ∙ ap of_store (c.in-Err.ensures.works sure.control sure.alternate files.control files.alternate)
+
+pub returns-in-Err-load-clause-works : goal.returns-in-Err-load-clause-works
+returns-in-Err-load-clause-works g c = λ sure files. c.from-in-Err-load.ensures ∙ ap of_content (c.in-Err-load.ensures.works sure.content files.content.0 files.content.1)

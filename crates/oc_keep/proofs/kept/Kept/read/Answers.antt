@@ -1,4 +1,5 @@
-use Rattle.std.proofs.Common.{true, refl, ap}
+use Rattle.std.proofs.Common.{true, Err, inr, refl, ap}
+use Rattle.oc_content.specs.declared.errors.ReadError.{ReadError}
 use Rattle.oc_keep.specs.KeptView.{KeptView, disks_of, kept_of}
 use Rattle.oc_keep.proofs.Ends.{done, kept_disk, kept_none, read_unfailed, shut_open, still_open}
 use Rattle.oc_keep.proofs.Stays.{all_go_on, all_stay, keeps_none, nothing_kept, nothing_moments, nothing_stays, only_read, puts_none}
@@ -129,3 +130,8 @@ returns-in-Err-Disk-clause-within g c = tt
 
 pub returns-in-Err-Disk-clause-bytes : goal.returns-in-Err-Disk-clause-bytes
 returns-in-Err-Disk-clause-bytes g c = tt
+
+pub returns-in-Err-Disk-clause-disk : goal.returns-in-Err-Disk-clause-disk
+returns-in-Err-Disk-clause-disk g c =
+    let failed = ap (λ (e : ReadError). Err e) c.in-Err-Disk.field-0-is in
+    rw (← c.self.view_is) (λ _. record { rose = inr (inr (c.in-Err-Disk.ensures.disk failed).fails.count); closes = refl })

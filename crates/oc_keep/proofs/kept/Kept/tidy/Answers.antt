@@ -1,9 +1,9 @@
-use Rattle.std.proofs.Common.{◌+◌, inl, inr, refl, sym, ap, ◌∙◌, ⊎_elim}
+use Rattle.std.proofs.Common.{◌+◌, false, inl, inr, refl, sym, ap, ◌∙◌, ⊎_elim}
 use Rattle.std.proofs.lemmas.Result.{IfOk-weaker}
 use Rattle.oc_model.specs.Snapshot.{snapshot}
 use Rattle.oc_keep.specs.KeptView.{KeptView, disks_of, kept_of}
 use Rattle.oc_keep.specs.Turning.{IsShort}
-use Rattle.oc_keep.proofs.Ends.{done, shut_open, still_open}
+use Rattle.oc_keep.proofs.Ends.{done, shut_open, still_open, tidy_closed}
 use Rattle.oc_keep.proofs.Settled.{tidy_open, turned_so, unfailed, untidied, unturned}
 use Rattle.oc_keep.proofs.Sides.{honest_store, reliable_store}
 use Rattle.oc_keep.proofs.Stays.{all_go_on, all_stay, keeps_none, nothing_moments, puts_none}
@@ -136,3 +136,45 @@ returns-then-self-clause-turned g c = tt
 
 pub returns-then-self-clause-stays : goal.returns-then-self-clause-stays
 returns-then-self-clause-stays g c = tt
+
+pub returns-then-self-clause-control : goal.returns-then-self-clause-control
+returns-then-self-clause-control g c = refl
+
+pub returns-then-self-clause-content : goal.returns-then-self-clause-content
+returns-then-self-clause-content g c = refl
+
+pub returns-then-self-clause-disk : goal.returns-then-self-clause-disk
+returns-then-self-clause-disk g c = λ wrong. absurd (tidy_closed wrong)
+
+pub returns-then-self-clause-stays_open : goal.returns-then-self-clause-stays_open
+returns-then-self-clause-stays_open g c = λ _. refl
+
+pub returns-then-not-due-clause-ripe : goal.returns-then-not-due-clause-ripe
+returns-then-not-due-clause-ripe g c = rw (← c.self.view_is) (
+  λ yes. absurd (shut_open false yes refl),
+  λ ripe. absurd (shut_open c.due.result (c.due.ensures.1 (ripe.long, ripe.next)) c.if-not-due.true),
+)
+
+pub returns-then-not-due-clause-turned : goal.returns-then-not-due-clause-turned
+returns-then-not-due-clause-turned g c = λ yes. absurd (shut_open false yes refl)
+
+pub returns-then-not-due-clause-control : goal.returns-then-not-due-clause-control
+returns-then-not-due-clause-control g c = refl
+
+pub returns-then-not-due-clause-content : goal.returns-then-not-due-clause-content
+returns-then-not-due-clause-content g c = refl
+
+pub returns-then-not-due-clause-stays : goal.returns-then-not-due-clause-stays
+returns-then-not-due-clause-stays g c = λ _. refl
+
+pub returns-then-not-due-clause-unchanged : goal.returns-then-not-due-clause-unchanged
+returns-then-not-due-clause-unchanged g c = tt
+
+pub returns-then-not-due-clause-disk : goal.returns-then-not-due-clause-disk
+returns-then-not-due-clause-disk g c = λ wrong. absurd (done _ _ wrong)
+
+pub returns-then-not-due-clause-stays_open : goal.returns-then-not-due-clause-stays_open
+returns-then-not-due-clause-stays_open g c = λ _. refl
+
+pub returns-then-not-due-clause-works : goal.returns-then-not-due-clause-works
+returns-then-not-due-clause-works g c = λ _ _. tt

@@ -1,9 +1,9 @@
 -- A reply is its head and what follows it.
-use Rattle.std.proofs.Common.{◌≡◌, ℕ, Bool, true, false, Option, List, [], ◌++◌, refl, sym, inl, inr}
+use Rattle.std.proofs.Common.{◌≡◌, ℕ, Bool, true, false, Option, List, [], ◌++◌, length, refl, sym, inl, inr}
 use Rattle.std.proofs.lemmas.List.{append-nil}
-use Rattle.oc_fetch.specs.Conversations.{Replied, Serves, Brings, LeadsOn, StopsContent, EndsWith}
+use Rattle.oc_fetch.specs.Conversations.{Replied, Serves, Brings, behind_content, LeadsOn, StopsContent, EndsWith}
 use Rattle.oc_fetch.specs.Ends.{end_of_http}
-use Rattle.oc_fetch.specs.Passing.{Came, Sent, StopsPassing, IsHeard, IsLastHeard}
+use Rattle.oc_fetch.specs.Passing.{Came, Sent, IsPassed, StopsPassing, IsHeard, IsLastHeard}
 use Rattle.oc_fetch.specs.Redirecting.{Follows, StaysAt}
 use Rattle.oc_fetch.specs.Replies.{IsHeadless, extent_of}
 use Rattle.oc_fetch.specs.Wishes.{Wish, Takes}
@@ -54,6 +54,18 @@ stopped_content gives fails ended takes breaks wish head a c p r end serves stop
   sent = stops.sent;
   is_over = stops.is_over;
   so = passing_stops gives fails ended takes breaks wish head a c p r end serves stops;
+}
+
+-- all of it was passed on
+pub brought : {S K : Type 0} (gives : S → List ℕ → S → Type 0) (ended : S → Type 0) (takes : K → List ℕ → K → Type 0) (wish : Wish) (place next : Place) (head : ReplyHead) (a c : S) (p r : K) (count : ℕ) → Serves wish head → ((content : List ℕ) → length content ≡ count → next ≡ behind_content head content place) → IsPassed gives ended takes (extent_of head) a c p r count → IsHeard gives ended takes (λ body over content. Brings wish place head body over content next) a c p r
+brought gives ended takes wish place next head a c p r count serves next_is passed = record {
+  reply = passed.body;
+  over = passed.over;
+  content = passed.content;
+  came = passed.came;
+  sent = passed.sent;
+  is_over = passed.is_over;
+  so = record { serves = serves; whole = passed.whole; next_is = next_is passed.content passed.count_is };
 }
 
 -- A head and what follows it

@@ -1,10 +1,11 @@
 //! From a text to a URL that a client can ask.
 
-ghost use Rattle.std.specs.Prelude.{◌≡◌, true, IfOk, IsErrOf};
+ghost use Rattle.std.specs.Prelude.{◌≡◌, true, IfOk, IsErrOf, codes};
+ghost use Rattle.std.specs.Str.{bytes_eq};
 ghost use Rattle.oc_fetch.specs.Addresses.{is_good, IsAddressOf, IsBadAddress, LeadsTo, LeadsNowhere};
 ghost use Rattle.oc_fetch.specs.declared.address.UrlFault.TheVariants.{Bad};
 ghost use Rattle.url.specs.Parser.{Gives, Parsed};
-ghost use Rattle.url.specs.Parts.{Parts};
+ghost use Rattle.url.specs.Parts.{Parts, has_credentials};
 
 use std::alloc::Global;
 use std::str;
@@ -55,8 +56,19 @@ fn checked(read: ParseResult<Url>) -> Result<Url, UrlFault>
 fn can_be_asked(url: &Url) -> bool
     ensures { result ≡ is_good url.now }
 {
-    url.scheme() == "http"
-        && url.has_host()
-        && url.username().is_empty()
-        && url.password().is_none()
+    is_http(url.scheme()) && url.has_host() && !has_credentials(url)
+}
+
+/// Whether a scheme is `http`.
+fn is_http(scheme: &str) -> bool
+    ensures { result ≡ bytes_eq scheme.now (codes "http") }
+{
+    scheme == "http"
+}
+
+/// Whether there is a user or a password.
+fn has_credentials(url: &Url) -> bool
+    ensures { result ≡ has_credentials url.now }
+{
+    !url.username().is_empty() || url.password().is_some()
 }

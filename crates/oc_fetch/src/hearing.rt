@@ -1,7 +1,7 @@
 //! What a reply says, and where it leads.
 
-ghost use Rattle.std.specs.Prelude.{◌≡◌, ◌↔◌, IfErr, OnOk, IsErrOf, IsTrue};
-ghost use Rattle.oc_fetch.specs.Conversations.{LeadsOn, EndsWith, Brings, StopsContent, wanted_behind};
+ghost use Rattle.std.specs.Prelude.{◌≡◌, ◌↔◌, ℕ, List, length, IfErr, OnOk, IsErrOf, IsTrue};
+ghost use Rattle.oc_fetch.specs.Conversations.{LeadsOn, EndsWith, Brings, StopsContent, behind_content, wanted_behind};
 ghost use Rattle.oc_fetch.specs.Passing.{IsHeard, IsLastHeard};
 ghost use Rattle.oc_fetch.specs.Wishes.{wish_of, Takes, keeps};
 ghost use Rattle.oc_fetch.specs.Replies.{extent_of};
@@ -71,10 +71,17 @@ fn take_content<S: Source, K: Sink>(
         return Err(GetEnd::Reply);
     }
     let count = pass_content(alloc, extent_of(head), source, sink, room)?;
+    go_behind_content(place, head, count);
+    Ok(())
+}
+
+/// Goes to the place behind a content of so many bytes.
+fn go_behind_content(place: &mut Place, head: &ReplyHead, count: u64)
+    ensures { (content : List ℕ) → length content ≡ count → place.new ≡ behind_content head.now content place.old }
+{
     place.start = place.start.saturating_add(count);
     place.kept = keeps(head);
     place.replies = wanted_behind(head.length, place.replies);
-    Ok(())
 }
 
 /// Whether the client takes the content of such a reply.

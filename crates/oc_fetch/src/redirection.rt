@@ -2,7 +2,7 @@
 
 ghost use Rattle.std.specs.Prelude.{◌≡◌, ℕ, ◌<◌, List, Some, IfErr, OnOk};
 ghost use Rattle.oc_fetch.specs.Addresses.{LeadsTo};
-ghost use Rattle.oc_fetch.specs.Redirecting.{Follows, StaysAt};
+ghost use Rattle.oc_fetch.specs.Redirecting.{Follows, StaysAt, sent_to};
 ghost use Rattle.url.specs.Parts.{Parts};
 
 use crate::address::{UrlFault, read_location};
@@ -32,8 +32,16 @@ pub(crate) fn redirect(
     if place.redirections == 0 {
         return Err(GetEnd::Redirects);
     }
-    place.target = Target::new(alloc, url)?;
+    go_to(place, Target::new(alloc, url)?);
+    Ok(())
+}
+
+/// Goes to the place from which another URL is asked for, on a new connection.
+fn go_to(place: &mut Place, target: Target)
+    requires { 0 < place.old.redirections }
+    ensures { place.new ≡ sent_to target place.old }
+{
+    place.target = target;
     place.kept = false;
     place.redirections -= 1;
-    Ok(())
 }

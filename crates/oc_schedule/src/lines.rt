@@ -3,11 +3,12 @@
 //! A new kind needs one more definition in `specs/Lines`, one reader here, and a branch of [`event`]
 //! and [`put_event`].
 
-ghost use Rattle.std.specs.Prelude.{◌≡◌, ◌++◌, OnOk, IfOk, codes, decimal};
+ghost use Rattle.std.specs.Prelude.{◌≡◌, ◌≤◌, ◌++◌, OnOk, IfOk, codes, decimal};
 ghost use Rattle.oc_base.specs.Lawful.{IsNode};
-ghost use Rattle.oc_base.specs.Words.{words, GivesFields};
+ghost use Rattle.oc_base.specs.Words.{words, number_in, GivesFields};
 ghost use Rattle.oc_model.specs.declared.event.Event.TheVariants.{Settle, Heal};
 ghost use Rattle.oc_schedule.specs.Lines.{sizes_in, opening_in, area_in, first_three, node_alone_in, alone, stop_in, act_alone_in, event_in, event_words};
+ghost use Rattle.oc_acts.specs.Acts.{most_byte};
 ghost use Rattle.oc_acts.specs.Texts.{spaced};
 ghost use Rattle.oc_acts.specs.Reading.{GivesLine};
 
@@ -48,8 +49,16 @@ pub(crate) fn area(nodes: u32, fields: &[u8]) -> Result<(NodeId, u8), Why>
 {
     let (n, a) = two_fields(fields)?;
     let node_id = node(n, nodes)?;
-    let area = number(a, 0, u64::from(u8::MAX))?;
+    let area = byte(a)?;
     Ok((node_id, area as u8))
+}
+
+/// The number of an area or of an image, which fits a byte.
+fn byte(field: &[u8]) -> Result<u64, Why>
+    ensures said { result ≡ number_in 0 most_byte field.now }
+    ensures range { IfOk result (λ number. number ≤ most_byte) }
+{
+    number(field, 0, u64::from(u8::MAX))
 }
 
 /// `N`: a node.
@@ -104,7 +113,7 @@ fn stop(alloc: Global, nodes: u32, fields: &[u8]) -> Result<Event, LineFault>
 {
     let (k, p, word, behind) = three_and_more(fields)?;
     let calls = number(k, 0, MAX_CALLS)?;
-    let image = number(p, 0, u64::from(u8::MAX))?;
+    let image = byte(p)?;
     Ok(Event::Stop {
         calls: calls as u8,
         image: image as u8,

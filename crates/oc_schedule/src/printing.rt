@@ -1,7 +1,7 @@
 //! The text of a schedule.
 
 ghost use Rattle.std.specs.Prelude.{◌≡◌, ◌++◌, Ok, OnOk, IfOk};
-ghost use Rattle.oc_schedule.specs.Lines.{header_words};
+ghost use Rattle.oc_schedule.specs.Lines.{area_words, header_words};
 ghost use Rattle.oc_acts.specs.Texts.{line_text};
 ghost use Rattle.oc_schedule.specs.Printing.{IsPrintable, area_text, areas_text, events_text, script_text};
 ghost use Rattle.oc_schedule.specs.Schedule.{schedule_of};
@@ -59,12 +59,20 @@ fn put_area(out: &mut Vec<u8>, node: u64, area: u8) -> Result<(), Memory>
     ensures { OnOk result (out.new.items ≡ out.old.items ++ area_text node area) }
 {
     if area != 0 {
-        put(out, b"area")?;
-        put_number_field(out, node)?;
-        put_number_field(out, u64::from(area))?;
-        put(out, b"\n")?;
+        put_area_line(out, node, area)
+    } else {
+        Ok(())
     }
-    Ok(())
+}
+
+/// Puts the line of an area.
+fn put_area_line(out: &mut Vec<u8>, node: u64, area: u8) -> Result<(), Memory>
+    ensures { OnOk result (out.new.items ≡ out.old.items ++ line_text (area_words node area)) }
+{
+    put(out, b"area")?;
+    put_number_field(out, node)?;
+    put_number_field(out, u64::from(area))?;
+    put(out, b"\n")
 }
 
 /// Puts the lines of events.

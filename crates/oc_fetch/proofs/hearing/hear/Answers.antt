@@ -4,6 +4,9 @@ use Rattle.std.proofs.lemmas.Result.{IfErr-weaker, on_ok_weaker}
 use Rattle.oc_fetch.proofs.Heard.{last_headless, heard_content, last_content, heard_redirection, last_redirection}
 use Rattle.oc_fetch.proofs.hearing.hear.Goals as goal
 
+pub take_content-requires : goal.take_content-requires
+take_content-requires g c = c.in-200.is
+
 pub returns-in_err-head-clause-last : goal.returns-in_err-head-clause-last
 returns-in_err-head-clause-last g c =
     let p = err_from_is_err_and c.from_residual.result c.from_residual.ensures.1 in

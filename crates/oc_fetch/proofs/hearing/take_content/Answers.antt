@@ -1,8 +1,8 @@
 use Rattle.std.proofs.Common.{◌≡◌, true, false, refl, subst}
 use Rattle.std.proofs.lemmas.Result.{err_from_is_err_and}
-use Rattle.oc_fetch.specs.Passing.{StopsPassing}
+use Rattle.oc_fetch.specs.Passing.{IsPassed, StopsPassing}
 use Rattle.oc_fetch.specs.Wishes.{wish_of}
-use Rattle.oc_fetch.proofs.Heard.{untaken, stopped_content}
+use Rattle.oc_fetch.proofs.Heard.{untaken, brought, stopped_content}
 use Rattle.oc_fetch.proofs.hearing.take_content.Goals as goal
 
 pub returns-then-not-takes-clause-last : goal.returns-then-not-takes-clause-last
@@ -14,3 +14,8 @@ returns-in_err-count-clause-last g c =
     let p = err_from_is_err_and c.from_residual.result c.from_residual.ensures.1 in
     let of_head = subst (λ extent. StopsPassing g.S.Source.gives g.S.Source.fails g.S.Source.ended g.K.Sink.takes g.K.Sink.fails extent c.args.source.now c.pass_content.new.source c.args.sink.now c.pass_content.new.sink c.in_err-count.field-0.0) c.extent_of.ensures c.in_err-count.ensures.stopped in
     rw (p.1, p.2) (stopped_content g.S.Source.gives g.S.Source.fails g.S.Source.ended g.K.Sink.takes g.K.Sink.fails (wish_of c.args.wish.now) c.args.head.now c.args.source.now c.pass_content.new.source c.args.sink.now c.pass_content.new.sink c.in_err-count.field-0.0 (record { status = c.requires; taken = c.if-not-takes.ensures.0 refl }) of_head)
+
+pub returns-clause-brought : goal.returns-clause-brought
+returns-clause-brought g c =
+    let of_head = subst (λ extent. IsPassed g.S.Source.gives g.S.Source.ended g.K.Sink.takes extent c.args.source.now c.pass_content.new.source c.args.sink.now c.pass_content.new.sink c.in_ok-count.count) c.extent_of.ensures c.in_ok-count.ensures.passed in
+    brought g.S.Source.gives g.S.Source.ended g.K.Sink.takes (wish_of c.args.wish.now) c.args.place.now c.go_behind_content.new.place c.args.head.now c.args.source.now c.pass_content.new.source c.args.sink.now c.pass_content.new.sink c.in_ok-count.count (record { status = c.requires; taken = c.if-not-takes.ensures.0 refl }) c.go_behind_content.ensures of_head

@@ -27,11 +27,8 @@ use oc_keep::Kept;
 use oc_model::{Answer, Input, Message};
 use oc_outside::Link;
 use oc_routes::{Asks, Refused, RouteFault, put_refusal_line, refusal_reply, respond, split_reply};
-use oc_turn::{Entry, Outbox, TurnEnd, put_all, take, write_line};
+use oc_turn::{Entry, Outbox, TurnEnd, put_all, take, write_failed_line, write_line};
 use std::alloc::Global;
-
-/// The line of a reply whose write failed.
-const WRITE_LINE: &[u8] = b"! write\n";
 
 /// Reads the request of this number, counted from 1, from the current connection, does what it asks, and
 /// answers it: `Keep` where the next request is to be read.
@@ -250,7 +247,7 @@ fn reply_to<D: Disk, L: Link, K: Sink>(
     }
     // While no disk failed, the node is what the files recover.
     let _node = kept.node();
-    write_line(sink, WRITE_LINE)?;
+    write_failed_line(sink)?;
     Ok(Connection::Close)
 }
 

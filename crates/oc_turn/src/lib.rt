@@ -30,7 +30,7 @@ mod tidying;
 pub use dialling::dial;
 pub use ends::TurnEnd;
 pub use entry::{Entry, fail_entry, input_entry, message_entry};
-pub use notes::{write_line, write_note};
+pub use notes::{write_failed_line, write_line, write_note};
 pub use outbox::{MAX_OUTBOX, Outbox, put_all};
 pub use taking::{take, take_own};
 pub use ticking::tick;

@@ -1,10 +1,11 @@
 //! Tables whose rows name a setting.
 
+use crate::FOLDER;
 use crate::settings::Setting;
 use std::alloc::Global;
+use std::io;
 use std::rt::Files;
-use std::{fs, io};
-use test_tools::{Fault, Row, tell};
+use test_tools::{Fault, Row, read_table, tell};
 
 /// What the rows of a table come to.
 pub trait Scenes {
@@ -14,13 +15,12 @@ pub trait Scenes {
 
 /// Plays a table, which is the file of its name with `.txt` after it. Prints for each row the names of the
 /// table and of the row and `ok`, or the words that came in place of those that are expected.
-pub fn play<T: Scenes, R: Files + Print + AllocGlobal>(
+pub fn play_table<T: Scenes, R: Files + Print + Eprint + AllocGlobal>(
     rt: &R,
     settings: &str,
     name: &str,
 ) -> io::Result<()> {
-    let file = format!(in rt.alloc(); "{name}.txt")?;
-    let rows = fs::read_to_string(rt, file.as_str())?;
+    let rows = read_table(rt, FOLDER, name)?;
     for line in rows.lines() {
         if let Some(row) = Row::read(line) {
             tell(rt, name, &row, answer::<T>(rt.alloc(), settings, row.given))?;

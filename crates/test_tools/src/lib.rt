@@ -1,4 +1,4 @@
-//! What the programs of worked cases share.
+//! What the libraries of worked cases share.
 //!
 //! A table is a text file with a case in each row: its name, what it is given, a `=`, and the words that
 //! have to result. A [`Cases`] says what results from a row, and [`play`] prints a line for each row: its
@@ -25,5 +25,5 @@ pub use groups::group_in;
 pub use row::Row;
 pub use spelled::{put_spelled, spelled_in};
 pub use step::Step;
-pub use table::{Cases, play, tell};
+pub use table::{Cases, play, read_table, tell};
 pub use texts::put_hex;

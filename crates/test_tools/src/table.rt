@@ -10,26 +10,46 @@ pub trait Cases {
     fn words(alloc: Global, table: &str, given: &str) -> Result<String, Fault>;
 }
 
-/// Plays the tables of these names, one after another. Each is the file of its name with `.txt` after it.
-/// Prints for each row the names of the table and of the row and `ok`, or the words that came in place of
-/// those that are expected.
-pub fn play<T: Cases, R: Files + Print + AllocGlobal>(rt: &R, tables: &[&str]) -> io::Result<()> {
+/// Plays the tables of these names in a folder, one after another. Prints for each row the names of the table and of the
+/// row and `ok`, or the words that came in place of those that are expected.
+pub fn play<T: Cases, R: Files + Print + Eprint + AllocGlobal>(
+    rt: &R,
+    folder: &str,
+    tables: &[&str],
+) -> io::Result<()> {
     for table in tables {
-        play_table::<T, R>(rt, table)?;
+        play_table::<T, R>(rt, folder, table)?;
     }
     Ok(())
 }
 
-fn play_table<T: Cases, R: Files + Print + AllocGlobal>(rt: &R, table: &str) -> io::Result<()> {
-    let file = format!(in rt.alloc(); "{table}.txt")?;
-    let rows = fs::read_to_string(rt, file.as_str())?;
-    drop(file);
+fn play_table<T: Cases, R: Files + Print + Eprint + AllocGlobal>(
+    rt: &R,
+    folder: &str,
+    table: &str,
+) -> io::Result<()> {
+    let rows = read_table(rt, folder, table)?;
     for line in rows.lines() {
         if let Some(row) = Row::read(line) {
             tell(rt, table, &row, T::words(rt.alloc(), table, row.given))?;
         }
     }
     Ok(())
+}
+
+/// The text of a table, which is the file of its name with `.txt` behind it in this folder. Where it cannot be read, the
+/// error output says which file that is.
+pub fn read_table<R: Files + Print + Eprint + AllocGlobal>(
+    rt: &R,
+    folder: &str,
+    table: &str,
+) -> io::Result<String> {
+    let file = format!(in rt.alloc(); "{folder}/{table}.txt")?;
+    let read = fs::read_to_string(rt, file.as_str());
+    if read.is_err() {
+        eprintln!(rt; "{file} cannot be read")?;
+    }
+    read
 }
 
 /// Prints the line of a row: the names of its table and of itself and `ok`, or the words that came in place of those

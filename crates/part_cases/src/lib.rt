@@ -1,8 +1,8 @@
-//! Plays tables of worked cases over what a node decides and remembers, and prints a line for each case:
-//! its name and `ok`, or what came in place of what has to come.
+//! Plays tables of worked cases over what a node decides and remembers, and prints a line for each case: its name
+//! and `ok`, or what came in place of what has to come.
 //!
-//! Each table is a file in `data`, whose first lines say how its rows are written, and a module that puts
-//! the words of a row.
+//! Each table is a file in `crates/cases/data/part`, whose first lines say how its rows are written, and a module
+//! that puts the words of a row.
 #![tactic(auto)]
 
 mod adoptions;
@@ -17,7 +17,7 @@ mod tables;
 
 use std::alloc::Global;
 use std::io;
-use test_tools::{Cases, Fault, play};
+use test_tools::{Cases, Fault};
 
 /// The words of the rows, by table.
 struct Rows;
@@ -45,9 +45,11 @@ fn put_words(alloc: Global, table: &str, given: &str, said: &mut String) -> Resu
     }
 }
 
-fn main(rt: HostRuntime) -> io::Result<()> {
-    play::<Rows, _>(
-        &rt,
+/// Plays the tables, one after another.
+pub fn play(rt: &HostRuntime) -> io::Result<()> {
+    test_tools::play::<Rows, _>(
+        rt,
+        "part",
         &[
             "tables",
             "logs",

@@ -1,8 +1,8 @@
-//! Plays tables of worked cases over what a node keeps on disks, and prints a line for each case: its name
-//! and `ok`, or what came in place of what has to come.
+//! Plays tables of worked cases over what a node keeps on disks, and prints a line for each case: its name and
+//! `ok`, or what came in place of what has to come.
 //!
-//! Each table is a file in `data`, whose first lines say how its rows are written, and a module that puts
-//! the words of a row.
+//! Each table is a file in `crates/cases/data/disk`, whose first lines say how its rows are written, and a module
+//! that puts the words of a row.
 #![tactic(auto)]
 
 mod contents;
@@ -13,7 +13,7 @@ mod stores;
 
 use std::alloc::Global;
 use std::io;
-use test_tools::{Cases, Fault, play};
+use test_tools::{Cases, Fault};
 
 /// The words of the rows, by table.
 struct Rows;
@@ -37,6 +37,7 @@ fn put_words(alloc: Global, table: &str, given: &str, said: &mut String) -> Resu
     }
 }
 
-fn main(rt: HostRuntime) -> io::Result<()> {
-    play::<Rows, _>(&rt, &["journals", "records", "stores", "contents"])
+/// Plays the tables, one after another.
+pub fn play(rt: &HostRuntime) -> io::Result<()> {
+    test_tools::play::<Rows, _>(rt, "disk", &["journals", "records", "stores", "contents"])
 }

@@ -1,9 +1,9 @@
-//! Plays tables of worked cases over the texts that a node and a client read and write, over what requests ask of a node
-//! and over what they are answered, and prints a line for each case: its name and `ok`, or what came in place of what has
-//! to come.
+//! Plays tables of worked cases over the texts that a node and a client read and write, over what requests ask of a
+//! node and over what they are answered, and prints a line for each case: its name and `ok`, or what came in place
+//! of what has to come.
 //!
-//! Each table is a file in `data`, whose first lines say how its rows are written, and a module that gives
-//! the words of a row.
+//! Each table is a file in `crates/cases/data/text`, whose first lines say how its rows are written, and a module
+//! that gives the words of a row.
 #![tactic(auto)]
 
 mod asking;
@@ -21,7 +21,7 @@ mod verdicts;
 
 use std::alloc::Global;
 use std::io;
-use test_tools::{Cases, Fault, play};
+use test_tools::{Cases, Fault};
 
 /// The tables, in their order.
 const TABLES: [&str; 9] = [
@@ -56,6 +56,7 @@ impl Cases for Rows {
     }
 }
 
-fn main(rt: HostRuntime) -> io::Result<()> {
-    play::<Rows, _>(&rt, &TABLES)
+/// Plays the tables, one after another.
+pub fn play(rt: &HostRuntime) -> io::Result<()> {
+    test_tools::play::<Rows, _>(rt, "text", &TABLES)
 }

@@ -1,8 +1,8 @@
 //! Plays tables of worked cases over links, clocks and probes, and over conversations of the client with servers in
 //! memory, and prints a line for each case: its name and `ok`, or what came in place of what has to come.
 //!
-//! Each table is a file in `data`, whose first lines say how its rows are written, and a module that puts
-//! the words of a row.
+//! Each table is a file in `crates/cases/data/edge`, whose first lines say how its rows are written, and a module
+//! that puts the words of a row.
 #![tactic(auto)]
 
 mod clocks;
@@ -15,7 +15,7 @@ mod texts;
 
 use std::alloc::Global;
 use std::io;
-use test_tools::{Cases, Fault, play};
+use test_tools::{Cases, Fault};
 
 /// The words of the rows, by table.
 struct Rows;
@@ -41,7 +41,8 @@ fn put_words(alloc: Global, table: &str, given: &str, said: &mut String) -> Resu
     }
 }
 
-fn main(rt: HostRuntime) -> io::Result<()> {
+/// Plays the tables, one after another.
+pub fn play(rt: &HostRuntime) -> io::Result<()> {
     let tables = [
         "clocks",
         "links",
@@ -50,5 +51,5 @@ fn main(rt: HostRuntime) -> io::Result<()> {
         "probes",
         "conversations",
     ];
-    play::<Rows, _>(&rt, &tables)
+    test_tools::play::<Rows, _>(rt, "edge", &tables)
 }

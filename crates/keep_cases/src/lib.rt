@@ -1,8 +1,8 @@
-//! Plays tables of worked cases over a node, alone and on its three files, and prints a line for each case: its name and
-//! `ok`, or what came in place of what has to come.
+//! Plays tables of worked cases over a node, alone and on its three files, and prints a line for each case: its
+//! name and `ok`, or what came in place of what has to come.
 //!
-//! Each table is a file in `data`, whose first lines say how its rows are written, and a module that gives
-//! the words of a row.
+//! Each table is a file in `crates/cases/data/keep`, whose first lines say how its rows are written, and a module
+//! that gives the words of a row.
 #![tactic(auto)]
 
 mod acts;
@@ -18,7 +18,7 @@ mod trials;
 use oc_io::MemDisk;
 use std::alloc::Global;
 use std::io;
-use test_tools::{Cases, Fault, play};
+use test_tools::{Cases, Fault};
 
 /// The words of the rows, by table.
 struct Rows;
@@ -35,6 +35,7 @@ impl Cases for Rows {
     }
 }
 
-fn main(rt: HostRuntime) -> io::Result<()> {
-    play::<Rows, _>(&rt, &["steps", "keeps", "trials", "stops"])
+/// Plays the tables, one after another.
+pub fn play(rt: &HostRuntime) -> io::Result<()> {
+    test_tools::play::<Rows, _>(rt, "keep", &["steps", "keeps", "trials", "stops"])
 }

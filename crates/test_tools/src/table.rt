@@ -37,7 +37,7 @@ fn play_table<T: Cases, R: Files + Print + Eprint + AllocGlobal>(
     Ok(())
 }
 
-/// The text of a table, which is the file of its name with `.txt` behind it in this folder. Where it cannot be read, the
+/// The text of a table, which is the file of its name with `.txt` after it in this folder. Where it cannot be read, the
 /// error output says which file that is.
 pub fn read_table<R: Files + Print + Eprint + AllocGlobal>(
     rt: &R,

@@ -19,14 +19,15 @@ ghost use Rattle.oc_stage.specs.Sight.{sight_of};
 ghost use Rattle.oc_process.specs.ProcessView.{CanCommitTo, Renews, generation_of, resting};
 ghost use Rattle.oc_process.specs.Standing.{IsOpen, IsRunning};
 
-use crate::sight::{groups_of, groups_recovered, lawful_node, sight_recovered};
+use crate::sight::{groups_of, groups_recovered, lawful_node};
 use crate::standing::{Files, Standing};
 use crate::{acting, starting, stopping};
 use oc_base::{Memory, NodeId, Shelf};
 use oc_io::MemDisk;
+use oc_journal::is_kept_new;
 use oc_keep::{Kept, Node, Outcome, Ready};
 use oc_model::Input;
-use oc_sight::sight_of;
+use oc_sight::{sight_of, sight_recovered};
 use oc_stage::Sight;
 use std::alloc::Global;
 use std::marker::Model;
@@ -204,7 +205,7 @@ impl Process {
         ensures process_err { OnErr result (self.new.process ≡ self.old.process) }
     {
         let ready = self.ready(input)?;
-        let kept_new = ready.writes() && stopping::is_kept_new(calls, image);
+        let kept_new = ready.writes() && is_kept_new(calls, image);
         let kept = self.standing.take_running(Files::empty(self.alloc));
         let files = stopping::stop(kept, ready, calls, image);
         self.standing.set(Standing::Stopped(files));

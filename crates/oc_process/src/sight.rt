@@ -1,16 +1,13 @@
-//! A node's position in the tree, and what it knows of the tree.
+//! The node on its files, and its groups.
 
-ghost use Rattle.std.specs.Prelude.{◌≡◌, false, IfOk};
+ghost use Rattle.std.specs.Prelude.{◌≡◌, IfOk};
 ghost use Rattle.oc_base.specs.Groups.{shelf};
 ghost use Rattle.oc_keep.specs.KeptView.{IsHonest, node_of};
 ghost use Rattle.oc_laws_step.specs.LawfulNode.{IsLawfulControl};
-ghost use Rattle.oc_stage.specs.Sight.{sight_of};
 
 use oc_base::{Memory, Shelf};
 use oc_io::Disk;
 use oc_keep::{Kept, Node};
-use oc_sight::sight_of;
-use oc_stage::Sight;
 use std::alloc::Global;
 
 /// The node on these files, which is lawful.
@@ -41,11 +38,4 @@ pub(crate) fn groups_recovered<D: Disk + Drop>(
     ensures { IfOk result (λ lines. lines.items ≡ shelf (node_of kept).groups) }
 {
     groups_of(alloc, &kept)
-}
-
-/// What is seen of a node that was recovered to be read.
-pub(crate) fn sight_recovered<D: Disk + Drop>(kept: Kept<D>) -> Result<Sight, Memory>
-    ensures { IfOk result (λ sight. sight ≡ sight_of kept.node.control false) }
-{
-    sight_of(&kept, false)
 }

@@ -40,10 +40,3 @@ pub(crate) fn stop(kept: Kept<MemDisk>, ready: Ready, calls: u8, image: u8) -> F
         content,
     }
 }
-
-/// Whether a frame whose writing was stopped after `calls` calls is kept.
-pub(crate) fn is_kept_new(calls: u8, image: u8) -> bool
-    ensures { result ≡ is_kept_new calls image }
-{
-    calls == 4 || (calls == 3 && image == 1)
-}

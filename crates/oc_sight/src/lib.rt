@@ -6,4 +6,4 @@
 
 mod sight;
 
-pub use sight::sight_of;
+pub use sight::{sight_of, sight_recovered};

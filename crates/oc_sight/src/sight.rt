@@ -1,6 +1,6 @@
 //! A node's position in the tree, and what it knows of the tree.
 
-ghost use Rattle.std.specs.Prelude.{◌≡◌, ◌++◌, IfOk, OnOk};
+ghost use Rattle.std.specs.Prelude.{◌≡◌, ◌++◌, false, IfOk, OnOk};
 ghost use Rattle.std.specs.Option.{option_to_list};
 ghost use Rattle.oc_cert.specs.TableView.{AreTableRows, entries_of};
 ghost use Rattle.oc_stage.specs.Sight.{sight_of};
@@ -32,6 +32,13 @@ pub fn sight_of<D: Disk>(kept: &Kept<D>, up: bool) -> Result<Sight, Memory>
         table: CertList::of(entries),
         listed: LineList::of(listed),
     })
+}
+
+/// What is seen of a node that is down and was recovered to be read.
+pub fn sight_recovered<D: Disk + Drop>(kept: Kept<D>) -> Result<Sight, Memory>
+    ensures { IfOk result (λ sight. sight ≡ sight_of kept.node.control false) }
+{
+    sight_of(&kept, false)
 }
 
 /// Puts the certificates of these rows at the end.

@@ -37,5 +37,8 @@ pub(crate) fn groups_recovered<D: Disk + Drop>(
     requires { IsHonest D.view kept }
     ensures { IfOk result (λ lines. lines.items ≡ shelf (node_of kept).groups) }
 {
-    groups_of(alloc, &kept)
+    let groups = groups_of(alloc, &kept);
+    // Dropped by a call, the node costs less to prove than where it goes out of scope.
+    drop(kept);
+    groups
 }

@@ -31,7 +31,8 @@ impl<D: Disk + Drop> Standing<D> {
     pub(crate) fn set(&mut self, next: Standing<D>)
         ensures { self.new ≡ next }
     {
-        *self = next;
+        // Dropped by a call, the old state costs less to prove than where it is assigned over.
+        drop(mem::replace(self, next));
     }
 
     /// Takes out the node that runs, and leaves these files.

@@ -38,7 +38,10 @@ pub fn sight_of<D: Disk>(kept: &Kept<D>, up: bool) -> Result<Sight, Memory>
 pub fn sight_recovered<D: Disk + Drop>(kept: Kept<D>) -> Result<Sight, Memory>
     ensures { IfOk result (λ sight. sight ≡ sight_of kept.node.control false) }
 {
-    sight_of(&kept, false)
+    let sight = sight_of(&kept, false);
+    // Dropped by a call, the node costs less to prove than where it goes out of scope.
+    drop(kept);
+    sight
 }
 
 /// Puts the certificates of these rows at the end.

@@ -1,8 +1,12 @@
-use Rattle.std.proofs.Common.{◌≡◌, ◌∙◌, ℕ, List, length, sym, ap, subst}
+use Rattle.std.proofs.Common.{◌≡◌, ◌∙◌, ℕ, List, length, sym, ap, subst, arith, rules}
 use Rattle.oc_model.specs.Lawful.{IsEvent}
 use Rattle.oc_model.specs.World.{ids}
 use Rattle.oc_replay.proofs.Runs.{event_told}
 use Rattle.oc_replay.proofs.reporting.tell.Goals as goal
+
+-- what the stage said it sent is what its world has more
+pub put_told-requires-clause-all : goal.put_told-requires-clause-all
+put_told-requires-clause-all g c = search rules
 
 -- the event has changed no id
 pub put_block-requires : goal.put_block-requires
@@ -21,3 +25,10 @@ returns-clause-text g c =
     let said = c.in_ok-said.said in
     event_told c.args.out.now.items c.put_event.new.out.items c.put_told.new.out.items c.put_block.new.out.items c.args.number said.word (stage.word old c.args.event.now) said.first old (stage.world c.event.new.self) c.args.event.now
     c.in_ok-said.ensures.said.word c.in_ok-said.ensures.said.first c.in_ok-put_event.ensures c.in_ok-put_told.ensures c.in_ok-put_block.ensures
+
+-- the stage is at the world after the event
+pub returns-clause-world : goal.returns-clause-world
+returns-clause-world g c = c.in_ok-said.ensures.world
+
+pub returns-clause-sent : goal.returns-clause-sent
+returns-clause-sent g c = omega (arith, c.in_ok-said.ensures.said.first, c.in_ok-said.ensures.said.count)

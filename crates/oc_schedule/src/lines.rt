@@ -114,10 +114,11 @@ fn stop(alloc: Global, nodes: u32, fields: &[u8]) -> Result<Event, LineFault>
     let (k, p, word, behind) = three_and_more(fields)?;
     let calls = number(k, 0, MAX_CALLS)?;
     let image = byte(p)?;
+    let stopped = act(alloc, nodes, word, behind)?;
     Ok(Event::Stop {
         calls: calls as u8,
         image: image as u8,
-        act: act(alloc, nodes, word, behind)?,
+        act: stopped,
     })
 }
 

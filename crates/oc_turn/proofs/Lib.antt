@@ -10,3 +10,4 @@ pub mod Talks
 pub mod Turned
 pub mod Looking
 pub mod Ticks
+pub mod Replies

@@ -1,6 +1,6 @@
 //! One message, brought to its receiver.
 
-ghost use Rattle.std.specs.Prelude.{◌≡◌, ◌⊎◌, IfOk, IfSome, OnErr};
+ghost use Rattle.std.specs.Prelude.{◌≡◌, ◌==◌, ◌⊎◌, IfOk, IfSome, OnErr};
 ghost use Rattle.oc_base.specs.Lawful.{IsNode};
 ghost use Rattle.oc_http.specs.Writing.{IsHost};
 ghost use Rattle.oc_io.specs.Faults.{Rose};
@@ -85,11 +85,20 @@ fn entry_of_reply(
     ensures came { IfOk result (λ came. input_in came ≡ input_of_reply nodes me peer reply.now) }
     ensures entry { IfOk result (λ came. IfSome came (IsEntry nodes me)) }
 {
+    if has_no_content(reply) {
+        return Ok(None);
+    }
     match reply.status {
-        204 => Ok(None),
         200 => Ok(Some(delivery(alloc, me, nodes, peer, reply.body.items())?)),
         _ => Ok(Some(fail_entry(alloc, me, peer)?)),
     }
+}
+
+/// Whether a reply says that there is nothing to answer.
+fn has_no_content(reply: &Reply) -> bool
+    ensures { result ≡ (reply.now.status == 204) }
+{
+    reply.status == 204
 }
 
 /// The message that these bytes are, if it is one to the node `me`, and else that the peer does not
@@ -107,7 +116,7 @@ fn delivery(
 {
     match decode(alloc, bytes, nodes) {
         Ok(message) => {
-            if message.to == me {
+            if is_for(me, &message) {
                 message_entry(alloc, me, message, bytes)
             } else {
                 fail_entry(alloc, me, peer)
@@ -116,4 +125,11 @@ fn delivery(
         Err(WireFault::Memory) => Err(Memory),
         Err(_) => fail_entry(alloc, me, peer),
     }
+}
+
+/// Whether a message is one to this node.
+fn is_for(me: NodeId, message: &Message) -> bool
+    ensures { result ≡ (message.now.to == me) }
+{
+    message.to == me
 }

@@ -45,12 +45,19 @@ impl Outbox {
         ensures { self.new ≡ with_message self.old message }
     {
         if self.messages.len() == MAX_OUTBOX {
-            let _ = self.messages.pop_front();
+            self.lose_oldest();
         }
         match self.messages.push_back(message) {
             Ok(()) => {}
             Err(_) => unreachable!(),
         }
+    }
+
+    /// Drops the oldest message, if there is one.
+    fn lose_oldest(&mut self)
+        ensures { self.new ≡ drop 1 self.old }
+    {
+        let _ = self.messages.pop_front();
     }
 
     /// Takes the oldest message out, if there is one.

@@ -1,5 +1,5 @@
 -- The messages that are sent, as deeds.
-use Rattle.std.proofs.Common.{◌≡◌, ◌⊎◌, ℕ, false, true, Some, None, Option, List, [], ◌∷◌, ◌++◌, refl, sym, ap, subst, ◌∙◌}
+use Rattle.std.proofs.Common.{◌≡◌, ◌⊎◌, ℕ, false, true, Some, None, Option, IfSome, List, [], ◌∷◌, ◌++◌, refl, sym, ap, subst, ◌∙◌}
 use Rattle.oc_keep.specs.KeptView.{KeptView, node_of}
 use Rattle.oc_model.specs.declared.input.Input.{Input}
 use Rattle.oc_model.specs.declared.message.Message.{Message}
@@ -81,6 +81,11 @@ becomes_here k addresses me nodes sent is o o2 st st2 f f2 same mine all becomes
     subst (λ (x : Sent). BecomesOf (setting k addresses) x o o2 st st2 f f2) same
     (subst (λ (x : ℕ). BecomesOf (setting_of x k.node.control.nodes addresses) sent o o2 st st2 f f2) mine
     (subst (λ (x : ℕ). BecomesOf (setting_of me x addresses) sent o o2 st st2 f f2) all becomes))
+
+-- what comes of a dial is lawful, whether there is an entry or none
+pub brought_lawful : (nodes me : ℕ) (came : Option Entry) → IfSome came (IsEntry nodes me) → IsLawfulSent nodes me (sents.Brought came)
+brought_lawful nodes me None is = tt
+brought_lawful nodes me (Some e) is = is
 
 -- the entry that came is one of this node
 pub entry_here : {D : Type 0} → (k : KeptView D) (me nodes : ℕ) (sent : Sent) (e : Entry) → sent ≡ sents.Brought (Some e) → me ≡ k.node.control.me → nodes ≡ k.node.control.nodes → IsLawfulSent nodes me sent → IsEntry k.node.control.nodes k.node.control.me e

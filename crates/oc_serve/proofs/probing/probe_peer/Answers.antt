@@ -1,11 +1,14 @@
-use Rattle.std.proofs.Common.{ℕ, Ok, Err, [], ◌∷◌, codes, inl, inr, refl, ap, ◌∙◌, rules}
+use Rattle.std.proofs.Common.{ℕ, ◌-◌, Ok, Err, List, [], ◌∷◌, length, codes, inl, inr, refl, ap, ◌∙◌, rules, arith}
+use Rattle.std.proofs.lemmas.List.{length-set}
 use Rattle.std.proofs.lemmas.Result.{err_from_is_err_and}
 use Rattle.oc_model.specs.declared.input.Input.TheVariants.{Measured}
 use Rattle.oc_turn.specs.Deeds.{Idle, Probes, Taking, outside_of}
 use Rattle.oc_probe.specs.declared.fault.ProbeFault.TheVariants as probes
 use Rattle.oc_turn.specs.Scenes.{scene}
 use Rattle.oc_serve.proofs.Probed.{fault_did, link_did, measured_did, probe_did, reply_did, told_breaks}
+use Rattle.oc_probe.specs.Rates.{rates_of, with_rate}
 use Rattle.oc_turn.proofs.Results.{done_then, err_both, err_then}
+use Rattle.oc_turn.proofs.Takes.{made_entry}
 use Rattle.oc_turn.proofs.Scenes.{breaks_memory, breaks_still}
 use Rattle.oc_serve.proofs.Still.{probed_same}
 use Rattle.oc_serve.proofs.probing.probe_peer.Goals as goal
@@ -172,3 +175,16 @@ returns-in-Err-Reply-clause-still g c = probed_same (Err c.in-Err-Reply.field-0)
 
 pub returns-in-Err-Memory-clause-still : goal.returns-in-Err-Memory-clause-still
 returns-in-Err-Memory-clause-still g c = probed_same (Err c.in-Err-Memory.field-0) c.address_of.result.now (g.L.Link.story c.args.link.now) (g.L.Link.story c.probe.new.link) c.in-Err-Memory.ensures.link
+
+pub returns-in_ok-entry-in-Ok-clause-gauge : goal.returns-in_ok-entry-in-Ok-clause-gauge
+returns-in_ok-entry-in-Ok-clause-gauge g c =
+    ap (λ (gauge : List (List ℕ)). length gauge) c.put.ensures.kept ∙ length-set c.args.gauge.now (c.args.peer - 1) (with_rate (rates_of c.args.gauge.now c.args.peer) c.in-Ok.rate)
+
+pub returns-in_err-entry-in-Ok-clause-gauge : goal.returns-in_err-entry-in-Ok-clause-gauge
+returns-in_err-entry-in-Ok-clause-gauge g c =
+    ap (λ (gauge : List (List ℕ)). length gauge) c.put.ensures.kept ∙ length-set c.args.gauge.now (c.args.peer - 1) (with_rate (rates_of c.args.gauge.now c.args.peer) c.in-Ok.rate)
+
+pub take_own-requires-clause-entry : goal.take_own-requires-clause-entry
+take_own-requires-clause-entry g c =
+    made_entry c.args.kept.now.node.control.nodes c.args.kept.now.node.control.me c.id-me.result c.in_ok-entry-in-Ok.entry (Measured c.args.peer c.min-median.result c.get-rate.result.1) c.in_ok-entry-in-Ok.ensures.input c.in_ok-entry-in-Ok.ensures.line
+    (search rules) (c.requires.peer, omega (arith, c.min-median.ensures), search rules)

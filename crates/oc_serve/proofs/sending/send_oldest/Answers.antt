@@ -3,7 +3,7 @@ use Rattle.std.proofs.lemmas.Result.{err_from_is_err_and}
 use Rattle.oc_http.specs.Writing.{IsHost}
 use Rattle.oc_turn.specs.Lines.{input_in}
 use Rattle.oc_serve.specs.Sending.{setting_of}
-use Rattle.oc_serve.proofs.Sends.{dialled_to, oldest_receiver, oldest_text, wants_memory}
+use Rattle.oc_serve.proofs.Sends.{brought_lawful, dialled_to, oldest_receiver, oldest_text, wants_memory}
 use Rattle.oc_serve.proofs.sending.send_oldest.Goals as goal
 
 pub returns-clause-sent : goal.returns-clause-sent
@@ -42,3 +42,6 @@ returns-in_err-came-clause-memory g c =
     rw p.1
     (wants_memory (setting_of a.me a.nodes a.config.now.addresses) c.in-Some.message a.outbox.now c.take.new.self c.address_of-address.result.now (story a.link.now) (story c.dial.new.link) (faults a.link.now) (faults c.dial.new.link)
     c.address_of-address.ensures c.in-Some.ensures c.in_err-came.ensures.memory c.dial.ensures.count)
+
+pub returns-clause-lawful : goal.returns-clause-lawful
+returns-clause-lawful g c = brought_lawful c.args.nodes c.args.me c.in_ok-came.came c.in_ok-came.ensures.entry

@@ -4,7 +4,7 @@ use Rattle.oc_turn.specs.Deeds.{Idle, Takes, Taking, outside_of}
 use Rattle.oc_turn.specs.Scenes.{scene}
 use Rattle.oc_serve.specs.declared.sending.Sent.TheVariants as sents
 use Rattle.oc_turn.proofs.Scenes.{breaks_dial, breaks_still, did_none, did_then}
-use Rattle.oc_serve.proofs.Sends.{sent_did, sent_none, sent_some, becomes_here, dials_here, entry_here}
+use Rattle.oc_serve.proofs.Sends.{sent_did, sent_empty, sent_none, sent_some, becomes_here, dials_here, entry_here}
 use Rattle.oc_serve.proofs.sending.send_one.Goals as goal
 
 pub returns-in_err-sent-clause-stops : goal.returns-in_err-sent-clause-stops
@@ -87,3 +87,14 @@ take_own-requires-clause-entry g c =
 
 pub send_oldest-requires-clause-sendable : goal.send_oldest-requires-clause-sendable
 send_oldest-requires-clause-sendable g c = search rules
+
+pub returns-in-Empty-clause-did : goal.returns-in-Empty-clause-did
+returns-in-Empty-clause-did g c =
+    let a = c.args in
+    let new = c.send_oldest.new in
+    let story = g.L.Link.story in
+    let faults = g.L.Link.faults in
+    let d = sent_did g.D.Disk.view g.K.Sink.takes g.K.Sink.fails g.K.Sink.faults a.config.now.addresses g.met.K.Sink.takes_nothing a.kept.now sents.Empty a.outbox.now new.outbox a.sink.now (story a.link.now) (story new.link) (faults a.link.now) (faults new.link)
+    c.requires.open (omega (arith, c.send_oldest.ensures.count.listening))
+    (becomes_here a.kept.now a.config.now.addresses c.id-me.result c.nodes-nodes.result c.in_ok-sent.sent sents.Empty a.outbox.now new.outbox (story a.link.now) (story new.link) (faults a.link.now) (faults new.link) c.in-Empty.is (search rules) (search rules) c.in_ok-sent.ensures.sent) in
+    (d.0, sent_empty d.0 d.1, d.2)

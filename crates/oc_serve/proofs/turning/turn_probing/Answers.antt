@@ -1,4 +1,4 @@
-use Rattle.std.proofs.Common.{None, ◌++◌, subst}
+use Rattle.std.proofs.Common.{None, ◌++◌, subst, arith}
 use Rattle.std.proofs.lemmas.Result.{err_from_is_err_and}
 use Rattle.oc_outside.specs.declared.link.Arrival.{Arrival}
 use Rattle.oc_answer.specs.Serving.{terms}
@@ -8,7 +8,7 @@ use Rattle.oc_turn.specs.Deeds.{outside_of, sight_of}
 use Rattle.oc_turn.specs.Scenes.{scene, setting}
 use Rattle.oc_serve.specs.Turns.{IsTurn, end_with}
 use Rattle.oc_turn.proofs.Scenes.{did_then}
-use Rattle.oc_serve.proofs.Placed.{renewed_then}
+use Rattle.oc_serve.proofs.Placed.{made_before, made_stays, placed_stays, renewed_then}
 use Rattle.oc_serve.proofs.Whole.{one_served, probed_too, served_too, serves_behind, stops_probing, stops_too}
 use Rattle.oc_serve.proofs.turning.turn_probing.Goals as goal
 
@@ -88,3 +88,27 @@ returns-in_err-probe_next-in-Quiet-clause-stops g c =
 pub returns-in_ok-probe_next-in-Quiet-clause-renews : goal.returns-in_ok-probe_next-in-Quiet-clause-renews
 returns-in_ok-probe_next-in-Quiet-clause-renews g c =
     renewed_then g.D.Disk.view c.args.kept.now c.turn_plain.new.kept c.probe_next.new.kept c.in_ok-arrival.ensures.did.2.goes_on c.in_ok-arrival.ensures.renews c.in_ok-probe_next-in-Quiet.ensures.did.2.generation
+
+pub probe_next-requires-clause-placed : goal.probe_next-requires-clause-placed
+probe_next-requires-clause-placed g c = placed_stays c.args.kept.now c.turn_plain.new.kept c.args.config.now.addresses c.in_ok-arrival.ensures.did.2.same c.requires.placed
+
+pub probe_next-requires-clause-probing : goal.probe_next-requires-clause-probing
+probe_next-requires-clause-probing g c = made_stays c.args.kept.now c.turn_plain.new.kept c.args.probing.now c.in_ok-arrival.ensures.did.2.same c.requires.probing
+
+pub returns-in_ok-probe_next-in-Quiet-clause-probing : goal.returns-in_ok-probe_next-in-Quiet-clause-probing
+returns-in_ok-probe_next-in-Quiet-clause-probing g c = made_before c.args.kept.now c.turn_plain.new.kept c.probe_next.new.probing c.in_ok-arrival.ensures.did.2.same c.probe_next.ensures.probing
+
+pub returns-in_err-probe_next-in-Quiet-clause-probing : goal.returns-in_err-probe_next-in-Quiet-clause-probing
+returns-in_err-probe_next-in-Quiet-clause-probing g c = made_before c.args.kept.now c.turn_plain.new.kept c.probe_next.new.probing c.in_ok-arrival.ensures.did.2.same c.probe_next.ensures.probing
+
+pub returns-in-Conn-clause-renews : goal.returns-in-Conn-clause-renews
+returns-in-Conn-clause-renews g c = c.in_ok-arrival.ensures.renews
+
+pub returns-in-Conn-clause-listens : goal.returns-in-Conn-clause-listens
+returns-in-Conn-clause-listens g c = c.turn_plain.ensures.listens
+
+pub returns-in_ok-probe_next-in-Quiet-clause-listens : goal.returns-in_ok-probe_next-in-Quiet-clause-listens
+returns-in_ok-probe_next-in-Quiet-clause-listens g c = omega (arith, c.turn_plain.ensures.listens, c.probe_next.ensures.count.listening)
+
+pub returns-in_err-probe_next-in-Quiet-clause-listens : goal.returns-in_err-probe_next-in-Quiet-clause-listens
+returns-in_err-probe_next-in-Quiet-clause-listens g c = omega (arith, c.turn_plain.ensures.listens, c.probe_next.ensures.count.listening)

@@ -37,8 +37,5 @@ pub(crate) fn groups_recovered<D: Disk + Drop>(
     requires { IsHonest D.view kept }
     ensures { IfOk result (λ lines. lines.items ≡ shelf (node_of kept).groups) }
 {
-    let groups = groups_of(alloc, &kept);
-    // Dropped by a call, the node costs less to prove than where it goes out of scope.
-    drop(kept);
-    groups
+    groups_of(alloc, &kept)
 }

@@ -31,8 +31,7 @@ impl<D: Disk + Drop> Standing<D> {
     pub(crate) fn set(&mut self, next: Standing<D>)
         ensures { self.new ≡ next }
     {
-        // Dropped by a call, the old state costs less to prove than where it is assigned over.
-        drop(mem::replace(self, next));
+        *self = next;
     }
 
     /// Takes out the node that runs, and leaves these files.

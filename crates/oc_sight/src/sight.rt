@@ -38,10 +38,7 @@ pub fn sight_of<D: Disk>(kept: &Kept<D>, up: bool) -> Result<Sight, Memory>
 pub fn sight_recovered<D: Disk + Drop>(kept: Kept<D>) -> Result<Sight, Memory>
     ensures { IfOk result (λ sight. sight ≡ sight_of kept.node.control false) }
 {
-    let sight = sight_of(&kept, false);
-    // Dropped by a call, the node costs less to prove than where it goes out of scope.
-    drop(kept);
-    sight
+    sight_of(&kept, false)
 }
 
 /// Puts the certificates of these rows at the end.

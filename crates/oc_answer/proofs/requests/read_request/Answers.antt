@@ -19,3 +19,12 @@ pub returns-in-Some-clause-leave : goal.returns-in-Some-clause-leave
 returns-in-Some-clause-leave g c =
     let story = g.L.Link.story in
     front_behind CONTINUE.now (story c.args.link.now) (story c.read_head.new.link) (story c.read_behind.new.link) c.read_head.ensures.silent c.read_behind.ensures.leave
+
+pub returns-in_err-head-clause-talked : goal.returns-in_err-head-clause-talked
+returns-in_err-head-clause-talked g c = c.read_head.ensures.talked
+
+pub returns-in-None-clause-talked : goal.returns-in-None-clause-talked
+returns-in-None-clause-talked g c = c.read_head.ensures.talked
+
+pub returns-in-Some-clause-lawful : goal.returns-in-Some-clause-lawful
+returns-in-Some-clause-lawful g c = c.read_behind.ensures.lawful

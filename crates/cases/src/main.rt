@@ -1,18 +1,34 @@
 //! Plays tables of worked cases, and prints a line for each case: its name and `ok`, or what came in place of what
 //! has to come.
 //!
-//! Each library plays the tables of a folder of its own in `data`. A table is a file there, whose first lines say how
-//! its rows are written.
+//! First come the cases of the parts: each library plays the tables of a folder of its own in `data`. Then come runs of
+//! the program itself, which it is with any words: it starts itself, row by row, as processes on real files and sockets.
+//! A table is a file in `data`, whose first lines say how its rows are written.
 #![tactic(auto)]
 
+use oc_start::{given_words, start};
 use std::io;
+use std::process::ExitCode;
 
-fn main(rt: HostRuntime) -> io::Result<()> {
-    disk_cases::play(&rt)?;
-    part_cases::play(&rt)?;
-    wire_cases::play(&rt)?;
-    edge_cases::play(&rt)?;
-    text_cases::play(&rt)?;
-    keep_cases::play(&rt)?;
-    serve_cases::play(&rt)
+fn main(rt: HostRuntime) -> io::Result<ExitCode> {
+    let Ok(words) = given_words(&rt) else {
+        return Ok(ExitCode::FAILURE);
+    };
+    if words.is_empty() {
+        play(&rt)?;
+        return Ok(ExitCode::SUCCESS);
+    }
+    Ok(ExitCode::from(start(&rt, words.as_slice()).status))
+}
+
+/// Plays all tables.
+fn play(rt: &HostRuntime) -> io::Result<()> {
+    disk_cases::play(rt)?;
+    part_cases::play(rt)?;
+    wire_cases::play(rt)?;
+    edge_cases::play(rt)?;
+    text_cases::play(rt)?;
+    keep_cases::play(rt)?;
+    serve_cases::play(rt)?;
+    process_tools::play(rt)
 }

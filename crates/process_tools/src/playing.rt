@@ -15,7 +15,7 @@ const NODE_FILES: [&str; 3] = ["control.log", "control.alt", "content.log"];
 
 /// Plays the cases, one after another.
 pub fn play(rt: &HostRuntime) -> io::Result<()> {
-    play_rows(rt, "cases.txt", free_port(rt)?)?;
+    play_rows(rt, "runs.txt", free_port(rt)?)?;
     play_served(rt)?;
     tell(rt, "fifty kills lose nothing", kill_often(rt))
 }

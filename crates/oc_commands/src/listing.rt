@@ -8,7 +8,7 @@ use crate::configuring::{ConfigEnd, read_config};
 use oc_base::Memory;
 use oc_config::Config;
 use oc_io::{Sink, Source, write_all};
-use oc_rules::rules_text;
+use oc_policy::rules_text;
 use std::alloc::Global;
 
 /// How `rules` ended.

@@ -1,3 +1,4 @@
+mod Texts
 pub mod Within
 pub mod Coverings
 pub mod Firsts

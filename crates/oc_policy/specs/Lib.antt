@@ -2,3 +2,4 @@ pub mod PrefixBytes
 pub mod Prefixes
 pub mod Rules
 pub mod Covering
+pub mod Listing

@@ -5,16 +5,20 @@
 //! matches. [`shadow`] names the first earlier rule that covers a rule: one that matches all that the
 //! rule matches, over all actions, group names and areas (`rule_covers`).
 //! [`a_shadowed_rule_decides_nothing`] is the law between the two. Neither call takes memory.
+//! [`rules_text`] writes exactly the lines of the rules (`IsListing`), each with the number of the rule that leaves it
+//! nothing, if there is one.
 #![tactic(auto)]
 
 mod deciding;
 mod law;
+mod listing;
 mod prefix;
 mod rule;
 mod shadowing;
 
 pub use deciding::{MAX_RULES, Verdict, decide};
 pub use law::a_shadowed_rule_decides_nothing;
+pub use listing::rules_text;
 pub use oc_base::{GroupName, NameFault};
 pub use prefix::Prefix;
 pub use rule::{Action, Rule};

@@ -4,7 +4,7 @@ use Rattle.std.specs.Prelude.{IfSome, IfNone, OnOk, Result, Ok, Err}
 use Rattle.std.specs.List.{slice_get}
 use Rattle.oc_policy.specs.Covering.{Shadows}
 use Rattle.oc_policy.specs.declared.rule.Rule.{Rule}
-use Rattle.oc_rules.specs.Listing.{AreLines, IsLineOf, IsShadowedBy, rule_line}
+use Rattle.oc_policy.specs.Listing.{AreLines, IsLineOf, IsShadowedBy, rule_line}
 
 -- a last part, where it was put
 pub last_part : {T E : Type 0} (r : Result T E) (a b c x y : List ℕ) → b ≡ a ++ x → OnOk r (c ≡ b ++ y) → OnOk r (c ≡ a ++ (x ++ y))

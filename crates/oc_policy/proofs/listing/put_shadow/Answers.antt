@@ -1,7 +1,7 @@
 use Rattle.std.proofs.Common.{◌≡◌, ◌++◌, codes, decimal, subst}
 use Rattle.std.specs.Prelude.{OnOk}
-use Rattle.oc_rules.proofs.Behind.{last_part}
-use Rattle.oc_rules.proofs.listing.put_shadow.Goals as goal
+use Rattle.oc_policy.proofs.Texts.{last_part}
+use Rattle.oc_policy.proofs.listing.put_shadow.Goals as goal
 
 pub returns-in_ok-put-in-Some : goal.returns-in_ok-put-in-Some
 returns-in_ok-put-in-Some c = rw c.in-Some.is

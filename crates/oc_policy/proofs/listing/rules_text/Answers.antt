@@ -1,7 +1,7 @@
 use Rattle.std.proofs.Common.{◌+◌, refl}
 use Rattle.std.proofs.lemmas.Option.{slice_get_read}
-use Rattle.oc_rules.proofs.Behind.{lines_more, shadowed}
-use Rattle.oc_rules.proofs.listing.rules_text.Goals as goal
+use Rattle.oc_policy.proofs.Texts.{lines_more, shadowed}
+use Rattle.oc_policy.proofs.listing.rules_text.Goals as goal
 
 pub loop-place-preserved : goal.loop-place-preserved
 loop-place-preserved c =

@@ -2,10 +2,11 @@
 
 ghost use Rattle.std.specs.Prelude.{◌≡◌, ◌++◌, ◌≤◌, IfOk, OnOk, length};
 ghost use Rattle.oc_policy.specs.declared.deciding.TheConstants.{MAX_RULES as MOST_RULES};
-ghost use Rattle.oc_rules.specs.Listing.{IsListing, allow_text, area_text, method_text, rule_line, rule_text, shadow_text};
+ghost use Rattle.oc_policy.specs.Listing.{IsListing, allow_text, area_text, method_text, rule_line, rule_text, shadow_text};
 
+use crate::rule::{Action, Rule};
+use crate::shadowing::shadow;
 use oc_base::{Memory, put, put_number};
-use oc_policy::{Action, Rule, shadow};
 use std::alloc::Global;
 
 /// The lines of these rules, in their order: the number of a rule from 1, whether it allows, the method,

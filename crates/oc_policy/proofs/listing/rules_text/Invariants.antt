@@ -1,5 +1,5 @@
-use Rattle.oc_rules.specs.Listing.{AreLines}
-use Rattle.oc_rules.proofs.listing.rules_text.Given as goal
+use Rattle.oc_policy.specs.Listing.{AreLines}
+use Rattle.oc_policy.proofs.listing.rules_text.Given as goal
 
 -- the lines of the rules so far
 abbrev pub invariant-loop-place : goal.invariant-loop-place

@@ -1,7 +1,7 @@
 use Rattle.std.proofs.Common.{◌≡◌, ◌∙◌, ◌++◌, ap, codes, decimal}
-use Rattle.oc_rules.specs.Listing.{rule_text, shadow_text}
-use Rattle.oc_rules.proofs.Behind.{last_part, one_more}
-use Rattle.oc_rules.proofs.listing.put_line.Goals as goal
+use Rattle.oc_policy.specs.Listing.{rule_text, shadow_text}
+use Rattle.oc_policy.proofs.Texts.{last_part, one_more}
+use Rattle.oc_policy.proofs.listing.put_line.Goals as goal
 
 -- one part after the other
 pub returns : goal.returns

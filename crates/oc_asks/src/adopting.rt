@@ -5,10 +5,9 @@ ghost use Rattle.oc_model.specs.Adoption.{adoption_refusal};
 ghost use Rattle.oc_draft.specs.DraftView.{goes};
 
 use oc_base::{Cert, Memory, NodeId, Rank, Refusal};
-use oc_climb::{Host, may_adopt};
 use oc_draft::Draft;
 use oc_model::{Body, Record};
-use oc_roots::raise;
+use oc_place::{Host, may_adopt, raise};
 use oc_state::Touch;
 use oc_state::modes::{in_tree, is_acting};
 use oc_state::ranks::rank_or_last;

@@ -28,7 +28,7 @@ use crate::plan::Plan;
 use crate::since::{ancestors_since, entry_since, is_news_to};
 use oc_base::{Cert, Child, IdList, MAX_CHECK_IN_CERTS, Memory, NodeId};
 use oc_model::{Answer, Body, Message, Record, Search, Want};
-use oc_roots::ask_order;
+use oc_place::ask_order;
 use oc_state::children::chain_child;
 use oc_state::{Standing, Touch, Volatile};
 use std::alloc::Global;

@@ -4,8 +4,7 @@ ghost use Rattle.oc_model.specs.Asking.{next_epoch, ancestors_by};
 ghost use Rattle.oc_parts.specs.Modes.{better_rank};
 
 use oc_base::{IdList, MAX_ANCESTORS, MAX_DEPTH, Memory, NodeId, Rank};
-use oc_climb::take_rank;
-use oc_roots::raise;
+use oc_place::{raise, take_rank};
 use std::alloc::Global;
 
 /// A rank, or the last of all where there is none.

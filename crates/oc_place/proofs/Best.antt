@@ -6,7 +6,7 @@ use Rattle.std.specs.Prelude.{filter}
 use Rattle.oc_model.specs.declared.place.Candidate.{Candidate}
 use Rattle.oc_model.specs.Choice.{is_nearer, is_suitable, nearer_of, nearest}
 use Rattle.oc_place.specs.Best.{nearer_yet, with_rest}
-use Rattle.oc_place.proofs.Order.{nearer_passes, no_nearer_passes}
+use Rattle.oc_place.proofs.Nearer.{nearer_passes, no_nearer_passes}
 
 -- the nearer of two by any test: the second where it is nearer
 abbrev second_if : (Candidate → Candidate → Bool) → Candidate → Candidate → Candidate

@@ -6,7 +6,7 @@ use Rattle.oc_model.specs.declared.place.Candidate.{Candidate}
 use Rattle.oc_model.specs.Choice.{is_nearer, is_suitable, nearer_of, nearest, chosen}
 use Rattle.oc_model.specs.Numbers.{IsAmong}
 use Rattle.oc_place.specs.Chosen.{IsSuitable, IsBest, IsIdOfBest}
-use Rattle.oc_place.proofs.Order.{no_nearer_passes, not_nearer_itself, nearer_one_way, before_is_nearer}
+use Rattle.oc_place.proofs.Nearer.{no_nearer_passes, not_nearer_itself, nearer_one_way, before_is_nearer}
 
 -- what passes the test is suitable
 pub test_suitable : (direct : ℕ) (c : Candidate) → is_suitable direct c ≡ true → IsSuitable direct c

@@ -1,3 +1,7 @@
-pub mod Order
+pub mod Nearer
 pub mod Best
 pub mod Chosen
+pub mod Among
+pub mod Causes
+pub mod Asked
+pub mod Once

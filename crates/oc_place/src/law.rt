@@ -1,8 +1,13 @@
-ghost use Rattle.std.specs.Prelude.{◌≡◌, ℕ, List, Some, None};
-ghost use Rattle.oc_model.specs.declared.place.Candidate.{Candidate};
-ghost use Rattle.oc_model.specs.Choice.{chosen};
+ghost use Rattle.std.specs.Prelude.{◌≡◌, ◌↔◌, ℕ, List, Option, Some, None};
+ghost use Rattle.oc_base.specs.declared.rank.Rank.{Rank};
+ghost use Rattle.oc_base.specs.declared.refusal.Refusal.{Refusal};
+ghost use Rattle.oc_model.specs.Adoption.{Host, adoption_refusal};
+ghost use Rattle.oc_model.specs.Choice.{chosen, ask_order};
 ghost use Rattle.oc_model.specs.Numbers.{IsAmong};
+ghost use Rattle.oc_model.specs.declared.place.Candidate.{Candidate};
+ghost use Rattle.oc_place.specs.Causes.{HasCause, IsFirst};
 ghost use Rattle.oc_place.specs.Chosen.{IsSuitable, IsIdOfBest};
+ghost use Rattle.oc_place.specs.Asked.{IsOnce, MayBeAsked, IsNotLeftOut};
 
 /// What is chosen is the id of a suitable candidate before which no suitable one comes, by hops and
 /// then by id; and none is chosen only where none is suitable.
@@ -11,4 +16,22 @@ pub fn the_nearest_suitable_is_chosen()
         → chosen direct cs ≡ Some k → IsIdOfBest direct cs k }
     ensures none { (direct : ℕ) (cs : List Candidate)
         → chosen direct cs ≡ None → (c : Candidate) → IsAmong c cs → ¬ IsSuitable direct c }
+{}
+
+/// A refusal has a cause, and none before it has one; where there is no refusal, none has a cause.
+pub fn the_first_cause_refuses()
+    ensures refused { (h : Host) (x : ℕ) (r : Option Rank) (why : Refusal)
+        → adoption_refusal h x r ≡ Some why → IsFirst h x r why }
+    ensures adopted { (h : Host) (x : ℕ) (r : Option Rank) (why : Refusal)
+        → adoption_refusal h x r ≡ None → ¬ HasCause h x r why }
+{}
+
+/// Each node that may be asked is asked, once, except for the asker and the one that is left out; and no
+/// other is.
+pub fn each_is_asked_once()
+    ensures once { (me chain : ℕ) (ancestors : List ℕ) (without : Option ℕ)
+        → IsOnce (ask_order me chain ancestors without) }
+    ensures asked { (me chain : ℕ) (ancestors : List ℕ) (without : Option ℕ) (x : ℕ)
+        → IsAmong x (ask_order me chain ancestors without)
+        ↔ (MayBeAsked me chain ancestors x × IsNotLeftOut me without x) }
 {}

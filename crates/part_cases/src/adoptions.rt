@@ -2,7 +2,7 @@
 
 use crate::shown::put_shown;
 use oc_base::{NodeId, Rank};
-use oc_climb::{Host, may_adopt, take_rank};
+use oc_place::{Host, may_adopt, take_rank};
 use std::alloc::Global;
 use test_tools::{Fault, Fields};
 

@@ -2,7 +2,7 @@
 
 use crate::shown::put_shown;
 use oc_base::NodeId;
-use oc_roots::{ask_order, raise};
+use oc_place::{ask_order, raise};
 use std::alloc::Global;
 use test_tools::{Fault, Fields};
 

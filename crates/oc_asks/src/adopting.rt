@@ -2,6 +2,9 @@ ghost use Rattle.std.specs.Prelude.{◌≡◌, OnOk};
 ghost use Rattle.oc_base.specs.Lawful.{IsNode};
 ghost use Rattle.oc_model.specs.Adopting.{raises, raises_over, host, birth, has_lease, grants, sends_rejoin, adopts, asked_at, asked};
 ghost use Rattle.oc_model.specs.Adoption.{adoption_refusal};
+ghost use Rattle.oc_model.specs.Leases.{renew};
+ghost use Rattle.oc_model.specs.Numbers.{raise};
+ghost use Rattle.oc_model.specs.Plan.{with_leases};
 ghost use Rattle.oc_draft.specs.DraftView.{goes};
 
 use oc_base::{Cert, Memory, NodeId, Rank, Refusal};
@@ -45,10 +48,17 @@ fn raise_over(draft: &mut Draft, asker: NodeId, rank: Rank) -> Result<(), Memory
     let standing = draft.standing();
     let own = rank_or_last(standing.rank);
     if is_acting(standing.mode) && !own.precedes(rank) && asker != draft.id() {
-        set_epoch(draft, raise(rank.epoch))
+        set_epoch(draft, epoch_above(rank))
     } else {
         Ok(())
     }
+}
+
+/// The epoch above that of an asker, if there is one.
+fn epoch_above(asker: Rank) -> Option<u64>
+    ensures { result ≡ raise asker.epoch }
+{
+    raise(asker.epoch)
 }
 
 /// Why the node does not become the parent of this asker, if it does not.
@@ -78,13 +88,21 @@ pub fn has_lease(draft: &Draft, child: NodeId, seq: u64) -> bool
     }
 }
 
+/// The lease of a child begins anew.
+fn renew(draft: &mut Draft, child: NodeId) -> Result<(), Memory>
+    requires { IsNode draft.old.base.nodes child }
+    ensures { OnOk result (draft.new ≡ goes draft.old (with_leases draft.old.step (renew draft.old.step.node.leases child draft.old.step.node.soft.clock))) }
+{
+    let now = draft.volatile().clock;
+    draft.touch(Touch::Renew { child, now })
+}
+
 /// A node is a child: its lease begins anew.
 fn grant(draft: &mut Draft, child: NodeId, seq: u64) -> Result<(), Memory>
     requires { IsNode draft.old.base.nodes child }
     ensures { OnOk result (draft.new ≡ goes draft.old (grants draft.old.step child seq)) }
 {
-    let now = draft.volatile().clock;
-    draft.touch(Touch::Renew { child, now })?;
+    renew(draft, child)?;
     let rank = rank_or_last(draft.standing().rank);
     let ancestors = draft.ancestor_list()?;
     draft.send(

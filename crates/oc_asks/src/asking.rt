@@ -1,4 +1,4 @@
-ghost use Rattle.std.specs.Prelude.{◌≡◌, ◌<◌, OnOk};
+ghost use Rattle.std.specs.Prelude.{◌≡◌, ◌+◌, ◌<◌, ◌^◌, OnOk, SomeIff};
 ghost use Rattle.oc_model.specs.Asking.{lost, send_ask, ask, next_epoch, act, descend, try_at, try_first, next_try, round, ask_before, joins, took_yes, refused, took_no, not_seen, unreachable, relocate};
 ghost use Rattle.oc_draft.specs.DraftView.{goes};
 
@@ -38,11 +38,18 @@ pub fn send_ask(draft: &mut Draft, peer: NodeId) -> Result<(), Memory>
     )
 }
 
+/// The number after this one, if there is one.
+fn next_number(seq: u64) -> Option<u64>
+    ensures { SomeIff result (seq + 1 < 2 ^ 64) (seq + 1) }
+{
+    seq.checked_add(1)
+}
+
 /// A peer is asked to be the parent, by the next number if there is one.
 pub fn ask(draft: &mut Draft, peer: NodeId) -> Result<(), Memory>
     ensures { OnOk result (draft.new ≡ goes draft.old (ask draft.old.step peer)) }
 {
-    match draft.standing().seq.checked_add(1) {
+    match next_number(draft.standing().seq) {
         Some(seq) => {
             draft.write(Record::Ask { seq, peer })?;
             draft.search(None);

@@ -182,7 +182,14 @@ fn keep_line(draft: &mut Draft, from: NodeId, stand: &Stand) -> Result<(), Memor
 fn is_review(draft: &Draft, from: NodeId) -> bool
     ensures { result ≡ is_joined_to draft.now.step.node.kept.mode from && is_reviewing draft.now.step.node.soft.search }
 {
-    is_joined_to(draft.standing().mode, from) && is_reviewing(draft.volatile().search)
+    is_parent(draft, from) && is_reviewing(draft.volatile().search)
+}
+
+/// Whether this node is the parent.
+fn is_parent(draft: &Draft, from: NodeId) -> bool
+    ensures { result ≡ is_joined_to draft.now.step.node.kept.mode from }
+{
+    is_joined_to(draft.standing().mode, from)
 }
 
 /// A node tells its position.

@@ -2,7 +2,7 @@ ghost use Rattle.std.specs.Prelude.{◌≡◌, ◌+◌, ◌<◌, ◌≤◌, ◌^
 ghost use Rattle.oc_base.specs.Lawful.{IsCert};
 ghost use Rattle.oc_base.specs.declared.limits.TheConstants.{MAX_BASE_ACKED, MAX_NODES};
 ghost use Rattle.oc_model.specs.Lawful.{AreRecords, IsRecord};
-ghost use Rattle.oc_model.specs.Node.{new_durable};
+ghost use Rattle.oc_model.specs.Node.{empty_log, new_durable};
 ghost use Rattle.oc_model.specs.Records.{fold_one, folded, noted};
 ghost use Rattle.oc_model.specs.Table.{merge};
 ghost use Rattle.oc_state.specs.DurableView.{DurableView, HasRoom, IsKept};
@@ -212,7 +212,7 @@ impl Durable {
         let is_joined = self.standing.is_joined();
         self.standing = self.standing.after(&change);
         match change {
-            Record::Ask { .. } | Record::Lost => self.log.clear(),
+            Record::Ask { .. } | Record::Lost => leave_parent(&mut self.log),
             Record::Joined { .. } if has_asked => self.log.begin(&self.table),
             Record::Acting => {
                 self.log.clear();
@@ -243,6 +243,15 @@ impl Durable {
             _ => {}
         }
     }
+}
+
+/// A node that asks anew, or lost its parent, has nothing to tell that one.
+fn leave_parent(log: &mut ChangeLog)
+    ensures log { log.new.log ≡ empty_log }
+    ensures nodes { log.new.nodes ≡ log.old.nodes }
+    ensures room { log.new.room ≡ log.old.room }
+{
+    log.clear();
 }
 
 /// Merges a certificate into the table. The log takes it where the node is joined.

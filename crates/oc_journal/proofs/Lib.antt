@@ -5,5 +5,6 @@ pub mod Writes
 pub mod Spots
 pub mod Gates
 pub mod Loads
+pub mod LoadRuns
 pub mod AfterStop
 pub mod ReadRuns

@@ -1,12 +1,12 @@
 -- The fields of each kind are read exactly where their texts are there.
-use Rattle.std.proofs.Common.{◌≡◌, ℕ, ◌^◌, ◌<◌, ◌≤◌, Bool, List, ◌++◌, Ok, refl, sym, ◌∙◌, arith}
+use Rattle.std.proofs.Common.{◌≡◌, ℕ, ◌^◌, ◌<◌, Bool, List, Ok, refl, sym, ◌∙◌, arith}
 use Rattle.std.specs.Int.{w64}
 use Rattle.oc_base.specs.declared.cert.Cert.{Cert}
 use Rattle.oc_base.specs.declared.limits.TheConstants.{MAX_BASE_ACKED}
 use Rattle.oc_base.specs.declared.rank.Rank.{Rank}
-use Rattle.oc_base.specs.Reading.{Reading, within_at, byte_at, long_at, count_at, id_at, rate_at, flag_at, rank_at, cert_at, ancestors_at}
+use Rattle.oc_base.specs.Reading.{Reading, byte_at, long_at, count_at, id_at, rate_at, flag_at, rank_at}
 use Rattle.oc_base.proofs.TextsAt.{IsBytes, Takes, wide64}
-use Rattle.oc_base.proofs.FieldReads.{Reads, reads_within, reads_byte, reads_long, reads_count, reads_id, reads_rate, reads_flag}
+use Rattle.oc_base.proofs.FieldReads.{reads_within, reads_byte, reads_long, reads_count, reads_id, reads_rate, reads_flag}
 use Rattle.oc_base.proofs.PairReads.{reads_pair, two_are, three_are, four_are, made_takes, made_again, reads_rank, reads_cert}
 use Rattle.oc_base.proofs.ListReads.{reads_ancestors}
 use Rattle.oc_model.specs.Lawful.{IsRecord}

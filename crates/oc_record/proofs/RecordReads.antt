@@ -1,7 +1,6 @@
 -- A record is read exactly where its text is there.
-use Rattle.std.proofs.Common.{◌≡◌, ℕ, ◌+◌, ◌^◌, ◌<◌, ◌==◌, Bool, true, List, [], ◌∷◌, length, Result, Ok, Err, refl, sym, ap, subst, arith}
+use Rattle.std.proofs.Common.{◌≡◌, ℕ, ◌+◌, ◌^◌, ◌<◌, ◌==◌, true, List, [], ◌∷◌, Result, Ok, Err, refl, sym, ap, subst, arith}
 use Rattle.std.proofs.lemmas.Bool.{eqb-true}
-use Rattle.oc_base.specs.Steps.{◌>>=◌}
 use Rattle.oc_base.specs.Reading.{Reading, byte_at}
 use Rattle.oc_base.proofs.TextsAt.{IsBytes, Takes, takes_both, takes_first, takes_second, takes_nothing, bind_ok, tested}
 use Rattle.oc_base.proofs.FieldReads.{reads_byte}

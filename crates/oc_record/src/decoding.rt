@@ -1,5 +1,6 @@
 ghost use Rattle.std.specs.Prelude.{◌≡◌, ◌+◌, ◌<◌, ◌⊎◌, List, IfOk, IfSome, IfNone};
 ghost use Rattle.oc_model.specs.declared.record.Record.{Record};
+ghost use Rattle.oc_record.specs.Faults.{of_field};
 ghost use Rattle.oc_record.specs.Reading.{Gives, GivesList, fields_at, record_at, decoded};
 ghost use Rattle.oc_record.specs.Spelling.{records_bytes};
 ghost use Rattle.oc_model.specs.Lawful.{AreRecords};
@@ -11,7 +12,7 @@ use crate::kinds::{
 };
 use crate::{Record, RecordFault};
 use oc_base::reading::byte_at;
-use oc_base::row_of;
+use oc_base::{FieldFault, row_of};
 use std::alloc::Global;
 
 /// The records that the bytes spell for `nodes` nodes: all of the bytes, or the first fault.
@@ -56,7 +57,6 @@ fn record_at(
 }
 
 /// The record of the kind with this code, by the row that the code has.
-#[tactic(auto, using(crate::proofs::Lifts::fault_given), unfolding(crate::specs::Reading::fields_at))]
 fn fields_at(
     alloc: Global,
     code: u8,
@@ -67,30 +67,37 @@ fn fields_at(
     ensures { Gives result (fields_at code nodes bytes.now at) }
 {
     macro_rules! by_row {
-        ($row:expr; $($place:literal => $record:expr,)*) => {
+        ($row:expr; $($place:literal => $read:expr,)*) => {
             match $row {
-                $(Some($place) => Ok($record),)*
+                $(Some($place) => record_of($read),)*
                 _ => Err(RecordFault::Kind(code)),
             }
         };
     }
     by_row! {
         row_with(code);
-        0 => ask_at(nodes, bytes, at)?,
-        1 => joined_at(nodes, bytes, at)?,
-        2 => (Record::Lost, at),
-        3 => (Record::Acting, at),
-        4 => ranked_at(bytes, at)?,
-        5 => old_entry_at(nodes, bytes, at)?,
-        6 => acked_at(bytes, at)?,
-        7 => ancestors_record_at(alloc, nodes, bytes, at)?,
-        8 => rate_record_at(nodes, bytes, at)?,
-        9 => epoch_at(bytes, at)?,
-        10 => base_at(bytes, at)?,
-        11 => snapshot_at(bytes, at)?,
-        12 => entry_at(nodes, bytes, at)?,
-        13 => info_at(bytes, at)?,
+        0 => ask_at(nodes, bytes, at),
+        1 => joined_at(nodes, bytes, at),
+        2 => Ok((Record::Lost, at)),
+        3 => Ok((Record::Acting, at)),
+        4 => ranked_at(bytes, at),
+        5 => old_entry_at(nodes, bytes, at),
+        6 => acked_at(bytes, at),
+        7 => ancestors_record_at(alloc, nodes, bytes, at),
+        8 => rate_record_at(nodes, bytes, at),
+        9 => epoch_at(bytes, at),
+        10 => base_at(bytes, at),
+        11 => snapshot_at(bytes, at),
+        12 => entry_at(nodes, bytes, at),
+        13 => info_at(bytes, at),
     }
+}
+
+/// What was read, with the fault of a field as that of the record.
+fn record_of(read: Result<(Record, usize), FieldFault>) -> Result<(Record, usize), RecordFault>
+    ensures { result ≡ of_field read }
+{
+    Ok(read?)
 }
 
 /// The row of the codes that has this code.

@@ -44,11 +44,11 @@ none_written count blank xs none =
 pub value_written : {X : Type 0} (count place : ℕ) (blank other : X) (xs : List X) → place < length xs → get_or (filled_up count blank xs) place other ≡ get_or xs place other
 value_written count place blank other xs within = get_or_append_left xs (replicate (count - length xs) blank) other place within
 
--- one behind them has the blank value
+-- a place after those has the blank value
 pub value_blank : {X : Type 0} (count place : ℕ) (blank other : X) (xs : List X) → length xs ≤ place → place < count → get_or (filled_up count blank xs) place other ≡ blank
-value_blank count place blank other xs behind within =
-    get_or-append_right xs (replicate (count - length xs) blank) (length xs) place other refl behind
-    ∙ get_or-replicate (count - length xs) (place - length xs) blank other (omega (arith, behind, within))
+value_blank count place blank other xs after within =
+    get_or-append_right xs (replicate (count - length xs) blank) (length xs) place other refl after
+    ∙ get_or-replicate (count - length xs) (place - length xs) blank other (omega (arith, after, within))
 
 -- and past the last there is none
 pub value_past : {X : Type 0} (count place : ℕ) (blank other : X) (xs : List X) → length xs ≤ count → count ≤ place → get_or (filled_up count blank xs) place other ≡ other

@@ -1,10 +1,10 @@
-use Rattle.std.proofs.Common.{ℕ, ◌≡◌, ◌+◌, ◌<◌, IsTrue, IfSome, Option, Err, List, refl, sym, ◌∙◌, ap, subst, arith}
-use Rattle.std.specs.Result.{IsErrOf}
+use Rattle.std.proofs.Common.{ℕ, ◌+◌, ◌<◌, IsTrue, IfSome, Option, List, refl, sym, ◌∙◌, subst, arith}
 use Rattle.std.proofs.lemmas.Result.{err_from_is_err_and}
 use Rattle.oc_journal.specs.declared.spot.Spot.{Spot}
 use Rattle.oc_io.proofs.DiskMoments.{still_honest, StaysAsItWas-then, StaysAsItWas-none}
 use Rattle.oc_journal.specs.Scanning.{IsGate, IsBrokenAt, IsScanned}
 use Rattle.oc_journal.proofs.Gates.{IsGate-earlier, IsScanned-start, IsScanned-more, IsFound-shut, IsNoJournal-broken}
+use Rattle.oc_journal.proofs.LoadRuns.{same_error}
 use Rattle.oc_journal.proofs.loading.find_frames.Goals as goal
 
 pub loop-spots-init : goal.loop-spots-init
@@ -16,10 +16,6 @@ loop-spots-init g c =
       no_fault = refl;
       size = refl;
     }
-
--- an error with a value of another type
-same_error : {A B E : Type 0} (x y : E) → IsErrOf {T = A} {E = E} (Err x) y → IsErrOf {T = B} {E = E} (Err x) y
-same_error x y is = let same : x ≡ y = cc in ap Err same
 
 -- the gate that was read is one of the old file
 pub loop-spots-preserved : goal.loop-spots-preserved

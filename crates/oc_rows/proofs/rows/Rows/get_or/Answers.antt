@@ -16,8 +16,8 @@ pub returns-in-None : goal.returns-in-None
 returns-in-None g c =
     let rows = c.self.inside in
     let none = c.in-None.ensures in
-    let behind : length rows.written.items ≤ c.args.place = omega arith in
-    sym (value_blank rows.count c.args.place rows.blank c.args.other rows.written.items behind (omega arith))
+    let after : length rows.written.items ≤ c.args.place = omega arith in
+    sym (value_blank rows.count c.args.place rows.blank c.args.other rows.written.items after (omega arith))
     ∙ ap (λ v. get_or v.items c.args.place c.args.other) c.self.view_is
 
 pub returns-in-None-2 : goal.returns-in-None-2

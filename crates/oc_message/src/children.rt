@@ -1,6 +1,6 @@
 //! The fields of a `LookIs`: its children have ascending ids.
 
-ghost use Rattle.std.specs.Prelude.{◌≡◌};
+ghost use Rattle.std.specs.Prelude.{◌≡◌, nat_lt};
 ghost use Rattle.oc_base.specs.Reading.{items_at, Gives};
 ghost use Rattle.oc_fields.specs.Reading.{child_at, children_at, look_is_at};
 
@@ -80,7 +80,7 @@ fn child_at(
     ensures { result ≡ child_at before nodes bytes.now at }
 {
     let (id, next) = u32_within_at(0, nodes, bytes, at)?;
-    if id <= before.0 {
+    if !is_greater(id, before.0) {
         return Err(FieldFault::Value);
     }
     let (rate, next) = rate_at(bytes, next)?;
@@ -89,4 +89,11 @@ fn child_at(
         rate,
     };
     Ok((child, next))
+}
+
+/// Whether an id is greater than the one before it.
+fn is_greater(id: u32, before: u32) -> bool
+    ensures { result ≡ nat_lt before id }
+{
+    before < id
 }

@@ -1,4 +1,4 @@
-ghost use Rattle.std.specs.Prelude.{◌≡◌};
+ghost use Rattle.std.specs.Prelude.{◌≡◌, ◌&&◌};
 ghost use Rattle.oc_base.specs.Reading as fields;
 ghost use Rattle.oc_message.specs.Reading.{Gives, body_at, closed, decoded, fields_at, is_node, message_at};
 
@@ -33,7 +33,7 @@ fn message_at(
 ) -> Result<Message, WireFault>
     ensures { Gives result (message_at nodes from to code bytes.now at) }
 {
-    if !is_node(nodes, from) || !is_node(nodes, to) {
+    if !are_nodes(nodes, from, to) {
         return Err(WireFault::Stranger);
     }
     let body = body_at(alloc, code, nodes, bytes, at)?;
@@ -53,6 +53,13 @@ fn closed(from: u32, to: u32, end: usize, body: (Body, usize)) -> Result<Message
         to: NodeId(to),
         body,
     })
+}
+
+/// Whether both are ids of nodes.
+fn are_nodes(nodes: u32, from: u32, to: u32) -> bool
+    ensures { result ≡ (is_node nodes from && is_node nodes to) }
+{
+    is_node(nodes, from) && is_node(nodes, to)
 }
 
 /// Whether this is the id of one of `nodes` nodes.

@@ -1,5 +1,6 @@
 //! What plain words say of a request.
-ghost use Rattle.std.specs.Prelude.{◌≡◌, IfOk, option_map};
+ghost use Rattle.std.specs.Prelude.{◌≡◌, ◌≤◌, min, IfOk, option_map};
+ghost use Rattle.oc_base.specs.Words.{number_in};
 ghost use Rattle.oc_requests.specs.Requests.{IsMember, IsSample, IsService, IsTimes, member_in, sample_in, service_in, times_in};
 
 use crate::request::{MAX_EVENTS, MAX_FOLLOWED, MAX_TURNS, Member, Sample, Service};
@@ -28,9 +29,17 @@ pub fn service_in(id: &str, turns: &str, probes: bool) -> Result<Service, Why>
 {
     Ok(Service {
         id: number(id.as_bytes(), 0, u64::MAX)?,
-        turns: number(turns.as_bytes(), 0, MAX_TURNS)?,
+        turns: turns_in(turns)?,
         probes,
     })
+}
+
+/// The number of turns that a word asks for.
+fn turns_in(word: &str) -> Result<u64, Why>
+    ensures said { result ≡ number_in 0 MAX_TURNS word.now }
+    ensures range { IfOk result (λ turns. turns ≤ MAX_TURNS) }
+{
+    number(word.as_bytes(), 0, MAX_TURNS)
 }
 
 /// The node that three words ask for.
@@ -39,13 +48,20 @@ pub fn member_in(id: &str, nodes: &str, chain: &str) -> Result<Member, Why>
     ensures range { IfOk result IsMember }
 {
     let nodes = number(nodes.as_bytes(), 1, u64::from(MAX_NODES))?;
-    let chain = number(chain.as_bytes(), 1, nodes.min(u64::from(MAX_CHAIN)))?;
+    let chain = number(chain.as_bytes(), 1, longest_chain(nodes))?;
     let id = number(id.as_bytes(), 1, nodes)?;
     Ok(Member {
         id: id as u32,
         nodes: nodes as u32,
         chain: chain as u32,
     })
+}
+
+/// How many chain members there can be among this many nodes.
+fn longest_chain(nodes: u64) -> u64
+    ensures { result ≡ min nodes MAX_CHAIN }
+{
+    nodes.min(u64::from(MAX_CHAIN))
 }
 
 /// How many replies are followed, by the word of the option.

@@ -2,13 +2,13 @@
 
 ghost use Rattle.oc_base.specs.Names.{IsGroupName};
 
-use crate::shown::{Crash, put_shown};
+use crate::crash::Crash;
 use oc_base::{GroupName, Shelf};
 use oc_content::{AppendError, Content, ContentError, ReadError};
 use oc_io::Disk;
 use std::alloc::Global;
 use std::str::SplitAsciiWhitespace;
-use test_tools::{Fault, Fields, Step, disk_in, group_in, put_disk, put_hex};
+use test_tools::{Fault, Fields, Step, disk_in, group_in, put_disk, put_hex, put_shown};
 
 /// The most bytes that a piece has.
 const MOST: usize = 1_000_000;

@@ -1,11 +1,11 @@
 //! The journal of a disk: what is appended, restarted, read and recovered.
 
-use crate::shown::{Crash, put_shown};
+use crate::crash::Crash;
 use oc_io::Disk;
 use oc_journal::{Frame, Journal, LoadError};
 use std::alloc::Global;
 use std::str::SplitAsciiWhitespace;
-use test_tools::{Fault, Fields, Step, disk_in, put_disk, put_hex};
+use test_tools::{Fault, Fields, Step, disk_in, put_disk, put_hex, put_shown};
 
 /// Puts the words of a row: what each step says, and then what the disk holds after a crash.
 pub fn put_words(alloc: Global, given: &str, said: &mut String) -> Result<(), Fault> {

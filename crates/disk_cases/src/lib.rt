@@ -6,9 +6,9 @@
 #![tactic(auto)]
 
 mod contents;
+mod crash;
 mod journals;
 mod records;
-mod shown;
 mod stores;
 
 use std::alloc::Global;
@@ -19,21 +19,14 @@ use test_tools::{Cases, Fault};
 struct Rows;
 
 impl Cases for Rows {
-    fn words(alloc: Global, table: &str, given: &str) -> Result<String, Fault> {
-        let mut said = String::new(alloc);
-        put_words(alloc, table, given, &mut said)?;
-        Ok(said)
-    }
-}
-
-/// Puts the words of a row.
-fn put_words(alloc: Global, table: &str, given: &str, said: &mut String) -> Result<(), Fault> {
-    match table {
-        "journals" => journals::put_words(alloc, given, said),
-        "records" => records::put_words(alloc, given, said),
-        "stores" => stores::put_words(alloc, given, said),
-        "contents" => contents::put_words(alloc, given, said),
-        _ => Err(Fault::Field),
+    fn put_words(alloc: Global, table: &str, given: &str, said: &mut String) -> Result<(), Fault> {
+        match table {
+            "journals" => journals::put_words(alloc, given, said),
+            "records" => records::put_words(alloc, given, said),
+            "stores" => stores::put_words(alloc, given, said),
+            "contents" => contents::put_words(alloc, given, said),
+            _ => Err(Fault::Field),
+        }
     }
 }
 

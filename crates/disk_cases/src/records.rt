@@ -3,10 +3,9 @@
 ghost use Rattle.std.specs.Prelude.{◌≡◌, IfSome};
 ghost use Rattle.oc_record.specs.Spelling.{records_bytes};
 
-use crate::shown::put_shown;
 use oc_record::{Record, decode, encode, spellings_are_read};
 use std::alloc::Global;
-use test_tools::{Fault, Fields, put_hex};
+use test_tools::{Fault, Fields, put_hex, put_shown};
 
 /// Puts the words of a row: the records of the bytes, or their fault. Where they are written otherwise, the
 /// bytes follow.

@@ -3,13 +3,13 @@
 ghost use Rattle.std.specs.Prelude.{◌≤◌, length};
 ghost use Rattle.oc_record.specs.Spelling.{HaveSpellings, records_bytes};
 
-use crate::shown::{Crash, put_shown};
+use crate::crash::Crash;
 use oc_base::MAX_FRAME_BYTES;
 use oc_io::Disk;
 use oc_store::{Record, Store, StoreError};
 use std::alloc::Global;
 use std::str::SplitAsciiWhitespace;
-use test_tools::{Fault, Fields, Step, disk_in, put_disk};
+use test_tools::{Fault, Fields, Step, disk_in, put_disk, put_shown};
 
 /// How many nodes there are.
 const NODES: u32 = 2;

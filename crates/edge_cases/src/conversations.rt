@@ -19,16 +19,34 @@ pub fn put_words(alloc: Global, given: &str, said: &mut String) -> Result<(), Fa
     let mut fields = Fields::of(given, ' ');
     let call = Step::of(fields.text());
     let address = text_in(alloc, fields.text())?;
-    let cut = fields.small()? as usize;
+    put_conversation(alloc, call, &address, fields, said)
+}
+
+/// Puts the words of a call for this address, where the fields have the link and the sink.
+fn put_conversation(
+    alloc: Global,
+    call: Step<'_>,
+    address: &[u8],
+    mut fields: Fields<'_>,
+    said: &mut String,
+) -> Result<(), Fault> {
+    let cut = fields.small()?;
+    let link_fails = fields.text();
+    let mut sink = MemSink::new(alloc, ROOM, fields.numbers(alloc)?)?;
+    let mut link = link_in(alloc, fields.list(), cut, link_fails)?;
+    let end = download(alloc, call, address, &mut link, &mut sink)?;
+    tell(end, &link, &sink, said)
+}
+
+/// A link with these replies, of which one read gives at most `cut` bytes, and whose calls of these numbers fail.
+fn link_in(alloc: Global, replies: Fields<'_>, cut: u32, fails: &str) -> Result<MemLink, Fault> {
+    let cut = cut as usize;
     if cut < 1 {
         return Err(Fault::Field);
     }
-    let link_fails = fields.numbers(alloc)?;
-    let mut sink = MemSink::new(alloc, ROOM, fields.numbers(alloc)?)?;
-    let replies = texts_in(alloc, fields.list())?;
-    let mut link = MemLink::new(alloc, Vec::new(alloc), replies, ROOM, cut, link_fails)?;
-    let end = download(alloc, call, &address, &mut link, &mut sink)?;
-    tell(end, &link, &sink, said)
+    let replies = texts_in(alloc, replies)?;
+    let fails = Fields::of(fails, ' ').numbers(alloc)?;
+    Ok(MemLink::new(alloc, Vec::new(alloc), replies, ROOM, cut, fails)?)
 }
 
 /// Makes the call of a row.

@@ -21,23 +21,16 @@ use test_tools::{Cases, Fault};
 struct Rows;
 
 impl Cases for Rows {
-    fn words(alloc: Global, table: &str, given: &str) -> Result<String, Fault> {
-        let mut said = String::new(alloc);
-        put_words(alloc, table, given, &mut said)?;
-        Ok(said)
-    }
-}
-
-/// Puts the words of a row.
-fn put_words(alloc: Global, table: &str, given: &str, said: &mut String) -> Result<(), Fault> {
-    match table {
-        "clocks" => clocks::put_words(alloc, given, said),
-        "links" => links::put_words(alloc, given, said),
-        "rates" => rates::put_words(given, said),
-        "peers" => peers::put_words(alloc, given, said),
-        "probes" => probes::put_words(alloc, given, said),
-        "conversations" => conversations::put_words(alloc, given, said),
-        _ => Err(Fault::Field),
+    fn put_words(alloc: Global, table: &str, given: &str, said: &mut String) -> Result<(), Fault> {
+        match table {
+            "clocks" => clocks::put_words(alloc, given, said),
+            "links" => links::put_words(alloc, given, said),
+            "rates" => rates::put_words(given, said),
+            "peers" => peers::put_words(alloc, given, said),
+            "probes" => probes::put_words(alloc, given, said),
+            "conversations" => conversations::put_words(alloc, given, said),
+            _ => Err(Fault::Field),
+        }
     }
 }
 

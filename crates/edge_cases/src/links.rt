@@ -4,7 +4,7 @@ use oc_outside::{Arrival, Link, MemLink};
 use std::alloc::Global;
 use test_tools::{Fault, Fields, Step, put_hex};
 
-/// More pieces or calls than a row has.
+/// More calls than a row has.
 const MOST: u32 = 100;
 
 /// Puts the words of a row: what each call says.
@@ -16,29 +16,17 @@ pub fn put_words(alloc: Global, given: &str, said: &mut String) -> Result<(), Fa
 
 /// The link of the first fields.
 fn link_in(alloc: Global, fields: &mut Fields<'_>) -> Result<MemLink, Fault> {
-    let arrivals = fields.list();
-    let replies = fields.list();
+    let mut arrivals = fields.list();
+    let mut replies = fields.list();
     let room = fields.small()? as usize;
     let cut = fields.small()? as usize;
     if cut < 1 {
         return Err(Fault::Field);
     }
     let fails = fields.numbers(alloc)?;
-    let arrivals = pieces_in(alloc, arrivals)?;
-    let replies = pieces_in(alloc, replies)?;
+    let arrivals = arrivals.all_bytes(alloc)?;
+    let replies = replies.all_bytes(alloc)?;
     Ok(MemLink::new(alloc, arrivals, replies, room, cut, fails)?)
-}
-
-/// The byte strings of a list, in hexadecimal.
-fn pieces_in(alloc: Global, mut list: Fields<'_>) -> Result<Vec<Vec<u8>>, Fault> {
-    let mut pieces = Vec::new(alloc);
-    for _ in 0..MOST {
-        if list.is_empty() {
-            break;
-        }
-        pieces.push(list.bytes(alloc)?)?;
-    }
-    Ok(pieces)
 }
 
 /// Makes the calls, and puts what each says.

@@ -13,21 +13,13 @@ use test_tools::{Fault, Fields, Step, group_in, put_hex};
 /// More steps than a row has.
 const MOST_STEPS: u32 = 100;
 
-/// The words of a row: what each step says, or why the node was not loaded, and then what the disks hold
+/// Puts the words of a row: what each step says, or why the node was not loaded, and then what the disks hold
 /// after a crash.
-pub fn words<D: RowDisk>(alloc: Global, given: &str) -> Result<String, Fault> {
+pub fn put_words<D: RowDisk>(alloc: Global, given: &str, said: &mut String) -> Result<(), Fault> {
     let given = Given::of(given);
-    let mut said = String::new(alloc);
-    play::<D>(alloc, &given, &mut said)?;
-    Ok(said)
-}
-
-/// Plays a row, and puts what it says.
-fn play<D: RowDisk>(alloc: Global, given: &Given<'_>, said: &mut String) -> Result<(), Fault> {
     let me = given.id()?;
-    let files = Files::<D>::of(alloc, given)?;
-    match load(alloc, me, files)? {
-        Ok(kept) => play_loaded(alloc, given, me, kept, said),
+    match load(alloc, me, Files::<D>::of(alloc, &given)?)? {
+        Ok(kept) => play_loaded(alloc, &given, me, kept, said),
         Err((files, error)) => {
             write!(said, "{error:?} ")?;
             show(alloc, given.shown, me, files, said)

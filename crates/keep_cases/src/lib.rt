@@ -2,7 +2,7 @@
 //! name and `ok`, or what came in place of what has to come.
 //!
 //! Each table is a file in `crates/cases/data/keep`, whose first lines say how its rows are written, and a module
-//! that gives the words of a row.
+//! that puts the words of a row.
 #![tactic(auto)]
 
 mod acts;
@@ -24,12 +24,12 @@ use test_tools::{Cases, Fault};
 struct Rows;
 
 impl Cases for Rows {
-    fn words(alloc: Global, table: &str, given: &str) -> Result<String, Fault> {
+    fn put_words(alloc: Global, table: &str, given: &str, said: &mut String) -> Result<(), Fault> {
         match table {
-            "steps" => steps::words(alloc, given),
-            "keeps" => keeps::words::<MemDisk>(alloc, given),
-            "trials" => trials::words::<MemDisk>(alloc, given),
-            "stops" => stops::words::<MemDisk>(alloc, given),
+            "steps" => steps::put_words(alloc, given, said),
+            "keeps" => keeps::put_words::<MemDisk>(alloc, given, said),
+            "trials" => trials::put_words::<MemDisk>(alloc, given, said),
+            "stops" => stops::put_words::<MemDisk>(alloc, given, said),
             _ => Err(Fault::Field),
         }
     }

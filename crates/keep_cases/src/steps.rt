@@ -23,15 +23,9 @@ use test_tools::{Fault, Fields, Step, group_in};
 /// More steps than a row has.
 const MOST_STEPS: u32 = 100;
 
-/// The words of a row: what each step says.
-pub fn words(alloc: Global, given: &str) -> Result<String, Fault> {
-    let mut said = String::new(alloc);
-    play(alloc, Fields::of(given, ' '), &mut said)?;
-    Ok(said)
-}
-
-/// Plays a row, and puts what each step says.
-fn play(alloc: Global, mut fields: Fields<'_>, said: &mut String) -> Result<(), Fault> {
+/// Puts the words of a row: what each step says.
+pub fn put_words(alloc: Global, given: &str, said: &mut String) -> Result<(), Fault> {
+    let mut fields = Fields::of(given, ' ');
     let mut node = node_in(alloc, &mut fields)?;
     let acted = act_all(alloc, &mut node, fields, said);
     drop(node);

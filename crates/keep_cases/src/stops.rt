@@ -14,10 +14,10 @@ struct Stopped<'a> {
     files: &'a str,
 }
 
-/// The words of a row: for each of 0 to 4 calls a word, with a letter for each of the images 0, 1 and 7: `o`
+/// Puts the words of a row: for each of 0 to 4 calls a word, with a letter for each of the images 0, 1 and 7: `o`
 /// where a crash leaves the node as it was, `n` where it leaves the node after the input, `=` where they are
 /// the same, and `?` where it leaves another.
-pub fn words<D: RowDisk>(alloc: Global, given: &str) -> Result<String, Fault> {
+pub fn put_words<D: RowDisk>(alloc: Global, given: &str, said: &mut String) -> Result<(), Fault> {
     let (loading, given) = given.split_once(' ').unwrap_or((given, ""));
     let (step, files) = given.split_once(' ').unwrap_or((given, ""));
     let stopped = Stopped {
@@ -25,9 +25,7 @@ pub fn words<D: RowDisk>(alloc: Global, given: &str) -> Result<String, Fault> {
         step,
         files,
     };
-    let mut said = String::new(alloc);
-    play::<D>(alloc, &stopped, &mut said)?;
-    Ok(said)
+    play::<D>(alloc, &stopped, said)
 }
 
 /// Plays a row, and puts its letters.
@@ -80,7 +78,9 @@ fn left<D: RowDisk>(
 /// The words of a step at the node of these files.
 fn crashed<D: RowDisk>(alloc: Global, files: &str, step: &str) -> Result<String, Fault> {
     let row = format!(in alloc; "node {files} {step}")?;
-    keeps::words::<D>(alloc, row.as_str())
+    let mut said = String::new(alloc);
+    keeps::put_words::<D>(alloc, row.as_str(), &mut said)?;
+    Ok(said)
 }
 
 /// The letter of the words that a stop leaves.

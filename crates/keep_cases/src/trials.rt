@@ -18,19 +18,12 @@ use test_tools::{Fault, Fields, Step};
 /// More inputs than a row has.
 const MOST_INPUTS: u32 = 100;
 
-/// The words of a row: how many inputs were taken, why the trial ended, and then what the disks hold after a
+/// Puts the words of a row: how many inputs were taken, why the trial ended, and then what the disks hold after a
 /// crash.
-pub fn words<D: RowDisk>(alloc: Global, given: &str) -> Result<String, Fault> {
+pub fn put_words<D: RowDisk>(alloc: Global, given: &str, said: &mut String) -> Result<(), Fault> {
     let given = Given::of(given);
-    let mut said = String::new(alloc);
-    play::<D>(alloc, &given, &mut said)?;
-    Ok(said)
-}
-
-/// Plays a row, and puts what it says.
-fn play<D: RowDisk>(alloc: Global, given: &Given<'_>, said: &mut String) -> Result<(), Fault> {
     let me = given.id()?;
-    let files = Files::<D>::of(alloc, given)?;
+    let files = Files::<D>::of(alloc, &given)?;
     let (files, trial) = tried(alloc, me, given.steps, files)?;
     put_trial(&trial, said)?;
     show(alloc, given.shown, me, files, said)

@@ -1,10 +1,9 @@
 //! Adoption: whom a host refuses, and which rank is taken.
 
-use crate::shown::put_shown;
 use oc_base::{NodeId, Rank};
 use oc_place::{Host, may_adopt, take_rank};
 use std::alloc::Global;
-use test_tools::{Fault, Fields};
+use test_tools::{Fault, Fields, put_shown};
 
 /// Puts the words of a row: the refusal or `ok`, or the rank that is taken.
 pub fn put_words(alloc: Global, given: &str, said: &mut String) -> Result<(), Fault> {

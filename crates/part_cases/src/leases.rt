@@ -2,13 +2,12 @@
 
 ghost use Rattle.std.specs.Prelude.{◌≡◌, ◌≤◌, length};
 
-use crate::shown::put_shown;
 use crate::tables::{merge, table_in};
 use oc_cert::Table;
 use oc_updown::Leases;
 use std::alloc::Global;
 use std::str::SplitAsciiWhitespace;
-use test_tools::{Fault, Fields, Step, cert_in};
+use test_tools::{Fault, Fields, Step, cert_in, put_shown};
 
 /// The number of nodes.
 const NODES: u32 = 6;

@@ -12,7 +12,6 @@ mod measures;
 mod places;
 mod redirects;
 mod roots;
-mod shown;
 mod tables;
 
 use std::alloc::Global;
@@ -23,25 +22,18 @@ use test_tools::{Cases, Fault};
 struct Rows;
 
 impl Cases for Rows {
-    fn words(alloc: Global, table: &str, given: &str) -> Result<String, Fault> {
-        let mut said = String::new(alloc);
-        put_words(alloc, table, given, &mut said)?;
-        Ok(said)
-    }
-}
-
-/// Puts the words of a row.
-fn put_words(alloc: Global, table: &str, given: &str, said: &mut String) -> Result<(), Fault> {
-    match table {
-        "tables" => tables::put_words(alloc, given, said),
-        "logs" => logs::put_words(alloc, given, said),
-        "leases" => leases::put_words(alloc, given, said),
-        "adoptions" => adoptions::put_words(alloc, given, said),
-        "places" => places::put_words(alloc, given, said),
-        "roots" => roots::put_words(alloc, given, said),
-        "measures" => measures::put_words(alloc, given, said),
-        "redirects" => redirects::put_words(alloc, given, said),
-        _ => Err(Fault::Field),
+    fn put_words(alloc: Global, table: &str, given: &str, said: &mut String) -> Result<(), Fault> {
+        match table {
+            "tables" => tables::put_words(alloc, given, said),
+            "logs" => logs::put_words(alloc, given, said),
+            "leases" => leases::put_words(alloc, given, said),
+            "adoptions" => adoptions::put_words(alloc, given, said),
+            "places" => places::put_words(alloc, given, said),
+            "roots" => roots::put_words(alloc, given, said),
+            "measures" => measures::put_words(alloc, given, said),
+            "redirects" => redirects::put_words(alloc, given, said),
+            _ => Err(Fault::Field),
+        }
     }
 }
 

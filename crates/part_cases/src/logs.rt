@@ -2,13 +2,12 @@
 
 ghost use Rattle.std.specs.Prelude.{◌≡◌, ◌<◌, ◌≤◌, IfOk, OnOk};
 
-use crate::shown::put_shown;
 use crate::tables::table_in;
 use oc_base::{Cert, NodeId};
 use oc_updown::ChangeLog;
 use std::alloc::Global;
 use std::str::SplitAsciiWhitespace;
-use test_tools::{Fault, Fields, Step, cert_in, put_cert};
+use test_tools::{Fault, Fields, Step, cert_in, put_cert, put_shown};
 
 /// The number of nodes.
 const NODES: u32 = 6;

@@ -1,10 +1,9 @@
 //! Places: which candidate is chosen, and whether a place is kept.
 
-use crate::shown::put_shown;
 use oc_base::NodeId;
 use oc_place::{Candidate, View, choose, review};
 use std::alloc::Global;
-use test_tools::{Fault, Fields};
+use test_tools::{Fault, Fields, put_shown};
 
 /// More candidates than a row names.
 const MOST: u32 = 1000;

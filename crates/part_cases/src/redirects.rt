@@ -2,14 +2,13 @@
 
 ghost use Rattle.std.specs.Prelude.{◌≡◌};
 
-use crate::shown::put_shown;
 use crate::tables::table_in;
 use oc_base::NodeId;
 use oc_cert::Table;
 use oc_redirect::select;
 use oc_rows::Rows;
 use std::alloc::Global;
-use test_tools::{Fault, Fields};
+use test_tools::{Fault, Fields, put_shown};
 
 /// More nodes than there are.
 const MOST: u32 = 2000;

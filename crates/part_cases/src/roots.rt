@@ -1,10 +1,9 @@
 //! Roots: in which order others are asked, and the next epoch.
 
-use crate::shown::put_shown;
 use oc_base::NodeId;
 use oc_place::{ask_order, raise};
 use std::alloc::Global;
-use test_tools::{Fault, Fields};
+use test_tools::{Fault, Fields, put_shown};
 
 /// Puts the words of a row: the nodes that are asked, or the next epoch.
 pub fn put_words(alloc: Global, given: &str, said: &mut String) -> Result<(), Fault> {

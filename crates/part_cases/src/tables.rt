@@ -3,12 +3,11 @@
 ghost use Rattle.std.specs.Prelude.{◌≡◌, ◌≤◌, IsTrue, IfOk};
 ghost use Rattle.oc_base.specs.Lawful.{IsNode};
 
-use crate::shown::put_shown;
 use oc_base::{Cert, Line, MAX_NODES, NodeId};
 use oc_cert::Table;
 use std::alloc::Global;
 use std::str::SplitAsciiWhitespace;
-use test_tools::{Fault, Fields, Step, cert_in, put_cert};
+use test_tools::{Fault, Fields, Step, cert_in, put_cert, put_shown};
 
 /// More certificates than a row names.
 const MOST: u32 = 10_000;

@@ -40,24 +40,18 @@ impl<'a> CommandLine<'a> {
     /// Gives a command the words, of which there is one at least: with none the program would play the cases again.
     /// `''` is an empty one.
     pub fn put_words(&self, command: &mut Command) -> io::Result<()> {
-        if !self.has_word() {
-            return Err(io::Error::from(io::ErrorKind::InvalidInput));
-        }
+        let mut has_word = false;
         for piece in self.0.split_ascii_whitespace() {
             if is_word(piece) {
                 command.arg(if piece == "''" { "" } else { piece })?;
+                has_word = true;
             }
         }
-        Ok(())
-    }
-
-    fn has_word(&self) -> bool {
-        for piece in self.0.split_ascii_whitespace() {
-            if is_word(piece) {
-                return true;
-            }
+        if has_word {
+            Ok(())
+        } else {
+            Err(io::Error::from(io::ErrorKind::InvalidInput))
         }
-        false
     }
 
     /// The file on the input.

@@ -54,27 +54,29 @@ fn outcome(rt: &HostRuntime, case: &Case<'_>, port: u16) -> io::Result<Output> {
     }
 }
 
-/// What the second of two command lines gives on the output of the first.
+/// What the second of two command lines gives on the output of the first, which is waited for once the second has ended.
 fn piped(rt: &HostRuntime, name: &str, front: &str, back: &str, port: u16) -> io::Result<Output> {
-    let mut first = command(rt, name, front, port)?;
-    let mut second = command(rt, name, back, port)?;
-    run_piped(rt, &mut first, &mut second)
-}
-
-/// The same of commands. The first is waited for once the second has ended.
-fn run_piped(rt: &HostRuntime, first: &mut Command, second: &mut Command) -> io::Result<Output> {
-    let mut feeder = first.stdout(Stdio::piped()).spawn(rt)?;
-    let got = run_behind(rt, &mut feeder, second)?;
+    let mut feeder = command(rt, name, front, port)?
+        .stdout(Stdio::piped())
+        .spawn(rt)?;
+    let got = run_behind(rt, &mut feeder, name, back, port)?;
     feeder.wait()?;
     Ok(got)
 }
 
-/// What a command gives on the output of a program that runs.
-fn run_behind(rt: &HostRuntime, feeder: &mut Child, command: &mut Command) -> io::Result<Output> {
+/// What a command line gives on the output of a program that runs.
+fn run_behind(
+    rt: &HostRuntime,
+    feeder: &mut Child,
+    name: &str,
+    line: &str,
+    port: u16,
+) -> io::Result<Output> {
+    let mut second = command(rt, name, line, port)?;
     if let Some(output) = feeder.stdout.take() {
-        command.stdin(output);
+        second.stdin(output);
     }
-    command.output(rt)
+    second.output(rt)
 }
 
 /// The program with the words, the streams and the files of a command line.

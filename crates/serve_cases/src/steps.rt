@@ -7,9 +7,6 @@ use test_tools::{Fault, Fields, spelled_in};
 /// More steps than a scene has.
 const MOST_STEPS: u32 = 200;
 
-/// More numbers than a step has.
-const MOST_NUMBERS: u32 = 100;
-
 /// What the first of the steps with this word says, or nothing.
 pub fn said_by<'a>(scene: &'a str, word: &str) -> Option<&'a str> {
     let mut steps = Fields::of(scene, '^');
@@ -53,15 +50,7 @@ fn take_text(alloc: Global, step: &str, word: &str, texts: &mut Vec<Vec<u8>>) ->
 
 /// The numbers of the step with this word, with commas between them.
 pub fn numbers_in(alloc: Global, scene: &str, word: &str) -> Result<Vec<u64>, Fault> {
-    let mut fields = Fields::of(said_by(scene, word).unwrap_or(""), ',');
-    let mut numbers = Vec::new(alloc);
-    for _ in 0..MOST_NUMBERS {
-        if fields.is_empty() {
-            break;
-        }
-        numbers.push(fields.number()?)?;
-    }
-    Ok(numbers)
+    Fields::of(said_by(scene, word).unwrap_or(""), ' ').numbers(alloc)
 }
 
 /// The number of the step with this word, or this one where there is no such step.

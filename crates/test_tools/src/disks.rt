@@ -6,9 +6,6 @@ use oc_io::{Disk, MemDisk};
 use oc_journal::{Frame, Journal};
 use std::alloc::Global;
 
-/// More frames than a row names.
-const MOST_FRAMES: u32 = 1000;
-
 /// Puts the bytes that a disk reads, in hexadecimal.
 pub fn put_disk<D: Disk + Drop>(alloc: Global, out: &mut String, mut disk: D) -> Result<(), Fault> {
     let Ok(size) = disk.size() else {
@@ -83,10 +80,10 @@ fn have_fail(alloc: Global, disk: &mut MemDisk, step: Step<'_>) -> Result<(), Fa
 }
 
 /// The disk that holds this.
-fn held_in(alloc: Global, step: Step<'_>) -> Result<MemDisk, Fault> {
+fn held_in(alloc: Global, mut step: Step<'_>) -> Result<MemDisk, Fault> {
     match step.word {
         "bytes" => bytes_disk(alloc, step.fields),
-        "frames" => disk_with(alloc, &bodies_in(alloc, step.fields)?),
+        "frames" => disk_with(alloc, &step.fields.all_bytes(alloc)?),
         "long" => disk_with(alloc, &long_body(alloc, step.fields)?),
         _ => Err(Fault::Field),
     }
@@ -94,18 +91,6 @@ fn held_in(alloc: Global, step: Step<'_>) -> Result<MemDisk, Fault> {
 
 fn bytes_disk(alloc: Global, mut fields: Fields<'_>) -> Result<MemDisk, Fault> {
     Ok(MemDisk::new(fields.bytes(alloc)?))
-}
-
-/// The bodies of these fields.
-fn bodies_in(alloc: Global, mut fields: Fields<'_>) -> Result<Vec<Vec<u8>>, Fault> {
-    let mut bodies = Vec::new(alloc);
-    for _ in 0..MOST_FRAMES {
-        if fields.is_empty() {
-            break;
-        }
-        bodies.push(fields.bytes(alloc)?)?;
-    }
-    Ok(bodies)
 }
 
 /// The one body that begins so, goes on with bytes 3, and whose frame ends at this place.

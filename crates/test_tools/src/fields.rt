@@ -132,6 +132,18 @@ impl<'a> Fields<'a> {
             Err(_) => Err(Fault::Field),
         }
     }
+
+    /// The bytes of each field that is left.
+    pub fn all_bytes(&mut self, alloc: Global) -> Result<Vec<Vec<u8>>, Fault> {
+        let mut all = Vec::new(alloc);
+        for _ in 0..MOST_FIELDS {
+            if self.is_empty() {
+                break;
+            }
+            all.push(self.bytes(alloc)?)?;
+        }
+        Ok(all)
+    }
 }
 
 fn number_in(text: &str) -> Result<u64, Fault> {

@@ -26,4 +26,4 @@ pub use row::Row;
 pub use spelled::{put_spelled, spelled_in};
 pub use step::Step;
 pub use table::{Cases, play, read_table, tell};
-pub use texts::put_hex;
+pub use texts::{put_hex, put_shown};

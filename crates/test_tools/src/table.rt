@@ -6,8 +6,15 @@ use std::{fs, io};
 
 /// What the rows of tables come to.
 pub trait Cases {
-    /// The words that result from what a row of this table is given.
-    fn words(alloc: Global, table: &str, given: &str) -> Result<String, Fault>;
+    /// Puts the words that result from what a row of this table is given.
+    fn put_words(alloc: Global, table: &str, given: &str, said: &mut String) -> Result<(), Fault>;
+}
+
+/// The words that result from what a row is given.
+fn words_of<T: Cases>(alloc: Global, table: &str, given: &str) -> Result<String, Fault> {
+    let mut said = String::new(alloc);
+    T::put_words(alloc, table, given, &mut said)?;
+    Ok(said)
 }
 
 /// Plays the tables of these names in a folder, one after another. Prints for each row the names of the table and of the
@@ -31,7 +38,7 @@ fn play_table<T: Cases, R: Files + Print + Eprint + AllocGlobal>(
     let rows = read_table(rt, folder, table)?;
     for line in rows.lines() {
         if let Some(row) = Row::read(line) {
-            tell(rt, table, &row, T::words(rt.alloc(), table, row.given))?;
+            tell(rt, table, &row, words_of::<T>(rt.alloc(), table, row.given))?;
         }
     }
     Ok(())

@@ -1,4 +1,5 @@
 use crate::fault::Fault;
+use std::fmt::Debug;
 
 /// Puts bytes in hexadecimal, or `-` for none.
 pub fn put_hex(out: &mut String, bytes: &[u8]) -> Result<(), Fault> {
@@ -9,4 +10,9 @@ pub fn put_hex(out: &mut String, bytes: &[u8]) -> Result<(), Fault> {
         write!(out, "{byte:02x}")?;
     }
     Ok(())
+}
+
+/// Puts a value as it is shown, and a space.
+pub fn put_shown<T: Debug>(out: &mut String, value: &T) -> Result<(), Fault> {
+    Ok(write!(out, "{value:?} ")?)
 }

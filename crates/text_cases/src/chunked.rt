@@ -4,22 +4,20 @@ use oc_stream::{ChunkFault, Unchunker, chunk_text};
 use std::alloc::Global;
 use test_tools::{Fault, Fields, put_hex};
 
-/// The words of a row: what was written, or the result of the text.
-pub fn words(alloc: Global, given: &str) -> Result<String, Fault> {
+/// Puts the words of a row: what was written, or the result of the text.
+pub fn put_words(alloc: Global, given: &str, said: &mut String) -> Result<(), Fault> {
     let mut fields = Fields::of(given, ' ');
     let kind = fields.text();
     let text = bytes_in(alloc, fields.list())?;
-    let mut said = String::new(alloc);
-    put_words(alloc, &mut said, kind, &text)?;
-    Ok(said)
+    put_result(alloc, said, kind, &text)
 }
 
-fn put_words(alloc: Global, said: &mut String, kind: &str, text: &[u8]) -> Result<(), Fault> {
+fn put_result(alloc: Global, said: &mut String, kind: &str, text: &[u8]) -> Result<(), Fault> {
     match kind {
         "write" => put_hex(said, &chunk_text(alloc, text)?),
         "size" => put_size(said, &chunk_text(alloc, text)?),
-        "whole" => put_fed(said, &fed_in_pieces(alloc, text, text.len())?),
-        "bytes" => put_fed(said, &fed_in_pieces(alloc, text, 1)?),
+        "whole" => put_fed(said, &result_of(alloc, text, text.len(), 1)?),
+        "bytes" => put_fed(said, &result_of(alloc, text, 1, 1)?),
         "every" => put_every(said, alloc, text),
         "back" => put_back(said, alloc, text),
         "again" => put_again(said, alloc, text),
@@ -30,7 +28,7 @@ fn put_words(alloc: Global, said: &mut String, kind: &str, text: &[u8]) -> Resul
 /// Puts the result of a text that is written, and fed in pieces of seven bytes.
 fn put_back(said: &mut String, alloc: Global, text: &[u8]) -> Result<(), Fault> {
     let written = chunk_text(alloc, text)?;
-    put_fed(said, &fed_in_pieces(alloc, &written, 7)?)
+    put_fed(said, &result_of(alloc, &written, 7, 7)?)
 }
 
 /// The bytes of the fields, each in hexadecimal, with `N*` before it where it occurs N times.
@@ -67,29 +65,47 @@ enum End {
     Long,
 }
 
-/// Feeds a text in pieces of this size, up to its end or its fault.
-fn fed_in_pieces(alloc: Global, text: &[u8], size: usize) -> Result<Fed, Fault> {
+/// Feeds a text in a piece of `first` bytes and then in pieces of `size` bytes, up to its end or its fault.
+fn result_of(alloc: Global, text: &[u8], first: usize, size: usize) -> Result<Fed, Fault> {
     let mut reader = Unchunker::new(alloc)?;
     let mut content = Vec::new(alloc);
-    let mut taken: usize = 0;
-    let mut end = End::Open;
-    for piece in text.chunks(size.max(1)) {
-        match feed(&mut reader, piece, &mut content)? {
-            Ok(count) => taken = taken.saturating_add(count),
-            Err(fault) => {
-                end = fault;
-                break;
-            }
-        }
-        if reader.ended() {
-            end = End::Ended;
-        }
-    }
+    let (taken, end) = feed_all(&mut reader, text, first, size, &mut content)?;
     Ok(Fed {
         taken,
         content,
         end,
     })
+}
+
+/// Feeds the text: how many bytes were taken, and whether the text ended, or the fault.
+fn feed_all(
+    reader: &mut Unchunker,
+    text: &[u8],
+    first: usize,
+    size: usize,
+    content: &mut Vec<u8>,
+) -> Result<(usize, End), Fault> {
+    let mut taken: usize = 0;
+    let mut rest = text;
+    let mut next = first;
+    for _ in 0..text.len().saturating_add(1) {
+        if rest.is_empty() {
+            break;
+        }
+        let (piece, behind) = rest.split_at(next.min(rest.len()));
+        match feed(reader, piece, content)? {
+            Ok(count) => taken = taken.saturating_add(count),
+            Err(fault) => return Ok((taken, fault)),
+        }
+        rest = behind;
+        next = size.max(1);
+    }
+    let end = if reader.ended() {
+        End::Ended
+    } else {
+        End::Open
+    };
+    Ok((taken, end))
 }
 
 /// Feeds a piece: how many bytes were taken, or the fault of the text.
@@ -142,34 +158,22 @@ fn put_size(said: &mut String, text: &[u8]) -> Result<(), Fault> {
 /// Puts the result of a text that is fed in two pieces, cut at each of its places, where that is always the
 /// same as its result when it is fed whole.
 fn put_every(said: &mut String, alloc: Global, text: &[u8]) -> Result<(), Fault> {
-    let whole = fed_in_pieces(alloc, text, text.len())?;
-    for at in 0..text.len() {
-        let (front, rest) = text.split_at(at);
-        if !comes_to(alloc, front, rest, &whole)? {
+    let length = text.len();
+    let whole = result_of(alloc, text, length, length)?;
+    for at in 0..length {
+        if !are_alike(&result_of(alloc, text, at, length)?, &whole) {
             return Ok(write!(said, "another when it is cut at {at}")?);
         }
     }
     put_fed(said, &whole)
 }
 
-/// Whether a text in two pieces comes to what is expected. If a text is refused, the content is left
-/// out, since the pieces before the refused one have given theirs.
-fn comes_to(alloc: Global, front: &[u8], rest: &[u8], wanted: &Fed) -> Result<bool, Fault> {
-    let mut reader = Unchunker::new(alloc)?;
-    let mut content = Vec::new(alloc);
-    let mut taken: usize = 0;
-    for piece in [front, rest] {
-        match feed(&mut reader, piece, &mut content)? {
-            Ok(count) => taken = taken.saturating_add(count),
-            Err(fault) => return Ok(fault == wanted.end),
-        }
-    }
-    let end = if reader.ended() {
-        End::Ended
-    } else {
-        End::Open
-    };
-    Ok(end == wanted.end && taken == wanted.taken && content == wanted.content)
+/// Whether two results of a text are the same. If the text is refused, the content is left out, since the pieces
+/// before the refused one have given theirs.
+fn are_alike(one: &Fed, other: &Fed) -> bool {
+    one.end == other.end
+        && (matches!(one.end, End::Bad | End::Long)
+            || one.taken == other.taken && one.content == other.content)
 }
 
 /// Puts the result of a text that is refused, and of the end of a good one after it.

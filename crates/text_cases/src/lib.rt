@@ -3,7 +3,7 @@
 //! of what has to come.
 //!
 //! Each table is a file in `crates/cases/data/text`, whose first lines say how its rows are written, and a module
-//! that gives the words of a row.
+//! that puts the words of a row.
 #![tactic(auto)]
 
 mod asking;
@@ -40,17 +40,17 @@ const TABLES: [&str; 9] = [
 struct Rows;
 
 impl Cases for Rows {
-    fn words(alloc: Global, table: &str, given: &str) -> Result<String, Fault> {
+    fn put_words(alloc: Global, table: &str, given: &str, said: &mut String) -> Result<(), Fault> {
         match table {
-            "configurations" => configurations::words(alloc, given),
-            "verdicts" => verdicts::words(alloc, given),
-            "chunked" => chunked::words(alloc, given),
-            "measure_lines" => measure_lines::words(alloc, given),
-            "locations" => locations::words(alloc, given),
-            "requests" => requests::words(alloc, given),
-            "responses" => responses::words(alloc, given),
-            "replies" => replies::words(alloc, given),
-            "lines" => lines::words(alloc, given),
+            "configurations" => configurations::put_words(alloc, given, said),
+            "verdicts" => verdicts::put_words(alloc, given, said),
+            "chunked" => chunked::put_words(alloc, given, said),
+            "measure_lines" => measure_lines::put_words(alloc, given, said),
+            "locations" => locations::put_words(alloc, given, said),
+            "requests" => requests::put_words(alloc, given, said),
+            "responses" => responses::put_words(alloc, given, said),
+            "replies" => replies::put_words(alloc, given, said),
+            "lines" => lines::put_words(alloc, given, said),
             _ => Err(Fault::Field),
         }
     }

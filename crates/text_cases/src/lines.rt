@@ -6,28 +6,32 @@ use oc_routes::{ProbeFailure, put_input_line, put_probe_line, put_write_line};
 use std::alloc::Global;
 use test_tools::{Fault, Fields};
 
-/// The words of a row: the line.
-pub fn words(alloc: Global, given: &str) -> Result<String, Fault> {
-    let mut fields = Fields::of(given, ' ');
+/// Puts the words of a row: the line.
+pub fn put_words(alloc: Global, given: &str, said: &mut String) -> Result<(), Fault> {
     let mut line = Vec::new(alloc);
+    put_line(alloc, &mut line, Fields::of(given, ' '))?;
+    put_text(&line, said)
+}
+
+/// Puts the line of a row.
+fn put_line(alloc: Global, line: &mut Vec<u8>, mut fields: Fields<'_>) -> Result<(), Fault> {
     match fields.text() {
-        "probe" => put_probe(&mut line, fields)?,
-        "write" => put_write_line(&mut line)?,
-        "input" => put_input(alloc, &mut line, fields)?,
-        _ => return Err(Fault::Field),
-    }
-    match line.as_slice() {
-        [front @ .., b'\n'] => text_of(alloc, front),
-        _ => Err(Fault::Unready),
+        "probe" => put_probe(line, fields),
+        "write" => Ok(put_write_line(line)?),
+        "input" => put_input(alloc, line, fields),
+        _ => Err(Fault::Field),
     }
 }
 
-fn text_of(alloc: Global, line: &[u8]) -> Result<String, Fault> {
-    let mut said = String::new(alloc);
-    for byte in line {
+/// Puts a line without its end.
+fn put_text(line: &[u8], said: &mut String) -> Result<(), Fault> {
+    let [front @ .., b'\n'] = line else {
+        return Err(Fault::Unready);
+    };
+    for byte in front {
         said.push(char::from(*byte))?;
     }
-    Ok(said)
+    Ok(())
 }
 
 fn put_probe(line: &mut Vec<u8>, mut fields: Fields<'_>) -> Result<(), Fault> {

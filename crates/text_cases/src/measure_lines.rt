@@ -1,28 +1,39 @@
 //! Measure lines: what they say, or the first bad one.
 
 use crate::texts::text_in;
-use oc_measure::{MeasureFault, read_lines};
+use oc_measure::{Measure, MeasureFault, read_lines};
 use std::alloc::Global;
 use test_tools::{Fault, Fields};
 
-/// The words of a row: the measures, or the bad line and its cause.
-pub fn words(alloc: Global, given: &str) -> Result<String, Fault> {
+/// Puts the words of a row: the measures, or the bad line and its cause.
+pub fn put_words(alloc: Global, given: &str, said: &mut String) -> Result<(), Fault> {
     let (nodes, written) = given.split_once('|').ok_or(Fault::Field)?;
     let nodes = Fields::of(nodes.trim(), ' ').small()?;
-    let text = text_in(alloc, written.trim())?;
-    let mut said = String::new(alloc);
-    match read_lines(alloc, &text, nodes) {
-        Ok(measures) => {
-            for measure in &measures {
-                let from = measure.from.0;
-                let peer = measure.peer.0;
-                let rate = measure.rate;
-                let hops = measure.hops;
-                write!(said, "{from},{peer},{rate},{hops} ")?;
-            }
-        }
-        Err(MeasureFault::Memory) => return Err(Fault::Memory),
-        Err(fault) => write!(said, "{fault}")?,
+    put_read(alloc, &text_in(alloc, written.trim())?, nodes, said)
+}
+
+/// Puts what a text says, or the bad line and its cause.
+fn put_read(alloc: Global, text: &[u8], nodes: u32, said: &mut String) -> Result<(), Fault> {
+    match read_lines(alloc, text, nodes) {
+        Ok(measures) => put_measures(said, &measures),
+        Err(MeasureFault::Memory) => Err(Fault::Memory),
+        Err(fault) => Ok(write!(said, "{fault}")?),
     }
-    Ok(said)
+}
+
+fn put_measures(said: &mut String, measures: &[Measure]) -> Result<(), Fault> {
+    for measure in measures {
+        put_measure(said, measure)?;
+        said.push_str(" ")?;
+    }
+    Ok(())
+}
+
+/// Puts a measure.
+pub(crate) fn put_measure(said: &mut String, measure: &Measure) -> Result<(), Fault> {
+    let from = measure.from.0;
+    let peer = measure.peer.0;
+    let rate = measure.rate;
+    let hops = measure.hops;
+    Ok(write!(said, "{from},{peer},{rate},{hops}")?)
 }

@@ -9,30 +9,37 @@ use test_tools::{Fault, Fields};
 /// More messages than a row has.
 const MOST_MESSAGES: u32 = 100;
 
-/// The words of a row: the reply, and the other messages.
-pub fn words(alloc: Global, given: &str) -> Result<String, Fault> {
+/// Puts the words of a row: the reply, and the other messages.
+pub fn put_words(alloc: Global, given: &str, said: &mut String) -> Result<(), Fault> {
     let mut fields = Fields::of(given, ' ');
     let sender = fields.node()?;
-    let mut sends = Vec::new(alloc);
-    let mut list = fields.list();
+    let (reply, others) = split_reply(messages_in(alloc, fields.list())?, sender);
+    put_split(said, reply.as_ref(), &others)
+}
+
+/// The messages of the fields.
+fn messages_in(alloc: Global, mut list: Fields<'_>) -> Result<Vec<Message>, Fault> {
+    let mut messages = Vec::new(alloc);
     for _ in 0..MOST_MESSAGES {
         if list.is_empty() {
             break;
         }
-        sends.push(message_in(Fields::of(list.text(), ':'))?)?;
+        messages.push(message_in(Fields::of(list.text(), ':'))?)?;
     }
-    let (reply, others) = split_reply(sends, sender);
-    let mut said = String::new(alloc);
+    Ok(messages)
+}
+
+fn put_split(said: &mut String, reply: Option<&Message>, others: &[Message]) -> Result<(), Fault> {
     match reply {
-        Some(reply) => put_message(&mut said, &reply)?,
+        Some(reply) => put_message(said, reply)?,
         None => said.push_str("none")?,
     }
     said.push_str(" and")?;
-    for message in &others {
+    for message in others {
         said.push(' ')?;
-        put_message(&mut said, message)?;
+        put_message(said, message)?;
     }
-    Ok(said)
+    Ok(())
 }
 
 /// The message of a text `FROM:TO:SEQ`.

@@ -14,20 +14,17 @@ use test_tools::{Fault, Fields, put_spelled, spelled_in};
 /// The number of nodes.
 const NODES: u32 = 3;
 
-/// The words of a row: the line, and for a refused request the reply.
-pub fn words(alloc: Global, given: &str) -> Result<String, Fault> {
+/// Puts the words of a row: the line, and for a refused request the reply.
+pub fn put_words(alloc: Global, given: &str, said: &mut String) -> Result<(), Fault> {
     let (rules, rest) = given.split_once(' ').unwrap_or((given, ""));
     let (me, text) = rest.split_once(' ').unwrap_or((rest, ""));
-    let rules = rules_in(alloc, rules)?;
     let me = Fields::of(me, ' ').node()?;
-    let bytes = spelled_in(alloc, text)?;
-    let mut said = String::new(alloc);
-    match line_of(alloc, bytes, &rules, me) {
-        Ok(line) => put_line(&mut said, &line)?,
-        Err(RouteFault::Refused(refused)) => put_refusal(alloc, &mut said, refused)?,
-        Err(RouteFault::Memory) => return Err(Fault::Memory),
+    let rules = rules_in(alloc, rules)?;
+    match line_of(alloc, spelled_in(alloc, text)?, &rules, me) {
+        Ok(line) => put_line(said, &line),
+        Err(RouteFault::Refused(refused)) => put_refusal(alloc, said, refused),
+        Err(RouteFault::Memory) => Err(Fault::Memory),
     }
-    Ok(said)
 }
 
 /// The line of the input that results from a request; empty where there is none.

@@ -13,12 +13,12 @@ use oc_wire::decode;
 use std::alloc::Global;
 use test_tools::{Fault, Fields, put_spelled, spelled_in};
 
-/// The words of a row: what becomes of the connection, the content that is sent, and the text.
-pub fn words(alloc: Global, given: &str) -> Result<String, Fault> {
+/// Puts the words of a row: what becomes of the connection, the content that is sent, and the text.
+pub fn put_words(alloc: Global, given: &str, said: &mut String) -> Result<(), Fault> {
     let (turn, rest) = given.split_once(' ').unwrap_or((given, ""));
     let (reply, text) = rest.split_once(' ').unwrap_or((rest, ""));
     match turn_in(Fields::of(turn, ',')) {
-        Ok(turn) => answer_for(alloc, turn, reply, text),
+        Ok(turn) => put_answered(alloc, turn, reply, text, said),
         Err(fault) => Err(fault),
     }
 }
@@ -32,14 +32,19 @@ struct Turn {
     sealed: bool,
 }
 
-/// The words of the row of this turn.
-fn answer_for(alloc: Global, turn: Turn, reply: &str, text: &str) -> Result<String, Fault> {
-    let Ok(request) = request_in(alloc, spelled_in(alloc, text)?, &[]) else {
-        return Err(Fault::Unready);
-    };
+/// Puts the words of the row of this turn.
+fn put_answered(
+    alloc: Global,
+    turn: Turn,
+    reply: &str,
+    text: &str,
+    said: &mut String,
+) -> Result<(), Fault> {
     let reply = Fields::of(reply, ' ').bytes(alloc)?;
-    let response = response_of(alloc, &request, turn, &reply)?;
-    words_of(alloc, &response)
+    match request_in(alloc, spelled_in(alloc, text)?, &[]) {
+        Ok(request) => put_response(said, &response_of(alloc, &request, turn, &reply)?),
+        Err(_) => Err(Fault::Unready),
+    }
 }
 
 /// The turn of a text such as `1,serve:3,open`.
@@ -121,8 +126,7 @@ fn addresses(alloc: Global) -> Result<Vec<String>, Fault> {
     Ok(addresses)
 }
 
-fn words_of(alloc: Global, response: &Response) -> Result<String, Fault> {
-    let mut said = String::new(alloc);
+fn put_response(said: &mut String, response: &Response) -> Result<(), Fault> {
     said.push_str(match response.connection {
         Connection::Close => "close ",
         Connection::Keep => "keep ",
@@ -133,8 +137,7 @@ fn words_of(alloc: Global, response: &Response) -> Result<String, Fault> {
         let coding = if content.chunked { "chunked" } else { "plain" };
         write!(said, "{start}+{count} {coding} ")?;
     }
-    put_text(&mut said, response.text.items())?;
-    Ok(said)
+    put_text(said, response.text.items())
 }
 
 /// Puts a text, with the number of the bytes `x` at its end in their place.

@@ -1,13 +1,14 @@
 //! What the access rules of a configuration say of requests.
 
 use crate::texts::text_in;
+use oc_base::GroupName;
 use oc_config::read;
-use oc_policy::{Action, MAX_RULES, Verdict, decide};
+use oc_policy::{Action, MAX_RULES, Rule, Verdict, decide};
 use std::alloc::Global;
 use test_tools::{Fault, Fields, group_in};
 
-/// The words of a row: the verdict.
-pub fn words(alloc: Global, given: &str) -> Result<String, Fault> {
+/// Puts the words of a row: the verdict.
+pub fn put_words(alloc: Global, given: &str, said: &mut String) -> Result<(), Fault> {
     let (request, text) = given.split_once('|').ok_or(Fault::Field)?;
     let mut fields = Fields::of(request, ' ');
     let action = match fields.text() {
@@ -17,14 +18,25 @@ pub fn words(alloc: Global, given: &str) -> Result<String, Fault> {
     };
     let group = group_in(fields.text())?;
     let area = fields.byte()?;
-    let Ok(config) = read(alloc, &text_in(alloc, text.trim())?) else {
-        return Err(Fault::Unready);
-    };
-    if config.rules.len() > MAX_RULES {
+    match read(alloc, &text_in(alloc, text.trim())?) {
+        Ok(config) => put_verdict(&config.rules, action, &group, area, said),
+        Err(_) => Err(Fault::Unready),
+    }
+}
+
+/// Puts what rules say of a request.
+fn put_verdict(
+    rules: &[Rule],
+    action: Action,
+    group: &GroupName,
+    area: u8,
+    said: &mut String,
+) -> Result<(), Fault> {
+    if rules.len() > MAX_RULES {
         return Err(Fault::Unready);
     }
-    match decide(&config.rules, action, &group, area) {
-        Verdict::Allowed => Ok(String::from_str(alloc, "allowed")?),
-        Verdict::Denied(rule) => Ok(format!(in alloc; "denied {rule}")?),
+    match decide(rules, action, group, area) {
+        Verdict::Allowed => Ok(said.push_str("allowed")?),
+        Verdict::Denied(rule) => Ok(write!(said, "denied {rule}")?),
     }
 }

@@ -1,7 +1,7 @@
 //! Heads of HTTP messages, and what is read from them, however their bytes come.
 
 use crate::pieces::Pieces;
-use crate::words::put_value;
+use crate::words::{put, put_value};
 use oc_base::Text;
 use oc_http::{
     Head, HttpFault, Reply, ReplyHead, Verb, read_body, read_head, read_response,
@@ -54,8 +54,8 @@ fn put_alone(alloc: Global, said: &mut String, reader: Reader, bytes: &[u8]) -> 
     if alone.as_str() == said.as_str() {
         return Ok(());
     }
-    said.push_str(", and byte by byte ")?;
-    Ok(said.push_str(alone.as_str())?)
+    put(said, ", and byte by byte ")?;
+    put(said, alone.as_str())
 }
 
 /// The reader of a word such as `request`, or `request/7`, where call 7 fails.
@@ -105,7 +105,7 @@ fn put_cut(
         return Ok(false);
     }
     write!(said, ", and cut at {at} ")?;
-    said.push_str(cut.as_str())?;
+    put(said, cut.as_str())?;
     Ok(true)
 }
 
@@ -210,7 +210,7 @@ fn put_body<S: Source>(
     match read_body(alloc, source, head) {
         Ok(body) => {
             put_head(said, head)?;
-            said.push_str(" body=")?;
+            put(said, " body=")?;
             put_spelled(said, &body)
         }
         Err(fault) => put_fault(said, fault),
@@ -238,14 +238,17 @@ fn put_whole_response<S: Source>(
 }
 
 fn put_head(said: &mut String, head: &Head) -> Result<(), Fault> {
-    said.push_str(match head.method {
-        Verb::Get => "method=GET path=",
-        Verb::Head => "method=HEAD path=",
-        Verb::Post => "method=POST path=",
-        Verb::Other => "method=OTHER path=",
-    })?;
+    put(
+        said,
+        match head.method {
+            Verb::Get => "method=GET path=",
+            Verb::Head => "method=HEAD path=",
+            Verb::Post => "method=POST path=",
+            Verb::Other => "method=OTHER path=",
+        },
+    )?;
     put_spelled(said, head.path.items())?;
-    said.push_str(" query=")?;
+    put(said, " query=")?;
     put_spelled(said, head.query.items())?;
     put_value(said, " length=", head.length)?;
     put_value(said, " expects=", head.expects)?;
@@ -257,7 +260,7 @@ fn put_reply_head(said: &mut String, head: &ReplyHead) -> Result<(), Fault> {
     put_status(said, head.status, &head.location)?;
     match head.length {
         Some(length) => put_value(said, " length=", length)?,
-        None => said.push_str(" length=none")?,
+        None => put(said, " length=none")?,
     }
     put_value(said, " chunked=", head.chunked)?;
     put_value(said, " closes=", head.closes)
@@ -266,20 +269,20 @@ fn put_reply_head(said: &mut String, head: &ReplyHead) -> Result<(), Fault> {
 /// Puts a reply that was read; reading gives neither a content type nor a rule.
 fn put_reply(said: &mut String, reply: &Reply) -> Result<(), Fault> {
     put_status(said, reply.status, &reply.location)?;
-    said.push_str(" body=")?;
+    put(said, " body=")?;
     put_spelled(said, reply.body.items())?;
     if reply.content_type || reply.rule.is_some() {
-        said.push_str(" and more")?;
+        put(said, " and more")?;
     }
     Ok(())
 }
 
 fn put_status(said: &mut String, status: u16, location: &Option<Text>) -> Result<(), Fault> {
     put_value(said, "status=", status)?;
-    said.push_str(" location=")?;
+    put(said, " location=")?;
     match location {
         Some(location) => put_spelled(said, location.items()),
-        None => Ok(said.push_str("none")?),
+        None => put(said, "none"),
     }
 }
 
@@ -288,7 +291,7 @@ fn put_fault(said: &mut String, fault: HttpFault) -> Result<(), Fault> {
         HttpFault::Coding { both } => put_value(said, "fault=coding both=", both),
         HttpFault::Length { missing } => put_value(said, "fault=length missing=", missing),
         HttpFault::Memory => Err(Fault::Memory),
-        _ => Ok(said.push_str(plain_fault(fault))?),
+        _ => put(said, plain_fault(fault)),
     }
 }
 

@@ -20,21 +20,14 @@ use test_tools::{Cases, Fault};
 struct Rows;
 
 impl Cases for Rows {
-    fn words(alloc: Global, table: &str, given: &str) -> Result<String, Fault> {
-        let mut said = String::new(alloc);
-        put_words(alloc, table, given, &mut said)?;
-        Ok(said)
-    }
-}
-
-/// Puts the words of a row.
-fn put_words(alloc: Global, table: &str, given: &str, said: &mut String) -> Result<(), Fault> {
-    match table {
-        "messages" => messages::put_words(alloc, given, said),
-        "requests" => requests::put_words(alloc, given, said),
-        "texts" => texts::put_words(alloc, given, said),
-        "heads" => heads::put_words(alloc, given, said),
-        _ => Err(Fault::Field),
+    fn put_words(alloc: Global, table: &str, given: &str, said: &mut String) -> Result<(), Fault> {
+        match table {
+            "messages" => messages::put_words(alloc, given, said),
+            "requests" => requests::put_words(alloc, given, said),
+            "texts" => texts::put_words(alloc, given, said),
+            "heads" => heads::put_words(alloc, given, said),
+            _ => Err(Fault::Field),
+        }
     }
 }
 

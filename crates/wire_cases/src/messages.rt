@@ -3,8 +3,8 @@
 ghost use Rattle.oc_wire.specs.Spelling.{HasSpelling};
 
 use crate::requests::put_fault;
-use crate::words::{put_message, put_wire_fault};
-use oc_wire::{HttpWireFault, Message, decode, encode, from_http, to_http};
+use crate::words::{put, put_message, put_wire_fault};
+use oc_wire::{Message, decode, encode, from_http, to_http};
 use std::alloc::Global;
 use test_tools::{Fault, Fields, put_hex};
 
@@ -20,7 +20,7 @@ pub fn put_words(alloc: Global, given: &str, said: &mut String) -> Result<(), Fa
     }
 }
 
-/// Puts a message, and what results from it.
+/// Puts a message, and what results from it. Nothing is put before it.
 fn put_read(
     alloc: Global,
     said: &mut String,
@@ -31,8 +31,14 @@ fn put_read(
     requires { HasSpelling message.now.body }
 {
     put_message(said, message)?;
+    let mut brought = String::new(alloc);
+    put_brought(alloc, &mut brought, message, nodes)?;
+    let differs = brought != *said;
     put_written(alloc, said, message, bytes)?;
-    put_brought(alloc, said, message, nodes)
+    if differs {
+        write!(said, ", brought as {brought}")?;
+    }
+    Ok(())
 }
 
 /// Puts the bytes as which a message is written, where these are others.
@@ -48,48 +54,16 @@ fn put_written(
     if written.as_slice() == bytes {
         return Ok(());
     }
-    said.push_str(", written as ")?;
+    put(said, ", written as ")?;
     put_hex(said, &written)
 }
 
-/// Puts the message that the request of a message brings, where that is another.
+/// Puts what the request of a message brings.
 fn put_brought(alloc: Global, said: &mut String, message: &Message, nodes: u32) -> Result<(), Fault>
     requires { HasSpelling message.now.body }
 {
-    let brought = brought_by(alloc, message, nodes)?;
-    let wanted = words_of(alloc, message)?;
-    put_other(said, brought.as_str(), wanted.as_str())
-}
-
-fn put_other(said: &mut String, brought: &str, wanted: &str) -> Result<(), Fault> {
-    if brought == wanted {
-        return Ok(());
+    match from_http(alloc, &to_http(alloc, message, "node2")?, nodes) {
+        Ok(brought) => put_message(said, &brought),
+        Err(fault) => put_fault(said, fault),
     }
-    said.push_str(", brought as ")?;
-    Ok(said.push_str(brought)?)
-}
-
-/// The words of a message.
-fn words_of(alloc: Global, message: &Message) -> Result<String, Fault> {
-    let mut said = String::new(alloc);
-    put_message(&mut said, message)?;
-    Ok(said)
-}
-
-/// The words of what the request of a message brings.
-fn brought_by(alloc: Global, message: &Message, nodes: u32) -> Result<String, Fault>
-    requires { HasSpelling message.now.body }
-{
-    let request = to_http(alloc, message, "node2")?;
-    match from_http(alloc, &request, nodes) {
-        Ok(message) => words_of(alloc, &message),
-        Err(fault) => words_of_fault(alloc, fault),
-    }
-}
-
-/// The words of a request that brings no message.
-fn words_of_fault(alloc: Global, fault: HttpWireFault) -> Result<String, Fault> {
-    let mut said = String::new(alloc);
-    put_fault(&mut said, fault)?;
-    Ok(said)
 }

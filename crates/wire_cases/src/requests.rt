@@ -2,7 +2,7 @@
 
 ghost use Rattle.oc_wire.specs.Spelling.{HasSpelling};
 
-use crate::words::{put_message, put_text, put_wire_fault};
+use crate::words::{put, put_message, put_text, put_wire_fault};
 use oc_wire::{HttpWireFault, Message, decode, from_http, to_http};
 use std::alloc::Global;
 use test_tools::{Fault, Fields, spelled_in};
@@ -51,10 +51,10 @@ fn put_read(alloc: Global, given: &str, said: &mut String) -> Result<(), Fault> 
 /// Puts the words of a request that brings no message.
 pub fn put_fault(said: &mut String, fault: HttpWireFault) -> Result<(), Fault> {
     match fault {
-        HttpWireFault::NotHttp => Ok(said.push_str("nothttp")?),
-        HttpWireFault::Route => Ok(said.push_str("route")?),
+        HttpWireFault::NotHttp => put(said, "nothttp"),
+        HttpWireFault::Route => put(said, "route"),
         HttpWireFault::Wire(fault) => {
-            said.push_str("wire ")?;
+            put(said, "wire ")?;
             put_wire_fault(said, fault)
         }
         HttpWireFault::Memory => Err(Fault::Memory),

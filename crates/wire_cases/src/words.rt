@@ -15,7 +15,7 @@ pub fn put_message(out: &mut String, message: &Message) -> Result<(), Fault> {
 
 fn put_body(out: &mut String, body: &Body) -> Result<(), Fault> {
     match body {
-        Body::Look => Ok(out.push_str(" look")?),
+        Body::Look => put(out, " look"),
         Body::LookIs {
             in_tree,
             parent,
@@ -61,10 +61,10 @@ fn put_look_is(
     rate: u64,
     children: &[Child],
 ) -> Result<(), Fault> {
-    out.push_str(if in_tree { " lookis in" } else { " lookis out" })?;
+    put(out, if in_tree { " lookis in" } else { " lookis out" })?;
     match parent {
         Some(parent) => put_id(out, parent)?,
-        None => out.push_str(" none")?,
+        None => put(out, " none")?,
     }
     put_number(out, rate)?;
     for child in children {
@@ -82,7 +82,7 @@ fn put_ask(out: &mut String, seq: u64, rank: Option<Rank>) -> Result<(), Fault> 
     put_numbers(out, " ask", &[seq])?;
     match rank {
         Some(rank) => put_rank(out, rank),
-        None => Ok(out.push_str(" none")?),
+        None => put(out, " none"),
     }
 }
 
@@ -114,27 +114,37 @@ fn put_check_ack(
 
 fn put_no(out: &mut String, seq: u64, why: Refusal) -> Result<(), Fault> {
     put_numbers(out, " no", &[seq])?;
+    if let Refusal::Chain(member) = why {
+        return put_value(out, " chain ", member.0);
+    }
+    put(out, plain_refusal(why))
+}
+
+/// The word of a refusal that has no field.
+fn plain_refusal(why: Refusal) -> &'static str {
     match why {
-        Refusal::Own => Ok(out.push_str(" own")?),
-        Refusal::NotJoined => Ok(out.push_str(" notjoined")?),
-        Refusal::Ancestor => Ok(out.push_str(" ancestor")?),
-        Refusal::Depth => Ok(out.push_str(" depth")?),
-        Refusal::Chain(member) => put_value(out, " chain ", member.0),
-        Refusal::Rank => Ok(out.push_str(" rank")?),
+        Refusal::Own => " own",
+        Refusal::NotJoined => " notjoined",
+        Refusal::Ancestor => " ancestor",
+        Refusal::Depth => " depth",
+        Refusal::Chain(_) => " chain",
+        Refusal::Rank => " rank",
     }
 }
 
 fn put_cert(out: &mut String, cert: &Cert) -> Result<(), Fault> {
-    put_value(out, " ", cert.subject.0)?;
-    put_value(out, "/", cert.seq)?;
-    put_value(out, "/", cert.parent.0)?;
-    out.push_str(if cert.dead { "/dead" } else { "/alive" })?;
-    put_value(out, "/", cert.number)?;
-    put_value(out, "/", cert.clients)
+    let subject = cert.subject.0;
+    let parent = cert.parent.0;
+    let state = if cert.dead { "dead" } else { "alive" };
+    Ok(write!(
+        out,
+        " {subject}/{}/{parent}/{state}/{}/{}",
+        cert.seq, cert.number, cert.clients
+    )?)
 }
 
 fn put_fetch(out: &mut String, have: &[Shelf]) -> Result<(), Fault> {
-    out.push_str(" fetch")?;
+    put(out, " fetch")?;
     for line in have {
         put_line(out, line)?;
     }
@@ -144,7 +154,7 @@ fn put_fetch(out: &mut String, have: &[Shelf]) -> Result<(), Fault> {
 fn put_line(out: &mut String, line: &Shelf) -> Result<(), Fault> {
     put_name(out, &line.group)?;
     put_value(out, ":", line.held)?;
-    Ok(out.push_str(if line.sealed { ":sealed" } else { ":open" })?)
+    put(out, if line.sealed { ":sealed" } else { ":open" })
 }
 
 fn put_chunk(
@@ -154,10 +164,10 @@ fn put_chunk(
     bytes: &[u8],
     last: bool,
 ) -> Result<(), Fault> {
-    out.push_str(" chunk")?;
+    put(out, " chunk")?;
     put_name(out, group)?;
     put_number(out, start)?;
-    out.push_str(if last { " last" } else { " more" })?;
+    put(out, if last { " last" } else { " more" })?;
     put_piece(out, bytes)
 }
 
@@ -165,12 +175,12 @@ fn put_piece(out: &mut String, bytes: &[u8]) -> Result<(), Fault> {
     if bytes.is_empty() {
         return Ok(());
     }
-    out.push_str(" ")?;
+    put(out, " ")?;
     put_hex(out, bytes)
 }
 
 fn put_name(out: &mut String, name: &GroupName) -> Result<(), Fault> {
-    out.push_str(" ")?;
+    put(out, " ")?;
     put_spelled(out, name.bytes())
 }
 
@@ -191,7 +201,7 @@ fn put_rank(out: &mut String, rank: Rank) -> Result<(), Fault> {
 
 /// Puts a word and the numbers after it.
 fn put_numbers(out: &mut String, word: &str, numbers: &[u64]) -> Result<(), Fault> {
-    out.push_str(word)?;
+    put(out, word)?;
     for number in numbers {
         put_number(out, *number)?;
     }
@@ -200,6 +210,11 @@ fn put_numbers(out: &mut String, word: &str, numbers: &[u64]) -> Result<(), Faul
 
 fn put_number(out: &mut String, number: u64) -> Result<(), Fault> {
     put_value(out, " ", number)
+}
+
+/// Puts a text.
+pub fn put(out: &mut String, text: &str) -> Result<(), Fault> {
+    Ok(out.push_str(text)?)
 }
 
 /// Puts a value after its name.
@@ -216,7 +231,7 @@ pub fn put_text(out: &mut String, text: Result<Vec<u8>, Memory>) -> Result<(), F
 pub fn put_wire_fault(out: &mut String, fault: WireFault) -> Result<(), Fault> {
     match fault {
         WireFault::Kind(code) => put_value(out, "kind ", code),
-        _ => Ok(out.push_str(plain_fault(fault))?),
+        _ => put(out, plain_fault(fault)),
     }
 }
 

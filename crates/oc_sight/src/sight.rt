@@ -6,10 +6,12 @@ ghost use Rattle.oc_cert.specs.TableView.{AreTableRows, entries_of};
 ghost use Rattle.oc_stage.specs.Sight.{sight_of};
 
 use oc_base::{Cert, CertList, IdList, LineList, Memory};
+use oc_cert::Table;
 use oc_io::Disk;
 use oc_keep::Kept;
 use oc_rows::Rows;
 use oc_stage::Sight;
+use std::alloc::Global;
 
 /// What is seen of a node on its files, which is up or not.
 pub fn sight_of<D: Disk>(kept: &Kept<D>, up: bool) -> Result<Sight, Memory>
@@ -19,8 +21,6 @@ pub fn sight_of<D: Disk>(kept: &Kept<D>, up: bool) -> Result<Sight, Memory>
     let table = node.table();
     let listed = table.listed(node.id())?;
     let alloc = *listed.allocator();
-    let mut entries = Vec::new(alloc);
-    push_entries(&mut entries, table.rows())?;
     Ok(Sight {
         up,
         mode: node.mode(),
@@ -29,7 +29,7 @@ pub fn sight_of<D: Disk>(kept: &Kept<D>, up: bool) -> Result<Sight, Memory>
         acked: node.log().acked(),
         length: node.log().length(),
         ancestors: IdList::of(node.ancestors().to_vec(alloc)?),
-        table: CertList::of(entries),
+        table: certificates(alloc, table)?,
         listed: LineList::of(listed),
     })
 }
@@ -39,6 +39,15 @@ pub fn sight_recovered<D: Disk + Drop>(kept: Kept<D>) -> Result<Sight, Memory>
     ensures { IfOk result (λ sight. sight ≡ sight_of kept.node.control false) }
 {
     sight_of(&kept, false)
+}
+
+/// The certificates of a table.
+fn certificates(alloc: Global, table: &Table) -> Result<CertList, Memory>
+    ensures { IfOk result (λ list. list ≡ table.now.entries) }
+{
+    let mut entries = Vec::new(alloc);
+    push_entries(&mut entries, table.rows())?;
+    Ok(CertList::of(entries))
 }
 
 /// Puts the certificates of these rows at the end.

@@ -1,4 +1,4 @@
-use Rattle.std.proofs.Common.{◌≡◌, ◌-◌, ◌++◌, ◌∙◌, [], ap, drop, length, replicate, sym}
+use Rattle.std.proofs.Common.{◌≡◌, ◌++◌, ◌∙◌, [], ap, drop, sym}
 use Rattle.std.proofs.lemmas.List.{append-nil}
 use Rattle.oc_cert.proofs.Entries.{no_entries_past}
 use Rattle.oc_cert.specs.TableView.{entries_of}

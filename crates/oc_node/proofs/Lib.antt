@@ -1,12 +1,4 @@
-pub mod Candidates
-pub mod Ending
-pub mod Ticks
-pub mod Looks
-pub mod MergeAll
-pub mod SameIds
-pub mod Drafts
 pub mod Applying
-pub mod ByMode
 pub mod Plans
 pub mod Filling
 pub mod Reaching

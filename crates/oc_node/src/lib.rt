@@ -11,18 +11,12 @@
 //! messages and the answer. The records fit one frame, and folding them gives what is durable after the
 //! step.
 //!
-//! The rules are those of the model, each in the file of its name and in the order of its definitions:
-//! `checking`, `looking`, `content` and `serving`, over `asking` and `adopting` of `oc_asks`. A rule leads
-//! from one draft of the step to the next.
+//! The rules are those of the model: `checking`, `looking`, `content` and `serving` of `oc_rules`, `asking` and
+//! `adopting` of `oc_asks`. A rule leads from one draft of the step to the next.
 #![tactic(auto)]
 
-mod checking;
-mod content;
-mod looking;
 mod node;
 mod outcome;
-mod serving;
-mod stand;
 mod step;
 
 pub use node::Node;

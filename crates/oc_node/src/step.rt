@@ -7,16 +7,16 @@ ghost use Rattle.oc_model.specs.Step.{received, taken};
 ghost use Rattle.oc_draft.specs.DraftView.{goes};
 ghost use Rattle.oc_draft.specs.NodeView.{IsReached};
 
-use crate::checking::{check, checked_in, tick, took_ack, took_rejoin};
-use crate::content::{fetched, published, pulled, sealed_at, took_chunk};
-use crate::looking::{looked, sees};
-use crate::serving::{client, measured};
-use crate::stand::Stand;
 use oc_asks::adopting::asked;
 use oc_asks::asking::{relocate, took_no, took_yes, unreachable};
 use oc_base::{Memory, NodeId, Shelf};
 use oc_draft::Draft;
 use oc_model::{Body, Input};
+use oc_rules::checking::{check, checked_in, tick, took_ack, took_rejoin};
+use oc_rules::content::{fetched, published, pulled, sealed_at, took_chunk};
+use oc_rules::looking::{looked, sees};
+use oc_rules::serving::{client, measured};
+use oc_rules::stand::Stand;
 
 // The control step, which sees of the content the shelf alone.
 

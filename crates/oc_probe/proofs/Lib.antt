@@ -1,3 +1,1 @@
-pub mod Medians
 pub mod Asking
-pub mod Peers

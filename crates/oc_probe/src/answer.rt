@@ -8,9 +8,9 @@ ghost use Rattle.oc_outside.specs.LinkCalls.{CountsDialling, IfTold, OnOutgoing,
 ghost use Rattle.oc_outside.specs.Story.{IsHeardOut};
 ghost use Rattle.oc_probe.specs.Probes.{HearsUntil, IsAnswer};
 
-use crate::rate::PROBE_BYTES;
 use oc_http::{HeadReader, HttpFault, Reply};
 use oc_outside::{Link, Outgoing};
+use oc_rates::PROBE_BYTES;
 
 /// Reads a response from the outgoing connection.
 pub(crate) fn hear<L: Link>(reader: &mut HeadReader, link: &mut L) -> Result<Reply, HttpFault>

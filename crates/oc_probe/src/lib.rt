@@ -2,24 +2,15 @@
 //!
 //! [`probe`] downloads [`PROBE_BYTES`] bytes and gives bytes per second: `rate_of` the two readings of
 //! the clock, just before the dial and just after the last byte. Its contract says of the link that one dial
-//! was made, which bytes were written and read on it, and that nothing else happened there. A [`Gauge`]
-//! keeps the last five rates of each peer and gives their median (`IsMedian`), and a [`Rotation`] gives
-//! the peers in turn, for ever. Only `probe` and the two constructors take memory.
+//! was made, which bytes were written and read on it, and that nothing else happened there. What is made of
+//! rates, and whose is measured next, is in `oc_rates`.
 #![tactic(auto)]
 
 mod answer;
 mod fault;
-mod gauge;
-mod law;
 mod probing;
-mod rate;
-mod recent;
-mod rotation;
 
 pub use fault::ProbeFault;
-pub use gauge::Gauge;
-pub use law::rates_have_one_median;
 pub use oc_base::{Memory, NodeId};
+pub use oc_rates::{Gauge, PROBE_BYTES, Rotation, rate_of, rates_have_one_median};
 pub use probing::{Probing, probe};
-pub use rate::{PROBE_BYTES, rate_of};
-pub use rotation::Rotation;

@@ -7,11 +7,9 @@ ghost use Rattle.oc_probe.specs.Probes.{Probed, Timed};
 
 use crate::answer::{hear, is_answer};
 use crate::fault::ProbeFault;
-use crate::gauge::Gauge;
-use crate::rate::rate_of;
-use crate::rotation::Rotation;
 use oc_http::{HeadReader, write_probe};
 use oc_outside::{Clock, Link};
+use oc_rates::{Gauge, Rotation, rate_of};
 use std::alloc::Global;
 
 /// What a node keeps to probe its peers.

@@ -10,7 +10,7 @@ use Rattle.oc_http.specs.declared.reply.Reply.{Reply}
 use Rattle.oc_model.specs.declared.answer.Answer.{Answer}
 use Rattle.oc_model.specs.declared.answer.Answer.TheVariants as answers
 use Rattle.oc_model.specs.declared.message.Message.{Message}
-use Rattle.oc_probe.specs.declared.rate.TheConstants.{PROBE_BYTES}
+use Rattle.oc_rates.specs.declared.rate.TheConstants.{PROBE_BYTES}
 use Rattle.oc_redirect.specs.Locations.{location_text, follow_location_text}
 use Rattle.oc_wire.specs.Spelling.{spelling}
 use Rattle.oc_routes.specs.Refusals.{bare}

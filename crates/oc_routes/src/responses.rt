@@ -15,7 +15,7 @@ use crate::response::{Content, Response};
 use oc_base::{Bytes, GroupName, Memory, NodeId, Text};
 use oc_http::{Connection, Framing, Reply, write_reply_head, write_response};
 use oc_model::{Answer, Message};
-use oc_probe::PROBE_BYTES;
+use oc_rates::PROBE_BYTES;
 use oc_redirect::{follow_location, location};
 use oc_wire::encode;
 use std::alloc::Global;

@@ -1,5 +1,5 @@
 ghost use Rattle.std.specs.Prelude.{◌≡◌, ◌<◌, [], length, nat_lt};
-ghost use Rattle.oc_probe.specs.Rates.{kept_rates, with_rate, IsMedian};
+ghost use Rattle.oc_rates.specs.Rates.{kept_rates, with_rate, IsMedian};
 
 use std::marker::Model;
 
@@ -15,7 +15,7 @@ pub(crate) struct Recent {
 
 impl Model for Recent {
     ghost use Rattle.std.specs.Prelude.{ℕ, ◌≤◌, List, take};
-    ghost use Rattle.oc_probe.specs.declared.recent.TheConstants.{KEPT};
+    ghost use Rattle.oc_rates.specs.declared.recent.TheConstants.{KEPT};
 
     ghost Value = { List ℕ };
 

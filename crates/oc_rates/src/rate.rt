@@ -1,5 +1,5 @@
 ghost use Rattle.std.specs.Prelude.{◌≡◌};
-ghost use Rattle.oc_probe.specs.Rates.{rate_of};
+ghost use Rattle.oc_rates.specs.Rates.{rate_of};
 
 /// The bytes that a probe downloads.
 pub const PROBE_BYTES: u64 = 10_240;

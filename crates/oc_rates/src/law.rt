@@ -1,5 +1,5 @@
 ghost use Rattle.std.specs.Prelude.{◌≡◌, ℕ, List};
-ghost use Rattle.oc_probe.specs.Rates.{IsAtPlace};
+ghost use Rattle.oc_rates.specs.Rates.{IsAtPlace};
 
 /// One number is at a place, so rates have one median.
 pub fn rates_have_one_median()

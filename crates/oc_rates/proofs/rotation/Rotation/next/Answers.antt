@@ -1,7 +1,7 @@
 use Rattle.std.proofs.Common.{◌+◌, ◌<◌, Some, ap, ◌∙◌}
-use Rattle.oc_probe.proofs.Peers.{turns, within_round}
-use Rattle.oc_probe.proofs.rotation.Rotation.next.Goals as goal
-use Rattle.oc_probe.proofs.rotation.Rotation.next.Goals.{then-self, else-self}
+use Rattle.oc_rates.proofs.Peers.{turns, within_round}
+use Rattle.oc_rates.proofs.rotation.Rotation.next.Goals as goal
+use Rattle.oc_rates.proofs.rotation.Rotation.next.Goals.{then-self, else-self}
 
 pub returns-clause-peer : goal.returns-clause-peer
 returns-clause-peer c =

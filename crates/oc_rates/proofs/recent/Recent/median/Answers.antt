@@ -1,6 +1,6 @@
 use Rattle.std.proofs.Common.{rules}
-use Rattle.oc_probe.proofs.Medians.{median_of}
-use Rattle.oc_probe.proofs.recent.Recent.median.Goals as goal
+use Rattle.oc_rates.proofs.Medians.{median_of}
+use Rattle.oc_rates.proofs.recent.Recent.median.Goals as goal
 
 pub returns : goal.returns
 returns c =

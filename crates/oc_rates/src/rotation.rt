@@ -1,5 +1,5 @@
 ghost use Rattle.std.specs.Prelude.{◌≡◌, ◌+◌, ◌^◌, ◌<◌, ◌≤◌, ◌↔◌, slice_get};
-ghost use Rattle.oc_probe.specs.Turns.{others, turned, peer_at};
+ghost use Rattle.oc_rates.specs.Turns.{others, turned, peer_at};
 
 use oc_base::NodeId;
 use std::marker::Model;
@@ -15,7 +15,7 @@ pub struct Rotation {
 
 impl Model for Rotation {
     ghost use Rattle.std.specs.Prelude.{◌+◌, ◌-◌, ◌<◌, ◌≤◌, ◌++◌, drop, take};
-    ghost use Rattle.oc_probe.specs.Turns.{RotationView, others};
+    ghost use Rattle.oc_rates.specs.Turns.{RotationView, others};
 
     ghost Value = { RotationView };
 

@@ -1,5 +1,5 @@
 ghost use Rattle.std.specs.Prelude.{◌≡◌, ◌-◌, ◌≤◌, [], length, replicate, slice_set, IfOk};
-ghost use Rattle.oc_probe.specs.Rates.{rates_of, with_rate, IsMedian};
+ghost use Rattle.oc_rates.specs.Rates.{rates_of, with_rate, IsMedian};
 
 use crate::recent::Recent;
 use oc_base::{Memory, NodeId};

@@ -3,7 +3,7 @@ use Rattle.std.proofs.Common.{◌≡◌, ◌≢◌, ℕ, ◌+◌, ◌-◌, ◌<�
 use Rattle.std.proofs.lemmas.Bool.{ltb-true, ltb-false}
 use Rattle.std.proofs.lemmas.List.{append-nil, append_assoc, get_or_append_left, get_or-append-add}
 use Rattle.std.specs.List.{slice_get}
-use Rattle.oc_probe.specs.Turns.{ids, others, turned, peer_at, RotationView}
+use Rattle.oc_rates.specs.Turns.{ids, others, turned, peer_at, RotationView}
 
 length-ids : (first n : ℕ) → length (ids first n) ≡ n
 length-ids first zero = refl

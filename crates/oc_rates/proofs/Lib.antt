@@ -1,0 +1,2 @@
+pub mod Medians
+pub mod Peers

@@ -1,6 +1,6 @@
 -- The groups of frames, told body by body.
-use Rattle.std.proofs.Common.{◌≡◌, ◌↔◌, ℕ, Bool, true, false, ◌==◌, ◌||◌, ◌&&◌, IsTrue, IsSome, is_some, cond, Option, None, Some, List, [], ◌∷◌, ◌++◌, fold, Any, unwrap_or, length, take, drop, nat_lt, ◌+◌, Ordering, Less, Equal, Greater, nat_cmp, refl, sym, ap, subst, ◌∙◌, append_assoc}
-use Rattle.std.specs.List.{list_any, flat_map}
+use Rattle.std.proofs.Common.{◌≡◌, ◌↔◌, ℕ, Bool, true, false, ◌==◌, ◌||◌, ◌&&◌, IsTrue, IsSome, is_some, cond, Option, None, Some, List, [], ◌∷◌, ◌++◌, fold, Any, unwrap_or, length, take, drop, nat_lt, ◌+◌, Ordering, Less, Equal, Greater, nat_cmp, refl, sym, ap, ◌∙◌, append_assoc}
+use Rattle.std.specs.List.{list_any}
 use Rattle.std.specs.Cmp.Lexicographic.{slice_cmp}
 use Rattle.std.specs.Int.{w64, from_be_bytes}
 use Rattle.std.proofs.lemmas.List.{append-nil}

@@ -10,6 +10,7 @@ pub mod Others
 pub mod Views
 pub mod Puts
 pub mod Loading
+pub mod LoadErrors
 pub mod Locating
 pub mod Across
 pub mod ByPieces

@@ -61,13 +61,20 @@ pub fn read_spans<D: Disk>(
 {
     let mut count = 0;
     for span in spans {
-        if count == buf.len() {
+        if is_full(count, buf.len()) {
             break;
         }
         count = read_span(journal, span, skip, buf, count)?;
         skip = 0;
     }
     Ok(count)
+}
+
+/// Whether a buffer of this length is full with `count` bytes.
+fn is_full(count: usize, len: usize) -> bool
+    ensures { IsTrue result ↔ (count ≡ len) }
+{
+    count == len
 }
 
 /// Reads the bytes of a span from an offset on, after the `count` bytes that are in the buffer;

@@ -8,3 +8,4 @@ pub mod Loads
 pub mod LoadRuns
 pub mod AfterStop
 pub mod ReadRuns
+pub mod OneRead

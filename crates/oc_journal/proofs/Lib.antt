@@ -9,3 +9,4 @@ pub mod LoadRuns
 pub mod AfterStop
 pub mod ReadRuns
 pub mod OneRead
+pub mod Shut

@@ -8,3 +8,5 @@ pub mod Loads
 pub mod LoadRuns
 pub mod AfterStop
 pub mod ReadRuns
+pub mod OneRead
+pub mod Shut

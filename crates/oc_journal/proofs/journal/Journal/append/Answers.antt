@@ -1,6 +1,8 @@
-use Rattle.std.proofs.Common.{ℕ, IsTrue, List, [], ◌∷◌, ◌++◌, sym, ◌∙◌, ap, subst, arith, rules}
+use Rattle.std.proofs.Common.{ℕ, IsTrue, List, [], ◌∷◌, ◌++◌, refl, sym, ◌∙◌, ap, subst, arith, rules}
 use Rattle.oc_journal.specs.JournalView.{JournalView}
 use Rattle.oc_journal.proofs.Spots.{at_spots-same_front, appended-frames, appended-indexed, appended-kept}
+use Rattle.oc_journal.proofs.LoadRuns.{no_error}
+use Rattle.oc_journal.proofs.Shut.{not_both, closed_not_full, closed_not_disk, full_not_closed, full_not_disk, disk_not_closed, AppendsSafely-shut, leaves_before_or_after}
 use Rattle.oc_journal.proofs.journal.Journal.append.Goals as goal
 
 pub invariant_of-self-2 : goal.invariant_of-self-2
@@ -38,3 +40,72 @@ returns-in_default-clause-disk g c = λ _.
       closes = search rules;
       frames = λ honest. at_spots-same_front (g.D.Disk.view c.write_frame.new.disk).seen (g.D.Disk.view c.self.inside.disk).seen c.self.inside.spots.items c.self.inside.end (c.write_frame.ensures.front (inside honest)) c.self.invariant.within ∙ was;
     }
+
+pub returns-then-self-clause-appends : goal.returns-then-self-clause-appends
+returns-then-self-clause-appends g c = tt
+
+pub returns-then-self-clause-safely : goal.returns-then-self-clause-safely
+returns-then-self-clause-safely g c = rw (← c.self.view_is) (AppendsSafely-shut g.D.Disk.view _ _ c.if-self.true)
+
+pub returns-then-self-clause-closed : goal.returns-then-self-clause-closed
+returns-then-self-clause-closed g c = rw (← c.self.view_is) (λ _. c.if-self.true, λ _. refl)
+
+pub returns-then-self-clause-full : goal.returns-then-self-clause-full
+returns-then-self-clause-full g c = rw (← c.self.view_is) (λ is. absurd (closed_not_full is), λ p. absurd (not_both c.if-self.true p.0))
+
+pub returns-then-self-clause-unchanged : goal.returns-then-self-clause-unchanged
+returns-then-self-clause-unchanged g c = λ _. refl
+
+pub returns-then-self-clause-disk : goal.returns-then-self-clause-disk
+returns-then-self-clause-disk g c = λ is. absurd (closed_not_disk is)
+
+pub returns-then-self-clause-works : goal.returns-then-self-clause-works
+returns-then-self-clause-works g c = rw (← c.self.view_is) (λ is_open _. absurd (not_both c.if-self.true is_open))
+
+pub returns-then-self-from-clause-appends : goal.returns-then-self-from-clause-appends
+returns-then-self-from-clause-appends g c = tt
+
+pub returns-then-self-from-clause-closed : goal.returns-then-self-from-clause-closed
+returns-then-self-from-clause-closed g c = rw (← c.self.view_is) (λ is. absurd (full_not_closed is), λ shut. absurd (not_both shut c.if-self.false))
+
+pub returns-then-self-from-clause-unchanged : goal.returns-then-self-from-clause-unchanged
+returns-then-self-from-clause-unchanged g c = λ _. refl
+
+pub returns-then-self-from-clause-disk : goal.returns-then-self-from-clause-disk
+returns-then-self-from-clause-disk g c = λ is. absurd (full_not_disk is)
+
+pub returns-in_default-clause-appends : goal.returns-in_default-clause-appends
+returns-in_default-clause-appends g c = tt
+
+pub returns-in_default-clause-safely : goal.returns-in_default-clause-safely
+returns-in_default-clause-safely g c = rw (← c.self.view_is) (record {
+      any_moment = λ is_open honest. leaves_before_or_after (g.D.Disk.view c.self.inside.disk) (g.D.Disk.view c.write_frame.new.disk) c.self.inside.spots.items c.self.inside.end c.self.inside.closed c.self.invariant is_open honest c.args.frame.now (c.write_frame.ensures.any_moment honest);
+      takes = c.write_frame.ensures.takes;
+    })
+
+pub returns-in_default-clause-closed : goal.returns-in_default-clause-closed
+returns-in_default-clause-closed g c = rw (← c.self.view_is) (λ is. absurd (disk_not_closed is), λ shut. absurd (not_both shut c.if-self.false))
+
+pub returns-in_default-clause-unchanged : goal.returns-in_default-clause-unchanged
+returns-in_default-clause-unchanged g c = λ other. absurd (other refl)
+
+pub returns-in_default-clause-works : goal.returns-in_default-clause-works
+returns-in_default-clause-works g c = rw (← c.self.view_is) (λ _ sure. absurd (c.in_default.ensures.fails.unsure sure))
+
+pub returns-clause-safely : goal.returns-clause-safely
+returns-clause-safely g c = rw (← c.self.view_is) (record {
+      any_moment = λ is_open honest. leaves_before_or_after (g.D.Disk.view c.self.inside.disk) (g.D.Disk.view c.write_frame.new.disk) c.self.inside.spots.items c.self.inside.end c.self.inside.closed c.self.invariant is_open honest c.args.frame.now (c.write_frame.ensures.any_moment honest);
+      takes = c.write_frame.ensures.takes;
+    })
+
+pub returns-clause-closed : goal.returns-clause-closed
+returns-clause-closed g c = rw (← c.self.view_is) (λ is. absurd (no_error _ _ is), λ shut. absurd (not_both shut c.if-self.false))
+
+pub returns-clause-unchanged : goal.returns-clause-unchanged
+returns-clause-unchanged g c = tt
+
+pub returns-clause-disk : goal.returns-clause-disk
+returns-clause-disk g c = λ is. absurd (no_error _ _ is)
+
+pub returns-clause-works : goal.returns-clause-works
+returns-clause-works g c = λ _ _. refl

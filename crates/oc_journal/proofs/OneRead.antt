@@ -1,5 +1,5 @@
 -- One read of a journal.
-use Rattle.std.proofs.Common.{◌≡◌, ℕ, Bool, true, IsTrue, IsErrOf, Err, List, refl, sym, ◌∙◌, ap, subst, arith}
+use Rattle.std.proofs.Common.{◌≡◌, ◌≤◌, ℕ, Bool, true, IsTrue, IsErrOf, Err, List, length, refl, sym, ◌∙◌, ap, subst, arith}
 use Rattle.std.proofs.lemmas.List.{length-map}
 use Rattle.oc_io.specs.DiskView.{DiskView, StaysAsItWas}
 use Rattle.oc_journal.specs.JournalFile.{frames_of, EndsAt}
@@ -55,3 +55,18 @@ module _ (v w : DiskView) (spots : List Spot) (offset : ℕ) (closed : Bool) (is
     settled = λ is_open h. absurd cc;
     frames = λ is_open h. absurd cc;
   }
+
+-- More room for spots or on the disk changes neither.
+module _ {D : Type 0} (view : D → DiskView) (d e : D) (spots more : List Spot) (same : more ≡ spots) (stays : StaysAsItWas (view d) (view e)) where
+  pub OnlyReads-reserved : (end spare later : ℕ) (was : Bool) → spare ≤ later → OnlyReads view (record { disk = d; frames = at_spots (view d).seen spots; end = end; spare = spare; closed = was }) (record { disk = e; frames = at_spots (view e).seen more; end = end; spare = later; closed = was })
+  OnlyReads-reserved end spare later was grown = record {
+    disk = stays;
+    frames = λ h. ap (at_spots (view e).seen) same ∙ ap (λ (file : List ℕ). at_spots file spots) (stays.seen h);
+    count = length-map more (at_spot (view e).seen) ∙ ap length same ∙ sym (length-map spots (at_spot (view d).seen));
+    end = refl;
+    spare = grown;
+  }
+
+pub IsIndexed-reserved : (v w : DiskView) (spots more : List Spot) (offset : ℕ) (closed : Bool) → more ≡ spots → IsIndexed v spots offset closed → StaysAsItWas v w → w.size ≡ v.size → IsIndexed w more offset closed
+IsIndexed-reserved v w spots more offset closed same is stays size =
+    subst (λ (s : List Spot). IsIndexed w s offset closed) (sym same) (IsIndexed-read v w spots offset closed is stays size)

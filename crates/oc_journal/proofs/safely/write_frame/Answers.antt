@@ -1,5 +1,6 @@
 use Rattle.std.proofs.Common.{ℕ, ◌≡◌, ◌+◌, [], ◌∷◌, ◌++◌, length, take, sym, ◌∙◌, ap, subst, arith}
 use Rattle.std.proofs.lemmas.List.{take-take}
+use Rattle.std.proofs.lemmas.Result.{err_from_is_err_and}
 use Rattle.oc_io.specs.DiskView.{DiskView, Holds, IsTorn}
 use Rattle.oc_io.proofs.DiskMoments.{LeavesOnly-weaker, LeavesOnly-then, still_honest}
 use Rattle.oc_journal.specs.JournalFile.{frames_of, IsBeforeOrAfter}
@@ -91,3 +92,48 @@ returns-clause-body g c =
     let behind = subst (λ bytes. Holds v.seen (c.args.end + 1) bytes m.seen) c.bytes.ensures.bytes (c.in_ok-write_safely.ensures.written honest) in
     gate_body v m w c.args.end body (c.requires.settled honest) c.bytes.ensures.short behind (written honest_m))
     c.write_safely-2.ensures.written c.write_safely-2.ensures.safe
+
+pub returns-in_err-write_safely-clause-turns : goal.returns-in_err-write_safely-clause-turns
+returns-in_err-write_safely-clause-turns g c =
+    let p = err_from_is_err_and c.from_residual.result c.from_residual.ensures.1 in
+    rw p.1 tt
+
+pub returns-in_err-write_safely-clause-settled : goal.returns-in_err-write_safely-clause-settled
+returns-in_err-write_safely-clause-settled g c =
+    let p = err_from_is_err_and c.from_residual.result c.from_residual.ensures.1 in
+    rw p.1 tt
+
+pub returns-in_err-write_safely-clause-added : goal.returns-in_err-write_safely-clause-added
+returns-in_err-write_safely-clause-added g c =
+    let p = err_from_is_err_and c.from_residual.result c.from_residual.ensures.1 in
+    rw p.1 tt
+
+pub returns-in_err-write_safely-clause-body : goal.returns-in_err-write_safely-clause-body
+returns-in_err-write_safely-clause-body g c =
+    let p = err_from_is_err_and c.from_residual.result c.from_residual.ensures.1 in
+    rw p.1 tt
+
+pub returns-in_err-write_safely-clause-size : goal.returns-in_err-write_safely-clause-size
+returns-in_err-write_safely-clause-size g c =
+    let p = err_from_is_err_and c.from_residual.result c.from_residual.ensures.1 in
+    rw p.1 tt
+
+pub returns-in_err-write_safely-clause-no_fault : goal.returns-in_err-write_safely-clause-no_fault
+returns-in_err-write_safely-clause-no_fault g c =
+    let p = err_from_is_err_and c.from_residual.result c.from_residual.ensures.1 in
+    rw p.1 tt
+
+pub returns-in_err-write_safely-clause-no_smaller : goal.returns-in_err-write_safely-clause-no_smaller
+returns-in_err-write_safely-clause-no_smaller g c = c.write_safely.ensures.no_smaller
+
+pub returns-clause-turns : goal.returns-clause-turns
+returns-clause-turns g c =
+    let v = g.D.Disk.view c.args.disk.now in
+    let m = g.D.Disk.view c.write_safely.new.disk in
+    both c.write_safely-2.result (λ turns _ honest. omega (arith, turns (still_honest v m c.write_safely.ensures.takes.goes_on honest), c.in_ok-write_safely.ensures.turns honest)) c.write_safely-2.ensures.turns c.write_safely-2.ensures.turns
+
+pub returns-clause-no_fault : goal.returns-clause-no_fault
+returns-clause-no_fault g c = both c.write_safely-2.result (λ second _. second ∙ c.in_ok-write_safely.ensures.no_fault) c.write_safely-2.ensures.no_fault c.write_safely-2.ensures.no_fault
+
+pub returns-clause-no_smaller : goal.returns-clause-no_smaller
+returns-clause-no_smaller g c = omega (arith, c.write_safely.ensures.no_smaller, c.write_safely-2.ensures.no_smaller)

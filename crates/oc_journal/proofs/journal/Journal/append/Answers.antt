@@ -79,9 +79,9 @@ returns-in_default-clause-appends g c = tt
 
 pub returns-in_default-clause-safely : goal.returns-in_default-clause-safely
 returns-in_default-clause-safely g c = rw (← c.self.view_is) (record {
-      any_moment = λ is_open honest. leaves_before_or_after (g.D.Disk.view c.self.inside.disk) (g.D.Disk.view c.write_frame.new.disk) c.self.inside.spots.items c.self.inside.end c.self.inside.closed c.self.invariant is_open honest c.args.frame.now (c.write_frame.ensures.any_moment honest);
-      takes = c.write_frame.ensures.takes;
-    })
+  any_moment = λ is_open honest. leaves_before_or_after (g.D.Disk.view c.self.inside.disk) (g.D.Disk.view c.write_frame.new.disk) c.self.inside.spots.items c.self.inside.end c.self.inside.closed c.self.invariant is_open honest c.args.frame.now (c.write_frame.ensures.any_moment honest);
+  takes = c.write_frame.ensures.takes;
+})
 
 pub returns-in_default-clause-closed : goal.returns-in_default-clause-closed
 returns-in_default-clause-closed g c = rw (← c.self.view_is) (λ is. absurd (disk_not_closed is), λ shut. absurd (not_both shut c.if-self.false))
@@ -94,9 +94,9 @@ returns-in_default-clause-works g c = rw (← c.self.view_is) (λ _ sure. absurd
 
 pub returns-clause-safely : goal.returns-clause-safely
 returns-clause-safely g c = rw (← c.self.view_is) (record {
-      any_moment = λ is_open honest. leaves_before_or_after (g.D.Disk.view c.self.inside.disk) (g.D.Disk.view c.write_frame.new.disk) c.self.inside.spots.items c.self.inside.end c.self.inside.closed c.self.invariant is_open honest c.args.frame.now (c.write_frame.ensures.any_moment honest);
-      takes = c.write_frame.ensures.takes;
-    })
+  any_moment = λ is_open honest. leaves_before_or_after (g.D.Disk.view c.self.inside.disk) (g.D.Disk.view c.write_frame.new.disk) c.self.inside.spots.items c.self.inside.end c.self.inside.closed c.self.invariant is_open honest c.args.frame.now (c.write_frame.ensures.any_moment honest);
+  takes = c.write_frame.ensures.takes;
+})
 
 pub returns-clause-closed : goal.returns-clause-closed
 returns-clause-closed g c = rw (← c.self.view_is) (λ is. absurd (no_error _ _ is), λ shut. absurd (not_both shut c.if-self.false))

@@ -56,10 +56,10 @@ returns-in_default-clause-restarts g c = tt
 
 pub returns-in_default-clause-safely : goal.returns-in_default-clause-safely
 returns-in_default-clause-safely g c = rw (← c.self.view_is) (record {
-      any_moment = λ is_open honest. leaves_all_or_none (g.D.Disk.view c.self.inside.disk) (g.D.Disk.view c.close_first_gate.new.disk) c.self.inside.spots.items c.self.inside.end c.self.inside.closed c.self.invariant is_open honest (c.close_first_gate.ensures.any_moment honest);
-      takes = c.close_first_gate.ensures.takes;
-      spare = omega arith;
-    })
+  any_moment = λ is_open honest. leaves_all_or_none (g.D.Disk.view c.self.inside.disk) (g.D.Disk.view c.close_first_gate.new.disk) c.self.inside.spots.items c.self.inside.end c.self.inside.closed c.self.invariant is_open honest (c.close_first_gate.ensures.any_moment honest);
+  takes = c.close_first_gate.ensures.takes;
+  spare = omega arith;
+})
 
 pub returns-in_default-clause-closed : goal.returns-in_default-clause-closed
 returns-in_default-clause-closed g c = rw (← c.self.view_is) (λ is. absurd (failed_not_shut is), λ shut. absurd (not_both shut c.if-self.false))
@@ -84,7 +84,7 @@ returns-clause-works g c = λ _ _. refl
 
 pub returns-clause-safely : goal.returns-clause-safely
 returns-clause-safely g c = rw (← c.self.view_is) (record {
-      any_moment = λ is_open honest. leaves_all_or_none (g.D.Disk.view c.self.inside.disk) (g.D.Disk.view c.close_first_gate.new.disk) c.self.inside.spots.items c.self.inside.end c.self.inside.closed c.self.invariant is_open honest (c.close_first_gate.ensures.any_moment honest);
-      takes = c.close_first_gate.ensures.takes;
-      spare = search rules;
-    })
+  any_moment = λ is_open honest. leaves_all_or_none (g.D.Disk.view c.self.inside.disk) (g.D.Disk.view c.close_first_gate.new.disk) c.self.inside.spots.items c.self.inside.end c.self.inside.closed c.self.invariant is_open honest (c.close_first_gate.ensures.any_moment honest);
+  takes = c.close_first_gate.ensures.takes;
+  spare = search rules;
+})

@@ -1,6 +1,6 @@
 //! To which node an act brings which input.
 
-ghost use Rattle.std.specs.Prelude.{◌≡◌, ◌+◌, ◌<◌, ◌⊎◌, option_map, IfNone, IfOk, IfSome};
+ghost use Rattle.std.specs.Prelude.{◌≡◌, ◌↔◌, ◌+◌, ◌<◌, ◌≤◌, ◌⊎◌, option_map, IfNone, IfOk, IfSome, IsTrue};
 ghost use Rattle.oc_calm.specs.Cluster.{IsStep};
 ghost use Rattle.oc_model.specs.World.{World as WorldState, aimed, delivery, message_at};
 ghost use Rattle.oc_aims.specs.Aims.{IsLawfulAim, IsLawfulIfAny, aimed_of};
@@ -89,9 +89,16 @@ pub fn message_place(number: u64, sent: usize) -> Option<usize>
     ensures some { IfSome result (λ at. (at + 1 ≡ number) × (at < sent)) }
 {
     let before = number.checked_sub(1)?;
-    if before < sent as u64 {
+    if is_sent(number, sent) {
         Some(before as usize)
     } else {
         None
     }
+}
+
+/// Whether so many messages, counted from 1, come to this number.
+fn is_sent(number: u64, sent: usize) -> bool
+    ensures { IsTrue result ↔ (number ≤ sent) }
+{
+    number <= sent as u64
 }

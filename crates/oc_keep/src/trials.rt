@@ -1,4 +1,4 @@
-ghost use Rattle.std.specs.Prelude.{◌≡◌, ◌≢◌, ◌+◌, ◌<◌, ◌≤◌, false, length, take, drop, IsTrue};
+ghost use Rattle.std.specs.Prelude.{◌≡◌, ◌≢◌, ◌+◌, ◌<◌, ◌≤◌, false, length, take, drop, Err, IfErr, IfOk, IsTrue, Ok};
 ghost use Rattle.std.specs.List.{AllByRecursion};
 ghost use Rattle.oc_base.specs.Lawful.{IsNode};
 ghost use Rattle.oc_keep.specs.declared.errors.KeepError.TheVariants.{Full};
@@ -7,12 +7,15 @@ ghost use Rattle.oc_keep.specs.KeptView.{IsFullOn, IsHonest, NodeSurvives, disks
 ghost use Rattle.oc_keep.specs.Promises.{HoldFiles};
 ghost use Rattle.oc_keep.specs.Trials.{BeginsWith, EndsFull, EndsSurely, HasCause, HasRunCause, IsCounted, LeavesAfter, RunLeaves, after_inputs, first_node};
 ghost use Rattle.oc_model.specs.Lawful.{IsHeader, IsInput};
+ghost use Rattle.oc_node.specs.OutcomeView.{OutcomeView};
 
 use crate::ended::{Trial, TrialEnd};
+use crate::errors::KeepError;
 use crate::kept::Kept;
 use oc_base::NodeId;
 use oc_io::Disk;
 use oc_model::Input;
+use oc_node::Outcome;
 use std::alloc::Global;
 
 /// Loads a node, takes inputs in order up to the first that is refused, and hands the disks back.
@@ -85,8 +88,8 @@ fn run<D: Disk>(kept: &mut Kept<D>, mut inputs: Vec<Input>) -> Trial
     inputs.reverse();
     let mut done = 0;
     while let Some(input) = inputs.pop() {
-        match kept.take(input) {
-            Ok(_) => done += 1,
+        match met(kept.take(input)) {
+            Ok(()) => done += 1,
             Err(error) => {
                 return Trial {
                     done,
@@ -98,5 +101,16 @@ fn run<D: Disk>(kept: &mut Kept<D>, mut inputs: Vec<Input>) -> Trial
     Trial {
         done,
         end: TrialEnd::All,
+    }
+}
+
+/// What an input met: nothing, or why it was refused.
+fn met(taken: Result<Outcome, KeepError>) -> Result<(), KeepError>
+    ensures ok { IfOk result (λ _. (outcome : OutcomeView) × (taken ≡ Ok outcome)) }
+    ensures err { IfErr result (λ error. taken ≡ Err error) }
+{
+    match taken {
+        Ok(_) => Ok(()),
+        Err(error) => Err(error),
     }
 }

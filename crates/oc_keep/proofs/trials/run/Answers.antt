@@ -14,7 +14,7 @@ returns-in-Err-clause-leaves g c =
     let now = c.loop-input.kept in
     let rest = c.pop.new.self.items in
     let so = popped g.D.Disk.view (λ x h. g.met.D.Disk.consistent x h) first all now c.loop-input.inputs.items rest c.in-Some.input c.loop-input.done c.in-Some.ensures.items c.loop-input.invariant.far in
-    refused_leaves g.D.Disk.view (λ x h. g.met.D.Disk.consistent x h) first all now c.take.new.self c.in-Some.input (reverse rest) c.loop-input.done c.in-Err.error so c.in-Err.ensures.goes_on c.in-Err.ensures.unchanged (c.in-Err.ensures.any_moment so.is_open)
+    refused_leaves g.D.Disk.view (λ x h. g.met.D.Disk.consistent x h) first all now c.take.new.self c.in-Some.input (reverse rest) c.loop-input.done c.in-Err.error so c.take.ensures.goes_on (rw c.in-Err.ensures.err at c.take.ensures.unchanged) (c.take.ensures.any_moment so.is_open)
 
 pub returns-in-Err-clause-full : goal.returns-in-Err-clause-full
 returns-in-Err-clause-full g c = λ honest ended.
@@ -24,18 +24,9 @@ returns-in-Err-clause-full g c = λ honest ended.
     let now = c.loop-input.kept in
     let rest = c.pop.new.self.items in
     let so = popped g.D.Disk.view (λ x h. g.met.D.Disk.consistent x h) first all now c.loop-input.inputs.items rest c.in-Some.input c.loop-input.done c.in-Some.ensures.items c.loop-input.invariant.far in
-    let e = c.in-Err.ensures in
-    refused_full g.D.Disk.view (λ x h. g.met.D.Disk.consistent x h) first all now c.take.new.self c.in-Some.input (reverse rest) c.loop-input.done so (e.full (ap (λ (x : KeepError). Err x) is)) (e.unchanged (λ other. absurd (full_unfailed c.in-Err.error is other))) (e.stays_open (λ other. absurd (full_no_disk c.in-Err.error is other))) honest
-
-pub loop-input-preserved-in-Ok : goal.loop-input-preserved-in-Ok
-loop-input-preserved-in-Ok g c =
-    let first = c.args.kept.now in
-    let all = c.args.inputs.items in
-    let now = c.loop-input.kept in
-    let rest = c.pop.new.self.items in
-    let so = popped g.D.Disk.view (λ x h. g.met.D.Disk.consistent x h) first all now c.loop-input.inputs.items rest c.in-Some.input c.loop-input.done c.in-Some.ensures.items c.loop-input.invariant.far in
-    let e = c.in-Ok.ensures in
-    record { far = so_far_on g.D.Disk.view (λ x h. g.met.D.Disk.consistent x h) first all now c.take.new.self c.in-Some.input (reverse rest) c.loop-input.done so (e.stays_open (λ wrong. absurd (done c.in-Ok.field-0 _ wrong))) e.same e.goes_on e.node e.survives }
+    let err = c.in-Err.ensures.err in
+    let e = c.take.ensures in
+    refused_full g.D.Disk.view (λ x h. g.met.D.Disk.consistent x h) first all now c.take.new.self c.in-Some.input (reverse rest) c.loop-input.done so ((rw err at e.full) (ap (λ (x : KeepError). Err x) is)) ((rw err at e.unchanged) (λ other. absurd (full_unfailed c.in-Err.error is other))) ((rw err at e.stays_open) (λ other. absurd (full_no_disk c.in-Err.error is other))) honest
 
 pub loop-input-init : goal.loop-input-init
 loop-input-init g c =
@@ -79,20 +70,18 @@ returns-in-Err-clause-cause g c =
     let now = c.loop-input.kept in
     let rest = c.pop.new.self.items in
     let so = popped g.D.Disk.view (λ x h. g.met.D.Disk.consistent x h) first all now c.loop-input.inputs.items rest c.in-Some.input c.loop-input.done c.in-Some.ensures.items c.loop-input.invariant.far in
-    let e = c.in-Err.ensures in
+    let err = c.in-Err.ensures.err in
+    let e = c.take.ensures in
     refused_cause g.D.Disk.view (λ x h. g.met.D.Disk.consistent x h) first all now c.take.new.self c.in-Some.input (reverse rest) c.loop-input.done c.in-Err.error so
-    (λ is. e.closed.0 (ap (λ (x : KeepError). Err x) is)) (λ is. e.disk (ap (λ (x : KeepError). Err x) is))
+    (λ is. (rw err at e.closed).0 (ap (λ (x : KeepError). Err x) is)) (λ is. (rw err at e.disk) (ap (λ (x : KeepError). Err x) is))
 
 pub returns-in-Err-clause-goes_on : goal.returns-in-Err-clause-goes_on
-returns-in-Err-clause-goes_on g c = all_go_on_then g.D.Disk.view (disks_of c.args.kept.now) (disks_of c.loop-input.kept) (disks_of c.take.new.self) c.loop-input.invariant.far.on c.in-Err.ensures.goes_on
+returns-in-Err-clause-goes_on g c = all_go_on_then g.D.Disk.view (disks_of c.args.kept.now) (disks_of c.loop-input.kept) (disks_of c.take.new.self) c.loop-input.invariant.far.on c.take.ensures.goes_on
 
 pub returns-in-Err-clause-works : goal.returns-in-Err-clause-works
 returns-in-Err-clause-works g c = λ sure.
     let so = c.loop-input.invariant.far in
-    c.in-Err.ensures.works so.is_open (all_reliable g.D.Disk.view (disks_of c.args.kept.now) (disks_of c.loop-input.kept) so.on sure)
-
-pub loop-input-smaller-in-Ok : goal.loop-input-smaller-in-Ok
-loop-input-smaller-in-Ok g c = one_fewer c.pop.new.self.len c.loop-input.inputs.len c.in-Some.ensures.cases
+    (rw c.in-Err.ensures.err at c.take.ensures.works) so.is_open (all_reliable g.D.Disk.view (disks_of c.args.kept.now) (disks_of c.loop-input.kept) so.on sure)
 
 pub loop-input-smaller : goal.loop-input-smaller
 loop-input-smaller g c = one_fewer c.pop.new.self.len c.loop-input.inputs.len c.in-Some.ensures.cases
@@ -104,8 +93,9 @@ loop-input-preserved g c =
     let now = c.loop-input.kept in
     let rest = c.pop.new.self.items in
     let so = popped g.D.Disk.view (λ x h. g.met.D.Disk.consistent x h) first all now c.loop-input.inputs.items rest c.in-Some.input c.loop-input.done c.in-Some.ensures.items c.loop-input.invariant.far in
-    let e = c.in-Ok.ensures in
-    record { far = so_far_on g.D.Disk.view (λ x h. g.met.D.Disk.consistent x h) first all now c.take.new.self c.in-Some.input (reverse rest) c.loop-input.done so (e.stays_open (λ wrong. absurd (done c.in-Ok.field-0 _ wrong))) e.same e.goes_on e.node e.survives }
+    let ok = c.in-Ok.ensures.ok in
+    let e = c.take.ensures in
+    record { far = so_far_on g.D.Disk.view (λ x h. g.met.D.Disk.consistent x h) first all now c.take.new.self c.in-Some.input (reverse rest) c.loop-input.done so ((rw ok.1 at e.stays_open) (λ wrong. absurd (done ok.0 _ wrong))) e.same e.goes_on (rw ok.1 at e.node) (rw ok.1 at e.survives) }
 
 pub returns-clause-leaves : goal.returns-clause-leaves
 returns-clause-leaves g c =

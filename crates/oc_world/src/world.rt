@@ -92,7 +92,7 @@ impl World {
     ///
     /// If memory runs out, the world stays as it was, or for settle and heal as it was before one of
     /// the acts that they are made of; the files of a node may have been turned over. It answers `Memory`
-    /// also once 2^63 - 2 messages were sent.
+    /// also where more than 2^63 - 2 messages would have been sent.
     pub fn event(&mut self, event: &Event) -> Result<Said, Memory>
         requires event { IsEvent (length (ids self.old.world)) event.now }
         requires time { HasTimeFor self.old.world event.now }

@@ -1,7 +1,7 @@
 use Rattle.std.proofs.Common.{ℕ, ◌≡◌, ◌+◌, ◌-◌, ◌++◌, List, length, take, drop, replicate, ◌∙◌, ap, sym, arith}
 use Rattle.std.proofs.lemmas.List.{length-drop, length-take-le, drop-drop}
-use Rattle.oc_io.proofs.Blots.{blotted-is}
-use Rattle.oc_io.proofs.disk_log.fill.Goals as goal
+use Rattle.oc_disk_log.proofs.Blots.{blotted-is}
+use Rattle.oc_disk_log.proofs.disk_log.fill.Goals as goal
 
 pub returns : goal.returns
 returns c =

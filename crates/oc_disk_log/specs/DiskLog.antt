@@ -1,8 +1,8 @@
 -- How a disk in memory keeps the record of its calls: steps in order, and the bytes that were written over in one pool.
 use Rattle.std.specs.Prelude.{ℕ, ◌-◌, List, [], ◌∷◌, length, take, drop}
-use Rattle.oc_io.specs.DiskPast.{Call, Wrote, Synced}
-use Rattle.oc_io.specs.declared.disk_log.Step.{Step}
-use Rattle.oc_io.specs.declared.disk_log.Step.TheVariants.{Write, Sync}
+use Rattle.oc_disk_log.specs.Calls.{Call, Wrote, Synced}
+use Rattle.oc_disk_log.specs.declared.disk_log.Step.{Step}
+use Rattle.oc_disk_log.specs.declared.disk_log.Step.TheVariants.{Write, Sync}
 
 -- the calls of these steps, newest first
 abbrev pub told : List Step → List ℕ → List Call

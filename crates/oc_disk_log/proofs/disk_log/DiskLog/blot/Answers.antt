@@ -1,11 +1,11 @@
 use Rattle.std.proofs.Common.{ℕ, ◌≡◌, List, [], ◌∷◌, ◌++◌, length, reverse, refl, sym, ◌∙◌, ap, subst, arith}
 use Rattle.std.proofs.lemmas.List.{reverse-append, nil_from_length}
-use Rattle.oc_io.specs.DiskPast.{Fits, Call, crashed}
-use Rattle.oc_io.specs.DiskLog.{told}
-use Rattle.oc_io.specs.DiskLogView.{DiskLogView}
-use Rattle.oc_io.specs.declared.disk_log.Step.{Step}
-use Rattle.oc_io.proofs.Blots.{blotted_by, crashed-told, AreWithin, AreWithin-told, length-blotted}
-use Rattle.oc_io.proofs.disk_log.DiskLog.blot.Goals as goal
+use Rattle.oc_disk_log.specs.Calls.{Fits, Call, crashed}
+use Rattle.oc_disk_log.specs.DiskLog.{told}
+use Rattle.oc_disk_log.specs.DiskLogView.{DiskLogView}
+use Rattle.oc_disk_log.specs.declared.disk_log.Step.{Step}
+use Rattle.oc_disk_log.proofs.Blots.{blotted_by, crashed-told, AreWithin, AreWithin-told, length-blotted}
+use Rattle.oc_disk_log.proofs.disk_log.DiskLog.blot.Goals as goal
 
 -- the newest step comes first
 turned : (steps rest : List Step) (last step : Step) → steps ≡ rest ++ last ∷ [] → last ≡ step → reverse steps ≡ step ∷ reverse rest

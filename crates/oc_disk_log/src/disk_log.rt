@@ -1,5 +1,5 @@
 ghost use Rattle.std.specs.Prelude.{◌≡◌, ◌+◌, ◌-◌, ◌<◌, ◌≤◌, [], ◌∷◌, length, max, OnOk, OnErr};
-ghost use Rattle.oc_io.specs.DiskPast.{Wrote, Synced, Fits, blotted, crashed};
+ghost use Rattle.oc_disk_log.specs.Calls.{Wrote, Synced, Fits, blotted, crashed};
 
 use std::alloc::{AllocError, Global};
 use std::marker::Model;
@@ -28,11 +28,11 @@ pub struct DiskLog {
 
 impl Model for DiskLog {
     ghost use Rattle.std.specs.Prelude.{◌+◌, ◌≤◌, reverse, vec_len, vec_capacity};
-    ghost use Rattle.oc_io.specs.DiskLogView.{DiskLogView};
+    ghost use Rattle.oc_disk_log.specs.DiskLogView.{DiskLogView};
 
     ghost Value = { DiskLogView };
 
-    ghost use Rattle.oc_io.specs.DiskLog.{told};
+    ghost use Rattle.oc_disk_log.specs.DiskLog.{told};
 
     ghost view = { λ l. record { past = told (reverse l.steps.items) l.pool.items; room = l.room; calls = l.calls } };
 

@@ -1,6 +1,6 @@
 use Rattle.std.proofs.Common.{◌≡◌, length, reverse, vec_len}
-use Rattle.oc_io.proofs.Blots.{blotted_by, AreWithin}
-use Rattle.oc_io.proofs.disk_log.DiskLog.blot.Given as goal
+use Rattle.oc_disk_log.proofs.Blots.{blotted_by, AreWithin}
+use Rattle.oc_disk_log.proofs.disk_log.DiskLog.blot.Given as goal
 
 -- the steps that are left make of the bytes what all steps make of the bytes at first
 abbrev pub invariant-loop-step : goal.invariant-loop-step

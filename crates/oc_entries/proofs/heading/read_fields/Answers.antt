@@ -1,9 +1,9 @@
 use Rattle.std.proofs.Common.{◌≡◌, ℕ, ◌+◌, ◌-◌, ◌≤◌, get_or, List, ◌∷◌, length, drop, take, Some, sym, ap, subst, ◌∙◌, arith}
 use Rattle.std.specs.Int.{w64, from_be_bytes}
 use Rattle.oc_base.specs.Names.{parsed_name}
-use Rattle.oc_content.specs.Entries.{fields}
-use Rattle.oc_content.proofs.Spelling.{fields_read, bytes_behind}
-use Rattle.oc_content.proofs.heading.read_fields.Goals as goal
+use Rattle.oc_entries.specs.Entries.{fields}
+use Rattle.oc_entries.proofs.Spelling.{fields_read, bytes_behind}
+use Rattle.oc_entries.proofs.heading.read_fields.Goals as goal
 
 pub returns : goal.returns
 returns c =

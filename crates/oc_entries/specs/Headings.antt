@@ -1,7 +1,7 @@
 -- A heading that was read, and the body after it.
 use Rattle.std.specs.Prelude.{◌≡◌, ℕ, ◌+◌, ◌-◌, ◌<◌, ◌≤◌, Option, None, Some, List, drop, length}
-use Rattle.oc_content.specs.declared.heading.Heading.{Heading}
-use Rattle.oc_content.specs.Entries.{Entry}
+use Rattle.oc_entries.specs.declared.heading.Heading.{Heading}
+use Rattle.oc_entries.specs.Entries.{Entry}
 
 -- what a body with this heading says
 abbrev pub entry_at : Heading → List ℕ → Entry

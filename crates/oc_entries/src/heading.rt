@@ -3,11 +3,11 @@
 ghost use Rattle.std.specs.Prelude.{◌≡◌, ◌+◌, ◌^◌, ◌<◌, ◌≤◌, ◌++◌, length, take, IfOk, IfSome};
 ghost use Rattle.std.specs.Int.{w64, from_be_bytes};
 ghost use Rattle.oc_base.specs.Names.{IsGroupName};
-ghost use Rattle.oc_content.specs.Entries.{entry_of, fields, heading};
-ghost use Rattle.oc_content.specs.Headings.{IsBehind, IsHeadingOf};
+ghost use Rattle.oc_base.specs.declared.limits.TheConstants.{MAX_FRAME_BYTES};
+ghost use Rattle.oc_entries.specs.Entries.{entry_of, fields, heading};
+ghost use Rattle.oc_entries.specs.Headings.{IsBehind, IsHeadingOf};
 
-use oc_base::{GroupName, MAX_FRAME_BYTES, MAX_PUBLISH_BYTES};
-use oc_journal::{Frame, FrameFault};
+use oc_base::{GroupName, MAX_PUBLISH_BYTES};
 use std::alloc::{AllocError, Global};
 
 /// The byte that begins a sealed body. No name has this length.
@@ -58,10 +58,11 @@ impl Heading {
     }
 
     /// The body with this heading and these bytes.
-    pub fn frame(&self, alloc: Global, bytes: &[u8]) -> Result<Frame, AllocError>
+    pub fn body(&self, alloc: Global, bytes: &[u8]) -> Result<Vec<u8>, AllocError>
         requires { length bytes.now ≤ MAX_PUBLISH_BYTES }
-        ensures { IfOk result (λ frame.
-            frame ≡ heading self.now.seals self.now.group self.now.start ++ bytes.now) }
+        ensures body { IfOk result (λ body.
+            body.items ≡ heading self.now.seals self.now.group self.now.start ++ bytes.now) }
+        ensures short { IfOk result (λ body. length body.items ≤ MAX_FRAME_BYTES) }
     {
         let mut body = Vec::new(alloc);
         if self.seals {
@@ -71,7 +72,7 @@ impl Heading {
         body.extend_from_slice(self.group.bytes())?;
         body.extend_from_slice(&self.start.to_be_bytes())?;
         body.extend_from_slice(bytes)?;
-        short_frame(alloc, &body)
+        Ok(body)
     }
 }
 
@@ -80,18 +81,6 @@ fn name_len(name: GroupName) -> u8
     ensures { result ≡ length name }
 {
     name.bytes().len() as u8
-}
-
-/// A frame of a body that is short enough for one.
-fn short_frame(alloc: Global, body: &[u8]) -> Result<Frame, AllocError>
-    requires { length body.now ≤ MAX_FRAME_BYTES }
-    ensures { IfOk result (λ frame. frame ≡ body.now) }
-{
-    match Frame::new(alloc, body) {
-        Ok(frame) => Ok(frame),
-        Err(FrameFault::Memory) => Err(AllocError),
-        Err(FrameFault::TooLong) => unreachable!(),
-    }
 }
 
 /// Reads the length of a name, the name and the start, which follow `before` bytes.

@@ -8,9 +8,9 @@ use Rattle.std.proofs.lemmas.Bool.Decides.{nat_tests}
 use Rattle.oc_base.specs.declared.group_name.NameFault.{NameFault}
 use Rattle.oc_base.specs.declared.group_name.NameFault.TheVariants.{Length as NameLength}
 use Rattle.oc_base.specs.Names.{IsGroupName, name_fault, name_or, parsed_name}
-use Rattle.oc_content.specs.declared.heading.Heading.{Heading}
-use Rattle.oc_content.specs.Entries.{Entry, entry_of, fields, written, heading, mark}
-use Rattle.oc_content.specs.Headings.{entry_at, IsBehind, IsHeadingOf}
+use Rattle.oc_entries.specs.declared.heading.Heading.{Heading}
+use Rattle.oc_entries.specs.Entries.{Entry, entry_of, fields, written, heading, mark}
+use Rattle.oc_entries.specs.Headings.{entry_at, IsBehind, IsHeadingOf}
 
 -- a name that was parsed is these bytes, and they have no fault
 parsed : (bytes name : List ℕ) (fault : Option NameFault) → name_or bytes fault ≡ Ok name → (fault ≡ None) × (name ≡ bytes)

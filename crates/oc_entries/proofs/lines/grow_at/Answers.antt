@@ -1,8 +1,8 @@
 use Rattle.std.proofs.Common.{set, ap, sym, ◌∙◌}
 use Rattle.oc_base.specs.declared.shelf.Shelf.{Shelf}
-use Rattle.oc_content.specs.Indexes.{line_with}
-use Rattle.oc_content.proofs.Lists.{changed_is}
-use Rattle.oc_content.proofs.index.grow_at.Goals as goal
+use Rattle.oc_entries.specs.Lines.{line_with}
+use Rattle.oc_entries.proofs.Changes.{changed_is}
+use Rattle.oc_entries.proofs.lines.grow_at.Goals as goal
 
 pub returns-clause-lines : goal.returns-clause-lines
 returns-clause-lines c =

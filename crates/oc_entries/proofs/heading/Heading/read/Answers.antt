@@ -1,8 +1,8 @@
 use Rattle.std.proofs.Common.{List, ℕ, ◌∷◌, sym, ap, subst, ◌∙◌}
-use Rattle.oc_content.specs.Entries.{entry_of}
-use Rattle.oc_content.specs.Headings.{IsBehind}
-use Rattle.oc_content.proofs.Spelling.{sealed_read}
-use Rattle.oc_content.proofs.heading.Heading.read.Goals as goal
+use Rattle.oc_entries.specs.Entries.{entry_of}
+use Rattle.oc_entries.specs.Headings.{IsBehind}
+use Rattle.oc_entries.proofs.Spelling.{sealed_read}
+use Rattle.oc_entries.proofs.heading.Heading.read.Goals as goal
 
 pub returns-then-first-eq-SEALED-clause-entry : goal.returns-then-first-eq-SEALED-clause-entry
 returns-then-first-eq-SEALED-clause-entry c =

@@ -3,7 +3,6 @@ pub mod Lines
 pub mod Meanings
 pub mod Tracking
 pub mod Adding
-pub mod Spelling
 pub mod Halving
 pub mod Causes
 pub mod Others

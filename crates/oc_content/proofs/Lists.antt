@@ -15,12 +15,6 @@ length-changed f (suc i) [] = refl
 length-changed f zero (x ∷ xs) = refl
 length-changed f (suc i) (x ∷ xs) = ap suc (length-changed f i xs)
 
--- a change is a write of what f makes of the element there
-pub changed_is : {X : Type 0} (f : X → X) (i : ℕ) (xs : List X) (x : X) → i < length xs → x ≡ get_or xs i x → changed f i xs ≡ set xs i (f x)
-changed_is f i [] x h e = absurd (omega (arith, h))
-changed_is f zero (y ∷ xs) x h e = ap (λ z. f z ∷ xs) (sym e)
-changed_is f (suc i) (y ∷ xs) x h e = ap (λ l. y ∷ l) (changed_is f i xs x (omega (arith, h)) e)
-
 -- a write of what a map gives is what the map gives of a change
 pub map-set_changed : {X Y : Type 0} (m : X → Y) (f : Y → Y) (i : ℕ) (xs : List X) (x y : X) → i < length xs → x ≡ get_or xs i x → m y ≡ f (m x) → map m (set xs i y) ≡ changed f i (map m xs)
 map-set_changed m f i [] x y h e is = absurd (omega (arith, h))

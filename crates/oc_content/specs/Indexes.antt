@@ -1,9 +1,10 @@
 -- The index: the line of each group, and the frames that hold its bytes.
-use Rattle.std.specs.Prelude.{◌≡◌, ℕ, zero, suc, ◌+◌, ◌-◌, ◌<◌, ◌≤◌, ◌||◌, nat_lt, if◌then◌else◌, Some, List, [], ◌∷◌, ◌++◌, length, drop, map, get_or, insert, flat_map, vec_capacity, All, IsTrue, Bool}
+use Rattle.std.specs.Prelude.{◌≡◌, ℕ, ◌+◌, ◌-◌, ◌<◌, ◌≤◌, nat_lt, if◌then◌else◌, Some, List, [], ◌∷◌, ◌++◌, length, drop, map, get_or, insert, flat_map, vec_capacity, All, IsTrue, Bool}
 use Rattle.oc_base.specs.declared.shelf.Shelf.{Shelf}
 use Rattle.oc_base.specs.declared.place.Place.{Place}
 use Rattle.oc_base.specs.declared.place.Place.TheVariants.{Found, Free}
-use Rattle.oc_content.specs.declared.heading.Heading.{Heading}
+use Rattle.oc_entries.specs.declared.heading.Heading.{Heading}
+pub use Rattle.oc_entries.specs.Lines.{changed, line_with}
 use Rattle.oc_content.specs.declared.track.Span.{Span}
 use Rattle.oc_content.specs.declared.track.Track.{Track}
 use Rattle.oc_content.specs.declared.index.Index.{Index}
@@ -11,15 +12,9 @@ use Rattle.oc_content.specs.Tracks.{room_of}
 use Rattle.oc_base.specs.declared.group.Group.{Group}
 use Rattle.oc_base.specs.Groups.{shelf}
 use Rattle.oc_base.specs.Shelves.{AreLinesAscending}
-use Rattle.oc_content.specs.Entries.{entry_of}
+use Rattle.oc_entries.specs.Entries.{entry_of}
 use Rattle.oc_content.specs.ContentFile.{content_of}
 use Rattle.oc_base.specs.declared.limits.TheConstants.{MAX_GROUPS, MAX_GROUP_BYTES}
-
--- a list with a change of the element at i
-abbrev pub changed : {X : Type 0} → (X → X) → ℕ → List X → List X
-changed f i [] = []
-changed f zero (x ∷ xs) = f x ∷ xs
-changed f (suc i) (x ∷ xs) = x ∷ changed f i xs
 
 -- the bytes of a span: those of its frame's body from a place on
 abbrev pub bytes_at : List (List ℕ) → Span → List ℕ
@@ -99,10 +94,6 @@ memory_of x = vec_capacity x.shelves + vec_capacity x.tracks
 pub record KeepsTracks (old new : List Track) : Type 0 where
   pub paths : paths new ≡ paths old
   pub rooms : (i : ℕ) → get_or (rooms old) i 0 ≤ get_or (rooms new) i 0
-
--- the line of a group with an entry of `count` bytes
-abbrev pub line_with : Heading → ℕ → Shelf → Shelf
-line_with h count s = record { group = s.group; held = s.held + count; sealed = s.sealed || h.seals }
 
 -- the lines with an entry
 abbrev pub lines_with : Place → Heading → ℕ → List Shelf → List Shelf

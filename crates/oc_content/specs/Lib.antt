@@ -1,6 +1,5 @@
-pub mod Headings
 pub mod Errors
-pub mod Entries
+pub use Rattle.oc_entries.specs.Entries
 pub mod GroupPieces
 pub mod ContentFile
 pub mod Putting

@@ -1,17 +1,13 @@
 -- What is refused, and what is added, where bytes are put to a group from a place on.
-use Rattle.std.specs.Prelude.{ℕ, ◌+◌, ◌-◌, Bool, false, ◌&&◌, not, nat_lt, nat_le, if◌then◌else◌, Option, Some, None, List, length, drop}
+use Rattle.std.specs.Prelude.{ℕ, ◌+◌, ◌-◌, Bool, ◌&&◌, not, nat_lt, nat_le, if◌then◌else◌, Option, Some, None, List, length, drop}
 use Rattle.oc_base.specs.declared.shelf.Shelf.{Shelf}
 use Rattle.oc_content.specs.declared.errors.PutError.{PutError}
 use Rattle.oc_content.specs.declared.errors.PutError.TheVariants.{Gap, Sealed, TooManyGroups, TooLong}
-use Rattle.oc_content.specs.declared.putting.Standing.{Standing}
+use Rattle.oc_entries.specs.declared.putting.Standing.{Standing}
+pub use Rattle.oc_entries.specs.Standings.{standing}
 use Rattle.oc_base.specs.Shelves.{line_of}
-use Rattle.oc_base.specs.declared.limits.TheConstants.{MAX_GROUPS, MAX_GROUP_BYTES}
-use Rattle.oc_content.specs.Entries.{Entry}
-
--- the standing of a group that has this line, or none, among `groups` groups: an absent one is empty, and perhaps one too many
-abbrev pub standing : Option Shelf → ℕ → Standing
-standing None groups = record { held = 0; sealed = false; one_too_many = nat_le MAX_GROUPS groups }
-standing (Some line) groups = record { held = line.held; sealed = line.sealed; one_too_many = false }
+use Rattle.oc_base.specs.declared.limits.TheConstants.{MAX_GROUP_BYTES}
+use Rattle.oc_entries.specs.Entries.{Entry}
 
 -- the standing of the group of this name among these lines
 abbrev pub standing_in : List Shelf → List ℕ → Standing

@@ -3,18 +3,18 @@
 ghost use Rattle.std.specs.Prelude.{◌≡◌, ℕ, ◌+◌, ◌-◌, ◌^◌, ◌<◌, ◌≤◌, Bool, [], ◌∷◌, ◌++◌, List, length, vec_capacity, None, Some, true, MatchBool, IsTrue, IfOk, IfSome, MatchOption, OnOk, All, insert, get_or, ◌||◌};
 ghost use Rattle.oc_base.specs.declared.group.Group.{Group};
 ghost use Rattle.oc_base.specs.Shelves.{line_of, held_of, IsHeldAt, AreLinesAscending, IsLinePlace};
-ghost use Rattle.oc_content.specs.Entries.{entry_of};
+ghost use Rattle.oc_entries.specs.Entries.{entry_of};
 ghost use Rattle.oc_content.specs.ContentFile.{fits, taken, with_entry};
 ghost use Rattle.oc_base.specs.declared.limits.TheConstants.{MAX_GROUPS, MAX_GROUP_BYTES};
 ghost use Rattle.oc_content.specs.Tracks.{room_of};
 ghost use Rattle.oc_content.specs.Indexes.{IsIndexOf, IsSized, IsWithin, HasTrackRoom, paths, rooms, line_with, lines_with, span_of, paths_with, spans_for, rooms_with, memory_of, changed, KeepsTracks, helds, IsTracked};
 ghost use Rattle.oc_content.specs.Founds.{IsRest, IsSpot};
 
-use crate::heading::Heading;
 use crate::piece::Piece;
 use crate::spot::Spot;
 use crate::track::{Span, Track, find_byte};
 use oc_base::{GroupName, MAX_GROUP_BYTES, MAX_GROUPS, Place, Shelf, place_of};
+use oc_entries::{Heading, grow_at};
 use std::alloc::{AllocError, Global};
 
 /// The lines of the groups, ascending by name, and their tracks in the same order.
@@ -255,26 +255,6 @@ fn reserve_at(tracks: &mut Vec<Track>, at: usize) -> Result<(), AllocError>
     ensures memory { vec_capacity tracks.old ≤ vec_capacity tracks.new }
 {
     tracks[at].reserve()
-}
-
-/// Adds `count` bytes, and the seal if the heading has it, to the line of the group at an index.
-fn grow_at(shelves: &mut Vec<Shelf>, at: usize, heading: &Heading, count: u64)
-    requires within { at < length shelves.old.items }
-    requires short { All (λ s. s.held ≤ MAX_GROUP_BYTES) shelves.old.items }
-    requires few { count ≤ MAX_GROUP_BYTES }
-    ensures lines { shelves.new.items ≡ changed (line_with heading.now count) at shelves.old.items }
-    ensures memory { vec_capacity shelves.new ≡ vec_capacity shelves.old }
-{
-    grow(&mut shelves[at], heading, count);
-}
-
-/// Adds `count` bytes, and the seal if the heading has it, to the line of a group.
-fn grow(shelf: &mut Shelf, heading: &Heading, count: u64)
-    requires { shelf.old.held + count < 2 ^ 64 }
-    ensures { shelf.new ≡ line_with heading.now count shelf.old }
-{
-    shelf.held += count;
-    shelf.sealed = shelf.sealed || heading.seals;
 }
 
 /// Adds the span of an entry, if that has bytes, to the track of the group at an index.

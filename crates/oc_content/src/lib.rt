@@ -18,7 +18,6 @@
 mod committing;
 mod content;
 mod errors;
-mod heading;
 mod index;
 mod indexing;
 mod law;

@@ -1,13 +1,13 @@
 ghost use Rattle.std.specs.Prelude.{◌≡◌, ◌^◌, ◌<◌, ◌≤◌, ◌++◌, [], Some, length, IfOk};
 ghost use Rattle.oc_base.specs.Names.{IsGroupName};
-ghost use Rattle.oc_content.specs.Entries.{entry_of, heading as heading_of};
+ghost use Rattle.oc_entries.specs.Entries.{entry_of, heading as heading_of};
 ghost use Rattle.oc_content.specs.Tracks.{room_of};
 ghost use Rattle.oc_content.specs.ContentView.{adds};
 
-use crate::heading::Heading;
 use crate::track::Track;
 use oc_base::{MAX_PUBLISH_BYTES, Place};
-use oc_journal::Frame;
+use oc_entries::Heading;
+use oc_journal::{Frame, FrameFault};
 use std::alloc::{AllocError, Global};
 use std::marker::Model;
 
@@ -25,7 +25,7 @@ pub struct Piece {
 impl Model for Piece {
     ghost use Rattle.std.specs.Prelude.{◌≡◌, length};
     ghost use Rattle.oc_content.specs.ContentView.{PieceView};
-    ghost use Rattle.oc_content.specs.Headings.{entry_at};
+    ghost use Rattle.oc_entries.specs.Headings.{entry_at};
     ghost use Rattle.oc_content.specs.Tracks.{room_of};
     ghost use Rattle.oc_content.specs.Pieces.{IsPiece};
 
@@ -58,7 +58,7 @@ impl Piece {
         ensures room { IfOk result (λ piece. piece.room ≡ room_of track) }
     {
         Ok(Piece {
-            frame: heading.frame(alloc, bytes)?,
+            frame: framed(alloc, &heading, bytes)?,
             heading,
             count: bytes.len() as u64,
             place,
@@ -79,5 +79,19 @@ impl Piece {
         ensures { result ≡ adds self.now }
     {
         matches!(self.place, Place::Free(_)) || 0 < self.count || self.heading.seals
+    }
+}
+
+/// The frame with this heading and these bytes.
+fn framed(alloc: Global, heading: &Heading, bytes: &[u8]) -> Result<Frame, AllocError>
+    requires { length bytes.now ≤ MAX_PUBLISH_BYTES }
+    ensures { IfOk result (λ frame. frame
+        ≡ heading_of heading.now.seals heading.now.group heading.now.start ++ bytes.now) }
+{
+    let body = heading.body(alloc, bytes)?;
+    match Frame::new(alloc, &body) {
+        Ok(frame) => Ok(frame),
+        Err(FrameFault::Memory) => Err(AllocError),
+        Err(FrameFault::TooLong) => unreachable!(),
     }
 }

@@ -2,7 +2,7 @@
 
 ghost use Rattle.std.specs.Prelude.{◌≡◌, ◌≢◌, ◌+◌, ◌-◌, ◌^◌, ◌<◌, ◌≤◌, ℕ, None, Some, List, IfOk, IfErr, OnOk, length, drop, vec_capacity, not, nat_le, ◌&&◌};
 ghost use Rattle.oc_base.specs.Names.{IsGroupName};
-ghost use Rattle.oc_content.specs.Entries.{written, heading};
+ghost use Rattle.oc_entries.specs.Entries.{written, heading};
 ghost use Rattle.oc_base.specs.declared.limits.TheConstants.{MAX_GROUP_BYTES};
 ghost use Rattle.oc_base.specs.Shelves.{IsLinePlace};
 ghost use Rattle.oc_base.specs.Named.{IsThere};
@@ -12,10 +12,10 @@ ghost use Rattle.oc_content.specs.ContentView.{IsIndexed, IsReady};
 ghost use Rattle.oc_journal.specs.Promises.{OnlyReads, NoneFailed, HasRoom};
 
 use crate::errors::PutError;
-use crate::heading::Heading;
 use crate::index::Index;
 use crate::piece::Piece;
 use oc_base::{GroupName, MAX_GROUP_BYTES, MAX_GROUPS, MAX_PUBLISH_BYTES, Place, Shelf, place_of};
+use oc_entries::{Heading, Standing, past};
 use oc_io::Disk;
 use oc_journal::Journal;
 use std::alloc::{AllocError, Global};
@@ -109,16 +109,6 @@ fn heading_for(standing: &Standing, group: GroupName, start: u64, count: u64, la
     Heading::of(group, standing.held, seals)
 }
 
-/// What is known of a group: an absent one counts as empty.
-#[derive(Clone, Copy)]
-pub struct Standing {
-    /// Bytes held.
-    pub held: u64,
-    pub sealed: bool,
-    /// Whether it is new, and there are as many groups as there may be.
-    pub one_too_many: bool,
-}
-
 /// What is known of the group at a place.
 pub fn standing_at(shelves: &[Shelf], place: Place) -> Standing
     requires { IsThere place (length shelves.now) }
@@ -126,23 +116,8 @@ pub fn standing_at(shelves: &[Shelf], place: Place) -> Standing
         → result ≡ standing_in shelves.now name }
 {
     match place {
-        Place::Found(at) => standing_of(&shelves[at]),
-        Place::Free(_) => Standing {
-            held: 0,
-            sealed: false,
-            one_too_many: shelves.len() >= MAX_GROUPS,
-        },
-    }
-}
-
-/// What is known of the group of a line.
-fn standing_of(shelf: &Shelf) -> Standing
-    ensures { (groups : ℕ) → result ≡ standing (Some shelf.now) groups }
-{
-    Standing {
-        held: shelf.held,
-        sealed: shelf.sealed,
-        one_too_many: false,
+        Place::Found(at) => Standing::of_line(&shelves[at]),
+        Place::Free(_) => Standing::absent(shelves.len()),
     }
 }
 
@@ -167,12 +142,4 @@ pub fn refusal(standing: &Standing, start: u64, count: u64) -> Option<PutError>
     } else {
         None
     }
-}
-
-/// The bytes past those that are held.
-pub fn past(bytes: &[u8], held_of_them: u64) -> &[u8]
-    ensures { result.now ≡ drop held_of_them bytes.now }
-{
-    let skip = held_of_them.min(bytes.len() as u64) as usize;
-    &bytes[skip..]
 }

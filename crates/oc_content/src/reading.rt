@@ -13,6 +13,7 @@ use crate::errors::ReadError;
 use crate::index::Index;
 use crate::track::Span;
 use oc_base::{GroupName, Place, place_of};
+use oc_entries::is_full;
 use oc_io::Disk;
 use oc_journal::{Journal, PeekError};
 
@@ -68,13 +69,6 @@ pub fn read_spans<D: Disk>(
         skip = 0;
     }
     Ok(count)
-}
-
-/// Whether a buffer of this length is full with `count` bytes.
-fn is_full(count: usize, len: usize) -> bool
-    ensures { IsTrue result ↔ (count ≡ len) }
-{
-    count == len
 }
 
 /// Reads the bytes of a span from an offset on, after the `count` bytes that are in the buffer;

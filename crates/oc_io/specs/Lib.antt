@@ -6,5 +6,3 @@ pub mod DiskView
 pub mod DiskPast
 pub mod Failing
 pub mod MemDiskView
-pub mod DiskLog
-pub mod DiskLogView

@@ -28,7 +28,6 @@
 
 mod call_tally;
 mod disk;
-mod disk_log;
 mod failures;
 mod fault;
 mod lent;

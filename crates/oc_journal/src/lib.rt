@@ -39,4 +39,4 @@ mod stopped;
 pub use errors::{AppendError, FrameError, LoadError, PeekError, RestartError};
 pub use frame::{Frame, FrameFault};
 pub use journal::Journal;
-pub use stopped::is_kept_new;
+pub use oc_gate::is_kept_new;

@@ -9,14 +9,12 @@ ghost use Rattle.oc_journal.specs.Scanning.{IsFound, IsGate, IsBrokenAt};
 use crate::errors::LoadError;
 use crate::safely::{FIRST_GATE, write_header};
 use crate::spot::Spot;
+use oc_gate::is_open;
 use oc_io::{Disk, Failed};
 use std::alloc::Global;
 
 /// What every journal file begins with.
 const MAGIC: [u8; 8] = *b"OVERCST1";
-
-/// The byte of an open gate.
-const OPEN: u8 = 1;
 
 /// The length of a header in bytes.
 const HEADER_LEN: u64 = 9;
@@ -157,7 +155,7 @@ fn read_gate<D: Disk>(disk: &mut D, gate: u64, size: u64) -> Result<Option<u32>,
 {
     let mut head = [0; 5];
     let read = disk.read_at(gate, &mut head)?;
-    if head[0] != OPEN {
+    if !is_open(head[0]) {
         return Ok(None);
     }
     let len = len_in(&head);

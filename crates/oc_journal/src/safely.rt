@@ -1,9 +1,10 @@
-ghost use Rattle.std.specs.Prelude.{◌≡◌, ℕ, ◌+◌, ◌^◌, ◌<◌, ◌≤◌, [], ◌∷◌, ◌++◌, max, IsTrue, length, take, drop, OnOk, OnErr};
-ghost use Rattle.oc_io.specs.DiskView.{Holds, IsTorn, IsSafe, Takes, Fails, HasNoFault, LeavesOnly};
+ghost use Rattle.std.specs.Prelude.{◌≡◌, ℕ, ◌+◌, ◌^◌, ◌<◌, ◌≤◌, [], ◌∷◌, ◌++◌, IsTrue, length, take, drop, OnOk, OnErr};
+ghost use Rattle.oc_io.specs.DiskView.{IsSafe, Takes, Fails, HasNoFault, LeavesOnly};
 ghost use Rattle.oc_journal.specs.JournalFile.{header, frames_of, IsBeforeOrAfter, IsAllOrNone};
 ghost use Rattle.oc_journal.specs.JournalView.{IsSettled, IsLikeAnImage};
 
 use crate::frame::Frame;
+use oc_gate::write_safely;
 use oc_io::{Disk, Failed};
 
 /// The file of a journal without frames: the magic and a closed gate.
@@ -11,29 +12,6 @@ pub const HEADER: [u8; 9] = *b"OVERCST1\0";
 
 /// The offset of the first gate.
 pub const FIRST_GATE: u64 = 8;
-
-/// Writes at an offset within the size, and syncs. A journal writes everything in this way: on
-/// a disk that was safe a crash leaves at every moment only what a torn write leaves, and after Ok
-/// the disk is safe again.
-pub fn write_safely<D: Disk>(disk: &mut D, at: u64, bytes: &[u8]) -> Result<(), Failed>
-    requires { at ≤ (D.view disk.old).size }
-    ensures takes { Takes (length bytes.now) 2 (D.view disk.old) (D.view disk.new) }
-    ensures turns { OnOk result (IsTrue (D.view disk.old).honest
-        → (D.view disk.new).moment ≡ (D.view disk.old).moment + 2) }
-    ensures written { OnOk result (IsTrue (D.view disk.old).honest
-        → Holds (D.view disk.old).seen at bytes.now (D.view disk.new).seen) }
-    ensures safe { OnOk result (IsTrue (D.view disk.old).honest → IsSafe (D.view disk.new)) }
-    ensures any_moment { IsTrue (D.view disk.old).honest → IsSafe (D.view disk.old)
-        → LeavesOnly (D.view disk.old) (D.view disk.new) (IsTorn at (length bytes.now) (D.view disk.old).seen) }
-    ensures size { OnOk result
-        ((D.view disk.new).size ≡ max (D.view disk.old).size (at + length bytes.now)) }
-    ensures no_smaller { (D.view disk.old).size ≤ (D.view disk.new).size }
-    ensures no_fault { OnOk result (HasNoFault (D.view disk.old) (D.view disk.new)) }
-    ensures fails { OnErr result (Fails (length bytes.now) 2 (D.view disk.old) (D.view disk.new)) }
-{
-    disk.write_at(at, bytes)?;
-    disk.sync()
-}
 
 /// Writes a frame after the frames, which end at that offset, and opens the gate before it.
 pub fn write_frame<D: Disk>(disk: &mut D, end: u64, frame: &Frame) -> Result<(), Failed>

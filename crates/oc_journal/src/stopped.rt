@@ -1,5 +1,4 @@
 ghost use Rattle.std.specs.Prelude.{◌≡◌, ℕ, ◌+◌, ◌^◌, ◌<◌, ◌≤◌, [], ◌∷◌, false, length, IsSome, OnOk, OnErr};
-ghost use Rattle.oc_base.specs.Stops.{is_kept_new};
 ghost use Rattle.oc_io.specs.MemDiskView.{disk_of, view_of, wrote, synced};
 ghost use Rattle.oc_journal.specs.JournalFile.{frames_of, IsJournalOf};
 ghost use Rattle.oc_journal.specs.JournalView.{IsSettled};
@@ -45,12 +44,4 @@ fn write_and_sync(disk: &mut MemDisk, at: u64, bytes: &[u8]) -> Result<(), Faile
 {
     disk.write_at(at, bytes)?;
     disk.sync()
-}
-
-/// Whether a frame is kept whose append stopped once `calls` of its four calls of the disk had worked; a crash then leaves
-/// the byte `image` wherever something was not synced, and so as its gate.
-pub fn is_kept_new(calls: u8, image: u8) -> bool
-    ensures { result ≡ is_kept_new calls image }
-{
-    calls == 4 || (calls == 3 && image == 1)
 }

@@ -6,10 +6,10 @@ use Rattle.std.specs.List.{slice_get}
 use Rattle.std.specs.Option.{option_map, option_to_list}
 use Rattle.oc_outside.specs.DialsView.{DialsView, dials_of, nowhere, outgoing_of, all_dials, over}
 use Rattle.oc_outside.specs.LinkCalls.{connection_of}
-use Rattle.oc_outside.specs.Rows.{grown}
+use Rattle.oc_talks.specs.Rows.{grown}
 use Rattle.oc_outside.specs.Story.{Connection, Dial, unused, wrote, through}
-use Rattle.oc_outside.specs.TalksView.{TalksView, at, ended, begun, further}
-use Rattle.oc_outside.proofs.TalkLists.{at-grown, at-push, length-grown}
+use Rattle.oc_talks.specs.TalksView.{TalksView, at, ended, begun, further}
+use Rattle.oc_talks.proofs.TalkLists.{at-grown, at-push, length-grown}
 
 -- the view, by its parts
 abbrev pub view : TalksView → List (List ℕ) → ℕ → ℕ → DialsView

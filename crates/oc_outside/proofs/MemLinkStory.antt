@@ -8,7 +8,7 @@ use Rattle.oc_outside.specs.Exchange.{Hears, SaysFrontThenBreaks, Says-nothing}
 use Rattle.oc_outside.specs.LinkCalls.{Told, OnCurrent, OnOutgoing, TakesNext, DialsTo, DialFails, connection_of, address_of}
 use Rattle.oc_outside.specs.MemLinkView.{MemLinkView, CountsDials, told, took_next, after_read, after_dial, after_dial_read, dial_failed, dial_call_failed}
 use Rattle.oc_outside.specs.Story.{Connection, Dial, Story, broken, through}
-use Rattle.oc_outside.specs.TalksView.{at, further, left_of}
+use Rattle.oc_talks.specs.TalksView.{at, further, left_of}
 
 -- from a story that is told to one that is told
 told_if : (R : Story → Story → Type 0) (b c : Bool) (s t : Story) → (c ≡ true → b ≡ true) → (c ≡ true → R s t) → Told R (if b then Some s else None) (if c then Some t else None)

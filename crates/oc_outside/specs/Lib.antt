@@ -3,7 +3,5 @@ pub mod Exchange
 pub mod LinkCalls
 pub mod LinkLoan
 pub mod ClockView
-pub mod Rows
-pub mod TalksView
 pub mod DialsView
 pub mod MemLinkView

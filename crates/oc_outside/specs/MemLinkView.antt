@@ -4,7 +4,7 @@ use Rattle.std.specs.Option.{option_map}
 use Rattle.oc_outside.specs.DialsView.{cut_dial}
 use Rattle.oc_outside.specs.LinkCalls.{LinkFaults}
 use Rattle.oc_outside.specs.Story.{Story, dials, unused, wrote, broken, through, closed, hung_up}
-use Rattle.oc_outside.specs.TalksView.{at, further}
+use Rattle.oc_talks.specs.TalksView.{at, further}
 use Rattle.oc_io.specs.Tally.{Tally, fresh, called, faulted, counted}
 
 pub record MemLinkView : Type 0 where

@@ -1,16 +1,6 @@
 -- What goes through a link: the connections that wait, those that were taken, and the dials.
-use Rattle.std.specs.Prelude.{◌≡◌, ℕ, Bool, true, false, Option, None, option_to_list, List, [], ◌++◌, IfSome}
-
--- a connection
-pub record Connection : Type 0 where
-  -- the bytes that were read from it
-  pub read : List ℕ
-  -- the bytes that it will still give
-  pub left : List ℕ
-  -- the bytes that were written on it
-  pub written : List ℕ
-  -- whether a call on it failed
-  pub failed : Bool
+use Rattle.std.specs.Prelude.{◌≡◌, ℕ, Option, None, option_to_list, List, [], ◌++◌, IfSome}
+pub use Rattle.oc_talks.specs.Connection.{Connection, unused, wrote, broken}
 
 -- a connection that was made to an address
 pub record Dial : Type 0 where
@@ -37,18 +27,6 @@ taken s = s.past ++ option_to_list s.current
 -- all dials, oldest first
 abbrev pub dials : Story → List Dial
 dials s = s.ended ++ option_to_list s.outgoing
-
--- a connection from which nothing was read yet, and on which nothing was written
-abbrev pub unused : List ℕ → Connection
-unused bytes = record { read = []; left = bytes; written = []; failed = false }
-
--- after these bytes were written
-abbrev pub wrote : List ℕ → Connection → Connection
-wrote bytes c = record c { written = c.written ++ bytes }
-
--- after a call on it failed
-abbrev pub broken : Connection → Connection
-broken c = record c { failed = true }
 
 -- a dial whose connection changed
 abbrev pub through : (Connection → Connection) → Dial → Dial

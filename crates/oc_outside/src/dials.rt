@@ -3,11 +3,10 @@ ghost use Rattle.std.specs.Option.{option_copied, option_map};
 ghost use Rattle.oc_outside.specs.DialsView.{DialsView, all_dials, over, with_failed};
 ghost use Rattle.oc_outside.specs.LinkCalls.{connection_of};
 ghost use Rattle.oc_outside.specs.Story.{broken, wrote, unused, through};
-ghost use Rattle.oc_outside.specs.TalksView.{further, left_of};
+ghost use Rattle.oc_talks.specs.TalksView.{further, left_of};
 ghost use Rattle.oc_io.specs.Tally.{counted};
 
-use crate::rows::Rows;
-use crate::talks::Talks;
+use oc_talks::{Rows, Talks};
 use std::alloc::{AllocError, Global};
 use std::marker::Model;
 

@@ -17,8 +17,6 @@ mod fixed_clock;
 mod link;
 mod mem_link;
 mod outgoing;
-mod rows;
-mod talks;
 
 pub use clock::Clock;
 pub use current::Current;

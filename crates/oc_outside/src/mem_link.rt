@@ -5,14 +5,14 @@ ghost use Rattle.oc_io.specs.Faults.{Rose};
 ghost use Rattle.oc_outside.specs.LinkCalls.{CountsListening, CountsTalking, CountsDialling, Told, IfTold, NextGives, OnCurrent, OnOutgoing, DialsTo, DialFails, connection_of};
 ghost use Rattle.oc_outside.specs.MemLinkView.{MemLinkView, CountsDials, link_of, told, passed, listen_failed, talk_failed, dial_call_failed, dial_failed, took_next, after_read, after_write, after_dial, after_dial_more, after_dial_read};
 ghost use Rattle.oc_outside.specs.Story.{broken, through, closed, hung_up, taken, dials, IsReadOut, IsHeardOut};
-ghost use Rattle.oc_outside.specs.TalksView.{left_of};
+ghost use Rattle.oc_talks.specs.TalksView.{left_of};
 ghost use Rattle.oc_io.specs.Tally.{counted, IsListed};
 ghost use Rattle.oc_outside.specs.declared.link.Arrival.TheVariants.{Conn, Quiet};
 
 use crate::dials::Dials;
 use crate::link::{Arrival, Link};
-use crate::talks::Talks;
 use oc_io::{CallTally, Failed};
+use oc_talks::Talks;
 use std::alloc::{AllocError, Global};
 use std::marker::Model;
 
@@ -177,10 +177,9 @@ impl Link for MemLink {
         if self.calls.call().is_err() {
             return Err(self.listen_fails());
         }
-        if !self.arrivals.waits() {
+        if !self.arrivals.take_next() {
             return Ok(Arrival::Quiet);
         }
-        self.arrivals.next();
         Ok(Arrival::Conn)
     }
 

@@ -1,5 +1,5 @@
 -- Which of two control files is current, and what they recover.
-use Rattle.std.specs.Prelude.{◌≡◌, ℕ, suc, Bool, true, false, ◌==◌, ◌&&◌, nat_lt, nat_le, if◌then◌else◌, Option, None, Some, option_map, Result, Ok, Err, List, [], ◌∷◌, length, take}
+use Rattle.std.specs.Prelude.{◌≡◌, ℕ, suc, ◌==◌, ◌&&◌, nat_le, if◌then◌else◌, Option, None, Some, option_map, Result, Ok, Err, List, [], ◌∷◌, length, take}
 use Rattle.std.specs.List.{flat_map}
 use Rattle.std.specs.Int.{w64, from_be_bytes}
 use Rattle.oc_journal.specs.JournalFile.{frames_of, IsNoJournal}
@@ -7,6 +7,7 @@ use Rattle.oc_model.specs.declared.record.Record.{Record}
 use Rattle.oc_model.specs.declared.record.Record.TheVariants.{Snapshot}
 use Rattle.oc_record.specs.declared.fault.RecordFault.{RecordFault}
 use Rattle.oc_record.specs.Reading.{decoded}
+use Rattle.oc_turning.specs.Turning.{is_below}
 use Rattle.oc_store.specs.declared.errors.Side.{Side}
 use Rattle.oc_store.specs.declared.errors.Side.TheVariants.{First, Second}
 
@@ -30,12 +31,6 @@ generation_of (body ∷ bodies) = Some (generation_in body)
 abbrev pub number_of : Option ℕ → ℕ
 number_of None = 0
 number_of (Some generation) = generation
-
--- a generation is below a greater one, and none is below every one
-abbrev pub is_below : Option ℕ → Option ℕ → Bool
-is_below x None = false
-is_below None (Some h) = true
-is_below (Some g) (Some h) = nat_lt g h
 
 -- the file of the greater generation is current among two files of these frames, and the first at a tie
 abbrev pub current_side : List (List ℕ) → List (List ℕ) → Side

@@ -1,7 +1,6 @@
 -- A store of control records, as a contract sees it.
 use Rattle.std.specs.Prelude.{◌≡◌, ◌⊎◌, ℕ, ◌^◌, ◌<◌, Bool, false, IsTrue, None, List, [], ◌∷◌}
 use Rattle.oc_io.specs.DiskView.{DiskView}
-use Rattle.oc_journal.specs.JournalFile.{frames_of}
 use Rattle.oc_journal.specs.JournalView.{JournalView, HasFrames, HoldsJournal}
 use Rattle.oc_model.specs.declared.record.Record.{Record}
 use Rattle.oc_model.specs.declared.record.Record.TheVariants.{Snapshot}
@@ -63,7 +62,3 @@ abbrev pub BeginsAbove : ℕ → List Record → Type 0
 BeginsAbove generation [] = ⊥
 BeginsAbove generation (Snapshot g ∷ records) = (generation < g) × (g < 2 ^ 64)
 BeginsAbove generation (r ∷ records) = ⊥
-
--- a file with these frames, with none, or with the new one alone
-abbrev pub IsReplaced : List (List ℕ) → List ℕ → List ℕ → Type 0
-IsReplaced frames body file = (frames_of file ≡ frames) ⊎ (frames_of file ≡ []) ⊎ (frames_of file ≡ body ∷ [])

@@ -16,11 +16,11 @@
 #![tactic(auto)]
 
 mod errors;
+mod framing;
 mod generation;
 mod law;
 mod loading;
 mod store;
-mod turning;
 
 pub use errors::{Side, StoreError};
 pub use law::{frames_add_their_records, generations_are_of_snapshots};

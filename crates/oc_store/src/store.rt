@@ -11,16 +11,16 @@ ghost use Rattle.oc_store.specs.Promises.{IsStoreOf, LoadBothSafely, RefusesFile
 ghost use Rattle.oc_store.specs.StoreView.{first_disk, second_disk, AreHonest, HoldsJournals, Recovers, RecoversEither, BeginsAbove};
 
 use crate::errors::{Side, StoreError};
+use crate::framing::framed;
 use crate::generation::{generation_in_frame, generation_with};
 use crate::loading::{ControlFile, load_file};
-use crate::turning::{framed, is_below, put_in_place};
 use oc_base::{DUE_BYTES, MAX_FRAME_BYTES, Memory};
 use oc_io::{Disk, MemDisk};
 use oc_journal::{AppendError, Frame, Journal, RestartError};
 use oc_record::Record;
+use oc_turning::{is_below, turn_over};
 use std::alloc::Global;
 use std::marker::Model;
-use std::mem;
 
 /// Control records on two journals. A contract sees the journal of the current file and the other one,
 /// which side the current one is, its generation, and whether the store is closed since a disk failed.
@@ -204,11 +204,10 @@ impl<D: Disk> Store<D> {
             return Err(RestartError::Closed);
         }
         let generation = generation_in_frame(snapshot);
-        let Ok(()) = put_in_place(&mut self.other, snapshot) else {
+        let Ok(()) = turn_over(&mut self.current, &mut self.other, snapshot) else {
             self.closed = true;
             return Err(RestartError::Disk);
         };
-        mem::swap(&mut self.current, &mut self.other);
         self.side = self.side.opposite();
         self.generation = generation;
         Ok(())

@@ -10,10 +10,10 @@ pub returns-in-Found : goal.returns-in-Found
 returns-in-Found c = λ name place.
     let ss = c.args.shelves.now in
     let at = subst (λ (p : Place). IsLinePlace ss name p) c.in-Found.is place in
-    c.standing_of.ensures (length ss) ∙ ap (λ (line : Option Shelf). standing line (length ss)) (sym (line_of-stands ss name c.in-Found.at c.index-shelves-at.result at c.index-shelves-at.is))
+    c.of_line.ensures (length ss) ∙ ap (λ (line : Option Shelf). standing line (length ss)) (sym (line_of-stands ss name c.in-Found.at c.index-shelves-at.result at c.index-shelves-at.is))
 
 pub returns-in-Free : goal.returns-in-Free
 returns-in-Free c = λ name place.
     let ss = c.args.shelves.now in
     let at = subst (λ (p : Place). IsLinePlace ss name p) c.in-Free.is place in
-    ap (λ (line : Option Shelf). standing line (length ss)) (sym (line_of-goes ss name c.in-Free.field-0 at))
+    c.absent.ensures ∙ ap (λ (line : Option Shelf). standing line (length ss)) (sym (line_of-goes ss name c.in-Free.field-0 at))

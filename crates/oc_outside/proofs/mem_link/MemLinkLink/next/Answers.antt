@@ -7,5 +7,5 @@ pub returns-clause-story : goal.returns-clause-story
 returns-clause-story c =
     let l = c.self.inside in
     took c.args.self.now
-    (the_view (record { arrivals = c.next.new.self; dials = l.dials; room = l.room; cut = l.cut; calls = c.call.new.self; listening = l.listening; talking = l.talking; dialling = l.dialling }))
+    (the_view (record { arrivals = c.take_next.new.self; dials = l.dials; room = l.room; cut = l.cut; calls = c.call.new.self; listening = l.listening; talking = l.talking; dialling = l.dialling }))
     (search rules) (search rules)

@@ -1,0 +1,4 @@
+pub mod Entries
+pub mod Headings
+pub mod Lines
+pub mod Standings

@@ -1,0 +1,2 @@
+pub mod RowsIn
+pub mod TalkLists

@@ -1,0 +1,3 @@
+pub mod Connection
+pub mod Rows
+pub mod TalksView

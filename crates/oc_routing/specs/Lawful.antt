@@ -2,10 +2,10 @@
 use Rattle.std.specs.Prelude.{◌≤◌}
 use Rattle.oc_base.specs.Names.{IsGroupName}
 use Rattle.oc_base.specs.declared.limits.TheConstants.{MAX_AREA, MAX_START}
-use Rattle.oc_routes.specs.declared.asks.Asks.{Asks}
-use Rattle.oc_routes.specs.declared.asks.Asks.TheVariants as asks
-use Rattle.oc_routes.specs.declared.place.Place.{Place}
-use Rattle.oc_routes.specs.declared.place.Place.TheVariants.{Group}
+use Rattle.oc_routing.specs.declared.asks.Asks.{Asks}
+use Rattle.oc_routing.specs.declared.asks.Asks.TheVariants as asks
+use Rattle.oc_routing.specs.declared.place.Place.{Place}
+use Rattle.oc_routing.specs.declared.place.Place.TheVariants.{Group}
 
 -- a place with a group has the name of one
 abbrev pub IsPlace : Place → Type 0

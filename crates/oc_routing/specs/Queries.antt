@@ -5,9 +5,9 @@ use Rattle.std.specs.Str.{byte, bytes_eq}
 use Rattle.oc_base.specs.Steps.{◌>>=◌, with_fault}
 use Rattle.oc_base.specs.Words.{number_in}
 use Rattle.oc_base.specs.declared.limits.TheConstants.{MAX_AREA, MAX_START}
-use Rattle.oc_routes.specs.declared.query.Query.{Query}
-use Rattle.oc_routes.specs.declared.refused.Refused.{Refused}
-use Rattle.oc_routes.specs.declared.refused.Refused.TheVariants as refusals
+use Rattle.oc_routing.specs.declared.query.Query.{Query}
+use Rattle.oc_routing.specs.declared.refused.Refused.{Refused}
+use Rattle.oc_routing.specs.declared.refused.Refused.TheVariants as refusals
 
 -- the parts of a query, which are separated by `&`
 abbrev pub parts : List ℕ → List (List ℕ)

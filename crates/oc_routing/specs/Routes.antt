@@ -1,5 +1,5 @@
 -- What the head of a request asks of a node: the table of routes.
-use Rattle.std.specs.Prelude.{ℕ, Bool, ◌&&◌, ◌==◌, if◌then◌else◌, Result, Ok, Err, List, codes}
+use Rattle.std.specs.Prelude.{ℕ, Bool, ◌&&◌, ◌==◌, if◌then◌else◌, Option, Some, None, Result, Ok, Err, List, codes}
 use Rattle.std.specs.Str.{bytes_eq}
 use Rattle.oc_base.specs.Names.{parsed_name}
 use Rattle.oc_base.specs.Steps.{◌>>=◌}
@@ -13,16 +13,16 @@ use Rattle.oc_policy.specs.declared.deciding.Verdict.TheVariants.{Allowed, Denie
 use Rattle.oc_policy.specs.declared.rule.Action.{Action}
 use Rattle.oc_policy.specs.declared.rule.Action.TheVariants.{Get, Post}
 use Rattle.oc_policy.specs.declared.rule.Rule.{Rule}
-use Rattle.oc_routes.specs.Queries.{query_in}
-use Rattle.oc_routes.specs.declared.asks.Asks.{Asks}
-use Rattle.oc_routes.specs.declared.asks.Asks.TheVariants as asks
-use Rattle.oc_routes.specs.declared.asks.Manner.{Manner}
-use Rattle.oc_routes.specs.declared.asks.Manner.TheVariants.{HeadAlone, Once, Follow}
-use Rattle.oc_routes.specs.declared.place.Place.{Place}
-use Rattle.oc_routes.specs.declared.place.Place.TheVariants.{Messages, Probe, Group}
-use Rattle.oc_routes.specs.declared.query.Query.{Query}
-use Rattle.oc_routes.specs.declared.refused.Refused.{Refused}
-use Rattle.oc_routes.specs.declared.refused.Refused.TheVariants as refusals
+use Rattle.oc_routing.specs.Queries.{query_in}
+use Rattle.oc_routing.specs.declared.asks.Asks.{Asks}
+use Rattle.oc_routing.specs.declared.asks.Asks.TheVariants as asks
+use Rattle.oc_routing.specs.declared.asks.Manner.{Manner}
+use Rattle.oc_routing.specs.declared.asks.Manner.TheVariants.{HeadAlone, Once, Follow}
+use Rattle.oc_routing.specs.declared.place.Place.{Place}
+use Rattle.oc_routing.specs.declared.place.Place.TheVariants.{Messages, Probe, Group}
+use Rattle.oc_routing.specs.declared.query.Query.{Query}
+use Rattle.oc_routing.specs.declared.refused.Refused.{Refused}
+use Rattle.oc_routing.specs.declared.refused.Refused.TheVariants as refusals
 
 -- what a method does: GET and HEAD read, POST writes
 abbrev pub action_of : Verb → Result Action Refused
@@ -78,3 +78,8 @@ asked head rules = do
   query ← query_in head.query
   allowed ← permitted rules action place query.area
   Ok (asked_at head.method head.minor query place)
+
+-- the content, except for a HEAD
+abbrev pub content_for : {A : Type 0} → Manner → A → Option A
+content_for HeadAlone content = None
+content_for manner content = Some content

@@ -1,3 +1,6 @@
+ghost use Rattle.std.specs.Prelude.{◌≡◌};
+ghost use Rattle.oc_routing.specs.Routes.{content_for};
+
 use oc_base::GroupName;
 
 /// What a request asks of a node.
@@ -35,4 +38,16 @@ pub enum Manner {
     Once,
     /// By a GET of version 1.1 that follows the group: more of it is asked for on the same connection.
     Follow,
+}
+
+impl Manner {
+    /// The content that is sent when it is asked for so: none for a HEAD.
+    pub fn content_for<T: Copy>(self, content: T) -> Option<T>
+        ensures { result ≡ content_for self content }
+    {
+        match self {
+            Manner::HeadAlone => None,
+            Manner::Once | Manner::Follow => Some(content),
+        }
+    }
 }

@@ -1,5 +1,5 @@
 ghost use Rattle.std.specs.Prelude.{◌≡◌};
-ghost use Rattle.oc_routes.specs.Connections.{awaits_continue, is_last};
+ghost use Rattle.oc_routing.specs.Connections.{awaits_continue, is_last};
 
 use oc_http::Head;
 

@@ -1,7 +1,7 @@
 ghost use Rattle.std.specs.Prelude.{◌≡◌, IfOk};
 ghost use Rattle.std.specs.Str.{bytes_eq};
-ghost use Rattle.oc_routes.specs.Lawful.{IsPlace};
-ghost use Rattle.oc_routes.specs.Routes.{action_of, group_in, place_in};
+ghost use Rattle.oc_routing.specs.Lawful.{IsPlace};
+ghost use Rattle.oc_routing.specs.Routes.{action_of, group_in, place_in};
 
 use crate::refused::Refused;
 use oc_base::GroupName;

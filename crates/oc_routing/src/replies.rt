@@ -1,5 +1,5 @@
 ghost use Rattle.std.specs.Prelude.{◌≡◌};
-ghost use Rattle.oc_routes.specs.Replies.{others, reply_place, reply_to};
+ghost use Rattle.oc_routing.specs.Replies.{others, reply_place, reply_to};
 
 use oc_base::NodeId;
 use oc_model::Message;

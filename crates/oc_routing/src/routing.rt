@@ -1,8 +1,8 @@
 ghost use Rattle.std.specs.Prelude.{◌≡◌, ◌≤◌, length, IfOk};
 ghost use Rattle.oc_base.specs.Names.{IsGroupName};
 ghost use Rattle.oc_base.specs.declared.limits.TheConstants.{MAX_AREA as AREA_LIMIT, MAX_START as START_LIMIT};
-ghost use Rattle.oc_routes.specs.Lawful.{IsAsked, IsPlace};
-ghost use Rattle.oc_routes.specs.Routes.{asked, asked_at, asked_of_group, manner_of, permitted};
+ghost use Rattle.oc_routing.specs.Lawful.{IsAsked, IsPlace};
+ghost use Rattle.oc_routing.specs.Routes.{asked, asked_at, asked_of_group, manner_of, permitted};
 
 use crate::asks::{Asks, Manner};
 use crate::place::{Place, action_of, place_in};

@@ -1,6 +1,6 @@
 use Rattle.std.proofs.Common.{◌≡◌, length}
-use Rattle.oc_routes.specs.Queries.{first_value, parts}
-use Rattle.oc_routes.proofs.query.first_value.Given as goal
+use Rattle.oc_routing.specs.Queries.{first_value, parts}
+use Rattle.oc_routing.proofs.query.first_value.Given as goal
 
 -- what the rest says is what the whole says
 abbrev pub invariant-parts : goal.invariant-parts

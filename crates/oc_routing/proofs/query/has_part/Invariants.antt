@@ -1,6 +1,6 @@
 use Rattle.std.proofs.Common.{◌≡◌, length}
-use Rattle.oc_routes.specs.Queries.{has_part, parts}
-use Rattle.oc_routes.proofs.query.has_part.Given as goal
+use Rattle.oc_routing.specs.Queries.{has_part, parts}
+use Rattle.oc_routing.proofs.query.has_part.Given as goal
 
 -- what the rest says is what the whole says
 abbrev pub invariant-parts : goal.invariant-parts

@@ -2,7 +2,7 @@
 use Rattle.std.proofs.Common.{◌≡◌, ℕ, Bool, true, Option, Some, None, List, [], ◌∷◌, ◌++◌, length, option_to_list, inl, inr, refl, sym, ap, ◌∙◌, subst, arith, length-append}
 use Rattle.oc_fetch.specs.Addresses.{LeadsTo}
 use Rattle.oc_fetch.specs.Completeness.{HoldsWhole, LeadToContent, IsUnrefused}
-use Rattle.oc_fetch.specs.Conversations.{Replied, Redirects, Serves, EndsWith, EndsIn, Leads, EndsAt, wanted_behind}
+use Rattle.oc_fetch.specs.Conversations.{Replied, Redirects, Serves, EndsWith, EndsIn, Leads, EndsAt, wanted_after}
 use Rattle.oc_fetch.specs.Redirecting.{IsLost, sent_to}
 use Rattle.oc_fetch.specs.Replies.{IsBodiless, extent_of}
 use Rattle.oc_fetch.specs.Turns.{Turn}
@@ -51,7 +51,7 @@ one_place place h k p q e r s =
     r.follows.next_is ∙ ap (λ (u : Parts). sent_to u place) url ∙ sym s.follows.next_is
 
 -- after a content of which one was wanted none is wanted
-none_wanted : (length : Option ℕ) (replies : ℕ) → replies ≡ 1 → wanted_behind length replies ≡ 0
+none_wanted : (length : Option ℕ) (replies : ℕ) → replies ≡ 1 → wanted_after length replies ≡ 0
 none_wanted None replies one = omega arith
 none_wanted (Some count) replies one = refl
 

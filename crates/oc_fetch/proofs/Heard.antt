@@ -1,7 +1,7 @@
 -- A reply is its head and what follows it.
 use Rattle.std.proofs.Common.{◌≡◌, ℕ, Bool, true, false, Option, List, [], ◌++◌, length, refl, sym, inl, inr}
 use Rattle.std.proofs.lemmas.List.{append-nil}
-use Rattle.oc_fetch.specs.Conversations.{Replied, Serves, Brings, behind_content, LeadsOn, StopsContent, EndsWith}
+use Rattle.oc_fetch.specs.Conversations.{Replied, Serves, Brings, after_content, LeadsOn, StopsContent, EndsWith}
 use Rattle.oc_fetch.specs.Ends.{end_of_http}
 use Rattle.oc_fetch.specs.Passing.{Came, Sent, IsPassed, StopsPassing, IsHeard, IsLastHeard}
 use Rattle.oc_fetch.specs.Redirecting.{Follows, StaysAt}
@@ -57,7 +57,7 @@ stopped_content gives fails ended takes breaks wish head a c p r end serves stop
 }
 
 -- all of it was passed on
-pub brought : {S K : Type 0} (gives : S → List ℕ → S → Type 0) (ended : S → Type 0) (takes : K → List ℕ → K → Type 0) (wish : Wish) (place next : Place) (head : ReplyHead) (a c : S) (p r : K) (count : ℕ) → Serves wish head → ((content : List ℕ) → length content ≡ count → next ≡ behind_content head content place) → IsPassed gives ended takes (extent_of head) a c p r count → IsHeard gives ended takes (λ body over content. Brings wish place head body over content next) a c p r
+pub brought : {S K : Type 0} (gives : S → List ℕ → S → Type 0) (ended : S → Type 0) (takes : K → List ℕ → K → Type 0) (wish : Wish) (place next : Place) (head : ReplyHead) (a c : S) (p r : K) (count : ℕ) → Serves wish head → ((content : List ℕ) → length content ≡ count → next ≡ after_content head content place) → IsPassed gives ended takes (extent_of head) a c p r count → IsHeard gives ended takes (λ body over content. Brings wish place head body over content next) a c p r
 brought gives ended takes wish place next head a c p r count serves next_is passed = record {
   reply = passed.body;
   over = passed.over;

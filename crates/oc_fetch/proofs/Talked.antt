@@ -1,7 +1,7 @@
 -- A conversation so far, and how it goes on and ends.
 use Rattle.std.proofs.Common.{◌≡◌, ℕ, ◌+◌, ◌-◌, ◌<◌, Bool, true, false, Option, Some, None, List, [], ◌∷◌, ◌++◌, option_map, option_to_list, refl, sym, ap, ◌∙◌, subst, inl, inr, arith}
 use Rattle.std.proofs.lemmas.List.{append-nil, append_assoc}
-use Rattle.oc_fetch.specs.Conversations.{GoesOn, Leads, EndsIn, EndsAt, Converses, wanted_behind}
+use Rattle.oc_fetch.specs.Conversations.{GoesOn, Leads, EndsIn, EndsAt, Converses, wanted_after}
 use Rattle.oc_fetch.specs.Passing.{IsExchanged, IsLastExchanged, IsTalkedThrough, IsTalked}
 use Rattle.oc_fetch.specs.Turns.{Turn, Talk, IsCutAddress, behind_turn, behind_turns, no_talks, Makes, MakesOnceHung, Speaks, MaySpeakLast}
 use Rattle.oc_fetch.specs.Wishes.{Wish, dialled_at}
@@ -150,7 +150,7 @@ hung_talked takes breaks So a b c p q end hung talked = record {
 }
 
 -- after a content fewer replies are wanted
-fewer_wanted : (length : Option ℕ) (replies : ℕ) → 0 < replies → wanted_behind length replies < replies
+fewer_wanted : (length : Option ℕ) (replies : ℕ) → 0 < replies → wanted_after length replies < replies
 fewer_wanted None replies wanted = omega arith
 fewer_wanted (Some count) replies wanted = wanted
 
@@ -162,7 +162,7 @@ goes_down wish place next turn content wanted goes = elim goes.leads.so [
       let redirections : next.redirections ≡ place.redirections - 1 = ap (λ (p : Place). p.redirections) redirects.0.follows.next_is in
       omega (arith, replies, redirections, redirects.0.follows.may)
   | inr brings ↦
-      let replies : next.replies ≡ wanted_behind goes.leads.head.length place.replies = ap (λ (p : Place). p.replies) brings.next_is in
+      let replies : next.replies ≡ wanted_after goes.leads.head.length place.replies = ap (λ (p : Place). p.replies) brings.next_is in
       let redirections : next.redirections ≡ place.redirections = ap (λ (p : Place). p.redirections) brings.next_is in
       let fewer = fewer_wanted goes.leads.head.length place.replies wanted in
       omega (arith, replies, redirections, fewer)

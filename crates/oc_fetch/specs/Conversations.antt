@@ -40,23 +40,23 @@ pub record Serves (wish : Wish) (head : ReplyHead) : Type 0 where
   pub taken : Takes wish head
 
 -- how many replies are wanted after one: none where it tells its length
-abbrev pub wanted_behind : Option ℕ → ℕ → ℕ
-wanted_behind (Some count) replies = 0
-wanted_behind None replies = replies - 1
+abbrev pub wanted_after : Option ℕ → ℕ → ℕ
+wanted_after (Some count) replies = 0
+wanted_after None replies = replies - 1
 
 -- the place after a content
-abbrev pub behind_content : ReplyHead → List ℕ → Place → Place
-behind_content head content place = record place {
+abbrev pub after_content : ReplyHead → List ℕ → Place → Place
+after_content head content place = record place {
   start = min (place.start + length content) (2 ^ 64 - 1);
   kept = keeps head;
-  replies = wanted_behind head.length place.replies;
+  replies = wanted_after head.length place.replies;
 }
 
 -- the reply is a whole content, after which the client is at this place
 pub record Brings (wish : Wish) (place : Place) (head : ReplyHead) (body : List ℕ) (over : Bool) (content : List ℕ) (next : Place) : Type 0 where
   pub serves : Serves wish head
   pub whole : IsWhole (extent_of head) body content over
-  pub next_is : next ≡ behind_content head content place
+  pub next_is : next ≡ after_content head content place
 
 -- a whole reply from which the client goes on at this place, and its content
 abbrev pub LeadsOn : Wish → Place → List ℕ → Bool → List ℕ → Place → Type 0

@@ -1,12 +1,12 @@
 //! From a text to a URL that a client can ask.
 
-ghost use Rattle.std.specs.Prelude.{◌≡◌, true, IfOk, IsErrOf, codes};
-ghost use Rattle.std.specs.Str.{bytes_eq};
+ghost use Rattle.std.specs.Prelude.{◌≡◌, true, IfOk, IsErrOf};
 ghost use Rattle.oc_fetch.specs.Addresses.{is_good, IsAddressOf, IsBadAddress, LeadsTo, LeadsNowhere};
 ghost use Rattle.oc_fetch.specs.declared.address.UrlFault.TheVariants.{Bad};
 ghost use Rattle.url.specs.Parser.{Gives, Parsed};
 ghost use Rattle.url.specs.Parts.{Parts, has_credentials};
 
+use oc_client::is_http;
 use std::alloc::Global;
 use std::str;
 use url::{ParseError, ParseResult, Url};
@@ -59,16 +59,9 @@ fn can_be_asked(url: &Url) -> bool
     is_http(url.scheme()) && url.has_host() && !has_credentials(url)
 }
 
-/// Whether a scheme is `http`.
-fn is_http(scheme: &str) -> bool
-    ensures { result ≡ bytes_eq scheme.now (codes "http") }
-{
-    scheme == "http"
-}
-
 /// Whether there is a user or a password.
 fn has_credentials(url: &Url) -> bool
     ensures { result ≡ has_credentials url.now }
 {
-    !url.username().is_empty() || url.password().is_some()
+    oc_client::has_credentials(url.username(), url.password().is_some())
 }

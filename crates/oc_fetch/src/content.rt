@@ -9,6 +9,7 @@ use crate::chunks::pass_chunked;
 use crate::end::GetEnd;
 use crate::extent::{Extent, MAX_OPEN_BYTES};
 use crate::room::Room;
+use oc_client::left_after;
 use oc_io::{Sink, Source, write_all};
 use std::alloc::Global;
 
@@ -57,10 +58,10 @@ fn pass_counted<S: Source, K: Sink>(
     'pieces: while left > 0 {
         let most = left.min(buffer.len() as u64) as usize;
         let moved = move_piece(source, sink, &mut buffer[..most])?;
-        if moved == 0 {
+        let Some(rest) = left_after(left, moved) else {
             return Err(GetEnd::Reply);
-        }
-        left -= moved as u64;
+        };
+        left = rest;
     }
     Ok(())
 }

@@ -1,7 +1,7 @@
 //! What a reply says, and where it leads.
 
 ghost use Rattle.std.specs.Prelude.{◌≡◌, ◌↔◌, ℕ, List, length, IfErr, OnOk, IsErrOf, IsTrue};
-ghost use Rattle.oc_fetch.specs.Conversations.{LeadsOn, EndsWith, Brings, StopsContent, behind_content, wanted_behind};
+ghost use Rattle.oc_fetch.specs.Conversations.{LeadsOn, EndsWith, Brings, StopsContent, after_content, wanted_after};
 ghost use Rattle.oc_fetch.specs.Passing.{IsHeard, IsLastHeard};
 ghost use Rattle.oc_fetch.specs.Wishes.{wish_of, Takes, keeps};
 ghost use Rattle.oc_fetch.specs.Replies.{extent_of};
@@ -14,6 +14,7 @@ use crate::place::Place;
 use crate::redirection::redirect;
 use crate::room::Room;
 use crate::wish::Wish;
+use oc_client::{Meaning, meaning_of, start_after};
 use oc_http::ReplyHead;
 use oc_io::{Sink, Source};
 use std::alloc::Global;
@@ -39,10 +40,10 @@ pub(crate) fn hear<S: Source, K: Sink>(
     ensures sink_cause { IsErrOf result GetEnd.Sink → Rose (K.faults sink.old) (K.faults sink.new) }
 {
     let head = room.heads.read_response_head(source)?;
-    match head.status {
-        200 => take_content(alloc, wish, &head, place, room, source, sink),
-        302 => redirect(alloc, place, head.location),
-        status => Err(GetEnd::Refused(status)),
+    match meaning_of(head.status) {
+        Meaning::Content => take_content(alloc, wish, &head, place, room, source, sink),
+        Meaning::Redirection => redirect(alloc, place, head.location),
+        Meaning::Refusal => Err(GetEnd::Refused(head.status)),
     }
 }
 
@@ -71,17 +72,17 @@ fn take_content<S: Source, K: Sink>(
         return Err(GetEnd::Reply);
     }
     let count = pass_content(alloc, extent_of(head), source, sink, room)?;
-    go_behind_content(place, head, count);
+    go_past_content(place, head, count);
     Ok(())
 }
 
-/// Goes to the place behind a content of so many bytes.
-fn go_behind_content(place: &mut Place, head: &ReplyHead, count: u64)
-    ensures { (content : List ℕ) → length content ≡ count → place.new ≡ behind_content head.now content place.old }
+/// Goes to the place after a content of `count` bytes.
+fn go_past_content(place: &mut Place, head: &ReplyHead, count: u64)
+    ensures { (content : List ℕ) → length content ≡ count → place.new ≡ after_content head.now content place.old }
 {
-    place.start = place.start.saturating_add(count);
+    place.start = start_after(place.start, count);
     place.kept = keeps(head);
-    place.replies = wanted_behind(head.length, place.replies);
+    place.replies = wanted_after(head.length, place.replies);
 }
 
 /// Whether the client takes the content of such a reply.
@@ -115,8 +116,8 @@ fn keeps(head: &ReplyHead) -> bool
 }
 
 /// How many replies are wanted after one of this length.
-fn wanted_behind(length: Option<u64>, replies: u64) -> u64
-    ensures { result ≡ wanted_behind length replies }
+fn wanted_after(length: Option<u64>, replies: u64) -> u64
+    ensures { result ≡ wanted_after length replies }
 {
     match length {
         Some(_) => 0,

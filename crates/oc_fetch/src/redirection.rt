@@ -10,6 +10,7 @@ use crate::end::GetEnd;
 use crate::place::Place;
 use crate::target::Target;
 use oc_base::Text;
+use oc_client::redirections_after;
 use std::alloc::Global;
 
 /// Goes to the place to which a reply of 302 with this Location sends the client.
@@ -43,5 +44,5 @@ fn go_to(place: &mut Place, target: Target)
 {
     place.target = target;
     place.kept = false;
-    place.redirections -= 1;
+    place.redirections = redirections_after(place.redirections);
 }

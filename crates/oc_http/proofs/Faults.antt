@@ -2,7 +2,7 @@
 use Rattle.std.proofs.Common.{◌≡◌, ℕ, inl, inr, arith, Option, Some, None, Result, Ok, Err, refl, ap}
 use Rattle.std.specs.Prelude.{IsErrOf}
 use Rattle.oc_io.specs.Faults.{NoFall, Rose}
-use Rattle.oc_http.specs.Fields.{fault_or}
+use Rattle.oc_http.specs.Lengths.{fault_or}
 use Rattle.oc_http.specs.Gives.{Gives, Fails}
 use Rattle.oc_http.specs.declared.fault.HttpFault.{HttpFault}
 use Rattle.oc_http.specs.declared.fault.HttpFault.TheVariants.{Memory}

@@ -1,4 +1,3 @@
-pub mod Numbers
 pub mod Faults
 pub mod LineEnds
 pub mod Heads
@@ -12,6 +11,6 @@ pub mod Tests
 pub mod Written
 pub mod Answered
 pub mod OneReply
-pub mod Lengths
+pub mod BodyLengths
 pub mod Wholes
 pub mod Parts

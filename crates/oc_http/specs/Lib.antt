@@ -1,9 +1,8 @@
 pub mod Writing
-pub mod Fields
+pub mod Lengths
 pub mod Requests
 pub mod Responses
 pub mod Taking
-pub mod Found
 pub mod Gives
 pub mod Lines
 pub mod Answers

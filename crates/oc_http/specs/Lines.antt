@@ -1,5 +1,5 @@
 -- How the lines of a head are taken from a source.
-use Rattle.std.specs.Prelude.{◌≡◌, ◌≢◌, ℕ, ◌+◌, ◌<◌, ◌≤◌, Option, Some, None, List, [], ◌∷◌, ◌++◌, length}
+use Rattle.std.specs.Prelude.{◌≡◌, ◌≢◌, ℕ, ◌+◌, ◌<◌, ◌≤◌, List, [], ◌∷◌, ◌++◌, length}
 use Rattle.std.specs.List.{AllByRecursion}
 use Rattle.httparse.specs.Ascii.{line_feed}
 use Rattle.httparse.specs.Grammar.{RequestHead, ReadsRequest, ResponseHead, ReadsResponse}
@@ -11,11 +11,6 @@ use Rattle.oc_base.specs.declared.limits.TheConstants.{MAX_HEAD_BYTES}
 use Rattle.oc_http.specs.Taking.{Took}
 use Rattle.oc_http.specs.declared.fault.HttpFault.{HttpFault}
 use Rattle.oc_http.specs.declared.fault.HttpFault.TheVariants.{Source, Ended, HeadLong}
-
--- the byte that came, if one came
-abbrev pub bytes_of : Option ℕ → List ℕ
-bytes_of None = []
-bytes_of (Some byte) = byte ∷ []
 
 -- no byte is the end of a line
 abbrev pub HasNoLineEnd : List ℕ → Type 0

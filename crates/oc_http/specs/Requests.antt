@@ -1,11 +1,12 @@
 -- What the head of a request says, and which faults it has.
-use Rattle.std.specs.Prelude.{ℕ, Bool, true, false, not, ◌&&◌, ◌||◌, ◌==◌, nat_lt, if◌then◌else◌, Option, Some, None, unwrap_or, Result, Ok, Err, List, length, take, drop, codes}
-use Rattle.std.specs.List.{before_first, after_first, position}
-use Rattle.std.specs.Str.{byte, bytes_eq}
+use Rattle.std.specs.Prelude.{ℕ, Bool, true, false, not, ◌&&◌, ◌==◌, nat_lt, if◌then◌else◌, Option, Some, None, unwrap_or, Result, Ok, Err, List, length, codes}
+use Rattle.std.specs.Str.{bytes_eq}
 use Rattle.httparse.specs.Grammar.{RequestHead}
 use Rattle.oc_base.specs.Steps.{◌>>=◌}
 use Rattle.oc_base.specs.declared.limits.TheConstants.{MAX_FIELDS, MAX_BODY_BYTES}
-use Rattle.oc_http.specs.Fields.{Named, named, fault_or, is_alike, is_present, is_repeated, is_only, is_unusable, length_of, checked_length, hosts, codings, lengths, expectations, closes}
+use Rattle.oc_head.specs.Fields.{Named, named, is_present, is_only, is_unusable, length_of, hosts, codings, lengths, expectations, closes, has_host_fault}
+use Rattle.oc_head.specs.Targets.{path_of, query_of}
+use Rattle.oc_http.specs.Lengths.{fault_or, checked_length}
 use Rattle.oc_http.specs.declared.fault.HttpFault.{HttpFault}
 use Rattle.oc_http.specs.declared.fault.HttpFault.TheVariants as faults
 use Rattle.oc_http.specs.declared.head.Head.{Head}
@@ -23,38 +24,6 @@ verb_of method =
 abbrev pub is_post : Verb → Bool
 is_post verbs.Post = true
 is_post verb = false
-
--- how a target that has scheme and authority begins, in upper or lower case
-abbrev pub scheme : List ℕ
-scheme = codes "http://"
-
-abbrev pub is_absolute : List ℕ → Bool
-is_absolute target = is_alike (take (length scheme) target) scheme
-
--- from that place on, or a slash where there is none
-abbrev pub from_place : List ℕ → Option ℕ → List ℕ
-from_place rest None = codes "/"
-from_place rest (Some at) = drop at rest
-
--- from the first slash on, or a slash where there is none
-abbrev pub from_slash : List ℕ → List ℕ
-from_slash rest = from_place rest (position (λ b. b == byte "/") rest)
-
--- the target without scheme and authority
-abbrev pub origin_form : List ℕ → List ℕ
-origin_form target = if is_absolute target then from_slash (drop (length scheme) target) else target
-
--- the target up to the first question mark
-abbrev pub path_of : List ℕ → List ℕ
-path_of target = before_first (λ b. b == byte "?") (origin_form target)
-
--- what follows that question mark
-abbrev pub query_of : List ℕ → List ℕ
-query_of target = after_first (λ b. b == byte "?") (origin_form target)
-
--- a request has one Host, and one of version 1.0 may have none
-abbrev pub has_host_fault : ℕ → List (List ℕ) → Bool
-has_host_fault minor values = is_repeated values || (minor == 1 && not (is_present values))
 
 -- the first fault of a request's head
 abbrev pub head_fault : Verb → ℕ → List Named → Option HttpFault

@@ -1,9 +1,11 @@
 //! HTTP/1.1 messages: heads and bodies are read from a source, requests and replies are written.
 //!
-//! A head is found by `httparse`, which is asked at the end of each line, and the bytes are taken one
-//! at a time, so nothing after a head is taken. `specs/Requests` and `specs/Responses` say what a head
-//! says and which fault it has, as one chain of tests in the order of the faults; `specs/Taking` says
-//! which bytes are taken, and with which bytes each answer comes; `specs/Writing` has the texts.
+//! A head is found by `httparse`, which is asked at the end of each line, and the bytes are taken one at a
+//! time, so nothing after a head is taken. What its fields and its target are is found by `oc_head`; here
+//! it is decided what they say, and which fault comes first. `specs/Requests` and `specs/Responses` say
+//! what a head says and which fault it has, as one chain of tests in the order of the faults;
+//! `specs/Taking` says which bytes are taken, and with which bytes each answer comes; `specs/Writing` has
+//! the texts.
 //!
 //! The contracts used above: where [`read_head`] gives a head, the bytes that came are a head that says
 //! so, and where it gives a fault, the bytes that came have that fault first; [`read_body`] gives the
@@ -17,19 +19,17 @@
 
 mod body;
 mod fault;
-mod fields;
-mod found;
 mod framing;
 mod head;
 mod head_reader;
 mod law;
+mod lengths;
 mod lines;
 mod reading;
 mod reply;
 mod requests;
 mod responses;
 mod taking;
-mod text;
 mod texts;
 mod writing_replies;
 mod writing_requests;

@@ -1,28 +1,13 @@
 //! The lines of a head, taken from a source one byte at a time, so that nothing after the head is taken.
 
-ghost use Rattle.std.specs.Prelude.{◌≡◌, ◌≤◌, [], IfOk, IfErr, OnErr, OnOk, IsErrOf, None, vec_len, vec_capacity};
+ghost use Rattle.std.specs.Prelude.{◌≤◌, IfErr, OnOk, IsErrOf, vec_len, vec_capacity};
 ghost use Rattle.oc_io.specs.Faults.{NoFall, Rose};
-ghost use Rattle.oc_http.specs.Lines.{bytes_of, IsLineTaken, IsLineCut};
+ghost use Rattle.oc_http.specs.Lines.{IsLineTaken, IsLineCut};
 
 use crate::fault::HttpFault;
 use oc_base::MAX_HEAD_BYTES;
-use oc_io::{Failed, Source};
-
-/// The next byte of a source; `None` at its end.
-fn take_byte<S: Source>(source: &mut S) -> Result<Option<u8>, Failed>
-    ensures gives { IfOk result (λ byte. S.gives source.old (bytes_of byte) source.new) }
-    ensures end { IfOk result (λ byte. byte ≡ None → S.ended source.new) }
-    ensures fails { OnErr result (S.fails source.old [] source.new) }
-    ensures count { NoFall (S.faults source.old) (S.faults source.new) }
-    ensures cause { OnErr result (Rose (S.faults source.old) (S.faults source.new)) }
-{
-    let mut byte = [0];
-    let count = source.read(&mut byte)?;
-    if count == 0 {
-        return Ok(None);
-    }
-    Ok(Some(byte[0]))
-}
+use oc_head::take_byte;
+use oc_io::Source;
 
 /// Takes the rest of a line, with its end, and puts it after the bytes of the head so far. There is
 /// room for them, so no memory is taken.

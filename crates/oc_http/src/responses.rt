@@ -2,18 +2,19 @@
 
 ghost use Rattle.std.specs.Prelude.{◌≡◌, ◌&&◌, [], not, IfOk};
 ghost use Rattle.httparse.specs.Grammar.{ReadsResponse, ResponseHead};
-ghost use Rattle.oc_http.specs.Fields.{fault_or, first_of, locations, length_of, lengths, is_present, codings};
+ghost use Rattle.oc_head.specs.Fields.{first_of, locations, length_of, lengths, is_present, codings};
+ghost use Rattle.oc_http.specs.Lengths.{fault_or};
 ghost use Rattle.oc_http.specs.Gives.{Gives};
 ghost use Rattle.oc_http.specs.Responses.{is_chunked, reply_head_fault, reply_head_of, read_reply_head, whole_fault, body_length};
 ghost use Rattle.oc_http.specs.Lines.{IsResponseTaken};
 
 use crate::fault::HttpFault;
-use crate::fields::Fields;
-use crate::found::Found;
+use crate::lengths::content_length;
 use crate::reply::ReplyHead;
-use crate::text::copy;
+use crate::texts::copy;
 use httparse::spans::{HeaderSpan, ResponseSpans};
-use oc_base::{MAX_BODY_BYTES, MAX_FIELDS, Memory, Text};
+use oc_base::{MAX_BODY_BYTES, Memory, Text};
+use oc_head::{Fields, Found};
 use std::alloc::Global;
 
 /// What the head of a response says, or its first fault, for a reader that understands chunks. The head
@@ -73,7 +74,7 @@ fn read_reply_head(alloc: Global, status: u16, fields: &Fields) -> Result<ReplyH
 fn told_length(fields: &Fields) -> Result<Option<u64>, HttpFault>
     ensures { result ≡ fault_or (length_of (lengths fields.now)) (reply_head_fault fields.now) }
 {
-    if fields.count() > MAX_FIELDS {
+    if fields.are_too_many() {
         return Err(HttpFault::Fields);
     }
     if has_strange_coding(fields) {
@@ -81,7 +82,7 @@ fn told_length(fields: &Fields) -> Result<Option<u64>, HttpFault>
             both: fields.is_present("content-length"),
         });
     }
-    fields.length()
+    content_length(fields)
 }
 
 /// Whether there is a transfer coding other than `chunked` alone.

@@ -1,9 +1,9 @@
-//! Texts that are made of parts.
+//! Texts that are made of parts, and copies of bytes.
 
 ghost use Rattle.std.specs.Prelude.{◌≡◌, ◌++◌, IfOk};
 ghost use Rattle.oc_http.specs.Parts.{joined};
 
-use oc_base::Memory;
+use oc_base::{Memory, Text};
 use std::alloc::Global;
 
 /// The parts, one after the other. The memory for all of them is taken at once.
@@ -24,4 +24,12 @@ fn room_for(parts: &[&[u8]]) -> usize {
         room = room.saturating_add(part.len());
     }
     room
+}
+
+/// The bytes as a text of their own.
+pub(crate) fn copy(alloc: Global, bytes: &[u8]) -> Result<Text, Memory>
+    ensures { IfOk result (λ text. text ≡ bytes.now) }
+{
+    let items = bytes.to_vec(alloc)?;
+    Ok(Text::of(items))
 }

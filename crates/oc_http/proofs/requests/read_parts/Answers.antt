@@ -1,10 +1,10 @@
 use Rattle.std.proofs.Common.{◌≡◌, refl, ap, ◌∙◌, subst, Ok, Err}
 use Rattle.std.proofs.lemmas.Result.{err_from_is_err_and}
-use Rattle.oc_http.specs.Fields.{fault_or}
+use Rattle.oc_http.specs.Lengths.{fault_or}
 use Rattle.oc_http.specs.Requests.{head_of, head_fault}
 use Rattle.oc_http.specs.declared.head.Verb.{Verb}
 use Rattle.oc_http.proofs.Faults.{fault_or-ok, fault_or-err, Fails-same}
-use Rattle.oc_http.proofs.Lengths.{length_is}
+use Rattle.oc_http.proofs.BodyLengths.{length_is}
 use Rattle.oc_http.proofs.requests.read_parts.Goals as goal
 
 -- the fault of the length is the fault of the head

@@ -1,0 +1,91 @@
+-- What the fields of a head say.
+use Rattle.std.specs.Prelude.{ℕ, ◌^◌, Bool, true, false, not, ◌&&◌, ◌||◌, ◌==◌, nat_lt, if◌then◌else◌, Option, Some, None, List, [], ◌∷◌, length, map, codes}
+use Rattle.std.specs.Char.{is_ascii_digit}
+use Rattle.std.specs.List.{list_all, list_any, slice_split}
+use Rattle.std.specs.Str.{byte, str_eq_ignore_ascii_case}
+use Rattle.std.specs.Str.Parse.{digits_value}
+use Rattle.httparse.specs.Grammar.{Field, trim_ows}
+use Rattle.httparse.specs.Spans.{name_and_value}
+
+-- a field: its name, and its value without the spaces and tabs at both ends
+abbrev pub Named : Type 0
+Named = List ℕ × List ℕ
+
+-- the fields of a head
+abbrev pub named : List Field → List Named
+named fields = map name_and_value fields
+
+-- two texts are the same, apart from upper and lower case
+abbrev pub is_alike : List ℕ → List ℕ → Bool
+is_alike = str_eq_ignore_ascii_case
+
+-- the values of the fields of a name
+abbrev pub values : List ℕ → List Named → List (List ℕ)
+values name [] = []
+values name (field ∷ fields) = if is_alike field.0 name then field.1 ∷ values name fields else values name fields
+
+-- there is such a field
+abbrev pub is_present : List (List ℕ) → Bool
+is_present [] = false
+is_present (value ∷ more) = true
+
+-- there is such a field more than once
+abbrev pub is_repeated : List (List ℕ) → Bool
+is_repeated [] = false
+is_repeated (value ∷ more) = is_present more
+
+-- the value of the first such field
+abbrev pub first_of : List (List ℕ) → Option (List ℕ)
+first_of [] = None
+first_of (value ∷ more) = Some value
+
+-- there is one such field, and its value is this text in upper or lower case
+abbrev pub is_only : List ℕ → List (List ℕ) → Bool
+is_only text [] = false
+is_only text (value ∷ []) = is_alike value text
+is_only text (value ∷ second ∷ more) = false
+
+abbrev pub hosts : List Named → List (List ℕ)
+hosts = values (codes "host")
+
+abbrev pub codings : List Named → List (List ℕ)
+codings = values (codes "transfer-encoding")
+
+abbrev pub lengths : List Named → List (List ℕ)
+lengths = values (codes "content-length")
+
+abbrev pub expectations : List Named → List (List ℕ)
+expectations = values (codes "expect")
+
+abbrev pub locations : List Named → List (List ℕ)
+locations = values (codes "location")
+
+abbrev pub connections : List Named → List (List ℕ)
+connections = values (codes "connection")
+
+-- a request has one Host, and one of version 1.0 may have none
+abbrev pub has_host_fault : ℕ → List (List ℕ) → Bool
+has_host_fault minor values = is_repeated values || (minor == 1 && not (is_present values))
+
+-- some digits and nothing else, of a number that fits a u64; leading zeros are allowed
+abbrev pub is_length : List ℕ → Bool
+is_length value = nat_lt 0 (length value) && list_all is_ascii_digit value && nat_lt (digits_value 10 value) (2 ^ 64)
+
+-- there is a Content-Length, but not just one that is a number
+abbrev pub is_unusable : List (List ℕ) → Bool
+is_unusable [] = false
+is_unusable (value ∷ []) = not (is_length value)
+is_unusable (value ∷ second ∷ more) = true
+
+-- the number of the first Content-Length, and none where there is no field
+abbrev pub length_of : List (List ℕ) → Option ℕ
+length_of [] = None
+length_of (value ∷ more) = Some (digits_value 10 value)
+
+-- some part of a list at commas is `close`
+abbrev pub lists_close : List ℕ → Bool
+lists_close value = list_any (λ part. is_alike (trim_ows part) (codes "close")) (slice_split (λ b. b == byte ",") value)
+
+-- some Connection field lists `close`
+abbrev pub closes : List Named → Bool
+closes fields = list_any lists_close (connections fields)

@@ -1,0 +1,9 @@
+/// The fields of one name.
+#[derive(Clone, Copy)]
+pub enum Found<'a> {
+    Absent,
+    /// One field, and its value.
+    One(&'a [u8]),
+    /// More than one field, and the value of the first.
+    Several(&'a [u8]),
+}

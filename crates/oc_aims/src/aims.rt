@@ -1,7 +1,7 @@
 //! To which node an act brings which input.
 
 ghost use Rattle.std.specs.Prelude.{◌≡◌, ◌↔◌, ◌+◌, ◌<◌, ◌≤◌, ◌⊎◌, option_map, IfNone, IfOk, IfSome, IsTrue};
-ghost use Rattle.oc_calm.specs.Cluster.{IsStep};
+ghost use Rattle.oc_cluster.specs.Cluster.{IsStep};
 ghost use Rattle.oc_model.specs.World.{World as WorldState, aimed, delivery, message_at};
 ghost use Rattle.oc_aims.specs.Aims.{IsLawfulAim, IsLawfulIfAny, aimed_of};
 
@@ -96,7 +96,7 @@ pub fn message_place(number: u64, sent: usize) -> Option<usize>
     }
 }
 
-/// Whether so many messages, counted from 1, come to this number.
+/// Whether this number is at most `sent`, which counts the messages that were ever sent.
 fn is_sent(number: u64, sent: usize) -> bool
     ensures { IsTrue result ↔ (number ≤ sent) }
 {

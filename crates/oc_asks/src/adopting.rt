@@ -3,14 +3,13 @@ ghost use Rattle.oc_base.specs.Lawful.{IsNode};
 ghost use Rattle.oc_model.specs.Adopting.{raises, raises_over, host, birth, has_lease, grants, sends_rejoin, adopts, asked_at, asked};
 ghost use Rattle.oc_model.specs.Adoption.{adoption_refusal};
 ghost use Rattle.oc_model.specs.Leases.{renew};
-ghost use Rattle.oc_model.specs.Numbers.{raise};
 ghost use Rattle.oc_model.specs.Plan.{with_leases};
 ghost use Rattle.oc_draft.specs.DraftView.{goes};
 
 use oc_base::{Cert, Memory, NodeId, Rank, Refusal};
 use oc_draft::Draft;
 use oc_model::{Body, Record};
-use oc_place::{Host, may_adopt, raise};
+use oc_place::{Host, epoch_above, may_adopt};
 use oc_state::Touch;
 use oc_state::modes::{in_tree, is_acting};
 use oc_state::ranks::rank_or_last;
@@ -52,13 +51,6 @@ fn raise_over(draft: &mut Draft, asker: NodeId, rank: Rank) -> Result<(), Memory
     } else {
         Ok(())
     }
-}
-
-/// The epoch above that of an asker, if there is one.
-fn epoch_above(asker: Rank) -> Option<u64>
-    ensures { result ≡ raise asker.epoch }
-{
-    raise(asker.epoch)
 }
 
 /// Why the node does not become the parent of this asker, if it does not.

@@ -1,10 +1,11 @@
-ghost use Rattle.std.specs.Prelude.{◌≡◌, ◌+◌, ◌<◌, ◌^◌, OnOk, SomeIff};
+ghost use Rattle.std.specs.Prelude.{◌≡◌, ◌<◌, OnOk};
 ghost use Rattle.oc_model.specs.Asking.{lost, send_ask, ask, next_epoch, act, descend, try_at, try_first, next_try, round, ask_before, joins, took_yes, refused, took_no, not_seen, unreachable, relocate};
 ghost use Rattle.oc_draft.specs.DraftView.{goes};
 
 use oc_base::{MAX_DEPTH, Memory, NodeId, Rank, Refusal};
 use oc_draft::Draft;
 use oc_model::{Answer, Body, Mode, Record, Search};
+use oc_place::next_number;
 use oc_state::Volatile;
 use oc_state::modes::{is_asking, is_descending, is_joined_to};
 use oc_state::ranks::{ancestors_by, next_epoch, precedes_any, rank_or_last};
@@ -36,13 +37,6 @@ pub fn send_ask(draft: &mut Draft, peer: NodeId) -> Result<(), Memory>
             rank: standing.rank,
         },
     )
-}
-
-/// The number after this one, if there is one.
-fn next_number(seq: u64) -> Option<u64>
-    ensures { SomeIff result (seq + 1 < 2 ^ 64) (seq + 1) }
-{
-    seq.checked_add(1)
 }
 
 /// A peer is asked to be the parent, by the next number if there is one.

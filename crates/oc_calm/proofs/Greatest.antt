@@ -3,7 +3,7 @@ use Rattle.std.proofs.Common.{◌≡◌, ℕ, zero, suc, ◌+◌, ◌-◌, ◌<�
 use Rattle.std.proofs.lemmas.List.{get_or_past, drop_more, drop_all}
 use Rattle.oc_model.specs.Adopting.{is_number}
 use Rattle.oc_model.specs.Numbers.{at}
-use Rattle.oc_calm.specs.Tree.{length_in, greatest_length, has_found, longest_first}
+use Rattle.oc_calm.specs.Longest.{length_in, greatest_length, has_found, longest_first}
 
 -- In a loop
 

@@ -1,17 +1,6 @@
-pub mod Ways
-pub mod Steady
-pub mod Timely
-pub mod SingleRuns
-pub mod Each
-pub mod RoundRuns
-pub mod ChainLengths
-pub mod FoundLengths
-pub mod Fitting
 pub mod TellingRuns
 pub mod Greatest
 pub mod SettleActs
-pub mod PlacedWays
 pub mod HealRuns
 pub mod MemberOrder
-pub mod KnownPlaces
 pub mod Currents

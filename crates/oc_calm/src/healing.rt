@@ -1,22 +1,23 @@
 //! Heal: every node that is up joins one tree, which then settles.
 
-ghost use Rattle.std.specs.Prelude.{◌≡◌, ◌-◌, IfOk, IfSome, OnOk, OnErr};
-ghost use Rattle.std.specs.List.{AllByRecursion, list_all};
+ghost use Rattle.std.specs.Prelude.{◌≡◌, ◌-◌, OnOk, OnErr, IfOk, IfSome};
+ghost use Rattle.std.specs.List.{list_all, AllByRecursion};
 ghost use Rattle.oc_base.specs.declared.limits.TheConstants.{LAST_SECOND};
-ghost use Rattle.oc_calm.specs.Cluster.{IsRoll, IsUpNode, UpAreBefore};
-ghost use Rattle.oc_calm.specs.Played.{heal_run, leader_of, room_of};
-ghost use Rattle.oc_calm.specs.Timely.{AreTimely};
-ghost use Rattle.oc_calm.specs.Way.{acts_of, Begins, IsOnTheWay, Plays};
-ghost use Rattle.oc_model.specs.declared.event.Event.TheVariants.{Heal};
+ghost use Rattle.oc_calm.specs.CalmRuns.{heal_run, leader_of, room_of};
+ghost use Rattle.oc_cluster.specs.Cluster.{IsUpNode, IsRoll, UpAreBefore};
+ghost use Rattle.oc_cluster.specs.Timely.{AreTimely};
+ghost use Rattle.oc_cluster.specs.Way.{Begins, Plays, acts_of, IsOnTheWay};
 ghost use Rattle.oc_model.specs.Heal.{epoch_in};
-ghost use Rattle.oc_model.specs.NextWorld.{heal_acts, next_world, word_of};
+ghost use Rattle.oc_model.specs.NextWorld.{next_world, word_of, heal_acts};
+ghost use Rattle.oc_model.specs.declared.event.Event.TheVariants.{Heal};
 
-use crate::Cluster;
 use crate::joining::{all_join, rise};
-use crate::rounds::{five_steps, roll};
 use crate::settling::play_settle;
 use oc_base::{Memory, NodeId, Rank};
+use oc_cluster::Cluster;
+use oc_cluster::rounds::roll;
 use oc_model::Word;
+use oc_steps::first_steps::five_steps;
 use std::alloc::Global;
 
 /// The greatest number of an ask from which a node can still make 64.
@@ -75,7 +76,7 @@ fn all_have_room<C: Cluster>(cluster: &C, nodes: &[NodeId]) -> bool
 }
 
 /// Whether a node's ask number and epoch are far enough from their end.
-#[tactic(auto, unfolding(crate::specs::Played::room_of))]
+#[tactic(auto, unfolding(crate::specs::CalmRuns::room_of))]
 fn has_room<C: Cluster>(cluster: &C, node: NodeId) -> bool
     requires { IsUpNode (C.world cluster.now) node }
     ensures { result ≡ room_of (C.world cluster.now) node }

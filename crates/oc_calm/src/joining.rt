@@ -1,19 +1,20 @@
 //! How nodes come into one tree: the leader rises, and each other node that is up joins a chain member.
 
-ghost use Rattle.std.specs.Prelude.{◌≡◌, filter, nat_lt, IfOk, OnOk, OnErr};
+ghost use Rattle.std.specs.Prelude.{◌≡◌, ◌≤◌, length, OnOk, OnErr, IfOk, filter, nat_lt};
 ghost use Rattle.std.specs.List.{AllByRecursion};
-ghost use Rattle.oc_calm.specs.Cluster.{IsNodeOf, IsNumbered, IsRoll, IsUpNode};
-ghost use Rattle.oc_calm.specs.Placed.{ArePlaced};
-ghost use Rattle.oc_calm.specs.Played.{ask_run, check_in_run, join_by_run, join_run, joiners, place_run, places_run, rank_run, rise_once_run, rise_run};
-ghost use Rattle.oc_calm.specs.Way.{Begins, Plays};
-ghost use Rattle.oc_model.specs.Runs.{for_each};
+ghost use Rattle.oc_calm.specs.CalmRuns.{greatest_up, member_below, joiners, place_run, places_run, rise_once_run, rise_run};
+ghost use Rattle.oc_cluster.specs.Cluster.{IsNodeOf, IsUpNode, IsNumbered, IsRoll};
+ghost use Rattle.oc_cluster.specs.Placed.{ArePlaced};
+ghost use Rattle.oc_cluster.specs.Way.{Begins, Plays};
+ghost use Rattle.oc_model.specs.World.{ids};
 
-use crate::Cluster;
-use crate::placing::{below, forget, is_placed, member_before, none_known};
-use crate::playing::{check_in, deliver_last, play};
-use crate::tree::is_acting;
 use oc_base::{Memory, NodeId};
+use oc_cluster::Cluster;
+use oc_cluster::playing::{join, play};
+use oc_cluster::tree::is_acting;
 use oc_model::{Act, Mode};
+use oc_steps::joining::join_by;
+use oc_steps::placing::{forget, is_placed, none_known};
 use std::alloc::Global;
 
 /// The leader comes to act as root. It asks each earlier chain member twice at most.
@@ -134,89 +135,30 @@ fn place<C: Cluster>(
     }
 }
 
-/// A node asks another to be its parent, which takes the ask.
-fn ask<C: Cluster>(
-    cluster: &mut C,
-    peer: NodeId,
-    node: NodeId,
-    acts: &mut u64,
-) -> Result<(), Memory>
-    requires peer { IsNodeOf (C.world cluster.old) peer }
-    requires node { IsNodeOf (C.world cluster.old) node }
-    ensures ok { OnOk result (Plays (ask_run peer node) (C.world cluster.old) (C.world cluster.new) acts.old acts.new) }
-    ensures err { OnErr result (Begins (ask_run peer node) (C.world cluster.old) (C.world cluster.new)) }
+/// The greatest chain member that is up and less than a node; the leader where there is none.
+fn member_before<C: Cluster>(cluster: &C, leader: NodeId, node: NodeId) -> NodeId
+    requires ids { IsNumbered (C.world cluster.now) }
+    requires leader { IsNodeOf (C.world cluster.now) leader }
+    requires node { IsNodeOf (C.world cluster.now) node }
+    ensures member { result ≡ member_below (C.world cluster.now) leader node }
+    ensures node { IsNodeOf (C.world cluster.now) result }
 {
-    play(cluster, &Act::Move { node, peer }, acts)?;
-    deliver_last(cluster, acts)
+    last_up(cluster, leader, (node.0 - 1).min(cluster.chain()))
 }
 
-/// And it takes the answer.
-fn join<C: Cluster>(
-    cluster: &mut C,
-    peer: NodeId,
-    node: NodeId,
-    acts: &mut u64,
-) -> Result<(), Memory>
-    requires peer { IsNodeOf (C.world cluster.old) peer }
-    requires node { IsNodeOf (C.world cluster.old) node }
-    ensures ok { OnOk result (Plays (join_run peer node) (C.world cluster.old) (C.world cluster.new) acts.old acts.new) }
-    ensures err { OnErr result (Begins (join_run peer node) (C.world cluster.old) (C.world cluster.new)) }
+/// The greatest node up to this number that is up; the leader where there is none.
+fn last_up<C: Cluster>(cluster: &C, leader: NodeId, most: u32) -> NodeId
+    requires leader { IsNodeOf (C.world cluster.now) leader }
+    requires most { most ≤ length (ids (C.world cluster.now)) }
+    ensures greatest { result ≡ greatest_up (C.world cluster.now) leader most }
+    ensures node { IsNodeOf (C.world cluster.now) result }
 {
-    ask(cluster, peer, node, acts)?;
-    deliver_last(cluster, acts)
-}
-
-/// A node joins another by way of the leader, whose rank its ask may raise: it asks the leader, which tells
-/// its rank down to the other, and then it asks that one.
-fn join_by<C: Cluster>(
-    alloc: Global,
-    cluster: &mut C,
-    leader: NodeId,
-    peer: NodeId,
-    node: NodeId,
-    acts: &mut u64,
-) -> Result<(), Memory>
-    requires leader { IsNodeOf (C.world cluster.old) leader }
-    requires peer { IsNodeOf (C.world cluster.old) peer }
-    requires node { IsNodeOf (C.world cluster.old) node }
-    ensures ok { OnOk result (Plays (join_by_run leader peer node) (C.world cluster.old) (C.world cluster.new) acts.old acts.new) }
-    ensures err { OnErr result (Begins (join_by_run leader peer node) (C.world cluster.old) (C.world cluster.new)) }
-{
-    ask(cluster, leader, node, acts)?;
-    tell_rank(alloc, cluster, leader, peer, acts)?;
-    join(cluster, peer, node, acts)
-}
-
-/// The leader tells its rank down to a node, by a check of its own and a check-in of each node between.
-fn tell_rank<C: Cluster>(
-    alloc: Global,
-    cluster: &mut C,
-    leader: NodeId,
-    node: NodeId,
-    acts: &mut u64,
-) -> Result<(), Memory>
-    requires leader { IsNodeOf (C.world cluster.old) leader }
-    requires node { IsNodeOf (C.world cluster.old) node }
-    ensures ok { OnOk result (Plays (rank_run leader node) (C.world cluster.old) (C.world cluster.new) acts.old acts.new) }
-    ensures err { OnErr result (Begins (rank_run leader node) (C.world cluster.old) (C.world cluster.new)) }
-{
-    play(cluster, &Act::Check { node: leader }, acts)?;
-    let nodes = below(alloc, cluster, leader, node)?;
-    each_checks_in(cluster, &nodes, acts)
-}
-
-/// Each of these nodes checks in.
-fn each_checks_in<C: Cluster>(
-    cluster: &mut C,
-    nodes: &[NodeId],
-    acts: &mut u64,
-) -> Result<(), Memory>
-    requires { AllByRecursion (IsNodeOf (C.world cluster.old)) nodes.now }
-    ensures ok { OnOk result (Plays (for_each nodes.now check_in_run) (C.world cluster.old) (C.world cluster.new) acts.old acts.new) }
-    ensures err { OnErr result (Begins (for_each nodes.now check_in_run) (C.world cluster.old) (C.world cluster.new)) }
-{
-    for node in nodes {
-        check_in(cluster, *node, acts)?;
+    let mut number = most;
+    'down: while number > 0 {
+        if cluster.is_up(NodeId(number)) {
+            return NodeId(number);
+        }
+        number -= 1;
     }
-    Ok(())
+    leader
 }

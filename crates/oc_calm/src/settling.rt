@@ -1,24 +1,25 @@
 //! Settle: all nodes that are up tell and renew until nothing waits.
 
-ghost use Rattle.std.specs.Prelude.{◌≡◌, ◌≤◌, ◌-◌, ◌++◌, length, filter, IfOk, OnOk, OnErr};
+ghost use Rattle.std.specs.Prelude.{◌≡◌, ◌≤◌, ◌-◌, ◌++◌, length, OnOk, OnErr, IfOk, filter};
 ghost use Rattle.std.specs.List.{AllByRecursion};
 ghost use Rattle.oc_base.specs.Lawful.{IsNode};
-ghost use Rattle.oc_base.specs.declared.limits.TheConstants.{LAST_SECOND, MAX_NODES};
-ghost use Rattle.oc_calm.specs.Cluster.{IsRoll, IsUpNode, UpAreBefore};
-ghost use Rattle.oc_calm.specs.Played.{deepest_nodes, settle_run, telling_run, tellings_run};
-ghost use Rattle.oc_calm.specs.Timely.{AreTimely};
-ghost use Rattle.oc_calm.specs.Tree.{greatest_length, has_found, length_in, longest_first};
-ghost use Rattle.oc_calm.specs.Way.{acts_of, Begins, IsOnTheWay, Plays};
-ghost use Rattle.oc_model.specs.declared.event.Event.TheVariants.{Settle};
+ghost use Rattle.oc_base.specs.declared.limits.TheConstants.{MAX_NODES, LAST_SECOND};
+ghost use Rattle.oc_calm.specs.CalmRuns.{deepest_nodes, settle_run, telling_run, tellings_run};
+ghost use Rattle.oc_calm.specs.Longest.{greatest_length, has_found, length_in, longest_first};
+ghost use Rattle.oc_cluster.specs.Cluster.{IsUpNode, IsRoll, UpAreBefore};
+ghost use Rattle.oc_cluster.specs.Timely.{AreTimely};
+ghost use Rattle.oc_cluster.specs.Way.{Begins, Plays, acts_of, IsOnTheWay};
 ghost use Rattle.oc_model.specs.NextWorld.{next_world, settle_acts, word_of};
+ghost use Rattle.oc_model.specs.declared.event.Event.TheVariants.{Settle};
 
-use crate::Cluster;
-use crate::playing::check_in;
-use crate::readiness::is_ready;
-use crate::rounds::{five_steps, roll};
-use crate::tree::chain_lengths;
 use oc_base::{Memory, NodeId};
+use oc_cluster::Cluster;
+use oc_cluster::lengths::chain_lengths;
+use oc_cluster::playing::check_in;
+use oc_cluster::rounds::roll;
 use oc_model::Word;
+use oc_steps::first_steps::five_steps;
+use oc_steps::readiness::is_ready;
 use std::alloc::Global;
 
 /// Settles a world that is ready, and answers `Settled` with the number of the acts that it played;
@@ -162,7 +163,7 @@ fn push_of_length(
 }
 
 /// Whether this length was found for a node.
-#[tactic(auto, unfolding(crate::specs::Tree::has_found))]
+#[tactic(auto, unfolding(crate::specs::Longest::has_found))]
 fn has_found(lengths: &[Option<u32>], node: NodeId, wanted: u32) -> bool
     requires { IsNode (length lengths.now) node }
     ensures { result ≡ has_found lengths.now wanted node }

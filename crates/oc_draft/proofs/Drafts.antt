@@ -7,8 +7,8 @@ use Rattle.oc_model.specs.Node.{Durable}
 use Rattle.oc_model.specs.Records.{fold_one, folded}
 use Rattle.oc_model.proofs.Lists.{all_append}
 use Rattle.oc_laws_step.proofs.Goes.{folded-append}
-use Rattle.oc_state.specs.declared.touch.Touch.{Touch}
-use Rattle.oc_state.specs.Touched.{IsTouch, leases_by, rates_by, counts_by, leases_after, rates_after, counts_after}
+use Rattle.oc_changes.specs.declared.touch.Touch.{Touch}
+use Rattle.oc_changes.specs.Touched.{IsTouch, leases_by, rates_by, counts_by, leases_after, rates_after, counts_after}
 
 -- one more record
 pub folded_more : (d : Durable) (rs : List Record) (r : Record) → folded d (rs ++ r ∷ []) ≡ fold_one (folded d rs) r

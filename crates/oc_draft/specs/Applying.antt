@@ -10,7 +10,7 @@ use Rattle.oc_model.specs.Step.{plan, step}
 use Rattle.oc_state.specs.DurableView.{DurableView, HasRoom}
 use Rattle.oc_draft.specs.NodeView.{NodeView, IsReached}
 use Rattle.oc_draft.specs.Planned.{PlanView, control_after, planned}
-use Rattle.oc_state.specs.Touched.{IsTouch}
+use Rattle.oc_changes.specs.Touched.{IsTouch}
 
 -- the durable parts of a node
 abbrev pub durable_in : NodeView → DurableView

@@ -2,8 +2,8 @@
 use Rattle.std.specs.Prelude.{ℕ, List}
 use Rattle.oc_model.specs.Node.{Control}
 use Rattle.oc_model.specs.Plan.{Plan, with_soft}
-use Rattle.oc_state.specs.declared.touch.Touch.{Touch}
-use Rattle.oc_state.specs.Touched.{leases_by, rates_by, counts_by}
+use Rattle.oc_changes.specs.declared.touch.Touch.{Touch}
+use Rattle.oc_changes.specs.Touched.{leases_by, rates_by, counts_by}
 
 -- the node before the step, and the step so far
 pub record DraftView : Type 0 where

@@ -10,9 +10,9 @@ use Rattle.oc_model.specs.Node.{Control}
 use Rattle.oc_model.specs.Plan.{Plan}
 use Rattle.oc_model.specs.Records.{folded}
 use Rattle.oc_model.specs.Step.{fill}
-use Rattle.oc_state.specs.declared.touch.Touch.{Touch}
+use Rattle.oc_changes.specs.declared.touch.Touch.{Touch}
 use Rattle.oc_parts.specs.declared.volatile.Volatile.{Volatile}
-use Rattle.oc_state.specs.Touched.{leases_after, rates_after, counts_after}
+use Rattle.oc_changes.specs.Touched.{leases_after, rates_after, counts_after}
 use Rattle.oc_parts.specs.Volatile.{soft_of}
 
 -- what a plan changes of a node: the durable changes; the small parts of what a start clears; the nodes still to be asked, if they are

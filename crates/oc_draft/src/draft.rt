@@ -18,7 +18,7 @@ ghost use Rattle.oc_draft.specs.NodeView.{IsReached};
 ghost use Rattle.oc_draft.specs.Planned.{planned};
 ghost use Rattle.oc_draft.specs.Since.{AreTold};
 ghost use Rattle.oc_parts.specs.Standing.{standing_of};
-ghost use Rattle.oc_state.specs.Touched.{IsTouch};
+ghost use Rattle.oc_changes.specs.Touched.{IsTouch};
 ghost use Rattle.oc_parts.specs.Tries.{first_of};
 ghost use Rattle.oc_parts.specs.Volatile.{soft_of, volatile_of};
 
@@ -53,7 +53,7 @@ impl<'a> Model for Draft<'a> {
     ghost use Rattle.oc_draft.specs.DraftView.{DraftView};
     ghost use Rattle.oc_draft.specs.Planned.{planned};
     ghost use Rattle.oc_parts.specs.Standing.{standing_of};
-    ghost use Rattle.oc_state.specs.Touched.{IsTouch};
+    ghost use Rattle.oc_changes.specs.Touched.{IsTouch};
 
     ghost Value = { DraftView };
 

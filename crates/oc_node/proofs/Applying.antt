@@ -4,7 +4,7 @@ use Rattle.oc_model.specs.declared.soft.Soft.{Soft}
 use Rattle.oc_model.specs.Node.{Control, Durable}
 use Rattle.oc_model.specs.Records.{folded}
 use Rattle.oc_parts.specs.declared.volatile.Volatile.{Volatile}
-use Rattle.oc_state.specs.Touched.{leases_after, rates_after, counts_after}
+use Rattle.oc_changes.specs.Touched.{leases_after, rates_after, counts_after}
 use Rattle.oc_parts.specs.Volatile.{soft_of}
 use Rattle.oc_draft.specs.NodeView.{control_of}
 use Rattle.oc_draft.specs.Planned.{PlanView, control_after, soft_after}

@@ -26,7 +26,7 @@ use Rattle.oc_draft.specs.Applying.{CanApply}
 use Rattle.oc_parts.specs.declared.volatile.Volatile.{Volatile}
 use Rattle.oc_draft.specs.NodeView.{NodeView, IsReached, control_of}
 use Rattle.oc_draft.specs.Planned.{PlanView, control_after, planned}
-use Rattle.oc_state.specs.Touched.{IsTouch}
+use Rattle.oc_changes.specs.Touched.{IsTouch}
 use Rattle.oc_parts.specs.Volatile.{soft_of, new_volatile}
 
 -- a new node

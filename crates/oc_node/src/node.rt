@@ -10,7 +10,7 @@ ghost use Rattle.oc_model.specs.Snapshot.{snapshot};
 ghost use Rattle.oc_model.specs.Step.{plan, step};
 ghost use Rattle.oc_draft.specs.Applying.{CanApply, HasParts, IsPlanOf, IsStepOf};
 ghost use Rattle.oc_draft.specs.Planned.{IsWanting, control_after, planned};
-ghost use Rattle.oc_state.specs.Touched.{IsTouch};
+ghost use Rattle.oc_changes.specs.Touched.{IsTouch};
 ghost use Rattle.oc_base.specs.Lawful.{IsCount, IsNode};
 ghost use Rattle.oc_base.specs.declared.limits.TheConstants.{MAX_BASE_ACKED, MAX_LOG_LENGTH};
 ghost use Rattle.oc_model.specs.Node.{new_control, new_durable, Durable as State, Node as Whole};

@@ -16,8 +16,10 @@
 //! The nodes from 1 to `chain` form one line beneath the source, so that one of them can act as the root, as in Overcast
 //! (section 4.4). Whom a node asks in which order is our own rule: a member of the chain asks the members before it, the
 //! nearest first, and any other node its ancestors and then the chain. [`ask_order`] is the model's list, in which each
-//! node occurs once and neither the asker nor the one left out occurs ([`each_is_asked_once`]); and [`raise`] gives the
-//! next epoch, and none exactly at the last number.
+//! node occurs once and neither the asker nor the one left out occurs ([`each_is_asked_once`]).
+//!
+//! Its asks have numbers and its rank an epoch, and each goes up one by one: [`next_number`], [`raise`] and
+//! [`epoch_above`] give the next one, and none exactly at the last number.
 //!
 //! Only [`ask_order`] takes memory.
 #![tactic(auto)]
@@ -27,8 +29,8 @@ mod choosing;
 mod host;
 mod law;
 mod left_out;
+mod numbers;
 mod order;
-mod raising;
 mod reviewing;
 mod take;
 mod view;
@@ -37,10 +39,10 @@ pub use adopt::may_adopt;
 pub use choosing::choose;
 pub use host::Host;
 pub use law::{each_is_asked_once, the_first_cause_refuses, the_nearest_suitable_is_chosen};
+pub use numbers::{epoch_above, next_number, raise};
 pub use oc_base::Refusal;
 pub use oc_model::{Candidate, Review};
 pub use order::ask_order;
-pub use raising::raise;
 pub use reviewing::review;
 pub use take::take_rank;
 pub use view::View;

@@ -16,7 +16,7 @@ use oc_asks::asking::{ask_before, round, send_ask};
 use oc_base::{Cert, CertList, IdList, Memory, NodeId, Rank, Shelf, ShelfList};
 use oc_draft::Draft;
 use oc_model::{Body, Mode, Record, Search};
-use oc_place::raise;
+use oc_place::epoch_above;
 use oc_state::modes::{is_joined_to, is_peer};
 use oc_state::ranks::{ancestors_by, better_rank, rank_or_last};
 use oc_state::{Touch, Volatile};
@@ -81,7 +81,7 @@ fn check_as(draft: &mut Draft, mode: Mode) -> Result<(), Memory>
         }
         Mode::Acting => {
             let rank = rank_or_last(draft.standing().rank);
-            set_epoch(draft, raise(rank.epoch))
+            set_epoch(draft, epoch_above(rank))
         }
         Mode::Idle => round(draft, None),
         Mode::Asking(peer) => send_ask(draft, peer),

@@ -1,4 +1,3 @@
 pub mod Folding
-pub mod Touching
 pub mod Snapshotting
 pub mod LawfulSnapshots

@@ -11,7 +11,7 @@ use Rattle.oc_model.specs.Snapshot.{snapshot, entries, rates_from}
 use Rattle.oc_laws_step.specs.Sound.{IsSoundDurable}
 use Rattle.oc_cert.specs.TableView.{entries_of}
 use Rattle.oc_state.specs.Snapshots.{rate_record}
-use Rattle.oc_parts.proofs.Lists.{drop_at, take_all}
+use Rattle.oc_parts.proofs.Lists.{drop_at}
 
 -- Rows
 
@@ -32,10 +32,6 @@ entries_go_on cs i c before after whole within e put so =
     let rest = entries (drop (i + 1) cs) in
     let here : entries (drop i cs) ≡ records.Entry c ∷ rest = ap entries (drop_at cs i c within e) in
     ap (λ (rs : List Record). rs ++ rest) put ∙ append_assoc before (records.Entry c ∷ []) rest ∙ sym (ap (λ (rs : List Record). before ++ rs) here) ∙ so
-
--- all of them are taken
-pub all_waiting : (cs : List Cert) (n : ℕ) → length cs ≤ n → take n cs ≡ cs
-all_waiting cs n few = take_all n cs few
 
 -- Readings
 

@@ -1,3 +1,2 @@
 pub mod DurableView
-pub mod Touched
 pub mod Snapshots

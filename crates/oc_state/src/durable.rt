@@ -1,17 +1,16 @@
 ghost use Rattle.std.specs.Prelude.{◌≡◌, ◌+◌, ◌<◌, ◌≤◌, ◌^◌, length, IfOk, OnOk, OnErr};
-ghost use Rattle.oc_base.specs.Lawful.{IsCert};
 ghost use Rattle.oc_base.specs.declared.limits.TheConstants.{MAX_BASE_ACKED, MAX_NODES};
 ghost use Rattle.oc_model.specs.Lawful.{AreRecords, IsRecord};
-ghost use Rattle.oc_model.specs.Node.{empty_log, new_durable};
-ghost use Rattle.oc_model.specs.Records.{fold_one, folded, noted};
-ghost use Rattle.oc_model.specs.Table.{merge};
+ghost use Rattle.oc_model.specs.Node.{new_durable};
+ghost use Rattle.oc_model.specs.Records.{fold_one, folded};
 ghost use Rattle.oc_state.specs.DurableView.{DurableView, HasRoom, IsKept};
 ghost use Rattle.oc_parts.specs.Standing.{standing_of};
 
 use oc_base::{Cert, IdList, Memory, NodeId};
 use oc_cert::Table;
+use oc_changes::{enter, leave_parent};
 use oc_measure::Measures;
-use oc_model::{Mode, Record};
+use oc_model::Record;
 use oc_parts::Standing;
 use oc_updown::ChangeLog;
 use std::alloc::Global;
@@ -242,32 +241,5 @@ impl Durable {
             Record::Snapshot { .. } => self.clear(),
             _ => {}
         }
-    }
-}
-
-/// A node that asks anew, or lost its parent, has nothing to tell that one.
-fn leave_parent(log: &mut ChangeLog)
-    ensures log { log.new.log ≡ empty_log }
-    ensures nodes { log.new.nodes ≡ log.old.nodes }
-    ensures room { log.new.room ≡ log.old.room }
-{
-    log.clear();
-}
-
-/// Merges a certificate into the table. The log takes it where the node is joined.
-fn enter(table: &mut Table, log: &mut ChangeLog, mode: Mode, cert: &Cert)
-    requires cert { IsCert table.old.nodes cert.now }
-    requires nodes { log.old.nodes ≡ table.old.nodes }
-    requires room { length log.old.log.waiting < log.old.room }
-    requires places { log.old.log.length + 1 < 2 ^ 63 }
-    ensures entries { table.new.entries ≡ merge table.old.entries cert.now }
-    ensures rows { table.new.nodes ≡ table.old.nodes }
-    ensures log { log.new.log ≡ noted mode log.old.log cert.now }
-    ensures nodes { log.new.nodes ≡ log.old.nodes }
-    ensures room { log.new.room ≡ log.old.room }
-{
-    table.merge(cert);
-    if let Mode::Joined(_) = mode {
-        log.note(cert);
     }
 }

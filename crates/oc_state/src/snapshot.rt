@@ -7,6 +7,7 @@ ghost use Rattle.oc_state.specs.Snapshots.{rate_record};
 
 use crate::durable::Durable;
 use oc_base::{Cert, IdList, Memory, NodeId, Rank};
+use oc_changes::all_waiting;
 use oc_measure::Measures;
 use oc_model::{Mode, Record};
 use oc_parts::Standing;
@@ -156,15 +157,12 @@ impl Durable {
     }
 
     /// Puts at the end how much of the log is acknowledged, and what waits.
-    #[tactic(auto, using(crate::proofs::Snapshotting::all_waiting))]
     fn push_log(&self, alloc: Global, list: &mut Vec<Record>) -> Result<(), Memory>
         ensures { OnOk result (list.new.items ≡ list.old.items ++ Record.Base self.now.kept.log.acked ∷ entries self.now.kept.log.waiting) }
     {
-        let log = self.log();
-        let acked = log.acked();
+        let acked = self.log().acked();
         list.push(Record::Base { acked })?;
-        let mut waiting = Vec::new(alloc);
-        log.take((log.length() - acked) as usize, &mut waiting)?;
+        let waiting = all_waiting(alloc, self.log())?;
         push_entries(list, &waiting)
     }
 

@@ -2,7 +2,7 @@
 use Rattle.std.proofs.Common.{◌≡◌, ℕ, Bool, true, false, ◌==◌, Some, List, [], ◌∷◌, length, slice_get, refl, subst, eqb-true}
 use Rattle.oc_base.specs.declared.cert.Cert.{Cert}
 use Rattle.oc_base.specs.Lawful.{AreCerts, IsNode}
-use Rattle.oc_calm.specs.Cluster.{is_ack}
+use Rattle.oc_cluster.specs.Cluster.{is_ack}
 use Rattle.oc_model.specs.declared.message.Body.{Body}
 use Rattle.oc_model.specs.declared.message.Body.TheVariants as bodies
 use Rattle.oc_model.specs.declared.message.Message.{Message}

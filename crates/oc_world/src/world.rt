@@ -3,7 +3,7 @@ ghost use Rattle.oc_base.specs.Groups.{shelf};
 ghost use Rattle.oc_base.specs.Lawful.{IsNode};
 ghost use Rattle.std.specs.List.{range_with_len};
 ghost use Rattle.oc_base.specs.declared.limits.TheConstants.{MAX_NODES};
-ghost use Rattle.oc_calm.specs.Cluster.{HasChain, IsStepOf, IsUpNode, is_ack};
+ghost use Rattle.oc_cluster.specs.Cluster.{HasChain, IsStepOf, IsUpNode, is_ack};
 ghost use Rattle.oc_content.specs.ContentFile.{groups_in};
 ghost use Rattle.oc_journal.specs.JournalFile.{frames_of};
 ghost use Rattle.oc_keep.specs.Files.{Survives, disks};

@@ -1,5 +1,5 @@
 use Rattle.std.proofs.Common.{ℕ, max, ap, ◌∙◌, arith}
-use Rattle.oc_calm.specs.Tree.{greatest_length}
+use Rattle.oc_calm.specs.Longest.{greatest_length}
 use Rattle.oc_calm.proofs.Greatest.{greatest_more, greatest_over}
 use Rattle.oc_calm.proofs.settling.greatest_of.Goals as goal
 

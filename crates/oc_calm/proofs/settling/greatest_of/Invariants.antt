@@ -1,6 +1,6 @@
 -- The greatest of those that were looked at, and of the rest, is that of all.
 use Rattle.std.proofs.Common.{◌≡◌, max, drop}
-use Rattle.oc_calm.specs.Tree.{greatest_length}
+use Rattle.oc_calm.specs.Longest.{greatest_length}
 use Rattle.oc_calm.proofs.settling.greatest_of.Given as goal
 
 abbrev pub invariant-loop-found : goal.invariant-loop-found

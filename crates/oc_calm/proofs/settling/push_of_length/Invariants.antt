@@ -2,7 +2,7 @@
 use Rattle.std.proofs.Common.{◌≡◌, ◌++◌, filter, length, drop}
 use Rattle.std.specs.List.{AllByRecursion}
 use Rattle.oc_base.specs.Lawful.{IsNode}
-use Rattle.oc_calm.specs.Tree.{has_found}
+use Rattle.oc_calm.specs.Longest.{has_found}
 use Rattle.oc_calm.proofs.settling.push_of_length.Given as goal
 
 abbrev pub invariant-loop-node : goal.invariant-loop-node

@@ -1,5 +1,5 @@
 use Rattle.std.proofs.Common.{ℕ, List, ◌-◌, ◌++◌, length, ap, ◌∙◌, arith}
-use Rattle.oc_calm.specs.Tree.{longest_first}
+use Rattle.oc_calm.specs.Longest.{longest_first}
 use Rattle.oc_calm.proofs.Greatest.{longest_from}
 use Rattle.oc_calm.proofs.TellingRuns.{level_more, level_none}
 use Rattle.oc_calm.proofs.settling.sorted_by_length.Goals as goal

@@ -1,6 +1,6 @@
 -- What was sorted, and what the shorter lengths will add, is all.
 use Rattle.std.proofs.Common.{◌≡◌, ◌++◌, length}
-use Rattle.oc_calm.specs.Tree.{longest_first}
+use Rattle.oc_calm.specs.Longest.{longest_first}
 use Rattle.oc_calm.proofs.settling.sorted_by_length.Given as goal
 
 abbrev pub invariant-levels : goal.invariant-levels

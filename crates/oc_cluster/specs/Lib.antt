@@ -1,0 +1,6 @@
+pub mod Cluster
+pub mod Placed
+pub mod Played
+pub mod Timely
+pub mod Tree
+pub mod Way

@@ -2,7 +2,7 @@
 //! target of a request.
 //!
 //! `specs/Fields` says what the fields of a name are and what they say, `specs/Targets` what a target's path and query
-//! are. Nothing here knows of faults: which of them a head has first is decided above, from these answers.
+//! are. Which fault a head has first is decided above, from these answers.
 #![tactic(auto)]
 
 mod byte;

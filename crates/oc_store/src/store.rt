@@ -18,7 +18,7 @@ use oc_base::{DUE_BYTES, MAX_FRAME_BYTES, Memory};
 use oc_io::{Disk, MemDisk};
 use oc_journal::{AppendError, Frame, Journal, RestartError};
 use oc_record::Record;
-use oc_turning::{is_below, turn_over};
+use oc_generations::{is_below, turn_over};
 use std::alloc::Global;
 use std::marker::Model;
 

@@ -1,5 +1,5 @@
 ghost use Rattle.std.specs.Prelude.{◌≡◌};
-ghost use Rattle.oc_turning.specs.Turning.{is_below};
+ghost use Rattle.oc_generations.specs.Turning.{is_below};
 
 /// Whether a file of the second generation is current next to one of the first.
 pub fn is_below(first: Option<u64>, second: Option<u64>) -> bool

@@ -1,7 +1,7 @@
 ghost use Rattle.std.specs.Prelude.{◌≡◌, ◌+◌, ◌<◌, [], ◌∷◌, length, false, IsTrue, OnOk, OnErr};
 ghost use Rattle.oc_io.specs.DiskView.{Takes, Fails, HasNoFault, LeavesOnly};
 ghost use Rattle.oc_journal.specs.JournalView.{HasFrames};
-ghost use Rattle.oc_turning.specs.Turning.{IsReplaced};
+ghost use Rattle.oc_generations.specs.Turning.{IsReplaced};
 
 use oc_base::MAX_FRAME_BYTES;
 use oc_io::{Disk, Failed};

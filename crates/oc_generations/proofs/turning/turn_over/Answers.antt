@@ -1,6 +1,6 @@
 use Rattle.std.proofs.Common.{refl}
 use Rattle.std.proofs.lemmas.Result.{err_from_is_err_and}
-use Rattle.oc_turning.proofs.turning.turn_over.Goals as goal
+use Rattle.oc_generations.proofs.turning.turn_over.Goals as goal
 
 -- where the snapshot was not written, the current journal is as it was, and the calls were made on the other
 pub returns-in_err-put_in_place-clause-stays : goal.returns-in_err-put_in_place-clause-stays

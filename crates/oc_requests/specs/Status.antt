@@ -1,7 +1,7 @@
 -- The numbers of the statuses.
 use Rattle.std.specs.Prelude.{ℕ}
-use Rattle.oc_commands.specs.declared.status.Status.{Status}
-use Rattle.oc_commands.specs.declared.status.Status.TheVariants.{Done, Failed, Usage, BadText, Memory, Limit, NotGot}
+use Rattle.oc_requests.specs.declared.status.Status.{Status}
+use Rattle.oc_requests.specs.declared.status.Status.TheVariants.{Done, Failed, Usage, BadText, Memory, Limit, NotGot}
 
 -- the status of a process that ended so
 abbrev pub number_of : Status → ℕ

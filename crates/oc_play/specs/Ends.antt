@@ -6,8 +6,10 @@ use Rattle.oc_acts.specs.declared.fault.ScheduleFault.{ScheduleFault}
 use Rattle.oc_acts.specs.declared.fault.ScheduleFault.TheVariants as schedule
 use Rattle.oc_acts.specs.declared.fault.What.{What}
 use Rattle.oc_acts.specs.declared.fault.What.TheVariants.{Bytes}
-use Rattle.oc_replay.specs.declared.end.ReplayEnd.{ReplayEnd}
-use Rattle.oc_replay.specs.declared.end.ReplayEnd.TheVariants.{Done, Text, Limit, Source, Sink, Memory}
+use Rattle.oc_play.specs.declared.fault.ReportFault.{ReportFault}
+use Rattle.oc_play.specs.declared.fault.ReportFault.TheVariants as report
+use Rattle.oc_play.specs.declared.end.ReplayEnd.{ReplayEnd}
+use Rattle.oc_play.specs.declared.end.ReplayEnd.TheVariants.{Done, Text, Limit, Source, Sink, Memory}
 
 -- What holds at each end of a replay.
 
@@ -59,3 +61,8 @@ abbrev pub end_of_schedule : ScheduleFault → ReplayEnd
 end_of_schedule (schedule.Line line why) = Text line why
 end_of_schedule (schedule.Limit what) = Limit what
 end_of_schedule schedule.Memory = Memory
+
+-- to which end a fault of a report leads
+abbrev pub end_of_report : ReportFault → ReplayEnd
+end_of_report report.Sink = Sink
+end_of_report report.Memory = Memory

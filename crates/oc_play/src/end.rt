@@ -1,6 +1,7 @@
+use crate::fault::ReportFault;
+use oc_acts::{ScheduleFault, What};
 use oc_base::Why;
 use oc_io::ReadFault;
-use oc_schedule::{ScheduleFault, What};
 
 /// How a replay ends.
 #[derive(Clone, Copy, Debug, PartialEq, Eq)]
@@ -21,7 +22,7 @@ pub enum ReplayEnd {
 
 impl From<ReadFault> for ReplayEnd {
     ghost use Rattle.std.specs.Prelude.{◌≡◌};
-    ghost use Rattle.oc_replay.specs.Ends.{end_of_reading};
+    ghost use Rattle.oc_play.specs.Ends.{end_of_reading};
 
     ghost from_gives = { λ fault end. end ≡ end_of_reading fault };
 
@@ -36,7 +37,7 @@ impl From<ReadFault> for ReplayEnd {
 
 impl From<ScheduleFault> for ReplayEnd {
     ghost use Rattle.std.specs.Prelude.{◌≡◌};
-    ghost use Rattle.oc_replay.specs.Ends.{end_of_schedule};
+    ghost use Rattle.oc_play.specs.Ends.{end_of_schedule};
 
     ghost from_gives = { λ fault end. end ≡ end_of_schedule fault };
 
@@ -45,6 +46,20 @@ impl From<ScheduleFault> for ReplayEnd {
             ScheduleFault::Line { line, why } => ReplayEnd::Text { line, why },
             ScheduleFault::Limit(what) => ReplayEnd::Limit(what),
             ScheduleFault::Memory => ReplayEnd::Memory,
+        }
+    }
+}
+
+impl From<ReportFault> for ReplayEnd {
+    ghost use Rattle.std.specs.Prelude.{◌≡◌};
+    ghost use Rattle.oc_play.specs.Ends.{end_of_report};
+
+    ghost from_gives = { λ fault end. end ≡ end_of_report fault };
+
+    fn from(fault: ReportFault) -> ReplayEnd {
+        match fault {
+            ReportFault::Sink => ReplayEnd::Sink,
+            ReportFault::Memory => ReplayEnd::Memory,
         }
     }
 }

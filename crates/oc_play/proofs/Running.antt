@@ -1,7 +1,8 @@
 -- A stage's world while a run is under way.
 use Rattle.std.proofs.Common.{◌≡◌, ℕ, ◌+◌, ◌*◌, ◌<◌, ◌≤◌, List, length, take, drop, get_or, fold, refl, sym, ap, ◌∙◌, subst, arith}
 use Rattle.std.specs.List.{AllByRecursion}
-use Rattle.std.proofs.lemmas.List.{take_all}
+use Rattle.std.proofs.lemmas.List.{drop_more, take_all}
+use Rattle.std.proofs.lemmas.List.Sums.{fold_more}
 use Rattle.oc_base.specs.declared.limits.TheConstants.{MAX_SCHEDULE_LINES, MAX_TIME}
 use Rattle.oc_model.specs.declared.event.Event.{Event}
 use Rattle.oc_model.specs.declared.event.Event.TheVariants as events
@@ -11,8 +12,18 @@ use Rattle.oc_model.specs.World.{World, ids}
 use Rattle.oc_model.specs.WorldBounds.{IsDistinct, AreBefore, IsWithinLimits}
 use Rattle.oc_model.proofs.Clocks.{range_distinct}
 use Rattle.oc_stage.specs.Stage.{HasTimeFor, KeepsTime, KeepsLimits}
-use Rattle.oc_replay.specs.Opening.{IsOpening}
-use Rattle.oc_replay.proofs.Runs.{All-drop, fold-take}
+use Rattle.oc_play.specs.Opening.{IsOpening}
+
+-- what holds of the rest holds of its first item, and of the rest after it
+pub All-drop : {A : Type 0} (P : A → Type 0) (xs : List A) (i : ℕ) (x : A) → i < length xs → x ≡ get_or xs i x → AllByRecursion P (drop i xs) → P x × AllByRecursion P (drop (i + 1) xs)
+All-drop P xs i x within read all =
+    let both : P (get_or xs i x) × AllByRecursion P (drop (i + 1) xs) = subst (AllByRecursion P) (drop_more xs i x within) all in
+    (subst P (sym read) both.0, both.1)
+
+-- the world after one event more
+pub fold-take : (after : World → Event → World) (i : ℕ) (first w new : World) (es : List Event) (e : Event) → i < length es → e ≡ get_or es i e → new ≡ after w e → w ≡ fold after first (take i es) → new ≡ fold after first (take (i + 1) es)
+fold-take after i first w new es e within read next so_far =
+    next ∙ ap (λ (v : World). after v e) so_far ∙ ap (after (fold after first (take i es))) read ∙ sym (fold_more after first es i e within)
 
 -- the world after the first i of these events, from the one that was opened: the rest are within their ranges, and no clock is
 -- further past the greatest time than that many events take it
@@ -69,7 +80,7 @@ module _ (after : World → Event → World) (opened : World) (es : List Event) 
       let apart : IsDistinct (ids w) = subst IsDistinct (sym (way.ids ∙ opening.numbered)) (range_distinct 1 (length (ids opened))) in
       let later : AreBefore (MAX_TIME + 60 * i + 60) new = subst (AreBefore (MAX_TIME + 60 * i + 60)) (sym next) (keeps_time w e apart both.0 (MAX_TIME + 60 * i) (omega arith) way.clocks) in
       record {
-        played = fold-take after word i opened w new es e within read next way.played;
+        played = fold-take after i opened w new es e within read next way.played;
         lawful = subst (λ (xs : List ℕ). AllByRecursion (IsEvent (length xs)) (drop (i + 1) es)) (sym same) both.1;
         ids = same ∙ way.ids;
         clocks = λ x. omega (arith, later x);

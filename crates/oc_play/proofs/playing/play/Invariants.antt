@@ -1,6 +1,6 @@
 use Rattle.std.proofs.Common.{◌≡◌, length}
-use Rattle.oc_replay.proofs.Running.{IsOnTheWay}
-use Rattle.oc_replay.proofs.summing.play.Given as goal
+use Rattle.oc_play.proofs.Running.{IsOnTheWay}
+use Rattle.oc_play.proofs.playing.play.Given as goal
 
 -- the run is under way
 abbrev pub invariant-loop-event : goal.invariant-loop-event

@@ -1,6 +1,6 @@
 //! The statuses with which the program ends.
 ghost use Rattle.std.specs.Prelude.{◌≡◌};
-ghost use Rattle.oc_commands.specs.Status.{number_of};
+ghost use Rattle.oc_requests.specs.Status.{number_of};
 
 /// How the program ended.
 #[derive(Clone, Copy)]

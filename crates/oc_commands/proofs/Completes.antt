@@ -20,7 +20,7 @@ use Rattle.oc_commands.specs.Complete.{IsDoneOrMemory, IsServed, once}
 use Rattle.oc_commands.specs.Ends.{status_of, status_of_check, status_of_get, status_of_load}
 use Rattle.oc_commands.specs.Outside.{Input, OnClock, OnFiles, OnLink, OnNode, OnStage, Output, at_files, at_link}
 use Rattle.oc_commands.specs.Run.{Happened}
-use Rattle.oc_commands.specs.Status.{number_of}
+use Rattle.oc_requests.specs.Status.{number_of}
 use Rattle.oc_commands.specs.declared.checking.CheckEnd.{CheckEnd}
 use Rattle.oc_commands.specs.declared.checking.CheckEnd.TheVariants as checks
 use Rattle.oc_commands.specs.declared.ending.End.{End}

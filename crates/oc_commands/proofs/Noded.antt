@@ -14,7 +14,7 @@ use Rattle.oc_requests.specs.declared.request.Service.{Service}
 use Rattle.oc_commands.specs.AtNode.{RunsNode}
 use Rattle.oc_commands.specs.Ends.{status_of_run}
 use Rattle.oc_commands.specs.Outside.{at_files, at_node, at_sink}
-use Rattle.oc_commands.specs.Status.{number_of}
+use Rattle.oc_requests.specs.Status.{number_of}
 
 module _ {D K : Type 0} (view : D → DiskView) (takes fails : K → List ℕ → K → Type 0) (count : K → ℕ) (takes_nothing : (k : K) → takes k [] k) (s : Settings) (v : Service) (d e : Disks D) (sink after : K) (before out : deeds.Outside) where
   -- of the node of this id

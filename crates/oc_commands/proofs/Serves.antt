@@ -20,7 +20,7 @@ use Rattle.oc_commands.specs.AtNode.{HappenedAtNode, HasNode, HasServiceStatus, 
 use Rattle.oc_commands.specs.Ends.{status_of, status_of_run, status_of_service}
 use Rattle.oc_commands.specs.Outside.{OnClock, OnLink, OnStage, Output, at_files, at_node, at_source}
 use Rattle.oc_commands.specs.Run.{Happened}
-use Rattle.oc_commands.specs.Status.{number_of}
+use Rattle.oc_requests.specs.Status.{number_of}
 use Rattle.oc_commands.specs.declared.configuring.ConfigEnd.TheVariants as configs
 use Rattle.oc_commands.specs.declared.ending.End.{End}
 use Rattle.oc_commands.specs.declared.ending.End.TheVariants.{Helped, HelpFailed, Misused, NoMemory, Replayed, Generated, Listed, Checked, Got, Served}

@@ -4,8 +4,8 @@ use Rattle.oc_config.specs.Settings.{Settings}
 use Rattle.oc_config.specs.declared.fault.ConfigFault.TheVariants as faults
 use Rattle.oc_fetch.specs.declared.end.GetEnd.{GetEnd}
 use Rattle.oc_fetch.specs.declared.end.GetEnd.TheVariants as gets
-use Rattle.oc_replay.specs.declared.end.ReplayEnd.{ReplayEnd}
-use Rattle.oc_replay.specs.declared.end.ReplayEnd.TheVariants as replays
+use Rattle.oc_play.specs.declared.end.ReplayEnd.{ReplayEnd}
+use Rattle.oc_play.specs.declared.end.ReplayEnd.TheVariants as replays
 use Rattle.oc_schedule.specs.Script.{Script}
 use Rattle.oc_acts.specs.declared.fault.ScheduleFault.{ScheduleFault}
 use Rattle.oc_acts.specs.declared.fault.What.{What}

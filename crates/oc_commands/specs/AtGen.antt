@@ -1,6 +1,6 @@
 -- What had happened at each end of `gen`.
 use Rattle.std.specs.Prelude.{ℕ, ◌-◌, List, []}
-use Rattle.oc_replay.specs.Report.{SomeFront}
+use Rattle.oc_play.specs.Pieces.{SomeFront}
 use Rattle.oc_schedule.specs.Generator.{generated}
 use Rattle.oc_schedule.specs.Printing.{script_text}
 use Rattle.oc_requests.specs.declared.request.Sample.{Sample}

@@ -1,4 +1,3 @@
-pub mod Status
 pub mod Outside
 pub mod Calm
 pub mod Headline

@@ -2,7 +2,7 @@
 use Rattle.std.specs.Prelude.{◌≡◌, ℕ, ◌<◌, ◌⊎◌, Bool, List, [], ◌∷◌, ◌++◌, length, Option, Some, None, ⊤}
 use Rattle.std.specs.Borrow.{Bor}
 use Rattle.oc_io.specs.Faults.{Rose}
-use Rattle.oc_replay.specs.Report.{SomeFront}
+use Rattle.oc_play.specs.Pieces.{SomeFront}
 use Rattle.oc_requests.specs.declared.request.Download.{Download}
 use Rattle.oc_requests.specs.declared.request.Member.{Member}
 use Rattle.oc_requests.specs.declared.request.Request.{Request}

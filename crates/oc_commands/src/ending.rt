@@ -8,11 +8,11 @@ use crate::configuring::ConfigEnd;
 use crate::generating::GenEnd;
 use crate::listing::RulesEnd;
 use crate::serving::ServiceEnd;
-use crate::status::Status;
 use oc_config::ConfigFault;
 use oc_fetch::GetEnd;
 use oc_keep::KeepLoad;
 use oc_replay::ReplayEnd;
+use oc_requests::Status;
 use oc_service::{NodeEnd, TurnEnd};
 
 /// How a run ended.

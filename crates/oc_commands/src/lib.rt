@@ -21,7 +21,6 @@ mod lines;
 mod listing;
 mod replaying;
 mod serving;
-mod status;
 mod telling;
 mod texts;
 
@@ -33,8 +32,8 @@ pub use getting::download;
 pub use headline::headline_holds;
 pub use helping::write_help;
 pub use listing::{RulesEnd, list_rules};
+pub use oc_requests::Status;
 pub use replaying::replay_input;
 pub use serving::{ServiceEnd, run_service};
-pub use status::Status;
 pub use telling::tell;
 pub use texts::{help, usage};

@@ -6,7 +6,7 @@ ghost use Rattle.oc_io.specs.Faults.{NoFall};
 ghost use Rattle.oc_commands.specs.AtNode.{HappenedAtNode, IsMemberOf, RunsService, UnlessRan};
 ghost use Rattle.oc_commands.specs.Ends.{status_of_service};
 ghost use Rattle.oc_commands.specs.Outside.{at_files, at_node, at_sink, at_source, seen};
-ghost use Rattle.oc_commands.specs.Status.{number_of};
+ghost use Rattle.oc_requests.specs.Status.{number_of};
 
 use crate::configuring::{ConfigEnd, read_config};
 use oc_base::NodeId;

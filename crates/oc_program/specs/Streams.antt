@@ -2,7 +2,7 @@
 use Rattle.std.specs.Prelude.{◌≡◌, ℕ, ◌<◌, ◌≤◌, ◌^◌, ◌-◌, ◌⊎◌, List, length, min, Err}
 use Rattle.oc_adapters.specs.declared.traffic.Traffic.{Traffic}
 use Rattle.oc_base.specs.declared.limits.TheConstants.{MAX_SCHEDULE_BYTES}
-use Rattle.oc_replay.specs.Report.{SomeFront}
+use Rattle.oc_play.specs.Pieces.{SomeFront}
 use Rattle.oc_schedule.specs.Schedule.{schedule_of}
 use Rattle.oc_acts.specs.declared.fault.ScheduleFault.TheVariants.{Limit}
 use Rattle.oc_commands.specs.Outside.{Input, Output}

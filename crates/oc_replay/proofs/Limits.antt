@@ -13,7 +13,7 @@ use Rattle.oc_acts.specs.Reading.{at_line, Gives}
 use Rattle.oc_base.specs.Steps.{◌>>=◌}
 use Rattle.oc_schedule.specs.Schedule.{schedule_of, read_lines, read_line, read_words, read_statement, within_limits, script_after, is_comment}
 use Rattle.oc_schedule.specs.Script.{Script, published_in, settles_in}
-use Rattle.oc_replay.specs.Ends.{IfLimit, end_of_schedule}
+use Rattle.oc_play.specs.Ends.{IfLimit, end_of_schedule}
 use Rattle.oc_replay.specs.Replay.{IsInput, PassesLimit}
 
 -- it is no refusal for the limit on bytes

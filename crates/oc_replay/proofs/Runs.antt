@@ -1,20 +1,12 @@
 -- A run, one event on.
-use Rattle.std.proofs.Common.{◌≡◌, ℕ, ◌+◌, ◌<◌, ◌≤◌, List, [], ◌∷◌, ◌++◌, length, take, drop, get_or, fold, sym, ap, ◌∙◌, subst, arith, append_assoc}
-use Rattle.std.specs.List.{AllByRecursion}
-use Rattle.std.proofs.lemmas.List.{at_drop_more, at_drop_all, drop_more}
-use Rattle.std.proofs.lemmas.List.Sums.{fold_more}
+use Rattle.std.proofs.Common.{◌≡◌, ℕ, ◌+◌, ◌<◌, ◌≤◌, List, [], ◌∷◌, ◌++◌, length, drop, get_or, sym, ap, ◌∙◌, subst, arith, append_assoc}
+use Rattle.std.proofs.lemmas.List.{at_drop_more, at_drop_all}
 use Rattle.oc_model.specs.declared.event.Event.{Event}
 use Rattle.oc_model.specs.declared.word.Word.{Word}
 use Rattle.oc_model.specs.World.{World}
 use Rattle.oc_report.specs.Lines.{end_line, event_line}
 use Rattle.oc_replay.specs.Report.{block_text, event_text, sent_text, told_from}
 use Rattle.oc_replay.proofs.Written.{IsWritten, gathers, gathers_all}
-
--- what holds of the rest holds of its first item, and of the rest after it
-pub All-drop : {A : Type 0} (P : A → Type 0) (xs : List A) (i : ℕ) (x : A) → i < length xs → x ≡ get_or xs i x → AllByRecursion P (drop i xs) → P x × AllByRecursion P (drop (i + 1) xs)
-All-drop P xs i x within read all =
-    let both : P (get_or xs i x) × AllByRecursion P (drop (i + 1) xs) = subst (AllByRecursion P) (drop_more xs i x within) all in
-    (subst P (sym read) both.0, both.1)
 
 -- the line of an event, the messages that it sent and its block, put one after the other, are what is told of it
 pub event_told : (a b c d : List ℕ) (i : ℕ) (said word : Word) (first : ℕ) (old new : World) (e : Event) → said ≡ word → first ≡ length old.net + 1 → b ≡ a ++ event_line i said → c ≡ b ++ sent_text first new e → d ≡ c ++ block_text new e → d ≡ a ++ event_text i word old new e
@@ -33,11 +25,6 @@ module _ (after : World → Event → World) (word : World → Event → Word) w
       at_drop_more (told_from after word i w) es i e within
       ∙ ap (λ (x : Event). told_from after word i w (x ∷ drop (i + 1) es)) (sym read)
       ∙ ap (λ (v : World). event_text (i + 1) (word w e) w v e ++ told_from after word (i + 1) v (drop (i + 1) es)) (sym next)
-
-  -- the world after one event more
-  pub fold-take : (i : ℕ) (first w new : World) (es : List Event) (e : Event) → i < length es → e ≡ get_or es i e → new ≡ after w e → w ≡ fold after first (take i es) → new ≡ fold after first (take (i + 1) es)
-  fold-take i first w new es e within read next so_far =
-      next ∙ ap (λ (v : World). after v e) so_far ∙ ap (after (fold after first (take i es))) read ∙ sym (fold_more after first es i e within)
 
   -- with one event more gathered, the events after it are left
   pub written-next : {K : Type 0} (takes : K → List ℕ → K → Type 0) (old mid : K) (gathered put text : List ℕ) (i : ℕ) (w new : World) (es : List Event) (e : Event) → i < length es → e ≡ get_or es i e → new ≡ after w e → put ≡ gathered ++ event_text (i + 1) (word w e) w new e → IsWritten takes old mid gathered (told_from after word i w (drop i es)) text → IsWritten takes old mid put (told_from after word (i + 1) new (drop (i + 1) es)) text

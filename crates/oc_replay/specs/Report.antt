@@ -1,4 +1,4 @@
-use Rattle.std.specs.Prelude.{◌≡◌, ℕ, ◌+◌, ◌-◌, Option, Some, None, List, [], ◌∷◌, ◌++◌, length, take, drop}
+use Rattle.std.specs.Prelude.{ℕ, ◌+◌, ◌-◌, Option, Some, None, List, [], ◌∷◌, ◌++◌, length, drop}
 use Rattle.oc_model.specs.declared.event.Event.{Event}
 use Rattle.oc_model.specs.declared.event.Event.TheVariants.{Held, Show, Settle, Heal}
 use Rattle.oc_model.specs.declared.message.Message.{Message}
@@ -47,13 +47,3 @@ module _ (after : World → Event → World) (word : World → Event → Word) w
   -- the report of a run that opens with this world
   abbrev pub run_text : World → List Event → List ℕ
   run_text w es = told_from 0 w es
-
--- this holds of some prefix of a list
-abbrev pub SomeFront : {A : Type 0} → List A → (List A → Type 0) → Type 0
-SomeFront xs P = (n : ℕ) × P (take n xs)
-
--- a prefix of what was gathered was taken, and the rest is what is gathered now
-pub record PassesOn (takes : List ℕ → Type 0) (old new : List ℕ) : Type 0 where
-  pub front : List ℕ
-  pub taken : takes front
-  pub whole : old ≡ front ++ new

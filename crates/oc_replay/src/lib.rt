@@ -7,21 +7,20 @@
 //! `Source` and `Sink` the count of faults of that one rose, and where there is no schedule nothing is written and
 //! the stage is as it was.
 //!
-//! `specs/Report` has what is reported of a run, in the lines of `oc_report`; `specs/Summary` has what is
+//! It is made of the steps of `oc_play`. `specs/Report` has what is reported of a run, in the lines of `oc_report`; `specs/Summary` has what is
 //! counted of a world, `specs/Replay` what is written of a schedule. `told_text` takes its words and
 //! worlds from the functions of the stage's type, so a body that doesn't give the stage the events can't
 //! know it. The text is gathered in one buffer, which is written and used again whenever it has reached
 //! 64 KiB.
 #![tactic(auto)]
 
-mod end;
 mod law;
 mod replaying;
 mod reporting;
 mod summing;
 
-pub use end::ReplayEnd;
 pub use law::examples_are_told;
 pub use oc_base::Why;
+pub use oc_play::ReplayEnd;
 pub use oc_schedule::What;
 pub use replaying::replay;

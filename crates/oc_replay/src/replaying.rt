@@ -7,16 +7,16 @@ ghost use Rattle.oc_io.specs.Faults.{NoFall, Rose};
 ghost use Rattle.oc_schedule.specs.Schedule.{IsSchedule};
 ghost use Rattle.oc_schedule.specs.Script.{Script};
 ghost use Rattle.oc_acts.specs.declared.fault.ScheduleFault.TheVariants.{Line};
-ghost use Rattle.oc_replay.specs.Ends.{OnDone, IfText, IfLimit, OnSource, OnSink, OnMemory, OnRefusal};
-ghost use Rattle.oc_replay.specs.Opening.{IsOpening};
+ghost use Rattle.oc_play.specs.Ends.{OnDone, IfText, IfLimit, OnSource, OnSink, OnMemory, OnRefusal};
+ghost use Rattle.oc_play.specs.Opening.{IsOpening};
 ghost use Rattle.oc_replay.specs.Replay.{IsInput, PassesLimit, output_text, run_output, world_at};
-ghost use Rattle.oc_replay.specs.Report.{SomeFront};
+ghost use Rattle.oc_play.specs.Pieces.{SomeFront};
 
-use crate::end::ReplayEnd;
-use crate::reporting::{ReportFault, report};
+use crate::reporting::report;
 use crate::summing::summarize;
 use oc_io::{Sink, Source, read_all};
 use oc_model::Event;
+use oc_play::{ReplayEnd, ReportFault};
 use oc_schedule::{Schedule, What, read};
 use oc_stage::Stage;
 use std::alloc::Global;
@@ -76,8 +76,7 @@ pub fn replay<S: Source, K: Sink, T: Stage>(
     };
     match play(alloc, &schedule, sink, stage, summary) {
         Ok(()) => ReplayEnd::Done,
-        Err(ReportFault::Sink) => ReplayEnd::Sink,
-        Err(ReportFault::Memory) => ReplayEnd::Memory,
+        Err(fault) => ReplayEnd::from(fault),
     }
 }
 

@@ -1,48 +1,21 @@
 //! A run of events on a stage, reported while it happens.
 
-ghost use Rattle.std.specs.Prelude.{◌≡◌, ℕ, ◌+◌, ◌-◌, ◌^◌, ◌<◌, ◌++◌, length, take, fold, OnOk, IfOk, OnErr, IsErrOf};
+ghost use Rattle.std.specs.Prelude.{◌≡◌, ◌+◌, ◌-◌, ◌^◌, ◌<◌, ◌++◌, length, fold, OnOk, IfOk, IsErrOf};
 ghost use Rattle.oc_model.specs.Lawful.{IsEvent};
 ghost use Rattle.oc_model.specs.World.{ids, message_at};
 ghost use Rattle.oc_io.specs.Faults.{NoFall, Rose};
-ghost use Rattle.oc_replay.specs.Opening.{IsOpening};
-ghost use Rattle.oc_replay.specs.Report.{block_text, event_text, message_text, run_text, sent_from, sent_text, PassesOn, SomeFront};
+ghost use Rattle.oc_play.specs.Opening.{IsOpening};
+ghost use Rattle.oc_play.specs.Pieces.{SomeFront};
+ghost use Rattle.oc_replay.specs.Report.{block_text, event_text, message_text, run_text, sent_from, sent_text};
 ghost use Rattle.oc_stage.specs.Stage.{HasTimeFor};
-ghost use Rattle.oc_replay.specs.declared.reporting.ReportFault.TheVariants.{Sink as SinkFailed, Memory as NoMemory};
 
 use oc_base::Memory;
-use oc_io::{Failed, Sink, write_all};
+use oc_io::Sink;
 use oc_model::Event;
-use oc_report::{put_end, put_event, put_held, put_message, put_show};
+use oc_play::{ReportFault, pass_on, play_one, write_last};
+use oc_report::{put_held, put_message, put_show};
 use oc_stage::{Said, Stage};
 use std::alloc::Global;
-
-/// How many bytes are gathered before they are written.
-const PIECE: usize = 65_536;
-
-/// Why a report was not written to its end.
-#[derive(Clone, Copy, Debug, PartialEq, Eq)]
-pub(crate) enum ReportFault {
-    /// A call on the sink failed.
-    Sink,
-    /// Memory ran out.
-    Memory,
-}
-
-impl From<Failed> for ReportFault {
-    ghost from_gives = { λ _ fault. fault ≡ SinkFailed };
-
-    fn from(_failed: Failed) -> ReportFault {
-        ReportFault::Sink
-    }
-}
-
-impl From<Memory> for ReportFault {
-    ghost from_gives = { λ _ fault. fault ≡ NoMemory };
-
-    fn from(_memory: Memory) -> ReportFault {
-        ReportFault::Memory
-    }
-}
 
 /// Gives the stage each event once, in order, and writes the report of the run, which opens with
 /// the world that the stage shows.
@@ -81,9 +54,7 @@ pub(crate) fn report<K: Sink, T: Stage>(
         sent = tell(&mut out, stage, place as u64 + 1, event)?;
         pass_on(sink, &mut out)?;
     }
-    put_end(&mut out, events.len() as u64, sent)?;
-    write_all(sink, &out)?;
-    Ok(())
+    write_last(sink, &mut out, events.len() as u64, sent)
 }
 
 /// Gives the stage the event of this number, puts what is reported of it, and answers how many messages
@@ -101,11 +72,11 @@ fn tell<T: Stage>(
     ensures world { OnOk result (T.world stage.new ≡ T.after (T.world stage.old) event.now) }
     ensures sent { IfOk result (λ sent. sent ≡ length (T.world stage.new).net) }
 {
-    let said = stage.event(event)?;
-    put_event(out, number, &said.word)?;
+    let said = play_one(out, stage, number, event)?;
+    let sent = said.first + said.count - 1;
     put_told(out, stage, event, said)?;
     put_block(out, stage, event)?;
-    Ok(said.first + said.count - 1)
+    Ok(sent)
 }
 
 /// Puts the messages that are reported of an event. Settle and heal may send very many, which are not reported.
@@ -155,18 +126,4 @@ fn put_block<T: Stage>(out: &mut Vec<u8>, stage: &T, event: &Event) -> Result<()
         Event::Show(node) => put_show(out, *node, &stage.sight(*node)?),
         _ => Ok(()),
     }
-}
-
-/// Writes what was gathered, once there is enough of it.
-fn pass_on<K: Sink>(sink: &mut K, out: &mut Vec<u8>) -> Result<(), Failed>
-    ensures passed { OnOk result (PassesOn (λ bytes. K.takes sink.old bytes sink.new) out.old.items out.new.items) }
-    ensures failed { OnErr result (SomeFront out.old.items (λ front. K.fails sink.old front sink.new)) }
-    ensures count { NoFall (K.faults sink.old) (K.faults sink.new) }
-    ensures cause { OnErr result (Rose (K.faults sink.old) (K.faults sink.new)) }
-{
-    if out.len() >= PIECE {
-        write_all(sink, out)?;
-        out.clear();
-    }
-    Ok(())
 }

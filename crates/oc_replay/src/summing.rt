@@ -1,6 +1,6 @@
 //! A run of events on a stage, reported by a summary of its last world.
 
-ghost use Rattle.std.specs.Prelude.{◌≡◌, ℕ, ◌+◌, ◌^◌, ◌<◌, ◌≤◌, [], ◌++◌, length, fold, OnOk, IfOk, IsErrOf};
+ghost use Rattle.std.specs.Prelude.{◌≡◌, ◌+◌, ◌^◌, ◌<◌, ◌≤◌, [], ◌++◌, length, fold, OnOk, IfOk, IsErrOf};
 ghost use Rattle.std.specs.List.{range_with_len};
 ghost use Rattle.oc_base.specs.Lawful.{IsNode};
 ghost use Rattle.oc_base.specs.declared.limits.TheConstants.{MAX_NODES};
@@ -9,14 +9,14 @@ ghost use Rattle.oc_model.specs.Records.{is_joined};
 ghost use Rattle.oc_model.specs.World.{ids};
 ghost use Rattle.oc_model.specs.WorldBounds.{IsWithinLimits};
 ghost use Rattle.oc_io.specs.Faults.{NoFall, Rose};
-ghost use Rattle.oc_replay.specs.Opening.{IsOpening};
-ghost use Rattle.oc_replay.specs.Report.{SomeFront};
+ghost use Rattle.oc_play.specs.Opening.{IsOpening};
+ghost use Rattle.oc_play.specs.Pieces.{SomeFront};
 ghost use Rattle.oc_replay.specs.Summary.{FitsWith, bytes_in, count_line, one_if, plus, run_summary, summary_of_tally, summary_text, tally_at, tally_over};
 
-use crate::reporting::ReportFault;
 use oc_base::{Memory, NodeId, Shelf, put, put_with_number};
 use oc_io::{Sink, write_all};
 use oc_model::{Event, Mode};
+use oc_play::{ReportFault, play};
 use oc_stage::Stage;
 use std::alloc::Global;
 
@@ -106,22 +106,6 @@ fn play_and_sum<T: Stage>(
     let mut out = Vec::new(alloc);
     put_summary(&mut out, events.len() as u64, sent, &tally)?;
     Ok(out)
-}
-
-/// Gives the stage each event once, in order, and answers how many messages were sent.
-fn play<T: Stage>(stage: &mut T, events: &[Event]) -> Result<u64, Memory>
-    requires { IsOpening (T.world stage.old) events.now }
-    ensures played { OnOk result (T.world stage.new ≡ fold T.after (T.world stage.old) events.now) }
-    ensures ids { OnOk result (ids (T.world stage.new) ≡ ids (T.world stage.old)) }
-    ensures limits { OnOk result (IsWithinLimits (T.world stage.new)) }
-    ensures sent { IfOk result (λ sent. sent ≡ length (T.world stage.new).net) }
-{
-    let mut sent = 0;
-    for event in events {
-        let said = stage.event(event)?;
-        sent = said.first + said.count - 1;
-    }
-    Ok(sent)
 }
 
 /// What is counted of all nodes.

@@ -8,9 +8,10 @@ use Rattle.oc_outside.specs.declared.link.Arrival.TheVariants as arrivals
 use Rattle.oc_probe.specs.declared.probing.Probing.{Probing}
 use Rattle.oc_turn.specs.declared.ends.TurnEnd.{TurnEnd}
 use Rattle.oc_turn.specs.declared.ends.TurnEnd.TheVariants as ends
-use Rattle.oc_serve.specs.Ends.{MakesTurn, MakesTurns, Renews, ServeEnds, StopsTurn, StopsTurns, TurnEnds, ended_with, served_with}
+use Rattle.oc_one_turn.specs.Ends.{MakesTurn, Renews, StopsTurn}
+use Rattle.oc_serve.specs.Ends.{MakesTurns, ServeEnds, StopsTurns, TurnEnds, ended_with, served_with}
 use Rattle.oc_turn.specs.Scenes.{Scene}
-use Rattle.oc_serve.specs.Turns.{end_with}
+use Rattle.oc_one_turn.specs.Turns.{end_with}
 
 module _ {D K : Type 0} (view : D → DiskView) (takes fails : K → List ℕ → K → Type 0) (count : K → ℕ) (addresses : List (List ℕ)) (rules : List Rule) (had has : Option Probing) (old new : Scene D K) where
   -- it ended in its midst

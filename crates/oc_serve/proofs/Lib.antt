@@ -1,6 +1,2 @@
-pub mod Placed
-pub mod Sends
-pub mod Whole
+pub mod Many
 pub mod Ending
-pub mod Probed
-pub mod Still

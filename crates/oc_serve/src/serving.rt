@@ -1,19 +1,19 @@
 //! The public calls: one turn, and turns one after another.
 
-ghost use Rattle.std.specs.Prelude.{◌≡◌, ◌≤◌, ℕ, List, IfErr, OnOk, None, Some, option_map, false, length};
+ghost use Rattle.std.specs.Prelude.{◌≡◌, ◌≤◌, IfErr, OnOk, None, Some, option_map, false, length};
 ghost use Rattle.std.specs.Option.{ForSome};
 ghost use Rattle.oc_policy.specs.declared.deciding.TheConstants.{MAX_RULES as MOST_RULES};
 ghost use Rattle.oc_turn.specs.Deeds.{outside_of};
 ghost use Rattle.oc_serve.specs.Ends.{MakesTurns, ServeEnds, StopsTurns, TurnEnds, ended_with, left_behind, served_with};
 ghost use Rattle.oc_turn.specs.Scenes.{scene};
 ghost use Rattle.oc_turn.specs.Sending.{AreSendable};
-ghost use Rattle.oc_serve.specs.Sending.{IsPlaced};
-ghost use Rattle.oc_serve.specs.Turns.{IsMadeFor};
+ghost use Rattle.oc_one_turn.specs.Sending.{IsPlaced};
+ghost use Rattle.oc_one_turn.specs.Turns.{IsMadeFor};
 
-use crate::turning::{turn_plain, turn_probing};
 use oc_config::Config;
 use oc_io::{Disk, Sink};
 use oc_keep::Kept;
+use oc_one_turn::{turn_plain, turn_probing};
 use oc_outside::{Arrival, Clock, Link};
 use oc_probe::Probing;
 use oc_turn::{Outbox, TurnEnd};

@@ -12,7 +12,7 @@ use Rattle.oc_model.specs.Node.{Header, Node}
 use Rattle.oc_model.specs.Step.{step}
 use Rattle.oc_io.specs.DiskView.{DiskView}
 use Rattle.oc_io.specs.Faults.{Rose}
-use Rattle.oc_serve.specs.Sending.{setting_of}
+use Rattle.oc_one_turn.specs.Sending.{setting_of}
 use Rattle.oc_turn.specs.Deeds.{Deed, DoAll, Idle, Noting, Outside, Taking, Under, deeds_text, inputs_of, sight_of, under_line}
 use Rattle.oc_turn.specs.Scenes.{HasCause, LeavesAt, LeavesUnder, Stops, WritesAt}
 use Rattle.oc_turn.specs.declared.ends.TurnEnd.{TurnEnd}

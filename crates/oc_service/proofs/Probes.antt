@@ -5,7 +5,7 @@ use Rattle.std.specs.List.{AllByRecursion}
 use Rattle.oc_base.specs.Lawful.{IsNode}
 use Rattle.oc_probe.specs.Turns.{RotationView, ids, others}
 use Rattle.oc_probe.specs.declared.probing.Probing.{Probing}
-use Rattle.oc_serve.specs.Turns.{IsMadeFor}
+use Rattle.oc_one_turn.specs.Turns.{IsMadeFor}
 use Rattle.oc_service.specs.Runs.{first_probing}
 
 -- what holds of each of two lists

@@ -17,8 +17,8 @@ use Rattle.oc_turn.proofs.Scenes.{did_then, go_on_none, stopped_of}
 use Rattle.oc_turn.specs.Deeds.{Deed, Idle, Outside, outside_of}
 use Rattle.oc_turn.specs.Scenes.{Did, Scene, Stopped, scene, sight}
 use Rattle.oc_serve.specs.Ends.{MakesTurns, ServeEnds, StopsTurns}
-use Rattle.oc_serve.specs.Sending.{setting_of}
-use Rattle.oc_serve.specs.Served.{ServesTurns}
+use Rattle.oc_one_turn.specs.Sending.{setting_of}
+use Rattle.oc_serve.specs.Turns.{ServesTurns}
 use Rattle.oc_serve.specs.Turns.{AreTurns}
 use Rattle.oc_policy.specs.declared.rule.Rule.{Rule}
 use Rattle.oc_probe.specs.declared.probing.Probing.{Probing}

@@ -13,7 +13,7 @@ use Rattle.oc_model.specs.declared.message.Message.{Message}
 use Rattle.oc_io.specs.DiskView.{DiskView}
 use Rattle.oc_io.specs.Faults.{NoFall, Rose}
 use Rattle.oc_outside.specs.LinkCalls.{CountsListening, LinkFaults}
-use Rattle.oc_serve.specs.Sending.{setting_of}
+use Rattle.oc_one_turn.specs.Sending.{setting_of}
 use Rattle.oc_service.specs.Runs.{IsRun, ServesRun}
 use Rattle.oc_service.specs.declared.starting.NodeEnd.{NodeEnd}
 use Rattle.oc_service.specs.declared.starting.NodeEnd.TheVariants.{Load, Turned}

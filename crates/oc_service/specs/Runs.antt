@@ -13,7 +13,7 @@ use Rattle.oc_outside.specs.LinkCalls.{CountsListening, LinkFaults}
 use Rattle.oc_probe.specs.Turns.{others}
 use Rattle.oc_probe.specs.declared.probing.Probing.{Probing}
 use Rattle.oc_serve.specs.Ends.{MakesTurns}
-use Rattle.oc_serve.specs.Served.{ServesTurns}
+use Rattle.oc_serve.specs.Turns.{ServesTurns}
 use Rattle.oc_serve.specs.Turns.{AreTurns}
 use Rattle.oc_turn.specs.Deeds.{Deed, DoAll, Outside, Setting, Sight, Takes}
 use Rattle.oc_turn.specs.Scenes.{Did, Scene, Stopped, scene, setting, sight}

@@ -2,7 +2,7 @@
 
 ghost use Rattle.std.specs.Prelude.{◌≡◌, ◌≤◌, IfOk};
 ghost use Rattle.oc_base.specs.Lawful.{IsNode};
-ghost use Rattle.oc_serve.specs.Turns.{IsMadeFor};
+ghost use Rattle.oc_one_turn.specs.Turns.{IsMadeFor};
 ghost use Rattle.oc_service.specs.Runs.{first_probing};
 
 use oc_base::{Memory, NodeId};

@@ -10,7 +10,7 @@ ghost use Rattle.oc_keep.specs.Files.{AllGoOn, AreHonest, OneRose, disks};
 ghost use Rattle.oc_keep.specs.Promises.{HoldFiles};
 ghost use Rattle.oc_measure.specs.MeasureLines.{IsMeasure};
 ghost use Rattle.oc_policy.specs.declared.deciding.TheConstants.{MAX_RULES as MOST_RULES};
-ghost use Rattle.oc_serve.specs.Sending.{IsPlaced};
+ghost use Rattle.oc_one_turn.specs.Sending.{IsPlaced};
 ghost use Rattle.oc_service.specs.OnFiles.{EndsUnfailed, NodeEnds};
 ghost use Rattle.oc_service.specs.Runs.{RunEnds};
 ghost use Rattle.oc_turn.specs.Deeds.{outside_of};

@@ -5,7 +5,7 @@
 //! line, made before the input is taken. [`dial`] brings one message to its receiver: it says of the link
 //! that one dial was made with exactly that message's request, and which entry resulted from what was read.
 //! [`take`] and [`take_own`] take an entry into the files and then write its line; [`tick`] takes the
-//! clock's time, and [`tidy`] turns ripe files over.
+//! clock's time, [`tidy`] turns ripe files over, and [`next_arrival`] asks whether a connection waits.
 //!
 //! What a turn does is a list of deeds (`specs/Deeds`): an input that was taken with its line, a message
 //! that was dialled, and so on. `specs/Scenes` says what it means that deeds were done (`Did`): the lines
@@ -16,6 +16,7 @@
 //! Each message of a step can be sent, so that each message of an outbox can (`specs/Sending`).
 #![tactic(auto)]
 
+mod arriving;
 mod dialling;
 mod ends;
 mod entry;
@@ -27,6 +28,7 @@ mod taking;
 mod ticking;
 mod tidying;
 
+pub use arriving::next_arrival;
 pub use dialling::dial;
 pub use ends::TurnEnd;
 pub use entry::{Entry, fail_entry, input_entry, message_entry};

@@ -1,7 +1,11 @@
-use Rattle.std.proofs.Common.{ℕ, ◌+◌, List, [], length, take, drop, sym, ap, subst, arith}
+use Rattle.std.proofs.Common.{◌+◌, [], ◌++◌, length, drop, refl, sym, ap, subst, arith}
+use Rattle.std.proofs.lemmas.Result.{on_ok_weaker}
+use Rattle.oc_io.proofs.Counts.{Rose-after}
+use Rattle.oc_report.specs.Lines.{end_line}
+use Rattle.oc_play.specs.Pieces.{SomeFront}
 use Rattle.oc_replay.specs.Report.{told_from, run_text}
-use Rattle.oc_replay.proofs.Running.{begins, goes_on, next_given, whole_run}
-use Rattle.oc_replay.proofs.Runs.{written-next, written-end, fold-take}
+use Rattle.oc_play.proofs.Running.{begins, fold-take, goes_on, next_given, whole_run}
+use Rattle.oc_replay.proofs.Runs.{written-next, written-end}
 use Rattle.oc_replay.proofs.Written.{written_none, passes, ends, stops, fails_on}
 use Rattle.oc_replay.proofs.reporting.report.Goals as goal
 
@@ -53,9 +57,6 @@ loop-place-preserved g c =
 pub returns-in_err-sent-clause-memory : goal.returns-in_err-sent-clause-memory
 returns-in_err-sent-clause-memory g c = λ _. stops g.K.Sink.takes c.args.sink.now c.loop-place.sink c.loop-place.out.items _ _ c.loop-place.invariant.written
 
-pub returns-in_err-put_end-clause-memory : goal.returns-in_err-put_end-clause-memory
-returns-in_err-put_end-clause-memory g c = λ _. stops g.K.Sink.takes c.args.sink.now c.loop-place.sink c.loop-place.out.items _ _ c.loop-place.invariant.written
-
 -- a prefix was taken when a call failed
 pub returns-in_err-pass_on-clause-failed : goal.returns-in_err-pass_on-clause-failed
 returns-in_err-pass_on-clause-failed g c = λ _.
@@ -73,25 +74,33 @@ pub returns-in_err-pass_on-clause-stopped : goal.returns-in_err-pass_on-clause-s
 returns-in_err-pass_on-clause-stopped g c = λ _.
     let stage = g.T.Stage in
     let events = c.args.events.now in
-    (c.loop-place.place + 1, fold-take stage.after stage.word c.loop-place.place (stage.world c.args.stage.now) (stage.world c.loop-place.stage) (stage.world c.tell.new.stage) events c.index-events-place.result (omega arith) c.index-events-place.is c.in_ok-sent.ensures.world c.loop-place.invariant.way.played)
+    (c.loop-place.place + 1, fold-take stage.after c.loop-place.place (stage.world c.args.stage.now) (stage.world c.loop-place.stage) (stage.world c.tell.new.stage) events c.index-events-place.result (omega arith) c.index-events-place.is c.in_ok-sent.ensures.world c.loop-place.invariant.way.played)
 
-pub returns-in_err-write_all-clause-failed : goal.returns-in_err-write_all-clause-failed
-returns-in_err-write_all-clause-failed g c = λ _.
+-- the same in the last part, with which all is written
+pub returns-clause-failed : goal.returns-clause-failed
+returns-clause-failed g c = λ failed.
     let stage = g.T.Stage in
     let takes = g.K.Sink.takes in
     let events = c.args.events.now in
     let text = run_text stage.after stage.word (stage.world c.args.stage.now) events in
-    let out = c.put_end.new.out.items in
-    let written = written-end stage.after stage.word takes c.args.sink.now c.loop-place.sink c.loop-place.out.items out text c.loop-place.place c.loop-place.sent (stage.world c.loop-place.stage) events (omega arith) (omega arith) c.loop-place.invariant.sent c.in_ok-put_end.ensures c.loop-place.invariant.written in
-    let failed = c.in_err-write_all.ensures.fails in
-    let part = subst (λ (bytes : List ℕ). g.K.Sink.fails c.loop-place.sink (take failed.0 bytes) c.write_all.new.sink) c.deref.ensures.value failed.2 in
-    fails_on takes g.K.Sink.fails g.met.K.Sink.takes_fails c.args.sink.now c.loop-place.sink c.write_all.new.sink out [] text written (failed.0, part)
+    let out = c.loop-place.out.items ++ end_line (length events) c.loop-place.sent in
+    let written = written-end stage.after stage.word takes c.args.sink.now c.loop-place.sink c.loop-place.out.items out text c.loop-place.place c.loop-place.sent (stage.world c.loop-place.stage) events (omega arith) (omega arith) c.loop-place.invariant.sent refl c.loop-place.invariant.written in
+    fails_on takes g.K.Sink.fails g.met.K.Sink.takes_fails c.args.sink.now c.loop-place.sink c.write_last.new.sink out [] text written (c.write_last.ensures.failed failed)
 
--- all events were played when the last call failed
-pub returns-in_err-write_all-clause-stopped : goal.returns-in_err-write_all-clause-stopped
-returns-in_err-write_all-clause-stopped g c = λ _.
+pub returns-clause-memory : goal.returns-clause-memory
+returns-clause-memory g c = λ failed.
     let stage = g.T.Stage in
-    (c.loop-place.place, c.loop-place.invariant.way.played)
+    let takes = g.K.Sink.takes in
+    let text = run_text stage.after stage.word (stage.world c.args.stage.now) c.args.events.now in
+    subst (λ sink. SomeFront text (λ front. takes c.args.sink.now front sink)) (sym (c.write_last.ensures.memory failed))
+    (stops takes c.args.sink.now c.loop-place.sink c.loop-place.out.items _ _ c.loop-place.invariant.written)
+
+pub returns-clause-cause : goal.returns-clause-cause
+returns-clause-cause g c = λ failed. Rose-after _ _ _ c.loop-place.invariant.count (c.write_last.ensures.cause failed)
+
+-- all events were played when the last part was written
+pub returns-clause-stopped : goal.returns-clause-stopped
+returns-clause-stopped g c = λ _. (c.loop-place.place, c.loop-place.invariant.way.played)
 
 -- the whole report was taken
 pub returns-clause-told : goal.returns-clause-told
@@ -100,13 +109,14 @@ returns-clause-told g c =
     let takes = g.K.Sink.takes in
     let events = c.args.events.now in
     let text = run_text stage.after stage.word (stage.world c.args.stage.now) events in
-    let out = c.put_end.new.out.items in
-    let written = written-end stage.after stage.word takes c.args.sink.now c.loop-place.sink c.loop-place.out.items out text c.loop-place.place c.loop-place.sent (stage.world c.loop-place.stage) events (omega arith) (omega arith) c.loop-place.invariant.sent c.in_ok-put_end.ensures c.loop-place.invariant.written in
-    let taken = subst (λ (bytes : List ℕ). takes c.loop-place.sink bytes c.write_all.new.sink) c.deref.ensures.value c.in_ok-write_all.ensures.takes in
-    ends takes g.met.K.Sink.takes_then c.args.sink.now c.loop-place.sink c.write_all.new.sink out text written taken
+    let out = c.loop-place.out.items ++ end_line (length events) c.loop-place.sent in
+    let written = written-end stage.after stage.word takes c.args.sink.now c.loop-place.sink c.loop-place.out.items out text c.loop-place.place c.loop-place.sent (stage.world c.loop-place.stage) events (omega arith) (omega arith) c.loop-place.invariant.sent refl c.loop-place.invariant.written in
+    on_ok_weaker c.write_last.result (ends takes g.met.K.Sink.takes_then c.args.sink.now c.loop-place.sink c.write_last.new.sink out text written) c.write_last.ensures.written
 
 -- and the stage is at the last world
 pub returns-clause-played : goal.returns-clause-played
 returns-clause-played g c =
     let stage = g.T.Stage in
-    whole_run stage.after (stage.world c.args.stage.now) (stage.world c.loop-place.stage) c.args.events.now c.loop-place.place (omega arith) c.loop-place.invariant.way
+    on_ok_weaker c.write_last.result
+    (λ _. whole_run stage.after (stage.world c.args.stage.now) (stage.world c.loop-place.stage) c.args.events.now c.loop-place.place (omega arith) c.loop-place.invariant.way)
+    c.write_last.ensures.written

@@ -1,4 +1,4 @@
-use Rattle.std.proofs.Common.{◌≡◌, ◌∙◌, ℕ, List, length, sym, ap, subst, arith, rules}
+use Rattle.std.proofs.Common.{◌≡◌, ◌∙◌, ℕ, List, length, refl, sym, ap, subst, arith, rules}
 use Rattle.oc_model.specs.Lawful.{IsEvent}
 use Rattle.oc_model.specs.World.{ids}
 use Rattle.oc_replay.proofs.Runs.{event_told}
@@ -13,7 +13,7 @@ pub put_block-requires : goal.put_block-requires
 put_block-requires g c =
     let stage = g.T.Stage in
     let event = c.args.event.now in
-    let same : ids (stage.world c.event.new.self) ≡ ids (stage.world c.args.stage.now) =
+    let same : ids (stage.world c.play_one.new.stage) ≡ ids (stage.world c.args.stage.now) =
     ap ids c.in_ok-said.ensures.world ∙ g.met.T.Stage.keeps_ids (stage.world c.args.stage.now) event c.requires.event in
     subst (λ (xs : List ℕ). IsEvent (length xs) event) (sym same) c.requires.event
 
@@ -23,8 +23,8 @@ returns-clause-text g c =
     let stage = g.T.Stage in
     let old = stage.world c.args.stage.now in
     let said = c.in_ok-said.said in
-    event_told c.args.out.now.items c.put_event.new.out.items c.put_told.new.out.items c.put_block.new.out.items c.args.number said.word (stage.word old c.args.event.now) said.first old (stage.world c.event.new.self) c.args.event.now
-    c.in_ok-said.ensures.said.word c.in_ok-said.ensures.said.first c.in_ok-put_event.ensures c.in_ok-put_told.ensures c.in_ok-put_block.ensures
+    event_told c.args.out.now.items c.play_one.new.out.items c.put_told.new.out.items c.put_block.new.out.items c.args.number (stage.word old c.args.event.now) (stage.word old c.args.event.now) said.first old (stage.world c.play_one.new.stage) c.args.event.now
+    refl c.in_ok-said.ensures.said.first c.in_ok-said.ensures.line c.in_ok-put_told.ensures c.in_ok-put_block.ensures
 
 -- the stage is at the world after the event
 pub returns-clause-world : goal.returns-clause-world

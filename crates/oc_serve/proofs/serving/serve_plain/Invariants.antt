@@ -5,8 +5,8 @@ use Rattle.oc_turn.specs.Scenes.{Did, scene, setting}
 use Rattle.oc_turn.specs.Sending.{AreSendable}
 use Rattle.oc_answer.specs.Serving.{terms}
 use Rattle.oc_keep.specs.KeptView.{IsHonest, node_of}
-use Rattle.oc_serve.specs.Sending.{IsPlaced}
-use Rattle.oc_serve.proofs.Whole.{AreTurnsSoFar, ServesSoFar}
+use Rattle.oc_one_turn.specs.Sending.{IsPlaced}
+use Rattle.oc_serve.proofs.Many.{AreTurnsSoFar, ServesSoFar}
 use Rattle.oc_serve.proofs.serving.serve_plain.Given as goal
 
 abbrev pub invariant-turns : goal.invariant-turns

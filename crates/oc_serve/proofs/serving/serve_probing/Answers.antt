@@ -5,8 +5,8 @@ use Rattle.oc_keep.specs.KeptView.{node_of}
 use Rattle.oc_turn.specs.Deeds.{outside_of, sight_of}
 use Rattle.oc_turn.specs.Scenes.{scene, setting}
 use Rattle.oc_turn.proofs.Scenes.{did_none, did_then}
-use Rattle.oc_serve.proofs.Placed.{made_before, made_stays, placed_stays, sendable_stays}
-use Rattle.oc_serve.proofs.Whole.{AreTurnsSoFar, ServesSoFar, all_turns, no_turns, serves_all, serves_none, serves_then, stops_then, turns_then}
+use Rattle.oc_one_turn.proofs.Placed.{made_before, made_stays, placed_stays, sendable_stays}
+use Rattle.oc_serve.proofs.Many.{AreTurnsSoFar, ServesSoFar, all_turns, no_turns, serves_all, serves_none, serves_then, stops_then, turns_then}
 use Rattle.oc_serve.proofs.serving.serve_probing.Goals as goal
 
 pub returns-in_err-turn_probing-clause-stops : goal.returns-in_err-turn_probing-clause-stops

@@ -5,9 +5,9 @@ use Rattle.oc_turn.specs.Scenes.{Did, scene, setting}
 use Rattle.oc_turn.specs.Sending.{AreSendable}
 use Rattle.oc_answer.specs.Serving.{terms}
 use Rattle.oc_keep.specs.KeptView.{IsHonest, node_of}
-use Rattle.oc_serve.specs.Sending.{IsPlaced}
-use Rattle.oc_serve.specs.Turns.{IsMadeFor}
-use Rattle.oc_serve.proofs.Whole.{AreTurnsSoFar, ServesSoFar}
+use Rattle.oc_one_turn.specs.Sending.{IsPlaced}
+use Rattle.oc_one_turn.specs.Turns.{IsMadeFor}
+use Rattle.oc_serve.proofs.Many.{AreTurnsSoFar, ServesSoFar}
 use Rattle.oc_serve.proofs.serving.serve_probing.Given as goal
 
 abbrev pub invariant-turns : goal.invariant-turns

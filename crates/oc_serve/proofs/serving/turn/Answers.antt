@@ -3,7 +3,7 @@ use Rattle.std.specs.Option.{option_map}
 use Rattle.oc_probe.specs.declared.probing.Probing.{Probing}
 use Rattle.oc_turn.specs.Deeds.{outside_of}
 use Rattle.oc_turn.specs.Scenes.{scene}
-use Rattle.oc_serve.specs.Turns.{IsMadeFor}
+use Rattle.oc_one_turn.specs.Turns.{IsMadeFor}
 use Rattle.oc_serve.proofs.Ending.{for_none, for_some, turn_ends}
 use Rattle.oc_serve.proofs.serving.turn.Goals as goal
 

@@ -10,7 +10,7 @@ use Rattle.oc_model.specs.declared.message.Message.{Message}
 use Rattle.oc_turn.proofs.Results.{err_then}
 use Rattle.oc_turn.proofs.Scenes.{did_none, memory_stops, stopped_then}
 use Rattle.oc_service.specs.Runs.{measured}
-use Rattle.oc_serve.proofs.Placed.{placed_stays, sendable_stays}
+use Rattle.oc_one_turn.proofs.Placed.{placed_stays, sendable_stays}
 use Rattle.oc_service.proofs.Served.{both_then, link_stops, ran}
 use Rattle.oc_service.proofs.serving.run_loaded.Goals as goal
 

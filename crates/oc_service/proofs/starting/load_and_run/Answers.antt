@@ -8,7 +8,7 @@ use Rattle.oc_keep.specs.Promises.{IsNodeOf, LoadsSafely}
 use Rattle.oc_measure.specs.MeasureLines.{IsMeasure}
 use Rattle.oc_model.specs.Lawful.{IsHeader}
 use Rattle.oc_model.specs.Node.{Header}
-use Rattle.oc_serve.specs.Sending.{IsPlaced}
+use Rattle.oc_one_turn.specs.Sending.{IsPlaced}
 use Rattle.oc_turn.specs.Deeds.{outside_of}
 use Rattle.oc_service.specs.OnFiles.{NodeEnds, header_of_settings}
 use Rattle.oc_service.specs.declared.starting.NodeEnd.TheVariants.{Turned}

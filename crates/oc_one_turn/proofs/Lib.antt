@@ -1,0 +1,5 @@
+pub mod Placed
+pub mod Sends
+pub mod Whole
+pub mod Probed
+pub mod Still

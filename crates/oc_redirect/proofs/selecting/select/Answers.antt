@@ -1,4 +1,4 @@
-use Rattle.std.proofs.Common.{◌≡◌, ◌<◌, ◌≤◌, ◌+◌, ◌-◌, ℕ, Option, List, ◌∷◌, ap, sym, subst, ◌∙◌, arith}
+use Rattle.std.proofs.Common.{◌≡◌, ◌<◌, ◌≤◌, ◌+◌, ◌-◌, ℕ, Option, List, ◌∷◌, ap, refl, sym, subst, ◌∙◌, arith}
 use Rattle.std.specs.Prelude.{filter, IfSome}
 use Rattle.std.specs.List.{range_with_len}
 use Rattle.oc_base.specs.declared.cert.Cert.{Cert}
@@ -11,6 +11,9 @@ use Rattle.oc_redirect.proofs.Rows.{servers_are}
 use Rattle.oc_redirect.proofs.Steps.{state, after_better, after_failed, after_worse, next_node, no_node, rest_none, behind_more}
 use Rattle.oc_redirect.proofs.selecting.select.Goals as goal
 use Rattle.oc_redirect.proofs.selecting.select.Goals.{then-beats+then-is_listed, else-beats, else-beats-via-then-beats+else-is_listed, else-beats-via-else-beats}
+
+pub loop-before-init : goal.loop-before-init
+loop-before-init c = record { best = refl; behind = tt }
 
 pub loop-before-preserved : goal.loop-before-preserved
 loop-before-preserved c =

@@ -20,9 +20,9 @@ use Rattle.oc_model.specs.Plan.{begun}
 use Rattle.oc_model.specs.Serving.{client_of, redirects, server_for}
 use Rattle.oc_model.specs.Step.{finished, step}
 use Rattle.oc_outside.specs.Story.{Story}
-use Rattle.oc_routes.specs.declared.asks.Asks.{Asks}
-use Rattle.oc_routes.specs.declared.asks.Asks.TheVariants as asks
-use Rattle.oc_routes.specs.declared.asks.Manner.{Manner}
+use Rattle.oc_routing.specs.declared.asks.Asks.{Asks}
+use Rattle.oc_routing.specs.declared.asks.Asks.TheVariants as asks
+use Rattle.oc_routing.specs.declared.asks.Manner.{Manner}
 use Rattle.oc_routes.specs.declared.response.Content.{Content}
 use Rattle.oc_routes.specs.declared.response.Response.{Response}
 use Rattle.oc_stream.specs.Texts.{chunk_written, chunked_text, chunks_written, end_written}

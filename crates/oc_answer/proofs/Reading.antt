@@ -21,7 +21,7 @@ use Rattle.oc_outside.specs.Story.{Connection, IsReadOut, Story}
 use Rattle.oc_routes.specs.Refusals.{fault_of_http}
 use Rattle.oc_routes.specs.declared.fault.RouteFault.{RouteFault}
 use Rattle.oc_routes.specs.declared.fault.RouteFault.TheVariants as faults
-use Rattle.oc_routes.specs.declared.refused.Refused.TheVariants as refusals
+use Rattle.oc_routing.specs.declared.refused.Refused.TheVariants as refusals
 use Rattle.oc_turn.specs.Deeds.{Talked}
 use Rattle.oc_answer.specs.Beginning.{Brings, has_some}
 use Rattle.oc_answer.specs.Hearing.{HasEnded, HearsOn, HearsUntil, NoBody, ReadsHead, SaysOn, leave_for, unread}

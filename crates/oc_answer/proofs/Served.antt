@@ -16,9 +16,9 @@ use Rattle.oc_io.specs.DiskView.{DiskView}
 use Rattle.oc_outside.specs.Story.{Story}
 use Rattle.oc_policy.specs.declared.rule.Rule.{Rule}
 use Rattle.oc_routes.specs.Responses.{response_to}
-use Rattle.oc_routes.specs.declared.asks.Asks.{Asks}
-use Rattle.oc_routes.specs.declared.asks.Asks.TheVariants as asks
-use Rattle.oc_routes.specs.declared.asks.Manner.TheVariants.{HeadAlone, Once, Follow}
+use Rattle.oc_routing.specs.declared.asks.Asks.{Asks}
+use Rattle.oc_routing.specs.declared.asks.Asks.TheVariants as asks
+use Rattle.oc_routing.specs.declared.asks.Manner.TheVariants.{HeadAlone, Once, Follow}
 use Rattle.oc_routes.specs.declared.fault.RouteFault.{RouteFault}
 use Rattle.oc_routes.specs.declared.fault.RouteFault.TheVariants as faults
 use Rattle.oc_turn.specs.Deeds.{Deed, Under, IsRequest, Does, DoAll, Outside, Setting, Sight, Talked, TalksOnly, inputs_of, note_line, outside_of, sight_of}
@@ -33,7 +33,7 @@ use Rattle.oc_turn.specs.declared.ends.TurnEnd.{TurnEnd}
 use Rattle.oc_turn.specs.declared.ends.TurnEnd.TheVariants as ends
 use Rattle.oc_turn.proofs.Steps.{note_under}
 use Rattle.oc_routes.specs.Refusals.{why_text}
-use Rattle.oc_routes.specs.declared.refused.Refused.{Refused}
+use Rattle.oc_routing.specs.declared.refused.Refused.{Refused}
 use Rattle.oc_answer.specs.Cuts.{CutsHearing, CutsInput, CutsOff, CutsReply, IsUnderOf, OnlyLeave, WritesUntil, answer_text}
 use Rattle.oc_answer.specs.Hearing.{HearsOn, HearsRequest, IsRefused, Reads, ReadsBehind, ReadsHead, Terms, terms_of}
 use Rattle.oc_model.specs.Step.{step}

@@ -7,8 +7,8 @@ use Rattle.oc_outside.specs.Story.{Connection, Story, broken}
 use Rattle.oc_http.specs.declared.fault.HttpFault.{HttpFault}
 use Rattle.oc_http.specs.declared.fault.HttpFault.TheVariants as http
 use Rattle.oc_http.specs.declared.head.Head.{Head}
-use Rattle.oc_routes.specs.Connections.{awaits_continue}
-use Rattle.oc_routes.specs.declared.connections.TheConstants.{CONTINUE}
+use Rattle.oc_routing.specs.Connections.{awaits_continue}
+use Rattle.oc_routing.specs.declared.connections.TheConstants.{CONTINUE}
 use Rattle.oc_answer.specs.Hearing.{HearsOn, HearsUntil, SaysOn, leave_for}
 use Rattle.oc_answer.specs.Cuts.{OnlyLeave, Writes, WritesFront, WritesNothing}
 

@@ -5,7 +5,7 @@ ghost use Rattle.std.specs.Option.{ForSome};
 ghost use Rattle.oc_outside.specs.ClockView.{Series};
 ghost use Rattle.oc_outside.specs.LinkCalls.{CountsTalking};
 ghost use Rattle.oc_policy.specs.declared.deciding.TheConstants.{MAX_RULES as MOST_RULES};
-ghost use Rattle.oc_routes.specs.Lawful.{IsAsked};
+ghost use Rattle.oc_routing.specs.Lawful.{IsAsked};
 ghost use Rattle.oc_routes.specs.Refusals.{refusal_text, why_text};
 ghost use Rattle.oc_turn.specs.Deeds.{Answers, Deed, IsRequest, Talked, Under, outside_of};
 ghost use Rattle.oc_answer.specs.Cuts.{CutsInput, CutsOff, CutsReply, CutsResponse};

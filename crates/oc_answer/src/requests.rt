@@ -7,7 +7,7 @@ ghost use Rattle.oc_answer.specs.Requests.{EntryOf, IsLawfulRequest};
 ghost use Rattle.oc_base.specs.declared.limits.TheConstants.{MAX_BODY_BYTES as MOST_BODY};
 ghost use Rattle.oc_http.specs.Taking.{RefusesBody};
 ghost use Rattle.oc_policy.specs.declared.deciding.TheConstants.{MAX_RULES as MOST_RULES};
-ghost use Rattle.oc_routes.specs.Lawful.{IsAsked};
+ghost use Rattle.oc_routing.specs.Lawful.{IsAsked};
 ghost use Rattle.oc_turn.specs.Deeds.{Talked};
 ghost use Rattle.oc_turn.specs.Lines.{IsEntry};
 

@@ -18,6 +18,12 @@ id_in nodes members = do
   d ← required Id members
   read_as Id (whole_in 1 nodes d)
 
+-- the same before it is known whether the value is such an id
+abbrev pub said_id : ℕ → Members → Result (Option ℕ) ConfigFault
+said_id nodes members = do
+  d ← required Id members
+  Ok (whole_in 1 nodes d)
+
 -- the text, where it is an address
 abbrev pub address_of : Option (List ℕ) → Option (List ℕ)
 address_of None = None

@@ -7,11 +7,14 @@ use Rattle.toml.specs.Data.{Data, Items, no_items, item, Members, get_member, as
 use Rattle.toml.specs.View.{table_view}
 use Rattle.toml.specs.declared.value.Value.{Value as TomlValue}
 use Rattle.oc_base.specs.Steps.{◌>>=◌}
+use Rattle.oc_ids.specs.declared.place.IdFault.{IdFault}
+use Rattle.oc_ids.specs.declared.place.IdFault.TheVariants as ids
 use Rattle.oc_measure.specs.declared.fault.MeasureFault.{MeasureFault}
 use Rattle.oc_measure.specs.declared.fault.MeasureFault.TheVariants as measures
 use Rattle.oc_config.specs.declared.fault.ConfigFault.{ConfigFault}
-use Rattle.oc_config.specs.declared.fault.ConfigFault.TheVariants.{Missing, Value, Measure, Memory}
+use Rattle.oc_config.specs.declared.fault.ConfigFault.TheVariants.{Missing, Value, Repeat, Measure, Memory}
 use Rattle.oc_config.specs.declared.key.Key.{Key}
+use Rattle.oc_config.specs.declared.key.Key.TheVariants.{Id}
 use Rattle.oc_config.specs.Keys.{key_text}
 
 -- the value of a key
@@ -86,3 +89,8 @@ GivesTables result tables fault = GivesBy (λ v. tables_at v.items) result (ok_o
 abbrev pub fault_of : MeasureFault → ConfigFault
 fault_of (measures.Line line why) = Measure line why
 fault_of measures.Memory = Memory
+
+-- a fault of an id
+abbrev pub fault_of_id : IdFault → ConfigFault
+fault_of_id ids.Value = Value Id
+fault_of_id (ids.Repeat id) = Repeat id

@@ -1,8 +1,9 @@
 ghost use Rattle.std.specs.Prelude.{◌≡◌};
-ghost use Rattle.oc_config.specs.Values.{fault_of};
+ghost use Rattle.oc_config.specs.Values.{fault_of, fault_of_id};
 
 use crate::key::Key;
 use oc_base::{Memory, Why};
+use oc_ids::IdFault;
 use oc_measure::MeasureFault;
 use std::alloc::{AllocError, AllocFailed};
 use std::error::Error;
@@ -77,6 +78,17 @@ impl From<MeasureFault> for ConfigFault {
         match error {
             MeasureFault::Line { line, why } => ConfigFault::Measure { line, why },
             MeasureFault::Memory => ConfigFault::Memory,
+        }
+    }
+}
+
+impl From<IdFault> for ConfigFault {
+    ghost from_gives = { λ error fault. fault ≡ fault_of_id error };
+
+    fn from(error: IdFault) -> ConfigFault {
+        match error {
+            IdFault::Value => ConfigFault::Value(Key::Id),
+            IdFault::Repeat(id) => ConfigFault::Repeat(id),
         }
     }
 }

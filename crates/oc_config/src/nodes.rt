@@ -1,9 +1,9 @@
 //! The tables of nodes.
 
-ghost use Rattle.std.specs.Prelude.{◌≡◌, ◌≤◌, IfOk, OnOk, length, vec_len, replicate, None};
+ghost use Rattle.std.specs.Prelude.{◌≡◌, ◌≤◌, IfOk, IfSome, OnOk, length, vec_len, replicate, None};
 ghost use Rattle.toml.specs.View.{view, table_view};
 ghost use Rattle.oc_config.specs.Values.{Gives, GivesBy, tables_at};
-ghost use Rattle.oc_config.specs.Nodes.{id_in, address_in, area_in, entry_in, nodes_in, GivesNode, GivesSplit, PutsPlace};
+ghost use Rattle.oc_config.specs.Nodes.{said_id, address_in, area_in, entry_in, nodes_in, GivesNode, GivesSplit, PutsPlace};
 
 use crate::address::is_address;
 use crate::entry::Entry;
@@ -11,6 +11,7 @@ use crate::fault::ConfigFault;
 use crate::key::Key;
 use crate::values::{required, value_at, whole};
 use oc_base::{MAX_AREA, MAX_NODES, Memory};
+use oc_ids::free_place;
 use std::alloc::Global;
 use toml::{Table, Value};
 
@@ -47,23 +48,19 @@ fn put_node(
     ensures said { GivesNode result places.old.items places.new.items (table_view table.now) }
     ensures len { vec_len places.new ≡ vec_len places.old }
 {
-    let id = id(table, places.len())?;
-    let place = id as usize - 1;
-    if places[place].is_some() {
-        return Err(ConfigFault::Repeat(id));
-    }
+    let place = free_place(places, id(table, places.len())?)?;
     places[place] = Some(entry(alloc, table)?);
     Ok(())
 }
 
-/// The id that the table of one of `nodes` nodes says.
-fn id(table: &Table, nodes: usize) -> Result<u32, ConfigFault>
+/// The id that the table of one of `nodes` nodes says, `None` where its value is none from 1 to `nodes`.
+fn id(table: &Table, nodes: usize) -> Result<Option<u32>, ConfigFault>
     requires { nodes ≤ MAX_NODES }
-    ensures said { result ≡ id_in nodes (table_view table.now) }
-    ensures range { IfOk result (λ id. (1 ≤ id) × (id ≤ nodes)) }
+    ensures said { result ≡ said_id nodes (table_view table.now) }
+    ensures range { IfOk result (λ said. IfSome said (λ id. (1 ≤ id) × (id ≤ nodes))) }
 {
     let value = required(table, Key::Id)?;
-    whole(value, 1, nodes as u32).ok_or(ConfigFault::Value(Key::Id))
+    Ok(whole(value, 1, nodes as u32))
 }
 
 /// What a table says of a node, apart from its id.

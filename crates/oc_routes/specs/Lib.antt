@@ -1,10 +1,5 @@
-pub mod Queries
-pub mod Routes
-pub mod Lawful
 pub mod Refusals
 pub mod Inputs
 pub mod Responses
-pub mod Replies
-pub mod Connections
 pub mod Answers
 pub mod Examples

@@ -14,11 +14,11 @@ use Rattle.oc_rates.specs.declared.rate.TheConstants.{PROBE_BYTES}
 use Rattle.oc_redirect.specs.Locations.{location_text, follow_location_text}
 use Rattle.oc_wire.specs.Spelling.{spelling}
 use Rattle.oc_routes.specs.Refusals.{bare}
-use Rattle.oc_routes.specs.declared.asks.Asks.{Asks}
-use Rattle.oc_routes.specs.declared.asks.Asks.TheVariants as asks
-use Rattle.oc_routes.specs.declared.asks.Manner.{Manner}
-use Rattle.oc_routes.specs.declared.asks.Manner.TheVariants.{HeadAlone, Follow}
-use Rattle.oc_routes.specs.declared.response.Content.{Content}
+use Rattle.oc_routing.specs.Routes.{content_for}
+use Rattle.oc_routing.specs.declared.asks.Asks.{Asks}
+use Rattle.oc_routing.specs.declared.asks.Asks.TheVariants as asks
+use Rattle.oc_routing.specs.declared.asks.Manner.{Manner}
+use Rattle.oc_routing.specs.declared.asks.Manner.TheVariants.{HeadAlone, Follow}
 use Rattle.oc_routes.specs.declared.response.Response.{Response}
 
 -- a whole reply, which ends the connection
@@ -65,11 +65,6 @@ is_chunked manner sealed = false
 abbrev pub framing_for : Bool → ℕ → Framing
 framing_for true count = framings.Chunked
 framing_for false count = framings.Length count
-
--- a HEAD gets no content
-abbrev pub content_for : Manner → Content → Option Content
-content_for HeadAlone content = None
-content_for manner content = Some content
 
 -- `count` bytes of a group from a byte on
 abbrev pub served : Manner → Bool → Bool → ℕ → ℕ → Response

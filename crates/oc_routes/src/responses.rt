@@ -4,12 +4,11 @@ ghost use Rattle.std.specs.Prelude.{◌≡◌, ◌++◌, [], IfOk, OnOk, map, op
 ghost use Rattle.std.specs.Option.{ForSome};
 ghost use Rattle.oc_base.specs.Names.{IsGroupName};
 ghost use Rattle.oc_http.specs.Writing.{HasPhrase, head_text};
-ghost use Rattle.oc_routes.specs.Lawful.{IsAsked};
-ghost use Rattle.oc_routes.specs.Responses.{client_response, connection_for, content_for, copies, framing_for, is_chunked, location_for, message_response, probe_body, probe_response, publish_status, redirection, response_to, seal_status, served, status_alone, typed, whole};
+ghost use Rattle.oc_routing.specs.Lawful.{IsAsked};
+ghost use Rattle.oc_routes.specs.Responses.{client_response, connection_for, copies, framing_for, is_chunked, location_for, message_response, probe_body, probe_response, publish_status, redirection, response_to, seal_status, served, status_alone, typed, whole};
 ghost use Rattle.oc_wire.specs.Spelling.{HasSpelling};
 
 use crate::addresses::address_of;
-use crate::asks::{Asks, Manner};
 use crate::refusals::bare_reply;
 use crate::response::{Content, Response};
 use oc_base::{Bytes, GroupName, Memory, NodeId, Text};
@@ -17,6 +16,7 @@ use oc_http::{Connection, Framing, Reply, write_reply_head, write_response};
 use oc_model::{Answer, Message};
 use oc_rates::PROBE_BYTES;
 use oc_redirect::{follow_location, location};
+use oc_routing::{Asks, Manner};
 use oc_wire::encode;
 use std::alloc::Global;
 
@@ -181,14 +181,11 @@ fn served(
     let head = typed_head(alloc, framing_for(chunked, count), connection)?;
     Ok(Response {
         text: Text::of(head),
-        content: content_for(
-            manner,
-            Content {
-                start,
-                count,
-                chunked,
-            },
-        ),
+        content: manner.content_for(Content {
+            start,
+            count,
+            chunked,
+        }),
         connection,
     })
 }
@@ -266,15 +263,5 @@ fn connection_for(manner: Manner, last: bool) -> Connection
     match manner {
         Manner::Follow if !last => Connection::Keep,
         _ => Connection::Close,
-    }
-}
-
-/// The content, except for a HEAD.
-fn content_for(manner: Manner, content: Content) -> Option<Content>
-    ensures { result ≡ content_for manner content }
-{
-    match manner {
-        Manner::HeadAlone => None,
-        Manner::Once | Manner::Follow => Some(content),
     }
 }

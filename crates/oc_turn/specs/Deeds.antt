@@ -17,7 +17,7 @@ use Rattle.oc_outside.specs.declared.link.Arrival.{Arrival}
 use Rattle.oc_probe.specs.Probes.{Probed, Timed}
 use Rattle.oc_probe.specs.declared.fault.ProbeFault.{ProbeFault}
 use Rattle.oc_probe.specs.declared.fault.ProbeFault.TheVariants as faults
-use Rattle.oc_routes.specs.Replies.{others}
+use Rattle.oc_routing.specs.Replies.{others}
 use Rattle.oc_turn.specs.declared.ends.TurnEnd.{TurnEnd}
 use Rattle.oc_turn.specs.declared.ends.TurnEnd.TheVariants as ends
 use Rattle.oc_turn.specs.Dials.{DialsMessage, IsAnswered, Makes, MayMake, text_of}

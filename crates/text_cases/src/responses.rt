@@ -2,7 +2,7 @@
 
 ghost use Rattle.std.specs.Prelude.{option_map};
 ghost use Rattle.std.specs.Option.{ForSome};
-ghost use Rattle.oc_routes.specs.Lawful.{IsAsked};
+ghost use Rattle.oc_routing.specs.Lawful.{IsAsked};
 ghost use Rattle.oc_wire.specs.Spelling.{HasSpelling};
 
 use crate::asking::{Request, request_in};

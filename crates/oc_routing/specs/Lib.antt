@@ -1,0 +1,5 @@
+pub mod Connections
+pub mod Lawful
+pub mod Queries
+pub mod Replies
+pub mod Routes

@@ -17,6 +17,7 @@ use test_tools::{Fault, Fields, put_spelled, spelled_in};
 pub fn put_words(alloc: Global, given: &str, said: &mut String) -> Result<(), Fault> {
     let (turn, rest) = given.split_once(' ').unwrap_or((given, ""));
     let (reply, text) = rest.split_once(' ').unwrap_or((rest, ""));
+    // A match, since a check does not find the type of the answer in a `?` that is an argument.
     match turn_in(Fields::of(turn, ',')) {
         Ok(turn) => put_answered(alloc, turn, reply, text, said),
         Err(fault) => Err(fault),

@@ -15,10 +15,10 @@ use crate::framing::framed;
 use crate::generation::{generation_in_frame, generation_with};
 use crate::loading::{ControlFile, load_file};
 use oc_base::{DUE_BYTES, MAX_FRAME_BYTES, Memory};
+use oc_generations::{is_below, turn_over};
 use oc_io::{Disk, MemDisk};
 use oc_journal::{AppendError, Frame, Journal, RestartError};
 use oc_record::Record;
-use oc_generations::{is_below, turn_over};
 use std::alloc::Global;
 use std::marker::Model;
 

@@ -27,7 +27,7 @@ impl Standing {
         }
     }
 
-    /// What is known of a group that is not among so many others.
+    /// What is known of an absent group, where there are `groups` others.
     pub fn absent(groups: usize) -> Standing
         ensures { result ≡ standing None groups }
     {

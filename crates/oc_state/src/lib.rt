@@ -1,7 +1,7 @@
 //! What is durable of a node.
 //!
 //! [`Durable`] is what a stop leaves: it is changed by records alone, one after another, and gives a
-//! snapshot of itself, few records that stand for all before them.
+//! snapshot of itself, a few records in place of all before them.
 //!
 //! The layers above rest on this: folding records gives the model's `folded`, and a snapshot is the model's
 //! `snapshot`. The small parts of the state, and the searches in them, are those of `oc_parts`, and the changes of

@@ -2,7 +2,7 @@
 
 ghost use Rattle.std.specs.Prelude.{◌≡◌, ◌<◌, ◌≤◌, ◌+◌, ◌-◌, ◌^◌, min, IfNone, IfSome};
 
-/// The byte after a content of `count` bytes whose first is byte `start`. It is not past the greatest `u64`.
+/// The byte after a content of `count` bytes whose first is byte `start`; the greatest `u64` where it would be past that.
 pub fn start_after(start: u64, count: u64) -> u64
     ensures { result ≡ min (start + count) (2 ^ 64 - 1) }
 {
@@ -10,7 +10,7 @@ pub fn start_after(start: u64, count: u64) -> u64
 }
 
 /// How many bytes of a content are still to come after a piece of it; `left` were to come before. `None` where
-/// the piece has none, since nothing more comes then.
+/// the piece is empty, since nothing more comes then.
 pub fn left_after(left: u64, piece_bytes: usize) -> Option<u64>
     requires { piece_bytes ≤ left }
     ensures over { IfNone result (piece_bytes ≡ 0) }

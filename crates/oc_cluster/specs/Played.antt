@@ -56,6 +56,6 @@ rank_run m p w = tells_rank m p w
 unfoldable pub join_by_run : ℕ → ℕ → ℕ → World → Run
 join_by_run m p x w = joins_by m p x w
 
--- x is placed, and all who are not
+-- whether x is placed under m
 unfoldable pub is_placed_under : World → ℕ → ℕ → Bool
 is_placed_under w m x = is_placed w m x

@@ -42,7 +42,7 @@ pub trait Cluster {
     fn chain(&self) -> u32
         ensures { HasChain (world self.now) result };
 
-    /// The mode of a node, which names a node at most.
+    /// The mode of a node, which names no peer but a node of this world.
     fn mode(&self, node: NodeId) -> Mode
         requires { IsUpNode (world self.now) node }
         ensures mode { result ≡ mode_of (world self.now) node }
@@ -69,7 +69,7 @@ pub trait Cluster {
         ensures { result ≡ length (node_in (world self.now) node).control.kept.log.waiting };
 
     /// The number of the ask by which the child has a lease of the parent, as the parent's table has it.
-    /// The parent is up, and has leases of nodes alone.
+    /// The parent is up, and its leases are of nodes of this world alone.
     fn lease(&self, parent: NodeId, child: NodeId) -> Option<u64>
         requires parent { IsUpNode (world self.now) parent }
         requires child { IsNodeOf (world self.now) child }

@@ -1,4 +1,5 @@
-//! Single acts, and the few that belong together. Each call adds the acts that it plays to a count.
+//! Single acts, and the few that belong together. Each call adds the acts that it plays to a count; where memory runs
+//! out, the count may be any.
 
 ghost use Rattle.std.specs.Prelude.{◌≡◌, ◌+◌, OnOk, OnErr, IfOk};
 ghost use Rattle.oc_cluster.specs.Cluster.{IsNodeOf, IsStepOf, IsUpNode};

@@ -1,4 +1,5 @@
-//! What nodes do one after another. Each call adds the acts that it plays to a count.
+//! What nodes do one after another. Each call adds the acts that it plays to a count; where memory runs out, the count
+//! may be any.
 
 ghost use Rattle.std.specs.Prelude.{OnOk, OnErr, IfOk};
 ghost use Rattle.std.specs.List.{AllByRecursion};

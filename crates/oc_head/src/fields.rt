@@ -48,8 +48,9 @@ impl<'a> Fields<'a> {
         self.spans.len() > MAX_FIELDS
     }
 
-    /// The value of the first field of a name, in upper or lower case, and the fields after it.
-    pub fn next(&self, name: &str) -> Option<(&'a [u8], Fields<'a>)>
+    /// The value of the first field of a name, in upper or lower case, and the fields after it; `None` where no field
+    /// has the name.
+    pub(crate) fn next(&self, name: &str) -> Option<(&'a [u8], Fields<'a>)>
         ensures none { IfNone result (values name.now self.now ≡ []) }
         ensures first { IfSome result (λ found. values name.now self.now ≡ found.0.now ∷ values name.now found.1) }
         ensures shorter { IfSome result (λ found. length found.1 < length self.now) }

@@ -1,9 +1,9 @@
 //! Small tests and cuts of bytes.
 
-ghost use Rattle.std.specs.Prelude.{◌≡◌, ◌<◌, ◌^◌, ◌==◌, if◌then◌else◌, length, reverse, IsTrue, IfOk};
+ghost use Rattle.std.specs.Prelude.{◌≡◌, ◌<◌, ◌^◌, ◌==◌, if◌then◌else◌, length, reverse, IsTrue};
 ghost use Rattle.std.specs.Char.{is_ascii_digit};
 ghost use Rattle.std.specs.Str.Parse.{digits_value};
-ghost use Rattle.std.specs.List.{before_first, after_first, list_all, position};
+ghost use Rattle.std.specs.List.{list_all, position};
 ghost use Rattle.std.specs.Option.{SomeIff};
 ghost use Rattle.httparse.specs.Grammar.{skip_ows, trim_ows};
 ghost use Rattle.oc_head.specs.Fields.{is_alike, is_length, lists_close};

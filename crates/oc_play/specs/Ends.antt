@@ -56,7 +56,7 @@ end_of_reading reading.Failed = Source
 end_of_reading reading.TooMany = Limit Bytes
 end_of_reading reading.Memory = Memory
 
--- to which end a fault of the text leads
+-- to which end a fault of a schedule leads
 abbrev pub end_of_schedule : ScheduleFault → ReplayEnd
 end_of_schedule (schedule.Line line why) = Text line why
 end_of_schedule (schedule.Limit what) = Limit what

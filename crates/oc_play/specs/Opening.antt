@@ -7,7 +7,7 @@ use Rattle.oc_model.specs.World.{World, ids}
 use Rattle.oc_model.specs.WorldBounds.{AreBefore, IsWithinLimits}
 
 -- a world with which a run of these events can begin: nodes numbered from 1, no message, no clock past the greatest time of a
--- schedule, groups within the limits, each event within its ranges, and no more events than a schedule has
+-- schedule, groups within the limits, each event within its ranges, and fewer events than a schedule may have lines
 pub record IsOpening (w : World) (es : List Event) : Type 0 where
   pub numbered : ids w ≡ range_with_len 1 (length (ids w))
   pub net : w.net ≡ []

@@ -1,9 +1,10 @@
 //! A text that is gathered, and written piece by piece.
 
-ghost use Rattle.std.specs.Prelude.{◌≡◌, ◌++◌, OnOk, OnErr, IsErrOf};
+ghost use Rattle.std.specs.Prelude.{◌≡◌, ◌<◌, ◌++◌, length, OnOk, OnErr, IsErrOf};
 ghost use Rattle.oc_io.specs.Faults.{NoFall, Rose};
 ghost use Rattle.oc_report.specs.Lines.{end_line};
 ghost use Rattle.oc_play.specs.Pieces.{PassesOn, SomeFront};
+ghost use Rattle.oc_play.specs.declared.pieces.TheConstants.{PIECE as ENOUGH};
 
 use crate::fault::ReportFault;
 use oc_io::{Failed, Sink, write_all};
@@ -14,6 +15,8 @@ const PIECE: usize = 65_536;
 
 /// Writes what was gathered, once there is enough of it.
 pub fn pass_on<K: Sink>(sink: &mut K, out: &mut Vec<u8>) -> Result<(), Failed>
+    ensures waits { length out.old.items < ENOUGH → (sink.new ≡ sink.old) × (out.new.items ≡ out.old.items) }
+    ensures few { OnOk result (length out.new.items < ENOUGH) }
     ensures passed { OnOk result (PassesOn (λ bytes. K.takes sink.old bytes sink.new) out.old.items out.new.items) }
     ensures failed { OnErr result (SomeFront out.old.items (λ front. K.fails sink.old front sink.new)) }
     ensures count { NoFall (K.faults sink.old) (K.faults sink.new) }

@@ -17,7 +17,7 @@ pub enum Status {
     Memory = 4,
     /// A limit was passed.
     Limit = 5,
-    /// The content that was to be downloaded was not.
+    /// There is no content to get: a bad URL, a status, too many redirections or a bad reply.
     NotGot = 6,
 }
 

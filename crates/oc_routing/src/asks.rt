@@ -36,7 +36,7 @@ pub enum Manner {
     HeadAlone,
     /// By GET: once.
     Once,
-    /// By a GET of version 1.1 that follows the group: more of it is asked for on the same connection.
+    /// By a GET of version 1.1 with a part `follow`: if it is of a group, more is asked for on the same connection.
     Follow,
 }
 

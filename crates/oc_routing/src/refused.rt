@@ -12,7 +12,7 @@ pub enum Refused {
     HeadLong,
     /// The head has too many fields.
     Fields,
-    /// There is not one Host field.
+    /// There are several Host fields, or none in a request of version 1.1.
     Host,
     /// The body has a transfer coding.
     Coding {

@@ -78,7 +78,7 @@ fn asked_of_group(method: Verb, minor: u8, query: &Query, group: &GroupName) -> 
     }
 }
 
-/// How a content is asked for; only a GET of version 1.1 follows a group.
+/// How a content is asked for; `follow` counts only in a GET of version 1.1.
 fn manner_of(method: Verb, minor: u8, follow: bool) -> Manner
     ensures { result ≡ manner_of method minor follow }
 {

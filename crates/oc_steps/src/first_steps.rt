@@ -10,7 +10,7 @@ use oc_base::{Memory, NodeId};
 use oc_cluster::Cluster;
 use oc_cluster::rounds::{all_check_in, all_tick};
 
-/// The seconds after which the nodes check in once more.
+/// How many seconds on each of the last two rounds of ticks is: half the time of a lease.
 const PAUSE: u64 = 15;
 
 /// The first five steps of settle, in which each lease that is not current ends: all tick now, check in,

@@ -34,7 +34,8 @@ pub fn join_by<C: Cluster>(
     join(cluster, peer, node, acts)
 }
 
-/// The leader tells its rank down to a node, by a check of its own and a check-in of each node between.
+/// The leader tells its rank down to a node, by a check of its own, and then a check-in of each node on the way down to
+/// that one, which checks in last.
 fn tell_rank<C: Cluster>(
     alloc: Global,
     cluster: &mut C,

@@ -23,12 +23,12 @@ fn main(rt: HostRuntime) -> io::Result<ExitCode> {
 
 /// Plays all tables.
 fn play(rt: &HostRuntime) -> io::Result<()> {
-    disk_cases::play(rt)?;
-    part_cases::play(rt)?;
-    wire_cases::play(rt)?;
-    edge_cases::play(rt)?;
-    text_cases::play(rt)?;
-    keep_cases::play(rt)?;
-    serve_cases::play(rt)?;
+    node_cases::disk::play(rt)?;
+    node_cases::part::play(rt)?;
+    wire_cases::wire::play(rt)?;
+    serve_cases::edge::play(rt)?;
+    wire_cases::text::play(rt)?;
+    node_cases::keep::play(rt)?;
+    serve_cases::serve::play(rt)?;
     process_tools::play(rt)
 }

@@ -15,15 +15,15 @@ use Rattle.oc_model.specs.Node.{Node}
 use Rattle.oc_model.specs.Step.{step}
 use Rattle.oc_node.specs.OutcomeView.{OutcomeView}
 use Rattle.oc_io.specs.DiskView.{DiskView}
-use Rattle.oc_outside.specs.Story.{Story}
+use Rattle.oc_link.specs.Story.{Story}
 use Rattle.oc_routes.specs.Responses.{client_response, response_to}
-use Rattle.oc_routing.specs.declared.asks.Asks.{Asks}
-use Rattle.oc_routing.specs.declared.asks.Asks.TheVariants as asks
-use Rattle.oc_routing.specs.declared.asks.Manner.{Manner}
-use Rattle.oc_routing.specs.declared.asks.Manner.TheVariants.{HeadAlone, Once, Follow}
+use Rattle.oc_routes.specs.declared.asks.Asks.{Asks}
+use Rattle.oc_routes.specs.declared.asks.Asks.TheVariants as asks
+use Rattle.oc_routes.specs.declared.asks.Manner.{Manner}
+use Rattle.oc_routes.specs.declared.asks.Manner.TheVariants.{HeadAlone, Once, Follow}
 use Rattle.oc_routes.specs.declared.response.Response.{Response}
 use Rattle.oc_turn.specs.Scenes.{KeepsOne, LineStops}
-use Rattle.oc_routing.specs.Replies.{message_at, reply_place}
+use Rattle.oc_routes.specs.Replies.{message_at, reply_place}
 use Rattle.oc_turn.specs.Sending.{AreSendable}
 use Rattle.oc_turn.proofs.Messages.{one_sendable, text_of_sendable}
 use Rattle.oc_wire.specs.Spelling.{HasSpelling}

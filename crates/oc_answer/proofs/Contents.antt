@@ -19,13 +19,13 @@ use Rattle.oc_model.specs.Node.{Node}
 use Rattle.oc_model.specs.Plan.{begun}
 use Rattle.oc_model.specs.Serving.{client_of, redirects, server_for}
 use Rattle.oc_model.specs.Step.{finished, step}
-use Rattle.oc_outside.specs.Story.{Story}
-use Rattle.oc_routing.specs.declared.asks.Asks.{Asks}
-use Rattle.oc_routing.specs.declared.asks.Asks.TheVariants as asks
-use Rattle.oc_routing.specs.declared.asks.Manner.{Manner}
+use Rattle.oc_link.specs.Story.{Story}
+use Rattle.oc_routes.specs.declared.asks.Asks.{Asks}
+use Rattle.oc_routes.specs.declared.asks.Asks.TheVariants as asks
+use Rattle.oc_routes.specs.declared.asks.Manner.{Manner}
 use Rattle.oc_routes.specs.declared.response.Content.{Content}
 use Rattle.oc_routes.specs.declared.response.Response.{Response}
-use Rattle.oc_stream.specs.Texts.{chunk_written, chunked_text, chunks_written, end_written}
+use Rattle.oc_chunked.specs.Texts.{chunk_written, chunked_text, chunks_written, end_written}
 use Rattle.oc_keep.specs.KeptView.{IsHonest, KeptView, disks_of, node_of}
 use Rattle.oc_keep.proofs.Stays.{all_honest}
 use Rattle.oc_io.specs.DiskView.{DiskView}

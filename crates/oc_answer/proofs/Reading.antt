@@ -5,23 +5,23 @@ use Rattle.std.specs.Result.{is_ok}
 use Rattle.std.proofs.lemmas.Bool.Decides.{nat_tests}
 use Rattle.std.proofs.lemmas.List.{append_assoc}
 use Rattle.oc_base.specs.declared.limits.TheConstants.{MAX_BODY_BYTES, MAX_FIELDS}
-use Rattle.oc_head.specs.Fields.{Named, named, is_present, is_unusable, length_of, lengths, hosts, codings}
+use Rattle.oc_http.specs.Fields.{Named, named, is_present, is_unusable, length_of, lengths, hosts, codings}
 use Rattle.oc_http.specs.Lengths.{fault_or}
-use Rattle.oc_head.specs.Fields.{has_host_fault}
+use Rattle.oc_http.specs.Fields.{has_host_fault}
 use Rattle.oc_http.specs.Requests.{head_of, is_post, read_request_parts, verb_of}
 use Rattle.std.specs.Prelude.{unwrap_or, ◌&&◌, not}
 use Rattle.oc_http.specs.Taking.{Took, SaysRequest, RefusesBody, RefusesRequest}
 use Rattle.oc_http.specs.declared.fault.HttpFault.{HttpFault}
 use Rattle.oc_http.specs.declared.fault.HttpFault.TheVariants as http
 use Rattle.oc_http.specs.declared.head.Head.{Head}
-use Rattle.oc_outside.specs.Exchange.{Hears, HearsThenBreaks, Says, SaysFrontThenBreaks, SaysThenBreaks, Says-nothing, Says-then}
-use Rattle.oc_outside.specs.LinkCalls.{IfTold, LinkFaults, OnCurrent, Told}
-use Rattle.oc_outside.specs.LinkLoan.{LoanView, OnCurrent-then, Talks, Told-then}
-use Rattle.oc_outside.specs.Story.{Connection, IsReadOut, Story}
+use Rattle.oc_link.specs.Exchange.{Hears, HearsThenBreaks, Says, SaysFrontThenBreaks, SaysThenBreaks, Says-nothing, Says-then}
+use Rattle.oc_link.specs.LinkCalls.{IfTold, LinkFaults, OnCurrent, Told}
+use Rattle.oc_link.specs.LinkLoan.{LoanView, OnCurrent-then, Talks, Told-then}
+use Rattle.oc_link.specs.Story.{Connection, IsReadOut, Story}
 use Rattle.oc_routes.specs.Refusals.{fault_of_http}
 use Rattle.oc_routes.specs.declared.fault.RouteFault.{RouteFault}
 use Rattle.oc_routes.specs.declared.fault.RouteFault.TheVariants as faults
-use Rattle.oc_routing.specs.declared.refused.Refused.TheVariants as refusals
+use Rattle.oc_routes.specs.declared.refused.Refused.TheVariants as refusals
 use Rattle.oc_turn.specs.Deeds.{Talked}
 use Rattle.oc_answer.specs.Beginning.{Brings, has_some}
 use Rattle.oc_answer.specs.Hearing.{HasEnded, HearsOn, HearsUntil, NoBody, ReadsHead, SaysOn, leave_for, unread}

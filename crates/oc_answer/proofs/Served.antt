@@ -13,15 +13,15 @@ use Rattle.oc_model.specs.declared.input.Input.{Input}
 use Rattle.oc_model.specs.declared.message.Message.{Message}
 use Rattle.oc_model.specs.Node.{Header, Node}
 use Rattle.oc_io.specs.DiskView.{DiskView}
-use Rattle.oc_outside.specs.Story.{Story}
+use Rattle.oc_link.specs.Story.{Story}
 use Rattle.oc_policy.specs.declared.rule.Rule.{Rule}
 use Rattle.oc_routes.specs.Responses.{response_to}
-use Rattle.oc_routing.specs.declared.asks.Asks.{Asks}
-use Rattle.oc_routing.specs.declared.asks.Asks.TheVariants as asks
-use Rattle.oc_routing.specs.declared.asks.Manner.TheVariants.{HeadAlone, Once, Follow}
+use Rattle.oc_routes.specs.declared.asks.Asks.{Asks}
+use Rattle.oc_routes.specs.declared.asks.Asks.TheVariants as asks
+use Rattle.oc_routes.specs.declared.asks.Manner.TheVariants.{HeadAlone, Once, Follow}
 use Rattle.oc_routes.specs.declared.fault.RouteFault.{RouteFault}
 use Rattle.oc_routes.specs.declared.fault.RouteFault.TheVariants as faults
-use Rattle.oc_turn.specs.Deeds.{Deed, Under, IsRequest, Does, DoAll, Outside, Setting, Sight, Talked, TalksOnly, inputs_of, note_line, outside_of, sight_of}
+use Rattle.oc_turn.specs.Deeds.{Deed, Under, IsRequest, Does, DoAll, Outside, Setting, NodeStatus, Talked, TalksOnly, inputs_of, note_line, outside_of, status_of}
 use Rattle.oc_turn.specs.Deeds as deeds
 use Rattle.oc_turn.specs.Lines.{input_in}
 use Rattle.oc_turn.specs.Scenes.{Did, EndsStill, NoteStops, Scene, scene, setting}
@@ -33,7 +33,7 @@ use Rattle.oc_turn.specs.declared.ends.TurnEnd.{TurnEnd}
 use Rattle.oc_turn.specs.declared.ends.TurnEnd.TheVariants as ends
 use Rattle.oc_turn.proofs.Steps.{note_under}
 use Rattle.oc_routes.specs.Refusals.{why_text}
-use Rattle.oc_routing.specs.declared.refused.Refused.{Refused}
+use Rattle.oc_routes.specs.declared.refused.Refused.{Refused}
 use Rattle.oc_answer.specs.Cuts.{CutsHearing, CutsInput, CutsOff, CutsReply, IsUnderOf, OnlyLeave, WritesUntil, answer_text}
 use Rattle.oc_answer.specs.Hearing.{HearsOn, HearsRequest, IsRefused, Reads, ReadsBehind, ReadsHead, Terms, terms_of}
 use Rattle.oc_model.specs.Step.{step}
@@ -112,7 +112,7 @@ module _ {D K : Type 0} (view : D → DiskView) (takes fails : K → List ℕ �
     rest = q.rest ∙ ap (λ (o : Outside). record o { story = c.story; faults = c.faults }) p.rest;
   }
 
-  does_before : (s : Setting) (d : Deed) (n : Node) (o : List Message) (a b : Outside) (c : Sight) → IsRequest d → TalksOnly a b → Does s d (sight_of n o b) c → Does s d (sight_of n o a) c
+  does_before : (s : Setting) (d : Deed) (n : Node) (o : List Message) (a b : Outside) (c : NodeStatus) → IsRequest d → TalksOnly a b → Does s d (status_of n o b) c → Does s d (status_of n o a) c
   does_before s (deeds.Answers i failed) n o a b c is talked (talks, same) = (talks_before a b c.outside talked talks, same)
   does_before s (deeds.Notes why) n o a b c is talked (talks, same) = (talks_before a b c.outside talked talks, same)
   does_before s deeds.Talks n o a b c is talked (talks, same) = (talks_before a b c.outside talked talks, same)

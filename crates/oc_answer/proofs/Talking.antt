@@ -12,27 +12,27 @@ use Rattle.oc_model.specs.declared.message.Message.{Message}
 use Rattle.oc_model.specs.Node.{Node}
 use Rattle.oc_model.specs.Step.{step}
 use Rattle.oc_node.specs.OutcomeView.{OutcomeView}
-use Rattle.oc_outside.specs.ClockView.{Series}
+use Rattle.oc_link.specs.ClockView.{Series}
 use Rattle.oc_io.specs.DiskView.{DiskView}
-use Rattle.oc_outside.specs.Exchange.{Hears, HearsThenBreaks, Says, SaysThenBreaks}
-use Rattle.oc_outside.specs.LinkCalls.{LinkFaults, CountsTalking, OnCurrent, Told}
-use Rattle.oc_outside.specs.LinkLoan.{LoanView, Talks}
+use Rattle.oc_link.specs.Exchange.{Hears, HearsThenBreaks, Says, SaysThenBreaks}
+use Rattle.oc_link.specs.LinkCalls.{LinkFaults, CountsTalking, OnCurrent, Told}
+use Rattle.oc_link.specs.LinkLoan.{LoanView, Talks}
 use Rattle.oc_http.specs.Taking.{Took}
 use Rattle.oc_http.specs.declared.fault.HttpFault.{HttpFault}
 use Rattle.oc_http.specs.declared.fault.HttpFault.TheVariants as http
-use Rattle.oc_outside.specs.Story.{Connection, Story, closed}
+use Rattle.oc_link.specs.Story.{Connection, Story, closed}
 use Rattle.std.specs.Option.{option_map}
 use Rattle.oc_routes.specs.Inputs.{input_line}
 use Rattle.oc_turn.specs.Outboxes.{with_messages}
 use Rattle.oc_turn.specs.declared.ends.TurnEnd.{TurnEnd}
 use Rattle.oc_turn.specs.declared.ends.TurnEnd.TheVariants as ends
-use Rattle.oc_turn.specs.Deeds.{Deed, Outside, Sight, Talked, TalksOnly, OnlyTalks, Under, Idle, Noting, failed_line, for_outbox, deeds_text, inputs_of, outside_of}
+use Rattle.oc_turn.specs.Deeds.{Deed, Outside, NodeStatus, Talked, TalksOnly, OnlyTalks, Under, Idle, Noting, failed_line, for_outbox, deeds_text, inputs_of, outside_of}
 use Rattle.oc_turn.specs.Deeds as deeds
 use Rattle.oc_turn.specs.Looks.{LooksOnly, LookStops}
 use Rattle.oc_answer.specs.Cuts.{reply_under}
 use Rattle.oc_answer.specs.Replying.{Replied, ReplyStops, kept_back, sender_of}
 use Rattle.oc_turn.specs.Scenes.{Did, EndsStill, LineStops, MeetsFull, Scene, Stops, TakesOne, scene}
-use Rattle.oc_turn.specs.Deeds.{sight_of}
+use Rattle.oc_turn.specs.Deeds.{status_of}
 use Rattle.oc_turn.specs.Deeds.{AreRequests}
 use Rattle.oc_turn.specs.Sending.{AreSendable}
 use Rattle.oc_turn.proofs.Messages.{others_sendable, with_sendable}
@@ -98,16 +98,16 @@ module _ {D K : Type 0} (view : D → DiskView) (takes fails : K → List ℕ �
     keeps = keeps_one view i outcome k0 k1 k2 is_open took.kept replied.looks;
     sendable = λ before. with_sendable k0.node.control.nodes o (kept_back (sender_of i) outcome.sends) before (kept_sendable k0.node.control.nodes (sender_of i) outcome.sends took.kept.sendable);
     text = subst (λ (t : List ℕ). takes s0 t s2) (sym (append-nil (input_line k0.node.control.me i ++ failed_line failed))) (takes_then s0 s1 s2 (input_line k0.node.control.me i) (failed_line failed) took.text replied.text);
-    done = λ honest. (sight_of (node_of k2) (with_messages o (kept_back (sender_of i) outcome.sends)) (outside_of st2 f2 seconds millis), (talks_only st st2 f f2 seconds millis talked, now honest), refl);
+    done = λ honest. (status_of (node_of k2) (with_messages o (kept_back (sender_of i) outcome.sends)) (outside_of st2 f2 seconds millis), (talks_only st st2 f f2 seconds millis talked, now honest), refl);
   }
     where
-      now : (honest : IsHonest view k0) → sight_of (node_of k2) (with_messages o (kept_back (sender_of i) outcome.sends)) (outside_of st2 f2 seconds millis)
-          ≡ sight_of (step (node_of k0) i).node (with_messages o (for_outbox i (step (node_of k0) i).sends)) (outside_of st2 f2 seconds millis)
+      now : (honest : IsHonest view k0) → status_of (node_of k2) (with_messages o (kept_back (sender_of i) outcome.sends)) (outside_of st2 f2 seconds millis)
+          ≡ status_of (step (node_of k0) i).node (with_messages o (for_outbox i (step (node_of k0) i).sends)) (outside_of st2 f2 seconds millis)
       now honest =
-          ap (λ (n : Node). sight_of n (with_messages o (kept_back (sender_of i) outcome.sends)) (outside_of st2 f2 seconds millis))
+          ap (λ (n : Node). status_of n (with_messages o (kept_back (sender_of i) outcome.sends)) (outside_of st2 f2 seconds millis))
           (replied.looks.node (all_honest view (disks_of k0) (disks_of k1) took.kept.goes_on honest) ∙ took.kept.node honest)
-          ∙ ap (λ (ms : List Message). sight_of (step (node_of k0) i).node (with_messages o ms) (outside_of st2 f2 seconds millis)) (back_is i outcome.sends)
-          ∙ ap (λ (x : OutcomeView). sight_of (step (node_of k0) i).node (with_messages o (for_outbox i x.sends)) (outside_of st2 f2 seconds millis)) (took.kept.outcome_is honest)
+          ∙ ap (λ (ms : List Message). status_of (step (node_of k0) i).node (with_messages o ms) (outside_of st2 f2 seconds millis)) (back_is i outcome.sends)
+          ∙ ap (λ (x : OutcomeView). status_of (step (node_of k0) i).node (with_messages o (for_outbox i x.sends)) (outside_of st2 f2 seconds millis)) (took.kept.outcome_is honest)
 
 module _ {D K : Type 0} (view : D → DiskView) (takes fails : K → List ℕ → K → Type 0) (count : K → ℕ) where
   -- it ended after the line of the input

@@ -1,14 +1,14 @@
 -- What was written on the connection that came.
 use Rattle.std.proofs.Common.{◌≡◌, ℕ, false, true, Bool, Some, None, Option, List, [], ◌∷◌, ◌++◌, refl, sym, ap, subst, ◌∙◌, cond}
 use Rattle.std.proofs.lemmas.List.{append-nil, append_assoc}
-use Rattle.oc_outside.specs.Exchange.{Breaks, Hears, HearsThenBreaks, Says, SaysFrontThenBreaks}
-use Rattle.oc_outside.specs.LinkCalls.{OnCurrent, Told}
-use Rattle.oc_outside.specs.Story.{Connection, Story, broken}
+use Rattle.oc_link.specs.Exchange.{Breaks, Hears, HearsThenBreaks, Says, SaysFrontThenBreaks}
+use Rattle.oc_link.specs.LinkCalls.{OnCurrent, Told}
+use Rattle.oc_link.specs.Story.{Connection, Story, broken}
 use Rattle.oc_http.specs.declared.fault.HttpFault.{HttpFault}
 use Rattle.oc_http.specs.declared.fault.HttpFault.TheVariants as http
 use Rattle.oc_http.specs.declared.head.Head.{Head}
-use Rattle.oc_routing.specs.Connections.{awaits_continue}
-use Rattle.oc_routing.specs.declared.connections.TheConstants.{CONTINUE}
+use Rattle.oc_routes.specs.Connections.{awaits_continue}
+use Rattle.oc_routes.specs.declared.connections.TheConstants.{CONTINUE}
 use Rattle.oc_answer.specs.Hearing.{HearsOn, HearsUntil, SaysOn, leave_for}
 use Rattle.oc_answer.specs.Cuts.{OnlyLeave, Writes, WritesFront, WritesNothing}
 

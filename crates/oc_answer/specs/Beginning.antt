@@ -1,9 +1,9 @@
 -- A source that tells whether any byte of it came.
 use Rattle.std.specs.Prelude.{◌≡◌, ℕ, Bool, true, false, ◌||◌, Option, List, [], ◌∷◌, ◌++◌, refl}
 use Rattle.std.proofs.Common.{ap, ◌∙◌}
-use Rattle.oc_outside.specs.Exchange.{Hears, HearsThenBreaks}
-use Rattle.oc_outside.specs.LinkLoan.{LoanView, Talks, Talks-hears-nothing, Talks-hears-then, Talks-hears-fails}
-use Rattle.oc_outside.specs.Story.{Connection}
+use Rattle.oc_link.specs.Exchange.{Hears, HearsThenBreaks}
+use Rattle.oc_link.specs.LinkLoan.{LoanView, Talks, Talks-hears-nothing, Talks-hears-then, Talks-hears-fails}
+use Rattle.oc_link.specs.Story.{Connection}
 
 -- there is a byte
 abbrev pub has_some : List ℕ → Bool

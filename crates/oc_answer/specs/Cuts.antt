@@ -10,12 +10,12 @@ use Rattle.oc_base.specs.declared.group.Group.{Group}
 use Rattle.oc_routes.specs.Responses.{response_to}
 use Rattle.oc_model.specs.Node.{Node}
 use Rattle.oc_model.specs.Step.{step}
-use Rattle.oc_outside.specs.LinkCalls.{IsFront, OnCurrent, Told}
-use Rattle.oc_outside.specs.Story.{Connection, Story, closed}
-use Rattle.oc_routing.specs.declared.asks.Asks.{Asks}
-use Rattle.oc_routing.specs.declared.connections.TheConstants.{CONTINUE}
+use Rattle.oc_link.specs.LinkCalls.{IsFront, OnCurrent, Told}
+use Rattle.oc_link.specs.Story.{Connection, Story, closed}
+use Rattle.oc_routes.specs.declared.asks.Asks.{Asks}
+use Rattle.oc_routes.specs.declared.connections.TheConstants.{CONTINUE}
 use Rattle.oc_routes.specs.Refusals.{why_text}
-use Rattle.oc_routing.specs.declared.refused.Refused.{Refused}
+use Rattle.oc_routes.specs.declared.refused.Refused.{Refused}
 use Rattle.oc_turn.specs.declared.ends.TurnEnd.{TurnEnd}
 use Rattle.oc_turn.specs.declared.ends.TurnEnd.TheVariants as ends
 use Rattle.oc_turn.specs.Deeds.{Deed, Answers, Talks, Under, Idle, Noting, Taking, failed_line, inputs_of, note_line}

@@ -5,20 +5,20 @@ use Rattle.oc_http.specs.declared.fault.HttpFault.{HttpFault}
 use Rattle.oc_http.specs.declared.fault.HttpFault.TheVariants as http
 use Rattle.oc_http.specs.declared.head.Head.{Head}
 use Rattle.oc_model.specs.declared.input.Input.{Input}
-use Rattle.oc_outside.specs.Exchange.{Hears, HearsThenBreaks, Says, SaysFrontThenBreaks}
-use Rattle.oc_outside.specs.LinkCalls.{IfTold, OnCurrent, Told}
-use Rattle.oc_outside.specs.Story.{IsReadOut, Story}
+use Rattle.oc_link.specs.Exchange.{Hears, HearsThenBreaks, Says, SaysFrontThenBreaks}
+use Rattle.oc_link.specs.LinkCalls.{IfTold, OnCurrent, Told}
+use Rattle.oc_link.specs.Story.{IsReadOut, Story}
 use Rattle.oc_policy.specs.declared.rule.Rule.{Rule}
-use Rattle.oc_routing.specs.Connections.{awaits_continue, is_last}
+use Rattle.oc_routes.specs.Connections.{awaits_continue, is_last}
 use Rattle.oc_routes.specs.Inputs.{input_asked}
 use Rattle.oc_routes.specs.Refusals.{fault_of_http}
-use Rattle.oc_routing.specs.Routes.{asked}
-use Rattle.oc_routing.specs.declared.asks.Asks.{Asks}
-use Rattle.oc_routing.specs.declared.connections.TheConstants.{CONTINUE}
+use Rattle.oc_routes.specs.Routes.{asked}
+use Rattle.oc_routes.specs.declared.asks.Asks.{Asks}
+use Rattle.oc_routes.specs.declared.connections.TheConstants.{CONTINUE}
 use Rattle.oc_routes.specs.declared.fault.RouteFault.{RouteFault}
 use Rattle.oc_routes.specs.declared.fault.RouteFault.TheVariants as faults
-use Rattle.oc_routing.specs.declared.refused.Refused.{Refused}
-use Rattle.oc_routing.specs.declared.refused.Refused.TheVariants as refusals
+use Rattle.oc_routes.specs.declared.refused.Refused.{Refused}
+use Rattle.oc_routes.specs.declared.refused.Refused.TheVariants as refusals
 use Rattle.oc_turn.specs.Lines.{input_in}
 use Rattle.oc_answer.specs.declared.requests.Request.{Request}
 

@@ -7,7 +7,7 @@ use Rattle.oc_model.specs.declared.input.Input.TheVariants.{Delivered}
 use Rattle.oc_model.specs.declared.message.Message.{Message}
 use Rattle.oc_io.specs.DiskView.{DiskView}
 use Rattle.oc_io.specs.Faults.{NoFall}
-use Rattle.oc_routing.specs.Replies.{others, reply_to}
+use Rattle.oc_routes.specs.Replies.{others, reply_to}
 use Rattle.oc_turn.specs.declared.ends.TurnEnd.{TurnEnd}
 use Rattle.oc_turn.specs.declared.ends.TurnEnd.TheVariants as ends
 use Rattle.oc_turn.specs.Deeds.{failed_line}

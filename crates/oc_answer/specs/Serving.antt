@@ -17,16 +17,16 @@ use Rattle.oc_model.specs.declared.input.Input.TheVariants.{Delivered}
 use Rattle.oc_model.specs.declared.message.Message.{Message}
 use Rattle.oc_model.specs.Node.{Node}
 use Rattle.oc_model.specs.Step.{step}
-use Rattle.oc_outside.specs.Story.{Story, closed}
+use Rattle.oc_link.specs.Story.{Story, closed}
 use Rattle.oc_routes.specs.Refusals.{refusal_text, why_text}
-use Rattle.oc_routing.specs.Replies.{reply_to}
+use Rattle.oc_routes.specs.Replies.{reply_to}
 use Rattle.oc_routes.specs.Responses.{response_to}
-use Rattle.oc_routing.specs.declared.asks.Asks.{Asks}
-use Rattle.oc_routing.specs.declared.asks.Asks.TheVariants as asks
-use Rattle.oc_routing.specs.declared.refused.Refused.{Refused}
+use Rattle.oc_routes.specs.declared.asks.Asks.{Asks}
+use Rattle.oc_routes.specs.declared.asks.Asks.TheVariants as asks
+use Rattle.oc_routes.specs.declared.refused.Refused.{Refused}
 use Rattle.oc_routes.specs.declared.response.Content.{Content}
 use Rattle.oc_routes.specs.declared.response.Response.{Response}
-use Rattle.oc_stream.specs.Texts.{chunked_text, chunks_written}
+use Rattle.oc_chunked.specs.Texts.{chunked_text, chunks_written}
 use Rattle.oc_turn.specs.Deeds.{Deed, Answers, Notes, Talks, inputs_of}
 use Rattle.oc_turn.specs.Lines.{input_in}
 use Rattle.oc_answer.specs.declared.requests.Request.{Request}

@@ -2,10 +2,10 @@
 
 ghost use Rattle.std.specs.Prelude.{◌≡◌, ◌≤◌, ℕ, Bool, List, [], ◌∷◌, IfErr, IfOk, OnErr, OnOk, false, length, not, option_map};
 ghost use Rattle.std.specs.Option.{ForSome};
-ghost use Rattle.oc_outside.specs.ClockView.{Series};
-ghost use Rattle.oc_outside.specs.LinkCalls.{CountsTalking};
+ghost use Rattle.oc_link.specs.ClockView.{Series};
+ghost use Rattle.oc_link.specs.LinkCalls.{CountsTalking};
 ghost use Rattle.oc_policy.specs.declared.deciding.TheConstants.{MAX_RULES as MOST_RULES};
-ghost use Rattle.oc_routing.specs.Lawful.{IsAsked};
+ghost use Rattle.oc_routes.specs.Lawful.{IsAsked};
 ghost use Rattle.oc_routes.specs.Refusals.{refusal_text, why_text};
 ghost use Rattle.oc_turn.specs.Deeds.{Answers, Deed, IsRequest, Talked, Under, outside_of};
 ghost use Rattle.oc_answer.specs.Cuts.{CutsInput, CutsOff, CutsReply, CutsResponse};
@@ -24,8 +24,8 @@ use oc_config::Config;
 use oc_http::{Connection, HeadReader};
 use oc_io::{Disk, Sink};
 use oc_keep::Kept;
+use oc_link::Link;
 use oc_model::{Answer, Input, Message};
-use oc_outside::Link;
 use oc_routes::{Asks, Refused, RouteFault, put_refusal_line, refusal_reply, respond, split_reply};
 use oc_turn::{Entry, Outbox, TurnEnd, put_all, take, write_failed_line, write_line};
 use std::alloc::Global;

@@ -1,8 +1,8 @@
 //! The connection that came.
 
 ghost use Rattle.std.specs.Prelude.{◌≡◌, ◌≤◌, ℕ, List, IfErr, OnOk, false, length};
-ghost use Rattle.oc_outside.specs.ClockView.{Series};
-ghost use Rattle.oc_outside.specs.LinkCalls.{CountsTalking};
+ghost use Rattle.oc_link.specs.ClockView.{Series};
+ghost use Rattle.oc_link.specs.LinkCalls.{CountsTalking};
 ghost use Rattle.oc_policy.specs.declared.deciding.TheConstants.{MAX_RULES as MOST_RULES};
 ghost use Rattle.oc_turn.specs.Deeds.{AreRequests, Deed, Under, outside_of};
 ghost use Rattle.oc_answer.specs.Cuts.{CutsAll, IsCutConnection};
@@ -15,7 +15,7 @@ use oc_config::Config;
 use oc_http::{Connection, HeadReader};
 use oc_io::{Disk, Sink};
 use oc_keep::Kept;
-use oc_outside::Link;
+use oc_link::Link;
 use oc_routes::MAX_REQUESTS;
 use oc_turn::{Outbox, TurnEnd};
 use std::alloc::Global;

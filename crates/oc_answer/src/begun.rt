@@ -1,11 +1,11 @@
 ghost use Rattle.std.specs.Prelude.{◌≡◌, false};
-ghost use Rattle.oc_outside.specs.Exchange.{Hears, HearsThenBreaks};
-ghost use Rattle.oc_outside.specs.LinkCalls.{IfTold};
-ghost use Rattle.oc_outside.specs.Story.{IsReadOut};
+ghost use Rattle.oc_link.specs.Exchange.{Hears, HearsThenBreaks};
+ghost use Rattle.oc_link.specs.LinkCalls.{IfTold};
+ghost use Rattle.oc_link.specs.Story.{IsReadOut};
 ghost use Rattle.oc_answer.specs.Beginning.{Brings, Brings-nothing, Brings-then, Brings-fails};
 
 use oc_io::{Failed, Source};
-use oc_outside::Link;
+use oc_link::Link;
 
 /// The current connection of a link that is lent, as a source that tells whether any byte of it came.
 #[derive(Drop)]

@@ -9,11 +9,11 @@ ghost use Rattle.oc_turn.specs.Deeds.{Talked};
 ghost use Rattle.oc_turn.specs.Looks.{LooksOnly, LookStops};
 
 use oc_base::{GroupName, Memory};
+use oc_chunked::chunk_text;
 use oc_io::{Disk, write_all};
 use oc_keep::{Kept, KeptRead};
-use oc_outside::{Current, Link};
+use oc_link::{Current, Link};
 use oc_routes::{Asks, Content, Response};
-use oc_stream::chunk_text;
 use oc_turn::TurnEnd;
 use std::alloc::Global;
 

@@ -7,7 +7,7 @@ ghost use Rattle.oc_answer.specs.Requests.{EntryOf, IsLawfulRequest};
 ghost use Rattle.oc_base.specs.declared.limits.TheConstants.{MAX_BODY_BYTES as MOST_BODY};
 ghost use Rattle.oc_http.specs.Taking.{RefusesBody};
 ghost use Rattle.oc_policy.specs.declared.deciding.TheConstants.{MAX_RULES as MOST_RULES};
-ghost use Rattle.oc_routing.specs.Lawful.{IsAsked};
+ghost use Rattle.oc_routes.specs.Lawful.{IsAsked};
 ghost use Rattle.oc_turn.specs.Deeds.{Talked};
 ghost use Rattle.oc_turn.specs.Lines.{IsEntry};
 
@@ -15,7 +15,7 @@ use crate::begun::Begun;
 use crate::replying::say;
 use oc_base::NodeId;
 use oc_http::{Head, HeadReader, HttpFault, read_body};
-use oc_outside::{Current, Link};
+use oc_link::{Current, Link};
 use oc_policy::Rule;
 use oc_routes::{Asks, CONTINUE, Refused, RouteFault, awaits_continue, input_of, is_last, route};
 use oc_turn::{Entry, input_entry};

@@ -12,3 +12,4 @@ pub mod PairReads
 pub mod ListReads
 pub mod ItemRuns
 pub mod Puts
+pub mod Filling

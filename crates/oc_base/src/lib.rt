@@ -10,6 +10,9 @@
 //! The contracts used above: `GroupName::parse` accepts exactly the names with `IsGroupName`, and its
 //! refusals are `name_fault`; `of` and `items` of each list type are that list. What [`words`] reads
 //! of a line is `words` of it, and a number is `number_in`, with the first cause where it is refused.
+//!
+//! A value for each place below a count. Memory for all is taken at the beginning, and time only as far as places are
+//! used, so that what has a value for each node is made as fast among a thousand nodes as among ten.
 #![tactic(auto)]
 
 mod cert;
@@ -28,6 +31,7 @@ mod rank;
 pub mod reading;
 mod refusal;
 mod reserved;
+mod rows;
 mod shelf;
 mod texts;
 mod why;
@@ -56,6 +60,7 @@ pub use place::{Named, Place, place_of};
 pub use rank::Rank;
 pub use refusal::Refusal;
 pub use reserved::push_reserved;
+pub use rows::Rows;
 pub use shelf::Shelf;
 pub use texts::{put, put_number, put_with_number};
 pub use why::Why;

@@ -11,8 +11,8 @@ use Rattle.oc_model.specs.Table.{leased_by}
 use Rattle.oc_model.specs.World.{World, node, ids, mode_of}
 use Rattle.oc_model.specs.WorldBounds.{IsOneOf}
 use Rattle.oc_model.proofs.Members.{all_test, test_all}
-use Rattle.oc_cluster.specs.Cluster.{HasNoStranger}
-use Rattle.oc_cluster.proofs.Fitting.{same_truth}
+use Rattle.oc_calm.specs.Cluster.{HasNoStranger}
+use Rattle.oc_calm.proofs.Fitting.{same_truth}
 
 -- a node has a lease in a table only where there is a row of it
 leased_row : (test : ℕ → Bool) (y x seq : ℕ) (rows : List Cert) → leased_by rows y x ≡ Some seq → list_all (λ k. test k.subject) rows ≡ true → test x ≡ true

@@ -10,11 +10,11 @@ use Rattle.oc_model.specs.NextWorld.{heal_acts, heal_acts_if}
 use Rattle.oc_model.specs.Runs.{Run, rests, and_then, for_each}
 use Rattle.oc_model.specs.World.{World, mode_of, up_ids}
 use Rattle.oc_model.proofs.Ready.{acts_true}
-use Rattle.oc_cluster.specs.Cluster.{IsRoll}
-use Rattle.oc_cluster.specs.Played.{act_run, five_run, is_placed_under, join_by_run, join_run}
+use Rattle.oc_calm.specs.Cluster.{IsRoll}
+use Rattle.oc_calm.specs.Played.{act_run, five_run, is_placed_under, join_by_run, join_run}
 use Rattle.oc_calm.specs.CalmRuns.{heal_run, joiners, leader_of, member_below, place_run, places_run, rise_left, rise_once_run, rise_run, room_of, settle_run}
-use Rattle.oc_cluster.specs.Timely.{AreTimely}
-use Rattle.oc_cluster.proofs.Each.{timely_front}
+use Rattle.oc_calm.specs.Timely.{AreTimely}
+use Rattle.oc_calm.proofs.Each.{timely_front}
 
 -- The leader rises
 

@@ -4,3 +4,15 @@ pub mod SettleActs
 pub mod HealRuns
 pub mod MemberOrder
 pub mod Currents
+pub mod Ways
+pub mod Steady
+pub mod Timely
+pub mod SingleRuns
+pub mod Each
+pub mod RoundRuns
+pub mod JoinRuns
+pub mod ChainLengths
+pub mod FoundLengths
+pub mod Fitting
+pub mod PlacedWays
+pub mod KnownPlaces

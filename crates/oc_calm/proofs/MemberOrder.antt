@@ -7,10 +7,10 @@ use Rattle.std.proofs.lemmas.List.Elements.{filter-append}
 use Rattle.oc_model.specs.Heal.{first_of, last_of, member_before, up_members, up_others}
 use Rattle.oc_model.specs.Plan.{is_member}
 use Rattle.oc_model.specs.World.{World, node, ids, is_up, up_ids}
-use Rattle.oc_cluster.specs.Cluster.{IsNodeOf, IsRoll, HasChain}
+use Rattle.oc_calm.specs.Cluster.{IsNodeOf, IsRoll, HasChain}
 use Rattle.oc_calm.specs.CalmRuns.{greatest_up}
 use Rattle.oc_calm.specs.CalmRuns.{joiners, leader_of, member_below}
-use Rattle.oc_cluster.proofs.RoundRuns.{ids_nodes, all_filter}
+use Rattle.oc_calm.proofs.RoundRuns.{ids_nodes, all_filter}
 use Rattle.oc_calm.proofs.TellingRuns.{filter_where}
 
 -- Tests

@@ -7,7 +7,7 @@ use Rattle.oc_model.specs.Ready.{is_ready}
 use Rattle.oc_model.specs.Runs.{Run}
 use Rattle.oc_model.specs.World.{World}
 use Rattle.oc_calm.specs.CalmRuns.{settle_run}
-use Rattle.oc_cluster.specs.Way.{Plays, Begins, IsOnTheWay, acts_of}
+use Rattle.oc_calm.specs.Way.{Plays, Begins, IsOnTheWay, acts_of}
 
 -- in a world that is ready
 pub ready_acts : (w : World) → is_ready w ≡ true → settle_acts w ≡ Some (settle_run w).acts

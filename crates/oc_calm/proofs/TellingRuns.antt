@@ -9,12 +9,12 @@ use Rattle.oc_model.specs.Runs.{rests, and_then, for_each}
 use Rattle.oc_model.specs.Settle.{tells_while, has_length, with_chain_of, deepest_first}
 use Rattle.oc_model.specs.World.{World, node}
 use Rattle.oc_model.proofs.Lists.{all_append}
-use Rattle.oc_cluster.specs.Cluster.{IsNodeOf, IsRoll}
-use Rattle.oc_cluster.specs.Played.{check_in_run, five_run}
+use Rattle.oc_calm.specs.Cluster.{IsNodeOf, IsRoll}
+use Rattle.oc_calm.specs.Played.{check_in_run, five_run}
 use Rattle.oc_calm.specs.CalmRuns.{deepest_nodes, settle_run, telling_left, telling_run, tellings_run}
-use Rattle.oc_cluster.specs.Tree.{nodes_in, chain_length, AreLengths}
+use Rattle.oc_calm.specs.Tree.{nodes_in, chain_length, AreLengths}
 use Rattle.oc_calm.specs.Longest.{has_found, longest_first}
-use Rattle.oc_cluster.proofs.RoundRuns.{all_filter, roll_nodes}
+use Rattle.oc_calm.proofs.RoundRuns.{all_filter, roll_nodes}
 
 -- One node
 

@@ -4,20 +4,20 @@ ghost use Rattle.std.specs.Prelude.{◌≡◌, ◌-◌, OnOk, OnErr, IfOk, IfSom
 ghost use Rattle.std.specs.List.{list_all, AllByRecursion};
 ghost use Rattle.oc_base.specs.declared.limits.TheConstants.{LAST_SECOND};
 ghost use Rattle.oc_calm.specs.CalmRuns.{heal_run, leader_of, room_of};
-ghost use Rattle.oc_cluster.specs.Cluster.{IsUpNode, IsRoll, UpAreBefore};
-ghost use Rattle.oc_cluster.specs.Timely.{AreTimely};
-ghost use Rattle.oc_cluster.specs.Way.{Begins, Plays, acts_of, IsOnTheWay};
+ghost use Rattle.oc_calm.specs.Cluster.{IsUpNode, IsRoll, UpAreBefore};
+ghost use Rattle.oc_calm.specs.Timely.{AreTimely};
+ghost use Rattle.oc_calm.specs.Way.{Begins, Plays, acts_of, IsOnTheWay};
 ghost use Rattle.oc_model.specs.Heal.{epoch_in};
 ghost use Rattle.oc_model.specs.NextWorld.{next_world, word_of, heal_acts};
 ghost use Rattle.oc_model.specs.declared.event.Event.TheVariants.{Heal};
 
+use crate::Cluster;
+use crate::first_steps::five_steps;
 use crate::joining::{all_join, rise};
+use crate::rounds::roll;
 use crate::settling::play_settle;
 use oc_base::{Memory, NodeId, Rank};
-use oc_cluster::Cluster;
-use oc_cluster::rounds::roll;
 use oc_model::Word;
-use oc_steps::first_steps::five_steps;
 use std::alloc::Global;
 
 /// The greatest number of an ask from which a node can still make 64.

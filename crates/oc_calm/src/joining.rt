@@ -3,18 +3,18 @@
 ghost use Rattle.std.specs.Prelude.{◌≡◌, ◌≤◌, length, OnOk, OnErr, IfOk, filter, nat_lt};
 ghost use Rattle.std.specs.List.{AllByRecursion};
 ghost use Rattle.oc_calm.specs.CalmRuns.{greatest_up, member_below, joiners, place_run, places_run, rise_once_run, rise_run};
-ghost use Rattle.oc_cluster.specs.Cluster.{IsNodeOf, IsUpNode, IsNumbered, IsRoll};
-ghost use Rattle.oc_cluster.specs.Placed.{ArePlaced};
-ghost use Rattle.oc_cluster.specs.Way.{Begins, Plays};
+ghost use Rattle.oc_calm.specs.Cluster.{IsNodeOf, IsUpNode, IsNumbered, IsRoll};
+ghost use Rattle.oc_calm.specs.Placed.{ArePlaced};
+ghost use Rattle.oc_calm.specs.Way.{Begins, Plays};
 ghost use Rattle.oc_model.specs.World.{ids};
 
+use crate::Cluster;
+use crate::join_steps::join_by;
+use crate::placing::{forget, is_placed, none_known};
+use crate::playing::{join, play};
+use crate::tree::is_acting;
 use oc_base::{Memory, NodeId};
-use oc_cluster::Cluster;
-use oc_cluster::playing::{join, play};
-use oc_cluster::tree::is_acting;
 use oc_model::{Act, Mode};
-use oc_steps::joining::join_by;
-use oc_steps::placing::{forget, is_placed, none_known};
 use std::alloc::Global;
 
 /// The leader comes to act as root. It asks each earlier chain member twice at most.

@@ -2,16 +2,16 @@
 
 ghost use Rattle.std.specs.Prelude.{◌≡◌};
 ghost use Rattle.std.specs.List.{list_all};
-ghost use Rattle.oc_cluster.specs.Cluster.{HasNoStranger, IsNodeOf, IsUpNode};
+ghost use Rattle.oc_calm.specs.Cluster.{HasNoStranger, IsNodeOf, IsUpNode};
 ghost use Rattle.oc_model.specs.Checking.{is_joined_to};
 ghost use Rattle.oc_model.specs.Ready.{has_told, holds_current, is_calm, is_current, is_settled};
 ghost use Rattle.oc_model.specs.Table.{leased_by};
 ghost use Rattle.oc_model.specs.World.{ids, node as node_in};
 
+use crate::Cluster;
+use crate::readiness::is_ready;
 use oc_base::NodeId;
-use oc_cluster::Cluster;
 use oc_model::Mode;
-use oc_steps::readiness::is_ready;
 
 /// Whether one node that is up acts as root, every other that is up has a true chain to it and the lease
 /// of its last ask, no node that is up holds any other lease, and nothing waits there for a parent.

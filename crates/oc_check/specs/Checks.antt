@@ -7,9 +7,9 @@ use Rattle.oc_keep.specs.KeptView.{header}
 use Rattle.oc_keep.specs.Trials.{first_node}
 use Rattle.oc_model.specs.Node.{Control, Header}
 use Rattle.oc_io.specs.DiskView.{DiskView}
-use Rattle.oc_report.specs.Lines.{held_text}
-use Rattle.oc_report.specs.Shows.{show_text}
-use Rattle.oc_stage.specs.Sight.{sight_of}
+use Rattle.oc_replay.specs.Lines.{held_text}
+use Rattle.oc_replay.specs.Shows.{show_text}
+use Rattle.oc_model.specs.Status.{status_of}
 
 -- among `nodes` nodes, with a chain of this length, and areas of 0
 abbrev pub header_without_areas : ℕ → ℕ → Header
@@ -19,6 +19,6 @@ header_without_areas nodes chain = header nodes chain (replicate nodes 0)
 pub record Shows {D : Type 0} (view : D → DiskView) (h : Header) (me : ℕ) (d : Disks D) (text : List ℕ) : Type 0 where
   pub control : Control
   pub shelves : List Shelf
-  pub text_is : text ≡ show_text me (sight_of control false) ++ held_text shelves
+  pub text_is : text ≡ show_text me (status_of control false) ++ held_text shelves
   pub control_is : AreHonest view d → control ≡ (first_node view h me d).control
   pub shelves_are : AreHonest view d → shelves ≡ shelf (first_node view h me d).groups

@@ -8,9 +8,9 @@ ghost use Rattle.oc_keep.specs.Files.{disks};
 ghost use Rattle.oc_base.specs.Groups.{shelf};
 ghost use Rattle.oc_keep.specs.KeptView.{IsHonest, node_of};
 ghost use Rattle.oc_keep.specs.Promises.{LoadsSafely, RefusesNode};
-ghost use Rattle.oc_report.specs.Lines.{held_text};
-ghost use Rattle.oc_report.specs.Shows.{show_text};
-ghost use Rattle.oc_stage.specs.Sight.{sight_of};
+ghost use Rattle.oc_replay.specs.Lines.{held_text};
+ghost use Rattle.oc_replay.specs.Shows.{show_text};
+ghost use Rattle.oc_model.specs.Status.{status_of};
 
 use crate::showing::show;
 use oc_base::{Memory, NodeId};
@@ -83,7 +83,7 @@ pub(crate) fn load_and_show<D: Disk>(
 /// The text of a node that was loaded.
 fn text_of<D: Disk>(alloc: Global, kept: &Kept<D>, id: NodeId) -> Result<Vec<u8>, KeepLoad>
     ensures text { IfOk result (λ text. text.items
-        ≡ show_text id (sight_of kept.now.node.control false) ++ held_text kept.now.content.shelves) }
+        ≡ show_text id (status_of kept.now.node.control false) ++ held_text kept.now.content.shelves) }
     ensures memory { IfErr result (λ error. error ≡ KeepLoad.Memory) }
     ensures groups { IsHonest D.view kept.now → kept.now.content.shelves ≡ shelf (node_of kept.now).groups }
 {

@@ -1,7 +1,7 @@
 -- What settle and heal do at each event of a schedule, from the laws on each of them.
 use Rattle.std.proofs.Common.{◌≡◌, ◌↔◌, ℕ, Bool, true, false, Option, Some, None, List, [], ◌∷◌, refl}
-use Rattle.oc_laws_calm.specs.Healing.{HealHeals, HealTakes, WhereAble}
-use Rattle.oc_laws_calm.specs.Settling.{SettleLists, SettleSettles, SettleTakes, SettleTells}
+use Rattle.oc_laws_tree.specs.Healing.{HealHeals, HealTakes, WhereAble}
+use Rattle.oc_laws_tree.specs.Settling.{SettleLists, SettleSettles, SettleTakes, SettleTells}
 use Rattle.oc_model.specs.Heal.{IsAble, is_able, leader}
 use Rattle.oc_model.specs.NextWorld.{heal_acts_if, next_world, settle_acts_if, word_of, word_of_heal, word_of_settle, world_after}
 use Rattle.oc_model.specs.Ready.{IsReady, is_ready}

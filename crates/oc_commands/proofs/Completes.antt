@@ -8,19 +8,19 @@ use Rattle.oc_keep.specs.Files.{Disks, AreHonest, OneRose}
 use Rattle.oc_keep.specs.Promises.{HoldFiles}
 use Rattle.oc_io.specs.DiskView.{DiskView}
 use Rattle.oc_io.specs.Faults.{Rose}
-use Rattle.oc_outside.specs.LinkCalls.{LinkFaults, Told}
-use Rattle.oc_outside.specs.Story.{Story}
-use Rattle.oc_requests.specs.declared.request.Download.{Download}
-use Rattle.oc_requests.specs.declared.request.Member.{Member}
-use Rattle.oc_requests.specs.declared.request.Request.{Request}
-use Rattle.oc_requests.specs.declared.request.Request.TheVariants.{Check, Get}
+use Rattle.oc_link.specs.LinkCalls.{LinkFaults, Told}
+use Rattle.oc_link.specs.Story.{Story}
+use Rattle.oc_words.specs.declared.request.Download.{Download}
+use Rattle.oc_words.specs.declared.request.Member.{Member}
+use Rattle.oc_words.specs.declared.request.Request.{Request}
+use Rattle.oc_words.specs.declared.request.Request.TheVariants.{Check, Get}
 use Rattle.oc_commands.specs.AtGet.{HappenedAtGet}
 use Rattle.oc_commands.specs.AtCheck.{HappenedAtCheck}
 use Rattle.oc_commands.specs.Complete.{IsDoneOrMemory, IsServed, once}
 use Rattle.oc_commands.specs.Ends.{status_of, status_of_check, status_of_get, status_of_load}
 use Rattle.oc_commands.specs.Outside.{Input, OnClock, OnFiles, OnLink, OnNode, OnStage, Output, at_files, at_link}
 use Rattle.oc_commands.specs.Run.{Happened}
-use Rattle.oc_requests.specs.Status.{number_of}
+use Rattle.oc_words.specs.Status.{number_of}
 use Rattle.oc_commands.specs.declared.checking.CheckEnd.{CheckEnd}
 use Rattle.oc_commands.specs.declared.checking.CheckEnd.TheVariants as checks
 use Rattle.oc_commands.specs.declared.ending.End.{End}

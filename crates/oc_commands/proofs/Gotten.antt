@@ -6,9 +6,9 @@ use Rattle.oc_fetch.specs.Passing.{IsTalked, Sent}
 use Rattle.oc_fetch.specs.declared.end.GetEnd.{GetEnd}
 use Rattle.oc_fetch.specs.declared.end.GetEnd.TheVariants as gets
 use Rattle.oc_io.specs.Faults.{Rose}
-use Rattle.oc_outside.specs.LinkCalls.{LinkFaults}
-use Rattle.oc_outside.specs.Story.{Story}
-use Rattle.oc_requests.specs.declared.request.Download.{Download}
+use Rattle.oc_link.specs.LinkCalls.{LinkFaults}
+use Rattle.oc_link.specs.Story.{Story}
+use Rattle.oc_words.specs.declared.request.Download.{Download}
 use Rattle.oc_commands.specs.AtGet.{Blames, CompletesOnce, HappenedAtGet, Wrote, replies_for, wish_for}
 use Rattle.oc_commands.specs.Outside.{OnLink, at_link, at_sink}
 use Rattle.url.specs.Parts.{Parts}

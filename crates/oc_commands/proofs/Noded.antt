@@ -10,11 +10,11 @@ use Rattle.oc_service.specs.declared.starting.NodeEnd.{NodeEnd}
 use Rattle.oc_service.specs.declared.starting.NodeEnd.TheVariants as nodes
 use Rattle.oc_turn.specs.Deeds as deeds
 use Rattle.oc_turn.specs.declared.ends.TurnEnd.TheVariants as turns
-use Rattle.oc_requests.specs.declared.request.Service.{Service}
+use Rattle.oc_words.specs.declared.request.Service.{Service}
 use Rattle.oc_commands.specs.AtNode.{RunsNode}
 use Rattle.oc_commands.specs.Ends.{status_of_run}
 use Rattle.oc_commands.specs.Outside.{at_files, at_node, at_sink}
-use Rattle.oc_requests.specs.Status.{number_of}
+use Rattle.oc_words.specs.Status.{number_of}
 
 module _ {D K : Type 0} (view : D → DiskView) (takes fails : K → List ℕ → K → Type 0) (count : K → ℕ) (takes_nothing : (k : K) → takes k [] k) (s : Settings) (v : Service) (d e : Disks D) (sink after : K) (before out : deeds.Outside) where
   -- of the node of this id

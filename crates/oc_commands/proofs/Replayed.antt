@@ -9,16 +9,16 @@ use Rattle.oc_model.specs.World.{World}
 use Rattle.oc_model.specs.declared.event.Event.{Event}
 use Rattle.oc_model.specs.declared.word.Word.{Word}
 use Rattle.oc_io.specs.Faults.{Rose}
-use Rattle.oc_play.specs.Ends.{IfLimit, IfText, OnDone, OnMemory, OnRefusal, OnSink, OnSource}
+use Rattle.oc_replay.specs.Ends.{IfLimit, IfText, OnDone, OnMemory, OnRefusal, OnSink, OnSource}
 use Rattle.oc_replay.specs.Replay.{IsInput, PassesLimit, output_text, world_at}
-use Rattle.oc_play.specs.Pieces.{SomeFront}
-use Rattle.oc_play.specs.declared.end.ReplayEnd.{ReplayEnd}
-use Rattle.oc_play.specs.declared.end.ReplayEnd.TheVariants as replays
+use Rattle.oc_replay.specs.Pieces.{SomeFront}
+use Rattle.oc_replay.specs.declared.end.ReplayEnd.{ReplayEnd}
+use Rattle.oc_replay.specs.declared.end.ReplayEnd.TheVariants as replays
 use Rattle.oc_schedule.proofs.Lawful.{IsSchedule-from_lines}
 use Rattle.oc_schedule.specs.Schedule.{IsSchedule, read_lines, schedule_of}
 use Rattle.oc_schedule.specs.Script.{Script}
-use Rattle.oc_acts.specs.declared.fault.ScheduleFault.TheVariants as faults
-use Rattle.oc_acts.specs.declared.fault.What.TheVariants as limits
+use Rattle.oc_schedule.specs.declared.fault.ScheduleFault.TheVariants as faults
+use Rattle.oc_schedule.specs.declared.fault.What.TheVariants as limits
 use Rattle.oc_commands.specs.AtReplay.{HappenedAtReplay}
 use Rattle.oc_commands.specs.Headline.{HeadlineHolds}
 use Rattle.oc_commands.specs.Outside.{at_sink, at_source, at_stage}

@@ -13,14 +13,14 @@ use Rattle.oc_service.specs.declared.starting.NodeEnd.{NodeEnd}
 use Rattle.oc_service.specs.declared.starting.NodeEnd.TheVariants as nodes
 use Rattle.oc_turn.specs.Deeds as deeds
 use Rattle.oc_turn.specs.declared.ends.TurnEnd.TheVariants as turns
-use Rattle.oc_requests.specs.declared.request.Request.{Request}
-use Rattle.oc_requests.specs.declared.request.Request.TheVariants.{Node}
-use Rattle.oc_requests.specs.declared.request.Service.{Service}
+use Rattle.oc_words.specs.declared.request.Request.{Request}
+use Rattle.oc_words.specs.declared.request.Request.TheVariants.{Node}
+use Rattle.oc_words.specs.declared.request.Service.{Service}
 use Rattle.oc_commands.specs.AtNode.{HappenedAtNode, HasNode, HasServiceStatus, IsStatusOf, IsStatusOver, RunsNode}
 use Rattle.oc_commands.specs.Ends.{status_of, status_of_run, status_of_service}
 use Rattle.oc_commands.specs.Outside.{OnClock, OnLink, OnStage, Output, at_files, at_node, at_source}
 use Rattle.oc_commands.specs.Run.{Happened}
-use Rattle.oc_requests.specs.Status.{number_of}
+use Rattle.oc_words.specs.Status.{number_of}
 use Rattle.oc_commands.specs.declared.configuring.ConfigEnd.TheVariants as configs
 use Rattle.oc_commands.specs.declared.ending.End.{End}
 use Rattle.oc_commands.specs.declared.ending.End.TheVariants.{Helped, HelpFailed, Misused, NoMemory, Replayed, Generated, Listed, Checked, Got, Served}

@@ -1,7 +1,7 @@
 -- What the end of a run tells of its status.
 use Rattle.std.proofs.Common.{◌≡◌, None, arith}
-use Rattle.oc_play.specs.declared.end.ReplayEnd.{ReplayEnd}
-use Rattle.oc_play.specs.declared.end.ReplayEnd.TheVariants as replays
+use Rattle.oc_replay.specs.declared.end.ReplayEnd.{ReplayEnd}
+use Rattle.oc_replay.specs.declared.end.ReplayEnd.TheVariants as replays
 use Rattle.oc_config.specs.declared.fault.ConfigFault.TheVariants as faults
 use Rattle.oc_fetch.specs.declared.end.GetEnd.{GetEnd}
 use Rattle.oc_fetch.specs.declared.end.GetEnd.TheVariants as gets
@@ -9,7 +9,7 @@ use Rattle.oc_keep.specs.declared.errors.KeepLoad.TheVariants as loads
 use Rattle.oc_commands.specs.Ends.{status_of, status_of_check, status_of_gen, status_of_get, status_of_replay, status_of_rules, status_of_service, status_of_turns}
 use Rattle.oc_commands.specs.Outside.{Outside}
 use Rattle.oc_commands.specs.Run.{Happened}
-use Rattle.oc_requests.specs.Status.{number_of}
+use Rattle.oc_words.specs.Status.{number_of}
 use Rattle.oc_commands.specs.declared.ending.End.{End}
 use Rattle.oc_commands.specs.declared.ending.End.TheVariants.{Helped, HelpFailed, Misused, NoMemory, Replayed, Generated, Listed, Checked, Got, Served}
 use Rattle.oc_commands.specs.declared.generating.GenEnd.{GenEnd}

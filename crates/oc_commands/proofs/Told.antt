@@ -4,16 +4,16 @@ use Rattle.oc_config.specs.Settings.{Settings}
 use Rattle.oc_config.specs.declared.fault.ConfigFault.TheVariants as faults
 use Rattle.oc_fetch.specs.declared.end.GetEnd.{GetEnd}
 use Rattle.oc_fetch.specs.declared.end.GetEnd.TheVariants as gets
-use Rattle.oc_play.specs.declared.end.ReplayEnd.{ReplayEnd}
-use Rattle.oc_play.specs.declared.end.ReplayEnd.TheVariants as replays
+use Rattle.oc_replay.specs.declared.end.ReplayEnd.{ReplayEnd}
+use Rattle.oc_replay.specs.declared.end.ReplayEnd.TheVariants as replays
 use Rattle.oc_schedule.specs.Script.{Script}
-use Rattle.oc_acts.specs.declared.fault.ScheduleFault.{ScheduleFault}
-use Rattle.oc_acts.specs.declared.fault.What.{What}
-use Rattle.oc_requests.specs.declared.request.Download.{Download}
-use Rattle.oc_requests.specs.declared.request.Member.{Member}
-use Rattle.oc_requests.specs.declared.request.Request.{Request}
-use Rattle.oc_requests.specs.declared.request.Sample.{Sample}
-use Rattle.oc_requests.specs.declared.request.Service.{Service}
+use Rattle.oc_schedule.specs.declared.fault.ScheduleFault.{ScheduleFault}
+use Rattle.oc_schedule.specs.declared.fault.What.{What}
+use Rattle.oc_words.specs.declared.request.Download.{Download}
+use Rattle.oc_words.specs.declared.request.Member.{Member}
+use Rattle.oc_words.specs.declared.request.Request.{Request}
+use Rattle.oc_words.specs.declared.request.Sample.{Sample}
+use Rattle.oc_words.specs.declared.request.Service.{Service}
 use Rattle.oc_commands.specs.AtCheck.{HappenedAtCheck}
 use Rattle.oc_commands.specs.AtConfig.{ReadsConfig}
 use Rattle.oc_commands.specs.AtGen.{HappenedAtGen}

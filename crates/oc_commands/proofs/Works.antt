@@ -6,20 +6,20 @@ use Rattle.std.proofs.lemmas.Bool.{ltb-false}
 use Rattle.oc_base.specs.declared.limits.TheConstants.{MAX_SCHEDULE_BYTES}
 use Rattle.oc_config.specs.declared.fault.ConfigFault.TheVariants as config_faults
 use Rattle.oc_io.specs.Faults.{Rose}
-use Rattle.oc_play.specs.declared.end.ReplayEnd.{ReplayEnd}
-use Rattle.oc_play.specs.declared.end.ReplayEnd.TheVariants as replays
+use Rattle.oc_replay.specs.declared.end.ReplayEnd.{ReplayEnd}
+use Rattle.oc_replay.specs.declared.end.ReplayEnd.TheVariants as replays
 use Rattle.oc_schedule.specs.Schedule.{read_lines, schedule_of}
-use Rattle.oc_acts.specs.declared.fault.ScheduleFault.TheVariants as faults
-use Rattle.oc_acts.specs.declared.fault.What.TheVariants as limits
-use Rattle.oc_requests.specs.declared.request.Request.{Request}
-use Rattle.oc_requests.specs.declared.request.Request.TheVariants.{Help, Replay, Rules}
+use Rattle.oc_schedule.specs.declared.fault.ScheduleFault.TheVariants as faults
+use Rattle.oc_schedule.specs.declared.fault.What.TheVariants as limits
+use Rattle.oc_words.specs.declared.request.Request.{Request}
+use Rattle.oc_words.specs.declared.request.Request.TheVariants.{Help, Replay, Rules}
 use Rattle.oc_commands.specs.AtReplay.{HappenedAtReplay, HasStatus, status_for}
 use Rattle.oc_commands.specs.AtRules.{HappenedAtRules, HasConfigStatus, status_of_settings}
 use Rattle.oc_commands.specs.Complete.{IsDoneOrMemory}
 use Rattle.oc_commands.specs.Ends.{status_of, status_of_replay, status_of_rules}
 use Rattle.oc_commands.specs.Outside.{OnClock, OnFiles, OnLink, OnNode, OnStage, Outside, Output, at_source}
 use Rattle.oc_commands.specs.Run.{Happened}
-use Rattle.oc_requests.specs.Status.{number_of}
+use Rattle.oc_words.specs.Status.{number_of}
 use Rattle.oc_commands.specs.declared.configuring.ConfigEnd.TheVariants as configs
 use Rattle.oc_commands.specs.declared.ending.End.{End}
 use Rattle.oc_commands.specs.declared.ending.End.TheVariants.{Helped, HelpFailed, Misused, NoMemory, Replayed, Generated, Listed, Checked, Got, Served}

@@ -2,8 +2,8 @@
 use Rattle.std.specs.Prelude.{ℕ, List, []}
 use Rattle.oc_check.specs.Checks.{header_without_areas}
 use Rattle.oc_model.specs.Node.{Header}
-use Rattle.oc_play.specs.Pieces.{SomeFront}
-use Rattle.oc_requests.specs.declared.request.Member.{Member}
+use Rattle.oc_replay.specs.Pieces.{SomeFront}
+use Rattle.oc_words.specs.declared.request.Member.{Member}
 use Rattle.oc_commands.specs.Outside.{OnFiles, Output}
 use Rattle.oc_commands.specs.declared.checking.CheckEnd.{CheckEnd}
 use Rattle.oc_commands.specs.declared.checking.CheckEnd.TheVariants.{Done, Load, Sink}

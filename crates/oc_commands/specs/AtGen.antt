@@ -1,9 +1,9 @@
 -- What had happened at each end of `gen`.
 use Rattle.std.specs.Prelude.{ℕ, ◌-◌, List, []}
-use Rattle.oc_play.specs.Pieces.{SomeFront}
+use Rattle.oc_replay.specs.Pieces.{SomeFront}
 use Rattle.oc_schedule.specs.Generator.{generated}
 use Rattle.oc_schedule.specs.Printing.{script_text}
-use Rattle.oc_requests.specs.declared.request.Sample.{Sample}
+use Rattle.oc_words.specs.declared.request.Sample.{Sample}
 use Rattle.oc_commands.specs.Outside.{Output}
 use Rattle.oc_commands.specs.declared.generating.GenEnd.{GenEnd}
 use Rattle.oc_commands.specs.declared.generating.GenEnd.TheVariants.{Done, Sink, Memory}

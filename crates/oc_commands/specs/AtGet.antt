@@ -6,7 +6,7 @@ use Rattle.oc_fetch.specs.Turns.{Turn}
 use Rattle.oc_fetch.specs.Wishes.{Wish}
 use Rattle.oc_fetch.specs.declared.end.GetEnd.{GetEnd}
 use Rattle.oc_fetch.specs.declared.end.GetEnd.TheVariants as ends
-use Rattle.oc_requests.specs.declared.request.Download.{Download}
+use Rattle.oc_words.specs.declared.request.Download.{Download}
 use Rattle.oc_commands.specs.Outside.{OnLink, Output}
 use Rattle.url.specs.Parts.{Parts}
 

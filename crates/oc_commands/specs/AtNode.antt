@@ -9,7 +9,7 @@ use Rattle.oc_io.specs.DiskView.{DiskView}
 use Rattle.oc_keep.specs.Files.{Disks}
 use Rattle.oc_keep.specs.Promises.{HoldFiles}
 use Rattle.oc_model.specs.Node.{Header}
-use Rattle.oc_outside.specs.LinkCalls.{IsFront}
+use Rattle.oc_link.specs.LinkCalls.{IsFront}
 use Rattle.oc_service.specs.OnFiles.{header_of_settings}
 use Rattle.oc_service.specs.Runs.{IsRun}
 use Rattle.oc_service.specs.declared.starting.NodeEnd.{NodeEnd}
@@ -17,7 +17,7 @@ use Rattle.oc_service.specs.declared.starting.NodeEnd.TheVariants.{Load, Turned}
 use Rattle.oc_turn.specs.Deeds.{Deed, Under, deeds_text, under_line}
 use Rattle.oc_turn.specs.declared.ends.TurnEnd.{TurnEnd}
 use Rattle.oc_turn.specs.declared.ends.TurnEnd.TheVariants as ends
-use Rattle.oc_requests.specs.declared.request.Service.{Service}
+use Rattle.oc_words.specs.declared.request.Service.{Service}
 use Rattle.oc_commands.specs.AtConfig.{ReadsConfig}
 use Rattle.oc_commands.specs.AtRules.{status_of_settings}
 use Rattle.oc_commands.specs.Outside.{Input, OnFiles, OnNode, Output}

@@ -4,13 +4,13 @@ use Rattle.oc_base.specs.declared.limits.TheConstants.{MAX_SCHEDULE_BYTES}
 use Rattle.oc_model.specs.NextWorld.{next_world, word_of}
 use Rattle.oc_model.specs.World.{new_world}
 use Rattle.oc_replay.specs.Replay.{brief_text, told_text}
-use Rattle.oc_play.specs.Pieces.{SomeFront}
-use Rattle.oc_play.specs.declared.end.ReplayEnd.{ReplayEnd}
-use Rattle.oc_play.specs.declared.end.ReplayEnd.TheVariants.{Done, Text, Limit, Source, Sink, Memory}
+use Rattle.oc_replay.specs.Pieces.{SomeFront}
+use Rattle.oc_replay.specs.declared.end.ReplayEnd.{ReplayEnd}
+use Rattle.oc_replay.specs.declared.end.ReplayEnd.TheVariants.{Done, Text, Limit, Source, Sink, Memory}
 use Rattle.oc_schedule.specs.Schedule.{IsSchedule, schedule_of}
 use Rattle.oc_schedule.specs.Script.{Script}
-use Rattle.oc_acts.specs.declared.fault.ScheduleFault.{ScheduleFault}
-use Rattle.oc_acts.specs.declared.fault.ScheduleFault.TheVariants as faults
+use Rattle.oc_schedule.specs.declared.fault.ScheduleFault.{ScheduleFault}
+use Rattle.oc_schedule.specs.declared.fault.ScheduleFault.TheVariants as faults
 use Rattle.oc_commands.specs.Headline.{HeadlineHolds}
 use Rattle.oc_commands.specs.Outside.{Input, Output, OnStage}
 

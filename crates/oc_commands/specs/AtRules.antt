@@ -6,7 +6,7 @@ use Rattle.oc_config.specs.Settings.{Settings}
 use Rattle.oc_config.specs.declared.fault.ConfigFault.{ConfigFault}
 use Rattle.oc_config.specs.declared.fault.ConfigFault.TheVariants as faults
 use Rattle.oc_policy.specs.declared.rule.Rule.{Rule}
-use Rattle.oc_play.specs.Pieces.{SomeFront}
+use Rattle.oc_replay.specs.Pieces.{SomeFront}
 use Rattle.oc_policy.specs.Listing.{IsListing}
 use Rattle.oc_commands.specs.AtConfig.{ReadsConfig}
 use Rattle.oc_commands.specs.Outside.{Input, Output}

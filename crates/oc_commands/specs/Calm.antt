@@ -1,7 +1,7 @@
 -- What the headline says of settle and heal, in the world in which such a line comes.
 use Rattle.std.specs.Prelude.{◌≡◌, ◌↔◌, ℕ, Some, List, [], ◌∷◌}
-use Rattle.oc_laws_calm.specs.Healing.{IsLeast, acts_to_heal}
-use Rattle.oc_laws_calm.specs.Settling.{CountsExactly, acts_to_settle}
+use Rattle.oc_laws_tree.specs.Healing.{IsLeast, acts_to_heal}
+use Rattle.oc_laws_tree.specs.Settling.{CountsExactly, acts_to_settle}
 use Rattle.oc_laws_tree.specs.Listing.{ListsExactly}
 use Rattle.oc_model.specs.Chains.{IsRoot}
 use Rattle.oc_model.specs.ClaimsTree.{IsTold}

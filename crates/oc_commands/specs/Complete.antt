@@ -3,9 +3,9 @@ use Rattle.std.specs.Prelude.{◌≡◌, ◌⊎◌, ℕ, Option, Some, None, Lis
 use Rattle.oc_fetch.specs.Addresses.{IsAddressOf}
 use Rattle.oc_fetch.specs.Completeness.{LeadToContent, text_of}
 use Rattle.oc_fetch.specs.Downloads.{first_place}
-use Rattle.oc_outside.specs.Story.{Dial, Story, dials}
+use Rattle.oc_link.specs.Story.{Dial, Story, dials}
 use Rattle.url.specs.Parts.{Parts}
-use Rattle.oc_requests.specs.declared.request.Download.{Download}
+use Rattle.oc_words.specs.declared.request.Download.{Download}
 
 -- the work was done, or memory ran out
 abbrev pub IsDoneOrMemory : ℕ → Type 0

@@ -5,8 +5,8 @@ use Rattle.oc_fetch.specs.declared.end.GetEnd.{GetEnd}
 use Rattle.oc_fetch.specs.declared.end.GetEnd.TheVariants as gets
 use Rattle.oc_keep.specs.declared.errors.KeepLoad.{KeepLoad}
 use Rattle.oc_keep.specs.declared.errors.KeepLoad.TheVariants as loads
-use Rattle.oc_play.specs.declared.end.ReplayEnd.{ReplayEnd}
-use Rattle.oc_play.specs.declared.end.ReplayEnd.TheVariants as replays
+use Rattle.oc_replay.specs.declared.end.ReplayEnd.{ReplayEnd}
+use Rattle.oc_replay.specs.declared.end.ReplayEnd.TheVariants as replays
 use Rattle.oc_service.specs.declared.starting.NodeEnd.{NodeEnd}
 use Rattle.oc_service.specs.declared.starting.NodeEnd.TheVariants as nodes
 use Rattle.oc_turn.specs.declared.ends.TurnEnd.{TurnEnd}
@@ -23,8 +23,8 @@ use Rattle.oc_commands.specs.declared.listing.RulesEnd.{RulesEnd}
 use Rattle.oc_commands.specs.declared.listing.RulesEnd.TheVariants as lists
 use Rattle.oc_commands.specs.declared.serving.ServiceEnd.{ServiceEnd}
 use Rattle.oc_commands.specs.declared.serving.ServiceEnd.TheVariants as services
-use Rattle.oc_requests.specs.declared.status.Status.{Status}
-use Rattle.oc_requests.specs.declared.status.Status.TheVariants as statuses
+use Rattle.oc_words.specs.declared.status.Status.{Status}
+use Rattle.oc_words.specs.declared.status.Status.TheVariants as statuses
 
 abbrev pub status_of_replay : ReplayEnd → Status
 status_of_replay replays.Done = statuses.Done

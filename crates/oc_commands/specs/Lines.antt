@@ -11,11 +11,11 @@ use Rattle.oc_keep.specs.declared.errors.KeepLoad.{KeepLoad}
 use Rattle.oc_keep.specs.declared.errors.KeepLoad.TheVariants as loads
 use Rattle.oc_keep.specs.declared.errors.Which.{Which}
 use Rattle.oc_keep.specs.declared.errors.Which.TheVariants as files
-use Rattle.oc_play.specs.declared.end.ReplayEnd.{ReplayEnd}
-use Rattle.oc_play.specs.declared.end.ReplayEnd.TheVariants as replays
-use Rattle.oc_acts.specs.Limits.{most_of, what_text}
-use Rattle.oc_acts.specs.declared.fault.What.{What}
-use Rattle.oc_acts.specs.declared.fault.What.TheVariants.{Bytes}
+use Rattle.oc_replay.specs.declared.end.ReplayEnd.{ReplayEnd}
+use Rattle.oc_replay.specs.declared.end.ReplayEnd.TheVariants as replays
+use Rattle.oc_schedule.specs.Limits.{most_of, what_text}
+use Rattle.oc_schedule.specs.declared.fault.What.{What}
+use Rattle.oc_schedule.specs.declared.fault.What.TheVariants.{Bytes}
 use Rattle.oc_service.specs.declared.starting.NodeEnd.{NodeEnd}
 use Rattle.oc_service.specs.declared.starting.NodeEnd.TheVariants as nodes
 use Rattle.oc_turn.specs.declared.ends.TurnEnd.{TurnEnd}

@@ -16,18 +16,18 @@ use Rattle.oc_model.specs.declared.event.Event.{Event}
 use Rattle.oc_model.specs.declared.word.Word.{Word}
 use Rattle.oc_io.specs.DiskView.{DiskView}
 use Rattle.oc_io.specs.Faults.{Rose}
-use Rattle.oc_outside.specs.LinkCalls.{LinkFaults, Told}
-use Rattle.oc_outside.specs.Story.{Story}
+use Rattle.oc_link.specs.LinkCalls.{LinkFaults, Told}
+use Rattle.oc_link.specs.Story.{Story}
 use Rattle.oc_replay.specs.Replay.{IsInput, PassesLimit, output_text, world_at}
 use Rattle.oc_schedule.specs.Script.{Script}
-use Rattle.oc_acts.specs.declared.fault.ScheduleFault.{ScheduleFault}
-use Rattle.oc_acts.specs.declared.fault.What.{What}
+use Rattle.oc_schedule.specs.declared.fault.ScheduleFault.{ScheduleFault}
+use Rattle.oc_schedule.specs.declared.fault.What.{What}
 use Rattle.oc_service.specs.OnFiles.{DidOnFiles, StopsOnFiles}
 use Rattle.oc_turn.specs.Deeds as deeds
 use Rattle.oc_turn.specs.Deeds.{Deed, Under}
 use Rattle.oc_turn.specs.declared.ends.TurnEnd.{TurnEnd}
-use Rattle.oc_outside.specs.ClockView.{Series}
-use Rattle.oc_requests.specs.declared.request.Request.{Request}
+use Rattle.oc_link.specs.ClockView.{Series}
+use Rattle.oc_words.specs.declared.request.Request.{Request}
 use Rattle.url.specs.Parts.{Parts}
 
 -- of the input

@@ -2,13 +2,13 @@
 use Rattle.std.specs.Prelude.{◌≡◌, ℕ, ◌<◌, ◌⊎◌, Bool, List, [], ◌∷◌, ◌++◌, length, Option, Some, None, ⊤}
 use Rattle.std.specs.Borrow.{Bor}
 use Rattle.oc_io.specs.Faults.{Rose}
-use Rattle.oc_play.specs.Pieces.{SomeFront}
-use Rattle.oc_requests.specs.declared.request.Download.{Download}
-use Rattle.oc_requests.specs.declared.request.Member.{Member}
-use Rattle.oc_requests.specs.declared.request.Request.{Request}
-use Rattle.oc_requests.specs.declared.request.Request.TheVariants.{Help, Replay, Gen, Check, Get, Node, Rules}
-use Rattle.oc_requests.specs.declared.request.Sample.{Sample}
-use Rattle.oc_requests.specs.declared.request.Service.{Service}
+use Rattle.oc_replay.specs.Pieces.{SomeFront}
+use Rattle.oc_words.specs.declared.request.Download.{Download}
+use Rattle.oc_words.specs.declared.request.Member.{Member}
+use Rattle.oc_words.specs.declared.request.Request.{Request}
+use Rattle.oc_words.specs.declared.request.Request.TheVariants.{Help, Replay, Gen, Check, Get, Node, Rules}
+use Rattle.oc_words.specs.declared.request.Sample.{Sample}
+use Rattle.oc_words.specs.declared.request.Service.{Service}
 use Rattle.oc_commands.specs.AtCheck.{HappenedAtCheck}
 use Rattle.oc_commands.specs.AtGen.{HappenedAtGen}
 use Rattle.oc_commands.specs.AtGet.{HappenedAtGet}

@@ -3,13 +3,13 @@ ghost use Rattle.oc_keep.specs.Files.{disks};
 ghost use Rattle.oc_io.specs.Faults.{NoFall};
 ghost use Rattle.oc_commands.specs.AtCheck.{HappenedAtCheck};
 ghost use Rattle.oc_commands.specs.Outside.{at_files, at_sink};
-ghost use Rattle.oc_requests.specs.Requests.{IsMember};
+ghost use Rattle.oc_words.specs.Requests.{IsMember};
 
 use oc_base::NodeId;
 use oc_check::recovered_text;
 use oc_io::{Disk, Sink, write_all};
 use oc_keep::KeepLoad;
-use oc_requests::Member;
+use oc_words::Member;
 use std::alloc::Global;
 
 /// How `check` ended.

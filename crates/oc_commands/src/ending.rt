@@ -12,8 +12,8 @@ use oc_config::ConfigFault;
 use oc_fetch::GetEnd;
 use oc_keep::KeepLoad;
 use oc_replay::ReplayEnd;
-use oc_requests::Status;
 use oc_service::{NodeEnd, TurnEnd};
+use oc_words::Status;
 
 /// How a run ended.
 #[derive(Clone, Copy)]

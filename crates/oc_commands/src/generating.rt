@@ -4,12 +4,12 @@ ghost use Rattle.oc_io.specs.Faults.{NoFall};
 ghost use Rattle.oc_commands.specs.AtGen.{HappenedAtGen};
 ghost use Rattle.oc_commands.specs.Outside.{at_sink};
 ghost use Rattle.oc_commands.specs.AtGen.{sample_text};
-ghost use Rattle.oc_requests.specs.Requests.{IsSample};
+ghost use Rattle.oc_words.specs.Requests.{IsSample};
 
 use oc_base::Memory;
 use oc_io::{Sink, write_all};
-use oc_requests::Sample;
 use oc_schedule::{generate, print};
+use oc_words::Sample;
 use std::alloc::Global;
 
 /// How `gen` ended.

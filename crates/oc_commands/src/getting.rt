@@ -6,8 +6,8 @@ ghost use Rattle.oc_commands.specs.Outside.{at_link, at_sink};
 
 use oc_fetch::{GetEnd, follow, get};
 use oc_io::Sink;
-use oc_outside::Link;
-use oc_requests::Download;
+use oc_link::Link;
+use oc_words::Download;
 use std::alloc::Global;
 
 /// Writes the content of a URL, or what is new of a group, again and again.

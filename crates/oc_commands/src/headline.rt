@@ -3,12 +3,10 @@ ghost use Rattle.oc_model.specs.Lawful.{IsHeader};
 ghost use Rattle.oc_schedule.specs.Script.{Script};
 ghost use Rattle.oc_commands.specs.Headline.{HeadlineHolds};
 
-use oc_laws_calm::{
-    able_worlds_heal, heal_goes_step_by_step, ready_worlds_settle, settle_takes_few_acts,
-    unable_worlds_refuse_heal, unready_worlds_refuse_settle,
-};
 use oc_laws_tree::{
-    every_count_is_informed, every_line_is_explained, settled_trees_are_listed_exactly,
+    able_worlds_heal, every_count_is_informed, every_line_is_explained, heal_goes_step_by_step,
+    ready_worlds_settle, settle_takes_few_acts, settled_trees_are_listed_exactly,
+    unable_worlds_refuse_heal, unready_worlds_refuse_settle,
 };
 use oc_laws_world::{content_stays_true, parent_links_form_no_cycle, ranks_hold, tests_decide};
 

@@ -32,7 +32,7 @@ pub use getting::download;
 pub use headline::headline_holds;
 pub use helping::write_help;
 pub use listing::{RulesEnd, list_rules};
-pub use oc_requests::Status;
+pub use oc_words::Status;
 pub use replaying::replay_input;
 pub use serving::{ServiceEnd, run_service};
 pub use telling::tell;

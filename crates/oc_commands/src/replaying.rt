@@ -5,8 +5,7 @@ ghost use Rattle.oc_commands.specs.Outside.{at_sink, at_source, at_stage};
 
 use crate::headline::headline_holds;
 use oc_io::{Sink, Source};
-use oc_replay::{ReplayEnd, replay};
-use oc_stage::Stage;
+use oc_replay::{ReplayEnd, Stage, replay};
 use std::alloc::Global;
 
 /// Replays the schedule on the input, and calls the laws that hold of every world of a schedule.

@@ -6,15 +6,15 @@ ghost use Rattle.oc_io.specs.Faults.{NoFall};
 ghost use Rattle.oc_commands.specs.AtNode.{HappenedAtNode, IsMemberOf, RunsService, UnlessRan};
 ghost use Rattle.oc_commands.specs.Ends.{status_of_service};
 ghost use Rattle.oc_commands.specs.Outside.{at_files, at_node, at_sink, at_source, seen};
-ghost use Rattle.oc_requests.specs.Status.{number_of};
+ghost use Rattle.oc_words.specs.Status.{number_of};
 
 use crate::configuring::{ConfigEnd, read_config};
 use oc_base::NodeId;
 use oc_config::Config;
 use oc_io::{Disk, Sink, Source};
-use oc_outside::{Clock, Link};
-use oc_requests::Service;
+use oc_link::{Clock, Link};
 use oc_service::{NodeEnd, run_node};
+use oc_words::Service;
 use std::alloc::Global;
 
 /// How `node` ended.

@@ -4,7 +4,7 @@ use Rattle.std.specs.Prelude.{All}
 use Rattle.std.proofs.lemmas.List.Elements.{All-from_recursion}
 use Rattle.toml.specs.Data.{Members}
 use Rattle.oc_base.specs.declared.limits.TheConstants.{MAX_CHAIN, MAX_NODES}
-use Rattle.oc_measure.specs.MeasureLines.{IsMeasure}
+use Rattle.oc_updown.specs.MeasureLines.{IsMeasure}
 use Rattle.oc_policy.specs.declared.deciding.TheConstants.{MAX_RULES}
 use Rattle.oc_config.specs.Addresses.{is_address}
 use Rattle.oc_config.specs.Nodes.{nodes_in, addresses_of, areas_of}

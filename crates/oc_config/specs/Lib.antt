@@ -6,3 +6,4 @@ pub mod Nodes
 pub mod AccessRules
 pub mod Reading
 pub mod Laws
+pub mod Places

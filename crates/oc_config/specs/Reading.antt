@@ -9,9 +9,9 @@ use Rattle.toml.specs.View.{table_view}
 use Rattle.toml.specs.declared.value.Value.{Value as TomlValue}
 use Rattle.oc_base.specs.Steps.{◌>>=◌}
 use Rattle.oc_base.specs.declared.limits.TheConstants.{MAX_CHAIN, MAX_NODES}
-use Rattle.oc_measure.specs.MeasureLines as lines
-use Rattle.oc_measure.specs.declared.fault.MeasureFault.{MeasureFault}
-use Rattle.oc_measure.specs.declared.lines.Measure.{Measure}
+use Rattle.oc_updown.specs.MeasureLines as lines
+use Rattle.oc_updown.specs.declared.measure_fault.MeasureFault.{MeasureFault}
+use Rattle.oc_updown.specs.declared.measure_lines.Measure.{Measure}
 use Rattle.oc_policy.specs.declared.deciding.TheConstants.{MAX_RULES}
 use Rattle.oc_policy.specs.declared.rule.Rule.{Rule}
 use Rattle.oc_config.specs.AccessRules.{rules_in}

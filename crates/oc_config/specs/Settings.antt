@@ -1,6 +1,6 @@
 -- What a configuration says.
 use Rattle.std.specs.Prelude.{ℕ, List}
-use Rattle.oc_measure.specs.declared.lines.Measure.{Measure}
+use Rattle.oc_updown.specs.declared.measure_lines.Measure.{Measure}
 use Rattle.oc_policy.specs.declared.rule.Rule.{Rule}
 
 -- what is said of a node

@@ -7,10 +7,10 @@ use Rattle.toml.specs.Data.{Data, Items, no_items, item, Members, get_member, as
 use Rattle.toml.specs.View.{table_view}
 use Rattle.toml.specs.declared.value.Value.{Value as TomlValue}
 use Rattle.oc_base.specs.Steps.{◌>>=◌}
-use Rattle.oc_ids.specs.declared.place.IdFault.{IdFault}
-use Rattle.oc_ids.specs.declared.place.IdFault.TheVariants as ids
-use Rattle.oc_measure.specs.declared.fault.MeasureFault.{MeasureFault}
-use Rattle.oc_measure.specs.declared.fault.MeasureFault.TheVariants as measures
+use Rattle.oc_config.specs.declared.place.IdFault.{IdFault}
+use Rattle.oc_config.specs.declared.place.IdFault.TheVariants as ids
+use Rattle.oc_updown.specs.declared.measure_fault.MeasureFault.{MeasureFault}
+use Rattle.oc_updown.specs.declared.measure_fault.MeasureFault.TheVariants as measures
 use Rattle.oc_config.specs.declared.fault.ConfigFault.{ConfigFault}
 use Rattle.oc_config.specs.declared.fault.ConfigFault.TheVariants.{Missing, Value, Repeat, Measure, Memory}
 use Rattle.oc_config.specs.declared.key.Key.{Key}

@@ -1,5 +1,5 @@
-use oc_measure::Measure;
 use oc_policy::Rule;
+use oc_updown::Measure;
 use std::marker::Model;
 
 /// What a configuration says. Contracts see it as the record `Settings` of lists.

@@ -1,10 +1,10 @@
 ghost use Rattle.std.specs.Prelude.{◌≡◌};
 ghost use Rattle.oc_config.specs.Values.{fault_of, fault_of_id};
 
+use crate::IdFault;
 use crate::key::Key;
 use oc_base::{Memory, Why};
-use oc_ids::IdFault;
-use oc_measure::MeasureFault;
+use oc_updown::MeasureFault;
 use std::alloc::{AllocError, AllocFailed};
 use std::error::Error;
 use std::fmt;

@@ -6,6 +6,10 @@
 //! with its faults in their order, `specs/Nodes` what the table of a node means and `specs/AccessRules`
 //! what that of a rule does. What is read is within the ranges (`IsConfig`).
 //! [`each_node_has_its_table`] says that each address and area is that of the table with the node's id.
+//!
+//! The ids of the nodes of a configuration: each has one place of its own, and no id is said twice.
+//!
+//! Of the faults that an id can have, a bad value comes before a repeat ([`free_place`]).
 #![tactic(auto)]
 
 mod address;
@@ -15,6 +19,7 @@ mod fault;
 mod key;
 mod law;
 mod nodes;
+mod place;
 mod reading;
 mod rules;
 mod values;
@@ -24,6 +29,7 @@ pub use fault::ConfigFault;
 pub use key::Key;
 pub use law::each_node_has_its_table;
 pub use oc_base::Why;
-pub use oc_measure::Measure;
 pub use oc_policy::{Action, Prefix, Rule};
+pub use oc_updown::Measure;
+pub use place::{IdFault, free_place};
 pub use reading::read;

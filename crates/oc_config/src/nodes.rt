@@ -8,10 +8,10 @@ ghost use Rattle.oc_config.specs.Nodes.{said_id, address_in, area_in, entry_in, 
 use crate::address::is_address;
 use crate::entry::Entry;
 use crate::fault::ConfigFault;
+use crate::free_place;
 use crate::key::Key;
 use crate::values::{required, value_at, whole};
 use oc_base::{MAX_AREA, MAX_NODES, Memory};
-use oc_ids::free_place;
 use std::alloc::Global;
 use toml::{Table, Value};
 

@@ -1,6 +1,6 @@
 ghost use Rattle.std.specs.Prelude.{◌≡◌, ◌≤◌, IfOk, OnOk, All, length, vec_len};
 ghost use Rattle.toml.specs.View.{table_view};
-ghost use Rattle.oc_measure.specs.MeasureLines.{IsMeasure};
+ghost use Rattle.oc_updown.specs.MeasureLines.{IsMeasure};
 ghost use Rattle.oc_config.specs.Values.{Gives, GivesBy, tables_at};
 ghost use Rattle.oc_config.specs.Reading.{IsConfig, settings_of, settings_in, with_tables, chain_in, node_tables_in, measures_in, document, chain_within, GivesTable};
 
@@ -11,7 +11,7 @@ use crate::nodes::{nodes, split};
 use crate::rules::rules;
 use crate::values::{required, tables, value_at, whole};
 use oc_base::{MAX_CHAIN, MAX_NODES};
-use oc_measure::{Measure, read_lines};
+use oc_updown::{Measure, read_lines};
 use std::alloc::Global;
 use toml::{Table, table_from_slice};
 

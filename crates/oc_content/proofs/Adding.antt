@@ -2,7 +2,7 @@
 use Rattle.std.proofs.Common.{◌≡◌, ℕ, zero, suc, ◌+◌, ◌<◌, ◌≤◌, Bool, true, false, IsTrue, List, [], ◌∷◌, ◌++◌, length, get_or, drop, insert, Option, Some, None, vec_capacity, refl, sym, ap, subst, ◌∙◌, arith}
 use Rattle.std.proofs.lemmas.List.{length-map, get_or_push, length_push}
 use Rattle.oc_base.specs.declared.shelf.Shelf.{Shelf}
-use Rattle.oc_entries.specs.declared.heading.Heading.{Heading}
+use Rattle.oc_content.specs.declared.heading.Heading.{Heading}
 use Rattle.oc_content.specs.declared.track.Span.{Span}
 use Rattle.oc_content.specs.declared.index.Index.{Index}
 use Rattle.oc_base.specs.declared.place.Place.{Place}
@@ -10,10 +10,10 @@ use Rattle.oc_base.specs.declared.place.Place.TheVariants.{Found, Free}
 use Rattle.oc_base.specs.declared.group.Group.{Group}
 use Rattle.oc_base.specs.Groups.{shelf, shelf_of, or_empty}
 use Rattle.oc_base.specs.Shelves.{line_of, IsLinePlace}
-use Rattle.oc_entries.specs.Entries.{Entry, entry_of}
+use Rattle.oc_content.specs.Entries.{Entry, entry_of}
 use Rattle.oc_content.specs.ContentFile.{fits, grown, with_entry, taken}
 use Rattle.oc_base.specs.declared.limits.TheConstants.{MAX_GROUPS, MAX_GROUP_BYTES}
-use Rattle.oc_entries.specs.Headings.{entry_at}
+use Rattle.oc_content.specs.Headings.{entry_at}
 use Rattle.oc_content.specs.Indexes.{IsTracked, AreTracked, paths, span_of, lines_with, line_with, paths_with, IsIndexOf, IsSized, IsWithin}
 use Rattle.oc_content.proofs.Lists.{length-changed, length_insert, all_places}
 use Rattle.oc_content.proofs.Lines.{length-shelf, stands_within, goes_within, stands_name, line_of-stands, line_of-goes, with_entry-stands, with_entry-goes, shelf-changed, shelf-insert, fresh}

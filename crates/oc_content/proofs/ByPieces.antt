@@ -12,7 +12,7 @@ use Rattle.oc_base.specs.Groups.{group_of, with_group, or_empty, group_or_empty,
 use Rattle.oc_base.specs.Shelves.{line_of}
 use Rattle.oc_base.specs.Names.{name_fault}
 use Rattle.oc_base.proofs.NameOrder.{names_equal, names_back, names_apart}
-use Rattle.oc_entries.specs.Entries.{Entry, entry_of, fields, named}
+use Rattle.oc_content.specs.Entries.{Entry, entry_of, fields, named}
 use Rattle.oc_content.specs.ContentFile.{fits, grown, with_entry, taken, more, content_of, groups_in, bytes_in}
 use Rattle.oc_content.specs.GroupPieces.{is_entry_for, is_for, entry_piece, piece_for, pieces_for, begins_with_zero, seals_for, sealed_in}
 use Rattle.oc_content.proofs.Others.{found_other}

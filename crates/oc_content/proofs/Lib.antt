@@ -13,3 +13,5 @@ pub mod LoadErrors
 pub mod Locating
 pub mod Across
 pub mod ByPieces
+pub mod Changes
+pub mod Spelling

@@ -6,10 +6,10 @@ use Rattle.oc_base.specs.declared.group.Group.{Group}
 use Rattle.oc_base.specs.Named.{same_name}
 use Rattle.oc_base.specs.Groups.{group_of, with_group, or_empty, shelf, shelf_of}
 use Rattle.oc_base.specs.Shelves.{line_of, AreLinesAbove, IsLineAt, IsFreeLineAt}
-use Rattle.oc_entries.specs.Entries.{Entry}
+use Rattle.oc_content.specs.Entries.{Entry}
 use Rattle.oc_content.specs.ContentFile.{grown, with_entry}
-use Rattle.oc_entries.specs.declared.heading.Heading.{Heading}
-use Rattle.oc_entries.specs.Headings.{entry_at}
+use Rattle.oc_content.specs.declared.heading.Heading.{Heading}
+use Rattle.oc_content.specs.Headings.{entry_at}
 use Rattle.oc_content.specs.Indexes.{changed, line_with}
 use Rattle.std.proofs.lemmas.Cmp.{nat_list_cmp_total, tied_itself}
 use Rattle.std.proofs.lemmas.List.{length-append}

@@ -7,7 +7,7 @@ use Rattle.oc_journal.specs.Promises.{OnlyReads}
 use Rattle.oc_content.specs.declared.index.Index.{Index}
 use Rattle.oc_content.specs.declared.track.Span.{Span}
 use Rattle.oc_base.specs.declared.group.Group.{Group}
-use Rattle.oc_entries.specs.Entries.{entry_of}
+use Rattle.oc_content.specs.Entries.{entry_of}
 use Rattle.oc_content.specs.ContentFile.{taken, content_of, IsFirstBad}
 use Rattle.oc_base.specs.declared.limits.TheConstants.{MAX_GROUPS}
 use Rattle.oc_content.specs.Indexes.{IsIndexOf, IsSized, AreTracked, paths}

@@ -10,7 +10,7 @@ use Rattle.oc_base.specs.Groups.{group_of, with_group, shelf, shelf_of}
 use Rattle.oc_base.specs.Shelves.{line_of, AreLines, AreLinesAbove, AreLinesAscending}
 use Rattle.oc_base.specs.Names.{IsGroupName, name_fault}
 use Rattle.oc_base.specs.declared.group_name.NameFault.{NameFault}
-use Rattle.oc_entries.specs.Entries.{Entry, entry_of, fields, named}
+use Rattle.oc_content.specs.Entries.{Entry, entry_of, fields, named}
 use Rattle.oc_content.specs.ContentFile.{fits, grown, with_entry, taken, more, content_of}
 use Rattle.oc_base.specs.declared.limits.TheConstants.{MAX_GROUPS, MAX_GROUP_BYTES}
 use Rattle.oc_content.proofs.Lists.{all_weaker}

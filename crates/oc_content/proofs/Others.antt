@@ -4,7 +4,7 @@ use Rattle.std.specs.Cmp.Lexicographic.{slice_cmp}
 use Rattle.oc_base.specs.declared.group.Group.{Group}
 use Rattle.oc_base.specs.Named.{same_name}
 use Rattle.oc_base.specs.Groups.{group_of, with_group, group_or_empty}
-use Rattle.oc_entries.specs.Entries.{Entry}
+use Rattle.oc_content.specs.Entries.{Entry}
 use Rattle.oc_content.specs.ContentFile.{grown, with_entry}
 use Rattle.oc_base.proofs.NameOrder.{names_equal, names_tied}
 

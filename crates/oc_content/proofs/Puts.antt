@@ -11,8 +11,8 @@ use Rattle.oc_content.specs.ContentFile.{fits}
 use Rattle.oc_base.specs.declared.limits.TheConstants.{MAX_GROUP_BYTES, MAX_GROUPS}
 use Rattle.oc_content.specs.Putting.{standing, standing_in, fault_of, put_entry}
 use Rattle.oc_base.specs.Named.{IsThere, is_free}
-use Rattle.oc_entries.specs.declared.putting.Standing.{Standing}
-use Rattle.oc_entries.specs.Entries.{Entry}
+use Rattle.oc_content.specs.declared.entry_putting.Standing.{Standing}
+use Rattle.oc_content.specs.Entries.{Entry}
 use Rattle.oc_content.specs.ContentView.{PieceView, IsReady}
 use Rattle.oc_content.specs.Indexes.{IsWithin, HasTrackRoom}
 use Rattle.oc_content.proofs.Lines.{stands_within, goes_within, line_of-stands, line_of-goes}

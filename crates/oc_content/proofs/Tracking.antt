@@ -3,12 +3,12 @@ use Rattle.std.proofs.Common.{◌≡◌, ℕ, zero, suc, ◌+◌, ◌<◌, Bool,
 use Rattle.std.proofs.lemmas.List.{length-append, get_or_append_left, nil_from_length, append-nil}
 use Rattle.std.proofs.lemmas.List.Concat.{flat_map-append}
 use Rattle.std.proofs.lemmas.Bool.{ltb-true, lt-ltb}
-use Rattle.oc_entries.specs.declared.heading.Heading.{Heading}
+use Rattle.oc_content.specs.declared.heading.Heading.{Heading}
 use Rattle.oc_content.specs.declared.track.Span.{Span}
 use Rattle.oc_base.specs.declared.group.Group.{Group}
-use Rattle.oc_entries.specs.Entries.{entry_of}
+use Rattle.oc_content.specs.Entries.{entry_of}
 use Rattle.oc_content.specs.ContentFile.{grown}
-use Rattle.oc_entries.specs.Headings.{entry_at}
+use Rattle.oc_content.specs.Headings.{entry_at}
 use Rattle.oc_content.specs.Indexes.{changed, bytes_at, IsSpan, AreSpans, IsTracked, AreTracked, span_of}
 
 -- the bytes of a span stay when a frame is added

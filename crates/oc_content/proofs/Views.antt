@@ -16,7 +16,7 @@ use Rattle.oc_content.specs.declared.spot.Spot.{Spot}
 use Rattle.oc_base.specs.Shelves.{IsLineAt, line_of, held_of, IsHeldAt, IsShelf}
 use Rattle.oc_base.specs.declared.group.Group.{Group}
 use Rattle.oc_base.specs.Groups.{group_of, shelf, shelf_of, bytes_of, or_empty}
-use Rattle.oc_entries.specs.Entries.{Entry, entry_of}
+use Rattle.oc_content.specs.Entries.{Entry, entry_of}
 use Rattle.oc_content.specs.ContentFile.{fits, taken, content_of, groups_in, bytes_in, with_entry, IsShelved, IsSameElsewhere, groups_after}
 use Rattle.oc_content.specs.Indexes.{IsIndexOf, IsSized, AreTracked, KeepsTracks, paths, helds, bytes_at, IsTracked}
 use Rattle.oc_content.specs.Founds.{IsRest, BeginsWithin, IsSpot}

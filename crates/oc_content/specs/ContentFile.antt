@@ -6,7 +6,7 @@ use Rattle.oc_base.specs.Stops.{is_kept_new}
 use Rattle.oc_base.specs.declared.group.Group.{Group}
 use Rattle.oc_base.specs.Groups.{group_of, group_or_empty, with_group, shelf, bytes_of}
 use Rattle.oc_base.specs.Shelves.{line_of}
-use Rattle.oc_entries.specs.Entries.{Entry, entry_of}
+use Rattle.oc_content.specs.Entries.{Entry, entry_of}
 use Rattle.oc_base.specs.declared.limits.TheConstants.{MAX_GROUPS, MAX_GROUP_BYTES}
 
 -- Whether an entry with this start, `count` bytes and perhaps a seal may follow what is held. It begins where its group ends, which is

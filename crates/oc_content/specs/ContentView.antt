@@ -10,7 +10,7 @@ use Rattle.oc_base.specs.declared.place.Place.{Place}
 use Rattle.oc_content.specs.declared.index.Index.{Index}
 use Rattle.oc_base.specs.declared.group.Group.{Group}
 use Rattle.oc_base.specs.Shelves.{line_of, IsLinePlace}
-use Rattle.oc_entries.specs.Entries.{Entry}
+use Rattle.oc_content.specs.Entries.{Entry}
 use Rattle.oc_content.specs.ContentFile.{fits, IsShelved, IsFirstBad}
 use Rattle.oc_base.specs.Named.{is_free}
 use Rattle.oc_content.specs.Indexes.{IsIndexOf, HasTrackRoom, rooms, memory_of}

@@ -4,7 +4,7 @@ use Rattle.oc_content.specs.declared.track.Span.{Span}
 use Rattle.oc_content.specs.declared.track.Found.{Found}
 use Rattle.oc_content.specs.declared.spot.Spot.{Spot}
 use Rattle.oc_base.specs.declared.group.Group.{Group}
-use Rattle.oc_entries.specs.Entries.{Entry, entry_of}
+use Rattle.oc_content.specs.Entries.{Entry, entry_of}
 use Rattle.oc_content.specs.Indexes.{bytes_at, IsSpan}
 
 -- the byte is at that place of the span, and the rest from it on is in this span and those after it

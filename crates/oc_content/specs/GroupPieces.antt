@@ -4,7 +4,7 @@ use Rattle.std.specs.List.{flat_map}
 use Rattle.oc_base.specs.Named.{same_name}
 use Rattle.oc_base.specs.Groups.{group_or_empty}
 use Rattle.oc_content.specs.ContentFile.{groups_in}
-use Rattle.oc_entries.specs.Entries.{Entry, entry_of}
+use Rattle.oc_content.specs.Entries.{Entry, entry_of}
 
 -- whether an entry is one of this group
 abbrev pub is_entry_for : List ℕ → Option Entry → Bool

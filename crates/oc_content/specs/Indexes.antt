@@ -3,8 +3,8 @@ use Rattle.std.specs.Prelude.{◌≡◌, ℕ, ◌+◌, ◌-◌, ◌<◌, ◌≤�
 use Rattle.oc_base.specs.declared.shelf.Shelf.{Shelf}
 use Rattle.oc_base.specs.declared.place.Place.{Place}
 use Rattle.oc_base.specs.declared.place.Place.TheVariants.{Found, Free}
-use Rattle.oc_entries.specs.declared.heading.Heading.{Heading}
-pub use Rattle.oc_entries.specs.Lines.{changed, line_with}
+use Rattle.oc_content.specs.declared.heading.Heading.{Heading}
+pub use Rattle.oc_content.specs.Lines.{changed, line_with}
 use Rattle.oc_content.specs.declared.track.Span.{Span}
 use Rattle.oc_content.specs.declared.track.Track.{Track}
 use Rattle.oc_content.specs.declared.index.Index.{Index}
@@ -12,7 +12,7 @@ use Rattle.oc_content.specs.Tracks.{room_of}
 use Rattle.oc_base.specs.declared.group.Group.{Group}
 use Rattle.oc_base.specs.Groups.{shelf}
 use Rattle.oc_base.specs.Shelves.{AreLinesAscending}
-use Rattle.oc_entries.specs.Entries.{entry_of}
+use Rattle.oc_content.specs.Entries.{entry_of}
 use Rattle.oc_content.specs.ContentFile.{content_of}
 use Rattle.oc_base.specs.declared.limits.TheConstants.{MAX_GROUPS, MAX_GROUP_BYTES}
 

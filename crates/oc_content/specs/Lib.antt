@@ -1,5 +1,4 @@
 pub mod Errors
-pub use Rattle.oc_entries.specs.Entries
 pub mod GroupPieces
 pub mod ContentFile
 pub mod Putting
@@ -9,3 +8,7 @@ pub mod Indexes
 pub mod Founds
 pub mod ContentView
 pub mod Promises
+pub mod Entries
+pub mod Headings
+pub mod Lines
+pub mod Standings

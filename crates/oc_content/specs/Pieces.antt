@@ -1,9 +1,9 @@
 -- What a piece keeps.
 use Rattle.std.specs.Prelude.{◌≡◌, ℕ, Some, List, [], length}
-use Rattle.oc_entries.specs.declared.heading.Heading.{Heading}
+use Rattle.oc_content.specs.declared.heading.Heading.{Heading}
 use Rattle.oc_content.specs.declared.track.Track.{Track}
-use Rattle.oc_entries.specs.Entries.{entry_of}
-use Rattle.oc_entries.specs.Headings.{entry_at}
+use Rattle.oc_content.specs.Entries.{entry_of}
+use Rattle.oc_content.specs.Headings.{entry_at}
 
 -- the body says what the heading and the `count` bytes after it say; and the track is one of no spans
 pub record IsPiece (body : List ℕ) (h : Heading) (count : ℕ) (track : Track) : Type 0 where

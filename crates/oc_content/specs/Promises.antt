@@ -7,7 +7,7 @@ use Rattle.oc_content.specs.declared.errors.ContentError.{ContentError}
 use Rattle.oc_content.specs.declared.errors.ContentError.TheVariants.{Disk, NotJournal, BadFrame, Memory}
 use Rattle.oc_content.specs.ContentFile.{content_of, groups_in, with_entry, IsBadAt, IsShelved, IsSameElsewhere}
 use Rattle.oc_content.specs.ContentView.{ContentView, PieceView, IsPrepared}
-use Rattle.oc_entries.specs.Entries.{written}
+use Rattle.oc_content.specs.Entries.{written}
 use Rattle.oc_content.specs.Indexes.{rooms_with}
 use Rattle.oc_content.specs.Putting.{standing_in, put_entry}
 

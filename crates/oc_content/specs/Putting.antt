@@ -3,11 +3,11 @@ use Rattle.std.specs.Prelude.{ℕ, ◌+◌, ◌-◌, Bool, ◌&&◌, not, nat_lt
 use Rattle.oc_base.specs.declared.shelf.Shelf.{Shelf}
 use Rattle.oc_content.specs.declared.errors.PutError.{PutError}
 use Rattle.oc_content.specs.declared.errors.PutError.TheVariants.{Gap, Sealed, TooManyGroups, TooLong}
-use Rattle.oc_entries.specs.declared.putting.Standing.{Standing}
-pub use Rattle.oc_entries.specs.Standings.{standing}
+use Rattle.oc_content.specs.declared.entry_putting.Standing.{Standing}
+pub use Rattle.oc_content.specs.Standings.{standing}
 use Rattle.oc_base.specs.Shelves.{line_of}
 use Rattle.oc_base.specs.declared.limits.TheConstants.{MAX_GROUP_BYTES}
-use Rattle.oc_entries.specs.Entries.{Entry}
+use Rattle.oc_content.specs.Entries.{Entry}
 
 -- the standing of the group of this name among these lines
 abbrev pub standing_in : List Shelf → List ℕ → Standing

@@ -3,7 +3,7 @@
 ghost use Rattle.std.specs.Prelude.{◌≡◌, ℕ, ◌+◌, ◌-◌, ◌^◌, ◌<◌, ◌≤◌, Bool, [], ◌∷◌, ◌++◌, List, length, vec_capacity, None, Some, true, MatchBool, IsTrue, IfOk, IfSome, MatchOption, OnOk, All, insert, get_or, ◌||◌};
 ghost use Rattle.oc_base.specs.declared.group.Group.{Group};
 ghost use Rattle.oc_base.specs.Shelves.{line_of, held_of, IsHeldAt, AreLinesAscending, IsLinePlace};
-ghost use Rattle.oc_entries.specs.Entries.{entry_of};
+ghost use Rattle.oc_content.specs.Entries.{entry_of};
 ghost use Rattle.oc_content.specs.ContentFile.{fits, taken, with_entry};
 ghost use Rattle.oc_base.specs.declared.limits.TheConstants.{MAX_GROUPS, MAX_GROUP_BYTES};
 ghost use Rattle.oc_content.specs.Tracks.{room_of};
@@ -13,8 +13,8 @@ ghost use Rattle.oc_content.specs.Founds.{IsRest, IsSpot};
 use crate::piece::Piece;
 use crate::spot::Spot;
 use crate::track::{Span, Track, find_byte};
+use crate::{Heading, grow_at};
 use oc_base::{GroupName, MAX_GROUP_BYTES, MAX_GROUPS, Place, Shelf, place_of};
-use oc_entries::{Heading, grow_at};
 use std::alloc::{AllocError, Global};
 
 /// The lines of the groups, ascending by name, and their tracks in the same order.

@@ -4,7 +4,7 @@ ghost use Rattle.std.specs.Prelude.{◌≡◌, ◌↔◌, ℕ, ◌^◌, ◌<◌,
 ghost use Rattle.oc_base.specs.Groups.{group_of};
 ghost use Rattle.oc_base.specs.Names.{IsGroupName};
 ghost use Rattle.oc_content.specs.ContentFile.{content_of, groups_in, bytes_in};
-ghost use Rattle.oc_entries.specs.Entries.{Entry, entry_of, written};
+ghost use Rattle.oc_content.specs.Entries.{Entry, entry_of, written};
 ghost use Rattle.oc_content.specs.GroupPieces.{is_for, pieces_for, seals_for, sealed_in};
 
 /// If all frames are good, the bytes of a group are the pieces for it one after the other, the group is

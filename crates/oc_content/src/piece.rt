@@ -1,12 +1,12 @@
 ghost use Rattle.std.specs.Prelude.{◌≡◌, ◌^◌, ◌<◌, ◌≤◌, ◌++◌, [], Some, length, IfOk};
 ghost use Rattle.oc_base.specs.Names.{IsGroupName};
-ghost use Rattle.oc_entries.specs.Entries.{entry_of, heading as heading_of};
+ghost use Rattle.oc_content.specs.Entries.{entry_of, heading as heading_of};
 ghost use Rattle.oc_content.specs.Tracks.{room_of};
 ghost use Rattle.oc_content.specs.ContentView.{adds};
 
+use crate::Heading;
 use crate::track::Track;
 use oc_base::{MAX_PUBLISH_BYTES, Place};
-use oc_entries::Heading;
 use oc_journal::{Frame, FrameFault};
 use std::alloc::{AllocError, Global};
 use std::marker::Model;
@@ -25,7 +25,7 @@ pub struct Piece {
 impl Model for Piece {
     ghost use Rattle.std.specs.Prelude.{◌≡◌, length};
     ghost use Rattle.oc_content.specs.ContentView.{PieceView};
-    ghost use Rattle.oc_entries.specs.Headings.{entry_at};
+    ghost use Rattle.oc_content.specs.Headings.{entry_at};
     ghost use Rattle.oc_content.specs.Tracks.{room_of};
     ghost use Rattle.oc_content.specs.Pieces.{IsPiece};
 

@@ -2,7 +2,7 @@
 
 ghost use Rattle.std.specs.Prelude.{◌≡◌, ◌≢◌, ◌+◌, ◌-◌, ◌^◌, ◌<◌, ◌≤◌, ℕ, None, Some, List, IfOk, IfErr, OnOk, length, drop, vec_capacity, not, nat_le, ◌&&◌};
 ghost use Rattle.oc_base.specs.Names.{IsGroupName};
-ghost use Rattle.oc_entries.specs.Entries.{written, heading};
+ghost use Rattle.oc_content.specs.Entries.{written, heading};
 ghost use Rattle.oc_base.specs.declared.limits.TheConstants.{MAX_GROUP_BYTES};
 ghost use Rattle.oc_base.specs.Shelves.{IsLinePlace};
 ghost use Rattle.oc_base.specs.Named.{IsThere};
@@ -14,8 +14,8 @@ ghost use Rattle.oc_journal.specs.Promises.{OnlyReads, NoneFailed, HasRoom};
 use crate::errors::PutError;
 use crate::index::Index;
 use crate::piece::Piece;
+use crate::{Heading, Standing, past};
 use oc_base::{GroupName, MAX_GROUP_BYTES, MAX_GROUPS, MAX_PUBLISH_BYTES, Place, Shelf, place_of};
-use oc_entries::{Heading, Standing, past};
 use oc_io::Disk;
 use oc_journal::Journal;
 use std::alloc::{AllocError, Global};

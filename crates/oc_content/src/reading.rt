@@ -11,9 +11,9 @@ ghost use Rattle.oc_content.specs.Founds.{BeginsWithin};
 
 use crate::errors::ReadError;
 use crate::index::Index;
+use crate::is_full;
 use crate::track::Span;
 use oc_base::{GroupName, Place, place_of};
-use oc_entries::is_full;
 use oc_io::Disk;
 use oc_journal::{Journal, PeekError};
 

@@ -10,8 +10,8 @@ use Rattle.oc_fetch.specs.declared.extent.Extent.TheVariants.{Chunked}
 use Rattle.oc_fetch.specs.declared.extent.TheConstants.{MAX_OPEN_BYTES}
 use Rattle.oc_fetch.proofs.Moving.{Then, front_whole, front_behind, unseen}
 use Rattle.oc_io.specs.Faults.{NoFall}
-use Rattle.oc_stream.specs.Stages.{Stage, in_size, in_chunk, in_closing, ended, refused, is_ended, wanted_at}
-use Rattle.oc_stream.specs.Taken.{IsTaken}
+use Rattle.oc_chunked.specs.Stages.{Stage, in_size, in_chunk, in_closing, ended, refused, is_ended, wanted_at}
+use Rattle.oc_chunked.specs.Taken.{IsTaken}
 
 -- What is wanted
 

@@ -9,7 +9,7 @@ use Rattle.oc_fetch.specs.Wishes.{whole, dialled_at}
 use Rattle.oc_fetch.specs.declared.end.GetEnd.{GetEnd}
 use Rattle.oc_fetch.specs.declared.place.Place.{Place}
 use Rattle.oc_fetch.proofs.Completing.{AreFronts}
-use Rattle.oc_outside.specs.Story.{Dial}
+use Rattle.oc_link.specs.Story.{Dial}
 
 -- the turn made a connection
 pub record Dials (turn : Turn) : Type 0 where

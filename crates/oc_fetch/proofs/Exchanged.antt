@@ -8,10 +8,10 @@ use Rattle.oc_fetch.specs.declared.end.GetEnd.{GetEnd}
 use Rattle.oc_fetch.specs.declared.end.GetEnd.TheVariants as ends
 use Rattle.oc_fetch.specs.declared.place.Place.{Place}
 use Rattle.oc_fetch.proofs.Spoken.{told_so, heard, heard_speaks, broken_speaks}
-use Rattle.oc_outside.specs.Exchange.{Hears, HearsThenBreaks}
-use Rattle.oc_outside.specs.LinkCalls.{Told, IfTold, OnOutgoing}
-use Rattle.oc_outside.specs.LinkLoan.{LoanView, Dials, Told-same, Told-then}
-use Rattle.oc_outside.specs.Story.{Story, IsHeardOut}
+use Rattle.oc_link.specs.Exchange.{Hears, HearsThenBreaks}
+use Rattle.oc_link.specs.LinkCalls.{Told, IfTold, OnOutgoing}
+use Rattle.oc_link.specs.LinkLoan.{LoanView, Dials, Told-same, Told-then}
+use Rattle.oc_link.specs.Story.{Story, IsHeardOut}
 
 -- What a loan of the outgoing connection says of the link
 

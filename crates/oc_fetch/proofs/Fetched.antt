@@ -18,9 +18,9 @@ use Rattle.oc_fetch.proofs.Completing.{unrefused}
 use Rattle.oc_fetch.proofs.Dialling.{all_dial, fronts_made}
 use Rattle.oc_fetch.proofs.OneHead.{OneAnswer}
 use Rattle.oc_fetch.proofs.Spoken.{told_so}
-use Rattle.oc_outside.specs.LinkCalls.{Told}
-use Rattle.oc_outside.specs.LinkLoan.{Told-same}
-use Rattle.oc_outside.specs.Story.{Story, dials}
+use Rattle.oc_link.specs.LinkCalls.{Told}
+use Rattle.oc_link.specs.LinkLoan.{Told-same}
+use Rattle.oc_link.specs.Story.{Story, dials}
 use Rattle.url.specs.Parts.{Parts}
 
 -- no turn went by

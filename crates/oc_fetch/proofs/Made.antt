@@ -2,7 +2,7 @@
 use Rattle.std.proofs.Common.{◌≡◌, ℕ, Bool, Option, Some, None, List, [], ◌∷◌, ◌++◌, option_to_list, refl, sym, ap, ◌∙◌, subst}
 use Rattle.std.proofs.lemmas.List.{append-nil, append_assoc}
 use Rattle.oc_fetch.specs.Turns.{Turn, Talk, Talks, begun, went_on, ended_by, last_by, behind_turn, behind_turns, no_talks, IsTold, AreTold, Makes, Carries, ready_for, Speaks}
-use Rattle.oc_outside.specs.Story.{Dial, Story, dials, hung_up}
+use Rattle.oc_link.specs.Story.{Dial, Story, dials, hung_up}
 
 -- the connections so far, where the last one may go on
 pub record ShowsLast (talk : Talk) (ended : List Talk) (old new : Story) : Type 0 where

@@ -17,7 +17,7 @@ use Rattle.oc_fetch.proofs.OneHead.{OneAnswer, same_head, not_headless}
 use Rattle.oc_fetch.proofs.Spoken.{some_is}
 use Rattle.oc_http.specs.declared.reply.ReplyHead.{ReplyHead}
 use Rattle.std.proofs.lemmas.List.{append-nil}
-use Rattle.oc_outside.specs.Story.{Story}
+use Rattle.oc_link.specs.Story.{Story}
 use Rattle.url.specs.Parts.{Parts}
 
 not_both : (n : ℕ) → n ≡ 200 → n ≡ 302 → ⊥

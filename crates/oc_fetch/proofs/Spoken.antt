@@ -3,9 +3,9 @@ use Rattle.std.proofs.Common.{◌≡◌, ℕ, Bool, true, false, Option, Some, N
 use Rattle.std.proofs.lemmas.List.{append-nil}
 use Rattle.oc_fetch.specs.Turns.{Turn, Talk, begun, went_on, IsTold, Carries, ready_for, Speaks, SpeaksLast, asking, IsCutAddress, IsCut}
 use Rattle.oc_fetch.proofs.Moving.{front_whole, unseen}
-use Rattle.oc_outside.specs.Exchange.{Gives, Hears, Says, HearsThenBreaks, SaysThenBreaks, SaysFrontThenBreaks}
-use Rattle.oc_outside.specs.LinkCalls.{Told, OnOutgoing, connection_of, address_of, DialsTo, DialFails}
-use Rattle.oc_outside.specs.Story.{Connection, Dial, Story, dials, unused, wrote, broken, hung_up, IsHeardOut}
+use Rattle.oc_link.specs.Exchange.{Gives, Hears, Says, HearsThenBreaks, SaysThenBreaks, SaysFrontThenBreaks}
+use Rattle.oc_link.specs.LinkCalls.{Told, OnOutgoing, connection_of, address_of, DialsTo, DialFails}
+use Rattle.oc_link.specs.Story.{Connection, Dial, Story, dials, unused, wrote, broken, hung_up, IsHeardOut}
 
 -- what is told holds, where more follows from it
 pub told_so : (R Q : Story → Story → Type 0) → ((a b : Story) → R a b → Q a b) → (a b : Option Story) → Told R a b → Told Q a b

@@ -11,9 +11,9 @@ use Rattle.oc_fetch.specs.declared.place.Place.{Place}
 use Rattle.oc_fetch.proofs.Made.{Shows, IsReady, shows_then, shows_makes, behind_turns-push, last_behind}
 use Rattle.oc_fetch.proofs.Moving.{Then, sent_then}
 use Rattle.oc_fetch.proofs.Spoken.{told_so, some_is}
-use Rattle.oc_outside.specs.LinkCalls.{Told}
-use Rattle.oc_outside.specs.LinkLoan.{Told-same, Told-then}
-use Rattle.oc_outside.specs.Story.{Story, hung_up}
+use Rattle.oc_link.specs.LinkCalls.{Told}
+use Rattle.oc_link.specs.LinkLoan.{Told-same, Told-then}
+use Rattle.oc_link.specs.Story.{Story, hung_up}
 
 -- turns went by and led to this place
 pub record HasTalked {K : Type 0} (takes : K → List ℕ → K → Type 0) (wish : Wish) (first : Place) (old new : Option Story) (before after : K) (place : Place) : Type 0 where

@@ -3,9 +3,9 @@ use Rattle.std.specs.Prelude.{◌≡◌, ◌≢◌, ◌⊎◌, ℕ, Bool, true, 
 use Rattle.oc_fetch.specs.Passing.{Came}
 use Rattle.oc_fetch.specs.declared.end.GetEnd.{GetEnd}
 use Rattle.oc_fetch.specs.declared.end.GetEnd.TheVariants.{Reply, Link, Sink, Memory}
-use Rattle.oc_stream.specs.Stages.{Stage, refused}
-use Rattle.oc_stream.specs.Taken.{Takes}
-use Rattle.oc_stream.specs.declared.fault.ChunkFault.{ChunkFault}
+use Rattle.oc_chunked.specs.Stages.{Stage, refused}
+use Rattle.oc_chunked.specs.Taken.{Takes}
+use Rattle.oc_chunked.specs.declared.fault.ChunkFault.{ChunkFault}
 
 -- a piece came, and led from stage to stage with this content
 pub record TakesPiece {S : Type 0} (gives : S → List ℕ → S → Type 0) (old new : S) (before after : Stage) (content : List ℕ) : Type 0 where

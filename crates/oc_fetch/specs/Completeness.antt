@@ -10,7 +10,7 @@ use Rattle.oc_fetch.specs.declared.extent.Extent.{Extent}
 use Rattle.oc_fetch.specs.declared.extent.Extent.TheVariants.{Counted, Chunked, ToTheEnd}
 use Rattle.oc_fetch.specs.declared.extent.TheConstants.{MAX_OPEN_BYTES}
 use Rattle.oc_fetch.specs.declared.place.Place.{Place}
-use Rattle.oc_outside.specs.Story.{Dial, Story, dials}
+use Rattle.oc_link.specs.Story.{Dial, Story, dials}
 use Rattle.url.specs.Parts.{Parts}
 
 -- all bytes that a dial gave or would have given

@@ -5,8 +5,8 @@ use Rattle.oc_fetch.specs.declared.end.GetEnd.{GetEnd}
 use Rattle.oc_fetch.specs.declared.end.GetEnd.TheVariants.{Reply, Link, Sink, Memory}
 use Rattle.oc_fetch.specs.declared.extent.Extent.{Extent}
 use Rattle.oc_fetch.specs.Turns.{Turn, Makes, MakesOnceHung, Speaks, MaySpeakLast}
-use Rattle.oc_outside.specs.LinkCalls.{IsFront, Told}
-use Rattle.oc_outside.specs.Story.{Story}
+use Rattle.oc_link.specs.LinkCalls.{IsFront, Told}
+use Rattle.oc_link.specs.Story.{Story}
 
 -- from the old source to the new one these bytes came, and with the end `Link` a call then failed
 abbrev pub Came : {S : Type 0} → (S → List ℕ → S → Type 0) → (S → List ℕ → S → Type 0) → S → List ℕ → S → GetEnd → Type 0

@@ -7,9 +7,9 @@ use Rattle.oc_http.specs.Taking.{SaysReplyHead, RefusesReplyHead}
 use Rattle.oc_http.specs.declared.fault.HttpFault.{HttpFault}
 use Rattle.oc_http.specs.declared.fault.HttpFault.TheVariants.{Source, Memory}
 use Rattle.oc_http.specs.declared.reply.ReplyHead.{ReplyHead}
-use Rattle.oc_stream.specs.Stages.{Stage, ended, refused, is_final}
-use Rattle.oc_stream.specs.Taken.{IsTaken}
-use Rattle.oc_stream.specs.declared.fault.ChunkFault.{ChunkFault}
+use Rattle.oc_chunked.specs.Stages.{Stage, ended, refused, is_final}
+use Rattle.oc_chunked.specs.Taken.{IsTaken}
+use Rattle.oc_chunked.specs.declared.fault.ChunkFault.{ChunkFault}
 
 -- a reply is a head that says this, and these bytes after it
 pub record Says (reply : List ℕ) (head : ReplyHead) (behind : List ℕ) : Type 0 where

@@ -1,7 +1,7 @@
 -- What goes between a client and the servers: requests, and what was read after each.
 use Rattle.std.specs.Prelude.{◌≡◌, ℕ, Bool, true, false, Option, Some, None, option_map, option_to_list, List, [], ◌∷◌, ◌++◌, ⊤}
-use Rattle.oc_outside.specs.LinkCalls.{IsFront}
-use Rattle.oc_outside.specs.Story.{Dial, Story, dials, hung_up}
+use Rattle.oc_link.specs.LinkCalls.{IsFront}
+use Rattle.oc_link.specs.Story.{Dial, Story, dials, hung_up}
 
 -- a request and what was read after it
 pub record Turn : Type 0 where

@@ -6,7 +6,7 @@ ghost use Rattle.oc_fetch.specs.declared.address.UrlFault.TheVariants.{Bad};
 ghost use Rattle.url.specs.Parser.{Gives, Parsed};
 ghost use Rattle.url.specs.Parts.{Parts, has_credentials};
 
-use oc_client::is_http;
+use crate::is_http;
 use std::alloc::Global;
 use std::str;
 use url::{ParseError, ParseResult, Url};
@@ -63,5 +63,5 @@ fn can_be_asked(url: &Url) -> bool
 fn has_credentials(url: &Url) -> bool
     ensures { result ≡ has_credentials url.now }
 {
-    oc_client::has_credentials(url.username(), url.password().is_some())
+    crate::has_credentials(url.username(), url.password().is_some())
 }

@@ -4,11 +4,11 @@ ghost use Rattle.std.specs.Prelude.{◌≡◌, None, Some, IfErr, OnOk, IsErrOf}
 ghost use Rattle.oc_fetch.specs.Turns.{Turn, Speaks, SpeaksLast, asking, IsCut};
 ghost use Rattle.oc_fetch.specs.Wishes.{dialled_at};
 ghost use Rattle.oc_io.specs.Faults.{Rose};
-ghost use Rattle.oc_outside.specs.LinkCalls.{Told, CountsDialling};
+ghost use Rattle.oc_link.specs.LinkCalls.{Told, CountsDialling};
 
 use crate::end::GetEnd;
 use crate::place::Place;
-use oc_outside::Link;
+use oc_link::Link;
 
 /// Writes a request where it belongs.
 pub(crate) fn ask<L: Link>(place: &Place, request: &[u8], link: &mut L) -> Result<(), GetEnd>

@@ -5,13 +5,13 @@ ghost use Rattle.oc_fetch.specs.Chunks.{EndsWritten, IsPut, StopsPiece, TakesPie
 ghost use Rattle.oc_fetch.specs.Passing.{IsPassed, StopsPassing};
 ghost use Rattle.oc_fetch.specs.declared.extent.Extent.TheVariants.{Chunked as ChunkedExtent};
 ghost use Rattle.oc_io.specs.Faults.{NoFall, Rose};
-ghost use Rattle.oc_stream.specs.Stages.{wanted_at};
+ghost use Rattle.oc_chunked.specs.Stages.{wanted_at};
 
 use crate::end::GetEnd;
 use crate::extent::MAX_OPEN_BYTES;
 use crate::room::PIECE_BYTES;
+use oc_chunked::{ChunkFault, Unchunker};
 use oc_io::{Sink, Source, write_all};
-use oc_stream::{ChunkFault, Unchunker};
 use std::alloc::Global;
 
 /// Passes a chunked content on from a source to a sink, at most `MAX_OPEN_BYTES`. Nothing that follows the

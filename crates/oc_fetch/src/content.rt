@@ -8,8 +8,8 @@ ghost use Rattle.oc_io.specs.Faults.{NoFall, Rose};
 use crate::chunks::pass_chunked;
 use crate::end::GetEnd;
 use crate::extent::{Extent, MAX_OPEN_BYTES};
+use crate::left_after;
 use crate::room::Room;
-use oc_client::left_after;
 use oc_io::{Sink, Source, write_all};
 use std::alloc::Global;
 

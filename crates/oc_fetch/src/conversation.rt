@@ -5,7 +5,7 @@ ghost use Rattle.oc_fetch.specs.Conversations.{Converses};
 ghost use Rattle.oc_fetch.specs.Passing.{IsTalked, IsTalkedThrough};
 ghost use Rattle.oc_fetch.specs.Wishes.{wish_of};
 ghost use Rattle.oc_io.specs.Faults.{NoFall, Rose};
-ghost use Rattle.oc_outside.specs.LinkCalls.{CountsDialling};
+ghost use Rattle.oc_link.specs.LinkCalls.{CountsDialling};
 
 use crate::end::GetEnd;
 use crate::exchange::exchange;
@@ -13,7 +13,7 @@ use crate::place::Place;
 use crate::room::Room;
 use crate::wish::Wish;
 use oc_io::Sink;
-use oc_outside::Link;
+use oc_link::Link;
 use std::alloc::Global;
 
 /// Talks with servers, from a place on, until no more replies are wanted. The connection is ended.

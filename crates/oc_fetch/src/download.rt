@@ -10,7 +10,7 @@ ghost use Rattle.oc_fetch.specs.Passing.{IsTalked};
 ghost use Rattle.oc_fetch.specs.Redirections.{StopsAtThird};
 ghost use Rattle.oc_fetch.specs.Wishes.{wish_of};
 ghost use Rattle.oc_io.specs.Faults.{NoFall, Rose};
-ghost use Rattle.oc_outside.specs.LinkCalls.{Told, CountsDialling};
+ghost use Rattle.oc_link.specs.LinkCalls.{Told, CountsDialling};
 ghost use Rattle.url.specs.Parts.{Parts};
 
 use crate::address::{UrlFault, read_address};
@@ -23,7 +23,7 @@ use crate::wish::Wish;
 use oc_base::Memory;
 use oc_http::a_response_head_has_one_answer;
 use oc_io::Sink;
-use oc_outside::Link;
+use oc_link::Link;
 use std::alloc::Global;
 use url::Url;
 

@@ -4,10 +4,10 @@ ghost use Rattle.std.specs.Prelude.{◌≡◌, ◌<◌, IfErr, OnOk, IsErrOf};
 ghost use Rattle.oc_fetch.specs.Conversations.{LeadsOn, EndsWith, GoesOn, EndsAt};
 ghost use Rattle.oc_fetch.specs.Passing.{IsHeard, IsLastHeard, IsExchanged, IsLastExchanged};
 ghost use Rattle.oc_fetch.specs.Wishes.{wish_of};
-ghost use Rattle.oc_outside.specs.Exchange.{Hears, HearsThenBreaks};
+ghost use Rattle.oc_link.specs.Exchange.{Hears, HearsThenBreaks};
 ghost use Rattle.oc_io.specs.Faults.{NoFall, Rose};
-ghost use Rattle.oc_outside.specs.LinkCalls.{Told, IfTold, OnOutgoing, CountsDialling};
-ghost use Rattle.oc_outside.specs.Story.{IsHeardOut};
+ghost use Rattle.oc_link.specs.LinkCalls.{Told, IfTold, OnOutgoing, CountsDialling};
+ghost use Rattle.oc_link.specs.Story.{IsHeardOut};
 
 use crate::asking::ask;
 use crate::end::GetEnd;
@@ -16,7 +16,7 @@ use crate::place::Place;
 use crate::room::Room;
 use crate::wish::{Wish, write_request};
 use oc_io::Sink;
-use oc_outside::{Link, Outgoing};
+use oc_link::{Link, Outgoing};
 use std::alloc::Global;
 
 /// Makes the request of a client at a place, passes on the content that comes, and goes to the place to

@@ -14,7 +14,7 @@ use crate::place::Place;
 use crate::redirection::redirect;
 use crate::room::Room;
 use crate::wish::Wish;
-use oc_client::{Meaning, meaning_of, start_after};
+use crate::{Meaning, meaning_of, start_after};
 use oc_http::ReplyHead;
 use oc_io::{Sink, Source};
 use std::alloc::Global;

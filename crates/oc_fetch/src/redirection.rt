@@ -8,9 +8,9 @@ ghost use Rattle.url.specs.Parts.{Parts};
 use crate::address::{UrlFault, read_location};
 use crate::end::GetEnd;
 use crate::place::Place;
+use crate::redirections_after;
 use crate::target::Target;
 use oc_base::Text;
-use oc_client::redirections_after;
 use std::alloc::Global;
 
 /// Goes to the place to which a reply of 302 with this Location sends the client.

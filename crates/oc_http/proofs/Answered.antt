@@ -2,10 +2,10 @@
 use Rattle.std.proofs.Common.{◌≡◌, ℕ, ◌≤◌, Bool, true, false, cond, List, [], ◌++◌, length, Option, Some, None, Result, Ok, Err, subst}
 use Rattle.std.specs.Prelude.{IfOk, IfErr, IsErrOf, ⊤, ◌&&◌, not, nat_lt, unwrap_or}
 use Rattle.oc_base.specs.declared.limits.TheConstants.{MAX_HEAD_BYTES, MAX_FIELDS, MAX_BODY_BYTES}
-use Rattle.oc_head.specs.Fields.{Named, named, is_present, is_unusable, length_of, hosts, codings, lengths}
+use Rattle.oc_http.specs.Fields.{Named, named, is_present, is_unusable, length_of, hosts, codings, lengths}
 use Rattle.oc_http.specs.Lengths.{fault_or}
 use Rattle.oc_http.specs.Gives.{Gives}
-use Rattle.oc_head.specs.Fields.{has_host_fault}
+use Rattle.oc_http.specs.Fields.{has_host_fault}
 use Rattle.oc_http.specs.Requests.{read_request, head_fault, verb_of, is_post}
 use Rattle.oc_http.specs.Responses.{read_reply_head, reply_head_fault, is_chunked}
 use Rattle.oc_http.specs.Taking.{Took, IsAnswered, StopsInHead, RefusesHead}

@@ -3,9 +3,9 @@ use Rattle.std.proofs.Common.{◌≡◌, ℕ, Bool, true, false, cond, List, [],
 use Rattle.std.specs.Prelude.{◌&&◌, not, nat_lt, unwrap_or}
 use Rattle.oc_base.specs.Steps.{◌>>=◌}
 use Rattle.oc_base.specs.declared.limits.TheConstants.{MAX_FIELDS, MAX_BODY_BYTES}
-use Rattle.oc_head.specs.Fields.{Named, is_present, is_unusable, length_of, hosts, codings, lengths}
+use Rattle.oc_http.specs.Fields.{Named, is_present, is_unusable, length_of, hosts, codings, lengths}
 use Rattle.oc_http.specs.Lengths.{fault_or, checked_length}
-use Rattle.oc_head.specs.Fields.{has_host_fault}
+use Rattle.oc_http.specs.Fields.{has_host_fault}
 use Rattle.oc_http.specs.Requests.{head_fault, is_post, wanted_length, body_length}
 use Rattle.oc_http.specs.declared.fault.HttpFault.{HttpFault}
 use Rattle.oc_http.specs.declared.fault.HttpFault.TheVariants.{Fields, Host, Coding, Length, BodyLong}

@@ -14,3 +14,4 @@ pub mod OneReply
 pub mod BodyLengths
 pub mod Wholes
 pub mod Parts
+pub mod Numbers

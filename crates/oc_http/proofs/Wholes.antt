@@ -3,7 +3,7 @@ use Rattle.std.proofs.Common.{◌≡◌, ℕ, Bool, true, false, cond, List, [],
 use Rattle.std.specs.Prelude.{IsErrOf, ◌&&◌, not, nat_lt, unwrap_or}
 use Rattle.httparse.specs.Grammar.{ResponseHead, ReadsResponse, status_code}
 use Rattle.oc_base.specs.declared.limits.TheConstants.{MAX_FIELDS, MAX_BODY_BYTES}
-use Rattle.oc_head.specs.Fields.{named, is_only, is_present, is_unusable, length_of, codings, lengths}
+use Rattle.oc_http.specs.Fields.{named, is_only, is_present, is_unusable, length_of, codings, lengths}
 use Rattle.oc_http.specs.Lengths.{fault_or}
 use Rattle.oc_http.specs.Responses.{reply_head_fault, whole_fault, reply_head_of, read_reply_head, read_reply_start}
 use Rattle.oc_http.specs.Taking.{Took, SaysReplyHead, RefusesReplyHead, SaysReplyStart, RefusesReplyStart}

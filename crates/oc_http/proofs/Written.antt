@@ -15,14 +15,14 @@ use Rattle.httparse.specs.Grammar.{RequestHead, IsRequestHead, print_request, Fi
 use Rattle.httparse.proofs.OnLiterals.{httparse_on_literals}
 use Rattle.oc_base.specs.declared.limits.TheConstants.{MAX_BODY_BYTES, MAX_HEAD_BYTES}
 use Rattle.oc_http.specs.Answers.{written_head, AnswersRequest, IsDecided}
-use Rattle.oc_head.specs.Fields.{Named, named, is_length}
+use Rattle.oc_http.specs.Fields.{Named, named, is_length}
 use Rattle.oc_http.specs.Requests.{read_request, read_request_parts}
 use Rattle.oc_http.specs.Taking.{SaysRequest}
 use Rattle.oc_http.specs.Writing.{IsHost, is_host_byte, line_end, type_line, request_head_text, request_text}
 use Rattle.oc_http.specs.declared.fault.HttpFault.{HttpFault}
 use Rattle.oc_http.specs.declared.head.Head.{Head}
 use Rattle.oc_http.proofs.Forms.{request_form}
-use Rattle.oc_head.proofs.Numbers.{numerals}
+use Rattle.oc_http.proofs.Numbers.{numerals}
 use Rattle.oc_http.proofs.OneAnswer.{one_answer}
 use Rattle.oc_http.proofs.Tests.{list_all-weaker, AllPass-from_test, IsToken-from_test, trim_ows-visible}
 

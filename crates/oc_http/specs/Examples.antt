@@ -1,7 +1,7 @@
 -- Worked examples of heads and texts.
 use Rattle.std.specs.Prelude.{◌≡◌, ℕ, true, false, Some, None, List, [], ◌∷◌, codes, replicate}
-use Rattle.oc_head.specs.Fields.{Named, closes, is_unusable, length_of}
-use Rattle.oc_head.specs.Targets.{path_of, query_of}
+use Rattle.oc_http.specs.Fields.{Named, closes, is_unusable, length_of}
+use Rattle.oc_http.specs.Targets.{path_of, query_of}
 use Rattle.oc_http.specs.Requests.{head_fault, expects}
 use Rattle.oc_http.specs.Responses.{reply_head_fault, reply_fault, is_chunked}
 use Rattle.oc_http.specs.Writing.{request_text, get_text, follow_text, probe_text, head_text, response_text}

@@ -1,6 +1,6 @@
 -- The length that the fields of a head give, or the first fault.
 use Rattle.std.specs.Prelude.{ℕ, false, if◌then◌else◌, Option, Some, None, Result, Ok, Err, List}
-use Rattle.oc_head.specs.Fields.{is_present, is_unusable, length_of}
+use Rattle.oc_http.specs.Fields.{is_present, is_unusable, length_of}
 use Rattle.oc_http.specs.declared.fault.HttpFault.{HttpFault}
 use Rattle.oc_http.specs.declared.fault.HttpFault.TheVariants.{Coding, Length}
 

@@ -9,3 +9,7 @@ pub mod Answers
 pub mod Reads
 pub mod Examples
 pub mod Parts
+pub mod Bytes
+pub mod Fields
+pub mod Found
+pub mod Targets

@@ -2,7 +2,7 @@
 use Rattle.std.specs.Prelude.{◌≡◌, ℕ, ◌≤◌, Bool, false, not, ◌&&◌, ◌==◌, nat_lt, if◌then◌else◌, Option, Some, None, unwrap_or, Result, List, length, codes}
 use Rattle.httparse.specs.Grammar.{ResponseHead, status_code}
 use Rattle.oc_base.specs.declared.limits.TheConstants.{MAX_FIELDS, MAX_BODY_BYTES}
-use Rattle.oc_head.specs.Fields.{Named, named, is_present, is_only, is_unusable, length_of, first_of, codings, lengths, locations, closes}
+use Rattle.oc_http.specs.Fields.{Named, named, is_present, is_only, is_unusable, length_of, first_of, codings, lengths, locations, closes}
 use Rattle.oc_http.specs.Lengths.{fault_or}
 use Rattle.oc_http.specs.declared.fault.HttpFault.{HttpFault}
 use Rattle.oc_http.specs.declared.fault.HttpFault.TheVariants as faults

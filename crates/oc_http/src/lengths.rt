@@ -1,11 +1,11 @@
 //! The length that the fields of a head give.
 
 ghost use Rattle.std.specs.Prelude.{◌≡◌};
-ghost use Rattle.oc_head.specs.Fields.{codings, lengths};
+ghost use Rattle.oc_http.specs.Fields.{codings, lengths};
 ghost use Rattle.oc_http.specs.Lengths.{told_length, checked_length};
 
 use crate::fault::HttpFault;
-use oc_head::{Fields, Found, length_of};
+use crate::{Fields, Found, length_of};
 
 /// The number of Content-Length, `None` where there is none. A transfer coding is refused first, then
 /// a length that is not just one number.

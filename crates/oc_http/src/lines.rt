@@ -5,8 +5,8 @@ ghost use Rattle.oc_io.specs.Faults.{NoFall, Rose};
 ghost use Rattle.oc_http.specs.Lines.{IsLineTaken, IsLineCut};
 
 use crate::fault::HttpFault;
+use crate::take_byte;
 use oc_base::MAX_HEAD_BYTES;
-use oc_head::take_byte;
 use oc_io::Source;
 
 /// Takes the rest of a line, with its end, and puts it after the bytes of the head so far. There is

@@ -2,18 +2,18 @@
 
 ghost use Rattle.std.specs.Prelude.{◌≡◌, [], IfOk};
 ghost use Rattle.httparse.specs.Grammar.{ReadsRequest, RequestHead};
-ghost use Rattle.oc_head.specs.Targets.{path_of, query_of};
+ghost use Rattle.oc_http.specs.Targets.{path_of, query_of};
 ghost use Rattle.oc_http.specs.Requests.{verb_of, is_post, wanted_length, body_length, expects, read_request, read_request_parts};
 ghost use Rattle.oc_http.specs.Lines.{IsRequestTaken};
 ghost use Rattle.oc_http.specs.Gives.{Gives};
 
+use crate::Fields;
 use crate::fault::HttpFault;
 use crate::head::{Head, Verb};
 use crate::lengths::checked_length;
 use crate::texts::copy;
 use httparse::spans::{HeaderSpan, RequestSpans};
 use oc_base::{MAX_BODY_BYTES, Memory, Text};
-use oc_head::Fields;
 use std::alloc::Global;
 
 /// What the head of a request says, or its first fault. The head is all of the bytes.
@@ -60,7 +60,7 @@ fn read_parts(
 fn path_and_query(alloc: Global, target: &[u8]) -> Result<(Text, Text), Memory>
     ensures { IfOk result (λ texts. (texts.0 ≡ path_of target.now) × (texts.1 ≡ query_of target.now)) }
 {
-    let (path, query) = oc_head::path_and_query(target);
+    let (path, query) = crate::path_and_query(target);
     let path = copy(alloc, path)?;
     Ok((path, copy(alloc, query)?))
 }

@@ -2,7 +2,7 @@
 
 ghost use Rattle.std.specs.Prelude.{◌≡◌, ◌&&◌, [], not, IfOk};
 ghost use Rattle.httparse.specs.Grammar.{ReadsResponse, ResponseHead};
-ghost use Rattle.oc_head.specs.Fields.{first_of, locations, length_of, lengths, is_present, codings};
+ghost use Rattle.oc_http.specs.Fields.{first_of, locations, length_of, lengths, is_present, codings};
 ghost use Rattle.oc_http.specs.Lengths.{fault_or};
 ghost use Rattle.oc_http.specs.Gives.{Gives};
 ghost use Rattle.oc_http.specs.Responses.{is_chunked, reply_head_fault, reply_head_of, read_reply_head, whole_fault, body_length};
@@ -12,9 +12,9 @@ use crate::fault::HttpFault;
 use crate::lengths::content_length;
 use crate::reply::ReplyHead;
 use crate::texts::copy;
+use crate::{Fields, Found};
 use httparse::spans::{HeaderSpan, ResponseSpans};
 use oc_base::{MAX_BODY_BYTES, Memory, Text};
-use oc_head::{Fields, Found};
 use std::alloc::Global;
 
 /// What the head of a response says, or its first fault, for a reader that understands chunks. The head

@@ -1,8 +1,8 @@
 -- What a crash leaves of a disk in memory is one of its images.
 use Rattle.std.proofs.Common.{◌≡◌, ◌⊎◌, inl, inr, ℕ, ◌+◌, ◌≤◌, List, [], ◌∷◌, ◌++◌, length, take, drop, refl, sym, ◌∙◌, ap, arith, length-append, Option, None, Some}
 use Rattle.std.proofs.lemmas.List.{take_at, drop_at, length-take-le, append_assoc, drop_all}
-use Rattle.oc_disk_log.specs.Calls.{Call, Wrote, Synced, undone, IsWritten, Fits, blotted, crashed}
-use Rattle.oc_disk_log.proofs.Blots.{length-blotted, take-blotted, drop-blotted, take-blotted_before, drop-blotted_behind, length-undone}
+use Rattle.oc_io.specs.Calls.{Call, Wrote, Synced, undone, IsWritten, Fits, blotted, crashed}
+use Rattle.oc_io.proofs.LogBlots.{length-blotted, take-blotted, drop-blotted, take-blotted_before, drop-blotted_behind, length-undone}
 use Rattle.oc_io.specs.DiskView.{IsTorn}
 use Rattle.oc_io.specs.DiskPast.{MayLeave}
 use Rattle.oc_io.specs.declared.failures.Stop.{Stop}

@@ -2,7 +2,7 @@
 use Rattle.std.proofs.Common.{◌≡◌, ◌⊎◌, inl, inr, ⊎_elim, ℕ, ◌+◌, ◌-◌, ◌≤◌, min, max, List, ◌∷◌, ◌++◌, length, take, drop, sym, ◌∙◌, ap, subst, arith, length-append, length-take, length-drop, append_assoc, take-append-drop}
 use Rattle.std.proofs.lemmas.List.{take_at, drop_at, drop-drop, length-take-le}
 use Rattle.oc_io.specs.DiskView.{IsTorn, Tears, Elapses}
-use Rattle.oc_disk_log.specs.Calls.{Call, Wrote, Synced, undone, Fits}
+use Rattle.oc_io.specs.Calls.{Call, Wrote, Synced, undone, Fits}
 use Rattle.oc_io.specs.DiskPast.{MayLeave, HadLeft}
 use Rattle.oc_io.specs.MemDiskView.{MemDiskView, view_of, view_of-consistent, may_leave_seen, wrote, overwritten}
 

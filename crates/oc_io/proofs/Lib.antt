@@ -3,3 +3,4 @@ pub mod Fronts
 pub mod DiskCalls
 pub mod Blots
 pub mod DiskMoments
+pub mod LogBlots

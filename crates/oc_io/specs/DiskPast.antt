@@ -1,6 +1,6 @@
 -- The images that the record of a disk in memory tells.
 use Rattle.std.specs.Prelude.{◌≡◌, ◌⊎◌, ℕ, ◌≤◌, List, [], ◌∷◌, length}
-use Rattle.oc_disk_log.specs.Calls.{Call, Wrote, Synced, undone}
+use Rattle.oc_io.specs.Calls.{Call, Wrote, Synced, undone}
 use Rattle.oc_io.specs.DiskView.{IsTorn}
 
 -- what a crash may leave of these bytes

@@ -6,3 +6,10 @@ pub mod DiskView
 pub mod DiskPast
 pub mod Failing
 pub mod MemDiskView
+pub mod Calls
+pub mod DiskLog
+pub mod DiskLogView
+pub mod Counts
+pub mod Known
+pub mod Readers
+pub mod Writers

@@ -3,7 +3,7 @@ use Rattle.std.specs.Prelude.{◌≡◌, ℕ, ◌+◌, ◌-◌, ◌<◌, true, L
 use Rattle.std.proofs.Common.{inl, inr, arith}
 use Rattle.oc_io.specs.declared.disk.TheConstants.{MAX_RELIABLE_BYTES}
 use Rattle.oc_io.specs.DiskView.{DiskView, IsConsistent, IsReliable}
-use Rattle.oc_disk_log.specs.Calls.{Call, Wrote, Synced, crashed}
+use Rattle.oc_io.specs.Calls.{Call, Wrote, Synced, crashed}
 use Rattle.oc_io.specs.DiskPast.{MayLeave, HadLeft}
 use Rattle.oc_io.specs.declared.failures.Stop.{Stop}
 use Rattle.oc_io.specs.Tally.{called, faulted, IsListed}

@@ -24,10 +24,26 @@
 //! [`MemSource`] and [`MemSink`] keep their bytes in memory and fail at given calls. There the
 //! relations say which bytes came or went, and a call fails only where it is listed or the sink is
 //! full. [`CallTally`] counts the calls of such an object.
+//!
+//! The record of the calls of a disk in memory, and what a crash leaves by it.
+//!
+//! A [`DiskLog`] notes each write, with the bytes that it wrote over, and each sync, and takes no
+//! memory for it once room was made. Its value is the list of these calls, newest first. From them a
+//! layer above tells what the disk held at each earlier moment, and so what a crash may leave.
+//! [`DiskLog::blot`] is one such crash: each byte that was written since the last sync is one and the
+//! same byte.
+//!
+//! What lies between a program and the system: any reader as a source, and any writer as a sink.
+//!
+//! Their relations are std's own words. From one moment to a later one a [`ReaderSource`] gave the bytes
+//! that its reader lost of those that it had left, and a [`WriterSink`] took the bytes by which its writer
+//! grew, where the reader and the writer tell that. For every reader and writer a counter rose by as many
+//! bytes as passed, and a source has ended only once a read found nothing.
 #![tactic(auto)]
 
 mod call_tally;
 mod disk;
+mod disk_log;
 mod failures;
 mod fault;
 mod lent;
@@ -35,20 +51,28 @@ mod mem_disk;
 mod mem_sink;
 mod mem_source;
 mod read_fault;
+mod reader_source;
 mod reading;
+mod retrying;
 mod sink;
 mod source;
+mod traffic;
+mod writer_sink;
 mod writing;
 
 pub use call_tally::CallTally;
 pub use disk::Disk;
+pub use disk_log::{DiskLog, Step};
 pub use fault::Failed;
 pub use lent::Lent;
 pub use mem_disk::MemDisk;
 pub use mem_sink::MemSink;
 pub use mem_source::MemSource;
 pub use read_fault::ReadFault;
+pub use reader_source::ReaderSource;
 pub use reading::read_all;
 pub use sink::Sink;
 pub use source::Source;
+pub use traffic::Traffic;
+pub use writer_sink::WriterSink;
 pub use writing::write_all;

@@ -1,15 +1,15 @@
 ghost use Rattle.std.specs.Prelude.{◌≡◌, ◌∷◌, ℕ, ◌+◌, ◌-◌, ◌<◌, ◌≤◌, ◌⊎◌, true, Some, length, max, min, take, drop, vec_len, vec_capacity, IsTrue, IfOk, OnOk, OnErr};
 ghost use Rattle.oc_io.specs.DiskView.{Only, Holds, Tears, AddsNoImage, Elapses, StaysAsItWas, Takes, Fails, FailsToRead, HasNoFault};
-ghost use Rattle.oc_disk_log.specs.Calls.{Wrote, Fits};
+ghost use Rattle.oc_io.specs.Calls.{Wrote, Fits};
 ghost use Rattle.oc_io.specs.DiskPast.{MayLeave};
 ghost use Rattle.oc_io.specs.Faults.{NoFall, Rose};
 ghost use Rattle.oc_io.specs.MemDiskView.{disk_of, view_of, view_of-consistent, view_of-reliable, overwritten, refused, read, admitted, done, wrote, synced, reserved, crash_of, crash_by, Refuses};
 ghost use Rattle.oc_io.specs.Tally.{IsListed};
 
+use crate::DiskLog;
 use crate::disk::{Disk, MAX_RELIABLE_BYTES};
 use crate::failures::{Failures, Stop};
 use crate::fault::Failed;
-use oc_disk_log::DiskLog;
 use std::alloc::{AllocError, Global};
 use std::marker::Model;
 
@@ -29,7 +29,7 @@ pub struct MemDisk {
 
 impl Model for MemDisk {
     ghost use Rattle.std.specs.Prelude.{◌+◌, ◌≤◌, vec_len, vec_capacity};
-    ghost use Rattle.oc_disk_log.specs.Calls.{Fits};
+    ghost use Rattle.oc_io.specs.Calls.{Fits};
     ghost use Rattle.oc_io.specs.MemDiskView.{MemDiskView};
 
     ghost Value = { MemDiskView };

@@ -4,13 +4,13 @@ use Rattle.std.proofs.lemmas.Bool.{cases_eq}
 use Rattle.std.proofs.lemmas.Bool.Decides.{nat_tests}
 use Rattle.oc_base.specs.declared.limits.TheConstants.{MAX_FRAME_BYTES}
 use Rattle.oc_io.specs.DiskView.{IsTorn}
-use Rattle.oc_disk_log.specs.Calls.{Call, blotted, crashed}
+use Rattle.oc_io.specs.Calls.{Call, blotted, crashed}
 use Rattle.oc_io.specs.DiskPast.{MayLeave}
 use Rattle.oc_io.specs.Failing.{passed}
 use Rattle.oc_io.specs.MemDiskView.{MemDiskView, view_of, refused, wrote, synced, crash_of, crash_by, disk_of}
 use Rattle.oc_io.specs.declared.failures.Stop.{Stop}
 use Rattle.oc_io.proofs.DiskCalls.{wrote-tears}
-use Rattle.oc_disk_log.proofs.Blots.{blotted-is}
+use Rattle.oc_io.proofs.LogBlots.{blotted-is}
 use Rattle.oc_journal.specs.JournalFile.{magic, frames_of, encoded, blocks, IsJournalOf}
 use Rattle.oc_journal.specs.JournalView.{IsSettled}
 use Rattle.oc_journal.specs.Stopped.{frames_after, left_of, image_of, IsCut, before, between}

@@ -26,17 +26,29 @@
 //!
 //! `load` finds the frames by one read at each gate. `frame` and `peek` then make one read of the
 //! disk. `append` takes no memory and makes four calls of `write_at` and `sync`.
+//!
+//! The gate before a frame: the byte that says whether the frame after it counts.
+//!
+//! [`is_open`] says which byte that is. A frame is written after a gate that is not open, and then the
+//! gate is opened, each by [`write_safely`]: a write and a sync. So there are four calls of the disk, and
+//! at every moment of them a crash leaves the frame whole after an open gate, or a gate that is not open.
+//! [`is_kept_new`] says which of the two it is, by the calls that worked before the crash.
 #![tactic(auto)]
 
 mod errors;
 mod frame;
+mod gate;
 mod journal;
 mod loading;
 mod safely;
 mod spot;
 mod stopped;
+mod stops;
+mod synced;
 
 pub use errors::{AppendError, FrameError, LoadError, PeekError, RestartError};
 pub use frame::{Frame, FrameFault};
+pub use gate::is_open;
 pub use journal::Journal;
-pub use oc_gate::is_kept_new;
+pub use stops::is_kept_new;
+pub use synced::write_safely;

@@ -7,9 +7,9 @@ ghost use Rattle.oc_journal.specs.Promises.{LoadsSafely};
 ghost use Rattle.oc_journal.specs.Scanning.{IsFound, IsGate, IsBrokenAt};
 
 use crate::errors::LoadError;
+use crate::is_open;
 use crate::safely::{FIRST_GATE, write_header};
 use crate::spot::Spot;
-use oc_gate::is_open;
 use oc_io::{Disk, Failed};
 use std::alloc::Global;
 

@@ -4,7 +4,7 @@ ghost use Rattle.oc_journal.specs.JournalFile.{header, frames_of, IsBeforeOrAfte
 ghost use Rattle.oc_journal.specs.JournalView.{IsSettled, IsLikeAnImage};
 
 use crate::frame::Frame;
-use oc_gate::write_safely;
+use crate::write_safely;
 use oc_io::{Disk, Failed};
 
 /// The file of a journal without frames: the magic and a closed gate.

@@ -12,7 +12,7 @@ use Rattle.oc_base.specs.Names.{IsGroupName}
 use Rattle.oc_base.specs.Shelves.{line_of, AreLines, IsLine, IsShelf}
 use Rattle.oc_base.proofs.NameOrder.{names_equal}
 use Rattle.oc_content.specs.ContentFile.{with_entry}
-use Rattle.oc_entries.specs.declared.putting.Standing.{Standing}
+use Rattle.oc_content.specs.declared.entry_putting.Standing.{Standing}
 use Rattle.oc_content.specs.Putting.{standing, standing_in, fault_of}
 use Rattle.oc_content.proofs.Lines.{line_of-shelf}
 use Rattle.oc_model.specs.declared.answer.Answer.{Answer}

@@ -16,7 +16,7 @@ use Rattle.oc_content.specs.ContentView.{ContentView, PieceView}
 use Rattle.oc_content.specs.Entries.{Entry, entry_of, written}
 use Rattle.oc_content.specs.Promises.{Prepares, PutsNothing}
 use Rattle.oc_content.proofs.Lines.{line_of-goes, line_of-shelf}
-use Rattle.oc_entries.proofs.Spelling.{entry_of-written}
+use Rattle.oc_content.proofs.Spelling.{entry_of-written}
 use Rattle.oc_content.specs.Indexes.{HasTrackRoom}
 use Rattle.oc_journal.specs.JournalView.{JournalView}
 use Rattle.oc_journal.specs.Promises.{HasRoom, IsFullFor, NoneFailed}

@@ -12,6 +12,11 @@
 //! node after it; at every moment a crash leaves the node before the input or after it, and at every
 //! moment of a load, a tidy or a read the same node. So any number of interrupted [`trial`]s in a row
 //! loses nothing that was answered with `Ok`.
+//!
+//! What is seen of a node on its files: its position in the tree, and what it knows of the tree.
+//!
+//! [`status_of`] is what a replay shows of each of its nodes, and what `check` shows of the node of three
+//! files. It is the model's `status_of` of the node that the files recover.
 #![tactic(auto)]
 
 mod ended;
@@ -21,6 +26,7 @@ mod law;
 mod ready;
 mod readying;
 mod starting;
+mod status;
 mod trials;
 mod turning;
 mod writing;
@@ -31,4 +37,5 @@ pub use kept::Kept;
 pub use law::prepare_refuses_nothing_that_is_kept;
 pub use oc_node::{Node, Outcome};
 pub use ready::Ready;
+pub use status::{status_of, status_recovered};
 pub use trials::trial;

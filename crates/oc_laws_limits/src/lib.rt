@@ -36,9 +36,9 @@ ghost use Rattle.oc_base.specs.declared.limits.TheConstants.{
 ghost use Rattle.oc_fetch.specs.declared.download.TheConstants.{MAX_REDIRECTIONS};
 ghost use Rattle.oc_fetch.specs.declared.extent.TheConstants.{MAX_OPEN_BYTES};
 ghost use Rattle.oc_policy.specs.declared.deciding.TheConstants.{MAX_RULES};
-ghost use Rattle.oc_rates.specs.declared.rate.TheConstants.{PROBE_BYTES};
-ghost use Rattle.oc_rates.specs.declared.recent.TheConstants.{KEPT as KEPT_RATES};
-ghost use Rattle.oc_routing.specs.declared.connections.TheConstants.{MAX_REQUESTS};
+ghost use Rattle.oc_probe.specs.declared.rate.TheConstants.{PROBE_BYTES};
+ghost use Rattle.oc_probe.specs.declared.recent.TheConstants.{KEPT as KEPT_RATES};
+ghost use Rattle.oc_routes.specs.declared.connections.TheConstants.{MAX_REQUESTS};
 ghost use Rattle.oc_updown.specs.declared.leases.TheConstants.{LEASE_TIME};
 
 /// Which numbers the limits are.

@@ -4,3 +4,6 @@ pub mod Sessions
 pub mod Coverage
 pub mod Listing
 pub mod LeaseEnds
+pub mod Settling
+pub mod Healing
+pub mod Examples

@@ -37,3 +37,4 @@ pub mod ExamplesLeases
 pub mod ExamplesRoots
 pub mod ExamplesContent
 pub mod ExamplesChoice
+pub mod Status

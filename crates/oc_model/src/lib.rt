@@ -17,6 +17,7 @@ mod place;
 mod reading;
 mod record;
 mod soft;
+mod status;
 mod want;
 mod word;
 
@@ -32,5 +33,6 @@ pub use place::{Candidate, Review};
 pub use reading::Reading;
 pub use record::Record;
 pub use soft::{Search, Soft};
+pub use status::NodeStatus;
 pub use want::Want;
 pub use word::Word;

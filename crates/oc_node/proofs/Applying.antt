@@ -3,11 +3,11 @@ use Rattle.std.proofs.Common.{◌≡◌, ℕ, Option, List, drop, unwrap_or, ap}
 use Rattle.oc_model.specs.declared.soft.Soft.{Soft}
 use Rattle.oc_model.specs.Node.{Control, Durable}
 use Rattle.oc_model.specs.Records.{folded}
-use Rattle.oc_parts.specs.declared.volatile.Volatile.{Volatile}
-use Rattle.oc_changes.specs.Touched.{leases_after, rates_after, counts_after}
-use Rattle.oc_parts.specs.Volatile.{soft_of}
-use Rattle.oc_draft.specs.NodeView.{control_of}
-use Rattle.oc_draft.specs.Planned.{PlanView, control_after, soft_after}
+use Rattle.oc_state.specs.declared.volatile.Volatile.{Volatile}
+use Rattle.oc_state.specs.Touched.{leases_after, rates_after, counts_after}
+use Rattle.oc_state.specs.Volatile.{soft_of}
+use Rattle.oc_step.specs.NodeView.{control_of}
+use Rattle.oc_step.specs.Planned.{PlanView, control_after, soft_after}
 
 -- what a start clears is as the plan says
 pub soft_applied : (s : Soft) (p : PlanView) (v : Volatile) (set : Option (List ℕ)) (taken : ℕ) (tries : List ℕ) → v ≡ p.volatile → set ≡ p.tries → taken ≡ p.taken → tries ≡ drop taken (unwrap_or set s.tries) → soft_of v tries ≡ soft_after s p

@@ -8,8 +8,8 @@ use Rattle.oc_model.specs.declared.want.Want.{Want}
 use Rattle.oc_model.specs.Node.{Control, Node}
 use Rattle.oc_model.specs.Plan.{Plan}
 use Rattle.oc_model.specs.Step.{filled, plan, step}
-use Rattle.oc_draft.specs.Applying.{HasParts, IsPlanOf, IsStepOf}
-use Rattle.oc_draft.specs.Planned.{PlanView, planned}
+use Rattle.oc_step.specs.Applying.{HasParts, IsPlanOf, IsStepOf}
+use Rattle.oc_step.specs.Planned.{PlanView, planned}
 
 -- the plan of a control state and a shelf is that of each node with these parts
 pub plan_of_whole : (n : Node) (v : Control) (lines : List Shelf) (i : Input) (p : PlanView) → planned v p ≡ plan v lines i → HasParts n v lines → IsPlanOf n i p

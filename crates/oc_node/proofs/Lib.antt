@@ -4,3 +4,13 @@ pub mod Filling
 pub mod Reaching
 pub use Rattle.oc_state.proofs.Folding
 pub use Rattle.oc_state.proofs.LawfulSnapshots
+pub mod Leaving
+pub mod AskByMode
+pub mod Candidates
+pub mod Ending
+pub mod Ticks
+pub mod Looks
+pub mod MergeAll
+pub mod SameIds
+pub mod ByMode
+pub mod Drafts

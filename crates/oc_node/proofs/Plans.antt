@@ -24,7 +24,7 @@ use Rattle.oc_laws_step.proofs.Checks.{goes_checks, goes_tick, goes_checked_in, 
 use Rattle.oc_laws_step.proofs.Looks.{goes_looked, goes_sees}
 use Rattle.oc_laws_step.proofs.Serves.{goes_client, goes_measured}
 use Rattle.oc_laws_step.proofs.Steps.{goes_pulled}
-use Rattle.oc_draft.specs.Planned.{PlanView, IsWanting, planned}
+use Rattle.oc_step.specs.Planned.{PlanView, IsWanting, planned}
 
 -- A step that wants bytes sends one message
 

@@ -22,12 +22,12 @@ use Rattle.oc_laws_step.proofs.LawfulSteps.{lawful_fits, lawful_new, lawful_plan
 use Rattle.oc_laws_step.proofs.Soundness.{sound_new, sound_planned}
 use Rattle.oc_laws_step.proofs.Steps.{writes}
 use Rattle.oc_state.specs.DurableView.{IsKept}
-use Rattle.oc_draft.specs.Applying.{CanApply}
-use Rattle.oc_parts.specs.declared.volatile.Volatile.{Volatile}
-use Rattle.oc_draft.specs.NodeView.{NodeView, IsReached, control_of}
-use Rattle.oc_draft.specs.Planned.{PlanView, control_after, planned}
-use Rattle.oc_changes.specs.Touched.{IsTouch}
-use Rattle.oc_parts.specs.Volatile.{soft_of, new_volatile}
+use Rattle.oc_step.specs.Applying.{CanApply}
+use Rattle.oc_state.specs.declared.volatile.Volatile.{Volatile}
+use Rattle.oc_step.specs.NodeView.{NodeView, IsReached, control_of}
+use Rattle.oc_step.specs.Planned.{PlanView, control_after, planned}
+use Rattle.oc_state.specs.Touched.{IsTouch}
+use Rattle.oc_state.specs.Volatile.{soft_of, new_volatile}
 
 -- a new node
 pub reached_new : (h : Header) (x : ℕ) → IsHeader h → IsNode h.nodes x → IsReached (new_control h x)

@@ -1,5 +1,5 @@
 pub mod OutcomeView
 pub use Rattle.oc_state.specs.DurableView
-pub use Rattle.oc_draft.specs.NodeView
-pub use Rattle.oc_draft.specs.Planned
-pub use Rattle.oc_draft.specs.Applying
+pub use Rattle.oc_step.specs.NodeView
+pub use Rattle.oc_step.specs.Planned
+pub use Rattle.oc_step.specs.Applying

@@ -8,27 +8,24 @@ ghost use Rattle.oc_model.specs.Lawful.{AreRecords, IsHeader, IsInput};
 ghost use Rattle.oc_model.specs.Records.{folded};
 ghost use Rattle.oc_model.specs.Snapshot.{snapshot};
 ghost use Rattle.oc_model.specs.Step.{plan, step};
-ghost use Rattle.oc_draft.specs.Applying.{CanApply, HasParts, IsPlanOf, IsStepOf};
-ghost use Rattle.oc_draft.specs.Planned.{IsWanting, control_after, planned};
-ghost use Rattle.oc_changes.specs.Touched.{IsTouch};
+ghost use Rattle.oc_step.specs.Applying.{CanApply, HasParts, IsPlanOf, IsStepOf};
+ghost use Rattle.oc_step.specs.Planned.{IsWanting, control_after, planned};
+ghost use Rattle.oc_state.specs.Touched.{IsTouch};
 ghost use Rattle.oc_base.specs.Lawful.{IsCount, IsNode};
 ghost use Rattle.oc_base.specs.declared.limits.TheConstants.{MAX_BASE_ACKED, MAX_LOG_LENGTH};
 ghost use Rattle.oc_model.specs.Node.{new_control, new_durable, Durable as State, Node as Whole};
 ghost use Rattle.oc_model.specs.Looking.{parent_of};
-ghost use Rattle.oc_draft.specs.NodeView.{IsReached};
-ghost use Rattle.oc_parts.specs.Standing.{standing_of};
+ghost use Rattle.oc_step.specs.NodeView.{IsReached};
+ghost use Rattle.oc_state.specs.Standing.{standing_of};
 
 use crate::outcome::Outcome;
 use crate::step::take;
-use oc_base::{Memory, NodeId, Rank, Shelf};
-use oc_cert::Table;
-use oc_draft::{Before, Changes, Draft, Plan};
-use oc_measure::Measures;
+use oc_base::{Memory, NodeId, Rank, Rows, Shelf};
 use oc_model::{Input, Mode, Record};
-use oc_rows::Rows;
 use oc_state::modes::parent_of;
 use oc_state::{Durable, Standing, Tries, Volatile, touch_all};
-use oc_updown::{ChangeLog, Leases};
+use oc_step::{Before, Changes, Draft, Plan};
+use oc_updown::{ChangeLog, Leases, Measures, Table};
 use std::alloc::Global;
 use std::marker::Model;
 
@@ -55,8 +52,8 @@ pub struct Node {
 impl Model for Node {
     ghost use Rattle.std.specs.Prelude.{◌≡◌};
     ghost use Rattle.oc_model.specs.Node.{Control};
-    ghost use Rattle.oc_draft.specs.NodeView.{NodeView, IsReached, control_of};
-    ghost use Rattle.oc_parts.specs.Volatile.{soft_of};
+    ghost use Rattle.oc_step.specs.NodeView.{NodeView, IsReached, control_of};
+    ghost use Rattle.oc_state.specs.Volatile.{soft_of};
 
     ghost Value = { NodeView };
 

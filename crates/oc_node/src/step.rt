@@ -4,19 +4,19 @@ ghost use Rattle.oc_base.specs.Shelves.{IsShelf};
 ghost use Rattle.oc_model.specs.Lawful.{IsBody, IsInput};
 ghost use Rattle.oc_model.specs.Plan.{begun};
 ghost use Rattle.oc_model.specs.Step.{received, taken};
-ghost use Rattle.oc_draft.specs.DraftView.{goes};
-ghost use Rattle.oc_draft.specs.NodeView.{IsReached};
+ghost use Rattle.oc_step.specs.DraftView.{goes};
+ghost use Rattle.oc_step.specs.NodeView.{IsReached};
 
-use oc_asks::adopting::asked;
-use oc_asks::asking::{relocate, took_no, took_yes, unreachable};
+use crate::adopting::asked;
+use crate::asking::{relocate, took_no, took_yes, unreachable};
+use crate::checking::{check, checked_in, tick, took_ack, took_rejoin};
+use crate::content::{fetched, published, pulled, sealed_at, took_chunk};
+use crate::looking::{looked, sees};
+use crate::serving::{client, measured};
+use crate::stand::Stand;
 use oc_base::{Memory, NodeId, Shelf};
-use oc_draft::Draft;
 use oc_model::{Body, Input};
-use oc_rules::checking::{check, checked_in, tick, took_ack, took_rejoin};
-use oc_rules::content::{fetched, published, pulled, sealed_at, took_chunk};
-use oc_rules::looking::{looked, sees};
-use oc_rules::serving::{client, measured};
-use oc_rules::stand::Stand;
+use oc_step::Draft;
 
 // The control step, which sees of the content the shelf alone.
 

@@ -8,11 +8,11 @@ use Rattle.oc_model.specs.Measures.{reading_of}
 use Rattle.oc_model.specs.declared.input.Input.{Input}
 use Rattle.oc_model.specs.declared.input.Input.TheVariants.{Measured}
 use Rattle.oc_model.specs.declared.message.Message.{Message}
-use Rattle.oc_outside.specs.ClockView.{Series}
+use Rattle.oc_link.specs.ClockView.{Series}
 use Rattle.oc_io.specs.DiskView.{DiskView}
 use Rattle.oc_io.specs.Faults.{Rose}
-use Rattle.oc_outside.specs.LinkCalls.{LinkFaults, CountsDialling}
-use Rattle.oc_outside.specs.Story.{Story}
+use Rattle.oc_link.specs.LinkCalls.{LinkFaults, CountsDialling}
+use Rattle.oc_link.specs.Story.{Story}
 use Rattle.oc_probe.specs.Probes.{Probed, Timed}
 use Rattle.oc_probe.specs.Rates.{IsMedian, rates_of, with_rate}
 use Rattle.oc_probe.specs.Turns.{RotationView, turned}

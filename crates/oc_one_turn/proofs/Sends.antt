@@ -3,19 +3,19 @@ use Rattle.std.proofs.Common.{◌≡◌, ◌⊎◌, ℕ, false, true, Some, None
 use Rattle.oc_keep.specs.KeptView.{KeptView, node_of}
 use Rattle.oc_model.specs.declared.input.Input.{Input}
 use Rattle.oc_model.specs.declared.message.Message.{Message}
-use Rattle.oc_outside.specs.ClockView.{Series}
+use Rattle.oc_link.specs.ClockView.{Series}
 use Rattle.oc_io.specs.DiskView.{DiskView}
 use Rattle.oc_io.specs.Faults.{NoFall, Rose}
-use Rattle.oc_outside.specs.LinkCalls.{LinkFaults, CountsDialling, Told}
-use Rattle.oc_outside.specs.Story.{Story}
+use Rattle.oc_link.specs.LinkCalls.{LinkFaults, CountsDialling, Told}
+use Rattle.oc_link.specs.Story.{Story}
 use Rattle.oc_turn.specs.Dials.{DialsMessage, IsAnswered, Makes, MayMake, text_of}
 use Rattle.oc_turn.specs.Lines.{IsEntry, input_in}
 use Rattle.oc_turn.specs.declared.entry.Entry.{Entry}
-use Rattle.oc_turn.specs.Deeds.{Deed, DialledTo, DialsInVain, Outside, Setting, Sight, Does, address_in, outside_of}
+use Rattle.oc_turn.specs.Deeds.{Deed, DialledTo, DialsInVain, Outside, Setting, NodeStatus, Does, address_in, outside_of}
 use Rattle.oc_turn.specs.Deeds as deeds
 use Rattle.oc_turn.specs.Scenes.{Did, scene, setting}
 use Rattle.oc_one_turn.specs.Sending.{BecomesOf, IsLawfulSent, WantsMemory, setting_of}
-use Rattle.oc_turn.specs.Deeds.{sight_of}
+use Rattle.oc_turn.specs.Deeds.{status_of}
 use Rattle.oc_one_turn.specs.declared.sending.Sent.{Sent}
 use Rattle.oc_one_turn.specs.declared.sending.Sent.TheVariants as sents
 use Rattle.oc_one_turn.specs.Turns.{IsOneSent}
@@ -51,9 +51,9 @@ module _ {D K : Type 0} (view : D → DiskView) (takes fails : K → List ℕ �
     λ seconds millis.
         did_silent view takes fails count addresses takes_nothing deeds.Empties k o o2 sink (outside_of st f seconds millis) (outside_of st2 f2 seconds millis) (λ me. refl) refl is_open listens (λ before. subst (AreSendable k.node.control.nodes) (sym new) refl) (
           old,
-          ap (λ (x : List Message). sight_of (node_of k) x (outside_of st2 f2 seconds millis)) (new ∙ sym old)
-              ∙ ap (λ (x : Option Story). sight_of (node_of k) o (outside_of x f2 seconds millis)) story
-              ∙ ap (λ (x : LinkFaults). sight_of (node_of k) o (outside_of st x seconds millis)) faults,
+          ap (λ (x : List Message). status_of (node_of k) x (outside_of st2 f2 seconds millis)) (new ∙ sym old)
+              ∙ ap (λ (x : Option Story). status_of (node_of k) o (outside_of x f2 seconds millis)) story
+              ∙ ap (λ (x : LinkFaults). status_of (node_of k) o (outside_of st x seconds millis)) faults,
         ),
   )
   sent_did takes_nothing k (sents.Brought came) o o2 sink st st2 f f2 is_open listens (m, oldest, dialled) = (
@@ -109,7 +109,7 @@ wants_memory s m old new address st st2 f f2 same oldest made counts = (m, new, 
 -- told of this node
 pub dials_here : {D : Type 0} → (k : KeptView D) (addresses : List (List ℕ)) (me nodes : ℕ) (o : List Message) (st st2 : Option Story) (f f2 : LinkFaults) (seconds millis : Series)
     → me ≡ k.node.control.me → nodes ≡ k.node.control.nodes → WantsMemory (setting_of me nodes addresses) o st st2 f f2
-    → DialsInVain (setting k addresses) (sight_of (node_of k) o (outside_of st f seconds millis)) (outside_of st2 f2 seconds millis)
+    → DialsInVain (setting k addresses) (status_of (node_of k) o (outside_of st f seconds millis)) (outside_of st2 f2 seconds millis)
 dials_here k addresses me nodes o st st2 f f2 seconds millis mine all wants =
     let w = subst (λ (x : ℕ). WantsMemory (setting_of x k.node.control.nodes addresses) o st st2 f f2) mine
     (subst (λ (x : ℕ). WantsMemory (setting_of me x addresses) o st st2 f f2) all wants) in

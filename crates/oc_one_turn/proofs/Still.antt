@@ -3,16 +3,16 @@ use Rattle.std.proofs.Common.{◌≡◌, ℕ, Option, Some, None, Result, Ok, Er
 use Rattle.std.specs.List.{AllByRecursion}
 use Rattle.oc_model.proofs.Lists.{all_append}
 use Rattle.oc_model.specs.declared.input.Input.{Input}
-use Rattle.oc_outside.specs.LinkCalls.{DialFails, Told}
-use Rattle.oc_outside.specs.Story.{Dial, Story, hung_up}
-use Rattle.oc_outside.specs.declared.link.Arrival.{Arrival}
-use Rattle.oc_outside.specs.declared.link.Arrival.TheVariants as arrivals
+use Rattle.oc_link.specs.LinkCalls.{DialFails, Told}
+use Rattle.oc_link.specs.Story.{Dial, Story, hung_up}
+use Rattle.oc_link.specs.declared.link.Arrival.{Arrival}
+use Rattle.oc_link.specs.declared.link.Arrival.TheVariants as arrivals
 use Rattle.oc_probe.specs.Probes.{AreAny, Asked, IsAnswered, IsUnanswered, Probed}
 use Rattle.oc_http.specs.Writing.{probe_text}
 use Rattle.oc_probe.specs.declared.fault.ProbeFault.{ProbeFault}
 use Rattle.oc_probe.specs.declared.fault.ProbeFault.TheVariants as faults
 use Rattle.oc_probe.specs.declared.probing.Probing.{Probing}
-use Rattle.oc_turn.specs.Deeds.{Answers, Calls, Deed, Dials, DoAll, Does, Empties, Notes, Probes, Reads, Setting, Sight, Takes, Talks, Under, address_in}
+use Rattle.oc_turn.specs.Deeds.{Answers, Calls, Deed, Dials, DoAll, Does, Empties, Notes, Probes, Reads, Setting, NodeStatus, Takes, Talks, Under, address_in}
 use Rattle.oc_turn.specs.Dials.{DialsMessage}
 use Rattle.oc_one_turn.specs.declared.limits.TheConstants.{MAX_DIALS}
 use Rattle.oc_turn.specs.declared.ends.TurnEnd.{TurnEnd}
@@ -66,20 +66,20 @@ IsAside Empties = Unit {0}
 IsAside (Probes peer hops came) = Unit {0}
 IsAside d = ⊥
 
-does_aside : (s : Setting) (d : Deed) (a b : Sight) → IsAside d → Does s d a b → SameConnections a.outside.story b.outside.story
+does_aside : (s : Setting) (d : Deed) (a b : NodeStatus) → IsAside d → Does s d a b → SameConnections a.outside.story b.outside.story
 does_aside s (Calls arrival) a b aside does = absurd aside
-does_aside s (Reads t) a b aside does = same_as a.outside.story b.outside.story (ap (λ (x : Sight). x.outside.story) does.1)
-does_aside s (Takes i) a b aside does = same_as a.outside.story b.outside.story (ap (λ (x : Sight). x.outside.story) does)
+does_aside s (Reads t) a b aside does = same_as a.outside.story b.outside.story (ap (λ (x : NodeStatus). x.outside.story) does.1)
+does_aside s (Takes i) a b aside does = same_as a.outside.story b.outside.story (ap (λ (x : NodeStatus). x.outside.story) does)
 does_aside s (Answers i failed) a b aside does = absurd aside
 does_aside s (Notes why) a b aside does = absurd aside
 does_aside s Talks a b aside does = absurd aside
 does_aside s (Dials m came) a b aside does =
     same_told (DialsMessage s.nodes s.me (address_in s m.to) m came) (λ x y makes. dial_over x y _ makes.after) a.outside.story b.outside.story does.0.dialled.dialled
-does_aside s Empties a b aside does = same_as a.outside.story b.outside.story (ap (λ (x : Sight). x.outside.story) does.1)
+does_aside s Empties a b aside does = same_as a.outside.story b.outside.story (ap (λ (x : NodeStatus). x.outside.story) does.1)
 does_aside s (Probes peer hops came) a b aside does = probed_same came (address_in s peer) a.outside.story b.outside.story does.1.probed
 
-pub do_aside : (s : Setting) (ds : List Deed) (a c : Sight) → AllByRecursion IsAside ds → DoAll s ds a c → SameConnections a.outside.story c.outside.story
-do_aside s [] a c all is = same_as a.outside.story c.outside.story (ap (λ (x : Sight). x.outside.story) is)
+pub do_aside : (s : Setting) (ds : List Deed) (a c : NodeStatus) → AllByRecursion IsAside ds → DoAll s ds a c → SameConnections a.outside.story c.outside.story
+do_aside s [] a c all is = same_as a.outside.story c.outside.story (ap (λ (x : NodeStatus). x.outside.story) is)
 do_aside s (d ∷ ds) a c all (b, does, more) = same_then a.outside.story b.outside.story c.outside.story (does_aside s d a b all.0 does) (do_aside s ds b c all.1 more)
 
 came_aside : (came : Option Input) → AllByRecursion IsAside (came_deeds came)

@@ -3,16 +3,16 @@ use Rattle.std.proofs.Common.{◌≡◌, ℕ, ◌+◌, ◌<◌, false, true, Som
 use Rattle.std.proofs.lemmas.List.{append-nil, append_assoc, length-append}
 use Rattle.oc_keep.specs.KeptView.{IsHonest, KeptView, disks_of, node_of}
 use Rattle.oc_model.specs.declared.message.Message.{Message}
-use Rattle.oc_outside.specs.ClockView.{Series}
+use Rattle.oc_link.specs.ClockView.{Series}
 use Rattle.oc_io.specs.DiskView.{DiskView}
-use Rattle.oc_outside.specs.LinkCalls.{LinkFaults, CountsListening, NextGives}
-use Rattle.oc_outside.specs.Story.{Story}
-use Rattle.oc_outside.specs.declared.link.Arrival.{Arrival}
-use Rattle.oc_outside.specs.declared.link.Arrival.TheVariants as arrivals
+use Rattle.oc_link.specs.LinkCalls.{LinkFaults, CountsListening, NextGives}
+use Rattle.oc_link.specs.Story.{Story}
+use Rattle.oc_link.specs.declared.link.Arrival.{Arrival}
+use Rattle.oc_link.specs.declared.link.Arrival.TheVariants as arrivals
 use Rattle.oc_probe.specs.declared.probing.Probing.{Probing}
 use Rattle.oc_turn.specs.declared.ends.TurnEnd.{TurnEnd}
 use Rattle.oc_one_turn.specs.declared.limits.TheConstants.{MAX_DIALS}
-use Rattle.oc_turn.specs.Deeds.{Calls, Deed, Idle, Under, DoAll, Does, Setting, Sight, outside_of, ticked}
+use Rattle.oc_turn.specs.Deeds.{Calls, Deed, Idle, Under, DoAll, Does, Setting, NodeStatus, outside_of, ticked}
 use Rattle.oc_turn.specs.Looks.{LooksOnly}
 use Rattle.oc_turn.specs.Scenes.{Breaks, BreaksOff, Did, Scene, scene, setting, sight}
 use Rattle.oc_io.specs.Faults.{Rose}
@@ -152,7 +152,7 @@ module _ {D K : Type 0} (view : D → DiskView) (takes fails : K → List ℕ �
         requests = requests;
         called = sight b;
         deeds_are = refl;
-        calls = subst (λ (x : Sight). Does (setting a.kept addresses) (Calls arrival) (sight a) x) (sym calls.2) calls.1;
+        calls = subst (λ (x : NodeStatus). Does (setting a.kept addresses) (Calls arrival) (sight a) x) (sym calls.2) calls.1;
         talks = subst (λ (s : Setting). DoAll s requests (sight b) (sight c)) (same_setting a.kept b.kept addresses asked.same) (talked.done b_honest);
         answered = subst (λ (t : Terms). IsServed t addresses arrival requests (node_of b.kept) b.outside.story c.outside.story) (same_terms a.kept b.kept rules asked.same) (answered b_honest);
         goes_on = subst (λ (s : Setting). DoAll s next (sight c) (sight d)) (same_setting b.kept c.kept addresses talked.same ∙ same_setting a.kept b.kept addresses asked.same) (sent.done c_honest);
@@ -198,7 +198,7 @@ module _ {D K : Type 0} (view : D → DiskView) (takes fails : K → List ℕ �
   )
 
   -- a probe after a turn
-  probes_then : (rules : List Rule) (arrival : Arrival) (ds rest probe : List Deed) (served : Sight) (a b c : Scene D K)
+  probes_then : (rules : List Rule) (arrival : Arrival) (ds rest probe : List Deed) (served : NodeStatus) (a b c : Scene D K)
       → Did view takes count addresses ds a b → Did view takes count addresses probe b c → IsHonest view a.kept → ServesThen (setting a.kept addresses) (terms a.kept rules) arrival ds rest (sight a) served (sight b)
       → ServesThen (setting a.kept addresses) (terms a.kept rules) arrival (ds ++ probe) (rest ++ probe) (sight a) served (sight c)
   probes_then rules arrival ds rest probe served a b c first probed honest serves =
@@ -230,13 +230,13 @@ module _ {D K : Type 0} (view : D → DiskView) (takes fails : K → List ℕ �
       }
 
 -- a turn where a connection came, with something to probe with
-pub one_served : (s : Setting) (t : Terms) (had : Probing) (ds : List Deed) (a c : Sight) → ServesOne s t None None arrivals.Conn ds a c → ServesOne s t (Some had) (Some had) arrivals.Conn ds a c
+pub one_served : (s : Setting) (t : Terms) (had : Probing) (ds : List Deed) (a c : NodeStatus) → ServesOne s t None None arrivals.Conn ds a c → ServesOne s t (Some had) (Some had) arrivals.Conn ds a c
 one_served s t had ds a c one = record { rest = one.rest; served = one.served; serves = one.serves; rest_is = rest_served had one.rest one.rest_is; own = one.own; still = one.still }
 
 -- Turns that ended in their midst
 
 -- after the connection
-cuts_behind : (s : Setting) (t : Terms) (had : Option Probing) (arrival : Arrival) (end : TurnEnd) (ds rest : List Deed) (under : Under) (a served c : Sight) → ServesThen s t arrival ds rest a served c → CutsRest had arrival end rest under → CutsBehind s t had end under ds a c
+cuts_behind : (s : Setting) (t : Terms) (had : Option Probing) (arrival : Arrival) (end : TurnEnd) (ds rest : List Deed) (under : Under) (a served c : NodeStatus) → ServesThen s t arrival ds rest a served c → CutsRest had arrival end rest under → CutsBehind s t had end under ds a c
 cuts_behind s t had arrival end ds rest under a served c serves cut =
     let aside = rest_cut had arrival end rest under cut in
     record {
@@ -258,7 +258,7 @@ rest_too : (had : Probing) (arrival : Arrival) (end : TurnEnd) (ds : List Deed) 
 rest_too had arrival end ds under (inl cut) = inl cut
 rest_too had arrival end ds under (inr (next, probe, ticks, cut, is)) = absurd (no_probe arrival end probe under cut)
 
-part_too : (s : Setting) (t : Terms) (had : Probing) (end : TurnEnd) (under : Under) (ds : List Deed) (a c : Sight) → ServesPart s t None end under ds a c → ServesPart s t (Some had) end under ds a c
+part_too : (s : Setting) (t : Terms) (had : Probing) (end : TurnEnd) (under : Under) (ds : List Deed) (a c : NodeStatus) → ServesPart s t None end under ds a c → ServesPart s t (Some had) end under ds a c
 part_too s t had end under ds a c (inl none) = inl none
 part_too s t had end under ds a c (inr (inl cut)) = inr (inl (cuts_behind s t (Some had) cut.arrival end ds cut.rest under a cut.served c cut.serves (rest_too had cut.arrival end cut.rest under cut.rest_is)))
 part_too s t had end under ds a c (inr (inr cut)) = inr (inr cut)
@@ -291,7 +291,7 @@ module _ {D K : Type 0} (view : D → DiskView) (takes fails : K → List ℕ �
           requests = requests;
           called = sight b;
           deeds_are = ap (λ (x : Arrival). Calls x ∷ requests) conn;
-          calls = subst (λ (x : Arrival). Does (setting a.kept addresses) (Calls x) (sight a) (sight b)) conn (subst (λ (x : Sight). Does (setting a.kept addresses) (Calls arrival) (sight a) x) (sym calls.2) calls.1);
+          calls = subst (λ (x : Arrival). Does (setting a.kept addresses) (Calls x) (sight a) (sight b)) conn (subst (λ (x : NodeStatus). Does (setting a.kept addresses) (Calls arrival) (sight a) x) (sym calls.2) calls.1);
           talks = subst (λ (s : Setting). DoAll s requests (sight b) (sight at)) (same_setting a.kept b.kept addresses asked.same) (talked.done b_honest);
           cut = subst (λ (t : Terms). IsCutConnection t addresses end under requests (node_of b.kept) b.outside.story at.outside.story) (same_terms a.kept b.kept rules asked.same) (cut b_honest);
         })),

@@ -8,7 +8,7 @@ use Rattle.oc_turn.specs.declared.ends.TurnEnd.{TurnEnd}
 use Rattle.oc_turn.specs.Deeds.{Deed, Under}
 use Rattle.oc_turn.specs.Scenes.{Breaks, Did, Scene, setting, sight}
 use Rattle.oc_one_turn.specs.Turns.{IsTurn, end_with}
-use Rattle.oc_outside.specs.declared.link.Arrival.{Arrival}
+use Rattle.oc_link.specs.declared.link.Arrival.{Arrival}
 use Rattle.oc_policy.specs.declared.rule.Rule.{Rule}
 use Rattle.oc_answer.specs.Serving.{terms}
 use Rattle.oc_one_turn.specs.Served.{ServesOne, ServesPart}

@@ -6,8 +6,8 @@ use Rattle.oc_model.specs.declared.message.Message.{Message}
 use Rattle.oc_turn.specs.Lines.{IsEntry, input_in}
 use Rattle.oc_one_turn.specs.declared.sending.Sent.{Sent}
 use Rattle.oc_one_turn.specs.declared.sending.Sent.TheVariants as sents
-use Rattle.oc_outside.specs.LinkCalls.{CountsDialling, LinkFaults}
-use Rattle.oc_outside.specs.Story.{Story}
+use Rattle.oc_link.specs.LinkCalls.{CountsDialling, LinkFaults}
+use Rattle.oc_link.specs.Story.{Story}
 use Rattle.oc_turn.specs.Deeds.{DialledTo, Setting, address_in}
 use Rattle.oc_turn.specs.Dials.{MayMake, text_of}
 

@@ -5,12 +5,12 @@ use Rattle.oc_answer.specs.Cuts.{IsCutConnection}
 use Rattle.oc_answer.specs.Hearing.{Terms}
 use Rattle.oc_answer.specs.Serving.{IsConnection}
 use Rattle.oc_model.specs.Node.{Node}
-use Rattle.oc_outside.specs.LinkCalls.{Told}
-use Rattle.oc_outside.specs.Story.{Story}
-use Rattle.oc_outside.specs.declared.link.Arrival.{Arrival}
-use Rattle.oc_outside.specs.declared.link.Arrival.TheVariants as arrivals
+use Rattle.oc_link.specs.LinkCalls.{Told}
+use Rattle.oc_link.specs.Story.{Story}
+use Rattle.oc_link.specs.declared.link.Arrival.{Arrival}
+use Rattle.oc_link.specs.declared.link.Arrival.TheVariants as arrivals
 use Rattle.oc_probe.specs.declared.probing.Probing.{Probing}
-use Rattle.oc_turn.specs.Deeds.{Answers, Calls, Deed, DoAll, Does, Idle, Setting, Sight, Talks, Under}
+use Rattle.oc_turn.specs.Deeds.{Answers, Calls, Deed, DoAll, Does, Idle, Setting, NodeStatus, Talks, Under}
 use Rattle.oc_turn.specs.declared.ends.TurnEnd.{TurnEnd}
 use Rattle.oc_one_turn.specs.Cuts.{CutsRest}
 use Rattle.oc_one_turn.specs.Turns.{IsRest, end_with}
@@ -37,9 +37,9 @@ SameConnections old new = Told SameTaken old new
 
 -- The deeds of a turn, from a sight to another: after the link's answer the requests of the connection are answered, and the rest
 -- follows once it is served.
-pub record ServesThen (s : Setting) (t : Terms) (arrival : Arrival) (ds rest : List Deed) (a served c : Sight) : Type 0 where
+pub record ServesThen (s : Setting) (t : Terms) (arrival : Arrival) (ds rest : List Deed) (a served c : NodeStatus) : Type 0 where
   pub requests : List Deed
-  pub called : Sight
+  pub called : NodeStatus
   pub deeds_are : ds ≡ Calls arrival ∷ requests ++ rest
   pub calls : Does s (Calls arrival) a called
   pub talks : DoAll s requests called served
@@ -48,9 +48,9 @@ pub record ServesThen (s : Setting) (t : Terms) (arrival : Arrival) (ds rest : L
 
 -- The same for a whole turn: the rest is that of a turn, it is its own, and it leaves the connections that were taken as they were once
 -- served. What the turn probes with is given as it was before and is after it.
-pub record ServesOne (s : Setting) (t : Terms) (old new : Option Probing) (arrival : Arrival) (ds : List Deed) (a c : Sight) : Type 0 where
+pub record ServesOne (s : Setting) (t : Terms) (old new : Option Probing) (arrival : Arrival) (ds : List Deed) (a c : NodeStatus) : Type 0 where
   pub rest : List Deed
-  pub served : Sight
+  pub served : NodeStatus
   pub serves : ServesThen s t arrival ds rest a served c
   pub rest_is : IsRest old new (end_with arrival) rest
   pub own : AllByRecursion IsOwn rest
@@ -60,9 +60,9 @@ pub record ServesOne (s : Setting) (t : Terms) (old new : Option Probing) (arriv
 
 -- The deeds of a turn that ended so with its connection, with this under way: after the link's answer some requests were answered, and
 -- then one ended partway through.
-pub record CutsOne (s : Setting) (t : Terms) (end : TurnEnd) (under : Under) (ds : List Deed) (a c : Sight) : Type 0 where
+pub record CutsOne (s : Setting) (t : Terms) (end : TurnEnd) (under : Under) (ds : List Deed) (a c : NodeStatus) : Type 0 where
   pub requests : List Deed
-  pub called : Sight
+  pub called : NodeStatus
   pub deeds_are : ds ≡ Calls arrivals.Conn ∷ requests
   pub calls : Does s (Calls arrivals.Conn) a called
   pub talks : DoAll s requests called c
@@ -70,10 +70,10 @@ pub record CutsOne (s : Setting) (t : Terms) (end : TurnEnd) (under : Under) (ds
 
 -- The deeds of a turn that ended so after its connection, with this under way: the connection, where one came, was answered, and the rest,
 -- partway through which it ended, is its own and leaves the connections that were taken as they were once served.
-pub record CutsBehind (s : Setting) (t : Terms) (had : Option Probing) (end : TurnEnd) (under : Under) (ds : List Deed) (a c : Sight) : Type 0 where
+pub record CutsBehind (s : Setting) (t : Terms) (had : Option Probing) (end : TurnEnd) (under : Under) (ds : List Deed) (a c : NodeStatus) : Type 0 where
   pub arrival : Arrival
   pub rest : List Deed
-  pub served : Sight
+  pub served : NodeStatus
   pub serves : ServesThen s t arrival ds rest a served c
   pub rest_is : CutsRest had arrival end rest under
   pub own : AllByRecursion IsOwn rest
@@ -81,5 +81,5 @@ pub record CutsBehind (s : Setting) (t : Terms) (had : Option Probing) (end : Tu
 
 -- The deeds of a turn that ended so partway through, with this under way: there are none, and nothing was; or it ended after its
 -- connection, or with it. What the turn probes with is given as it was before it.
-abbrev pub ServesPart : Setting → Terms → Option Probing → TurnEnd → Under → List Deed → Sight → Sight → Type 0
+abbrev pub ServesPart : Setting → Terms → Option Probing → TurnEnd → Under → List Deed → NodeStatus → NodeStatus → Type 0
 ServesPart s t had end under ds a c = ((ds ≡ []) × (c ≡ a) × (under ≡ Idle)) ⊎ CutsBehind s t had end under ds a c ⊎ CutsOne s t end under ds a c

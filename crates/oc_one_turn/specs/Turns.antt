@@ -4,8 +4,8 @@ use Rattle.std.specs.List.{AllByRecursion}
 use Rattle.oc_model.specs.declared.input.Input.{Input}
 use Rattle.oc_model.specs.declared.input.Input.TheVariants.{Measured}
 use Rattle.oc_model.specs.declared.message.Message.{Message}
-use Rattle.oc_outside.specs.declared.link.Arrival.{Arrival}
-use Rattle.oc_outside.specs.declared.link.Arrival.TheVariants as arrivals
+use Rattle.oc_link.specs.declared.link.Arrival.{Arrival}
+use Rattle.oc_link.specs.declared.link.Arrival.TheVariants as arrivals
 use Rattle.oc_base.specs.Lawful.{IsNode}
 use Rattle.oc_base.specs.declared.limits.TheConstants.{MAX_RATE}
 use Rattle.oc_probe.specs.Rates.{IsMedian, rates_of, with_rate}

@@ -2,7 +2,7 @@
 
 ghost use Rattle.std.specs.Prelude.{◌≡◌, List, IfErr, IfOk, OnOk, false, length};
 ghost use Rattle.oc_base.specs.Lawful.{IsNode};
-ghost use Rattle.oc_outside.specs.LinkCalls.{CountsDialling};
+ghost use Rattle.oc_link.specs.LinkCalls.{CountsDialling};
 ghost use Rattle.oc_turn.specs.Deeds.{Deed, Under, outside_of};
 ghost use Rattle.oc_turn.specs.Scenes.{BreaksOff, Did, NotesOne, NoteStops, scene};
 ghost use Rattle.oc_one_turn.specs.Sending.{IsPlaced};
@@ -15,8 +15,8 @@ use oc_base::{MAX_RATE, Memory, NodeId, put, put_number};
 use oc_config::Config;
 use oc_io::{Disk, Sink};
 use oc_keep::Kept;
+use oc_link::{Clock, Link};
 use oc_model::Input;
-use oc_outside::{Clock, Link};
 use oc_probe::{Gauge, ProbeFault, Probing, probe};
 use oc_turn::{Outbox, TurnEnd, input_entry, take_own, write_note};
 use std::alloc::Global;

@@ -1,8 +1,8 @@
 //! The messages that a turn dials.
 
 ghost use Rattle.std.specs.Prelude.{◌≡◌, List, IfOk, IfErr, OnErr, OnOk, false};
-ghost use Rattle.oc_outside.specs.ClockView.{Series};
-ghost use Rattle.oc_outside.specs.LinkCalls.{CountsDialling};
+ghost use Rattle.oc_link.specs.ClockView.{Series};
+ghost use Rattle.oc_link.specs.LinkCalls.{CountsDialling};
 ghost use Rattle.oc_turn.specs.Deeds.{Deed, Under, outside_of};
 ghost use Rattle.oc_turn.specs.Scenes.{BreaksOff, Did, scene};
 ghost use Rattle.oc_turn.specs.Sending.{AreSendable};
@@ -18,7 +18,7 @@ use oc_config::Config;
 use oc_http::HeadReader;
 use oc_io::{Disk, Sink};
 use oc_keep::Kept;
-use oc_outside::Link;
+use oc_link::Link;
 use oc_turn::{Entry, Outbox, TurnEnd, dial, take_own};
 use std::alloc::Global;
 

@@ -2,9 +2,9 @@
 
 ghost use Rattle.std.specs.Prelude.{◌≡◌, ◌≤◌, ℕ, Ok, None, Some, List, IfErr, IfOk, OnErr, OnOk, false, length};
 ghost use Rattle.oc_keep.specs.KeptView.{IsHonest, node_of};
-ghost use Rattle.oc_outside.specs.ClockView.{Series};
+ghost use Rattle.oc_link.specs.ClockView.{Series};
 ghost use Rattle.oc_io.specs.Faults.{NoFall};
-ghost use Rattle.oc_outside.specs.LinkCalls.{CountsDialling, CountsTalking};
+ghost use Rattle.oc_link.specs.LinkCalls.{CountsDialling, CountsTalking};
 ghost use Rattle.oc_policy.specs.declared.deciding.TheConstants.{MAX_RULES as MOST_RULES};
 ghost use Rattle.oc_turn.specs.Deeds.{Deed, Under, outside_of};
 ghost use Rattle.oc_turn.specs.Looks.{LookStops};
@@ -25,7 +25,7 @@ use oc_config::Config;
 use oc_http::HeadReader;
 use oc_io::{Disk, Sink};
 use oc_keep::Kept;
-use oc_outside::{Arrival, Clock, Link};
+use oc_link::{Arrival, Clock, Link};
 use oc_probe::Probing;
 use oc_turn::{Outbox, TurnEnd, next_arrival, tick, tidy};
 use std::alloc::Global;

@@ -7,10 +7,10 @@ use Rattle.oc_http.specs.Writing.{probe_text}
 use Rattle.oc_http.specs.declared.fault.HttpFault.{HttpFault}
 use Rattle.oc_http.specs.declared.fault.HttpFault.TheVariants as http
 use Rattle.oc_http.specs.declared.reply.Reply.{Reply}
-use Rattle.oc_outside.specs.Exchange.{Hears, HearsThenBreaks}
-use Rattle.oc_outside.specs.LinkCalls.{Told, IfTold, OnOutgoing, DialsTo, DialFails, connection_of, address_of}
-use Rattle.oc_outside.specs.LinkLoan.{LoanView, Dials}
-use Rattle.oc_outside.specs.Story.{Connection, Dial, Story, hung_up, unused, wrote, broken, IsHeardOut}
+use Rattle.oc_link.specs.Exchange.{Hears, HearsThenBreaks}
+use Rattle.oc_link.specs.LinkCalls.{Told, IfTold, OnOutgoing, DialsTo, DialFails, connection_of, address_of}
+use Rattle.oc_link.specs.LinkLoan.{LoanView, Dials}
+use Rattle.oc_link.specs.Story.{Connection, Dial, Story, hung_up, unused, wrote, broken, IsHeardOut}
 use Rattle.oc_probe.specs.Faults.{fault_of_http}
 use Rattle.oc_probe.specs.Probes.{Asked, IsAnswer, IsAnswered, IsUnanswered, AreAny, HearsUntil, Probed}
 use Rattle.oc_probe.specs.declared.fault.ProbeFault.TheVariants as faults

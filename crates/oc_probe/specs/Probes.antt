@@ -5,10 +5,10 @@ use Rattle.oc_http.specs.Writing.{probe_text}
 use Rattle.oc_http.specs.declared.fault.HttpFault.{HttpFault}
 use Rattle.oc_http.specs.declared.fault.HttpFault.TheVariants.{Source as SourceFault}
 use Rattle.oc_http.specs.declared.reply.Reply.{Reply}
-use Rattle.oc_outside.specs.ClockView.{Series, Ticks}
-use Rattle.oc_outside.specs.Exchange.{Hears, HearsThenBreaks}
-use Rattle.oc_outside.specs.LinkCalls.{Told, OnOutgoing, DialFails}
-use Rattle.oc_outside.specs.Story.{Dial, Story, dials, hung_up}
+use Rattle.oc_link.specs.ClockView.{Series, Ticks}
+use Rattle.oc_link.specs.Exchange.{Hears, HearsThenBreaks}
+use Rattle.oc_link.specs.LinkCalls.{Told, OnOutgoing, DialFails}
+use Rattle.oc_link.specs.Story.{Dial, Story, dials, hung_up}
 use Rattle.oc_probe.specs.Faults.{fault_of_http}
 use Rattle.oc_probe.specs.Rates.{rate_of, probe_bytes}
 use Rattle.oc_probe.specs.declared.fault.ProbeFault.{ProbeFault}

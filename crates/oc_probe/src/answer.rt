@@ -2,15 +2,15 @@
 
 ghost use Rattle.std.specs.Prelude.{◌↔◌, ℕ, List, ◌++◌, IfOk, IfErr, IsErrOf, IsTrue};
 ghost use Rattle.oc_http.specs.Taking.{SaysReply, RefusesReply};
-ghost use Rattle.oc_outside.specs.Exchange.{Hears};
+ghost use Rattle.oc_link.specs.Exchange.{Hears};
 ghost use Rattle.oc_io.specs.Faults.{Rose};
-ghost use Rattle.oc_outside.specs.LinkCalls.{CountsDialling, IfTold, OnOutgoing, Told};
-ghost use Rattle.oc_outside.specs.Story.{IsHeardOut};
+ghost use Rattle.oc_link.specs.LinkCalls.{CountsDialling, IfTold, OnOutgoing, Told};
+ghost use Rattle.oc_link.specs.Story.{IsHeardOut};
 ghost use Rattle.oc_probe.specs.Probes.{HearsUntil, IsAnswer};
 
+use crate::PROBE_BYTES;
 use oc_http::{HeadReader, HttpFault, Reply};
-use oc_outside::{Link, Outgoing};
-use oc_rates::PROBE_BYTES;
+use oc_link::{Link, Outgoing};
 
 /// Reads a response from the outgoing connection.
 pub(crate) fn hear<L: Link>(reader: &mut HeadReader, link: &mut L) -> Result<Reply, HttpFault>

@@ -2,14 +2,14 @@
 
 ghost use Rattle.std.specs.Prelude.{◌≡◌, IsErrOf};
 ghost use Rattle.oc_io.specs.Faults.{Rose};
-ghost use Rattle.oc_outside.specs.LinkCalls.{CountsDialling};
+ghost use Rattle.oc_link.specs.LinkCalls.{CountsDialling};
 ghost use Rattle.oc_probe.specs.Probes.{Probed, Timed};
 
 use crate::answer::{hear, is_answer};
 use crate::fault::ProbeFault;
+use crate::{Gauge, Rotation, rate_of};
 use oc_http::{HeadReader, write_probe};
-use oc_outside::{Clock, Link};
-use oc_rates::{Gauge, Rotation, rate_of};
+use oc_link::{Clock, Link};
 use std::alloc::Global;
 
 /// What a node keeps to probe its peers.

@@ -1,15 +1,15 @@
 -- The status of a replay over bytes in memory.
 use Rattle.std.proofs.Common.{◌≡◌, ℕ, Bool, ◌⊎◌, List, Option, Some, None, ap, sym, refl, inl, inr}
-use Rattle.oc_play.specs.declared.end.ReplayEnd.{ReplayEnd}
-use Rattle.oc_play.specs.declared.end.ReplayEnd.TheVariants as replays
+use Rattle.oc_replay.specs.declared.end.ReplayEnd.{ReplayEnd}
+use Rattle.oc_replay.specs.declared.end.ReplayEnd.TheVariants as replays
 use Rattle.oc_schedule.specs.Schedule.{schedule_of}
-use Rattle.oc_requests.specs.declared.request.Request.{Request}
-use Rattle.oc_requests.specs.declared.request.Request.TheVariants.{Replay}
+use Rattle.oc_words.specs.declared.request.Request.{Request}
+use Rattle.oc_words.specs.declared.request.Request.TheVariants.{Replay}
 use Rattle.oc_commands.specs.AtReplay.{HappenedAtReplay, status_for}
 use Rattle.oc_commands.specs.Ends.{status_of, status_of_replay}
 use Rattle.oc_commands.specs.Outside.{OnClock, OnFiles, OnLink, OnNode, OnStage, Output}
 use Rattle.oc_commands.specs.Run.{Happened}
-use Rattle.oc_requests.specs.Status.{number_of}
+use Rattle.oc_words.specs.Status.{number_of}
 use Rattle.oc_commands.specs.declared.ending.End.{End}
 use Rattle.oc_commands.specs.declared.ending.End.TheVariants.{Helped, HelpFailed, Misused, NoMemory, Replayed, Generated, Listed, Checked, Got, Served}
 use Rattle.oc_program.specs.Streams.{at_bytes}

@@ -2,21 +2,21 @@
 use Rattle.std.proofs.Common.{◌≡◌, ◌∙◌, ℕ, ◌+◌, ◌-◌, ◌^◌, ◌<◌, ◌≤◌, min, cond, List, [], ◌++◌, length, Option, Some, None, Result, Err, ap, sym, subst, inl, inr, arith, append-nil, length-append}
 use Rattle.std.proofs.lemmas.Bool.{lt-ltb}
 use Rattle.std.specs.Str.Lines.{lines}
-use Rattle.oc_adapters.specs.Counts.{Rises}
-use Rattle.oc_adapters.specs.Readers as readers
-use Rattle.oc_adapters.specs.Writers as writers
-use Rattle.oc_adapters.specs.declared.reader_source.ReaderSource.{ReaderSource}
-use Rattle.oc_adapters.specs.declared.traffic.Traffic.{Traffic}
-use Rattle.oc_adapters.specs.declared.writer_sink.WriterSink.{WriterSink}
+use Rattle.oc_io.specs.Counts.{Rises}
+use Rattle.oc_io.specs.Readers as readers
+use Rattle.oc_io.specs.Writers as writers
+use Rattle.oc_io.specs.declared.reader_source.ReaderSource.{ReaderSource}
+use Rattle.oc_io.specs.declared.traffic.Traffic.{Traffic}
+use Rattle.oc_io.specs.declared.writer_sink.WriterSink.{WriterSink}
 use Rattle.oc_base.specs.declared.limits.TheConstants.{MAX_SCHEDULE_BYTES}
 use Rattle.oc_io.specs.Faults.{Rose}
 use Rattle.oc_replay.specs.Replay.{IsInput, PassesLimit}
 use Rattle.oc_schedule.specs.Schedule.{read_lines, schedule_of}
 use Rattle.oc_schedule.specs.Script.{Script}
-use Rattle.oc_acts.specs.declared.fault.ScheduleFault.{ScheduleFault}
-use Rattle.oc_acts.specs.declared.fault.ScheduleFault.TheVariants.{Limit}
-use Rattle.oc_acts.specs.declared.fault.What.{What}
-use Rattle.oc_acts.specs.declared.fault.What.TheVariants as limits
+use Rattle.oc_schedule.specs.declared.fault.ScheduleFault.{ScheduleFault}
+use Rattle.oc_schedule.specs.declared.fault.ScheduleFault.TheVariants.{Limit}
+use Rattle.oc_schedule.specs.declared.fault.What.{What}
+use Rattle.oc_schedule.specs.declared.fault.What.TheVariants as limits
 use Rattle.oc_commands.specs.Outside.{at_sink, at_source}
 use Rattle.oc_commands.specs.Run.{IsWrittenOrCut}
 use Rattle.oc_program.specs.Streams.{HasFailed, IsCountOf, IsCountOfLineOrFront, IsLineOrFront, IsSoundCountOf, at_bytes, at_input, at_output, at_text}

@@ -1,10 +1,10 @@
 -- A run over bytes in memory, and a run over streams of which it is known how many bytes passed.
 use Rattle.std.specs.Prelude.{◌≡◌, ℕ, ◌<◌, ◌≤◌, ◌^◌, ◌-◌, ◌⊎◌, List, length, min, Err}
-use Rattle.oc_adapters.specs.declared.traffic.Traffic.{Traffic}
+use Rattle.oc_io.specs.declared.traffic.Traffic.{Traffic}
 use Rattle.oc_base.specs.declared.limits.TheConstants.{MAX_SCHEDULE_BYTES}
-use Rattle.oc_play.specs.Pieces.{SomeFront}
+use Rattle.oc_replay.specs.Pieces.{SomeFront}
 use Rattle.oc_schedule.specs.Schedule.{schedule_of}
-use Rattle.oc_acts.specs.declared.fault.ScheduleFault.TheVariants.{Limit}
+use Rattle.oc_schedule.specs.declared.fault.ScheduleFault.TheVariants.{Limit}
 use Rattle.oc_commands.specs.Outside.{Input, Output}
 
 -- ---- in memory

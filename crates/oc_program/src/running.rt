@@ -12,19 +12,19 @@ ghost use Rattle.oc_commands.specs.Ends.{status_of};
 ghost use Rattle.oc_commands.specs.Lines.{line_of};
 ghost use Rattle.oc_commands.specs.Outside.{at_clock, at_files, at_link, at_node, at_sink, at_source, at_stage, seen};
 ghost use Rattle.oc_commands.specs.Run.{Happened, IsNoNode, IsWrittenOrCut};
-ghost use Rattle.oc_requests.specs.Status.{number_of};
+ghost use Rattle.oc_words.specs.Status.{number_of};
 ghost use Rattle.oc_words.specs.Words.{IsPlain, asked, texts_of};
-ghost use Rattle.oc_requests.specs.declared.request.Member.{Member};
-ghost use Rattle.oc_requests.specs.declared.request.Sample.{Sample};
-ghost use Rattle.oc_requests.specs.declared.request.Service.{Service};
+ghost use Rattle.oc_words.specs.declared.request.Member.{Member};
+ghost use Rattle.oc_words.specs.declared.request.Sample.{Sample};
+ghost use Rattle.oc_words.specs.declared.request.Service.{Service};
 
 use oc_commands::{
     End, check_files, download, list_rules, replay_input, run_service, tell, write_help,
     write_sample,
 };
 use oc_io::{Disk, Sink, Source};
-use oc_outside::{Clock, Link};
-use oc_stage::Stage;
+use oc_link::{Clock, Link};
+use oc_replay::Stage;
 use oc_words::{Request, WordsFault, read_words};
 use std::alloc::Global;
 

@@ -1,4 +1,4 @@
-//! The program over readers and writers, through the adapters of `oc_adapters`: over bytes in memory,
+//! The program over readers and writers, through the adapters of `oc_io`: over bytes in memory,
 //! and over the standard streams.
 
 ghost use Rattle.std.specs.Prelude.{◌≡◌, ℕ, Bool, ◌⊎◌, List, Some};
@@ -8,17 +8,16 @@ ghost use Rattle.oc_commands.specs.Ends.{status_of};
 ghost use Rattle.oc_commands.specs.Lines.{line_of};
 ghost use Rattle.oc_commands.specs.Outside.{at_clock, at_files, at_link, at_node, at_stage, seen};
 ghost use Rattle.oc_commands.specs.Run.{Happened};
-ghost use Rattle.oc_requests.specs.Status.{number_of};
+ghost use Rattle.oc_words.specs.Status.{number_of};
 ghost use Rattle.oc_program.specs.Streams.{IsCountOfLineOrFront, IsLineOrFront, at_bytes, at_input, at_output, at_text};
 ghost use Rattle.oc_words.specs.Words.{asked, texts_of};
 ghost use Rattle.oc_commands.specs.declared.ending.End.{End};
 ghost use Rattle.oc_schedule.specs.Schedule.{schedule_of};
 
 use crate::running::run;
-use oc_adapters::{ReaderSource, Traffic, WriterSink};
-use oc_io::Disk;
-use oc_outside::{Clock, Link};
-use oc_stage::Stage;
+use oc_io::{Disk, ReaderSource, Traffic, WriterSink};
+use oc_link::{Clock, Link};
+use oc_replay::Stage;
 use oc_words::Request;
 use std::alloc::Global;
 use std::io::{Stderr, Stdin, Stdout};

@@ -5,3 +5,9 @@ pub mod ListLaws
 pub mod Runs
 pub mod Leasts
 pub mod Puts
+pub mod Lengths
+pub mod Moves
+pub mod MovesAsking
+pub mod Moving
+pub mod CalmSteps
+pub mod Frames

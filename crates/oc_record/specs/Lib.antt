@@ -3,3 +3,5 @@ pub mod Spelling
 pub mod Rows
 pub mod Reading
 pub mod Examples
+pub mod Quash
+pub mod Calm

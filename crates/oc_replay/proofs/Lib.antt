@@ -4,3 +4,5 @@ pub mod Messages
 pub mod Opened
 pub mod Runs
 pub mod Written
+pub mod Shown
+pub mod Running

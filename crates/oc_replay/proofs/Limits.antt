@@ -3,17 +3,17 @@ use Rattle.std.proofs.Common.{◌≡◌, ℕ, ◌+◌, ◌<◌, Option, Some, No
 use Rattle.std.proofs.lemmas.Bool.{cond_both, ltb-true}
 use Rattle.std.specs.Str.Lines.{lines}
 use Rattle.oc_base.specs.declared.why.Why.{Why}
-use Rattle.oc_acts.specs.declared.fault.ScheduleFault.{ScheduleFault}
-use Rattle.oc_acts.specs.declared.fault.ScheduleFault.TheVariants.{Line, Limit, Memory}
-use Rattle.oc_acts.specs.declared.fault.What.{What}
-use Rattle.oc_acts.specs.declared.fault.What.TheVariants.{Lines, Bytes, Published, Settles}
+use Rattle.oc_schedule.specs.declared.fault.ScheduleFault.{ScheduleFault}
+use Rattle.oc_schedule.specs.declared.fault.ScheduleFault.TheVariants.{Line, Limit, Memory}
+use Rattle.oc_schedule.specs.declared.fault.What.{What}
+use Rattle.oc_schedule.specs.declared.fault.What.TheVariants.{Lines, Bytes, Published, Settles}
 use Rattle.oc_base.specs.Words.{words}
 use Rattle.oc_base.specs.declared.limits.TheConstants.{MAX_SCHEDULE_BYTES, MAX_SCHEDULE_LINES, MAX_SCHEDULE_PUBLISHED, MAX_SCHEDULE_SETTLES}
-use Rattle.oc_acts.specs.Reading.{at_line, Gives}
+use Rattle.oc_schedule.specs.Reading.{at_line, Gives}
 use Rattle.oc_base.specs.Steps.{◌>>=◌}
 use Rattle.oc_schedule.specs.Schedule.{schedule_of, read_lines, read_line, read_words, read_statement, within_limits, script_after, is_comment}
 use Rattle.oc_schedule.specs.Script.{Script, published_in, settles_in}
-use Rattle.oc_play.specs.Ends.{IfLimit, end_of_schedule}
+use Rattle.oc_replay.specs.Ends.{IfLimit, end_of_schedule}
 use Rattle.oc_replay.specs.Replay.{IsInput, PassesLimit}
 
 -- it is no refusal for the limit on bytes

@@ -4,7 +4,7 @@ use Rattle.std.specs.Prelude.{slice_get}
 use Rattle.std.proofs.lemmas.List.{append_assoc}
 use Rattle.oc_model.specs.declared.message.Message.{Message}
 use Rattle.oc_model.specs.World.{message_at}
-use Rattle.oc_report.specs.Lines.{messages_text}
+use Rattle.oc_replay.specs.Lines.{messages_text}
 use Rattle.oc_replay.specs.Report.{message_text}
 
 -- the message at a place, and those after it

@@ -9,8 +9,8 @@ use Rattle.oc_model.specs.World.{World, Process, ids}
 use Rattle.oc_model.specs.WorldBounds.{AreWithinLimits}
 use Rattle.oc_schedule.specs.Schedule.{IsSchedule}
 use Rattle.oc_schedule.specs.Script.{Script}
-use Rattle.oc_stage.specs.Stage.{HoldsNothing, IsBlank}
-use Rattle.oc_play.specs.Opening.{IsOpening}
+use Rattle.oc_replay.specs.Stage.{HoldsNothing, IsBlank}
+use Rattle.oc_replay.specs.Opening.{IsOpening}
 
 -- nodes that hold nothing are within the limits
 nothing_within : (ps : List Process) → AllByRecursion HoldsNothing ps → AllByRecursion (λ p. AreWithinLimits p.node.groups) ps

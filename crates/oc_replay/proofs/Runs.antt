@@ -4,7 +4,7 @@ use Rattle.std.proofs.lemmas.List.{at_drop_more, at_drop_all}
 use Rattle.oc_model.specs.declared.event.Event.{Event}
 use Rattle.oc_model.specs.declared.word.Word.{Word}
 use Rattle.oc_model.specs.World.{World}
-use Rattle.oc_report.specs.Lines.{end_line, event_line}
+use Rattle.oc_replay.specs.Lines.{end_line, event_line}
 use Rattle.oc_replay.specs.Report.{block_text, event_text, sent_text, told_from}
 use Rattle.oc_replay.proofs.Written.{IsWritten, gathers, gathers_all}
 

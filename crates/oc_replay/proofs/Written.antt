@@ -1,7 +1,7 @@
 -- A text that is gathered and written piece by piece.
 use Rattle.std.proofs.Common.{◌≡◌, ℕ, List, [], ◌++◌, length, take, drop, refl, sym, ap, ◌∙◌, subst}
 use Rattle.std.proofs.lemmas.List.{append_assoc, append-nil, take_at, take-append-drop}
-use Rattle.oc_play.specs.Pieces.{PassesOn, SomeFront}
+use Rattle.oc_replay.specs.Pieces.{PassesOn, SomeFront}
 
 -- a prefix of the text was taken, what is gathered is after it, and then comes the rest
 pub record IsWritten {K : Type 0} (takes : K → List ℕ → K → Type 0) (old new : K) (gathered rest text : List ℕ) : Type 0 where

@@ -1,7 +1,7 @@
 use Rattle.std.specs.Prelude.{◌≡◌, ℕ, Result, Ok, List, codes}
 use Rattle.oc_model.specs.NextWorld.{next_world, word_of}
 use Rattle.oc_model.specs.World.{new_world}
-use Rattle.oc_acts.specs.declared.fault.ScheduleFault.{ScheduleFault}
+use Rattle.oc_schedule.specs.declared.fault.ScheduleFault.{ScheduleFault}
 use Rattle.oc_base.specs.Steps.{◌>>=◌}
 use Rattle.oc_schedule.specs.Schedule.{schedule_of}
 use Rattle.oc_replay.specs.Replay.{brief_text, told_text}

@@ -3,10 +3,10 @@ use Rattle.oc_model.specs.declared.event.Event.{Event}
 use Rattle.oc_model.specs.declared.word.Word.{Word}
 use Rattle.oc_model.specs.Node.{Header}
 use Rattle.oc_model.specs.World.{World}
-use Rattle.oc_acts.specs.declared.fault.ScheduleFault.{ScheduleFault}
-use Rattle.oc_acts.specs.declared.fault.ScheduleFault.TheVariants.{Limit}
-use Rattle.oc_acts.specs.declared.fault.What.{What}
-use Rattle.oc_acts.specs.declared.fault.What.TheVariants.{Bytes}
+use Rattle.oc_schedule.specs.declared.fault.ScheduleFault.{ScheduleFault}
+use Rattle.oc_schedule.specs.declared.fault.ScheduleFault.TheVariants.{Limit}
+use Rattle.oc_schedule.specs.declared.fault.What.{What}
+use Rattle.oc_schedule.specs.declared.fault.What.TheVariants.{Bytes}
 use Rattle.oc_base.specs.declared.limits.TheConstants.{MAX_SCHEDULE_BYTES}
 use Rattle.oc_schedule.specs.Schedule.{schedule_of}
 use Rattle.oc_schedule.specs.Script.{Script}

@@ -5,16 +5,16 @@ use Rattle.oc_model.specs.declared.message.Message.{Message}
 use Rattle.oc_model.specs.declared.word.Word.{Word}
 use Rattle.oc_base.specs.Groups.{shelf}
 use Rattle.oc_model.specs.World.{World, node}
-use Rattle.oc_stage.specs.Sight.{sight_in}
-use Rattle.oc_report.specs.Lines.{event_line, message_line, messages_text, held_text, end_line}
-use Rattle.oc_report.specs.Shows.{show_text}
+use Rattle.oc_model.specs.Status.{status_in}
+use Rattle.oc_replay.specs.Lines.{event_line, message_line, messages_text, held_text, end_line}
+use Rattle.oc_replay.specs.Shows.{show_text}
 
 -- What a report says of a run.
 
 -- the block of an event, in the world after it
 abbrev pub block_text : World → Event → List ℕ
 block_text w (Held x) = held_text (shelf (node w x).groups)
-block_text w (Show x) = show_text x (sight_in w x)
+block_text w (Show x) = show_text x (status_in w x)
 block_text w e = []
 
 -- the lines of the messages from this number on

@@ -6,19 +6,18 @@ ghost use Rattle.oc_model.specs.World.{ids};
 ghost use Rattle.oc_io.specs.Faults.{NoFall, Rose};
 ghost use Rattle.oc_schedule.specs.Schedule.{IsSchedule};
 ghost use Rattle.oc_schedule.specs.Script.{Script};
-ghost use Rattle.oc_acts.specs.declared.fault.ScheduleFault.TheVariants.{Line};
-ghost use Rattle.oc_play.specs.Ends.{OnDone, IfText, IfLimit, OnSource, OnSink, OnMemory, OnRefusal};
-ghost use Rattle.oc_play.specs.Opening.{IsOpening};
+ghost use Rattle.oc_schedule.specs.declared.fault.ScheduleFault.TheVariants.{Line};
+ghost use Rattle.oc_replay.specs.Ends.{OnDone, IfText, IfLimit, OnSource, OnSink, OnMemory, OnRefusal};
+ghost use Rattle.oc_replay.specs.Opening.{IsOpening};
 ghost use Rattle.oc_replay.specs.Replay.{IsInput, PassesLimit, output_text, run_output, world_at};
-ghost use Rattle.oc_play.specs.Pieces.{SomeFront};
+ghost use Rattle.oc_replay.specs.Pieces.{SomeFront};
 
 use crate::reporting::report;
 use crate::summing::summarize;
+use crate::{ReplayEnd, ReportFault, Stage};
 use oc_io::{Sink, Source, read_all};
 use oc_model::Event;
-use oc_play::{ReplayEnd, ReportFault};
 use oc_schedule::{Schedule, What, read};
-use oc_stage::Stage;
 use std::alloc::Global;
 
 /// Reads a schedule from the source, plays it on the stage, and writes its report to the sink, or with

@@ -4,17 +4,17 @@ ghost use Rattle.std.specs.Prelude.{◌≡◌, ◌+◌, ◌-◌, ◌^◌, ◌<�
 ghost use Rattle.oc_model.specs.Lawful.{IsEvent};
 ghost use Rattle.oc_model.specs.World.{ids, message_at};
 ghost use Rattle.oc_io.specs.Faults.{NoFall, Rose};
-ghost use Rattle.oc_play.specs.Opening.{IsOpening};
-ghost use Rattle.oc_play.specs.Pieces.{SomeFront};
+ghost use Rattle.oc_replay.specs.Opening.{IsOpening};
+ghost use Rattle.oc_replay.specs.Pieces.{SomeFront};
 ghost use Rattle.oc_replay.specs.Report.{block_text, event_text, message_text, run_text, sent_from, sent_text};
-ghost use Rattle.oc_stage.specs.Stage.{HasTimeFor};
+ghost use Rattle.oc_replay.specs.Stage.{HasTimeFor};
 
+use crate::{
+    ReportFault, Said, Stage, pass_on, play_one, put_held, put_message, put_show, write_last,
+};
 use oc_base::Memory;
 use oc_io::Sink;
 use oc_model::Event;
-use oc_play::{ReportFault, pass_on, play_one, write_last};
-use oc_report::{put_held, put_message, put_show};
-use oc_stage::{Said, Stage};
 use std::alloc::Global;
 
 /// Gives the stage each event once, in order, and writes the report of the run, which opens with
@@ -123,7 +123,7 @@ fn put_block<T: Stage>(out: &mut Vec<u8>, stage: &T, event: &Event) -> Result<()
 {
     match event {
         Event::Held(node) => put_held(out, &stage.held(*node)?),
-        Event::Show(node) => put_show(out, *node, &stage.sight(*node)?),
+        Event::Show(node) => put_show(out, *node, &stage.status(*node)?),
         _ => Ok(()),
     }
 }

@@ -9,15 +9,14 @@ ghost use Rattle.oc_model.specs.Records.{is_joined};
 ghost use Rattle.oc_model.specs.World.{ids};
 ghost use Rattle.oc_model.specs.WorldBounds.{IsWithinLimits};
 ghost use Rattle.oc_io.specs.Faults.{NoFall, Rose};
-ghost use Rattle.oc_play.specs.Opening.{IsOpening};
-ghost use Rattle.oc_play.specs.Pieces.{SomeFront};
+ghost use Rattle.oc_replay.specs.Opening.{IsOpening};
+ghost use Rattle.oc_replay.specs.Pieces.{SomeFront};
 ghost use Rattle.oc_replay.specs.Summary.{FitsWith, bytes_in, count_line, one_if, plus, run_summary, summary_of_tally, summary_text, tally_at, tally_over};
 
+use crate::{ReportFault, Stage, play};
 use oc_base::{Memory, NodeId, Shelf, put, put_with_number};
 use oc_io::{Sink, write_all};
 use oc_model::{Event, Mode};
-use oc_play::{ReportFault, play};
-use oc_stage::Stage;
 use std::alloc::Global;
 
 /// What is counted of some nodes: those that are up, those of them that are joined and that act as
@@ -128,12 +127,12 @@ fn tally_at<T: Stage>(stage: &T, node: NodeId) -> Result<Tally, Memory>
     requires limits { IsWithinLimits (T.world stage.now) }
     ensures { IfOk result (λ tally. tally ≡ tally_at (T.world stage.now) node) }
 {
-    let sight = stage.sight(node)?;
+    let status = stage.status(node)?;
     let held = stage.held(node)?;
     Ok(Tally {
-        up: one_if(sight.up),
-        joined: one_if(sight.up && is_joined(sight.mode)),
-        acting: one_if(sight.up && is_acting(sight.mode)),
+        up: one_if(status.up),
+        joined: one_if(status.up && is_joined(status.mode)),
+        acting: one_if(status.up && is_acting(status.mode)),
         bytes: bytes_in(&held),
     })
 }

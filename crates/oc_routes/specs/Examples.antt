@@ -11,17 +11,17 @@ use Rattle.oc_model.specs.declared.message.Body.TheVariants as bodies
 use Rattle.oc_model.specs.declared.message.Message.{Message}
 use Rattle.oc_policy.specs.declared.rule.Action.TheVariants.{Get, Post}
 use Rattle.oc_policy.specs.declared.rule.Rule.{Rule}
-use Rattle.oc_routing.specs.Connections.{is_last, awaits_continue}
+use Rattle.oc_routes.specs.Connections.{is_last, awaits_continue}
 use Rattle.oc_routes.specs.Inputs.{input_asked, input_line}
 use Rattle.oc_routes.specs.Refusals.{refusal_line, refusal_text}
-use Rattle.oc_routing.specs.Replies.{others, reply_to}
+use Rattle.oc_routes.specs.Replies.{others, reply_to}
 use Rattle.oc_routes.specs.Responses.{response_to}
-use Rattle.oc_routing.specs.Routes.{asked}
-use Rattle.oc_routing.specs.declared.asks.Asks.{Asks}
-use Rattle.oc_routing.specs.declared.asks.Asks.TheVariants as asks
-use Rattle.oc_routing.specs.declared.asks.Manner.TheVariants.{HeadAlone, Once, Follow}
-use Rattle.oc_routing.specs.declared.refused.Refused.{Refused}
-use Rattle.oc_routing.specs.declared.refused.Refused.TheVariants as refusals
+use Rattle.oc_routes.specs.Routes.{asked}
+use Rattle.oc_routes.specs.declared.asks.Asks.{Asks}
+use Rattle.oc_routes.specs.declared.asks.Asks.TheVariants as asks
+use Rattle.oc_routes.specs.declared.asks.Manner.TheVariants.{HeadAlone, Once, Follow}
+use Rattle.oc_routes.specs.declared.refused.Refused.{Refused}
+use Rattle.oc_routes.specs.declared.refused.Refused.TheVariants as refusals
 use Rattle.oc_routes.specs.declared.response.Response.{Response}
 
 -- the head of a request of version 1.1 with no body

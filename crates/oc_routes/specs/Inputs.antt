@@ -4,18 +4,18 @@ use Rattle.oc_model.specs.declared.event.Act.TheVariants as acts
 use Rattle.oc_model.specs.declared.input.Input.{Input}
 use Rattle.oc_model.specs.declared.input.Input.TheVariants as inputs
 use Rattle.oc_model.specs.declared.message.Message.{Message}
-use Rattle.oc_acts.specs.Texts.{act_line, recv_line}
-use Rattle.oc_message.specs.Reading.{decoded}
+use Rattle.oc_schedule.specs.Texts.{act_line, recv_line}
+use Rattle.oc_wire.specs.MessageReading.{decoded}
 use Rattle.oc_wire.specs.Spelling.{spelling, HasSpelling}
-use Rattle.oc_message.specs.declared.fault.WireFault.{WireFault}
-use Rattle.oc_routing.specs.declared.asks.Asks.{Asks}
-use Rattle.oc_routing.specs.declared.asks.Asks.TheVariants as asks
+use Rattle.oc_wire.specs.declared.fault.WireFault.{WireFault}
+use Rattle.oc_routes.specs.declared.asks.Asks.{Asks}
+use Rattle.oc_routes.specs.declared.asks.Asks.TheVariants as asks
 use Rattle.oc_routes.specs.declared.fault.RouteFault.{RouteFault}
 use Rattle.oc_routes.specs.declared.fault.RouteFault.TheVariants as faults
 use Rattle.oc_routes.specs.declared.lines.ProbeFailure.{ProbeFailure}
 use Rattle.oc_routes.specs.declared.lines.ProbeFailure.TheVariants as failures
-use Rattle.oc_routing.specs.declared.refused.Refused.{Refused}
-use Rattle.oc_routing.specs.declared.refused.Refused.TheVariants as refusals
+use Rattle.oc_routes.specs.declared.refused.Refused.{Refused}
+use Rattle.oc_routes.specs.declared.refused.Refused.TheVariants as refusals
 
 -- a message that was read goes to the node that it is addressed to, and to no other
 abbrev pub delivered : ℕ → Result Message WireFault → Result (Option Input) Refused

@@ -3,3 +3,8 @@ pub mod Inputs
 pub mod Responses
 pub mod Answers
 pub mod Examples
+pub mod Connections
+pub mod Lawful
+pub mod Queries
+pub mod Replies
+pub mod Routes

@@ -6,8 +6,8 @@ use Rattle.oc_http.specs.declared.fault.HttpFault.TheVariants as http
 use Rattle.oc_http.specs.declared.reply.Reply.{Reply}
 use Rattle.oc_routes.specs.declared.fault.RouteFault.{RouteFault}
 use Rattle.oc_routes.specs.declared.fault.RouteFault.TheVariants as faults
-use Rattle.oc_routing.specs.declared.refused.Refused.{Refused}
-use Rattle.oc_routing.specs.declared.refused.Refused.TheVariants.{Source, Ended, Head, HeadLong, Fields, Host, Coding, Length, BodyLong, Method, Path, Query, Denied, Message, Body}
+use Rattle.oc_routes.specs.declared.refused.Refused.{Refused}
+use Rattle.oc_routes.specs.declared.refused.Refused.TheVariants.{Source, Ended, Head, HeadLong, Fields, Host, Coding, Length, BodyLong, Method, Path, Query, Denied, Message, Body}
 
 -- a fault of a head or a body refuses its request by the same name; running out of memory doesn't
 abbrev pub fault_of_http : HttpFault → RouteFault

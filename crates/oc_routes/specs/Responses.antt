@@ -10,15 +10,15 @@ use Rattle.oc_http.specs.declared.reply.Reply.{Reply}
 use Rattle.oc_model.specs.declared.answer.Answer.{Answer}
 use Rattle.oc_model.specs.declared.answer.Answer.TheVariants as answers
 use Rattle.oc_model.specs.declared.message.Message.{Message}
-use Rattle.oc_rates.specs.declared.rate.TheConstants.{PROBE_BYTES}
-use Rattle.oc_redirect.specs.Locations.{location_text, follow_location_text}
+use Rattle.oc_probe.specs.declared.rate.TheConstants.{PROBE_BYTES}
+use Rattle.oc_updown.specs.Locations.{location_text, follow_location_text}
 use Rattle.oc_wire.specs.Spelling.{spelling}
 use Rattle.oc_routes.specs.Refusals.{bare}
-use Rattle.oc_routing.specs.Routes.{content_for}
-use Rattle.oc_routing.specs.declared.asks.Asks.{Asks}
-use Rattle.oc_routing.specs.declared.asks.Asks.TheVariants as asks
-use Rattle.oc_routing.specs.declared.asks.Manner.{Manner}
-use Rattle.oc_routing.specs.declared.asks.Manner.TheVariants.{HeadAlone, Follow}
+use Rattle.oc_routes.specs.Routes.{content_for}
+use Rattle.oc_routes.specs.declared.asks.Asks.{Asks}
+use Rattle.oc_routes.specs.declared.asks.Asks.TheVariants as asks
+use Rattle.oc_routes.specs.declared.asks.Manner.{Manner}
+use Rattle.oc_routes.specs.declared.asks.Manner.TheVariants.{HeadAlone, Follow}
 use Rattle.oc_routes.specs.declared.response.Response.{Response}
 
 -- a whole reply, which ends the connection

@@ -2,9 +2,9 @@ ghost use Rattle.std.specs.Prelude.{◌≡◌};
 ghost use Rattle.oc_routes.specs.Refusals.{fault_of_http};
 ghost use Rattle.oc_routes.specs.declared.fault.RouteFault.TheVariants.{Memory as RouteMemory, Refused as RouteRefused};
 
+use crate::Refused;
 use oc_base::Memory;
 use oc_http::HttpFault;
-use oc_routing::Refused;
 use std::alloc::{AllocError, AllocFailed};
 use std::error::Error;
 use std::fmt;

@@ -2,13 +2,13 @@ ghost use Rattle.std.specs.Prelude.{◌≡◌, ◌≤◌, length, IfOk, IfSome};
 ghost use Rattle.oc_base.specs.declared.limits.TheConstants.{MAX_PUBLISH_BYTES};
 ghost use Rattle.oc_model.specs.Lawful.{IsInput};
 ghost use Rattle.oc_routes.specs.Inputs.{Gives, HasLine, delivered, input_asked};
-ghost use Rattle.oc_routing.specs.Lawful.{IsAsked};
-ghost use Rattle.oc_message.specs.Reading.{decoded};
+ghost use Rattle.oc_routes.specs.Lawful.{IsAsked};
+ghost use Rattle.oc_wire.specs.MessageReading.{decoded};
 
 use crate::fault::RouteFault;
+use crate::{Asks, Refused};
 use oc_base::{Bytes, NodeId};
 use oc_model::Input;
-use oc_routing::{Asks, Refused};
 use oc_wire::{WireFault, decode};
 use std::alloc::Global;
 

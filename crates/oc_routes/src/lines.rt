@@ -2,15 +2,15 @@
 
 ghost use Rattle.std.specs.Prelude.{◌≡◌, ◌++◌, OnOk, codes};
 ghost use Rattle.oc_model.specs.declared.event.Act.TheVariants.{Publish as PublishAct};
-ghost use Rattle.oc_acts.specs.Texts.{act_line, recv_line};
+ghost use Rattle.oc_schedule.specs.Texts.{act_line, recv_line};
 ghost use Rattle.oc_wire.specs.Spelling.{spelling, HasSpelling};
 ghost use Rattle.oc_routes.specs.Inputs.{HasLine, failure_text, input_line, probe_line};
 ghost use Rattle.oc_routes.specs.Refusals.{refusal_line, why_text};
 
-use oc_acts::{put_act_line, put_bytes, put_recv_line};
+use crate::Refused;
 use oc_base::{GroupName, Memory, NodeId, put, put_number, put_with_number};
 use oc_model::{Act, Input, Message};
-use oc_routing::Refused;
+use oc_schedule::{put_act_line, put_bytes, put_recv_line};
 use oc_wire::encode;
 use std::alloc::Global;
 

@@ -4,9 +4,9 @@ ghost use Rattle.std.specs.Prelude.{◌≡◌, IfOk, IfSome, option_map};
 ghost use Rattle.oc_http.specs.Writing.{HasPhrase, response_text};
 ghost use Rattle.oc_routes.specs.Refusals.{bare, refusal_text, rule_of, status_of};
 
+use crate::Refused;
 use oc_base::{Bytes, Memory};
 use oc_http::{Reply, write_response};
-use oc_routing::Refused;
 use std::alloc::Global;
 
 /// The whole reply to a refused request, which ends its connection; none where the connection failed or

@@ -4,19 +4,19 @@ ghost use Rattle.std.specs.Prelude.{◌≡◌, ◌++◌, [], IfOk, OnOk, map, op
 ghost use Rattle.std.specs.Option.{ForSome};
 ghost use Rattle.oc_base.specs.Names.{IsGroupName};
 ghost use Rattle.oc_http.specs.Writing.{HasPhrase, head_text};
-ghost use Rattle.oc_routing.specs.Lawful.{IsAsked};
+ghost use Rattle.oc_routes.specs.Lawful.{IsAsked};
 ghost use Rattle.oc_routes.specs.Responses.{client_response, connection_for, copies, framing_for, is_chunked, location_for, message_response, probe_body, probe_response, publish_status, redirection, response_to, seal_status, served, status_alone, typed, whole};
 ghost use Rattle.oc_wire.specs.Spelling.{HasSpelling};
 
 use crate::addresses::address_of;
 use crate::refusals::bare_reply;
 use crate::response::{Content, Response};
+use crate::{Asks, Manner};
 use oc_base::{Bytes, GroupName, Memory, NodeId, Text};
 use oc_http::{Connection, Framing, Reply, write_reply_head, write_response};
 use oc_model::{Answer, Message};
-use oc_rates::PROBE_BYTES;
-use oc_redirect::{follow_location, location};
-use oc_routing::{Asks, Manner};
+use oc_probe::PROBE_BYTES;
+use oc_updown::{follow_location, location};
 use oc_wire::encode;
 use std::alloc::Global;
 

@@ -8,10 +8,10 @@ use Rattle.oc_model.specs.declared.event.Act.TheVariants as acts
 use Rattle.oc_model.specs.declared.event.Event.{Event}
 use Rattle.oc_model.specs.declared.event.Event.TheVariants as events
 use Rattle.oc_model.specs.Lawful.{IsEvent}
-use Rattle.oc_acts.proofs.ActsBack.{act_are_words, act_back, node_back, node_word, then}
-use Rattle.oc_acts.proofs.FieldsBack.{decimal_word, number_back}
-use Rattle.oc_acts.proofs.LineBack.{AreWords}
-use Rattle.oc_acts.specs.Acts.{act_fields, act_in, act_word, most_byte}
+use Rattle.oc_schedule.proofs.ActsBack.{act_are_words, act_back, node_back, node_word, then}
+use Rattle.oc_schedule.proofs.FieldsBack.{decimal_word, number_back}
+use Rattle.oc_schedule.proofs.LineBack.{AreWords}
+use Rattle.oc_schedule.specs.Acts.{act_fields, act_in, act_word, most_byte}
 use Rattle.oc_schedule.specs.Lines.{act_alone_in, event_fields, event_in, event_word, event_words, most_calls}
 use Rattle.oc_schedule.specs.Printing.{IsOfBytes}
 use Rattle.oc_schedule.specs.Schedule.{is_comment}

@@ -9,14 +9,14 @@ use Rattle.oc_base.specs.declared.why.Why.{Why}
 use Rattle.oc_model.specs.declared.event.Event.{Event}
 use Rattle.oc_model.specs.Lawful.{IsHeader, IsEvent}
 use Rattle.oc_schedule.proofs.Ranges.{area_range, event_range, header_range, set_keeps_areas}
-use Rattle.oc_acts.proofs.Steps.{steps, chosen, behind_guard}
-use Rattle.oc_acts.specs.declared.fault.ScheduleFault.TheVariants.{Limit}
-use Rattle.oc_acts.specs.declared.fault.ScheduleFault.{ScheduleFault}
-use Rattle.oc_acts.specs.declared.fault.What.TheVariants as limits
+use Rattle.oc_schedule.proofs.Steps.{steps, chosen, behind_guard}
+use Rattle.oc_schedule.specs.declared.fault.ScheduleFault.TheVariants.{Limit}
+use Rattle.oc_schedule.specs.declared.fault.ScheduleFault.{ScheduleFault}
+use Rattle.oc_schedule.specs.declared.fault.What.TheVariants as limits
 use Rattle.oc_base.specs.Words.{words}
 use Rattle.oc_base.specs.declared.limits.TheConstants.{MAX_SCHEDULE_LINES, MAX_SCHEDULE_PUBLISHED, MAX_SCHEDULE_SETTLES}
 use Rattle.oc_schedule.specs.Lines.{header_in, area_in, event_in}
-use Rattle.oc_acts.specs.Reading.{Gives, at_line}
+use Rattle.oc_schedule.specs.Reading.{Gives, at_line}
 use Rattle.oc_schedule.specs.Schedule.{IsSchedule, after_area, after_event, is_comment, first_script, read_line, read_lines, read_statement, read_words, script_after, with_area, with_event}
 use Rattle.oc_schedule.specs.Script.{Script, published_by, published_in, settles_in}
 

@@ -10,11 +10,11 @@ use Rattle.oc_model.specs.declared.event.Event.TheVariants.{Up, Crash, Stop, Do,
 use Rattle.oc_base.specs.Lawful.{IsNode}
 use Rattle.oc_model.specs.Lawful.{IsHeader, IsEvent}
 use Rattle.oc_model.specs.Node.{Header}
-use Rattle.oc_acts.proofs.ActRanges.{act_range, either, number_range}
-use Rattle.oc_acts.proofs.Steps.{steps, within_guard}
+use Rattle.oc_schedule.proofs.ActRanges.{act_range, either, number_range}
+use Rattle.oc_schedule.proofs.Steps.{steps, within_guard}
 use Rattle.oc_base.specs.Words.{one, two, six, number_in, node_in}
 use Rattle.oc_base.specs.declared.limits.TheConstants.{MAX_AREA, MAX_NODES, MAX_CHAIN}
-use Rattle.oc_acts.specs.Acts.{act_in, most_byte}
+use Rattle.oc_schedule.specs.Acts.{act_in, most_byte}
 use Rattle.oc_schedule.specs.Lines.{sizes_in, opening_in, header_in, area_in, first_three, node_alone_in, up_in, crash_in, held_in, show_in, alone, stop_in, act_alone_in, event_in, most_calls}
 use Rattle.oc_base.specs.Steps.{with_fault}
 use Rattle.oc_schedule.specs.Script.{published_by}

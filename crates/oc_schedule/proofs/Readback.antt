@@ -11,17 +11,17 @@ use Rattle.oc_base.specs.declared.limits.TheConstants.{MAX_AREA, MAX_CHAIN, MAX_
 use Rattle.oc_base.specs.declared.why.Why.TheVariants as causes
 use Rattle.oc_model.specs.declared.event.Event.{Event}
 use Rattle.oc_model.specs.Lawful.{IsEvent}
-use Rattle.oc_acts.proofs.ActsBack.{node_back, node_word, then}
+use Rattle.oc_schedule.proofs.ActsBack.{node_back, node_word, then}
 use Rattle.oc_schedule.proofs.EventsBack.{event_are_words, event_back, event_is_no_other}
-use Rattle.oc_acts.proofs.FieldsBack.{decimal_word, number_back}
-use Rattle.oc_acts.proofs.LineBack.{AreWords, line_back, words_back}
-use Rattle.oc_acts.specs.declared.fault.ScheduleFault.TheVariants.{Limit}
-use Rattle.oc_acts.specs.declared.fault.What.TheVariants as limits
-use Rattle.oc_acts.specs.Acts.{most_byte}
+use Rattle.oc_schedule.proofs.FieldsBack.{decimal_word, number_back}
+use Rattle.oc_schedule.proofs.LineBack.{AreWords, line_back, words_back}
+use Rattle.oc_schedule.specs.declared.fault.ScheduleFault.TheVariants.{Limit}
+use Rattle.oc_schedule.specs.declared.fault.What.TheVariants as limits
+use Rattle.oc_schedule.specs.Acts.{most_byte}
 use Rattle.oc_schedule.specs.Lines.{area_in, area_words, event_fields, event_in, event_word, event_words, header_words, sizes_in}
-use Rattle.oc_acts.specs.Texts.{line_text, spaced}
+use Rattle.oc_schedule.specs.Texts.{line_text, spaced}
 use Rattle.oc_schedule.specs.Printing.{IsOfBytes, IsPrintable, area_lines, areas_text, events_text, script_text}
-use Rattle.oc_acts.specs.Reading.{at_line}
+use Rattle.oc_schedule.specs.Reading.{at_line}
 use Rattle.oc_schedule.specs.Schedule.{after_area, after_event, is_comment, read_line, read_lines, read_statement, read_words, schedule_of, script_after, with_event, within_limits}
 use Rattle.oc_schedule.specs.Script.{Script, published_by, published_in, settles_by, settles_in}
 

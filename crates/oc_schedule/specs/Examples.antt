@@ -4,7 +4,7 @@ use Rattle.oc_base.specs.declared.why.Why.TheVariants as causes
 use Rattle.oc_model.specs.declared.event.Act.TheVariants.{Pull, Publish, Seal, Deliver}
 use Rattle.oc_model.specs.declared.event.Event.{Event}
 use Rattle.oc_model.specs.declared.event.Event.TheVariants.{Up, Do, Held}
-use Rattle.oc_acts.specs.declared.fault.ScheduleFault.TheVariants.{Line}
+use Rattle.oc_schedule.specs.declared.fault.ScheduleFault.TheVariants.{Line}
 use Rattle.oc_schedule.specs.Schedule.{schedule_of}
 
 -- Worked examples: what these texts say.

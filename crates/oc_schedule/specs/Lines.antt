@@ -9,7 +9,7 @@ use Rattle.oc_base.specs.declared.why.Why.TheVariants as causes
 use Rattle.oc_model.specs.declared.event.Event.{Event}
 use Rattle.oc_model.specs.declared.event.Event.TheVariants.{Up, Crash, Stop, Do, Held, Show, Settle, Heal}
 use Rattle.oc_model.specs.Node.{Header}
-use Rattle.oc_acts.specs.Acts.{act_in, act_word, act_fields, act_words, most_byte}
+use Rattle.oc_schedule.specs.Acts.{act_in, act_word, act_fields, act_words, most_byte}
 
 -- the numbers of nodes and of chain members
 abbrev pub sizes_in : List ℕ → List ℕ → Result (ℕ × ℕ) Why

@@ -4,8 +4,8 @@ use Rattle.std.specs.List.{AllByRecursion}
 use Rattle.oc_base.specs.declared.limits.TheConstants.{MAX_SCHEDULE_LINES, MAX_SCHEDULE_BYTES}
 use Rattle.oc_model.specs.declared.event.Event.{Event}
 use Rattle.oc_model.specs.declared.event.Event.TheVariants.{Do, Stop}
-use Rattle.oc_acts.specs.Acts.{PublishesBytes}
-use Rattle.oc_acts.specs.Texts.{line_text}
+use Rattle.oc_schedule.specs.Acts.{PublishesBytes}
+use Rattle.oc_schedule.specs.Texts.{line_text}
 use Rattle.oc_schedule.specs.Lines.{header_words, area_words, event_words}
 use Rattle.oc_schedule.specs.Schedule.{IsSchedule}
 use Rattle.oc_schedule.specs.Script.{Script}

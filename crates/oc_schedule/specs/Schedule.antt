@@ -8,13 +8,13 @@ use Rattle.oc_base.specs.declared.why.Why.TheVariants as causes
 use Rattle.oc_model.specs.declared.event.Event.{Event}
 use Rattle.oc_base.specs.declared.limits.TheConstants.{MAX_SCHEDULE_LINES, MAX_SCHEDULE_BYTES, MAX_SCHEDULE_PUBLISHED, MAX_SCHEDULE_SETTLES}
 use Rattle.oc_model.specs.Lawful.{IsHeader, IsEvent}
-use Rattle.oc_acts.specs.declared.fault.ScheduleFault.{ScheduleFault}
-use Rattle.oc_acts.specs.declared.fault.ScheduleFault.TheVariants.{Line, Limit}
-use Rattle.oc_acts.specs.declared.fault.What.TheVariants as limits
+use Rattle.oc_schedule.specs.declared.fault.ScheduleFault.{ScheduleFault}
+use Rattle.oc_schedule.specs.declared.fault.ScheduleFault.TheVariants.{Line, Limit}
+use Rattle.oc_schedule.specs.declared.fault.What.TheVariants as limits
 use Rattle.oc_base.specs.Words.{words}
 use Rattle.oc_schedule.specs.Lines.{header_in, area_in, event_in}
 use Rattle.oc_base.specs.Steps.{◌>>=◌}
-use Rattle.oc_acts.specs.Reading.{at_line}
+use Rattle.oc_schedule.specs.Reading.{at_line}
 use Rattle.oc_schedule.specs.Script.{Script, published_in, settles_in}
 
 -- the script after the header

@@ -1,7 +1,7 @@
 -- What a schedule says, and what is counted of it.
 use Rattle.std.specs.Prelude.{ℕ, List}
 use Rattle.std.specs.List.{sum_by}
-use Rattle.oc_acts.specs.Acts.{bytes_of_act}
+use Rattle.oc_schedule.specs.Acts.{bytes_of_act}
 use Rattle.oc_model.specs.declared.event.Event.{Event}
 use Rattle.oc_model.specs.declared.event.Event.TheVariants.{Do, Stop, Settle, Heal}
 use Rattle.oc_model.specs.Node.{Header}

@@ -2,14 +2,13 @@ ghost use Rattle.std.specs.Prelude.{◌≡◌, ◌≤◌, length, Some};
 ghost use Rattle.oc_base.specs.Lawful.{IsNode};
 ghost use Rattle.oc_base.specs.Words.{words};
 ghost use Rattle.oc_base.specs.declared.limits.TheConstants.{MAX_SCHEDULE_PUBLISHED, MAX_SCHEDULE_SETTLES};
-ghost use Rattle.oc_acts.specs.Reading.{GivesBy, GivesLineBy};
+ghost use Rattle.oc_schedule.specs.Reading.{GivesBy, GivesLineBy};
 ghost use Rattle.oc_schedule.specs.Schedule.{first_script, read_statement, with_area, with_event, within_limits};
-ghost use Rattle.oc_acts.specs.Acts.{bytes_of_act};
+ghost use Rattle.oc_schedule.specs.Acts.{bytes_of_act};
 ghost use Rattle.oc_schedule.specs.Script.{published_by, published_in, settles_by, settles_in};
 
-use crate::Schedule;
 use crate::lines::{area, event, opening};
-use oc_acts::{LineFault, ScheduleFault, What, is};
+use crate::{LineFault, Schedule, ScheduleFault, What, is};
 use oc_base::{MAX_SCHEDULE_PUBLISHED, MAX_SCHEDULE_SETTLES, NodeId, Why};
 use oc_model::{Act, Event};
 use std::alloc::Global;

@@ -8,11 +8,11 @@ ghost use Rattle.oc_base.specs.Lawful.{IsNode};
 ghost use Rattle.oc_base.specs.Words.{words, number_in, GivesFields};
 ghost use Rattle.oc_model.specs.declared.event.Event.TheVariants.{Settle, Heal};
 ghost use Rattle.oc_schedule.specs.Lines.{sizes_in, opening_in, area_in, first_three, node_alone_in, alone, stop_in, act_alone_in, event_in, event_words};
-ghost use Rattle.oc_acts.specs.Acts.{most_byte};
-ghost use Rattle.oc_acts.specs.Texts.{spaced};
-ghost use Rattle.oc_acts.specs.Reading.{GivesLine};
+ghost use Rattle.oc_schedule.specs.Acts.{most_byte};
+ghost use Rattle.oc_schedule.specs.Texts.{spaced};
+ghost use Rattle.oc_schedule.specs.Reading.{GivesLine};
 
-use oc_acts::{LineFault, act, is, put_act, put_number_field};
+use crate::{LineFault, act, is, put_act, put_number_field};
 use oc_base::words::{first_word, node, number, one_field, six_fields, two_fields};
 use oc_base::{MAX_CHAIN, MAX_NODES, Memory, NodeId, Why, put};
 use oc_model::Event;

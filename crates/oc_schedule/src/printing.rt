@@ -2,13 +2,12 @@
 
 ghost use Rattle.std.specs.Prelude.{◌≡◌, ◌++◌, Ok, OnOk, IfOk};
 ghost use Rattle.oc_schedule.specs.Lines.{area_words, header_words};
-ghost use Rattle.oc_acts.specs.Texts.{line_text};
+ghost use Rattle.oc_schedule.specs.Texts.{line_text};
 ghost use Rattle.oc_schedule.specs.Printing.{IsPrintable, area_text, areas_text, events_text, script_text};
 ghost use Rattle.oc_schedule.specs.Schedule.{schedule_of};
 
-use crate::Schedule;
 use crate::lines::put_event;
-use oc_acts::put_number_field;
+use crate::{Schedule, put_number_field};
 use oc_base::{Memory, put};
 use oc_model::Event;
 use std::alloc::Global;

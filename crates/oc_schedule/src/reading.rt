@@ -3,12 +3,11 @@ ghost use Rattle.std.specs.Str.Lines.{lines};
 ghost use Rattle.oc_schedule.specs.Draft.{script_of};
 ghost use Rattle.oc_base.specs.Words.{words};
 ghost use Rattle.oc_base.specs.declared.limits.TheConstants.{MAX_SCHEDULE_LINES};
-ghost use Rattle.oc_acts.specs.Reading.{Gives, GivesBy};
+ghost use Rattle.oc_schedule.specs.Reading.{Gives, GivesBy};
 ghost use Rattle.oc_schedule.specs.Schedule.{IsSchedule, read_line, read_lines, read_statement, schedule_of};
 
-use crate::Schedule;
 use crate::draft::Draft;
-use oc_acts::{ScheduleFault, What};
+use crate::{Schedule, ScheduleFault, What};
 use oc_base::words::{first_line, first_word};
 use oc_base::{MAX_SCHEDULE_BYTES, MAX_SCHEDULE_LINES, Why};
 use std::alloc::Global;

@@ -3,8 +3,8 @@ use Rattle.std.proofs.Common.{◌≡◌, ℕ, Some, None, Ok, Err, IfOk, IfErr, 
 use Rattle.std.specs.Option.{ForSome}
 use Rattle.oc_io.specs.DiskView.{DiskView}
 use Rattle.oc_policy.specs.declared.rule.Rule.{Rule}
-use Rattle.oc_outside.specs.declared.link.Arrival.{Arrival}
-use Rattle.oc_outside.specs.declared.link.Arrival.TheVariants as arrivals
+use Rattle.oc_link.specs.declared.link.Arrival.{Arrival}
+use Rattle.oc_link.specs.declared.link.Arrival.TheVariants as arrivals
 use Rattle.oc_probe.specs.declared.probing.Probing.{Probing}
 use Rattle.oc_turn.specs.declared.ends.TurnEnd.{TurnEnd}
 use Rattle.oc_turn.specs.declared.ends.TurnEnd.TheVariants as ends

@@ -4,10 +4,10 @@ use Rattle.std.proofs.Common.{◌≡◌, ℕ, suc, ◌+◌, ◌<◌, Option, Lis
 use Rattle.std.proofs.lemmas.List.{append-nil, append_assoc}
 use Rattle.oc_keep.specs.KeptView.{IsHonest, disks_of}
 use Rattle.oc_io.specs.DiskView.{DiskView}
-use Rattle.oc_outside.specs.declared.link.Arrival.{Arrival}
+use Rattle.oc_link.specs.declared.link.Arrival.{Arrival}
 use Rattle.oc_probe.specs.declared.probing.Probing.{Probing}
 use Rattle.oc_turn.specs.declared.ends.TurnEnd.{TurnEnd}
-use Rattle.oc_turn.specs.Deeds.{Deed, Setting, Sight}
+use Rattle.oc_turn.specs.Deeds.{Deed, Setting, NodeStatus}
 use Rattle.oc_turn.specs.Scenes.{Did, Scene, setting, sight}
 use Rattle.oc_io.proofs.Counts.{Rose-after}
 use Rattle.oc_answer.specs.Hearing.{Terms}
@@ -41,18 +41,18 @@ turns_then old between now n end ds es far turn = λ new more rest is.
     (subst (λ (x : List Deed). AreTurns old new (n + suc more) x) (sym (append_assoc ds es rest)) (far new (suc more) (es ++ rest) (es, rest, now, end, turn, is, refl)))
 
 -- these deeds serve n turns, with any further ones after them
-abbrev pub ServesSoFar : Setting → Terms → Option Probing → Option Probing → ℕ → List Deed → Sight → Sight → Type 0
-ServesSoFar s t old now n ds a b = (new : Option Probing) (more : ℕ) (rest : List Deed) (c : Sight) → ServesTurns s t now new more rest b c → ServesTurns s t old new (n + more) (ds ++ rest) a c
+abbrev pub ServesSoFar : Setting → Terms → Option Probing → Option Probing → ℕ → List Deed → NodeStatus → NodeStatus → Type 0
+ServesSoFar s t old now n ds a b = (new : Option Probing) (more : ℕ) (rest : List Deed) (c : NodeStatus) → ServesTurns s t now new more rest b c → ServesTurns s t old new (n + more) (ds ++ rest) a c
 
-pub serves_none : (s : Setting) (t : Terms) (old : Option Probing) (a : Sight) → ServesSoFar s t old old 0 [] a a
+pub serves_none : (s : Setting) (t : Terms) (old : Option Probing) (a : NodeStatus) → ServesSoFar s t old old 0 [] a a
 serves_none s t old a = λ new more rest c is. let same : 0 + more ≡ more = omega arith in subst (λ (k : ℕ). ServesTurns s t old new k rest a c) (sym same) is
 
-pub serves_all : (s : Setting) (t : Terms) (old now : Option Probing) (n : ℕ) (ds : List Deed) (a b : Sight) → ServesSoFar s t old now n ds a b → ServesTurns s t old now n ds a b
+pub serves_all : (s : Setting) (t : Terms) (old now : Option Probing) (n : ℕ) (ds : List Deed) (a b : NodeStatus) → ServesSoFar s t old now n ds a b → ServesTurns s t old now n ds a b
 serves_all s t old now n ds a b far =
     let same : n + 0 ≡ n = omega arith in
     subst (λ (k : ℕ). ServesTurns s t old now k ds a b) same (subst (λ (x : List Deed). ServesTurns s t old now (n + 0) x a b) (append-nil ds) (far now 0 [] b (refl, refl, refl)))
 
-further : (s : Setting) (t : Terms) (old between now : Option Probing) (n : ℕ) (arrival : Arrival) (ds es : List Deed) (a b c : Sight)
+further : (s : Setting) (t : Terms) (old between now : Option Probing) (n : ℕ) (arrival : Arrival) (ds es : List Deed) (a b c : NodeStatus)
     → ServesSoFar s t old between n ds a b → IsTurn between now (end_with arrival) es → ServesOne s t between now arrival es b c → ServesSoFar s t old now (n + 1) (ds ++ es) a c
 further s t old between now n arrival ds es a b c far turn one = λ new more rest d is.
     let next : n + 1 + more ≡ n + suc more = omega arith in

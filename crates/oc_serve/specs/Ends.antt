@@ -13,8 +13,8 @@ use Rattle.oc_turn.specs.Scenes.{Breaks, Did, Scene, setting, sight}
 use Rattle.oc_one_turn.specs.Ends.{MakesTurn, Renews, StopsTurn}
 use Rattle.oc_one_turn.specs.Turns.{end_with}
 use Rattle.oc_serve.specs.Turns.{AreTurns, ServesTurns, ServesUpTo}
-use Rattle.oc_outside.specs.declared.link.Arrival.{Arrival}
-use Rattle.oc_outside.specs.declared.link.Arrival.TheVariants as arrivals
+use Rattle.oc_link.specs.declared.link.Arrival.{Arrival}
+use Rattle.oc_link.specs.declared.link.Arrival.TheVariants as arrivals
 use Rattle.oc_policy.specs.declared.rule.Rule.{Rule}
 use Rattle.oc_answer.specs.Serving.{terms}
 

@@ -13,7 +13,7 @@ use Rattle.oc_model.specs.Step.{step}
 use Rattle.oc_io.specs.DiskView.{DiskView}
 use Rattle.oc_io.specs.Faults.{Rose}
 use Rattle.oc_one_turn.specs.Sending.{setting_of}
-use Rattle.oc_turn.specs.Deeds.{Deed, DoAll, Idle, Noting, Outside, Taking, Under, deeds_text, inputs_of, sight_of, under_line}
+use Rattle.oc_turn.specs.Deeds.{Deed, DoAll, Idle, Noting, Outside, Taking, Under, deeds_text, inputs_of, status_of, under_line}
 use Rattle.oc_turn.specs.Scenes.{HasCause, LeavesAt, LeavesUnder, Stops, WritesAt}
 use Rattle.oc_turn.specs.declared.ends.TurnEnd.{TurnEnd}
 use Rattle.oc_turn.specs.declared.ends.TurnEnd.TheVariants as ends
@@ -47,10 +47,10 @@ module _ {D K : Type 0} (view : D → DiskView) (takes fails : K → List ℕ �
     node = node_of l;
     last = r.last;
     done = λ honest.
-        found (λ x many n. DoAll (setting_of x many s.addresses) deeds (sight_of n [] (record before { faults = r.listened })) (sight_of (node_of l) r.last out)) honest
+        found (λ x many n. DoAll (setting_of x many s.addresses) deeds (status_of n [] (record before { faults = r.listened })) (status_of (node_of l) r.last out)) honest
         (r.did.done (honest_kept honest));
     answered = λ honest.
-        found (λ x many n. ServesRun (setting_of x many s.addresses) (terms_of x many s.rules) s.measures probes turns deeds (sight_of n [] (record before { faults = r.listened })) (sight_of (node_of l) r.last out)) honest
+        found (λ x many n. ServesRun (setting_of x many s.addresses) (terms_of x many s.rules) s.measures probes turns deeds (status_of n [] (record before { faults = r.listened })) (status_of (node_of l) r.last out)) honest
         (r.answered (honest_kept honest));
     survives = λ honest.
         named (λ x y. Survives view x y (disks_of l) (node_of l))

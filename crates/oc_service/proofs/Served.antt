@@ -8,11 +8,11 @@ use Rattle.oc_keep.specs.Promises.{IsSameNode}
 use Rattle.oc_keep.proofs.Stays.{all_honest}
 use Rattle.oc_model.specs.Node.{Header}
 use Rattle.oc_model.specs.declared.message.Message.{Message}
-use Rattle.oc_outside.specs.ClockView.{Series}
+use Rattle.oc_link.specs.ClockView.{Series}
 use Rattle.oc_io.specs.DiskView.{DiskView}
 use Rattle.oc_io.specs.Faults.{Rose}
-use Rattle.oc_outside.specs.LinkCalls.{CountsListening, LinkFaults}
-use Rattle.oc_outside.specs.Story.{Story}
+use Rattle.oc_link.specs.LinkCalls.{CountsListening, LinkFaults}
+use Rattle.oc_link.specs.Story.{Story}
 use Rattle.oc_turn.proofs.Scenes.{did_then, go_on_none, stopped_of}
 use Rattle.oc_turn.specs.Deeds.{Deed, Idle, Outside, outside_of}
 use Rattle.oc_turn.specs.Scenes.{Did, Scene, Stopped, scene, sight}

@@ -12,12 +12,12 @@ use Rattle.oc_model.specs.Step.{step}
 use Rattle.oc_model.specs.declared.message.Message.{Message}
 use Rattle.oc_io.specs.DiskView.{DiskView}
 use Rattle.oc_io.specs.Faults.{NoFall, Rose}
-use Rattle.oc_outside.specs.LinkCalls.{CountsListening, LinkFaults}
+use Rattle.oc_link.specs.LinkCalls.{CountsListening, LinkFaults}
 use Rattle.oc_one_turn.specs.Sending.{setting_of}
 use Rattle.oc_service.specs.Runs.{IsRun, ServesRun}
 use Rattle.oc_service.specs.declared.starting.NodeEnd.{NodeEnd}
 use Rattle.oc_service.specs.declared.starting.NodeEnd.TheVariants.{Load, Turned}
-use Rattle.oc_turn.specs.Deeds.{Deed, DoAll, Idle, Noting, Outside, Taking, Under, deeds_text, inputs_of, sight_of, under_line}
+use Rattle.oc_turn.specs.Deeds.{Deed, DoAll, Idle, Noting, Outside, Taking, Under, deeds_text, inputs_of, status_of, under_line}
 use Rattle.oc_turn.specs.Scenes.{WritesAt}
 use Rattle.oc_turn.specs.declared.ends.TurnEnd.{TurnEnd}
 use Rattle.oc_turn.specs.declared.ends.TurnEnd.TheVariants as ends
@@ -35,10 +35,10 @@ pub record DidOnFiles {D : Type 0} (view : D → DiskView) (c : Settings) (nodes
   pub node : Node
   pub last : List Message
   pub done : AreHonest view old
-      → DoAll (setting_of me nodes c.addresses) deeds (sight_of (first_node view (header_of_settings nodes c) me old) [] (record before { faults = listened })) (sight_of node last out)
+      → DoAll (setting_of me nodes c.addresses) deeds (status_of (first_node view (header_of_settings nodes c) me old) [] (record before { faults = listened })) (status_of node last out)
   pub answered : AreHonest view old
       → ServesRun (setting_of me nodes c.addresses) (terms_of me nodes c.rules) c.measures probes turns deeds
-      (sight_of (first_node view (header_of_settings nodes c) me old) [] (record before { faults = listened })) (sight_of node last out)
+      (status_of (first_node view (header_of_settings nodes c) me old) [] (record before { faults = listened })) (status_of node last out)
   pub survives : AreHonest view old → Survives view (header_of_settings nodes c) me new node
 
 -- what every crash leaves where it ended so with this under way: where a disk or the output failed, perhaps with one more input

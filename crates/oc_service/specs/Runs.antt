@@ -4,18 +4,18 @@ use Rattle.oc_answer.specs.Hearing.{Terms}
 use Rattle.oc_answer.specs.Serving.{terms}
 use Rattle.oc_config.specs.Settings.{Settings}
 use Rattle.oc_keep.specs.KeptView.{IsHonest, KeptView, NodeSurvives, node_of}
-use Rattle.oc_measure.specs.declared.lines.Measure.{Measure}
+use Rattle.oc_updown.specs.declared.measure_lines.Measure.{Measure}
 use Rattle.oc_model.specs.declared.input.Input.TheVariants.{Measured}
 use Rattle.oc_model.specs.declared.message.Message.{Message}
 use Rattle.oc_io.specs.DiskView.{DiskView}
 use Rattle.oc_io.specs.Faults.{Rose}
-use Rattle.oc_outside.specs.LinkCalls.{CountsListening, LinkFaults}
+use Rattle.oc_link.specs.LinkCalls.{CountsListening, LinkFaults}
 use Rattle.oc_probe.specs.Turns.{others}
 use Rattle.oc_probe.specs.declared.probing.Probing.{Probing}
 use Rattle.oc_serve.specs.Ends.{MakesTurns}
 use Rattle.oc_serve.specs.Turns.{ServesTurns}
 use Rattle.oc_serve.specs.Turns.{AreTurns}
-use Rattle.oc_turn.specs.Deeds.{Deed, DoAll, Outside, Setting, Sight, Takes}
+use Rattle.oc_turn.specs.Deeds.{Deed, DoAll, Outside, Setting, NodeStatus, Takes}
 use Rattle.oc_turn.specs.Scenes.{Did, Scene, Stopped, scene, setting, sight}
 use Rattle.oc_turn.specs.declared.ends.TurnEnd.{TurnEnd}
 use Rattle.oc_turn.specs.declared.ends.TurnEnd.TheVariants as ends
@@ -50,10 +50,10 @@ pub record IsRun (me nodes : ℕ) (measures : List Measure) (probes : Bool) (tur
 
 -- The deeds of a run, from a sight to another: what was measured was taken, and then there were `turns` turns, each of which answered the
 -- connection that came.
-pub record ServesRun (s : Setting) (t : Terms) (measures : List Measure) (probes : Bool) (turns : ℕ) (deeds : List Deed) (a c : Sight) : Type 0 where
+pub record ServesRun (s : Setting) (t : Terms) (measures : List Measure) (probes : Bool) (turns : ℕ) (deeds : List Deed) (a c : NodeStatus) : Type 0 where
   pub has : Option Probing
   pub rest : List Deed
-  pub between : Sight
+  pub between : NodeStatus
   pub takes : DoAll s (measured s.me measures) a between
   pub serves : ServesTurns s t (probing_at_first probes s.me s.nodes) has turns rest between c
   pub deeds_are : deeds ≡ measured s.me measures ++ rest

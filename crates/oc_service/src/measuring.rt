@@ -1,16 +1,16 @@
 //! What was measured before a node runs.
 
 ghost use Rattle.std.specs.Prelude.{◌≡◌, ℕ, false, All, IfErr, List, OnOk};
-ghost use Rattle.oc_measure.specs.MeasureLines.{IsMeasure};
+ghost use Rattle.oc_updown.specs.MeasureLines.{IsMeasure};
 ghost use Rattle.oc_service.specs.Runs.{measure_deeds, measured};
 ghost use Rattle.oc_turn.specs.Deeds.{Outside};
 ghost use Rattle.oc_turn.specs.Scenes.{Did, Stopped, scene};
 
 use oc_io::{Disk, Sink};
 use oc_keep::Kept;
-use oc_measure::Measure;
 use oc_model::Input;
 use oc_turn::{Outbox, TurnEnd, input_entry, take_own};
+use oc_updown::Measure;
 use std::alloc::Global;
 
 /// Takes each measure that is of the node itself as an input, in their order.

@@ -8,7 +8,7 @@ ghost use Rattle.oc_config.specs.Reading.{IsConfig};
 ghost use Rattle.oc_io.specs.Faults.{Rose};
 ghost use Rattle.oc_keep.specs.Files.{AllGoOn, AreHonest, OneRose, disks};
 ghost use Rattle.oc_keep.specs.Promises.{HoldFiles};
-ghost use Rattle.oc_measure.specs.MeasureLines.{IsMeasure};
+ghost use Rattle.oc_updown.specs.MeasureLines.{IsMeasure};
 ghost use Rattle.oc_policy.specs.declared.deciding.TheConstants.{MAX_RULES as MOST_RULES};
 ghost use Rattle.oc_one_turn.specs.Sending.{IsPlaced};
 ghost use Rattle.oc_service.specs.OnFiles.{EndsUnfailed, NodeEnds};
@@ -20,8 +20,8 @@ use oc_base::{Memory, NodeId};
 use oc_config::Config;
 use oc_io::{Disk, Sink};
 use oc_keep::{KeepLoad, Kept};
+use oc_link::{Clock, Link};
 use oc_loans::Loan;
-use oc_outside::{Clock, Link};
 use oc_turn::TurnEnd;
 use std::alloc::Global;
 

@@ -11,14 +11,14 @@ ghost use Rattle.oc_commands.specs.Ends.{status_of};
 ghost use Rattle.oc_commands.specs.Lines.{line_of};
 ghost use Rattle.oc_commands.specs.Outside.{at_clock, at_files, at_link, at_node, at_sink, at_source, at_stage, seen};
 ghost use Rattle.oc_commands.specs.Run.{Happened, IsWrittenOrCut};
-ghost use Rattle.oc_requests.specs.Status.{number_of};
+ghost use Rattle.oc_words.specs.Status.{number_of};
 ghost use Rattle.oc_commands.specs.declared.ending.End.{End};
 ghost use Rattle.oc_words.specs.Words.{asked, texts_of};
 ghost use Rattle.oc_world.specs.World.{WorldView};
 
 use oc_base::NodeId;
 use oc_io::{Disk, MemDisk, Sink, Source};
-use oc_outside::{Clock, Link};
+use oc_link::{Clock, Link};
 use oc_program::run;
 use oc_world::World;
 use std::alloc::Global;

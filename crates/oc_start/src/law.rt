@@ -5,7 +5,7 @@ ghost use Rattle.oc_commands.specs.AtReplay.{report_of, summary_of};
 ghost use Rattle.oc_replay.specs.Replay.{brief_text, told_text};
 ghost use Rattle.oc_schedule.specs.Script.{Script};
 
-use oc_stage::Stage;
+use oc_replay::Stage;
 use oc_world::World;
 
 /// Over a world in memory, what is written of a schedule is the report of the model, or its summary.

@@ -3,7 +3,7 @@
 ghost use Rattle.std.specs.Prelude.{◌≡◌, ℕ, List};
 ghost use Rattle.oc_commands.specs.Ends.{status_of};
 ghost use Rattle.oc_commands.specs.Lines.{line_of};
-ghost use Rattle.oc_requests.specs.Status.{number_of};
+ghost use Rattle.oc_words.specs.Status.{number_of};
 ghost use Rattle.oc_program.specs.Streams.{IsCountOfLineOrFront};
 ghost use Rattle.oc_commands.specs.declared.ending.End.{End};
 

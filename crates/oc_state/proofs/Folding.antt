@@ -20,7 +20,7 @@ use Rattle.oc_laws_step.proofs.Folds.{sound_fold_one}
 use Rattle.oc_laws_step.proofs.LawfulFolds.{lawful_fold_one, lawful_new_durable}
 use Rattle.oc_laws_step.proofs.Ranges.{few_rows}
 use Rattle.oc_state.specs.DurableView.{DurableView, HasRoom, IsKept}
-use Rattle.oc_parts.proofs.Lists.{drop_at}
+use Rattle.oc_state.proofs.Lists.{drop_at}
 
 -- Sound
 

@@ -1,3 +1,9 @@
 pub mod Folding
 pub mod Snapshotting
 pub mod LawfulSnapshots
+pub mod Lists
+pub mod ChildRows
+pub mod Better
+pub mod ShelfLines
+pub mod Touching
+pub mod Waiting

@@ -9,9 +9,9 @@ use Rattle.oc_model.specs.Node.{Durable, no_reading}
 use Rattle.oc_model.specs.Records.{folded}
 use Rattle.oc_model.specs.Snapshot.{snapshot, entries, rates_from}
 use Rattle.oc_laws_step.specs.Sound.{IsSoundDurable}
-use Rattle.oc_cert.specs.TableView.{entries_of}
+use Rattle.oc_updown.specs.TableView.{entries_of}
 use Rattle.oc_state.specs.Snapshots.{rate_record}
-use Rattle.oc_parts.proofs.Lists.{drop_at}
+use Rattle.oc_state.proofs.Lists.{drop_at}
 
 -- Rows
 

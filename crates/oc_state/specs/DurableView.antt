@@ -6,7 +6,7 @@ use Rattle.oc_model.specs.declared.reading.Reading.{Reading}
 use Rattle.oc_model.specs.Node.{Durable, Log}
 use Rattle.oc_laws_step.specs.LawfulNode.{IsLawfulDurable}
 use Rattle.oc_laws_step.specs.Sound.{IsSoundDurable}
-use Rattle.oc_parts.specs.declared.standing.Standing.{Standing}
+use Rattle.oc_state.specs.declared.standing.Standing.{Standing}
 
 -- the number of nodes, the durable state, and how many certificates there is room for among those that wait
 pub record DurableView : Type 0 where

@@ -4,15 +4,12 @@ ghost use Rattle.oc_model.specs.Lawful.{AreRecords, IsRecord};
 ghost use Rattle.oc_model.specs.Node.{new_durable};
 ghost use Rattle.oc_model.specs.Records.{fold_one, folded};
 ghost use Rattle.oc_state.specs.DurableView.{DurableView, HasRoom, IsKept};
-ghost use Rattle.oc_parts.specs.Standing.{standing_of};
+ghost use Rattle.oc_state.specs.Standing.{standing_of};
 
+use crate::{Standing, enter, leave_parent};
 use oc_base::{Cert, IdList, Memory, NodeId};
-use oc_cert::Table;
-use oc_changes::{enter, leave_parent};
-use oc_measure::Measures;
 use oc_model::Record;
-use oc_parts::Standing;
-use oc_updown::ChangeLog;
+use oc_updown::{ChangeLog, Measures, Table};
 use std::alloc::Global;
 use std::marker::Model;
 

@@ -2,17 +2,15 @@ ghost use Rattle.std.specs.Prelude.{◌≡◌, [], ◌∷◌, ◌++◌, length, 
 ghost use Rattle.std.specs.Option.{option_to_list};
 ghost use Rattle.oc_model.specs.Measures.{reading_of};
 ghost use Rattle.oc_model.specs.Snapshot.{snapshot, entries, own_pair, last_ask, peer_or_first, mode_records, rank_records, ancestor_records, rates_from};
-ghost use Rattle.oc_cert.specs.TableView.{AreTableRows, entries_of};
+ghost use Rattle.oc_updown.specs.TableView.{AreTableRows, entries_of};
 ghost use Rattle.oc_state.specs.Snapshots.{rate_record};
 
 use crate::durable::Durable;
-use oc_base::{Cert, IdList, Memory, NodeId, Rank};
-use oc_changes::all_waiting;
-use oc_measure::Measures;
+use crate::ranks::rank_or_last;
+use crate::{Standing, all_waiting};
+use oc_base::{Cert, IdList, Memory, NodeId, Rank, Rows};
 use oc_model::{Mode, Record};
-use oc_parts::Standing;
-use oc_parts::ranks::rank_or_last;
-use oc_rows::Rows;
+use oc_updown::Measures;
 use std::alloc::Global;
 
 // A snapshot: records that give one state, whatever was before them.

@@ -10,7 +10,7 @@ use Rattle.oc_store.specs.declared.errors.Side.{Side}
 use Rattle.oc_store.specs.declared.errors.Side.TheVariants.{First, Second}
 use Rattle.oc_store.specs.ControlFiles.{generation_in, generation_of, number_of, current_side, at_side, current_frames, recovered_frames}
 use Rattle.oc_store.specs.Sides.{opposite}
-use Rattle.oc_generations.specs.Turning.{IsReplaced}
+use Rattle.oc_store.specs.Turning.{IsReplaced}
 
 -- the file of a side is the current one of the two
 abbrev pub IsCurrent : Side → List (List ℕ) → List (List ℕ) → Type 0

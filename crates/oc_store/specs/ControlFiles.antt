@@ -7,7 +7,7 @@ use Rattle.oc_model.specs.declared.record.Record.{Record}
 use Rattle.oc_model.specs.declared.record.Record.TheVariants.{Snapshot}
 use Rattle.oc_record.specs.declared.fault.RecordFault.{RecordFault}
 use Rattle.oc_record.specs.Reading.{decoded}
-use Rattle.oc_generations.specs.Turning.{is_below}
+use Rattle.oc_store.specs.Turning.{is_below}
 use Rattle.oc_store.specs.declared.errors.Side.{Side}
 use Rattle.oc_store.specs.declared.errors.Side.TheVariants.{First, Second}
 

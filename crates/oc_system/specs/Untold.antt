@@ -1,6 +1,6 @@
 -- What is known of a real disk and a real clock: sizes and counts, and nothing of what they hold.
 use Rattle.std.specs.Prelude.{ℕ, ◌^◌, false, None, []}
-use Rattle.oc_outside.specs.ClockView.{Series}
+use Rattle.oc_link.specs.ClockView.{Series}
 use Rattle.oc_io.specs.DiskView.{DiskView}
 
 -- a clock that tells no number

@@ -3,7 +3,7 @@ ghost use Rattle.std.specs.Prelude.{◌≡◌};
 use crate::dials::Dials;
 use crate::sockets::Sockets;
 use oc_io::Failed;
-use oc_outside::{Arrival, Link};
+use oc_link::{Arrival, Link};
 use std::alloc::Global;
 use std::net::{Net, TcpStream};
 use std::rt::Clock;

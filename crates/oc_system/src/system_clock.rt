@@ -1,4 +1,4 @@
-use oc_outside::Clock;
+use oc_link::Clock;
 use std::io;
 use std::rt::Clock as SystemTime;
 use std::time::Duration;

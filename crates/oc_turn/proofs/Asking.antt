@@ -8,10 +8,10 @@ use Rattle.oc_http.specs.declared.fault.HttpFault.TheVariants as http
 use Rattle.oc_http.specs.declared.reply.Reply.{Reply}
 use Rattle.oc_model.specs.declared.input.Input.{Input}
 use Rattle.oc_model.specs.declared.input.Input.TheVariants.{Unreachable}
-use Rattle.oc_outside.specs.Exchange.{Hears, HearsThenBreaks}
-use Rattle.oc_outside.specs.LinkCalls.{Told, IfTold, OnOutgoing, DialsTo, DialFails, IsCutDial, connection_of, address_of}
-use Rattle.oc_outside.specs.LinkLoan.{LoanView, Dials}
-use Rattle.oc_outside.specs.Story.{Connection, Dial, Story, hung_up, unused, wrote, broken, IsHeardOut}
+use Rattle.oc_link.specs.Exchange.{Hears, HearsThenBreaks}
+use Rattle.oc_link.specs.LinkCalls.{Told, IfTold, OnOutgoing, DialsTo, DialFails, IsCutDial, connection_of, address_of}
+use Rattle.oc_link.specs.LinkLoan.{LoanView, Dials}
+use Rattle.oc_link.specs.Story.{Connection, Dial, Story, hung_up, unused, wrote, broken, IsHeardOut}
 use Rattle.oc_turn.specs.Dials.{AskedFor, IsReading, IsRead, IsOfBytes, IsAnswered, IsDialTo, IsAsked, Makes, MayMake, ComesOf, HearsUntil, input_of_reply}
 
 -- the outgoing dial, on which these bytes came

@@ -6,7 +6,7 @@ use Rattle.oc_model.specs.Lawful.{IsMessage}
 use Rattle.oc_model.specs.declared.message.Body.{Body}
 use Rattle.oc_model.specs.declared.message.Body.TheVariants as bodies
 use Rattle.oc_model.specs.declared.message.Message.{Message}
-use Rattle.oc_routing.specs.Replies.{others, reply_place, without}
+use Rattle.oc_routes.specs.Replies.{others, reply_place, without}
 use Rattle.oc_turn.specs.Outboxes.{with_message, with_messages}
 use Rattle.oc_turn.specs.Sending.{AreSendable, can_send, has_text}
 use Rattle.oc_wire.specs.Spelling.{HasSpelling}

@@ -1,8 +1,8 @@
 -- What comes of a reply, by what was read of it.
 use Rattle.std.proofs.Common.{◌≡◌, ℕ, ◌==◌, true, false, Some, None, Result, Ok, Err, List, IfOk, refl, ap, ◌∙◌}
 use Rattle.oc_http.specs.declared.reply.Reply.{Reply}
-use Rattle.oc_message.specs.Reading.{decoded}
-use Rattle.oc_message.specs.declared.fault.WireFault.{WireFault}
+use Rattle.oc_wire.specs.MessageReading.{decoded}
+use Rattle.oc_wire.specs.declared.fault.WireFault.{WireFault}
 use Rattle.oc_model.specs.Lawful.{IsInput}
 use Rattle.oc_model.specs.declared.input.Input.{Input}
 use Rattle.oc_model.specs.declared.input.Input.TheVariants.{Delivered, Unreachable}

@@ -11,7 +11,7 @@ use Rattle.oc_model.specs.declared.input.Input.{Input}
 use Rattle.oc_model.specs.declared.message.Message.{Message}
 use Rattle.oc_model.specs.Node.{Header, Node}
 use Rattle.oc_model.specs.Step.{step}
-use Rattle.oc_outside.specs.ClockView.{Series}
+use Rattle.oc_link.specs.ClockView.{Series}
 use Rattle.oc_io.specs.DiskView.{DiskView}
 use Rattle.oc_io.specs.Faults.{NoFall}
 use Rattle.oc_io.proofs.Counts.{Rose-after}
@@ -19,7 +19,7 @@ use Rattle.oc_turn.specs.declared.ends.TurnEnd.{TurnEnd}
 use Rattle.oc_turn.specs.declared.ends.TurnEnd.TheVariants as ends
 use Rattle.oc_node.specs.OutcomeView.{OutcomeView}
 use Rattle.oc_turn.specs.Looks.{LooksOnly}
-use Rattle.oc_turn.specs.Deeds.{AsksInVain, Deed, DialsInVain, Outside, Setting, sight_of, Under, Idle, Taking, Noting, DoAll, deeds_text, inputs_of, under_line}
+use Rattle.oc_turn.specs.Deeds.{AsksInVain, Deed, DialsInVain, Outside, Setting, status_of, Under, Idle, Taking, Noting, DoAll, deeds_text, inputs_of, under_line}
 use Rattle.oc_turn.specs.Sending.{AreSendable}
 use Rattle.oc_turn.specs.Scenes.{Scene, Did, Stops, Stopped, Breaks, BreaksOff, EndsLink, EndsStill, HasCause, KeepsAll, KeepsOne, LeavesAt, MeetsFull, LeavesUnder, WritesAt, scene, setting, sight}
 use Rattle.oc_turn.proofs.Chains.{after_both, do_node, do_then, inputs_append, texts_append}
@@ -197,7 +197,7 @@ module _ {D K : Type 0} (view : D → DiskView) (takes fails : K → List ℕ �
       → Breaks view takes fails count addresses ⊥ end under (scene k o s out) (scene k2 o2 s2 out2)
   breaks_still end under k k2 o o2 s s2 out out2 stops meets same = record { stops = stops; meets = meets; outside = by_end end stops }
     where
-      by_end : (e : TurnEnd) → Stops view takes fails count ⊥ e [] under k k2 s s2 → EndsLink (setting k addresses) e (sight_of (node_of k) o out) out2
+      by_end : (e : TurnEnd) → Stops view takes fails count ⊥ e [] under k k2 s s2 → EndsLink (setting k addresses) e (status_of (node_of k) o out) out2
       by_end ends.Link so = absurd so.cause
       by_end ends.Memory so = inl same
       by_end ends.Disk so = same
@@ -222,7 +222,7 @@ module _ {D K : Type 0} (view : D → DiskView) (takes fails : K → List ℕ �
   -- memory ran out in the dial of the oldest message
   pub breaks_dial : (takes_nothing : (k : K) → takes k [] k) (link : Type 0) (k : KeptView D) (o o2 : List Message) (s : K) (out out2 : Outside)
       → (IsHonest view k → Survives view (header_of k.node.control) k.node.control.me (disks_of k) (node_of k))
-      → DialsInVain (setting k addresses) (sight_of (node_of k) o out) out2
+      → DialsInVain (setting k addresses) (status_of (node_of k) o out) out2
       → Breaks view takes fails count addresses link ends.Memory Idle (scene k o s out) (scene k o2 s out2)
   breaks_dial takes_nothing link k o o2 s out out2 survives dials = record {
     stops = record { text = takes_nothing s; leaves = survives; goes_on = go_on_none view (disks_of k); cause = tt };

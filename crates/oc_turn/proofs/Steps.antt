@@ -8,12 +8,12 @@ use Rattle.oc_io.specs.DiskView.{DiskView}
 use Rattle.oc_io.specs.Faults.{NoFall}
 use Rattle.oc_turn.specs.declared.ends.TurnEnd.{TurnEnd}
 use Rattle.oc_turn.specs.declared.ends.TurnEnd.TheVariants as ends
-use Rattle.oc_turn.specs.Deeds.{Deed, Outside, Setting, Sight, Under, Idle, Taking, Noting, Does, DoAll, deed_text, deeds_text, inputs_of, note_line, under_line}
+use Rattle.oc_turn.specs.Deeds.{Deed, Outside, Setting, NodeStatus, Under, Idle, Taking, Noting, Does, DoAll, deed_text, deeds_text, inputs_of, note_line, under_line}
 use Rattle.oc_turn.specs.Deeds as deeds
 use Rattle.oc_turn.specs.Looks.{LooksOnly, LookStops}
 use Rattle.oc_turn.specs.Sending.{AreSendable}
 use Rattle.oc_turn.specs.Scenes.{Did, MeetsFull, NotesOne, NoteStops, LineStops, Stops, Stopped, scene, setting}
-use Rattle.oc_turn.specs.Deeds.{sight_of}
+use Rattle.oc_turn.specs.Deeds.{status_of}
 use Rattle.oc_turn.proofs.Scenes.{go_on_none, keeps_none, looks_none}
 
 module _ {D K : Type 0} (view : D → DiskView) (takes fails : K → List ℕ → K → Type 0) (count : K → ℕ) (addresses : List (List ℕ)) where
@@ -21,7 +21,7 @@ module _ {D K : Type 0} (view : D → DiskView) (takes fails : K → List ℕ �
   pub did_silent : (takes_nothing : (k : K) → takes k [] k) (d : Deed) (k : KeptView D) (o o2 : List Message) (sink : K) (out out2 : Outside)
       → ((me : ℕ) → deed_text me d ≡ []) → inputs_of (d ∷ []) ≡ [] → k.closed ≡ false → NoFall out.faults.listening out2.faults.listening
       → (AreSendable k.node.control.nodes o → AreSendable k.node.control.nodes o2)
-      → Does (setting k addresses) d (sight_of (node_of k) o out) (sight_of (node_of k) o2 out2)
+      → Does (setting k addresses) d (status_of (node_of k) o out) (status_of (node_of k) o2 out2)
       → Did view takes count addresses (d ∷ []) (scene k o sink out) (scene k o2 sink out2)
   did_silent takes_nothing d k o o2 sink out out2 silent none is_open listens sendable does = record {
     is_open = is_open;
@@ -33,7 +33,7 @@ module _ {D K : Type 0} (view : D → DiskView) (takes fails : K → List ℕ �
     keeps = keeps_none view (inputs_of (d ∷ [])) k none is_open;
     sendable = sendable;
     text = subst (λ (t : List ℕ). takes sink t sink) (sym (append-nil (deed_text k.node.control.me d) ∙ silent k.node.control.me)) (takes_nothing sink);
-    done = λ honest. (sight_of (node_of k) o2 out2, does, refl);
+    done = λ honest. (status_of (node_of k) o2 out2, does, refl);
   }
 
   -- a look, of which nothing is a deed
@@ -49,7 +49,7 @@ module _ {D K : Type 0} (view : D → DiskView) (takes fails : K → List ℕ �
     keeps = looks;
     sendable = λ before. before;
     text = takes_nothing sink;
-    done = λ honest. ap (λ (n : Node). sight_of n o out) (looks.node honest);
+    done = λ honest. ap (λ (n : Node). status_of n o out) (looks.node honest);
   }
 
   -- a look that ended
@@ -84,7 +84,7 @@ module _ {D K : Type 0} (view : D → DiskView) (takes fails : K → List ℕ �
     keeps = looks_none view k is_open;
     sendable = λ before. before;
     text = subst (λ (t : List ℕ). takes sink t after) (sym (append-nil (note_line why))) noted.text;
-    done = λ honest. (sight_of (node_of k) o out2, (talks, refl), refl);
+    done = λ honest. (status_of (node_of k) o out2, (talks, refl), refl);
   }
 
   -- the output failed in a line of no input

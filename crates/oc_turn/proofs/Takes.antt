@@ -21,7 +21,7 @@ use Rattle.oc_model.specs.Step.{plan, step}
 use Rattle.oc_node.specs.OutcomeView.{OutcomeView}
 use Rattle.oc_io.specs.DiskView.{DiskView}
 use Rattle.oc_io.specs.Faults.{Rose}
-use Rattle.oc_outside.specs.LinkCalls.{IsFront}
+use Rattle.oc_link.specs.LinkCalls.{IsFront}
 use Rattle.oc_routes.specs.Inputs.{input_line}
 use Rattle.oc_turn.specs.Lines.{IsEntry}
 use Rattle.oc_turn.specs.declared.entry.Entry.{Entry}
@@ -29,7 +29,7 @@ use Rattle.oc_turn.specs.Outboxes.{with_messages}
 use Rattle.oc_turn.specs.declared.ends.TurnEnd.{TurnEnd}
 use Rattle.oc_turn.specs.declared.ends.TurnEnd.TheVariants as ends
 use Rattle.oc_turn.specs.Deeds.{Outside, Taking, Takes}
-use Rattle.oc_turn.specs.Deeds.{sight_of}
+use Rattle.oc_turn.specs.Deeds.{status_of}
 use Rattle.oc_turn.specs.Scenes.{Did, KeepStops, KeepsOne, Stops, TakesOne, end_of, scene}
 
 -- the messages of the step of a lawful node can be sent
@@ -126,13 +126,13 @@ module _ {D K : Type 0} (view : D → DiskView) (takes fails : K → List ℕ �
     keeps = keeps_one view i outcome old new new is_open took.kept (looks_none view new took.kept.is_open);
     sendable = λ before. with_sendable old.node.control.nodes outbox outcome.sends before took.kept.sendable;
     text = subst (λ (t : List ℕ). takes sink t after) (sym (append-nil (input_line old.node.control.me i))) took.text;
-    done = λ honest. (sight_of (node_of new) (with_messages outbox outcome.sends) out, now honest, refl);
+    done = λ honest. (status_of (node_of new) (with_messages outbox outcome.sends) out, now honest, refl);
   }
     where
-      now : (honest : IsHonest view old) → sight_of (node_of new) (with_messages outbox outcome.sends) out ≡ sight_of (step (node_of old) i).node (with_messages outbox (step (node_of old) i).sends) out
+      now : (honest : IsHonest view old) → status_of (node_of new) (with_messages outbox outcome.sends) out ≡ status_of (step (node_of old) i).node (with_messages outbox (step (node_of old) i).sends) out
       now honest =
-          ap (λ (n : Node). sight_of n (with_messages outbox outcome.sends) out) (took.kept.node honest)
-          ∙ ap (λ (o : OutcomeView). sight_of (step (node_of old) i).node (with_messages outbox o.sends) out) (took.kept.outcome_is honest)
+          ap (λ (n : Node). status_of n (with_messages outbox outcome.sends) out) (took.kept.node honest)
+          ∙ ap (λ (o : OutcomeView). status_of (step (node_of old) i).node (with_messages outbox o.sends) out) (took.kept.outcome_is honest)
 
 -- some first bytes of a line are a prefix of it
 pub front_of : (n : ℕ) (bytes line : List ℕ) → bytes ≡ line → IsFront (take n bytes) line

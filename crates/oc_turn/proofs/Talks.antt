@@ -1,8 +1,8 @@
 -- What is said and heard on the connections that came.
 use Rattle.std.proofs.Common.{Some, None, Option, refl, ap, ◌∙◌, arith}
-use Rattle.oc_outside.specs.ClockView.{Series}
-use Rattle.oc_outside.specs.LinkCalls.{LinkFaults, Told}
-use Rattle.oc_outside.specs.Story.{Story}
+use Rattle.oc_link.specs.ClockView.{Series}
+use Rattle.oc_link.specs.LinkCalls.{LinkFaults, Told}
+use Rattle.oc_link.specs.Story.{Story}
 use Rattle.oc_turn.specs.Deeds.{OnlyTalks, Talked, TalksOnly, outside_of}
 
 -- no talk

@@ -5,14 +5,14 @@ use Rattle.oc_keep.specs.KeptView.{KeptView, node_of}
 use Rattle.oc_model.specs.declared.input.Input.{Input}
 use Rattle.oc_model.specs.declared.input.Input.TheVariants.{Tick}
 use Rattle.oc_model.specs.declared.message.Message.{Message}
-use Rattle.oc_outside.specs.ClockView.{Series, Ticks}
+use Rattle.oc_link.specs.ClockView.{Series, Ticks}
 use Rattle.oc_io.specs.DiskView.{DiskView}
-use Rattle.oc_outside.specs.LinkCalls.{LinkFaults}
-use Rattle.oc_outside.specs.Story.{Story}
+use Rattle.oc_link.specs.LinkCalls.{LinkFaults}
+use Rattle.oc_link.specs.Story.{Story}
 use Rattle.oc_turn.specs.Deeds.{Under, Outside, Reads, Takes, outside_of}
 use Rattle.oc_turn.specs.declared.ends.TurnEnd.{TurnEnd}
 use Rattle.oc_turn.specs.Scenes.{BreaksOff, Did, MeetsFull, Stops, scene}
-use Rattle.oc_turn.specs.Deeds.{sight_of}
+use Rattle.oc_turn.specs.Deeds.{status_of}
 use Rattle.oc_turn.specs.Deeds.{ticked}
 use Rattle.oc_turn.proofs.Scenes.{breaks_still, did_then}
 use Rattle.oc_turn.proofs.Steps.{did_silent}
@@ -28,7 +28,7 @@ module _ {D K : Type 0} (view : D → DiskView) (takes fails : K → List ℕ �
       did_then view takes fails count addresses takes_then (Reads t ∷ []) (Takes (Tick (min t MAX_TIME)) ∷ [])
       (scene k0 o0 s0 (outside_of story faults sec0 mil0)) (scene k0 o0 s0 (outside_of story faults sec1 mil1)) (scene k1 o1 s1 (outside_of story faults sec1 mil1))
       (did_silent view takes fails count addresses takes_nothing (Reads t) k0 o0 o0 s0 (outside_of story faults sec0 mil0) (outside_of story faults sec1 mil1) (λ me. refl) refl is_open (omega arith) (λ before. before)
-      (ticks, ap (λ (m : Series). sight_of (node_of k0) o0 (outside_of story faults sec1 m)) same))
+      (ticks, ap (λ (m : Series). status_of (node_of k0) o0 (outside_of story faults sec1 m)) same))
       (subst (λ (x : Input). Did view takes count addresses (Takes x ∷ []) (scene k0 o0 s0 (outside_of story faults sec1 mil1)) (scene k1 o1 s1 (outside_of story faults sec1 mil1)))
       (is ∙ ap Tick most) (did addresses (outside_of story faults sec1 mil1)))
 
@@ -39,6 +39,6 @@ module _ {D K : Type 0} (view : D → DiskView) (takes fails : K → List ℕ �
   tick_breaks takes_nothing end under k0 k1 o0 o1 s0 s1 story faults sec0 sec1 mil0 mil1 t is_open ticks same stops meets = (
     scene k0 o0 s0 (outside_of story faults sec1 mil1),
     did_silent view takes fails count addresses takes_nothing (Reads t) k0 o0 o0 s0 (outside_of story faults sec0 mil0) (outside_of story faults sec1 mil1) (λ me. refl) refl is_open (omega arith) (λ before. before)
-        (ticks, ap (λ (m : Series). sight_of (node_of k0) o0 (outside_of story faults sec1 m)) same),
+        (ticks, ap (λ (m : Series). status_of (node_of k0) o0 (outside_of story faults sec1 m)) same),
     breaks_still view takes fails count addresses end under k0 k1 o0 o1 s0 s1 (outside_of story faults sec1 mil1) (outside_of story faults sec1 mil1) stops meets refl,
   )

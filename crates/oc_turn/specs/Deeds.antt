@@ -8,16 +8,16 @@ use Rattle.oc_model.specs.declared.message.Message.{Message}
 use Rattle.oc_model.specs.Measures.{reading_of}
 use Rattle.oc_model.specs.Node.{Node}
 use Rattle.oc_model.specs.Step.{step}
-use Rattle.oc_outside.specs.ClockView.{Series}
-use Rattle.oc_outside.specs.ClockView as clocks
+use Rattle.oc_link.specs.ClockView.{Series}
+use Rattle.oc_link.specs.ClockView as clocks
 use Rattle.oc_io.specs.Faults.{Rose}
-use Rattle.oc_outside.specs.LinkCalls.{LinkFaults, CountsListening, CountsTalking, CountsDialling, NextGives, Told}
-use Rattle.oc_outside.specs.Story.{Story}
-use Rattle.oc_outside.specs.declared.link.Arrival.{Arrival}
+use Rattle.oc_link.specs.LinkCalls.{LinkFaults, CountsListening, CountsTalking, CountsDialling, NextGives, Told}
+use Rattle.oc_link.specs.Story.{Story}
+use Rattle.oc_link.specs.declared.link.Arrival.{Arrival}
 use Rattle.oc_probe.specs.Probes.{Probed, Timed}
 use Rattle.oc_probe.specs.declared.fault.ProbeFault.{ProbeFault}
 use Rattle.oc_probe.specs.declared.fault.ProbeFault.TheVariants as faults
-use Rattle.oc_routing.specs.Replies.{others}
+use Rattle.oc_routes.specs.Replies.{others}
 use Rattle.oc_turn.specs.declared.ends.TurnEnd.{TurnEnd}
 use Rattle.oc_turn.specs.declared.ends.TurnEnd.TheVariants as ends
 use Rattle.oc_turn.specs.Dials.{DialsMessage, IsAnswered, Makes, MayMake, text_of}
@@ -121,13 +121,13 @@ abbrev pub outside_of : Option Story → LinkFaults → Series → Series → Ou
 outside_of story faults seconds millis = record { story = story; faults = faults; seconds = seconds; millis = millis }
 
 -- a node, the messages that it has still to send, and what lies outside
-pub record Sight : Type 0 where
+pub record NodeStatus : Type 0 where
   pub node : Node
   pub outbox : List Message
   pub outside : Outside
 
-abbrev pub sight_of : Node → List Message → Outside → Sight
-sight_of node outbox out = record { node = node; outbox = outbox; outside = out }
+abbrev pub status_of : Node → List Message → Outside → NodeStatus
+status_of node outbox out = record { node = node; outbox = outbox; outside = out }
 
 -- which node it is, among how many, and their addresses by their ids
 pub record Setting : Type 0 where
@@ -140,7 +140,7 @@ abbrev pub address_in : Setting → ℕ → List ℕ
 address_in s node = slice_index_or s.addresses (node - 1) []
 
 -- an input is taken, and its messages go to the outbox
-abbrev pub took : Input → Sight → Sight
+abbrev pub took : Input → NodeStatus → NodeStatus
 took i a = record a { node = (step a.node i).node; outbox = with_messages a.outbox (step a.node i).sends }
 
 -- what the outbox gets of a request's input: all that is sent, except that the first message back to the sender of a message is its reply
@@ -149,7 +149,7 @@ for_outbox (Delivered m) sends = others sends m.from
 for_outbox i sends = sends
 
 -- an input of a request is taken
-abbrev pub answered : Input → Sight → Sight
+abbrev pub answered : Input → NodeStatus → NodeStatus
 answered i a = record a { node = (step a.node i).node; outbox = with_messages a.outbox (for_outbox i (step a.node i).sends) }
 
 -- only the link changed, with its counts of faults
@@ -199,7 +199,7 @@ pub record ProbesOne (s : Setting) (peer : ℕ) (came : Result ℕ ProbeFault) (
   pub rest : b ≡ record a { story = b.story; faults = b.faults; millis = b.millis }
 
 -- what a deed does
-abbrev pub Does : Setting → Deed → Sight → Sight → Type 0
+abbrev pub Does : Setting → Deed → NodeStatus → NodeStatus → Type 0
 Does s (Calls arrival) a b = Asks arrival a.outside b.outside × (b ≡ record a { outside = b.outside })
 Does s (Reads t) a b = clocks.Ticks a.outside.seconds t b.outside.seconds
     × (b ≡ record a { outside = record a.outside { seconds = b.outside.seconds } })
@@ -213,9 +213,9 @@ Does s (Probes peer hops came) a b = (hops ≡ (reading_of a.node.control.kept.m
     × ProbesOne s peer came a.outside b.outside × (b ≡ record a { outside = b.outside })
 
 -- what deeds do, one after another
-abbrev pub DoAll : Setting → List Deed → Sight → Sight → Type 0
+abbrev pub DoAll : Setting → List Deed → NodeStatus → NodeStatus → Type 0
 DoAll s [] a b = b ≡ a
-DoAll s (d ∷ ds) a c = (b : Sight) × Does s d a b × DoAll s ds b c
+DoAll s (d ∷ ds) a c = (b : NodeStatus) × Does s d a b × DoAll s ds b c
 
 -- The tick: the clock gave this number of seconds, and a tick was taken.
 abbrev pub ticked : ℕ → List Deed
@@ -234,7 +234,7 @@ pub record AsksInVain (a b : Outside) : Type 0 where
   pub rest : OnlyLink a b
 
 -- the oldest message was taken out of the outbox and dialled at most once; no input results
-pub record DialsInVain (s : Setting) (a : Sight) (b : Outside) : Type 0 where
+pub record DialsInVain (s : Setting) (a : NodeStatus) (b : Outside) : Type 0 where
   pub message : Message
   pub behind : List Message
   pub oldest : a.outbox ≡ message ∷ behind

@@ -8,12 +8,12 @@ use Rattle.oc_http.specs.declared.reply.Reply.{Reply}
 use Rattle.oc_model.specs.declared.input.Input.{Input}
 use Rattle.oc_model.specs.declared.input.Input.TheVariants.{Delivered, Unreachable}
 use Rattle.oc_model.specs.declared.message.Message.{Message}
-use Rattle.oc_outside.specs.Exchange.{Hears, HearsThenBreaks}
-use Rattle.oc_outside.specs.LinkCalls.{Told, OnOutgoing, IsCutDial}
-use Rattle.oc_outside.specs.Story.{Dial, Story, dials, hung_up}
-use Rattle.oc_message.specs.Reading.{decoded}
+use Rattle.oc_link.specs.Exchange.{Hears, HearsThenBreaks}
+use Rattle.oc_link.specs.LinkCalls.{Told, OnOutgoing, IsCutDial}
+use Rattle.oc_link.specs.Story.{Dial, Story, dials, hung_up}
+use Rattle.oc_wire.specs.MessageReading.{decoded}
 use Rattle.oc_wire.specs.Spelling.{spelling}
-use Rattle.oc_message.specs.declared.fault.WireFault.{WireFault}
+use Rattle.oc_wire.specs.declared.fault.WireFault.{WireFault}
 
 -- What results from a reply
 

@@ -14,13 +14,13 @@ use Rattle.oc_model.specs.Step.{step}
 use Rattle.oc_node.specs.OutcomeView.{OutcomeView}
 use Rattle.oc_io.specs.DiskView.{DiskView}
 use Rattle.oc_io.specs.Faults.{NoFall, Rose}
-use Rattle.oc_outside.specs.LinkCalls.{IsFront}
+use Rattle.oc_link.specs.LinkCalls.{IsFront}
 use Rattle.oc_routes.specs.Inputs.{input_line}
 use Rattle.oc_turn.specs.declared.ends.TurnEnd.{TurnEnd}
 use Rattle.oc_turn.specs.declared.ends.TurnEnd.TheVariants as ends
 use Rattle.oc_turn.specs.Sending.{AreSendable}
 use Rattle.oc_turn.specs.Looks.{LooksOnly}
-use Rattle.oc_turn.specs.Deeds.{AsksInVain, Deed, DialsInVain, Outside, Setting, Sight, Under, Idle, Taking, DoAll, deeds_text, inputs_of, note_line, under_line}
+use Rattle.oc_turn.specs.Deeds.{AsksInVain, Deed, DialsInVain, Outside, Setting, NodeStatus, Under, Idle, Taking, DoAll, deeds_text, inputs_of, note_line, under_line}
 
 -- a node on its files, what it has still to send, its output, and its link and its clock
 pub record Scene (D K : Type 0) : Type 0 where
@@ -33,7 +33,7 @@ abbrev pub scene : {D K : Type 0} → KeptView D → List Message → K → Outs
 scene kept outbox sink out = record { kept = kept; outbox = outbox; sink = sink; outside = out }
 
 -- what deeds change of it
-abbrev pub sight : {D K : Type 0} → Scene D K → Sight
+abbrev pub sight : {D K : Type 0} → Scene D K → NodeStatus
 sight s = record { node = node_of s.kept; outbox = s.outbox; outside = s.outside }
 
 -- which node it is, at these addresses
@@ -119,7 +119,7 @@ MeetsFull view end under old new = Unit {0}
 
 -- What else happened on the link where it ended so: it was asked for a connection in vain; where memory ran out, a message was perhaps
 -- dialled in vain; and else nothing.
-abbrev pub EndsLink : Setting → TurnEnd → Sight → Outside → Type 0
+abbrev pub EndsLink : Setting → TurnEnd → NodeStatus → Outside → Type 0
 EndsLink s ends.Link a b = AsksInVain a.outside b
 EndsLink s ends.Memory a b = (b ≡ a.outside) ⊎ DialsInVain s a b
 EndsLink s end a b = b ≡ a.outside

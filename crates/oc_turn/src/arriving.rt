@@ -3,12 +3,12 @@
 ghost use Rattle.std.specs.Prelude.{◌≡◌, Ok, IfErr, IfOk, OnErr, false};
 ghost use Rattle.oc_io.specs.Faults.{Rose};
 ghost use Rattle.oc_keep.specs.KeptView.{IsHonest, NodeSurvives, node_of};
-ghost use Rattle.oc_outside.specs.LinkCalls.{CountsListening, NextGives};
+ghost use Rattle.oc_link.specs.LinkCalls.{CountsListening, NextGives};
 
 use crate::ends::TurnEnd;
 use oc_io::Disk;
 use oc_keep::Kept;
-use oc_outside::{Arrival, Link};
+use oc_link::{Arrival, Link};
 
 /// Asks the link whether a connection waits.
 pub fn next_arrival<D: Disk, L: Link>(kept: &Kept<D>, link: &mut L) -> Result<Arrival, TurnEnd>

@@ -4,18 +4,18 @@ ghost use Rattle.std.specs.Prelude.{◌≡◌, ◌==◌, ◌⊎◌, IfOk, IfSome
 ghost use Rattle.oc_base.specs.Lawful.{IsNode};
 ghost use Rattle.oc_http.specs.Writing.{IsHost};
 ghost use Rattle.oc_io.specs.Faults.{Rose};
-ghost use Rattle.oc_outside.specs.LinkCalls.{CountsDialling, Told};
+ghost use Rattle.oc_link.specs.LinkCalls.{CountsDialling, Told};
 ghost use Rattle.oc_turn.specs.Dials.{DialsMessage, IsAnswered, Makes, MayMake, ComesOf, delivered_or, input_of_reply, message_to, text_of};
 ghost use Rattle.oc_turn.specs.Lines.{IsEntry, input_in};
-ghost use Rattle.oc_message.specs.Reading.{decoded};
+ghost use Rattle.oc_wire.specs.MessageReading.{decoded};
 ghost use Rattle.oc_wire.specs.Spelling.{HasSpelling};
 
 use crate::entry::{Entry, fail_entry, message_entry};
 use crate::hearing::ask;
 use oc_base::{Memory, NodeId};
 use oc_http::{HeadReader, HttpFault, Reply};
+use oc_link::Link;
 use oc_model::Message;
-use oc_outside::Link;
 use oc_wire::{WireFault, decode, to_http};
 use std::alloc::Global;
 

@@ -4,10 +4,10 @@ ghost use Rattle.std.specs.Prelude.{◌≡◌, ◌++◌, IfOk};
 ghost use Rattle.oc_routes.specs.Inputs.{HasLine, input_line};
 ghost use Rattle.oc_wire.specs.Spelling.{spelling};
 
-use oc_acts::put_recv_line;
 use oc_base::{Memory, NodeId};
 use oc_model::{Input, Message};
 use oc_routes::put_input_line;
+use oc_schedule::put_recv_line;
 use std::alloc::Global;
 
 /// An input, and the line that is written once it is taken.

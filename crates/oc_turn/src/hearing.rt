@@ -2,14 +2,14 @@
 
 ghost use Rattle.std.specs.Prelude.{ℕ, List, ◌++◌, IfOk, IfErr, IsErrOf};
 ghost use Rattle.oc_http.specs.Taking.{SaysReply, RefusesReply};
-ghost use Rattle.oc_outside.specs.Exchange.{Hears};
+ghost use Rattle.oc_link.specs.Exchange.{Hears};
 ghost use Rattle.oc_io.specs.Faults.{Rose};
-ghost use Rattle.oc_outside.specs.LinkCalls.{CountsDialling, IfTold, OnOutgoing, Told};
-ghost use Rattle.oc_outside.specs.Story.{IsHeardOut};
+ghost use Rattle.oc_link.specs.LinkCalls.{CountsDialling, IfTold, OnOutgoing, Told};
+ghost use Rattle.oc_link.specs.Story.{IsHeardOut};
 ghost use Rattle.oc_turn.specs.Dials.{AskedFor, HearsUntil};
 
 use oc_http::{HeadReader, HttpFault, Reply};
-use oc_outside::{Link, Outgoing};
+use oc_link::{Link, Outgoing};
 
 /// Dials a request, and reads the response. The dial is over when it returns.
 pub(crate) fn ask<L: Link>(

@@ -1,8 +1,8 @@
 //! The tick of a turn.
 
 ghost use Rattle.std.specs.Prelude.{◌≡◌, ℕ, List, IfErr, OnOk, false};
-ghost use Rattle.oc_outside.specs.LinkCalls.{LinkFaults};
-ghost use Rattle.oc_outside.specs.Story.{Story};
+ghost use Rattle.oc_link.specs.LinkCalls.{LinkFaults};
+ghost use Rattle.oc_link.specs.Story.{Story};
 ghost use Rattle.std.specs.Prelude.{Option};
 ghost use Rattle.oc_turn.specs.Deeds.{Deed, Under, outside_of};
 ghost use Rattle.oc_turn.specs.Scenes.{BreaksOff, Did, scene};
@@ -15,8 +15,8 @@ use crate::taking::take_own;
 use oc_base::MAX_TIME;
 use oc_io::{Disk, Sink};
 use oc_keep::Kept;
+use oc_link::Clock;
 use oc_model::Input;
-use oc_outside::Clock;
 use std::alloc::Global;
 
 /// Takes a tick with the seconds that the clock gives.

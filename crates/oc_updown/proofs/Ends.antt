@@ -6,8 +6,8 @@ use Rattle.oc_base.specs.Lawful.{IsNode}
 use Rattle.oc_model.specs.Numbers.{at}
 use Rattle.oc_model.specs.Table.{is_lease_of}
 use Rattle.oc_model.specs.Leases.{start_all, is_over, next_ended}
-use Rattle.oc_cert.specs.TableView.{AreRowsFrom, AreRows, entries_of}
-use Rattle.oc_cert.proofs.Lines.{rows_at, row_is_of_node}
+use Rattle.oc_updown.specs.TableView.{AreRowsFrom, AreRows, entries_of}
+use Rattle.oc_updown.proofs.Lines.{rows_at, row_is_of_node}
 use Rattle.oc_updown.specs.Children.{start_row, ended_of_row}
 
 -- the children of the first row start first, and then those of the others

@@ -4,8 +4,8 @@ use Rattle.std.proofs.lemmas.List.{drop-drop}
 use Rattle.oc_base.specs.declared.cert.Cert.{Cert}
 use Rattle.oc_model.specs.Node.{Log}
 use Rattle.oc_model.specs.ChangeLog.{IsWaiting}
-use Rattle.oc_cert.specs.TableView.{entries_of}
-use Rattle.oc_cert.proofs.Lines.{rows_at}
+use Rattle.oc_updown.specs.TableView.{entries_of}
+use Rattle.oc_updown.proofs.Lines.{rows_at}
 use Rattle.oc_updown.specs.Waiting.{count_of}
 use Rattle.oc_updown.proofs.Counts.{counted_among, among_counted}
 

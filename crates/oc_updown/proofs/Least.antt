@@ -5,8 +5,8 @@ use Rattle.oc_base.specs.declared.cert.Cert.{Cert}
 use Rattle.oc_model.specs.Numbers.{at}
 use Rattle.oc_model.specs.Table.{is_lease_of, lease_number, leased_by, HasLease}
 use Rattle.oc_model.specs.Leases.{is_over}
-use Rattle.oc_cert.specs.TableView.{AreRowsFrom, AreRows, entries_of}
-use Rattle.oc_cert.proofs.Entries.{newest_before}
+use Rattle.oc_updown.specs.TableView.{AreRowsFrom, AreRows, entries_of}
+use Rattle.oc_updown.proofs.Entries.{newest_before}
 use Rattle.oc_updown.specs.Ended.{HasEnded, IsNextEnded}
 use Rattle.oc_updown.proofs.Ends.{next_among}
 

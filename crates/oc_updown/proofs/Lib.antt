@@ -3,3 +3,15 @@ pub mod Filling
 pub mod Ends
 pub mod Least
 pub mod Lengths
+pub mod Entries
+pub mod Climbs
+pub mod Lines
+pub mod Better
+pub mod Freest
+pub mod Lists
+pub mod RedirectRows
+pub mod Server
+pub mod Steps
+pub mod Names
+pub mod Locations
+pub mod Puts

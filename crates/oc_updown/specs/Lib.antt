@@ -3,3 +3,10 @@ pub mod ChangeLogView
 pub mod Children
 pub mod Ended
 pub mod LeasesView
+pub mod TableView
+pub mod Listing
+pub mod Better
+pub mod Server
+pub mod Locations
+pub mod Puts
+pub mod MeasureLines

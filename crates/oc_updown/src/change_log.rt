@@ -2,12 +2,12 @@ ghost use Rattle.std.specs.Prelude.{◌≡◌, ◌+◌, ◌-◌, ◌^◌, ◌<�
 ghost use Rattle.oc_base.specs.declared.limits.TheConstants.{MAX_BASE_ACKED};
 ghost use Rattle.oc_model.specs.Node.{empty_log};
 ghost use Rattle.oc_model.specs.ChangeLog.{begun_with, note, ack, acked_whole, IsWaiting};
-ghost use Rattle.oc_cert.specs.TableView.{AreRows, AreRowsFrom, entries_of};
+ghost use Rattle.oc_updown.specs.TableView.{AreRows, AreRowsFrom, entries_of};
 ghost use Rattle.oc_base.specs.Lawful.{IsNode};
 
+use crate::Table;
 use crate::waiting::Waiting;
 use oc_base::{Cert, Memory, NodeId};
-use oc_cert::Table;
 use std::alloc::Global;
 use std::marker::Model;
 

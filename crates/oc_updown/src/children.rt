@@ -3,13 +3,12 @@ ghost use Rattle.oc_base.specs.declared.limits.TheConstants.{LAST_SECOND};
 ghost use Rattle.oc_model.specs.Numbers.{at};
 ghost use Rattle.oc_model.specs.Table.{is_lease_of};
 ghost use Rattle.oc_model.specs.Leases.{renew, is_over, start_if, start_all, next_ended};
-ghost use Rattle.oc_cert.specs.TableView.{AreTableRows, entries_of};
+ghost use Rattle.oc_updown.specs.TableView.{AreTableRows, entries_of};
 ghost use Rattle.oc_base.specs.Lawful.{IsNode};
 ghost use Rattle.oc_updown.specs.Children.{start_row, ended_of_row};
 
 use crate::leases::LEASE_TIME;
-use oc_base::{Cert, NodeId};
-use oc_rows::Rows;
+use oc_base::{Cert, NodeId, Rows};
 
 /// The lease of a child begins anew.
 pub(crate) fn renew(ends: &mut Rows<Option<u64>>, child: NodeId, now: u64)

@@ -1,11 +1,10 @@
 ghost use Rattle.std.specs.Prelude.{◌≡◌, ℕ, ◌+◌, ◌-◌, ◌^◌, ◌<◌, ◌≤◌, slice_index, slice_set, ◌↔◌, ◌∷◌, [], ◌++◌, IsTrue, take, drop, length, IfOk, IfSome, OnOk, vec_len, vec_capacity};
 ghost use Rattle.std.specs.VecDeque.{deque_len, deque_capacity};
-ghost use Rattle.oc_cert.specs.TableView.{AreTableRows, entries_of};
+ghost use Rattle.oc_updown.specs.TableView.{AreTableRows, entries_of};
 ghost use Rattle.oc_base.specs.Lawful.{IsNode};
 ghost use Rattle.oc_updown.specs.Waiting.{count_of};
 
-use oc_base::{Cert, Memory, NodeId, push_reserved};
-use oc_rows::Rows;
+use oc_base::{Cert, Memory, NodeId, Rows, push_reserved};
 use std::alloc::Global;
 use std::collections::VecDeque;
 use std::marker::Model;

@@ -9,7 +9,7 @@ use Rattle.oc_base.specs.Lawful.{IsRate, AreChildren}
 use Rattle.oc_base.specs.Shelves.{IsLine, AreLines, AreLinesAbove}
 use Rattle.oc_base.proofs.ListReads.{Follow}
 use Rattle.oc_base.proofs.NameOrder.{names_rise}
-use Rattle.oc_fields.specs.Reading.{is_after}
+use Rattle.oc_wire.specs.FieldReading.{is_after}
 
 -- a lawful child of a greater id than the one before it
 abbrev pub IsNextChild : ℕ → ℕ → Child → Type 0

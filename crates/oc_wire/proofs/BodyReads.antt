@@ -6,11 +6,11 @@ use Rattle.oc_base.proofs.TextsAt.{IsBytes, Takes, takes_nothing, tested}
 use Rattle.oc_model.specs.Lawful.{IsBody}
 use Rattle.oc_model.specs.declared.message.Body.{Body}
 use Rattle.oc_model.specs.declared.message.Body.TheVariants.{Look, LookIs, Ask, Yes, No, CheckIn, CheckAck, Rejoin, Fetch, Chunk}
-use Rattle.oc_message.specs.declared.fault.WireFault.{WireFault}
-use Rattle.oc_message.specs.Faults.{of_field}
+use Rattle.oc_wire.specs.declared.fault.WireFault.{WireFault}
+use Rattle.oc_wire.specs.MessageFaults.{of_field}
 use Rattle.oc_wire.specs.Spelling.{code_of, fields_bytes, HasSpelling}
-use Rattle.oc_fields.specs.Reading.{look_is_at, ask_at, yes_at, no_at, check_in_at, check_ack_at, rejoin_at, fetch_at, chunk_at}
-use Rattle.oc_message.specs.Reading.{body_at}
+use Rattle.oc_wire.specs.FieldReading.{look_is_at, ask_at, yes_at, no_at, check_in_at, check_ack_at, rejoin_at, fetch_at, chunk_at}
+use Rattle.oc_wire.specs.MessageReading.{body_at}
 use Rattle.oc_wire.proofs.KindReads.{IsTaken, Taken, look_is, ask, yes, no, check_in, check_ack, rejoin, fetch, chunk}
 
 -- what was read and did not fail

@@ -13,7 +13,7 @@ use Rattle.oc_base.proofs.TextsAt.{IsBytes, Takes, takes_both, takes_first, take
 use Rattle.oc_base.proofs.FieldReads.{Reads, reads_within, reads_id, reads_byte, reads_flag}
 use Rattle.oc_base.proofs.PairReads.{made_takes, made_again, reads_rank}
 use Rattle.oc_wire.specs.Spelling.{parent_bytes, rank_or_none_bytes, why_code, why_fields, why_bytes}
-use Rattle.oc_fields.specs.Reading.{node_or_none, parent_at, tagged_rank_at, rank_or_none_at, refusal_with, refusal_at}
+use Rattle.oc_wire.specs.FieldReading.{node_or_none, parent_at, tagged_rank_at, rank_or_none_at, refusal_with, refusal_at}
 
 is_not_zero : (n : ℕ) → (suc n == 0) ≡ false
 is_not_zero n = grind (arith, nat_tests)

@@ -16,7 +16,7 @@ use Rattle.oc_model.specs.Lawful.{IsBody}
 use Rattle.oc_model.specs.declared.message.Body.{Body}
 use Rattle.oc_model.specs.declared.message.Body.TheVariants.{LookIs, Ask, Yes, No, CheckIn, CheckAck, Rejoin, Fetch, Chunk}
 use Rattle.oc_wire.specs.Spelling.{code_of, fields_bytes, HasSpelling}
-use Rattle.oc_fields.specs.Reading.{parent_at, rank_or_none_at, refusal_at, name_at, children_at, certs_at, chunk_bytes_at, look_is_at, ask_at, yes_at, no_at, check_in_at, check_ack_at, rejoin_at, fetch_at, chunk_at}
+use Rattle.oc_wire.specs.FieldReading.{parent_at, rank_or_none_at, refusal_at, name_at, children_at, certs_at, chunk_bytes_at, look_is_at, ask_at, yes_at, no_at, check_in_at, check_ack_at, rejoin_at, fetch_at, chunk_at}
 use Rattle.oc_wire.proofs.FieldReads.{reads_parent, reads_rank_or_none, reads_refusal}
 use Rattle.oc_wire.proofs.NameReads.{reads_name}
 use Rattle.oc_wire.proofs.ListReads.{reads_children, reads_certs, reads_have, reads_chunk_bytes}

@@ -10,3 +10,5 @@ pub mod RequestReads
 pub mod OneAnswer
 pub mod Sizes
 pub mod Puts
+pub mod Lifts
+mod Rows

@@ -14,7 +14,7 @@ use Rattle.oc_base.proofs.FieldReads.{Reads, reads_within, reads_byte_within, re
 use Rattle.oc_base.proofs.PairReads.{reads_pair, two_are, three_are, made_takes, made_again, reads_cert}
 use Rattle.oc_base.proofs.ListReads.{Follow, reads_items, reads_each, reads_list}
 use Rattle.oc_wire.specs.Spelling.{child_bytes, children_bytes, certs_bytes, line_bytes, have_bytes, text_bytes}
-use Rattle.oc_fields.specs.Reading.{next_name_at, child_at, children_at, certs_at, line_at, have_at, chunk_bytes_at}
+use Rattle.oc_wire.specs.FieldReading.{next_name_at, child_at, children_at, certs_at, line_at, have_at, chunk_bytes_at}
 use Rattle.oc_wire.proofs.Ascending.{IsNextChild, are_children, children_are_next, IsNextLine, are_lines, lines_are_next}
 use Rattle.oc_wire.proofs.NameReads.{reads_next_name}
 

@@ -15,11 +15,11 @@ use Rattle.oc_model.specs.Lawful.{IsBody, IsMessage}
 use Rattle.oc_model.specs.declared.message.Body.{Body}
 use Rattle.oc_model.specs.declared.message.Body.TheVariants.{Look, LookIs, Ask, Yes, No, CheckIn, CheckAck, Rejoin, Fetch, Chunk}
 use Rattle.oc_model.specs.declared.message.Message.{Message}
-use Rattle.oc_message.specs.declared.fault.WireFault.{WireFault}
-use Rattle.oc_message.specs.declared.fault.WireFault.TheVariants as faults
-use Rattle.oc_message.specs.Faults.{of_field}
+use Rattle.oc_wire.specs.declared.fault.WireFault.{WireFault}
+use Rattle.oc_wire.specs.declared.fault.WireFault.TheVariants as faults
+use Rattle.oc_wire.specs.MessageFaults.{of_field}
 use Rattle.oc_wire.specs.Messages.{Spells}
-use Rattle.oc_message.specs.Reading.{body_at, is_node, closed, decoded, Gives}
+use Rattle.oc_wire.specs.MessageReading.{body_at, is_node, closed, decoded, Gives}
 use Rattle.oc_wire.specs.Spelling.{code_of, fields_bytes, spelling, HasSpelling}
 use Rattle.oc_wire.proofs.Ascending.{few_children}
 use Rattle.oc_wire.proofs.KindReads.{IsTaken}

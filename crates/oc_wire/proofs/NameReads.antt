@@ -11,7 +11,7 @@ use Rattle.oc_base.proofs.TextsAt.{Takes, bind_ok, tested, ok_is}
 use Rattle.oc_base.proofs.FieldReads.{Reads, reads_byte_within, reads_text}
 use Rattle.oc_base.proofs.ListReads.{reads_list}
 use Rattle.oc_wire.specs.Spelling.{name_bytes}
-use Rattle.oc_fields.specs.Reading.{if_name, name_at, is_after, next_name_at}
+use Rattle.oc_wire.specs.FieldReading.{if_name, name_at, is_after, next_name_at}
 
 -- what is taken as a name is one
 named_is : (text : List ℕ) (at : ℕ) (name : List ℕ) (next : ℕ) → if_name (parsed_name text) at ≡ Ok (name, next) → IsGroupName text × (text ≡ name) × (at ≡ next)

@@ -8,10 +8,10 @@ use Rattle.oc_http.specs.Writing.{request_head_text, request_text}
 use Rattle.oc_http.specs.declared.fault.HttpFault.{HttpFault}
 use Rattle.oc_http.specs.declared.head.Head.{Head}
 use Rattle.oc_model.specs.declared.message.Message.{Message}
-use Rattle.oc_message.specs.declared.fault.WireFault.{WireFault}
+use Rattle.oc_wire.specs.declared.fault.WireFault.{WireFault}
 use Rattle.oc_wire.specs.declared.http_fault.HttpWireFault.{HttpWireFault}
 use Rattle.oc_wire.specs.declared.http_fault.HttpWireFault.TheVariants as faults
-use Rattle.oc_message.specs.Reading.{decoded}
+use Rattle.oc_wire.specs.MessageReading.{decoded}
 use Rattle.oc_wire.specs.Requests.{IsRequest, HasNoHead, IsCutOff, Brings, IsElsewhere, AnswersRequest, HasMemory, IsGiven}
 use Rattle.oc_wire.specs.Spelling.{spelling}
 

@@ -9,10 +9,10 @@ use Rattle.oc_http.specs.Taking.{Took, SaysRequest, RefusesRequest, RefusesBody}
 use Rattle.oc_http.specs.declared.fault.HttpFault.{HttpFault}
 use Rattle.oc_http.specs.declared.fault.HttpFault.TheVariants as http
 use Rattle.oc_http.specs.declared.head.Head.{Head}
-use Rattle.oc_message.specs.declared.fault.WireFault.{WireFault}
-use Rattle.oc_message.specs.declared.fault.WireFault.TheVariants as wire
+use Rattle.oc_wire.specs.declared.fault.WireFault.{WireFault}
+use Rattle.oc_wire.specs.declared.fault.WireFault.TheVariants as wire
 use Rattle.oc_wire.specs.Faults.{fault_of_http, fault_of_wire}
-use Rattle.oc_message.specs.Reading.{decoded, Gives}
+use Rattle.oc_wire.specs.MessageReading.{decoded, Gives}
 use Rattle.oc_wire.specs.Requests.{is_route, IsRequest, HasNoHead, IsRequestOrFault, AnswersRequest}
 
 -- a source over these bytes, of which no call is to fail

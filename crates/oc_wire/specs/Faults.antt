@@ -1,8 +1,8 @@
 -- The fault of a message as the fault of a request.
 use Rattle.oc_http.specs.declared.fault.HttpFault.{HttpFault}
 use Rattle.oc_http.specs.declared.fault.HttpFault.TheVariants as http
-use Rattle.oc_message.specs.declared.fault.WireFault.{WireFault}
-use Rattle.oc_message.specs.declared.fault.WireFault.TheVariants.{Memory}
+use Rattle.oc_wire.specs.declared.fault.WireFault.{WireFault}
+use Rattle.oc_wire.specs.declared.fault.WireFault.TheVariants.{Memory}
 use Rattle.oc_wire.specs.declared.http_fault.HttpWireFault.{HttpWireFault}
 use Rattle.oc_wire.specs.declared.http_fault.HttpWireFault.TheVariants as requests
 

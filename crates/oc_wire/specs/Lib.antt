@@ -4,3 +4,6 @@ pub mod Messages
 pub mod Requests
 pub mod Rows
 pub mod Examples
+pub mod FieldReading
+pub mod MessageFaults
+pub mod MessageReading

@@ -9,10 +9,10 @@ use Rattle.oc_http.specs.declared.fault.HttpFault.TheVariants as http
 use Rattle.oc_http.specs.declared.head.Head.{Head}
 use Rattle.oc_http.specs.Requests.{is_post}
 use Rattle.oc_model.specs.declared.message.Message.{Message}
-use Rattle.oc_message.specs.declared.fault.WireFault.{WireFault}
+use Rattle.oc_wire.specs.declared.fault.WireFault.{WireFault}
 use Rattle.oc_wire.specs.declared.http_fault.HttpWireFault.{HttpWireFault}
 use Rattle.oc_wire.specs.declared.http_fault.HttpWireFault.TheVariants as faults
-use Rattle.oc_message.specs.Reading.{decoded}
+use Rattle.oc_wire.specs.MessageReading.{decoded}
 
 -- a POST to `/!overcast` without a query
 abbrev pub is_route : Head → Bool

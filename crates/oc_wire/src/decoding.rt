@@ -1,9 +1,9 @@
 ghost use Rattle.std.specs.Prelude.{IfOk};
-ghost use Rattle.oc_message.specs.Reading.{Gives, decoded};
+ghost use Rattle.oc_wire.specs.MessageReading.{Gives, decoded};
 ghost use Rattle.oc_model.specs.declared.message.Message.{Message};
 ghost use Rattle.oc_wire.specs.Messages.{Spells};
 
-use oc_message::{WireFault, read_message};
+use crate::{WireFault, read_message};
 use oc_model::Message;
 use std::alloc::Global;
 

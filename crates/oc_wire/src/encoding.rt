@@ -2,13 +2,12 @@ ghost use Rattle.std.specs.Prelude.{◌≡◌, ◌<◌, ◌^◌, ◌∷◌, ◌+
 ghost use Rattle.oc_base.specs.Spelling.{eight, flag, rank_bytes, ids_bytes};
 ghost use Rattle.oc_wire.specs.Spelling.{parent_bytes, rank_or_none_bytes, why_code, why_bytes, child_bytes, children_bytes, certs_bytes, name_bytes, line_bytes, have_bytes, text_bytes, code_of, fields_bytes, spelling, HasSpelling};
 
+use crate::{CODES, REFUSALS};
 use oc_base::writing::{put_cert, put_flag, put_id, put_ids, put_long, put_rank};
 use oc_base::{
     Bytes, CertList, Child, ChildList, GroupName, IdList, Memory, NodeId, Rank, Refusal, Shelf,
     ShelfList,
 };
-use oc_fields::REFUSALS;
-use oc_message::CODES;
 use oc_model::{Body, Message};
 use std::alloc::{AllocError, Global};
 

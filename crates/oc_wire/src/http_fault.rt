@@ -1,8 +1,8 @@
 ghost use Rattle.std.specs.Prelude.{◌≡◌};
 ghost use Rattle.oc_wire.specs.Faults.{fault_of_http, fault_of_wire};
 
+use crate::WireFault;
 use oc_http::HttpFault;
-use oc_message::WireFault;
 
 /// Why a request brings no message: the first fault, in the order of these.
 #[derive(Clone, Copy)]

@@ -6,17 +6,16 @@ ghost use Rattle.oc_model.specs.Lawful.{IsMessage};
 ghost use Rattle.oc_model.specs.declared.message.Message.{Message};
 ghost use Rattle.oc_wire.specs.Examples.{first_ask, first_ask_message, chain_no, chain_no_message, stranger, strange_kind, trailing};
 ghost use Rattle.oc_wire.specs.Messages.{Spells};
-ghost use Rattle.oc_message.specs.Reading.{decoded};
+ghost use Rattle.oc_wire.specs.MessageReading.{decoded};
 ghost use Rattle.oc_wire.specs.Requests.{AnswersRequest, HasMemory};
 ghost use Rattle.oc_wire.specs.Rows.{HasLeast, HasLength};
 ghost use Rattle.oc_wire.specs.Spelling.{spelling};
 ghost use Rattle.oc_wire.specs.declared.http_fault.HttpWireFault.{HttpWireFault};
-ghost use Rattle.oc_message.specs.declared.fault.WireFault.TheVariants.{Stranger as WireStranger, Short as WireShort, Kind as WireKind, Trailing as WireTrailing};
+ghost use Rattle.oc_wire.specs.declared.fault.WireFault.TheVariants.{Stranger as WireStranger, Short as WireShort, Kind as WireKind, Trailing as WireTrailing};
 
+use crate::{CODES, REFUSALS};
 use oc_base::distinct;
-use oc_fields::REFUSALS;
 use oc_http::a_request_has_one_answer;
-use oc_message::CODES;
 
 /// No two kinds have one code, and no two refusals. It is computed.
 pub fn codes_are_distinct()

@@ -15,16 +15,16 @@ use Rattle.oc_base.specs.declared.limits.TheConstants.{MAX_NODES}
 use Rattle.oc_base.specs.declared.why.Why.TheVariants.{Number, Range}
 use Rattle.oc_words.specs.Arguments.{IsNoFlag}
 use Rattle.oc_words.specs.Command.{bare_command, check_shape, command, gen_shape, get_shape, node_shape}
-use Rattle.oc_requests.specs.Requests.{download_in, member_in, sample_in, service_in, times_in}
+use Rattle.oc_words.specs.Requests.{download_in, member_in, sample_in, service_in, times_in}
 use Rattle.oc_words.specs.Words.{IsPlain, plain_replay, plain_summary, plain_gen, plain_node, plain_probing, plain_check, plain_get, plain_follow, plain_rules}
 use Rattle.oc_words.specs.Words.{asked, asked_by, asking, request_by, verdict_among, verdict_of}
-use Rattle.oc_requests.specs.declared.request.Download.{Download}
-use Rattle.oc_requests.specs.declared.request.Member.{Member}
-use Rattle.oc_requests.specs.declared.request.Request.{Request}
-use Rattle.oc_requests.specs.declared.request.Request.TheVariants.{Replay, Gen, Node, Check, Get, Rules}
-use Rattle.oc_requests.specs.declared.request.Sample.{Sample}
-use Rattle.oc_requests.specs.declared.request.Service.{Service}
-use Rattle.oc_requests.specs.declared.request.TheConstants.{MAX_EVENTS, MAX_FOLLOWED, MAX_TURNS}
+use Rattle.oc_words.specs.declared.request.Download.{Download}
+use Rattle.oc_words.specs.declared.request.Member.{Member}
+use Rattle.oc_words.specs.declared.request.Request.{Request}
+use Rattle.oc_words.specs.declared.request.Request.TheVariants.{Replay, Gen, Node, Check, Get, Rules}
+use Rattle.oc_words.specs.declared.request.Sample.{Sample}
+use Rattle.oc_words.specs.declared.request.Service.{Service}
+use Rattle.oc_words.specs.declared.request.TheConstants.{MAX_EVENTS, MAX_FOLLOWED, MAX_TURNS}
 use Rattle.oc_words.proofs.Tokens.{Token, free, fixed, texts, AreFree, rows_of_tokens, fault_of_tokens, level_is, rows_are}
 
 -- ---- the words of a row

@@ -7,7 +7,7 @@ use Rattle.clap.specs.Simple.{built}
 use Rattle.clap.specs.declared.error.Error.{Error}
 use Rattle.clap.specs.declared.error.kind.ErrorKind.{ErrorKind}
 use Rattle.clap.specs.declared.error.kind.ErrorKind.TheVariants as kind
-use Rattle.oc_requests.specs.declared.request.Request.{Request}
+use Rattle.oc_words.specs.declared.request.Request.{Request}
 use Rattle.oc_words.specs.declared.words.WordsFault.{WordsFault}
 use Rattle.oc_words.specs.declared.words.WordsFault.TheVariants.{Usage, Memory}
 use Rattle.oc_words.specs.Command.{command}

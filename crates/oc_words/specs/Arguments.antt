@@ -6,11 +6,11 @@ use Rattle.clap.specs.Words.{Row, Text, first_of}
 use Rattle.oc_base.specs.Steps.{◌>>=◌}
 use Rattle.oc_base.specs.declared.why.Why.{Why}
 use Rattle.oc_base.specs.declared.why.Why.TheVariants.{Count}
-use Rattle.oc_requests.specs.Requests.{download_in, member_in, sample_in, service_in}
-use Rattle.oc_requests.specs.declared.request.Download.{Download}
-use Rattle.oc_requests.specs.declared.request.Member.{Member}
-use Rattle.oc_requests.specs.declared.request.Sample.{Sample}
-use Rattle.oc_requests.specs.declared.request.Service.{Service}
+use Rattle.oc_words.specs.Requests.{download_in, member_in, sample_in, service_in}
+use Rattle.oc_words.specs.declared.request.Download.{Download}
+use Rattle.oc_words.specs.declared.request.Member.{Member}
+use Rattle.oc_words.specs.declared.request.Sample.{Sample}
+use Rattle.oc_words.specs.declared.request.Service.{Service}
 
 -- the word of an argument
 abbrev pub word_of : Text → List Row → Result Text Why

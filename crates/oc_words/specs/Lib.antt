@@ -1,3 +1,5 @@
 pub mod Arguments
 pub mod Command
 pub mod Words
+pub mod Requests
+pub mod Status

@@ -9,15 +9,15 @@ use Rattle.clap.specs.declared.error.kind.ErrorKind.TheVariants.{DisplayHelp}
 use Rattle.oc_base.specs.Steps.{◌>>=◌}
 use Rattle.oc_base.specs.declared.why.Why.{Why}
 use Rattle.oc_base.specs.declared.why.Why.TheVariants.{Count}
-use Rattle.oc_requests.specs.Requests.{IsDownload, IsMember, IsSample, IsService, download_in, member_in, sample_in, service_in}
+use Rattle.oc_words.specs.Requests.{IsDownload, IsMember, IsSample, IsService, download_in, member_in, sample_in, service_in}
 use Rattle.oc_words.specs.Arguments.{IsNoFlag, download_of, is_flagged, member_of, sample_of, service_of}
 use Rattle.oc_words.specs.Command.{command}
-use Rattle.oc_requests.specs.declared.request.Download.{Download}
-use Rattle.oc_requests.specs.declared.request.Member.{Member}
-use Rattle.oc_requests.specs.declared.request.Request.{Request}
-use Rattle.oc_requests.specs.declared.request.Request.TheVariants.{Replay, Gen, Node, Check, Get, Rules, Help}
-use Rattle.oc_requests.specs.declared.request.Sample.{Sample}
-use Rattle.oc_requests.specs.declared.request.Service.{Service}
+use Rattle.oc_words.specs.declared.request.Download.{Download}
+use Rattle.oc_words.specs.declared.request.Member.{Member}
+use Rattle.oc_words.specs.declared.request.Request.{Request}
+use Rattle.oc_words.specs.declared.request.Request.TheVariants.{Replay, Gen, Node, Check, Get, Rules, Help}
+use Rattle.oc_words.specs.declared.request.Sample.{Sample}
+use Rattle.oc_words.specs.declared.request.Service.{Service}
 use Rattle.oc_words.specs.declared.words.WordsFault.{WordsFault}
 use Rattle.oc_words.specs.declared.words.WordsFault.TheVariants.{Usage, Memory}
 

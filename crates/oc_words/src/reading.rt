@@ -2,17 +2,17 @@
 ghost use Rattle.std.specs.Prelude.{◌≡◌, IfOk};
 ghost use Rattle.std.specs.Result.{result_ok};
 ghost use Rattle.clap.specs.Words.{found_of, rows_of};
-ghost use Rattle.oc_requests.specs.Requests.{IsDownload, IsMember, IsSample, IsService};
+ghost use Rattle.oc_words.specs.Requests.{IsDownload, IsMember, IsSample, IsService};
 ghost use Rattle.oc_words.specs.Arguments.{download_of, member_of, sample_of, service_of};
 ghost use Rattle.oc_words.specs.Words.{Answers};
 
 use crate::arguments::{given, is_flagged, word};
 use crate::words::WordsFault;
-use clap::ArgMatches;
-use oc_base::Why;
-use oc_requests::{
+use crate::{
     Address, Download, Member, Sample, Service, member_in, sample_in, service_in, times_in,
 };
+use clap::ArgMatches;
+use oc_base::Why;
 use std::alloc::Global;
 
 /// The sample that the arguments of `gen` ask for.

@@ -3,17 +3,17 @@ ghost use Rattle.std.specs.Prelude.{◌≡◌, ◌≢◌, ◌∷◌, [], List, S
 ghost use Rattle.std.specs.Result.{result_ok};
 ghost use Rattle.clap.specs.Words.{Text, found_of, rows_of, subcommand_rows_of};
 ghost use Rattle.oc_words.specs.Arguments.{IsNoFlag};
-ghost use Rattle.oc_requests.specs.Requests.{download_in, member_in, sample_in, service_in};
+ghost use Rattle.oc_words.specs.Requests.{download_in, member_in, sample_in, service_in};
 ghost use Rattle.oc_words.specs.Words.{Answers, IsPlain, IsRequest, asked, asked_by, asking, other_by};
 ghost use Rattle.oc_words.specs.Words.{request_by, request_of, texts_of, verdict_by};
 
+use crate::Request;
 use crate::arguments::is_flagged;
 use crate::command::command;
 use crate::reading::{download_of, member_of, sample_of, service_of};
 use clap::ArgMatches;
 use clap::error::ErrorKind;
 use oc_base::Why;
-use oc_requests::Request;
 use std::alloc::{AllocError, AllocFailed, Global};
 
 /// Why the words ask for nothing.

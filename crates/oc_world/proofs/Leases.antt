@@ -2,14 +2,14 @@
 use Rattle.std.proofs.Common.{◌≡◌, ℕ, Bool, true, false, ◌==◌, Some, List, [], ◌∷◌, length, slice_get, refl, subst, eqb-true}
 use Rattle.oc_base.specs.declared.cert.Cert.{Cert}
 use Rattle.oc_base.specs.Lawful.{AreCerts, IsNode}
-use Rattle.oc_cluster.specs.Cluster.{is_ack}
+use Rattle.oc_calm.specs.Cluster.{is_ack}
 use Rattle.oc_model.specs.declared.message.Body.{Body}
 use Rattle.oc_model.specs.declared.message.Body.TheVariants as bodies
 use Rattle.oc_model.specs.declared.message.Message.{Message}
 use Rattle.oc_model.specs.Runs.{body_in}
 use Rattle.oc_model.specs.Table.{leased_by}
 use Rattle.oc_model.specs.World.{message_at}
-use Rattle.oc_net.specs.Net.{ends_with_ack, is_ack_body}
+use Rattle.oc_world.specs.Net.{ends_with_ack, is_ack_body}
 
 -- a row of which a table has a lease is that of a node
 pub leased_node : (nodes : ℕ) (rows : List Cert) (y x seq : ℕ) → AreCerts nodes rows → leased_by rows y x ≡ Some seq → IsNode nodes x

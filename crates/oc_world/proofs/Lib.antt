@@ -2,3 +2,10 @@ pub mod Source
 pub mod Turns
 pub mod Sites
 pub mod Leases
+pub mod Open
+pub mod Left
+pub mod Loaded
+pub mod Stands
+pub mod Cuts
+mod ReadBack
+mod NetLists

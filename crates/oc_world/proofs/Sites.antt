@@ -6,7 +6,7 @@ use Rattle.oc_keep.specs.KeptView.{KeptView}
 use Rattle.oc_model.specs.declared.input.Input.{Input}
 use Rattle.oc_model.specs.declared.message.Message.{Message}
 use Rattle.oc_model.specs.World.{Process}
-use Rattle.oc_process.specs.ProcessView.{AreRipe, ProcessView, Renews}
+use Rattle.oc_world.specs.ProcessView.{AreRipe, ProcessView, Renews}
 use Rattle.oc_world.proofs.Turns.{set_itself}
 use Rattle.oc_world.specs.World.{RenewsAt, processes_of, seen_as}
 

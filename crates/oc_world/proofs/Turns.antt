@@ -6,7 +6,7 @@ use Rattle.std.proofs.lemmas.List.FromFn.{length-range_with_len}
 use Rattle.oc_base.specs.declared.group.Group.{Group}
 use Rattle.oc_base.specs.Groups.{IsAscending}
 use Rattle.oc_base.specs.Lawful.{IsNode}
-use Rattle.oc_cluster.specs.Cluster.{HasChain}
+use Rattle.oc_calm.specs.Cluster.{HasChain}
 use Rattle.oc_model.specs.declared.answer.Answer.TheVariants as answers
 use Rattle.oc_model.specs.declared.input.Input.{Input}
 use Rattle.oc_model.specs.declared.message.Message.{Message}

@@ -1,6 +1,6 @@
 -- What is left of a world when memory runs out partway through an event.
 use Rattle.std.specs.Prelude.{◌≡◌}
-use Rattle.oc_cluster.specs.Way.{IsOnTheWay, acts_of}
+use Rattle.oc_calm.specs.Way.{IsOnTheWay, acts_of}
 use Rattle.oc_model.specs.declared.event.Event.{Event}
 use Rattle.oc_model.specs.declared.event.Event.TheVariants.{Settle, Heal}
 use Rattle.oc_model.specs.NextWorld.{heal_acts, settle_acts}

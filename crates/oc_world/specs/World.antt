@@ -9,7 +9,7 @@ use Rattle.oc_model.specs.declared.event.Event.TheVariants.{Do}
 use Rattle.oc_model.specs.declared.message.Message.{Message}
 use Rattle.oc_model.specs.World.{Aimed, Process, World, aimed, process_in}
 use Rattle.oc_model.specs.WorldBounds.{AreWithinLimits}
-use Rattle.oc_process.specs.ProcessView.{ProcessView, Renews}
+use Rattle.oc_world.specs.ProcessView.{ProcessView, Renews}
 
 -- the world of the model, and for each node, by its number, the node on its files where it is up
 pub record WorldView : Type 0 where

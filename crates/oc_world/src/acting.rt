@@ -5,12 +5,11 @@ ghost use Rattle.std.specs.Prelude.{◌≡◌, ◌++◌, true, IfOk, OnOk, OnErr
 ghost use Rattle.oc_keep.specs.Promises.{IsSameNode};
 ghost use Rattle.oc_model.specs.Lawful.{IsInput};
 ghost use Rattle.oc_model.specs.Step.{step};
-ghost use Rattle.oc_process.specs.ProcessView.{Renews};
+ghost use Rattle.oc_world.specs.ProcessView.{Renews};
 
+use crate::{Net, Process};
 use oc_base::Memory;
 use oc_model::{Answer, Input};
-use oc_net::Net;
-use oc_process::Process;
 use std::alloc::Global;
 
 /// An input comes to a node that is up. What it sends goes into the net. If memory runs out, the node

@@ -2,7 +2,7 @@
 
 use crate::World;
 use oc_base::{Memory, NodeId, Rank};
-use oc_cluster::Cluster;
+use oc_calm::Cluster;
 use oc_model::{Act, Mode};
 
 impl Cluster for World {

@@ -4,14 +4,14 @@ ghost use Rattle.std.specs.Prelude.{◌≡◌, OnOk, OnErr};
 ghost use Rattle.oc_model.specs.Lawful.{IsHeader};
 ghost use Rattle.oc_model.specs.World.{new_world as opened_world};
 
-use crate::{Said, Sight, Stage, World};
+use crate::{NodeStatus, Said, Stage, World};
 use oc_base::{Memory, NodeId, Shelf};
 use oc_model::{Event, Message};
 
 impl Stage for World {
     ghost use Rattle.oc_model.specs.NextWorld.{next_world, word_of};
     ghost use Rattle.oc_model.specs.World.{new_world};
-    ghost use Rattle.oc_stage.specs.WorldLaws.{world_ids, world_keeps_limits, world_keeps_time, world_later, world_opens};
+    ghost use Rattle.oc_replay.specs.WorldLaws.{world_ids, world_keeps_limits, world_keeps_time, world_later, world_opens};
 
     ghost world = { λ w. w.world };
 
@@ -43,8 +43,8 @@ impl Stage for World {
         self.held(node)
     }
 
-    fn sight(&self, node: NodeId) -> Result<Sight, Memory> {
-        self.sight(node)
+    fn status(&self, node: NodeId) -> Result<NodeStatus, Memory> {
+        self.status(node)
     }
 
     ghost opens = { world_opens };

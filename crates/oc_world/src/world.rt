@@ -3,7 +3,7 @@ ghost use Rattle.oc_base.specs.Groups.{shelf};
 ghost use Rattle.oc_base.specs.Lawful.{IsNode};
 ghost use Rattle.std.specs.List.{range_with_len};
 ghost use Rattle.oc_base.specs.declared.limits.TheConstants.{MAX_NODES};
-ghost use Rattle.oc_cluster.specs.Cluster.{HasChain, IsStepOf, IsUpNode, is_ack};
+ghost use Rattle.oc_calm.specs.Cluster.{HasChain, IsStepOf, IsUpNode, is_ack};
 ghost use Rattle.oc_content.specs.ContentFile.{groups_in};
 ghost use Rattle.oc_journal.specs.JournalFile.{frames_of};
 ghost use Rattle.oc_keep.specs.Files.{Survives, disks};
@@ -16,23 +16,20 @@ ghost use Rattle.oc_model.specs.Runs.{last_body};
 ghost use Rattle.oc_model.specs.World.{acted, after_act, aimed, ids, is_up, message_at, new_world, node as node_in, process};
 ghost use Rattle.oc_model.specs.declared.event.Event.TheVariants.{Crash, Do, Stop, Up};
 ghost use Rattle.oc_io.specs.MemDiskView.{view_of};
-ghost use Rattle.oc_stage.specs.Sight.{sight_in};
-ghost use Rattle.oc_stage.specs.Stage.{HasTimeFor, IsSaid};
+ghost use Rattle.oc_model.specs.Status.{status_in};
+ghost use Rattle.oc_replay.specs.Stage.{HasTimeFor, IsSaid};
 ghost use Rattle.oc_world.specs.Inside.{IsLeftBy};
-ghost use Rattle.oc_net.specs.Net.{IsTextOf};
+ghost use Rattle.oc_world.specs.Net.{IsTextOf};
 ghost use Rattle.oc_world.specs.World.{RenewsAt, RenewsBy, processes_of};
 
 use crate::acting::act;
-use crate::{Said, Sight};
-use oc_aims::{Aim, aim_of, message_place};
+use crate::{Aim, Net, NodeStatus, Process, Said, aim_of, message_place};
 use oc_base::{Memory, NodeId, Shelf};
 use oc_calm::{heal, is_settled, settle};
 use oc_io::MemDisk;
 use oc_keep::Node;
 use oc_laws_world::tests_decide;
 use oc_model::{Act, Answer, Event, Input, Message, Word};
-use oc_net::Net;
-use oc_process::Process;
 use std::alloc::Global;
 use std::marker::Model;
 
@@ -273,14 +270,14 @@ impl World {
     }
 
     /// The state of a node; what its files recover, where it is down.
-    pub fn sight(&self, node: NodeId) -> Result<Sight, Memory>
+    pub fn status(&self, node: NodeId) -> Result<NodeStatus, Memory>
         requires { IsNode (length (ids self.now.world)) node }
-        ensures { IfOk result (λ sight. sight ≡ sight_in self.now.world node) }
+        ensures { IfOk result (λ status. status ≡ status_in self.now.world node) }
     {
         let at = node.index();
         let process = &self.processes[at];
-        let sight = process.sight()?;
-        Ok(sight)
+        let status = process.status()?;
+        Ok(status)
     }
 
     /// The disks of a node's files, those of the control files before that of the content; none where there

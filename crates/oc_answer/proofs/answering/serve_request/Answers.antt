@@ -7,7 +7,7 @@ use Rattle.oc_turn.specs.Scenes.{scene}
 use Rattle.oc_turn.proofs.Results.{err_then, err_with, ok_then}
 use Rattle.oc_turn.proofs.Steps.{did_note, note_ends, note_under}
 use Rattle.oc_turn.proofs.Talks.{talked_then, talks_only}
-use Rattle.oc_routing.specs.declared.connections.TheConstants.{CONTINUE}
+use Rattle.oc_routes.specs.declared.connections.TheConstants.{CONTINUE}
 use Rattle.oc_turn.specs.declared.ends.TurnEnd.TheVariants as ends
 use Rattle.oc_answer.specs.Serving.{terms}
 use Rattle.oc_answer.proofs.Written.{front_still}

@@ -1,8 +1,8 @@
 -- The requests so far are deeds, each kept the connection, and the node is as they left it.
 use Rattle.std.proofs.Common.{◌≡◌, false, ℕ, List, length}
 use Rattle.oc_keep.specs.KeptView.{IsHonest, node_of}
-use Rattle.oc_outside.specs.ClockView.{Series}
-use Rattle.oc_outside.specs.LinkCalls.{CountsTalking}
+use Rattle.oc_link.specs.ClockView.{Series}
+use Rattle.oc_link.specs.LinkCalls.{CountsTalking}
 use Rattle.oc_turn.specs.Deeds.{AreRequests, Deed, outside_of}
 use Rattle.oc_turn.specs.Scenes.{Did, scene}
 use Rattle.oc_answer.specs.Serving.{KeepOn, terms}

@@ -1,5 +1,5 @@
 use Rattle.std.proofs.Common.{rules}
-use Rattle.oc_outside.specs.declared.current.Current.{Current}
+use Rattle.oc_link.specs.declared.current.Current.{Current}
 use Rattle.oc_answer.proofs.Reading.{spoke}
 use Rattle.oc_answer.proofs.Talking.{said}
 use Rattle.oc_answer.proofs.replying.say.Goals as goal

@@ -1,5 +1,5 @@
 use Rattle.std.proofs.Common.{refl}
-use Rattle.oc_routing.specs.declared.connections.TheConstants.{CONTINUE}
+use Rattle.oc_routes.specs.declared.connections.TheConstants.{CONTINUE}
 use Rattle.oc_answer.proofs.Written.{front_none}
 use Rattle.oc_answer.proofs.requests.read_behind.Goals as goal
 

@@ -1,6 +1,6 @@
 use Rattle.oc_turn.proofs.Talks.{talked_then}
 use Rattle.oc_answer.proofs.Written.{front_behind, front_silent}
-use Rattle.oc_routing.specs.declared.connections.TheConstants.{CONTINUE}
+use Rattle.oc_routes.specs.declared.connections.TheConstants.{CONTINUE}
 use Rattle.oc_answer.proofs.requests.read_request.Goals as goal
 
 pub returns-in-Some-clause-talked : goal.returns-in-Some-clause-talked

@@ -1,5 +1,5 @@
 use Rattle.std.proofs.Common.{rules}
-use Rattle.oc_outside.specs.declared.current.Current.{Current}
+use Rattle.oc_link.specs.declared.current.Current.{Current}
 use Rattle.oc_answer.proofs.Reading.{body_heard, body_silent, body_unheard}
 use Rattle.oc_answer.proofs.Talking.{heard_body}
 use Rattle.oc_answer.proofs.requests.read_rest.Goals as goal

@@ -2,7 +2,7 @@ use Rattle.std.proofs.Common.{◌≡◌, Bool, rules, subst, true}
 use Rattle.oc_turn.proofs.Talks.{talked_then}
 use Rattle.oc_answer.specs.Hearing.{SaysOn, leave_for}
 use Rattle.oc_answer.proofs.Written.{front_then, leave_said}
-use Rattle.oc_routing.specs.declared.connections.TheConstants.{CONTINUE}
+use Rattle.oc_routes.specs.declared.connections.TheConstants.{CONTINUE}
 use Rattle.oc_answer.proofs.requests.take_body.Goals as goal
 
 pub returns-in_err-body-clause-talked : goal.returns-in_err-body-clause-talked

@@ -1,8 +1,8 @@
 use Rattle.std.proofs.Common.{arith, ◌∙◌, sym}
 use Rattle.std.specs.List.{list_all}
-use Rattle.oc_cluster.specs.Cluster.{IsUpNode}
+use Rattle.oc_calm.specs.Cluster.{IsUpNode}
 use Rattle.oc_calm.specs.CalmRuns.{room_of}
-use Rattle.oc_cluster.proofs.Each.{all_next}
+use Rattle.oc_calm.proofs.Each.{all_next}
 use Rattle.oc_calm.proofs.MemberOrder.{all_later, fails_here, all_pass}
 use Rattle.oc_calm.proofs.healing.all_have_room.Goals as goal
 

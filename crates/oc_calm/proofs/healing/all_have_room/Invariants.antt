@@ -1,7 +1,7 @@
 -- All have room if those that are left have.
 use Rattle.std.proofs.Common.{◌≡◌, drop}
 use Rattle.std.specs.List.{AllByRecursion, list_all}
-use Rattle.oc_cluster.specs.Cluster.{IsUpNode}
+use Rattle.oc_calm.specs.Cluster.{IsUpNode}
 use Rattle.oc_calm.specs.CalmRuns.{room_of}
 use Rattle.oc_calm.proofs.healing.all_have_room.Given as goal
 

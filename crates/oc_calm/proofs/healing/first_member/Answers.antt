@@ -1,5 +1,5 @@
 use Rattle.oc_calm.proofs.MemberOrder.{leader_first}
-use Rattle.oc_cluster.proofs.RoundRuns.{roll_ups}
+use Rattle.oc_calm.proofs.RoundRuns.{roll_ups}
 use Rattle.oc_calm.proofs.healing.first_member.Goals as goal
 
 pub loop-node-init : goal.loop-node-init

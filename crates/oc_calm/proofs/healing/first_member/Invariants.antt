@@ -4,7 +4,7 @@ use Rattle.std.specs.List.{AllByRecursion}
 use Rattle.oc_model.specs.Heal.{first_of}
 use Rattle.oc_model.specs.Plan.{is_member}
 use Rattle.oc_model.specs.World.{node}
-use Rattle.oc_cluster.specs.Cluster.{IsUpNode}
+use Rattle.oc_calm.specs.Cluster.{IsUpNode}
 use Rattle.oc_calm.specs.CalmRuns.{leader_of}
 use Rattle.oc_calm.proofs.healing.first_member.Given as goal
 

@@ -2,15 +2,15 @@ use Rattle.std.proofs.Common.{sym, subst, ◌∙◌, ◌-◌, arith, length}
 use Rattle.oc_base.specs.declared.limits.TheConstants.{LAST_SECOND}
 use Rattle.oc_model.specs.NextWorld.{heal_acts}
 use Rattle.oc_model.specs.World.{ids}
-use Rattle.oc_cluster.specs.Cluster.{IsRoll}
+use Rattle.oc_calm.specs.Cluster.{IsRoll}
 use Rattle.oc_calm.specs.CalmRuns.{heal_run}
-use Rattle.oc_cluster.specs.Way.{acts_of}
-use Rattle.oc_cluster.proofs.FoundLengths.{nothing}
+use Rattle.oc_calm.specs.Way.{acts_of}
+use Rattle.oc_calm.proofs.FoundLengths.{nothing}
 use Rattle.oc_calm.proofs.HealRuns.{able_acts, leaderless, roomless}
-use Rattle.oc_cluster.proofs.RoundRuns.{roll_ups}
+use Rattle.oc_calm.proofs.RoundRuns.{roll_ups}
 use Rattle.oc_calm.proofs.SettleActs.{healed_word, acts_world, acts_way, unhealed_word, no_world, on_no_way}
-use Rattle.oc_cluster.proofs.Timely.{heals_timely}
-use Rattle.oc_cluster.proofs.Ways.{even_on_err}
+use Rattle.oc_calm.proofs.Timely.{heals_timely}
+use Rattle.oc_calm.proofs.Ways.{even_on_err}
 use Rattle.oc_calm.proofs.healing.heal.Goals as goal
 
 pub returns-in_err-up-clause-err : goal.returns-in_err-up-clause-err

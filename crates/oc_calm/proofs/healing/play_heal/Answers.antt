@@ -1,8 +1,8 @@
-use Rattle.oc_cluster.specs.Played.{five_run}
+use Rattle.oc_calm.specs.Played.{five_run}
 use Rattle.oc_calm.specs.CalmRuns.{places_run, settle_run}
-use Rattle.oc_cluster.proofs.Each.{roll_stays, node_stays, timely_rest}
+use Rattle.oc_calm.proofs.Each.{roll_stays, node_stays, timely_rest}
 use Rattle.oc_calm.proofs.HealRuns.{heal_is, first_timely, last_timely}
-use Rattle.oc_cluster.proofs.Ways.{on_ok, on_err, even_on_err, same_played, same_begun, then_played, cut_in_first, cut_in_second}
+use Rattle.oc_calm.proofs.Ways.{on_ok, on_err, even_on_err, same_played, same_begun, then_played, cut_in_first, cut_in_second}
 use Rattle.oc_calm.proofs.healing.play_heal.Goals as goal
 
 pub returns-in_err-rise-clause-err : goal.returns-in_err-rise-clause-err

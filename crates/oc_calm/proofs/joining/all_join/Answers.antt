@@ -1,10 +1,10 @@
 use Rattle.std.proofs.Common.{◌∙◌, nat_lt, sym, subst, arith}
 use Rattle.std.specs.List.{AllByRecursion}
-use Rattle.oc_cluster.specs.Cluster.{IsNodeOf}
-use Rattle.oc_cluster.specs.Placed.{ArePlaced}
-use Rattle.oc_cluster.proofs.KnownPlaces.{none_placed}
+use Rattle.oc_calm.specs.Cluster.{IsNodeOf}
+use Rattle.oc_calm.specs.Placed.{ArePlaced}
+use Rattle.oc_calm.proofs.KnownPlaces.{none_placed}
 use Rattle.oc_calm.proofs.MemberOrder.{joiners_are}
-use Rattle.oc_cluster.proofs.RoundRuns.{all_filter, roll_nodes}
+use Rattle.oc_calm.proofs.RoundRuns.{all_filter, roll_nodes}
 use Rattle.oc_calm.proofs.joining.all_join.Goals as goal
 
 pub each_joins-requires-clause-order : goal.each_joins-requires-clause-order

@@ -1,10 +1,10 @@
 use Rattle.std.proofs.Common.{arith, ◌+◌, drop}
 use Rattle.oc_model.specs.Runs.{for_each}
-use Rattle.oc_cluster.specs.Cluster.{IsNodeOf}
+use Rattle.oc_calm.specs.Cluster.{IsNodeOf}
 use Rattle.oc_calm.specs.CalmRuns.{place_run, places_run}
-use Rattle.oc_cluster.proofs.Each.{all_next, left_as, each_more, each_cut, each_done, node_stays, nodes_stay, numbered_stays}
+use Rattle.oc_calm.proofs.Each.{all_next, left_as, each_more, each_cut, each_done, node_stays, nodes_stay, numbered_stays}
 use Rattle.oc_calm.proofs.HealRuns.{places_are}
-use Rattle.oc_cluster.proofs.Ways.{all_left, even_on_err}
+use Rattle.oc_calm.proofs.Ways.{all_left, even_on_err}
 use Rattle.oc_calm.proofs.joining.each_joins.Goals as goal
 
 pub loop-node-init : goal.loop-node-init

@@ -2,10 +2,10 @@
 use Rattle.std.proofs.Common.{drop}
 use Rattle.std.specs.List.{AllByRecursion}
 use Rattle.oc_model.specs.Runs.{for_each}
-use Rattle.oc_cluster.specs.Cluster.{IsNodeOf, IsNumbered}
-use Rattle.oc_cluster.specs.Placed.{ArePlaced}
+use Rattle.oc_calm.specs.Cluster.{IsNodeOf, IsNumbered}
+use Rattle.oc_calm.specs.Placed.{ArePlaced}
 use Rattle.oc_calm.specs.CalmRuns.{place_run, places_run}
-use Rattle.oc_cluster.proofs.Ways.{IsLeft}
+use Rattle.oc_calm.proofs.Ways.{IsLeft}
 use Rattle.oc_calm.proofs.joining.each_joins.Given as goal
 
 abbrev pub invariant-loop-node : goal.invariant-loop-node

@@ -1,7 +1,7 @@
 use Rattle.std.proofs.Common.{◌∙◌, sym, true≢false, eqb-true, eq-eqb}
 use Rattle.oc_calm.proofs.HealRuns.{place_rests, place_joins, place_joins_by}
-use Rattle.oc_cluster.proofs.KnownPlaces.{forgotten_after}
-use Rattle.oc_cluster.proofs.Ways.{on_ok, on_err, rest_played, same_played, same_begun}
+use Rattle.oc_calm.proofs.KnownPlaces.{forgotten_after}
+use Rattle.oc_calm.proofs.Ways.{on_ok, on_err, rest_played, same_played, same_begun}
 use Rattle.oc_calm.proofs.joining.place.Goals as goal
 
 pub returns-then-is_placed-clause-ok : goal.returns-then-is_placed-clause-ok

@@ -2,9 +2,9 @@ use Rattle.std.proofs.Common.{◌≡◌, ◌+◌, ◌*◌, ◌-◌, suc, ap, sym
 use Rattle.oc_model.specs.Runs.{and_then, rests}
 use Rattle.oc_model.specs.Adopting.{is_acting}
 use Rattle.oc_calm.specs.CalmRuns.{rise_left, rise_once_run, rise_run}
-use Rattle.oc_cluster.proofs.Each.{left_as, up_node_stays}
+use Rattle.oc_calm.proofs.Each.{left_as, up_node_stays}
 use Rattle.oc_calm.proofs.HealRuns.{rise_starts, rise_goes, rise_over, rise_rests}
-use Rattle.oc_cluster.proofs.Ways.{all_left, less_left, none_left, cut_in_rest, even_on_err}
+use Rattle.oc_calm.proofs.Ways.{all_left, less_left, none_left, cut_in_rest, even_on_err}
 use Rattle.oc_calm.proofs.joining.rise.Goals as goal
 
 pub rising-init : goal.rising-init

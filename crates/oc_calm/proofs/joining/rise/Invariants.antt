@@ -1,8 +1,8 @@
 -- What was done, and what the leader may still do, is all.
 use Rattle.std.proofs.Common.{◌-◌, ◌*◌}
-use Rattle.oc_cluster.specs.Cluster.{IsUpNode}
+use Rattle.oc_calm.specs.Cluster.{IsUpNode}
 use Rattle.oc_calm.specs.CalmRuns.{rise_left, rise_run}
-use Rattle.oc_cluster.proofs.Ways.{IsLeft}
+use Rattle.oc_calm.proofs.Ways.{IsLeft}
 use Rattle.oc_calm.proofs.joining.rise.Given as goal
 
 abbrev pub invariant-rising : goal.invariant-rising

@@ -1,6 +1,6 @@
 use Rattle.std.proofs.Common.{sym}
 use Rattle.oc_calm.proofs.HealRuns.{idle_rises, asking_rises, joined_rises, acting_rests}
-use Rattle.oc_cluster.proofs.Ways.{on_ok, on_err, rest_played, same_played, same_begun}
+use Rattle.oc_calm.proofs.Ways.{on_ok, on_err, rest_played, same_played, same_begun}
 use Rattle.oc_calm.proofs.joining.rise_once.Goals as goal
 
 pub returns-in-Idle-clause-ok : goal.returns-in-Idle-clause-ok

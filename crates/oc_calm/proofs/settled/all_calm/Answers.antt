@@ -2,8 +2,8 @@ use Rattle.std.proofs.Common.{sym, ◌+◌, ◌∙◌, arith}
 use Rattle.std.specs.List.{list_all}
 use Rattle.oc_model.specs.Ready.{is_calm}
 use Rattle.oc_model.specs.World.{ids}
-use Rattle.oc_cluster.proofs.Fitting.{all_more, all_fails, all_ends}
-use Rattle.oc_cluster.proofs.RoundRuns.{number_node}
+use Rattle.oc_calm.proofs.Fitting.{all_more, all_fails, all_ends}
+use Rattle.oc_calm.proofs.RoundRuns.{number_node}
 use Rattle.oc_calm.proofs.settled.all_calm.Goals as goal
 
 pub is_calm-requires : goal.is_calm-requires

@@ -2,8 +2,8 @@ use Rattle.std.proofs.Common.{◌+◌, ◌∙◌, arith}
 use Rattle.std.specs.List.{list_all}
 use Rattle.oc_model.specs.World.{ids}
 use Rattle.oc_calm.proofs.Currents.{current_at, current_is, currents_are}
-use Rattle.oc_cluster.proofs.Fitting.{all_more, all_fails, all_ends}
-use Rattle.oc_cluster.proofs.RoundRuns.{nodes_count, number_node}
+use Rattle.oc_calm.proofs.Fitting.{all_more, all_fails, all_ends}
+use Rattle.oc_calm.proofs.RoundRuns.{nodes_count, number_node}
 use Rattle.oc_calm.proofs.settled.holds_current.Goals as goal
 
 pub is_current-requires-clause-child : goal.is_current-requires-clause-child

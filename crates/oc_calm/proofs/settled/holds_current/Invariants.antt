@@ -2,7 +2,7 @@
 use Rattle.std.proofs.Common.{◌≡◌, ◌-◌, ◌<◌}
 use Rattle.std.specs.List.{list_all, range_with_len}
 use Rattle.oc_model.specs.World.{ids}
-use Rattle.oc_cluster.specs.Cluster.{HasNoStranger}
+use Rattle.oc_calm.specs.Cluster.{HasNoStranger}
 use Rattle.oc_calm.proofs.Currents.{current_at}
 use Rattle.oc_calm.proofs.settled.holds_current.Given as goal
 

@@ -1,9 +1,9 @@
 use Rattle.std.proofs.Common.{ℕ, length, sym, ap, subst, ◌∙◌, arith}
 use Rattle.std.specs.List.{AllByRecursion}
 use Rattle.oc_base.specs.Lawful.{IsNode}
-use Rattle.oc_cluster.specs.Cluster.{IsUpNode}
-use Rattle.oc_cluster.specs.Tree.{AreLengths}
-use Rattle.oc_cluster.proofs.RoundRuns.{roll_nodes, roll_ups}
+use Rattle.oc_calm.specs.Cluster.{IsUpNode}
+use Rattle.oc_calm.specs.Tree.{AreLengths}
+use Rattle.oc_calm.proofs.RoundRuns.{roll_nodes, roll_ups}
 use Rattle.oc_calm.proofs.TellingRuns.{sorted_deepest, sorted_nodes}
 use Rattle.oc_calm.proofs.settling.all_tell.Goals as goal
 

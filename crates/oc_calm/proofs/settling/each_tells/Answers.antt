@@ -1,10 +1,10 @@
 use Rattle.std.proofs.Common.{arith, ◌+◌, drop}
 use Rattle.oc_model.specs.Runs.{for_each}
-use Rattle.oc_cluster.specs.Cluster.{IsUpNode}
+use Rattle.oc_calm.specs.Cluster.{IsUpNode}
 use Rattle.oc_calm.specs.CalmRuns.{telling_run, tellings_run}
-use Rattle.oc_cluster.proofs.Each.{all_next, left_as, each_more, each_cut, each_done, up_nodes_stay}
+use Rattle.oc_calm.proofs.Each.{all_next, left_as, each_more, each_cut, each_done, up_nodes_stay}
 use Rattle.oc_calm.proofs.TellingRuns.{tellings_are}
-use Rattle.oc_cluster.proofs.Ways.{all_left, even_on_err}
+use Rattle.oc_calm.proofs.Ways.{all_left, even_on_err}
 use Rattle.oc_calm.proofs.settling.each_tells.Goals as goal
 
 pub loop-node-init : goal.loop-node-init

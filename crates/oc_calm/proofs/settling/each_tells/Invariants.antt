@@ -2,9 +2,9 @@
 use Rattle.std.proofs.Common.{drop}
 use Rattle.std.specs.List.{AllByRecursion}
 use Rattle.oc_model.specs.Runs.{for_each}
-use Rattle.oc_cluster.specs.Cluster.{IsUpNode}
+use Rattle.oc_calm.specs.Cluster.{IsUpNode}
 use Rattle.oc_calm.specs.CalmRuns.{telling_run, tellings_run}
-use Rattle.oc_cluster.proofs.Ways.{IsLeft}
+use Rattle.oc_calm.proofs.Ways.{IsLeft}
 use Rattle.oc_calm.proofs.settling.each_tells.Given as goal
 
 abbrev pub invariant-loop-node : goal.invariant-loop-node

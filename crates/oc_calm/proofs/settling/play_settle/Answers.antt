@@ -1,11 +1,11 @@
 use Rattle.std.proofs.Common.{sym, subst}
 use Rattle.oc_model.specs.Runs.{Run}
-use Rattle.oc_cluster.specs.Played.{five_run}
+use Rattle.oc_calm.specs.Played.{five_run}
 use Rattle.oc_calm.specs.CalmRuns.{tellings_run}
-use Rattle.oc_cluster.specs.Timely.{AreTimely}
-use Rattle.oc_cluster.proofs.Each.{roll_stays, timely_front}
+use Rattle.oc_calm.specs.Timely.{AreTimely}
+use Rattle.oc_calm.proofs.Each.{roll_stays, timely_front}
 use Rattle.oc_calm.proofs.TellingRuns.{settle_is}
-use Rattle.oc_cluster.proofs.Ways.{on_ok, on_err, even_on_err, same_played, same_begun, then_played, cut_in_first, cut_in_second}
+use Rattle.oc_calm.proofs.Ways.{on_ok, on_err, even_on_err, same_played, same_begun, then_played, cut_in_first, cut_in_second}
 use Rattle.oc_calm.proofs.settling.play_settle.Goals as goal
 
 pub five_steps-requires-clause-time : goal.five_steps-requires-clause-time

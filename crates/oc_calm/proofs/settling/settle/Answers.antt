@@ -3,10 +3,10 @@ use Rattle.oc_base.specs.declared.limits.TheConstants.{LAST_SECOND}
 use Rattle.oc_model.specs.NextWorld.{settle_acts}
 use Rattle.oc_model.specs.World.{ids}
 use Rattle.oc_calm.specs.CalmRuns.{settle_run}
-use Rattle.oc_cluster.specs.Way.{acts_of}
+use Rattle.oc_calm.specs.Way.{acts_of}
 use Rattle.oc_calm.proofs.SettleActs.{ready_acts, unready_acts, settled_word, acts_world, acts_way, unsettled_word, no_world, on_no_way}
-use Rattle.oc_cluster.proofs.Timely.{settles_timely}
-use Rattle.oc_cluster.proofs.Ways.{even_on_err}
+use Rattle.oc_calm.proofs.Timely.{settles_timely}
+use Rattle.oc_calm.proofs.Ways.{even_on_err}
 use Rattle.oc_calm.proofs.settling.settle.Goals as goal
 
 pub returns-in_err-up-clause-err : goal.returns-in_err-up-clause-err

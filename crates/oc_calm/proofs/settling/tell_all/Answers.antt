@@ -1,10 +1,10 @@
 use Rattle.std.proofs.Common.{◌≡◌, ◌+◌, ◌-◌, suc, sym, ◌∙◌, arith}
 use Rattle.oc_model.specs.Runs.{and_then, rests}
-use Rattle.oc_cluster.specs.Played.{check_in_run}
+use Rattle.oc_calm.specs.Played.{check_in_run}
 use Rattle.oc_calm.specs.CalmRuns.{telling_left, telling_run}
-use Rattle.oc_cluster.proofs.Each.{left_as, up_node_stays}
+use Rattle.oc_calm.proofs.Each.{left_as, up_node_stays}
 use Rattle.oc_calm.proofs.TellingRuns.{telling_starts, telling_goes, telling_rests, telling_over}
-use Rattle.oc_cluster.proofs.Ways.{all_left, less_left, none_left, cut_in_rest, even_on_err}
+use Rattle.oc_calm.proofs.Ways.{all_left, less_left, none_left, cut_in_rest, even_on_err}
 use Rattle.oc_calm.proofs.settling.tell_all.Goals as goal
 
 pub telling-init : goal.telling-init

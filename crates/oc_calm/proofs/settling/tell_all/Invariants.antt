@@ -1,8 +1,8 @@
 -- What was told, and what the node will still tell, is all.
 use Rattle.std.proofs.Common.{◌-◌}
-use Rattle.oc_cluster.specs.Cluster.{IsUpNode}
+use Rattle.oc_calm.specs.Cluster.{IsUpNode}
 use Rattle.oc_calm.specs.CalmRuns.{telling_left, telling_run}
-use Rattle.oc_cluster.proofs.Ways.{IsLeft}
+use Rattle.oc_calm.proofs.Ways.{IsLeft}
 use Rattle.oc_calm.proofs.settling.tell_all.Given as goal
 
 abbrev pub invariant-telling : goal.invariant-telling

@@ -1,6 +1,6 @@
 use Rattle.std.proofs.Common.{◌≡◌, ◌≤◌, ℕ, List, length, sym, ap, subst, ◌∙◌}
 use Rattle.oc_base.specs.declared.shelf.Shelf.{Shelf}
-use Rattle.oc_entries.specs.declared.putting.Standing.{Standing}
+use Rattle.oc_content.specs.declared.entry_putting.Standing.{Standing}
 use Rattle.oc_base.specs.declared.limits.TheConstants.{MAX_GROUP_BYTES}
 use Rattle.oc_base.specs.Shelves.{IsLinePlace}
 use Rattle.oc_content.specs.Putting.{standing_in, fault_of}

@@ -1,8 +1,8 @@
 use Rattle.std.proofs.Common.{None, refl}
 use Rattle.oc_fetch.specs.Turns.{Speaks, asking}
 use Rattle.oc_fetch.proofs.Spoken.{told_so, told_cut, said, said_cut}
-use Rattle.oc_outside.specs.Exchange.{Says, SaysFrontThenBreaks}
-use Rattle.oc_outside.specs.LinkCalls.{OnOutgoing}
+use Rattle.oc_link.specs.Exchange.{Says, SaysFrontThenBreaks}
+use Rattle.oc_link.specs.LinkCalls.{OnOutgoing}
 use Rattle.oc_fetch.proofs.asking.ask_again.Goals as goal
 
 pub returns-in-Ok-clause-asked : goal.returns-in-Ok-clause-asked

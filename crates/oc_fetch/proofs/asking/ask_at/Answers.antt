@@ -2,7 +2,7 @@ use Rattle.std.proofs.Common.{Some, refl}
 use Rattle.oc_fetch.specs.Turns.{Speaks, asking}
 use Rattle.oc_fetch.proofs.Moving.{front_whole}
 use Rattle.oc_fetch.proofs.Spoken.{told_so, told_cut, dialled, dial_cut}
-use Rattle.oc_outside.specs.LinkCalls.{DialsTo, DialFails}
+use Rattle.oc_link.specs.LinkCalls.{DialsTo, DialFails}
 use Rattle.oc_fetch.proofs.asking.ask_at.Goals as goal
 
 pub returns-in-Ok-clause-asked : goal.returns-in-Ok-clause-asked

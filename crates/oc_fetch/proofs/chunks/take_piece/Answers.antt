@@ -2,8 +2,8 @@
 use Rattle.std.proofs.Common.{◌≡◌, ℕ, ◌≤◌, List, length, take, subst, arith}
 use Rattle.std.proofs.lemmas.List.{take_all, length-take-le}
 use Rattle.oc_fetch.proofs.ChunkSteps.{stops_failed, stops_early, stops_starved}
-use Rattle.oc_stream.specs.Stages.{wanted_at}
-use Rattle.oc_stream.specs.Taken.{Takes}
+use Rattle.oc_chunked.specs.Stages.{wanted_at}
+use Rattle.oc_chunked.specs.Taken.{Takes}
 use Rattle.oc_fetch.proofs.chunks.take_piece.Goals as goal
 
 pub returns-in-Ok-feed-clause-takes : goal.returns-in-Ok-feed-clause-takes

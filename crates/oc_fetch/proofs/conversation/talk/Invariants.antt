@@ -3,7 +3,7 @@ use Rattle.std.proofs.Common.{◌+◌}
 use Rattle.oc_fetch.specs.Wishes.{wish_of}
 use Rattle.oc_fetch.proofs.Talked.{HasTalked}
 use Rattle.oc_io.specs.Faults.{NoFall}
-use Rattle.oc_outside.specs.LinkCalls.{CountsDialling}
+use Rattle.oc_link.specs.LinkCalls.{CountsDialling}
 use Rattle.oc_fetch.proofs.conversation.talk.Given as goal
 
 abbrev pub invariant-turns : goal.invariant-turns

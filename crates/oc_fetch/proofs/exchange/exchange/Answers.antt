@@ -3,7 +3,7 @@ use Rattle.std.proofs.lemmas.Result.{IfErr-weaker, on_ok_weaker, err_from_is_err
 use Rattle.oc_fetch.specs.Turns.{Speaks, asking, IsCut}
 use Rattle.oc_fetch.specs.Wishes.{wish_of, dialled_at}
 use Rattle.oc_fetch.proofs.Exchanged.{exchanged, last_exchanged, exchange_starved, exchange_cut}
-use Rattle.oc_outside.specs.LinkCalls.{Told}
+use Rattle.oc_link.specs.LinkCalls.{Told}
 use Rattle.oc_fetch.proofs.exchange.exchange.Goals as goal
 
 pub returns-in_err-request-clause-ends : goal.returns-in_err-request-clause-ends

@@ -3,7 +3,7 @@ use Rattle.std.proofs.lemmas.Result.{IfErr-weaker, on_ok_weaker}
 use Rattle.oc_fetch.specs.Conversations.{LeadsOn, EndsWith}
 use Rattle.oc_fetch.specs.Wishes.{wish_of}
 use Rattle.oc_fetch.proofs.Exchanged.{outgoing_heard, outgoing_last}
-use Rattle.oc_outside.specs.declared.outgoing.Outgoing.{Outgoing}
+use Rattle.oc_link.specs.declared.outgoing.Outgoing.{Outgoing}
 use Rattle.oc_fetch.proofs.exchange.hear_outgoing.Goals as goal
 
 pub returns-clause-heard : goal.returns-clause-heard

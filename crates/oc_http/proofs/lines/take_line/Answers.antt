@@ -3,7 +3,7 @@ use Rattle.std.proofs.lemmas.List.{append-nil}
 use Rattle.std.proofs.lemmas.Result.{err_from_is_err_and}
 use Rattle.oc_base.specs.declared.limits.TheConstants.{MAX_HEAD_BYTES}
 use Rattle.httparse.specs.Ascii.{line_feed}
-use Rattle.oc_head.specs.Bytes.{bytes_of}
+use Rattle.oc_http.specs.Bytes.{bytes_of}
 use Rattle.oc_http.specs.Lines.{HasNoLineEnd}
 use Rattle.oc_http.proofs.Faults.{Rose-later}
 use Rattle.oc_http.proofs.lines.take_line.Goals as goal

@@ -1,5 +1,5 @@
 use Rattle.std.proofs.Common.{◌≡◌, ◌∙◌}
-use Rattle.oc_head.specs.Fields.{named}
+use Rattle.oc_http.specs.Fields.{named}
 use Rattle.oc_http.proofs.requests.read_request.Goals as goal
 
 -- the parts that the spans cover are those of the head

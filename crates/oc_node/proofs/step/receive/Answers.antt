@@ -1,4 +1,4 @@
-use Rattle.oc_rules.proofs.Drafts.{begun_told, begun_table, begun_log}
+use Rattle.oc_node.proofs.Drafts.{begun_told, begun_table, begun_log}
 use Rattle.oc_node.proofs.step.receive.Goals as goal
 
 pub sees-requires : goal.sees-requires

@@ -1,4 +1,4 @@
-use Rattle.oc_rules.proofs.Drafts.{begun_told}
+use Rattle.oc_node.proofs.Drafts.{begun_told}
 use Rattle.oc_node.proofs.step.take.Goals as goal
 
 pub check-requires : goal.check-requires

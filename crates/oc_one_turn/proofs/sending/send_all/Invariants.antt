@@ -1,7 +1,7 @@
 -- The messages so far are deeds, and the node is as these left it.
 use Rattle.std.proofs.Common.{◌≡◌, false, List}
-use Rattle.oc_outside.specs.ClockView.{Series}
-use Rattle.oc_outside.specs.LinkCalls.{CountsDialling}
+use Rattle.oc_link.specs.ClockView.{Series}
+use Rattle.oc_link.specs.LinkCalls.{CountsDialling}
 use Rattle.oc_turn.specs.Deeds.{Deed, outside_of}
 use Rattle.oc_turn.specs.Scenes.{Did, scene}
 use Rattle.oc_turn.specs.Sending.{AreSendable}

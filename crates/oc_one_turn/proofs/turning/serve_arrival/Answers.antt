@@ -1,5 +1,5 @@
 use Rattle.std.proofs.Common.{[], refl, sym, subst}
-use Rattle.oc_outside.specs.declared.link.Arrival.{Arrival}
+use Rattle.oc_link.specs.declared.link.Arrival.{Arrival}
 use Rattle.oc_turn.specs.Deeds.{outside_of}
 use Rattle.oc_turn.specs.Scenes.{scene}
 use Rattle.oc_answer.specs.Serving.{terms}

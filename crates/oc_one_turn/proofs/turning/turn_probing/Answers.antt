@@ -1,10 +1,10 @@
 use Rattle.std.proofs.Common.{None, ◌++◌, subst, arith}
 use Rattle.std.proofs.lemmas.Result.{err_from_is_err_and}
-use Rattle.oc_outside.specs.declared.link.Arrival.{Arrival}
+use Rattle.oc_link.specs.declared.link.Arrival.{Arrival}
 use Rattle.oc_answer.specs.Serving.{terms}
 use Rattle.oc_keep.specs.KeptView.{node_of}
 use Rattle.oc_one_turn.specs.Served.{ServesOne}
-use Rattle.oc_turn.specs.Deeds.{outside_of, sight_of}
+use Rattle.oc_turn.specs.Deeds.{outside_of, status_of}
 use Rattle.oc_turn.specs.Scenes.{scene, setting}
 use Rattle.oc_one_turn.specs.Turns.{IsTurn, end_with}
 use Rattle.oc_turn.proofs.Scenes.{did_then}
@@ -35,8 +35,8 @@ returns-in-Conn-clause-did g c =
     let millis = g.C.Clock.milliseconds in
     let t = c.turn_plain.new in
     let s = setting a.kept.now a.config.now.addresses in
-    let before = sight_of (node_of a.kept.now) a.outbox.now (outside_of (story a.link.now) (faults a.link.now) (seconds a.clock.now) (millis a.clock.now)) in
-    let after = sight_of (node_of t.kept) t.outbox (outside_of (story t.link) (faults t.link) (seconds t.clock) (millis t.clock)) in
+    let before = status_of (node_of a.kept.now) a.outbox.now (outside_of (story a.link.now) (faults a.link.now) (seconds a.clock.now) (millis a.clock.now)) in
+    let after = status_of (node_of t.kept) t.outbox (outside_of (story t.link) (faults t.link) (seconds t.clock) (millis t.clock)) in
     let d = c.in_ok-arrival.ensures.did in (
       d.0,
       served_too a.probing.now d.0 (subst (λ (x : Arrival). IsTurn None None (end_with x) d.0) c.in-Conn.is d.1),
@@ -64,7 +64,7 @@ returns-in_ok-probe_next-in-Quiet-clause-did g c =
           d.2 q.2,
       serves_behind g.D.Disk.view g.K.Sink.takes g.K.Sink.fails g.K.Sink.faults a.config.now.addresses a.config.now.rules a.probing.now n.probing d.0 q.0
           (scene a.kept.now a.outbox.now a.sink.now (outside_of (story a.link.now) (faults a.link.now) (seconds a.clock.now) (millis a.clock.now))) (scene t.kept t.outbox t.sink (outside_of (story t.link) (faults t.link) (seconds t.clock) (millis t.clock))) (scene n.kept n.outbox n.sink (outside_of (story n.link) (faults n.link) (seconds n.clock) (millis n.clock)))
-          d.2 (λ honest. subst (λ (x : Arrival). ServesOne (setting a.kept.now a.config.now.addresses) (terms a.kept.now a.config.now.rules) None None x d.0 (sight_of (node_of a.kept.now) a.outbox.now (outside_of (story a.link.now) (faults a.link.now) (seconds a.clock.now) (millis a.clock.now))) (sight_of (node_of t.kept) t.outbox (outside_of (story t.link) (faults t.link) (seconds t.clock) (millis t.clock)))) c.in-Quiet.is (d.3 honest)) q.2 q.1 c.probe_next.ensures.still,
+          d.2 (λ honest. subst (λ (x : Arrival). ServesOne (setting a.kept.now a.config.now.addresses) (terms a.kept.now a.config.now.rules) None None x d.0 (status_of (node_of a.kept.now) a.outbox.now (outside_of (story a.link.now) (faults a.link.now) (seconds a.clock.now) (millis a.clock.now))) (status_of (node_of t.kept) t.outbox (outside_of (story t.link) (faults t.link) (seconds t.clock) (millis t.clock)))) c.in-Quiet.is (d.3 honest)) q.2 q.1 c.probe_next.ensures.still,
     )
 
 pub returns-in_err-probe_next-in-Quiet-clause-stops : goal.returns-in_err-probe_next-in-Quiet-clause-stops
@@ -83,7 +83,7 @@ returns-in_err-probe_next-in-Quiet-clause-stops g c =
     (stops_probing g.D.Disk.view g.K.Sink.takes g.K.Sink.fails g.K.Sink.faults a.config.now.addresses a.config.now.rules g.met.K.Sink.takes_then a.probing.now c.in_err-probe_next-in-Quiet.field-0.0
     (scene a.kept.now a.outbox.now a.sink.now (outside_of (story a.link.now) (faults a.link.now) (seconds a.clock.now) (millis a.clock.now))) (scene t.kept t.outbox t.sink (outside_of (story t.link) (faults t.link) (seconds t.clock) (millis t.clock))) (scene n.kept n.outbox n.sink (outside_of (story n.link) (faults n.link) (seconds n.clock) (millis n.clock)))
     d.0 q.0 q.1 d.2
-    (λ honest. subst (λ (x : Arrival). ServesOne (setting a.kept.now a.config.now.addresses) (terms a.kept.now a.config.now.rules) None None x d.0 (sight_of (node_of a.kept.now) a.outbox.now (outside_of (story a.link.now) (faults a.link.now) (seconds a.clock.now) (millis a.clock.now))) (sight_of (node_of t.kept) t.outbox (outside_of (story t.link) (faults t.link) (seconds t.clock) (millis t.clock)))) c.in-Quiet.is (d.3 honest)) q.2 q.3)
+    (λ honest. subst (λ (x : Arrival). ServesOne (setting a.kept.now a.config.now.addresses) (terms a.kept.now a.config.now.rules) None None x d.0 (status_of (node_of a.kept.now) a.outbox.now (outside_of (story a.link.now) (faults a.link.now) (seconds a.clock.now) (millis a.clock.now))) (status_of (node_of t.kept) t.outbox (outside_of (story t.link) (faults t.link) (seconds t.clock) (millis t.clock)))) c.in-Quiet.is (d.3 honest)) q.2 q.3)
 
 pub returns-in_ok-probe_next-in-Quiet-clause-renews : goal.returns-in_ok-probe_next-in-Quiet-clause-renews
 returns-in_ok-probe_next-in-Quiet-clause-renews g c =

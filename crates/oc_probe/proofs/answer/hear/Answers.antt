@@ -1,5 +1,5 @@
 use Rattle.std.proofs.Common.{rules}
-use Rattle.oc_outside.specs.declared.outgoing.Outgoing.{Outgoing}
+use Rattle.oc_link.specs.declared.outgoing.Outgoing.{Outgoing}
 use Rattle.oc_probe.proofs.Asking.{heard_refused}
 use Rattle.oc_probe.proofs.answer.hear.Goals as goal
 

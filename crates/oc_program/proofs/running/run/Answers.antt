@@ -6,7 +6,7 @@ use Rattle.oc_commands.specs.AtRules.{HasConfigStatus}
 use Rattle.oc_commands.specs.Complete.{IsDoneOrMemory}
 use Rattle.oc_commands.specs.Ends.{status_of}
 use Rattle.oc_commands.specs.Outside.{at_clock, at_files, at_link, at_node, at_sink, at_source, at_stage, seen}
-use Rattle.oc_requests.specs.Status.{number_of}
+use Rattle.oc_words.specs.Status.{number_of}
 use Rattle.oc_commands.specs.declared.ending.End.{End}
 use Rattle.oc_commands.specs.declared.ending.End.TheVariants.{Misused, NoMemory}
 use Rattle.oc_words.specs.Words.{asked, texts_of}

@@ -1,10 +1,10 @@
 use Rattle.std.proofs.Common.{◌≡◌, ◌∙◌, ℕ, Err, inr, refl, sym, ap, subst}
-use Rattle.oc_acts.specs.declared.fault.What.{What}
+use Rattle.oc_schedule.specs.declared.fault.What.{What}
 use Rattle.oc_base.specs.declared.why.Why.{Why}
-use Rattle.oc_play.specs.Ends.{IfLimit, IfText, OnDone, OnMemory, OnRefusal, OnSink, OnSource, end_of_report}
-use Rattle.oc_play.specs.declared.end.ReplayEnd.{ReplayEnd}
-use Rattle.oc_play.specs.declared.fault.ReportFault.{ReportFault}
-use Rattle.oc_play.specs.declared.fault.ReportFault.TheVariants.{Sink, Memory}
+use Rattle.oc_replay.specs.Ends.{IfLimit, IfText, OnDone, OnMemory, OnRefusal, OnSink, OnSource, end_of_report}
+use Rattle.oc_replay.specs.declared.end.ReplayEnd.{ReplayEnd}
+use Rattle.oc_replay.specs.declared.fault.ReportFault.{ReportFault}
+use Rattle.oc_replay.specs.declared.fault.ReportFault.TheVariants.{Sink, Memory}
 use Rattle.oc_replay.proofs.replaying.replay.Goals as goal
 
 -- a report that failed is no end but at the sink, or for want of memory

@@ -1,9 +1,9 @@
 use Rattle.std.proofs.Common.{ℕ, List, sym, subst}
 use Rattle.std.proofs.lemmas.Result.{err_from_is_err_and}
 use Rattle.oc_replay.proofs.Limits.{limit-at}
-use Rattle.oc_play.specs.Ends.{OnMemory, end_of_schedule}
-use Rattle.oc_play.specs.declared.end.ReplayEnd.{ReplayEnd}
-use Rattle.oc_play.specs.declared.end.ReplayEnd.TheVariants.{Done, Text, Limit, Source, Sink, Memory}
+use Rattle.oc_replay.specs.Ends.{OnMemory, end_of_schedule}
+use Rattle.oc_replay.specs.declared.end.ReplayEnd.{ReplayEnd}
+use Rattle.oc_replay.specs.declared.end.ReplayEnd.TheVariants.{Done, Text, Limit, Source, Sink, Memory}
 use Rattle.oc_replay.proofs.replaying.schedule_in.Goals as goal
 
 -- the fault of a text that came whole

@@ -1,6 +1,6 @@
 -- The lines so far and those to come are all.
 use Rattle.std.proofs.Common.{◌≡◌, ◌++◌, ◌-◌, drop}
-use Rattle.oc_report.specs.Lines.{messages_text}
+use Rattle.oc_replay.specs.Lines.{messages_text}
 use Rattle.oc_replay.proofs.reporting.put_sent.Given as goal
 
 abbrev pub invariant-loop-number : goal.invariant-loop-number

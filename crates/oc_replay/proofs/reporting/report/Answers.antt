@@ -1,10 +1,10 @@
 use Rattle.std.proofs.Common.{◌+◌, [], ◌++◌, length, drop, refl, sym, ap, subst, arith}
 use Rattle.std.proofs.lemmas.Result.{on_ok_weaker}
 use Rattle.oc_io.proofs.Counts.{Rose-after}
-use Rattle.oc_report.specs.Lines.{end_line}
-use Rattle.oc_play.specs.Pieces.{SomeFront}
+use Rattle.oc_replay.specs.Lines.{end_line}
+use Rattle.oc_replay.specs.Pieces.{SomeFront}
 use Rattle.oc_replay.specs.Report.{told_from, run_text}
-use Rattle.oc_play.proofs.Running.{begins, fold-take, goes_on, next_given, whole_run}
+use Rattle.oc_replay.proofs.Running.{begins, fold-take, goes_on, next_given, whole_run}
 use Rattle.oc_replay.proofs.Runs.{written-next, written-end}
 use Rattle.oc_replay.proofs.Written.{written_none, passes, ends, stops, fails_on}
 use Rattle.oc_replay.proofs.reporting.report.Goals as goal

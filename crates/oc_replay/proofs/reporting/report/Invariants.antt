@@ -1,7 +1,7 @@
 use Rattle.std.proofs.Common.{◌≡◌, length, drop}
 use Rattle.oc_io.specs.Faults.{NoFall}
 use Rattle.oc_replay.specs.Report.{told_from, run_text}
-use Rattle.oc_play.proofs.Running.{IsOnTheWay}
+use Rattle.oc_replay.proofs.Running.{IsOnTheWay}
 use Rattle.oc_replay.proofs.Written.{IsWritten}
 use Rattle.oc_replay.proofs.reporting.report.Given as goal
 

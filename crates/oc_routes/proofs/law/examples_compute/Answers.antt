@@ -2,8 +2,8 @@ use Rattle.std.proofs.Common.{refl}
 use Rattle.std.specs.Fmt.{digits}
 use Rattle.hex.proofs.OnLiterals.{hex_on_literals}
 use Rattle.oc_base.specs.Reading.{within_at}
-use Rattle.oc_fields.specs.Reading.{rejoin_at}
-use Rattle.oc_message.specs.Reading.{body_at, decoded}
+use Rattle.oc_wire.specs.FieldReading.{rejoin_at}
+use Rattle.oc_wire.specs.MessageReading.{body_at, decoded}
 use Rattle.oc_routes.proofs.law.examples_compute.Goals as goal
 
 pub returns-clause-routed : goal.returns-clause-routed

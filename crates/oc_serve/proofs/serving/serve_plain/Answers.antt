@@ -2,7 +2,7 @@ use Rattle.std.proofs.Common.{ℕ, None, [], ◌++◌, subst, arith}
 use Rattle.std.proofs.lemmas.Result.{err_from_is_err_and}
 use Rattle.oc_answer.specs.Serving.{terms}
 use Rattle.oc_keep.specs.KeptView.{node_of}
-use Rattle.oc_turn.specs.Deeds.{outside_of, sight_of}
+use Rattle.oc_turn.specs.Deeds.{outside_of, status_of}
 use Rattle.oc_turn.specs.Scenes.{scene, setting}
 use Rattle.oc_turn.proofs.Scenes.{did_none, did_then}
 use Rattle.oc_one_turn.proofs.Placed.{placed_stays, sendable_stays}
@@ -60,7 +60,7 @@ turns-init g c =
       is_open = c.requires.open;
       placed = c.requires.placed;
       sendable = c.requires.sendable;
-      far = ([], no_turns None, did_none g.D.Disk.view g.K.Sink.takes g.K.Sink.fails g.K.Sink.faults a.config.now.addresses g.met.K.Sink.takes_nothing (scene a.kept.now a.outbox.now a.sink.now out) c.requires.open, λ honest. serves_none (setting a.kept.now a.config.now.addresses) (terms a.kept.now a.config.now.rules) None (sight_of (node_of a.kept.now) a.outbox.now out));
+      far = ([], no_turns None, did_none g.D.Disk.view g.K.Sink.takes g.K.Sink.fails g.K.Sink.faults a.config.now.addresses g.met.K.Sink.takes_nothing (scene a.kept.now a.outbox.now a.sink.now out) c.requires.open, λ honest. serves_none (setting a.kept.now a.config.now.addresses) (terms a.kept.now a.config.now.rules) None (status_of (node_of a.kept.now) a.outbox.now out));
     }
 
 pub returns-clause-did : goal.returns-clause-did
@@ -71,9 +71,9 @@ returns-clause-did g c =
       far.2,
       λ honest.
           serves_all (setting c.args.kept.now c.args.config.now.addresses) (terms c.args.kept.now c.args.config.now.rules) None None c.args.turns far.0
-          (sight_of (node_of c.args.kept.now) c.args.outbox.now (outside_of (g.L.Link.story c.args.link.now) (g.L.Link.faults c.args.link.now) (g.C.Clock.seconds c.args.clock.now) (g.C.Clock.milliseconds c.args.clock.now)))
-          (sight_of (node_of c.turns.kept) c.turns.outbox (outside_of (g.L.Link.story c.turns.link) (g.L.Link.faults c.turns.link) (g.C.Clock.seconds c.turns.clock) (g.C.Clock.milliseconds c.turns.clock)))
+          (status_of (node_of c.args.kept.now) c.args.outbox.now (outside_of (g.L.Link.story c.args.link.now) (g.L.Link.faults c.args.link.now) (g.C.Clock.seconds c.args.clock.now) (g.C.Clock.milliseconds c.args.clock.now)))
+          (status_of (node_of c.turns.kept) c.turns.outbox (outside_of (g.L.Link.story c.turns.link) (g.L.Link.faults c.turns.link) (g.C.Clock.seconds c.turns.clock) (g.C.Clock.milliseconds c.turns.clock)))
           (subst (λ (n : ℕ). ServesSoFar (setting c.args.kept.now c.args.config.now.addresses) (terms c.args.kept.now c.args.config.now.rules) None None n far.0
-          (sight_of (node_of c.args.kept.now) c.args.outbox.now (outside_of (g.L.Link.story c.args.link.now) (g.L.Link.faults c.args.link.now) (g.C.Clock.seconds c.args.clock.now) (g.C.Clock.milliseconds c.args.clock.now)))
-          (sight_of (node_of c.turns.kept) c.turns.outbox (outside_of (g.L.Link.story c.turns.link) (g.L.Link.faults c.turns.link) (g.C.Clock.seconds c.turns.clock) (g.C.Clock.milliseconds c.turns.clock)))) (omega arith) (far.3 honest)),
+          (status_of (node_of c.args.kept.now) c.args.outbox.now (outside_of (g.L.Link.story c.args.link.now) (g.L.Link.faults c.args.link.now) (g.C.Clock.seconds c.args.clock.now) (g.C.Clock.milliseconds c.args.clock.now)))
+          (status_of (node_of c.turns.kept) c.turns.outbox (outside_of (g.L.Link.story c.turns.link) (g.L.Link.faults c.turns.link) (g.C.Clock.seconds c.turns.clock) (g.C.Clock.milliseconds c.turns.clock)))) (omega arith) (far.3 honest)),
     )

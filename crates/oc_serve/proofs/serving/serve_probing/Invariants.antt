@@ -1,6 +1,6 @@
 -- This many turns were made, and the node is as these left it.
 use Rattle.std.proofs.Common.{◌≡◌, false, Some, List}
-use Rattle.oc_turn.specs.Deeds.{Deed, outside_of, sight_of}
+use Rattle.oc_turn.specs.Deeds.{Deed, outside_of, status_of}
 use Rattle.oc_turn.specs.Scenes.{Did, scene, setting}
 use Rattle.oc_turn.specs.Sending.{AreSendable}
 use Rattle.oc_answer.specs.Serving.{terms}
@@ -24,7 +24,7 @@ invariant-turns g l =
           (scene l.fn.kept l.fn.outbox l.fn.sink (outside_of (story l.fn.link) (faults l.fn.link) (seconds l.fn.clock) (millis l.fn.clock)))
           (scene l.kept l.outbox l.sink (outside_of (story l.link) (faults l.link) (seconds l.clock) (millis l.clock)))
           × (IsHonest g.D.Disk.view l.fn.kept → ServesSoFar (setting l.fn.kept l.config.addresses) (terms l.fn.kept l.config.rules) (Some l.fn.probing) (Some l.probing) l.done ds
-          (sight_of (node_of l.fn.kept) l.fn.outbox (outside_of (story l.fn.link) (faults l.fn.link) (seconds l.fn.clock) (millis l.fn.clock)))
-          (sight_of (node_of l.kept) l.outbox (outside_of (story l.link) (faults l.link) (seconds l.clock) (millis l.clock))));
+          (status_of (node_of l.fn.kept) l.fn.outbox (outside_of (story l.fn.link) (faults l.fn.link) (seconds l.fn.clock) (millis l.fn.clock)))
+          (status_of (node_of l.kept) l.outbox (outside_of (story l.link) (faults l.link) (seconds l.clock) (millis l.clock))));
       probing : IsMadeFor l.kept.node.control.nodes l.probing;
     }

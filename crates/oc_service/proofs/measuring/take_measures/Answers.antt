@@ -1,7 +1,7 @@
 use Rattle.std.proofs.Common.{◌++◌, [], List, None, refl, subst, sym, arith}
 use Rattle.std.specs.Prelude.{All}
 use Rattle.std.proofs.lemmas.Result.{err_from_is_err_and}
-use Rattle.oc_measure.specs.MeasureLines.{IsMeasure}
+use Rattle.oc_updown.specs.MeasureLines.{IsMeasure}
 use Rattle.oc_model.specs.Node.{Header}
 use Rattle.oc_turn.specs.Deeds.{Deed, outside_of}
 use Rattle.oc_turn.specs.Scenes.{Did, scene}

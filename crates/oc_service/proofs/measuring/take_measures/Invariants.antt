@@ -1,6 +1,6 @@
 use Rattle.std.proofs.Common.{◌≡◌, ℕ, false, List, ◌++◌, drop}
 use Rattle.std.specs.Prelude.{All}
-use Rattle.oc_measure.specs.MeasureLines.{IsMeasure}
+use Rattle.oc_updown.specs.MeasureLines.{IsMeasure}
 use Rattle.oc_turn.specs.Deeds.{Deed, Outside}
 use Rattle.oc_turn.specs.Scenes.{Did, scene}
 use Rattle.oc_service.specs.Runs.{measured}

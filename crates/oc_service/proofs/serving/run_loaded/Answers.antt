@@ -5,7 +5,7 @@ use Rattle.oc_turn.specs.Deeds.{outside_of}
 use Rattle.oc_turn.specs.Scenes.{Did, scene}
 use Rattle.oc_turn.specs.Sending.{AreSendable}
 use Rattle.oc_config.specs.Settings.{Settings}
-use Rattle.oc_measure.specs.declared.lines.Measure.{Measure}
+use Rattle.oc_updown.specs.declared.measure_lines.Measure.{Measure}
 use Rattle.oc_model.specs.declared.message.Message.{Message}
 use Rattle.oc_turn.proofs.Results.{err_then}
 use Rattle.oc_turn.proofs.Scenes.{did_none, memory_stops, stopped_then}

@@ -5,7 +5,7 @@ use Rattle.oc_config.specs.Settings.{Settings}
 use Rattle.oc_keep.specs.Files.{Disks, disks}
 use Rattle.oc_keep.specs.KeptView.{disks_of, header}
 use Rattle.oc_keep.specs.Promises.{IsNodeOf, LoadsSafely}
-use Rattle.oc_measure.specs.MeasureLines.{IsMeasure}
+use Rattle.oc_updown.specs.MeasureLines.{IsMeasure}
 use Rattle.oc_model.specs.Lawful.{IsHeader}
 use Rattle.oc_model.specs.Node.{Header}
 use Rattle.oc_one_turn.specs.Sending.{IsPlaced}

@@ -1,7 +1,7 @@
 use Rattle.std.proofs.Common.{◌≡◌, ◌<◌, ◌++◌, ◌∙◌, [], None, ap, arith, drop, length, sym}
 use Rattle.std.proofs.lemmas.List.{append-nil, get_or_default}
-use Rattle.oc_cert.proofs.Entries.{no_entries_past}
-use Rattle.oc_cert.specs.TableView.{entries_of}
+use Rattle.oc_updown.proofs.Entries.{no_entries_past}
+use Rattle.oc_updown.specs.TableView.{entries_of}
 use Rattle.oc_model.specs.Snapshot.{entries}
 use Rattle.oc_state.proofs.Snapshotting.{rows_go_on}
 use Rattle.oc_state.proofs.snapshot.push_rows.Goals as goal

@@ -1,6 +1,6 @@
 use Rattle.std.proofs.Common.{◌≡◌, ◌++◌, drop}
 use Rattle.oc_model.specs.Snapshot.{entries}
-use Rattle.oc_cert.specs.TableView.{entries_of}
+use Rattle.oc_updown.specs.TableView.{entries_of}
 use Rattle.oc_state.proofs.snapshot.push_rows.Given as goal
 
 abbrev pub invariant-loop-place : goal.invariant-loop-place

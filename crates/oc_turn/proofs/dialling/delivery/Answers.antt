@@ -1,5 +1,5 @@
 use Rattle.std.proofs.Common.{◌≡◌, ◌==◌, true, false, ◌∙◌, rules}
-use Rattle.oc_message.specs.Reading.{decoded}
+use Rattle.oc_wire.specs.MessageReading.{decoded}
 use Rattle.oc_turn.proofs.Replies.{delivered_elsewhere, delivered_here, entry_is}
 use Rattle.oc_turn.proofs.Results.{ok_then}
 use Rattle.oc_model.specs.declared.input.Input.TheVariants.{Delivered, Unreachable}

@@ -1,7 +1,7 @@
 use Rattle.std.proofs.Common.{◌≡◌, ◌∙◌, [], ap, arith, drop, sym}
 use Rattle.oc_model.specs.Leases.{next_ended}
-use Rattle.oc_cert.specs.TableView.{entries_of}
-use Rattle.oc_cert.proofs.Entries.{no_entries_past}
+use Rattle.oc_updown.specs.TableView.{entries_of}
+use Rattle.oc_updown.proofs.Entries.{no_entries_past}
 use Rattle.oc_updown.proofs.Ends.{next_begins, rows_past}
 use Rattle.oc_updown.proofs.children.next_over.Goals as goal
 

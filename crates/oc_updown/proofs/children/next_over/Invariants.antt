@@ -1,6 +1,6 @@
 use Rattle.std.proofs.Common.{◌≡◌, ◌+◌, ◌≤◌, length, drop}
 use Rattle.oc_model.specs.Leases.{next_ended}
-use Rattle.oc_cert.specs.TableView.{AreRowsFrom, entries_of}
+use Rattle.oc_updown.specs.TableView.{AreRowsFrom, entries_of}
 use Rattle.oc_updown.proofs.children.next_over.Given as goal
 
 abbrev pub invariant-loop-place : goal.invariant-loop-place

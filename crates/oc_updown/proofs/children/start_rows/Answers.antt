@@ -1,8 +1,8 @@
 use Rattle.std.proofs.Common.{◌≡◌, ◌<◌, ◌∙◌, [], None, ap, arith, drop, length, sym}
 use Rattle.std.proofs.lemmas.List.{get_or_default}
 use Rattle.oc_model.specs.Leases.{start_all}
-use Rattle.oc_cert.specs.TableView.{entries_of}
-use Rattle.oc_cert.proofs.Entries.{no_entries_past}
+use Rattle.oc_updown.specs.TableView.{entries_of}
+use Rattle.oc_updown.proofs.Entries.{no_entries_past}
 use Rattle.oc_updown.proofs.Ends.{child_of_row}
 use Rattle.oc_updown.proofs.children.start_rows.Goals as goal
 

@@ -1,6 +1,6 @@
 use Rattle.std.proofs.Common.{◌≡◌, ◌+◌, length, drop}
 use Rattle.oc_model.specs.Leases.{start_all}
-use Rattle.oc_cert.specs.TableView.{AreRowsFrom, entries_of}
+use Rattle.oc_updown.specs.TableView.{AreRowsFrom, entries_of}
 use Rattle.oc_updown.proofs.children.start_rows.Given as goal
 
 abbrev pub invariant-loop-place : goal.invariant-loop-place

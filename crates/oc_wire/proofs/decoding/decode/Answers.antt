@@ -1,5 +1,5 @@
 use Rattle.std.proofs.Common.{subst, arith}
-use Rattle.oc_message.specs.Reading.{Gives}
+use Rattle.oc_wire.specs.MessageReading.{Gives}
 use Rattle.oc_wire.proofs.MessageReads.{is_read, is_found}
 use Rattle.oc_wire.proofs.decoding.decode.Goals as goal
 

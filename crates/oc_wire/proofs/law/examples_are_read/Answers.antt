@@ -1,7 +1,7 @@
 use Rattle.std.proofs.Common.{refl}
 use Rattle.oc_base.specs.Reading.{within_at, flag_at}
-use Rattle.oc_fields.specs.Reading.{rank_or_none_at, refusal_with, refusal_at, ask_at, no_at}
-use Rattle.oc_message.specs.Reading.{body_at, decoded}
+use Rattle.oc_wire.specs.FieldReading.{rank_or_none_at, refusal_with, refusal_at, ask_at, no_at}
+use Rattle.oc_wire.specs.MessageReading.{body_at, decoded}
 use Rattle.oc_wire.proofs.law.examples_are_read.Goals as goal
 
 pub returns-clause-ask : goal.returns-clause-ask

@@ -1,6 +1,6 @@
 use Rattle.std.proofs.Common.{refl}
-use Rattle.oc_fields.specs.declared.refusals.TheConstants.{REFUSALS}
-use Rattle.oc_message.specs.declared.codes.TheConstants.{CODES}
+use Rattle.oc_wire.specs.declared.refusals.TheConstants.{REFUSALS}
+use Rattle.oc_wire.specs.declared.codes.TheConstants.{CODES}
 use Rattle.oc_wire.proofs.Leasts.{have_leasts, shortest, are_lawful, have_lengths, refusals_all}
 use Rattle.oc_wire.proofs.law.least_lengths_are_exact.Goals as goal
 

@@ -3,7 +3,7 @@ use Rattle.std.specs.List.{range_with_len}
 use Rattle.oc_keep.specs.KeptView.{header}
 use Rattle.oc_model.specs.Node.{Header}
 use Rattle.oc_model.specs.World.{Process}
-use Rattle.oc_process.specs.ProcessView.{ProcessView}
+use Rattle.oc_world.specs.ProcessView.{ProcessView}
 use Rattle.oc_world.specs.World.{processes_of}
 use Rattle.oc_world.proofs.Sites.{one_behind}
 use Rattle.oc_world.proofs.Turns.{new_process, one_more}

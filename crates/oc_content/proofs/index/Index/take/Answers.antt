@@ -3,7 +3,7 @@ use Rattle.std.proofs.lemmas.List.{length-drop, length-map}
 use Rattle.oc_base.specs.declared.shelf.Shelf.{Shelf}
 use Rattle.oc_content.specs.declared.track.Track.{Track}
 use Rattle.oc_content.specs.ContentFile.{with_entry}
-use Rattle.oc_entries.specs.Headings.{entry_at}
+use Rattle.oc_content.specs.Headings.{entry_at}
 use Rattle.oc_base.specs.Shelves.{IsLinePlace}
 use Rattle.oc_content.specs.Indexes.{IsWithin, lines_with, paths_with, span_of}
 use Rattle.oc_content.proofs.Adding.{IsIndexOf-add, place_within, count_short, taken-refused}

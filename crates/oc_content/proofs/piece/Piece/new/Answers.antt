@@ -1,6 +1,6 @@
 use Rattle.std.proofs.Common.{List, ℕ, length, sym, ap, subst}
 use Rattle.oc_content.specs.Pieces.{IsPiece}
-use Rattle.oc_entries.proofs.Spelling.{entry_at-written, bytes_at-written}
+use Rattle.oc_content.proofs.Spelling.{entry_at-written, bytes_at-written}
 use Rattle.oc_content.proofs.piece.Piece.new.Goals as goal
 
 pub invariant_of-result : goal.invariant_of-result

@@ -1,6 +1,6 @@
 use Rattle.std.proofs.Common.{ap, arith, subst, sym, ◌≤◌, length}
-use Rattle.oc_disk_log.specs.DiskLogView.{DiskLogView}
-use Rattle.oc_disk_log.specs.Calls.{Fits}
+use Rattle.oc_io.specs.DiskLogView.{DiskLogView}
+use Rattle.oc_io.specs.Calls.{Fits}
 use Rattle.oc_io.specs.MemDiskView.{MemDiskView, overwritten}
 use Rattle.oc_io.proofs.DiskCalls.{Fits-overwritten}
 use Rattle.oc_io.proofs.mem_disk.MemDisk.put.Goals as goal

@@ -1,5 +1,5 @@
 use Rattle.std.proofs.Common.{ap, ◌∙◌}
-use Rattle.oc_disk_log.specs.DiskLogView.{DiskLogView}
+use Rattle.oc_io.specs.DiskLogView.{DiskLogView}
 use Rattle.oc_io.specs.MemDiskView.{MemDiskView}
 use Rattle.oc_io.proofs.DiskCalls.{synced-image}
 use Rattle.oc_io.proofs.mem_disk.MemDiskDisk.sync.Goals as goal

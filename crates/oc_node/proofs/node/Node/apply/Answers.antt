@@ -3,11 +3,11 @@ use Rattle.oc_model.specs.declared.record.Record.{Record}
 use Rattle.oc_model.specs.Node.{Control}
 use Rattle.oc_model.specs.Records.{folded}
 use Rattle.oc_state.specs.DurableView.{DurableView}
-use Rattle.oc_changes.specs.declared.touch.Touch.{Touch}
-use Rattle.oc_changes.specs.Touched.{leases_after, rates_after, counts_after}
-use Rattle.oc_parts.specs.Volatile.{soft_of}
-use Rattle.oc_draft.specs.NodeView.{NodeView, IsReached, control_of}
-use Rattle.oc_draft.specs.Planned.{control_after}
+use Rattle.oc_state.specs.declared.touch.Touch.{Touch}
+use Rattle.oc_state.specs.Touched.{leases_after, rates_after, counts_after}
+use Rattle.oc_state.specs.Volatile.{soft_of}
+use Rattle.oc_step.specs.NodeView.{NodeView, IsReached, control_of}
+use Rattle.oc_step.specs.Planned.{control_after}
 use Rattle.oc_node.proofs.Applying.{control_applied, soft_applied}
 use Rattle.oc_node.proofs.node.Node.apply.Goals as goal
 

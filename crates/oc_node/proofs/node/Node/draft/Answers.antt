@@ -3,8 +3,8 @@ use Rattle.std.specs.List.{AllByRecursion}
 use Rattle.oc_model.specs.Lawful.{IsInput}
 use Rattle.oc_model.specs.Node.{Control}
 use Rattle.oc_model.specs.Plan.{begun}
-use Rattle.oc_changes.specs.Touched.{IsTouch}
-use Rattle.oc_rules.proofs.Drafts.{base_after, plan_made}
+use Rattle.oc_state.specs.Touched.{IsTouch}
+use Rattle.oc_node.proofs.Drafts.{base_after, plan_made}
 use Rattle.oc_node.proofs.node.Node.draft.Goals as goal
 
 pub take-requires-clause-begun : goal.take-requires-clause-begun

@@ -2,8 +2,8 @@ use Rattle.std.proofs.Common.{◌≡◌, ℕ, ◌+◌, ◌≤◌, List, length, 
 use Rattle.oc_model.specs.declared.record.Record.{Record}
 use Rattle.oc_model.specs.Node.{Durable}
 use Rattle.oc_laws_step.specs.Frames.{FitsFrame}
-use Rattle.oc_draft.specs.NodeView.{NodeView, IsReached, control_of}
-use Rattle.oc_parts.specs.Volatile.{soft_of}
+use Rattle.oc_step.specs.NodeView.{NodeView, IsReached, control_of}
+use Rattle.oc_state.specs.Volatile.{soft_of}
 use Rattle.oc_node.proofs.Filling.{plan_of_whole, step_of_none}
 use Rattle.oc_node.proofs.Plans.{plan_wants}
 use Rattle.oc_node.proofs.Reaching.{frame_fits, one_file, plan_applies, plan_folds}

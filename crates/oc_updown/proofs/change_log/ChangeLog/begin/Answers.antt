@@ -1,8 +1,8 @@
 use Rattle.std.proofs.Common.{◌≡◌, ◌≤◌, List, ◌++◌, ◌∙◌, [], length, ap, arith}
 use Rattle.oc_base.specs.declared.cert.Cert.{Cert}
 use Rattle.oc_model.specs.Node.{Log}
-use Rattle.oc_cert.specs.TableView.{entries_of}
-use Rattle.oc_cert.proofs.Entries.{fewer_entries}
+use Rattle.oc_updown.specs.TableView.{entries_of}
+use Rattle.oc_updown.proofs.Entries.{fewer_entries}
 use Rattle.oc_updown.specs.ChangeLogView.{ChangeLogView}
 use Rattle.oc_updown.proofs.change_log.ChangeLog.begin.Goals as goal
 

@@ -1,5 +1,5 @@
 use Rattle.std.proofs.Common.{◌≡◌, ◌+◌, ◌++◌, length, drop}
-use Rattle.oc_cert.specs.TableView.{AreRowsFrom, entries_of}
+use Rattle.oc_updown.specs.TableView.{AreRowsFrom, entries_of}
 use Rattle.oc_updown.proofs.waiting.Waiting.push_rows.Given as goal
 
 abbrev pub invariant-loop-place : goal.invariant-loop-place

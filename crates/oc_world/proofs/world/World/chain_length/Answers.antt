@@ -1,5 +1,5 @@
 use Rattle.std.proofs.Common.{ap, subst}
-use Rattle.oc_cluster.specs.Cluster.{HasChain}
+use Rattle.oc_calm.specs.Cluster.{HasChain}
 use Rattle.oc_model.specs.World.{World}
 use Rattle.oc_world.specs.World.{WorldView, processes_of}
 use Rattle.oc_world.proofs.Turns.{has_chain}

@@ -1,5 +1,5 @@
 use Rattle.std.proofs.Common.{◌≡◌, ap, subst, ◌∙◌}
-use Rattle.oc_cluster.specs.Cluster.{is_ack}
+use Rattle.oc_calm.specs.Cluster.{is_ack}
 use Rattle.oc_model.specs.Runs.{last_body}
 use Rattle.oc_model.specs.World.{World}
 use Rattle.oc_world.specs.World.{WorldView}

@@ -6,7 +6,7 @@ use Rattle.oc_keep.specs.KeptView.{header_of}
 use Rattle.oc_model.specs.World.{Process, World, process_in}
 use Rattle.oc_model.specs.World.{node as node_in}
 use Rattle.oc_io.specs.MemDiskView.{view_of}
-use Rattle.oc_process.proofs.Left.{groups_left}
+use Rattle.oc_world.proofs.Left.{groups_left}
 use Rattle.oc_world.specs.World.{WorldView, processes_of}
 use Rattle.oc_world.proofs.Sites.{got}
 use Rattle.oc_world.proofs.Turns.{id_at, read_process, within_of}

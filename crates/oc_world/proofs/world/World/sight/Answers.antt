@@ -1,10 +1,10 @@
 use Rattle.std.proofs.Common.{◌≡◌, sym, ap, subst, ◌∙◌}
-use Rattle.oc_stage.specs.Sight.{sight_in, sight_of}
+use Rattle.oc_model.specs.Status.{status_in, status_of}
 use Rattle.oc_model.specs.World.{Process, World}
 use Rattle.oc_world.specs.World.{WorldView, processes_of}
 use Rattle.oc_world.proofs.Sites.{got}
 use Rattle.oc_world.proofs.Turns.{read_process, within_of}
-use Rattle.oc_world.proofs.world.World.sight.Goals as goal
+use Rattle.oc_world.proofs.world.World.status.Goals as goal
 
 pub returns : goal.returns
 returns c =
@@ -20,4 +20,4 @@ returns c =
     let node = within_of ps net x (rw (← c.self.view_is) at c.requires) in
     let p = c.index-process.result.now.process in
     let read = read_process ps x i p is.numbered at node.1 (got sites i c.index-process.result.now c.index-process.ensures) in
-    subst (λ (w : World). c.in_ok-sight.sight ≡ sight_in w x) world_is (c.in_ok-sight.ensures ∙ ap (λ (r : Process). sight_of r.node.control r.up) (sym read))
+    subst (λ (w : World). c.in_ok-status.status ≡ status_in w x) world_is (c.in_ok-status.ensures ∙ ap (λ (r : Process). status_of r.node.control r.up) (sym read))

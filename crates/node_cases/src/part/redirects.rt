@@ -1,0 +1,78 @@
+//! Redirection: the node that a client is sent to.
+
+ghost use Rattle.std.specs.Prelude.{◌≡◌};
+
+use crate::part::tables::table_in;
+use oc_base::{NodeId, Rows};
+use oc_updown::{Table, select};
+use std::alloc::Global;
+use test_tools::{Fault, Fields, put_shown};
+
+/// More nodes than there are.
+const MOST: u32 = 2000;
+
+/// Puts the words of a row: the node, or `None`.
+pub fn put_words(alloc: Global, given: &str, said: &mut String) -> Result<(), Fault> {
+    let mut fields = Fields::of(given, ' ');
+    let nodes = fields.small()?;
+    if nodes < 1 || 1024 < nodes {
+        return Err(Fault::Field);
+    }
+    let table = table_in(alloc, nodes, fields.list())?;
+    put_node(alloc, &table, fields, said)
+}
+
+/// Puts the node to which one of a table sends a client.
+fn put_node(
+    alloc: Global,
+    table: &Table,
+    mut fields: Fields<'_>,
+    said: &mut String,
+) -> Result<(), Fault> {
+    let me = fields.node()?;
+    let chain = fields.small()?;
+    let areas = bytes_in(alloc, fields.list())?;
+    let counts = rows_of(alloc, &fields.numbers(alloc)?)?;
+    put_selected(table, me, chain, &areas, &counts, fields, said)
+}
+
+/// The same, where a node and its chain have these areas and counts; the area of the client is the next field.
+fn put_selected(
+    table: &Table,
+    me: NodeId,
+    chain: u32,
+    areas: &[u8],
+    counts: &Rows<u64>,
+    mut fields: Fields<'_>,
+    said: &mut String,
+) -> Result<(), Fault> {
+    let area = fields.byte()?;
+    let nodes = table.rows().len();
+    if areas.len() != nodes || counts.len() != nodes {
+        return Err(Fault::Field);
+    }
+    put_shown(said, &select(table, me, chain, areas, counts, area))
+}
+
+/// These numbers, by their place.
+fn rows_of(alloc: Global, numbers: &[u64]) -> Result<Rows<u64>, Fault> {
+    let mut rows = Rows::new(alloc, numbers.len(), 0)?;
+    for (place, number) in numbers.iter().enumerate() {
+        if place < rows.len() {
+            rows.put(place, *number);
+        }
+    }
+    Ok(rows)
+}
+
+/// The numbers of the fields, each of 8 bits.
+fn bytes_in(alloc: Global, mut fields: Fields<'_>) -> Result<Vec<u8>, Fault> {
+    let mut bytes = Vec::new(alloc);
+    for _ in 0..MOST {
+        if fields.is_empty() {
+            break;
+        }
+        bytes.push(fields.byte()?)?;
+    }
+    Ok(bytes)
+}

@@ -1,4 +1,0 @@
-pub mod Counts
-pub mod Known
-pub mod Readers
-pub mod Writers

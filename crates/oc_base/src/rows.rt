@@ -1,0 +1,115 @@
+ghost use Rattle.std.specs.Prelude.{◌≡◌, ◌+◌, ◌-◌, ◌≤◌, ◌<◌, ◌++◌, drop, get_or, length, max, replicate, set, IfOk};
+ghost use Rattle.std.specs.VecDeque.{deque_capacity};
+
+use crate::Memory;
+use std::alloc::Global;
+use std::collections::VecDeque;
+use std::marker::Model;
+
+/// A value for each place below a count, the same everywhere at first. All memory is taken at the
+/// beginning, but what follows the last place that was put is not written, so that to make one takes
+/// no longer for a thousand places than for ten.
+///
+/// A contract sees the list of the values, how many of them are in use, the value of all others, and
+/// for how many there is memory.
+#[derive(Drop)]
+pub struct Rows<T> {
+    count: usize,
+    blank: T,
+    written: VecDeque<T>,
+}
+
+impl<T> Model for Rows<T> {
+    ghost use Rattle.std.specs.Prelude.{◌≤◌, length};
+    ghost use Rattle.std.specs.VecDeque.{deque_capacity};
+    ghost use Rattle.oc_base.specs.RowsView.{RowsView, filled_up};
+
+    ghost Value = { RowsView T };
+
+    ghost view = { λ r. record {
+      items = filled_up r.count r.blank r.written.items;
+      used = length r.written.items;
+      blank = r.blank;
+      room = deque_capacity r.written;
+    } };
+
+    ghost invariant = { λ r. (length r.written.items ≤ r.count) × (r.count ≤ deque_capacity r.written) };
+}
+
+impl<T: Copy> Rows<T> {
+    /// This value at each of this many places.
+    pub fn new(alloc: Global, count: usize, blank: T) -> Result<Rows<T>, Memory>
+        ensures items { IfOk result (λ made. made.items ≡ replicate count blank) }
+        ensures used { IfOk result (λ made. made.used ≡ 0) }
+        ensures blank { IfOk result (λ made. made.blank ≡ blank) }
+        ensures room { IfOk result (λ made. count ≤ made.room) }
+    {
+        Ok(Rows {
+            count,
+            blank,
+            written: VecDeque::with_capacity(alloc, count)?,
+        })
+    }
+
+    /// How many places there are.
+    pub fn len(&self) -> usize
+        ensures { result ≡ length self.now.items }
+    {
+        self.count
+    }
+
+    /// How many places are in use: each after them has the blank value.
+    pub fn used(&self) -> usize
+        ensures used { result ≡ self.now.used }
+        ensures within { result ≤ length self.now.items }
+        ensures rest { drop result self.now.items ≡ replicate (length self.now.items - result) self.now.blank }
+    {
+        self.written.len()
+    }
+
+    /// The value at a place, or `other` past the last place.
+    pub fn get_or(&self, place: usize, other: T) -> T
+        ensures { result ≡ get_or self.now.items place other }
+    {
+        match self.written.get(place) {
+            Some(value) => *value,
+            None if place < self.count => self.blank,
+            None => other,
+        }
+    }
+
+    /// Puts a value at a place. Takes no memory.
+    pub fn put(&mut self, place: usize, value: T)
+        requires { place < length self.old.items }
+        ensures items { self.new.items ≡ set self.old.items place value }
+        ensures used { self.new.used ≡ max self.old.used (place + 1) }
+        ensures blank { self.new.blank ≡ self.old.blank }
+        ensures room { self.new.room ≡ self.old.room }
+    {
+        write_up_to(&mut self.written, place + 1, self.blank);
+        self.written[place] = value;
+    }
+
+    /// Puts one value at every place. Takes no memory.
+    pub fn fill(&mut self, value: T)
+        ensures items { self.new.items ≡ replicate (length self.old.items) value }
+        ensures used { self.new.used ≡ 0 }
+        ensures blank { self.new.blank ≡ value }
+        ensures room { self.new.room ≡ self.old.room }
+    {
+        self.blank = value;
+        self.written.clear();
+    }
+}
+
+/// Puts this value at the end until there are this many. There is room for them.
+fn write_up_to<T: Copy>(written: &mut VecDeque<T>, end: usize, blank: T)
+    requires { end ≤ deque_capacity written.old }
+    ensures items { written.new.items ≡ written.old.items ++ replicate (end - length written.old.items) blank }
+    ensures room { deque_capacity written.new ≡ deque_capacity written.old }
+{
+    let more = end.saturating_sub(written.len());
+    for _ in 0..more {
+        written.push_back_reserved(blank);
+    }
+}

@@ -1,0 +1,16 @@
+-- What was done, and what the rest of the nodes will do, is the whole round.
+use Rattle.std.proofs.Common.{drop}
+use Rattle.std.specs.List.{AllByRecursion}
+use Rattle.oc_model.specs.Runs.{for_each}
+use Rattle.oc_calm.specs.Cluster.{IsUpNode}
+use Rattle.oc_calm.specs.Played.{check_ins_run, joined_run}
+use Rattle.oc_calm.proofs.Ways.{IsLeft}
+use Rattle.oc_calm.proofs.rounds.all_check_in.Given as goal
+
+abbrev pub invariant-loop-node : goal.invariant-loop-node
+invariant-loop-node g l =
+    let world = g.C.Cluster.world l.cluster in
+    record {
+      left : IsLeft check_ins_run (g.C.Cluster.world l.fn.cluster) l.fn.acts (for_each (drop l.node-index l.up) joined_run) world l.acts;
+      nodes : AllByRecursion (IsUpNode world) (drop l.node-index l.up);
+    }

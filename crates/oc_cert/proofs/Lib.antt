@@ -1,3 +1,0 @@
-pub mod Entries
-pub mod Climbs
-pub mod Lines

@@ -1,2 +1,0 @@
-pub mod TableView
-pub mod Listing

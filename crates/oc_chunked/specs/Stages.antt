@@ -1,0 +1,59 @@
+-- How far the reading of a chunked text has come.
+use Rattle.std.specs.Prelude.{◌≡◌, ℕ, ◌+◌, ◌-◌, ◌≤◌, max, List, Bool, true, false, Option, Some, None}
+use Rattle.oc_chunked.specs.declared.fault.ChunkFault.{ChunkFault}
+use Rattle.oc_chunked.specs.declared.fault.ChunkFault.TheVariants as faults
+use Rattle.oc_chunked.specs.declared.place.Place.{Place}
+use Rattle.oc_chunked.specs.declared.place.Place.TheVariants as places
+use Rattle.oc_chunked.specs.declared.place.Refusal.{Refusal}
+use Rattle.oc_chunked.specs.declared.place.Refusal.TheVariants as refusals
+
+pub data Stage : Type 0 where
+  -- in a size line, of which these bytes came
+  in_size : List ℕ → Stage
+  -- in a chunk, of which this many bytes are left, its CR LF among them
+  in_chunk : ℕ → Stage
+  -- in the closing fields, of which these bytes came
+  in_closing : List ℕ → Stage
+  -- after a whole text
+  ended : Stage
+  -- after bytes that are refused
+  refused : ChunkFault → Stage
+
+-- whether the text is whole
+abbrev pub is_ended : Stage → Bool
+is_ended ended = true
+is_ended stage = false
+
+-- why the bytes are refused, if they are
+abbrev pub fault_in : Stage → Option ChunkFault
+fault_in (refused fault) = Some fault
+fault_in stage = None
+
+-- whether no byte can be taken any more
+abbrev pub is_final : Stage → Bool
+is_final ended = true
+is_final (refused fault) = true
+is_final stage = false
+
+-- how many further bytes surely belong to the text: in a chunk those of its content that are still to come, else one, and none at
+-- the end
+abbrev pub wanted_at : Stage → ℕ
+wanted_at (in_chunk left) = max (left - 2) 1
+wanted_at ended = 0
+wanted_at stage = 1
+
+-- `count` bytes led from stage to stage: what was wanted at the old one came, or is wanted at the new one too, which is no refusal
+abbrev pub StillWants : Stage → ℕ → Stage → Type 0
+StillWants old count new = fault_in new ≡ None → wanted_at old ≤ count + wanted_at new
+
+abbrev pub fault_of : Refusal → ChunkFault
+fault_of refusals.Bad = faults.Bad
+fault_of refusals.Long = faults.Long
+
+-- the stage at a place, with these bytes of a line
+abbrev pub stage_at : Place → List ℕ → Stage
+stage_at places.Size line = in_size line
+stage_at (places.Chunk left) line = in_chunk left
+stage_at places.Closing line = in_closing line
+stage_at places.End line = ended
+stage_at (places.Refused refusal) line = refused (fault_of refusal)

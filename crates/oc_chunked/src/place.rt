@@ -1,0 +1,37 @@
+ghost use Rattle.std.specs.Prelude.{◌≡◌};
+ghost use Rattle.oc_chunked.specs.Stages.{fault_of};
+
+use crate::fault::ChunkFault;
+
+/// Where in a chunked text the bytes taken so far end.
+#[derive(Clone, Copy, Debug, PartialEq, Eq)]
+pub(crate) enum Place {
+    /// In a size line.
+    Size,
+    /// In a chunk, of which this many bytes are left, its CR LF among them.
+    Chunk { left: u32 },
+    /// In the closing fields.
+    Closing,
+    /// After the text.
+    End,
+    /// After bytes that are refused.
+    Refused(Refusal),
+}
+
+/// Why bytes are refused.
+#[derive(Clone, Copy, Debug, PartialEq, Eq)]
+pub(crate) enum Refusal {
+    Bad,
+    Long,
+}
+
+impl Refusal {
+    pub(crate) fn fault(self) -> ChunkFault
+        ensures { result ≡ fault_of self }
+    {
+        match self {
+            Refusal::Bad => ChunkFault::Bad,
+            Refusal::Long => ChunkFault::Long,
+        }
+    }
+}

@@ -1,9 +1,0 @@
--- How far the way up has come, and what was found.
-use Rattle.oc_cluster.proofs.FoundLengths.{unknown, IsClimb}
-use Rattle.oc_cluster.proofs.lengths.climb.Given as goal
-
-abbrev pub invariant-up : goal.invariant-up
-invariant-up g l = IsClimb (g.C.Cluster.world l.cluster) l.fn.node l.fn.lengths l.steps l.place l.lengths
-
-abbrev pub decreases-up : goal.decreases-up
-decreases-up g l = unknown l.lengths

@@ -1,4 +1,0 @@
-pub mod Entries
-pub mod Headings
-pub mod Lines
-pub mod Standings

@@ -1,0 +1,55 @@
+//! The target of a request.
+
+ghost use Rattle.std.specs.Prelude.{◌≡◌, ◌==◌};
+ghost use Rattle.std.specs.List.{before_first, after_first};
+ghost use Rattle.oc_http.specs.Targets.{is_absolute, from_slash, origin_form, path_of, query_of};
+
+use crate::text::{is_alike, place_of};
+
+/// How a target that has scheme and authority begins, in upper or lower case.
+const SCHEME: &str = "http://";
+
+/// The target up to the first `?`, and what follows it, without scheme and authority.
+pub fn path_and_query(target: &[u8]) -> (&[u8], &[u8])
+    ensures path { result.0.now ≡ path_of target.now }
+    ensures query { result.1.now ≡ query_of target.now }
+{
+    cut_at_first(origin_form(target), b'?')
+}
+
+/// The bytes up to the first such byte, and what follows it.
+fn cut_at_first(bytes: &[u8], byte: u8) -> (&[u8], &[u8])
+    ensures before { result.0.now ≡ before_first (λ b. b == byte) bytes.now }
+    ensures after { result.1.now ≡ after_first (λ b. b == byte) bytes.now }
+{
+    match place_of(bytes, byte) {
+        Some(at) => (&bytes[..at], &bytes[at + 1..]),
+        None => (bytes, &[]),
+    }
+}
+
+/// The target without scheme and authority (RFC 9112, section 3.2).
+fn origin_form(target: &[u8]) -> &[u8]
+    ensures { result.now ≡ origin_form target.now }
+{
+    if !is_absolute(target) {
+        return target;
+    }
+    from_slash(&target[SCHEME.len()..])
+}
+
+fn is_absolute(target: &[u8]) -> bool
+    ensures { result ≡ is_absolute target.now }
+{
+    target.len() >= SCHEME.len() && is_alike(&target[..SCHEME.len()], SCHEME)
+}
+
+/// The bytes from the first slash on, or a slash where there is none.
+fn from_slash(rest: &[u8]) -> &[u8]
+    ensures { result.now ≡ from_slash rest.now }
+{
+    match place_of(rest, b'/') {
+        Some(at) => &rest[at..],
+        None => b"/",
+    }
+}

@@ -1,0 +1,8 @@
+-- The record of a disk in memory: its calls, newest first, and how many more bytes and calls it has memory for.
+use Rattle.std.specs.Prelude.{ℕ, List}
+use Rattle.oc_io.specs.Calls.{Call}
+
+pub record DiskLogView : Type 0 where
+  pub past : List Call
+  pub room : ℕ
+  pub calls : ℕ

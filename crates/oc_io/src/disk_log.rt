@@ -1,0 +1,135 @@
+ghost use Rattle.std.specs.Prelude.{◌≡◌, ◌+◌, ◌-◌, ◌<◌, ◌≤◌, [], ◌∷◌, length, max, OnOk, OnErr};
+ghost use Rattle.oc_io.specs.Calls.{Wrote, Synced, Fits, blotted, crashed};
+
+use std::alloc::{AllocError, Global};
+use std::marker::Model;
+
+/// A call of `write_at` or `sync` that worked.
+#[derive(Clone, Copy, Debug)]
+pub enum Step {
+    /// A write: its offset, how many bytes it wrote over, and how many it wrote.
+    Write {
+        at: usize,
+        over: usize,
+        count: usize,
+    },
+    Sync,
+}
+
+/// The record of the calls of a disk in memory. The bytes that were written over are kept in one
+/// pool, so that the record takes no memory after `reserve`.
+#[derive(Debug, Drop)]
+pub struct DiskLog {
+    steps: Vec<Step>,
+    pool: Vec<u8>,
+    room: usize,
+    calls: usize,
+}
+
+impl Model for DiskLog {
+    ghost use Rattle.std.specs.Prelude.{◌+◌, ◌≤◌, reverse, vec_len, vec_capacity};
+    ghost use Rattle.oc_io.specs.DiskLogView.{DiskLogView};
+
+    ghost Value = { DiskLogView };
+
+    ghost use Rattle.oc_io.specs.DiskLog.{told};
+
+    ghost view = { λ l. record { past = told (reverse l.steps.items) l.pool.items; room = l.room; calls = l.calls } };
+
+    ghost invariant = { λ l. (vec_len l.pool + l.room ≤ vec_capacity l.pool) × (vec_len l.steps + l.calls ≤ vec_capacity l.steps) };
+}
+
+impl DiskLog {
+    /// No calls, and no room.
+    pub fn new(alloc: Global) -> DiskLog
+        ensures { result ≡ record { past = []; room = 0; calls = 0 } }
+    {
+        DiskLog {
+            steps: Vec::new(alloc),
+            pool: Vec::new(alloc),
+            room: 0,
+            calls: 0,
+        }
+    }
+
+    /// How many more bytes may be written.
+    pub fn room(&self) -> usize
+        ensures { result ≡ self.now.room }
+    {
+        self.room
+    }
+
+    /// How many more calls there may be.
+    pub fn calls(&self) -> usize
+        ensures { result ≡ self.now.calls }
+    {
+        self.calls
+    }
+
+    /// Makes room for this many bytes and calls.
+    pub fn reserve(&mut self, bytes: usize, calls: usize) -> Result<(), AllocError>
+        ensures ok { OnOk result
+            (self.new ≡ record self.old { room = max self.old.room bytes; calls = max self.old.calls calls }) }
+        ensures err { OnErr result (self.new ≡ self.old) }
+    {
+        self.pool.reserve(self.room.max(bytes))?;
+        self.steps.reserve(self.calls.max(calls))?;
+        self.room = self.room.max(bytes);
+        self.calls = self.calls.max(calls);
+        Ok(())
+    }
+
+    /// Notes a write of `count` bytes over these.
+    pub fn note_write(&mut self, at: usize, over: &[u8], count: usize)
+        requires over { length over.now ≤ count }
+        requires room { count ≤ self.old.room }
+        requires calls { 0 < self.old.calls }
+        ensures { self.new ≡ record {
+          past = Wrote at over.now count ∷ self.old.past;
+          room = self.old.room - count;
+          calls = self.old.calls - 1;
+        } }
+    {
+        self.pool.extend_from_slice(over).unwrap();
+        self.steps
+            .push(Step::Write {
+                at,
+                over: over.len(),
+                count,
+            })
+            .unwrap();
+        self.room -= count;
+        self.calls -= 1;
+    }
+
+    /// Notes a sync.
+    pub fn note_sync(&mut self)
+        requires calls { 0 < self.old.calls }
+        ensures { self.new ≡ record self.old { past = Synced ∷ self.old.past; calls = self.old.calls - 1 } }
+    {
+        self.steps.push(Step::Sync).unwrap();
+        self.calls -= 1;
+    }
+
+    /// Makes each byte that was written since the last sync this byte.
+    pub fn blot(self, bytes: &mut [u8], image: u8)
+        requires { Fits bytes.old self.past }
+        ensures { bytes.new ≡ crashed image self.past bytes.old }
+    {
+        let mut steps = self.steps;
+        while let Some(step) = steps.pop() {
+            match step {
+                Step::Write { at, count, .. } => fill(bytes, at, count, image),
+                Step::Sync => return,
+            }
+        }
+    }
+}
+
+/// Makes each of `count` bytes from an offset on this byte.
+fn fill(bytes: &mut [u8], at: usize, count: usize, image: u8)
+    requires { at + count ≤ length bytes.old }
+    ensures { bytes.new ≡ blotted at count image bytes.old }
+{
+    bytes[at..at + count].fill(image);
+}

@@ -1,5 +1,0 @@
-use Rattle.oc_laws_record.proofs.Frames.{quashed}
-use Rattle.oc_laws_record.proofs.quash.what_is_no_news_goes_no_further.Goals as goal
-
-pub returns : goal.returns
-returns c = quashed

@@ -1,2 +1,0 @@
-pub mod Quash
-pub mod Calm

@@ -1,0 +1,4 @@
+pub mod DialLists
+pub mod MemLinkStory
+pub mod RowsIn
+pub mod TalkLists

@@ -1,0 +1,169 @@
+ghost use Rattle.std.specs.Prelude.{◌≡◌, ◌+◌, ◌-◌, ◌^◌, ◌<◌, ◌≤◌, Some, [], not, ◌==◌, length, min, take, drop, map, IfOk, IsSome, is_some, slice_get, slice_index_or};
+ghost use Rattle.std.specs.Option.{option_copied, option_map};
+ghost use Rattle.oc_link.specs.DialsView.{DialsView, all_dials, over, with_failed};
+ghost use Rattle.oc_link.specs.LinkCalls.{connection_of};
+ghost use Rattle.oc_link.specs.Story.{broken, wrote, unused, through};
+ghost use Rattle.oc_link.specs.TalksView.{further, left_of};
+ghost use Rattle.oc_io.specs.Tally.{counted};
+
+use crate::{Rows, Talks};
+use std::alloc::{AllocError, Global};
+use std::marker::Model;
+
+/// Dials in memory, one after another, of which one may be outgoing. Each takes the next of the
+/// replies.
+#[derive(Debug, Drop)]
+pub struct Dials {
+    talks: Talks,
+    /// The address of each dial that took a reply.
+    addresses: Rows,
+    /// How many dials were made after the last reply was taken.
+    refused: u64,
+    /// The bytes for which there is room.
+    room: usize,
+}
+
+impl Model for Dials {
+    ghost use Rattle.std.specs.Prelude.{◌≡◌, ◌+◌, ◌<◌, ◌≤◌, [], None, ◌++◌, length, replicate, option_to_list};
+    ghost use Rattle.oc_link.specs.DialsView.{DialsView, dials_of, outgoing_of, nowhere};
+
+    ghost Value = { DialsView };
+
+    ghost view = { λ d. record {
+      replies = d.talks.waiting;
+      past = dials_of d.talks.past d.addresses.rows ++ replicate d.refused nowhere;
+      outgoing = outgoing_of (length d.talks.past) d.talks.current d.addresses.rows;
+      refused = d.refused;
+      room = d.room;
+    } };
+
+    ghost invariant = { λ d. (length d.addresses.rows ≡ length d.talks.past + length (option_to_list d.talks.current))
+        × (d.addresses.places ≡ length d.talks.waiting)
+        × (d.room ≤ d.talks.room) × (d.room ≤ d.addresses.room)
+        × (0 < d.refused → length d.talks.waiting + length (option_to_list d.talks.current) ≡ 0) };
+}
+
+impl Dials {
+    /// No dial yet, these replies, and room for this many bytes.
+    pub fn new(alloc: Global, replies: Vec<Vec<u8>>, room: usize) -> Result<Dials, AllocError>
+        ensures { IfOk result (λ d. d ≡ record {
+          replies = map (λ v. v.items) replies.items;
+          past = [];
+          outgoing = None;
+          refused = 0;
+          room = room;
+        }) }
+    {
+        let addresses = Rows::new(alloc, room, replies.len())?;
+        let talks = Talks::new(alloc, replies, room)?;
+        Ok(Dials {
+            talks,
+            addresses,
+            refused: 0,
+            room,
+        })
+    }
+
+    /// Whether there is an outgoing dial.
+    pub fn is_open(&self) -> bool
+        ensures { result ≡ is_some self.now.outgoing }
+    {
+        self.talks.is_open()
+    }
+
+    /// Whether a reply is left.
+    pub fn waits(&self) -> bool
+        ensures { result ≡ not (length self.now.replies == 0) }
+    {
+        self.talks.waits()
+    }
+
+    /// Ends the outgoing dial, if there is one.
+    pub fn close(&mut self)
+        ensures { self.new ≡ over self.old }
+    {
+        self.talks.close();
+    }
+
+    /// Another dial, with the next reply, in the place of the outgoing one.
+    pub fn begin(&mut self, address: &[u8], bytes: &[u8])
+        requires reply { 0 < length self.old.replies }
+        requires room { length address.now + length bytes.now ≤ self.old.room }
+        ensures { self.new ≡ record (over self.old) {
+          replies = drop 1 self.old.replies;
+          outgoing = Some (record {
+            address = address.now;
+            connection = wrote bytes.now (unused (slice_index_or self.old.replies 0 []));
+          });
+          room = self.old.room - (length address.now + length bytes.now);
+        } }
+    {
+        self.talks.next();
+        self.addresses.begin();
+        self.addresses.extend(address);
+        self.talks.write(bytes);
+        self.room -= address.len() + bytes.len();
+    }
+
+    /// Another dial, which failed, in the place of the outgoing one; it takes the next reply, if there
+    /// is one. Past the last reply such dials are only counted.
+    pub fn refuse(&mut self)
+        ensures view { self.old.refused < 2 ^ 64 - 1 → self.new ≡ record (with_failed self.old) { refused = self.new.refused } }
+        ensures refused { self.new.refused ≤ counted self.old.refused }
+        ensures room { self.new.room ≡ self.old.room }
+    {
+        let refused = self.refused;
+        if self.waits() {
+            self.begin(&[], &[]);
+            self.fail();
+            self.close();
+        } else {
+            self.close();
+            self.refused = refused.saturating_add(1);
+        }
+    }
+
+    /// Reads from the outgoing dial, at most `most` bytes: fills a prefix of the buffer and answers its
+    /// length. Without an outgoing dial there is nothing to read.
+    pub fn read(&mut self, buf: &mut [u8], most: usize) -> usize
+        ensures count { result ≡ min (min (length buf.old) most) (length (left_of (connection_of self.old.outgoing))) }
+        ensures bytes { take result buf.new ≡ take result (left_of (connection_of self.old.outgoing)) }
+        ensures view { self.new ≡ record self.old { outgoing = option_map (through (further result)) self.old.outgoing } }
+    {
+        self.talks.read(buf, most)
+    }
+
+    /// Writes on the outgoing dial.
+    pub fn write(&mut self, bytes: &[u8])
+        requires open { IsSome self.old.outgoing }
+        requires room { length bytes.now ≤ self.old.room }
+        ensures { self.new ≡ record self.old {
+          outgoing = option_map (through (wrote bytes.now)) self.old.outgoing;
+          room = self.old.room - length bytes.now;
+        } }
+    {
+        self.talks.write(bytes);
+        self.room -= bytes.len();
+    }
+
+    /// Notes that a call on the outgoing dial failed, if there is one.
+    pub fn fail(&mut self)
+        ensures { self.new ≡ record self.old { outgoing = option_map (through broken) self.old.outgoing } }
+    {
+        self.talks.fail();
+    }
+
+    /// What was written on the dial at this place, counted from 0.
+    pub fn written(&self, at: u64) -> Option<&[u8]>
+        ensures { option_copied result ≡ option_map (λ d. d.connection.written) (slice_get (all_dials self.now) at) }
+    {
+        let taken = self.addresses.len() as u64;
+        if at < taken {
+            self.talks.written(at as usize)
+        } else if at - taken < self.refused {
+            Some(&[])
+        } else {
+            None
+        }
+    }
+}

@@ -1,0 +1,191 @@
+ghost use Rattle.std.specs.Prelude.{◌≡◌, ◌↔◌, ◌+◌, ◌-◌, ◌<◌, ◌≤◌, false, IsTrue, Option, None, Some, [], ◌++◌, not, ◌==◌, length, min, take, drop, map, IfOk, IsSome, is_some, slice_get, option_to_list};
+ghost use Rattle.std.specs.Option.{option_copied, option_map};
+ghost use Rattle.oc_link.specs.Connection.{broken, wrote};
+ghost use Rattle.oc_link.specs.TalksView.{TalksView, ended, begun, further, left_of};
+
+use crate::rows::Rows;
+use std::alloc::{AllocError, Global};
+use std::marker::Model;
+
+/// How far a connection has come: the bytes of it that were read, and whether a call on it failed.
+#[derive(Clone, Copy, Debug)]
+pub struct Talk {
+    pub read: usize,
+    pub failed: bool,
+}
+
+/// Connections in memory, one after another: those that wait, those that ended, and one that may be
+/// current. What is written on them is kept.
+#[derive(Debug, Drop)]
+pub struct Talks {
+    /// The bytes that each connection gives, oldest first.
+    given: Vec<Vec<u8>>,
+    /// Those that ended.
+    past: Vec<Talk>,
+    /// The current one, which comes after them.
+    current: Option<Talk>,
+    /// What was written on each of those that ended and on the current one.
+    written: Rows,
+}
+
+impl Model for Talks {
+    ghost use Rattle.std.specs.Prelude.{◌≡◌, ◌≤◌, ◌+◌, length, map, drop, vec_capacity};
+    ghost use Rattle.oc_link.specs.TalksView.{TalksView, connections, count_of, current_of, IsWithinBytes, at};
+
+    ghost Value = { TalksView };
+
+    ghost view = { λ t. record {
+      waiting = drop (length t.past.items + count_of t.current) (map (λ v. v.items) t.given.items);
+      past = connections t.past.items (map (λ v. v.items) t.given.items) t.written.rows;
+      current = current_of (map (λ v. v.items) t.given.items) (length t.past.items) t.current t.written.rows;
+      room = t.written.room;
+    } };
+
+    ghost invariant = { λ t. (length t.written.rows ≡ length t.past.items + count_of t.current)
+        × (length t.written.rows + t.written.places ≡ length t.given.items)
+        × (length t.given.items ≤ vec_capacity t.past)
+        × IsWithinBytes (at (map (λ v. v.items) t.given.items) (length t.past.items)) t.current };
+}
+
+impl Talks {
+    /// Connections that give these bytes, all of which wait, and room for this many bytes that are
+    /// written.
+    pub fn new(alloc: Global, given: Vec<Vec<u8>>, room: usize) -> Result<Talks, AllocError>
+        ensures { IfOk result (λ t. t ≡ record {
+          waiting = map (λ v. v.items) given.items;
+          past = [];
+          current = None;
+          room = room;
+        }) }
+    {
+        let past = Vec::with_capacity(alloc, given.len())?;
+        let written = Rows::new(alloc, room, given.len())?;
+        Ok(Talks {
+            given,
+            past,
+            current: None,
+            written,
+        })
+    }
+
+    /// Whether a connection waits.
+    pub fn waits(&self) -> bool
+        ensures { result ≡ not (length self.now.waiting == 0) }
+    {
+        let taken = self.past.len() + usize::from(self.current.is_some());
+        taken < self.given.len()
+    }
+
+    /// Whether there is a current connection.
+    pub fn is_open(&self) -> bool
+        ensures { result ≡ is_some self.now.current }
+    {
+        self.current.is_some()
+    }
+
+    /// Ends the current connection, if there is one.
+    pub fn close(&mut self)
+        ensures { self.new ≡ ended self.old }
+    {
+        if let Some(talk) = self.current {
+            self.past.push(talk).unwrap();
+            self.current = None;
+        }
+    }
+
+    /// Makes the oldest connection that waits the current one, and ends the one before.
+    pub fn next(&mut self)
+        requires { 0 < length self.old.waiting }
+        ensures { self.new ≡ begun self.old }
+    {
+        self.close();
+        self.written.begin();
+        self.current = Some(Talk {
+            read: 0,
+            failed: false,
+        });
+    }
+
+    /// Makes the oldest connection that waits the current one, where one waits, and answers whether one
+    /// did.
+    pub fn take_next(&mut self) -> bool
+        ensures waited { IsTrue result ↔ (0 < length self.old.waiting) }
+        ensures taken { IsTrue result → self.new ≡ begun self.old }
+        ensures none { result ≡ false → self.new ≡ self.old }
+    {
+        if !self.waits() {
+            return false;
+        }
+        self.next();
+        true
+    }
+
+    /// Reads from the current connection, at most `most` bytes: fills a prefix of the buffer and
+    /// answers its length. Without a current connection there is nothing to read.
+    pub fn read(&mut self, buf: &mut [u8], most: usize) -> usize
+        ensures count { result ≡ min (min (length buf.old) most) (length (left_of self.old.current)) }
+        ensures bytes { take result buf.new ≡ take result (left_of self.old.current) }
+        ensures view { self.new ≡ record self.old { current = option_map (further result) self.old.current } }
+    {
+        let Some(talk) = self.current else {
+            return 0;
+        };
+        let bytes = self.given[self.past.len()].as_slice();
+        let count = fill(buf, unread(bytes, talk), most);
+        self.current = Some(Talk {
+            read: talk.read + count,
+            failed: talk.failed,
+        });
+        count
+    }
+
+    /// Writes on the current connection.
+    pub fn write(&mut self, bytes: &[u8])
+        requires open { IsSome self.old.current }
+        requires room { length bytes.now ≤ self.old.room }
+        ensures { self.new ≡ record self.old {
+          current = option_map (wrote bytes.now) self.old.current;
+          room = self.old.room - length bytes.now;
+        } }
+    {
+        self.written.extend(bytes);
+    }
+
+    /// Notes that a call on the current connection failed, if there is one.
+    pub fn fail(&mut self)
+        ensures { self.new ≡ record self.old { current = option_map broken self.old.current } }
+    {
+        if let Some(talk) = self.current {
+            self.current = Some(Talk {
+                read: talk.read,
+                failed: true,
+            });
+        }
+    }
+
+    /// What was written on the connection that was taken at this place, counted from 0.
+    pub fn written(&self, at: usize) -> Option<&[u8]>
+        ensures { option_copied result ≡ option_map (λ c. c.written)
+            (slice_get (self.now.past ++ option_to_list self.now.current) at) }
+    {
+        self.written.row(at)
+    }
+}
+
+/// What is left of a connection's bytes.
+fn unread(bytes: &[u8], talk: Talk) -> &[u8]
+    requires { talk.read ≤ length bytes.now }
+    ensures { result.now ≡ drop talk.read bytes.now }
+{
+    &bytes[talk.read..]
+}
+
+/// Fills a prefix of the buffer with a prefix of these bytes, at most `most`, and answers its length.
+fn fill(buf: &mut [u8], bytes: &[u8], most: usize) -> usize
+    ensures count { result ≡ min (min (length buf.old) most) (length bytes.now) }
+    ensures front { take result buf.new ≡ take result bytes.now }
+{
+    let count = buf.len().min(most).min(bytes.len());
+    buf[..count].copy_from_slice(&bytes[..count]);
+    count
+}

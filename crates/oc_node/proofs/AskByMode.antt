@@ -1,0 +1,24 @@
+-- Who is not reached, as choices by tests.
+use Rattle.std.proofs.Common.{◌≡◌, ℕ, if◌then◌else◌, Option, Some, None, refl}
+use Rattle.oc_model.specs.declared.mode.Mode.{Mode}
+use Rattle.oc_model.specs.declared.mode.Mode.TheVariants as modes
+use Rattle.oc_model.specs.declared.soft.Search.{Search}
+use Rattle.oc_model.specs.declared.soft.Search.TheVariants as searches
+use Rattle.oc_model.specs.Asking.{is_asking, lost, next_try, not_seen, not_reached, round, unreachable}
+use Rattle.oc_model.specs.Checking.{is_joined_to}
+use Rattle.oc_model.specs.Plan.{Plan, searching, ignored}
+use Rattle.oc_state.specs.Modes.{is_descending}
+
+pub not_seen_is : (s : Option Search) (o : Plan) (p : ℕ) → not_seen s o p ≡ (if is_descending s p then next_try (searching o None) else ignored o)
+not_seen_is None o p = refl
+not_seen_is (Some (searches.Descend q)) o p = refl
+not_seen_is (Some searches.Review) o p = refl
+
+not_reached_is : (m : Mode) (o : Plan) (p : ℕ) → not_reached m o p ≡ (if is_joined_to m p then round (lost o) (Some p) else if is_asking m p then next_try (lost o) else not_seen o.node.soft.search o p)
+not_reached_is modes.Idle o p = refl
+not_reached_is (modes.Asking q) o p = refl
+not_reached_is (modes.Joined q) o p = refl
+not_reached_is modes.Acting o p = refl
+
+pub unreachable_is : (o : Plan) (p : ℕ) → unreachable o p ≡ (if is_joined_to o.node.kept.mode p then round (lost o) (Some p) else if is_asking o.node.kept.mode p then next_try (lost o) else not_seen o.node.soft.search o p)
+unreachable_is o p = not_reached_is o.node.kept.mode o p

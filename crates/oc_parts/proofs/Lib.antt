@@ -1,4 +1,0 @@
-pub mod Lists
-pub mod ChildRows
-pub mod Better
-pub mod ShelfLines

@@ -1,5 +1,0 @@
-pub mod Standing
-pub mod Volatile
-pub mod Tries
-pub mod Modes
-pub mod Children

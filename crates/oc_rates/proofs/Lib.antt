@@ -1,2 +1,0 @@
-pub mod Medians
-pub mod Peers

@@ -1,3 +1,0 @@
-pub mod Better
-pub mod Server
-pub mod Locations

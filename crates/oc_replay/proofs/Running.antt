@@ -1,0 +1,88 @@
+-- A stage's world while a run is under way.
+use Rattle.std.proofs.Common.{◌≡◌, ℕ, ◌+◌, ◌*◌, ◌<◌, ◌≤◌, List, length, take, drop, get_or, fold, refl, sym, ap, ◌∙◌, subst, arith}
+use Rattle.std.specs.List.{AllByRecursion}
+use Rattle.std.proofs.lemmas.List.{drop_more, take_all}
+use Rattle.std.proofs.lemmas.List.Sums.{fold_more}
+use Rattle.oc_base.specs.declared.limits.TheConstants.{MAX_SCHEDULE_LINES, MAX_TIME}
+use Rattle.oc_model.specs.declared.event.Event.{Event}
+use Rattle.oc_model.specs.declared.event.Event.TheVariants as events
+use Rattle.oc_model.specs.declared.word.Word.{Word}
+use Rattle.oc_model.specs.Lawful.{IsEvent}
+use Rattle.oc_model.specs.World.{World, ids}
+use Rattle.oc_model.specs.WorldBounds.{IsDistinct, AreBefore, IsWithinLimits}
+use Rattle.oc_model.proofs.Clocks.{range_distinct}
+use Rattle.oc_replay.specs.Stage.{HasTimeFor, KeepsTime, KeepsLimits}
+use Rattle.oc_replay.specs.Opening.{IsOpening}
+
+-- what holds of the rest holds of its first item, and of the rest after it
+pub All-drop : {A : Type 0} (P : A → Type 0) (xs : List A) (i : ℕ) (x : A) → i < length xs → x ≡ get_or xs i x → AllByRecursion P (drop i xs) → P x × AllByRecursion P (drop (i + 1) xs)
+All-drop P xs i x within read all =
+    let both : P (get_or xs i x) × AllByRecursion P (drop (i + 1) xs) = subst (AllByRecursion P) (drop_more xs i x within) all in
+    (subst P (sym read) both.0, both.1)
+
+-- the world after one event more
+pub fold-take : (after : World → Event → World) (i : ℕ) (first w new : World) (es : List Event) (e : Event) → i < length es → e ≡ get_or es i e → new ≡ after w e → w ≡ fold after first (take i es) → new ≡ fold after first (take (i + 1) es)
+fold-take after i first w new es e within read next so_far =
+    next ∙ ap (λ (v : World). after v e) so_far ∙ ap (after (fold after first (take i es))) read ∙ sym (fold_more after first es i e within)
+
+-- the world after the first i of these events, from the one that was opened: the rest are within their ranges, and no clock is
+-- further past the greatest time than that many events take it
+pub record IsOnTheWay (after : World → Event → World) (opened w : World) (es : List Event) (i : ℕ) : Type 0 where
+  pub played : w ≡ fold after opened (take i es)
+  pub lawful : AllByRecursion (IsEvent (length (ids w))) (drop i es)
+  pub ids : ids w ≡ ids opened
+  pub clocks : AreBefore (MAX_TIME + 60 * i) w
+  pub limits : IsWithinLimits w
+
+-- with all events played, the world is the last one
+pub whole_run : (after : World → Event → World) (opened w : World) (es : List Event) (i : ℕ) → length es ≤ i → IsOnTheWay after opened w es i → w ≡ fold after opened es
+whole_run after opened w es i past way = way.played ∙ ap (fold after opened) (take_all i es past)
+
+-- what may be given to a stage that shows this world
+pub record MayBeGiven (w : World) (e : Event) : Type 0 where
+  pub event : IsEvent (length (ids w)) e
+  pub time : HasTimeFor w e
+
+-- clocks that are so early leave every event its time
+early_enough : (w : World) (e : Event) (i : ℕ) → i < MAX_SCHEDULE_LINES → AreBefore (MAX_TIME + 60 * i) w → HasTimeFor w e
+early_enough w events.Settle i few before = λ x up. omega (arith, few, before x)
+early_enough w events.Heal i few before = λ x up. omega (arith, few, before x)
+early_enough w e i few before = tt
+
+module _ (after : World → Event → World) (opened : World) (es : List Event) (opening : IsOpening opened es) where
+  -- it begins
+  pub begins : IsOnTheWay after opened opened es 0
+  begins = record {
+    played = refl;
+    lawful = opening.lawful;
+    ids = refl;
+    clocks = λ x. omega (arith, opening.clocks x);
+    limits = opening.limits;
+  }
+
+  -- the next event may be given
+  pub next_given : (w : World) (e : Event) (i : ℕ) → i < length es → e ≡ get_or es i e → IsOnTheWay after opened w es i → MayBeGiven w e
+  next_given w e i within read way = record {
+    event = (All-drop (IsEvent (length (ids w))) es i e within read way.lawful).0;
+    time = early_enough w e i (omega (arith, within, opening.few)) way.clocks;
+  }
+
+  -- and it goes on
+  pub goes_on : (word : World → Event → Word)
+      → ((v : World) (f : Event) → IsEvent (length (ids v)) f → ids (after v f) ≡ ids v)
+      → ((v : World) (f : Event) → IsDistinct (ids v) → IsEvent (length (ids v)) f → KeepsTime v (after v f))
+      → ((v : World) (f : Event) → IsEvent (length (ids v)) f → KeepsLimits v (after v f))
+      → (w new : World) (e : Event) (i : ℕ) → i < length es → e ≡ get_or es i e → new ≡ after w e
+      → IsOnTheWay after opened w es i → IsOnTheWay after opened new es (i + 1)
+  goes_on word keeps_ids keeps_time keeps_limits w new e i within read next way =
+      let both = All-drop (IsEvent (length (ids w))) es i e within read way.lawful in
+      let same : ids new ≡ ids w = ap ids next ∙ keeps_ids w e both.0 in
+      let apart : IsDistinct (ids w) = subst IsDistinct (sym (way.ids ∙ opening.numbered)) (range_distinct 1 (length (ids opened))) in
+      let later : AreBefore (MAX_TIME + 60 * i + 60) new = subst (AreBefore (MAX_TIME + 60 * i + 60)) (sym next) (keeps_time w e apart both.0 (MAX_TIME + 60 * i) (omega arith) way.clocks) in
+      record {
+        played = fold-take after i opened w new es e within read next way.played;
+        lawful = subst (λ (xs : List ℕ). AllByRecursion (IsEvent (length xs)) (drop (i + 1) es)) (sym same) both.1;
+        ids = same ∙ way.ids;
+        clocks = λ x. omega (arith, later x);
+        limits = subst IsWithinLimits (sym next) (keeps_limits w e both.0 way.limits);
+      }

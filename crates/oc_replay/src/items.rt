@@ -1,0 +1,113 @@
+//! Lists in brackets, put at the end of a buffer.
+
+ghost use Rattle.std.specs.Prelude.{◌≡◌, ℕ, List, [], ◌++◌, OnOk, decimal};
+ghost use Rattle.oc_replay.specs.Bodies.{cert_text, child_text, count_text, list_text, pair_text, sign_text, spaced};
+ghost use Rattle.oc_replay.specs.Shows.{listed_text};
+
+use crate::texts::put_mark;
+use oc_base::{Cert, Child, Line, Memory, NodeId, Shelf, put, put_number, put_with_number};
+
+/// What a list contains.
+pub(crate) trait Item {
+    /// Its text.
+    ghost text: { Self → List ℕ };
+
+    /// Puts its text.
+    fn put(&self, out: &mut Vec<u8>) -> Result<(), Memory>
+        ensures { OnOk result (out.new.items ≡ out.old.items ++ text self.now) };
+}
+
+/// Puts a list in brackets, with a space between each two items.
+pub(crate) fn put_list<I: Item>(out: &mut Vec<u8>, items: &[I]) -> Result<(), Memory>
+    ensures { OnOk result (out.new.items ≡ out.old.items ++ list_text I.text items.now) }
+{
+    put(out, b"[")?;
+    put_spaced(out, items)?;
+    put(out, b"]")
+}
+
+/// Puts the items, with a space between each two.
+fn put_spaced<I: Item>(out: &mut Vec<u8>, items: &[I]) -> Result<(), Memory>
+    ensures { OnOk result (out.new.items ≡ out.old.items ++ spaced I.text items.now) }
+{
+    let Some((first, rest)) = items.split_first() else {
+        return Ok(());
+    };
+    first.put(out)?;
+    for item in rest {
+        put(out, b" ")?;
+        item.put(out)?;
+    }
+    Ok(())
+}
+
+impl Item for NodeId {
+    ghost text = { decimal };
+
+    fn put(&self, out: &mut Vec<u8>) -> Result<(), Memory> {
+        put_number(out, u64::from(self.0))
+    }
+}
+
+impl Item for Shelf {
+    ghost text = { pair_text };
+
+    fn put(&self, out: &mut Vec<u8>) -> Result<(), Memory> {
+        put(out, self.group.bytes())?;
+        put_with_number(out, b"@", self.held)?;
+        put_mark(out, self.sealed, "!")
+    }
+}
+
+impl Item for Child {
+    ghost text = { child_text };
+
+    fn put(&self, out: &mut Vec<u8>) -> Result<(), Memory> {
+        put_number(out, u64::from(self.id.0))?;
+        put_with_number(out, b":", self.rate)
+    }
+}
+
+impl Item for Cert {
+    ghost text = { cert_text };
+
+    fn put(&self, out: &mut Vec<u8>) -> Result<(), Memory> {
+        put_number(out, u64::from(self.subject.0))?;
+        put_with_number(out, b"/", self.seq)?;
+        put_with_number(out, b"/", u64::from(self.parent.0))?;
+        put(out, sign(self.dead).as_bytes())?;
+        put_count(out, "", self.number, self.clients)
+    }
+}
+
+impl Item for Line {
+    ghost text = { listed_text };
+
+    fn put(&self, out: &mut Vec<u8>) -> Result<(), Memory> {
+        put_number(out, u64::from(self.node.0))?;
+        put_with_number(out, b"<", u64::from(self.parent.0))
+    }
+}
+
+/// The sign of a certificate.
+fn sign(dead: bool) -> &'static str
+    ensures { result.now ≡ sign_text dead }
+{
+    if dead { "-" } else { "+" }
+}
+
+/// Puts a count of clients after such a text, where the own number is not 0.
+pub(crate) fn put_count(
+    out: &mut Vec<u8>,
+    before: &str,
+    number: u64,
+    clients: u64,
+) -> Result<(), Memory>
+    ensures { OnOk result (out.new.items ≡ out.old.items ++ count_text before.now number clients) }
+{
+    if number != 0 {
+        put_with_number(out, before.as_bytes(), number)?;
+        put_with_number(out, b":", clients)?;
+    }
+    Ok(())
+}

@@ -1,0 +1,10 @@
+use Rattle.std.proofs.Common.{◌≡◌, length}
+use Rattle.oc_routes.specs.Queries.{has_part, parts}
+use Rattle.oc_routes.proofs.query.has_part.Given as goal
+
+-- what the rest says is what the whole says
+abbrev pub invariant-parts : goal.invariant-parts
+invariant-parts l = has_part l.name (parts l.rest) ≡ has_part l.name (parts l.fn.query)
+
+abbrev pub decreases-parts : goal.decreases-parts
+decreases-parts l = length l.rest

@@ -1,0 +1,49 @@
+-- What the query of a request says.
+use Rattle.std.specs.Prelude.{ℕ, Bool, ◌==◌, if◌then◌else◌, Option, Some, None, Result, Ok, List, [], ◌∷◌, length, take, drop, codes}
+use Rattle.std.specs.List.{list_any, slice_split}
+use Rattle.std.specs.Str.{byte, bytes_eq}
+use Rattle.oc_base.specs.Steps.{◌>>=◌, with_fault}
+use Rattle.oc_base.specs.Words.{number_in}
+use Rattle.oc_base.specs.declared.limits.TheConstants.{MAX_AREA, MAX_START}
+use Rattle.oc_routes.specs.declared.query.Query.{Query}
+use Rattle.oc_routes.specs.declared.refused.Refused.{Refused}
+use Rattle.oc_routes.specs.declared.refused.Refused.TheVariants as refusals
+
+-- the parts of a query, which are separated by `&`
+abbrev pub parts : List ℕ → List (List ℕ)
+parts query = slice_split (λ b. b == byte "&") query
+
+-- the value of a part that begins with a name and its `=`
+abbrev pub value_in : List ℕ → List ℕ → Option (List ℕ)
+value_in name part = if bytes_eq (take (length name) part) name then Some (drop (length name) part) else None
+
+-- the first, or else the second
+abbrev pub or_else : {A : Type 0} → Option A → Option A → Option A
+or_else (Some first) second = Some first
+or_else None second = second
+
+-- the first such value
+abbrev pub first_value : List ℕ → List (List ℕ) → Option (List ℕ)
+first_value name [] = None
+first_value name (part ∷ more) = or_else (value_in name part) (first_value name more)
+
+-- whether some part is exactly this one
+abbrev pub has_part : List ℕ → List (List ℕ) → Bool
+has_part name all = list_any (λ part. bytes_eq part name) all
+
+-- the number that a value spells, up to the most, and 0 without a value
+abbrev pub number_or_nought : ℕ → Option (List ℕ) → Result ℕ Refused
+number_or_nought most None = Ok 0
+number_or_nought most (Some value) = with_fault refusals.Query (number_in 0 most value)
+
+-- what a query says: the first start and the first area, and the two parts without a value
+abbrev pub query_in : List ℕ → Result Query Refused
+query_in query = do
+  start ← number_or_nought MAX_START (first_value (codes "start=") (parts query))
+  area ← number_or_nought MAX_AREA (first_value (codes "area=") (parts query))
+  Ok (record {
+    start = start;
+    area = area;
+    follow = has_part (codes "follow") (parts query);
+    seal = has_part (codes "seal") (parts query);
+  })

@@ -1,0 +1,25 @@
+ghost use Rattle.std.specs.Prelude.{◌≡◌};
+ghost use Rattle.oc_routes.specs.Replies.{others, reply_place, reply_to};
+
+use oc_base::NodeId;
+use oc_model::Message;
+
+/// The place of the reply to a message from `sender` among the messages that it makes the node send: the
+/// first that goes back to the sender.
+pub fn reply_place(sends: &[Message], sender: NodeId) -> Option<usize>
+    ensures { result ≡ reply_place sends.now sender }
+{
+    sends.iter().position(|message| message.to == sender)
+}
+
+/// Splits these messages into the reply and all others, in their order.
+pub fn split_reply(sends: Vec<Message>, sender: NodeId) -> (Option<Message>, Vec<Message>)
+    ensures reply { result.0 ≡ reply_to sends.items sender }
+    ensures others { result.1.items ≡ others sends.items sender }
+{
+    let mut sends = sends;
+    match reply_place(&sends, sender) {
+        Some(place) => (Some(sends.remove(place)), sends),
+        None => (None, sends),
+    }
+}

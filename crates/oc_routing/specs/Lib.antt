@@ -1,5 +1,0 @@
-pub mod Connections
-pub mod Lawful
-pub mod Queries
-pub mod Replies
-pub mod Routes

@@ -1,0 +1,75 @@
+-- Lines of acts are read as these acts.
+use Rattle.std.proofs.Common.{◌≡◌, ℕ, ◌^◌, ◌<◌, ◌≤◌, Result, Ok, [], ◌∷◌, refl, ap, ◌∙◌, arith, decimal}
+use Rattle.oc_base.specs.Lawful.{IsNode}
+use Rattle.oc_base.specs.Steps.{◌>>=◌}
+use Rattle.oc_base.specs.Words.{node_in, number_in}
+use Rattle.oc_base.specs.declared.limits.TheConstants.{MAX_NODES, MAX_RATE, MAX_START, MAX_TIME}
+use Rattle.oc_model.specs.declared.event.Act.{Act}
+use Rattle.oc_model.specs.declared.event.Act.TheVariants as acts
+use Rattle.oc_model.specs.Lawful.{IsAct}
+use Rattle.oc_schedule.proofs.FieldsBack.{bytes_back, bytes_word, decimal_word, group_back, name_word, number_back}
+use Rattle.oc_schedule.proofs.LineBack.{AreWords}
+use Rattle.oc_schedule.specs.Acts.{act_fields, act_in, act_word, act_words, pair_in, most_byte, most_number, PublishesBytes}
+use Rattle.oc_schedule.specs.Fields.{group_in}
+
+-- the first step gives x, and the next gives y
+pub then : {A B E : Type 0} (r : Result A E) (f : A → Result B E) (x : A) (y : B) → r ≡ Ok x → f x ≡ Ok y → (r >>= f) ≡ Ok y
+then r f x y is next = ap (λ s. s >>= f) is ∙ next
+
+-- Nodes
+
+node_small : (nodes x : ℕ) → nodes ≤ MAX_NODES → IsNode nodes x → x < 2 ^ 64
+node_small nodes x few node = omega (arith, few, node.1)
+
+pub node_word : (nodes x : ℕ) → nodes ≤ MAX_NODES → IsNode nodes x → AreWords (decimal x ∷ [])
+node_word nodes x few node = (decimal_word x (node_small nodes x few node), tt)
+
+pub node_back : (nodes x : ℕ) → nodes ≤ MAX_NODES → IsNode nodes x → node_in nodes (decimal x) ≡ Ok x
+node_back nodes x few node = number_back 1 nodes x (node_small nodes x few node) node.0 node.1
+
+-- Acts
+
+-- a node and a peer
+pair_back : (nodes x p : ℕ) → nodes ≤ MAX_NODES → IsNode nodes x → IsNode nodes p → pair_in nodes (decimal x ∷ decimal p ∷ []) ≡ Ok (x, p)
+pair_back nodes x p few node peer =
+    then (node_in nodes (decimal x)) _ x _ (node_back nodes x few node) (then (node_in nodes (decimal p)) _ p _ (node_back nodes p few peer) refl)
+
+pub act_back : (nodes : ℕ) (act : Act) → nodes ≤ MAX_NODES → IsAct nodes act → PublishesBytes act → act_in nodes (act_word act) (act_fields act) ≡ Ok act
+act_back nodes (acts.Tick x t) few h bytes =
+    then (node_in nodes (decimal x)) _ x _ (node_back nodes x few h.0)
+    (then (number_in 0 MAX_TIME (decimal t)) _ t _ (number_back 0 MAX_TIME t (omega (arith, h.1)) (omega arith) h.1) refl)
+act_back nodes (acts.Check x) few h bytes = then (node_in nodes (decimal x)) _ x _ (node_back nodes x few h) refl
+act_back nodes (acts.Move x p) few h bytes = then (pair_in nodes (decimal x ∷ decimal p ∷ [])) _ (x, p) _ (pair_back nodes x p few h.0 h.1) refl
+act_back nodes (acts.Fail x p) few h bytes = then (pair_in nodes (decimal x ∷ decimal p ∷ [])) _ (x, p) _ (pair_back nodes x p few h.0 h.1) refl
+act_back nodes (acts.Pull x p) few h bytes = then (pair_in nodes (decimal x ∷ decimal p ∷ [])) _ (x, p) _ (pair_back nodes x p few h.0 h.1) refl
+act_back nodes (acts.Measure x p rate hops) few h bytes =
+    then (node_in nodes (decimal x)) _ x _ (node_back nodes x few h.0)
+    (then (node_in nodes (decimal p)) _ p _ (node_back nodes p few h.1)
+    (then (number_in 0 MAX_RATE (decimal rate)) _ rate _ (number_back 0 MAX_RATE rate (omega (arith, h.2)) (omega arith) h.2)
+    (then (number_in 0 most_byte (decimal hops)) _ hops _ (number_back 0 most_byte hops (omega (arith, h.3)) (omega arith) h.3) refl)))
+act_back nodes (acts.Publish x g bs) few h bytes =
+    then (node_in nodes (decimal x)) _ x _ (node_back nodes x few h.0)
+    (then (group_in g) _ g _ (group_back g h.1) (ap (λ r. r >>= λ b. Ok (acts.Publish x g b)) (bytes_back bs bytes)))
+act_back nodes (acts.Seal x g) few h bytes =
+    then (node_in nodes (decimal x)) _ x _ (node_back nodes x few h.0) (then (group_in g) _ g _ (group_back g h.1) refl)
+act_back nodes (acts.Client x area start g) few h bytes =
+    then (node_in nodes (decimal x)) _ x _ (node_back nodes x few h.0)
+    (then (number_in 0 most_byte (decimal area)) _ area _ (number_back 0 most_byte area (omega (arith, h.1)) (omega arith) h.1)
+    (then (number_in 0 MAX_START (decimal start)) _ start _ (number_back 0 MAX_START start (omega (arith, h.2)) (omega arith) h.2)
+    (then (group_in g) _ g _ (group_back g h.3) refl)))
+act_back nodes (acts.Deliver k) few h bytes =
+    then (number_in 1 most_number (decimal k)) _ k _ (number_back 1 most_number k (omega (arith, h.1)) h.0 (omega (arith, h.1))) refl
+
+pub act_are_words : (nodes : ℕ) (act : Act) → nodes ≤ MAX_NODES → IsAct nodes act → PublishesBytes act → AreWords (act_words act)
+act_are_words nodes (acts.Tick x t) few h bytes = (refl, ((node_word nodes x few h.0).0, (decimal_word t (omega (arith, h.1)), tt)))
+act_are_words nodes (acts.Check x) few h bytes = (refl, node_word nodes x few h)
+act_are_words nodes (acts.Move x p) few h bytes = (refl, ((node_word nodes x few h.0).0, node_word nodes p few h.1))
+act_are_words nodes (acts.Fail x p) few h bytes = (refl, ((node_word nodes x few h.0).0, node_word nodes p few h.1))
+act_are_words nodes (acts.Pull x p) few h bytes = (refl, ((node_word nodes x few h.0).0, node_word nodes p few h.1))
+act_are_words nodes (acts.Measure x p rate hops) few h bytes =
+    (refl, ((node_word nodes x few h.0).0, ((node_word nodes p few h.1).0, (decimal_word rate (omega (arith, h.2)), (decimal_word hops (omega (arith, h.3)), tt)))))
+act_are_words nodes (acts.Publish x g bs) few h bytes = (refl, ((node_word nodes x few h.0).0, (name_word g h.1, (bytes_word bs bytes, tt))))
+act_are_words nodes (acts.Seal x g) few h bytes = (refl, ((node_word nodes x few h.0).0, (name_word g h.1, tt)))
+act_are_words nodes (acts.Client x area start g) few h bytes =
+    (refl, ((node_word nodes x few h.0).0, (decimal_word area (omega (arith, h.1)), (decimal_word start (omega (arith, h.2)), (name_word g h.3, tt)))))
+act_are_words nodes (acts.Deliver k) few h bytes = (refl, (decimal_word k (omega (arith, h.1)), tt))

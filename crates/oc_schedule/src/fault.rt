@@ -1,0 +1,151 @@
+ghost use Rattle.std.specs.Prelude.{◌≡◌};
+ghost use Rattle.oc_schedule.specs.Limits.{most_of, what_text};
+ghost use Rattle.oc_schedule.specs.Reading.{fault_at};
+
+use oc_base::{
+    MAX_SCHEDULE_BYTES, MAX_SCHEDULE_LINES, MAX_SCHEDULE_PUBLISHED, MAX_SCHEDULE_SETTLES, Why,
+};
+use std::alloc::{AllocError, AllocFailed};
+use std::error::Error;
+use std::fmt;
+
+/// Why a text is no schedule.
+#[derive(Clone, Copy, Debug, PartialEq, Eq)]
+pub enum ScheduleFault {
+    /// This line, counted from 1, is refused for this cause.
+    Line { line: u32, why: Why },
+    /// The text passes a limit.
+    Limit(What),
+    /// Memory ran out.
+    Memory,
+}
+
+/// What a text may not have too many of.
+#[derive(Clone, Copy, Debug, PartialEq, Eq)]
+pub enum What {
+    /// Lines, those that are skipped too.
+    Lines,
+    /// Bytes.
+    Bytes,
+    /// Bytes that its events publish.
+    Published,
+    /// Lines that settle or heal.
+    Settles,
+}
+
+impl What {
+    /// The word that names the limit in an error line.
+    pub fn word(self) -> &'static str
+        ensures { result.now ≡ what_text self }
+    {
+        match self {
+            What::Lines => "lines",
+            What::Bytes => "bytes",
+            What::Published => "published",
+            What::Settles => "settles",
+        }
+    }
+
+    /// How many there may be.
+    pub fn most(self) -> usize
+        ensures { result ≡ most_of self }
+    {
+        match self {
+            What::Lines => MAX_SCHEDULE_LINES as usize,
+            What::Bytes => MAX_SCHEDULE_BYTES,
+            What::Published => MAX_SCHEDULE_PUBLISHED,
+            What::Settles => MAX_SCHEDULE_SETTLES as usize,
+        }
+    }
+}
+
+impl fmt::Display for What {
+    fn fmt<W: fmt::Write>(&self, f: &mut fmt::Formatter<W>) -> fmt::Result {
+        let word = self.word();
+        let most = self.most();
+        write!(f, "{word} {most}")
+    }
+}
+
+impl fmt::Display for ScheduleFault {
+    fn fmt<W: fmt::Write>(&self, f: &mut fmt::Formatter<W>) -> fmt::Result {
+        match self {
+            ScheduleFault::Line { line, why } => write!(f, "line {line}: {why}"),
+            ScheduleFault::Limit(what) => write!(f, "limit {what}"),
+            ScheduleFault::Memory => write!(f, "out of memory"),
+        }
+    }
+}
+
+impl Error for ScheduleFault {}
+
+impl From<AllocError> for ScheduleFault {
+    ghost use Rattle.oc_schedule.specs.declared.fault.ScheduleFault.TheVariants.{Memory};
+
+    ghost from_gives = { λ _ fault. fault ≡ Memory };
+
+    fn from(_error: AllocError) -> ScheduleFault {
+        ScheduleFault::Memory
+    }
+}
+
+impl<T: Drop> From<AllocFailed<T>> for ScheduleFault {
+    ghost use Rattle.oc_schedule.specs.declared.fault.ScheduleFault.TheVariants.{Memory};
+
+    ghost from_gives = { λ _ fault. fault ≡ Memory };
+
+    fn from(_error: AllocFailed<T>) -> ScheduleFault {
+        ScheduleFault::Memory
+    }
+}
+
+/// Why a line is not read, where its number is not known.
+#[derive(Clone, Copy, Debug, PartialEq, Eq)]
+pub enum LineFault {
+    /// It is refused for this cause.
+    Cause(Why),
+    /// Memory ran out.
+    Memory,
+}
+
+impl LineFault {
+    /// The fault of the text, where the line has this number.
+    pub fn at(self, line: u32) -> ScheduleFault
+        ensures { result ≡ fault_at line self }
+    {
+        match self {
+            LineFault::Cause(why) => ScheduleFault::Line { line, why },
+            LineFault::Memory => ScheduleFault::Memory,
+        }
+    }
+}
+
+impl From<Why> for LineFault {
+    ghost use Rattle.oc_schedule.specs.declared.fault.LineFault.TheVariants.{Cause};
+
+    ghost from_gives = { λ why fault. fault ≡ Cause why };
+
+    fn from(why: Why) -> LineFault {
+        LineFault::Cause(why)
+    }
+}
+
+impl From<AllocError> for LineFault {
+    ghost use Rattle.oc_schedule.specs.declared.fault.LineFault.TheVariants.{Memory};
+
+    ghost from_gives = { λ _ fault. fault ≡ Memory };
+
+    fn from(_error: AllocError) -> LineFault {
+        LineFault::Memory
+    }
+}
+
+impl<T: Drop> From<AllocFailed<T>> for LineFault {
+    ghost use Rattle.oc_schedule.specs.declared.fault.LineFault.TheVariants.{Memory};
+
+    ghost from_gives = { λ _ fault. fault ≡ Memory };
+
+    fn from(_error: AllocFailed<T>) -> LineFault {
+        LineFault::Memory
+    }
+}

@@ -1,7 +1,0 @@
-use Rattle.std.proofs.Common.{◌≡◌, ◌++◌, drop}
-use Rattle.oc_cert.specs.TableView.{entries_of}
-use Rattle.oc_sight.proofs.sight.push_entries.Given as goal
-
--- the certificates so far and those to come are all
-abbrev pub invariant-loop-place : goal.invariant-loop-place
-invariant-loop-place l = l.list.items ++ entries_of (drop l.place l.rows.items) ≡ l.initial.list.items ++ entries_of l.rows.items

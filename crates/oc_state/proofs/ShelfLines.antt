@@ -1,0 +1,89 @@
+-- Lines of a shelf, one after another.
+use Rattle.std.proofs.Common.{◌≡◌, ℕ, zero, suc, ◌+◌, ◌<◌, ◌≤◌, Bool, true, false, if◌then◌else◌, Option, Some, List, [], ◌∷◌, length, drop, get_or, set, refl, ap, sym, ◌∙◌, arith}
+use Rattle.std.specs.Prelude.{insert}
+use Rattle.std.specs.declared.cmp.Ordering.{Ordering}
+use Rattle.std.specs.declared.cmp.Ordering.TheVariants.{Less, Equal, Greater}
+use Rattle.std.specs.Ordering.{nat_cmp, is_eq}
+use Rattle.std.specs.Cmp.Lexicographic.{slice_cmp}
+use Rattle.oc_base.specs.declared.limits.TheConstants.{MAX_GROUP_BYTES}
+use Rattle.oc_base.specs.declared.shelf.Shelf.{Shelf}
+use Rattle.oc_base.specs.Named.{same_name, AreAscending, IsFoundAt, IsFreeAt}
+use Rattle.oc_base.specs.Shelves.{line_of, IsShelf, AreLines}
+use Rattle.oc_base.proofs.NameOrder.{same_name-itself}
+use Rattle.oc_model.specs.Shelves.{line_at, with_line, is_behind, first_behind}
+use Rattle.oc_state.proofs.Lists.{drop_at}
+
+-- Looking for a line
+
+-- the group's line is found here
+pub line_found : (g : List ℕ) (ls : List Shelf) (i : ℕ) (l : Shelf) (whole : Option Shelf) → i < length ls → l ≡ get_or ls i l → same_name g l.group ≡ true → line_of g (drop i ls) ≡ whole → Some l ≡ whole
+line_found g ls i l whole within e same so =
+    let here : line_of g (drop i ls) ≡ Some l = ap (line_of g) (drop_at ls i l within e) ∙ ap (λ (b : Bool). if b then Some l else line_of g (drop (i + 1) ls)) same in
+    sym here ∙ so
+
+-- it is further on
+pub line_goes_on : (g : List ℕ) (ls : List Shelf) (i : ℕ) (l : Shelf) (whole : Option Shelf) → i < length ls → l ≡ get_or ls i l → same_name g l.group ≡ false → line_of g (drop i ls) ≡ whole → line_of g (drop (i + 1) ls) ≡ whole
+line_goes_on g ls i l whole within e other so =
+    let here : line_of g (drop i ls) ≡ line_of g (drop (i + 1) ls) = ap (line_of g) (drop_at ls i l within e) ∙ ap (λ (b : Bool). if b then Some l else line_of g (drop (i + 1) ls)) other in
+    sym here ∙ so
+
+-- the same of the first line in which the other is behind
+pub behind_found : (have ls : List Shelf) (i : ℕ) (l : Shelf) (whole : Option Shelf) → i < length ls → l ≡ get_or ls i l → is_behind (line_of l.group have) l ≡ true → first_behind have (drop i ls) ≡ whole → Some l ≡ whole
+behind_found have ls i l whole within e behind so =
+    let here : first_behind have (drop i ls) ≡ Some l = ap (first_behind have) (drop_at ls i l within e) ∙ ap (λ (b : Bool). if b then Some l else first_behind have (drop (i + 1) ls)) behind in
+    sym here ∙ so
+
+pub behind_goes_on : (have ls : List Shelf) (i : ℕ) (l : Shelf) (whole : Option Shelf) → i < length ls → l ≡ get_or ls i l → is_behind (line_of l.group have) l ≡ false → first_behind have (drop i ls) ≡ whole → first_behind have (drop (i + 1) ls) ≡ whole
+behind_goes_on have ls i l whole within e level so =
+    let here : first_behind have (drop i ls) ≡ first_behind have (drop (i + 1) ls) = ap (first_behind have) (drop_at ls i l within e) ∙ ap (λ (b : Bool). if b then Some l else first_behind have (drop (i + 1) ls)) level in
+    sym here ∙ so
+
+-- A shelf with one more line
+
+-- the names of a shelf ascend
+pub lines_ascend : (ls : List Shelf) → AreLines ls → AreAscending (λ (l : Shelf). l.group) ls
+lines_ascend [] are = tt
+lines_ascend (l ∷ ls) are = (are.1, lines_ascend ls are.2)
+
+-- a name is even with itself
+names_even : (g : List ℕ) → slice_cmp nat_cmp g g ≡ Equal
+names_even g = by_order (slice_cmp nat_cmp g g) refl where
+  by_order : (o : Ordering) → slice_cmp nat_cmp g g ≡ o → o ≡ Equal
+  by_order Equal e = refl
+  by_order Less e = let no : is_eq (slice_cmp nat_cmp g g) ≡ false = rw e in let yes : same_name g g ≡ true = same_name-itself g in absurd cc
+  by_order Greater e = let no : is_eq (slice_cmp nat_cmp g g) ≡ false = rw e in let yes : same_name g g ≡ true = same_name-itself g in absurd cc
+
+-- a line takes the place of that of its group
+pub with_found : (l : Shelf) (ls : List Shelf) (i : ℕ) → IsFoundAt (λ (k : Shelf). k.group) ls l.group i → with_line l ls ≡ set ls i l
+with_found l [] i found = absurd found
+with_found l (k ∷ ks) zero found = rw (found, names_even l.group)
+with_found l (k ∷ ks) (suc i) found = rw found.0 (ap (λ (ls : List Shelf). k ∷ ls) (with_found l ks i found.1))
+
+-- or goes where it would be
+pub with_free : (l : Shelf) (ls : List Shelf) (i : ℕ) → IsFreeAt (λ (k : Shelf). k.group) ls l.group i → with_line l ls ≡ insert ls i l
+with_free l [] zero free = refl
+with_free l (k ∷ ks) zero free = rw (free.0)
+with_free l [] (suc i) free = absurd free
+with_free l (k ∷ ks) (suc i) free = rw (free.0) (ap (λ (ls : List Shelf). k ∷ ls) (with_free l ks i free.1))
+
+pub found_within : (l : Shelf) (ls : List Shelf) (i : ℕ) → IsFoundAt (λ (k : Shelf). k.group) ls l.group i → i < length ls
+found_within l [] i found = absurd found
+found_within l (k ∷ ks) zero found = omega arith
+found_within l (k ∷ ks) (suc i) found = let rest : i < length ks = found_within l ks i found.1 in omega arith
+
+pub free_within : (l : Shelf) (ls : List Shelf) (i : ℕ) → IsFreeAt (λ (k : Shelf). k.group) ls l.group i → i ≤ length ls
+free_within l ls zero free = omega arith
+free_within l [] (suc i) free = absurd free
+free_within l (k ∷ ks) (suc i) free = let rest : i ≤ length ks = free_within l ks i free.1 in omega arith
+
+-- Lengths
+
+-- no line is longer than a group may be
+pub held_bound : (g : List ℕ) (ls : List Shelf) → IsShelf ls → (line_at g ls).held ≤ MAX_GROUP_BYTES
+held_bound g ls is = bound_in g ls is.0 where
+  bound_in : (g : List ℕ) (ls : List Shelf) → AreLines ls → (line_at g ls).held ≤ MAX_GROUP_BYTES
+  bound_in g [] are = omega arith
+  bound_in g (l ∷ ls) are = by_test (same_name g l.group) (are.0.1) (bound_in g ls are.2) refl where
+    by_test : (b : Bool) → l.held ≤ MAX_GROUP_BYTES → (line_at g ls).held ≤ MAX_GROUP_BYTES → same_name g l.group ≡ b → (line_at g (l ∷ ls)).held ≤ MAX_GROUP_BYTES
+    by_test true here rest e = rw e here
+    by_test false here rest e = rw e rest

@@ -1,0 +1,80 @@
+ghost use Rattle.std.specs.Prelude.{◌≡◌, ◌+◌, length};
+ghost use Rattle.std.specs.List.{AllByRecursion};
+ghost use Rattle.oc_base.specs.Lawful.{IsNode};
+ghost use Rattle.oc_model.specs.Numbers.{at, capped, put_at};
+ghost use Rattle.oc_state.specs.Touched.{IsTouch, leases_by, rates_by, counts_by, leases_after, rates_after, counts_after};
+
+use oc_base::{NodeId, Rows};
+use oc_updown::{Leases, Table};
+
+/// What a step touches of the lists that have an item for each node.
+#[derive(Clone, Copy)]
+pub enum Touch {
+    /// Each leased child without a lease end gets one, a lease's time from now.
+    Start { now: u64 },
+    /// The lease of a child begins anew.
+    Renew { child: NodeId, now: u64 },
+    /// A child told this rate.
+    Tell { child: NodeId, rate: u64 },
+    /// A client is sent to this node.
+    Redirect { node: NodeId },
+}
+
+/// Touches the lists of the node `me`, which has this table, one after another.
+pub fn touch_all(
+    touches: &[Touch],
+    table: &Table,
+    me: NodeId,
+    leases: &mut Leases,
+    rates: &mut Rows<u64>,
+    counts: &mut Rows<u64>,
+)
+    requires touches { AllByRecursion (IsTouch table.now.nodes) touches.now }
+    requires leases { length leases.old.ends ≡ table.now.nodes }
+    requires rates { length rates.old.items ≡ table.now.nodes }
+    requires counts { length counts.old.items ≡ table.now.nodes }
+    ensures leases { leases.new.ends ≡ leases_after table.now.entries me leases.old.ends touches.now }
+    ensures rates { rates.new.items ≡ rates_after rates.old.items touches.now }
+    ensures counts { counts.new.items ≡ counts_after counts.old.items touches.now }
+{
+    for touch in touches {
+        touch_one(touch, table, me, leases, rates, counts);
+    }
+}
+
+fn touch_one(
+    touch: &Touch,
+    table: &Table,
+    me: NodeId,
+    leases: &mut Leases,
+    rates: &mut Rows<u64>,
+    counts: &mut Rows<u64>,
+)
+    requires touch { IsTouch table.now.nodes touch.now }
+    requires leases { length leases.old.ends ≡ table.now.nodes }
+    requires rates { length rates.old.items ≡ table.now.nodes }
+    requires counts { length counts.old.items ≡ table.now.nodes }
+    ensures leases { leases.new.ends ≡ leases_by table.now.entries me leases.old.ends touch.now }
+    ensures length { length leases.new.ends ≡ length leases.old.ends }
+    ensures rates { rates.new.items ≡ rates_by rates.old.items touch.now }
+    ensures rates_length { length rates.new.items ≡ length rates.old.items }
+    ensures counts { counts.new.items ≡ counts_by counts.old.items touch.now }
+    ensures counts_length { length counts.new.items ≡ length counts.old.items }
+{
+    match touch {
+        Touch::Start { now } => leases.start_all(table, me, *now),
+        Touch::Renew { child, now } => leases.renew(*child, *now),
+        Touch::Tell { child, rate } => rates.put(child.index(), *rate),
+        Touch::Redirect { node } => count(counts, *node),
+    }
+}
+
+/// One client more was sent to this node.
+fn count(counts: &mut Rows<u64>, node: NodeId)
+    requires { IsNode (length counts.old.items) node }
+    ensures counts { counts.new.items ≡ put_at counts.old.items node (capped (at counts.old.items node 0 + 1)) }
+    ensures length { length counts.new.items ≡ length counts.old.items }
+{
+    let index = node.index();
+    counts.put(index, counts.get_or(index, 0).saturating_add(1));
+}

@@ -1,0 +1,33 @@
+ghost use Rattle.std.specs.Prelude.{◌≡◌};
+ghost use Rattle.oc_state.specs.Volatile.{new_volatile};
+
+use oc_model::Search;
+
+/// The small parts of what a start clears: all of it except the lists.
+#[derive(Clone, Copy)]
+pub struct Volatile {
+    /// The time, in seconds.
+    pub clock: u64,
+    /// When the next check is due.
+    pub due: Option<u64>,
+    /// No node has refused since the tries were last set.
+    pub silent: bool,
+    pub search: Option<Search>,
+    /// The clients served that are not in the node's own count yet.
+    pub served: u64,
+}
+
+impl Volatile {
+    /// Those after a start.
+    pub fn new() -> Volatile
+        ensures { result ≡ new_volatile }
+    {
+        Volatile {
+            clock: 0,
+            due: None,
+            silent: false,
+            search: None,
+            served: 0,
+        }
+    }
+}

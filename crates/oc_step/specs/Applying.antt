@@ -1,0 +1,36 @@
+-- When a plan can be applied, and of which step it is.
+use Rattle.std.specs.Prelude.{◌≡◌, List, length}
+use Rattle.std.specs.List.{AllByRecursion}
+use Rattle.oc_base.specs.Groups.{shelf}
+use Rattle.oc_base.specs.declared.shelf.Shelf.{Shelf}
+use Rattle.oc_model.specs.declared.input.Input.{Input}
+use Rattle.oc_model.specs.Lawful.{AreRecords}
+use Rattle.oc_model.specs.Node.{Control, Node}
+use Rattle.oc_model.specs.Step.{plan, step}
+use Rattle.oc_state.specs.DurableView.{DurableView, HasRoom}
+use Rattle.oc_step.specs.NodeView.{NodeView, IsReached}
+use Rattle.oc_step.specs.Planned.{PlanView, control_after, planned}
+use Rattle.oc_state.specs.Touched.{IsTouch}
+
+-- the durable parts of a node
+abbrev pub durable_in : NodeView → DurableView
+durable_in v = record { nodes = v.control.nodes; kept = v.control.kept; room = v.room }
+
+-- the plan is for this node as it is: it leaves the node as an input may, and there is room for what it writes
+pub record CanApply (v : NodeView) (p : PlanView) : Type 0 where
+  pub reached : IsReached (control_after v.control p)
+  pub records : AreRecords v.control.nodes p.records
+  pub touches : AllByRecursion (IsTouch v.control.nodes) p.touches
+  pub room : HasRoom (durable_in v) (length p.records)
+
+-- the node has this control state, and holds groups of this shelf
+abbrev pub HasParts : Node → Control → List Shelf → Type 0
+HasParts n control lines = (n.control ≡ control) × (shelf n.groups ≡ lines)
+
+-- the plan is that of the step of this node at this input, but its chunk may lack its bytes
+abbrev pub IsPlanOf : Node → Input → PlanView → Type 0
+IsPlanOf n i p = planned n.control p ≡ plan n.control (shelf n.groups) i
+
+-- the plan is that of the step of this node at this input, and its chunk has its bytes
+abbrev pub IsStepOf : Node → Input → PlanView → Type 0
+IsStepOf n i p = planned n.control p ≡ record (plan n.control (shelf n.groups) i) { sends = (step n i).sends }

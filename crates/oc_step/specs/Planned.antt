@@ -1,0 +1,86 @@
+-- What a contract sees of a plan, and what the plan makes of a node.
+use Rattle.std.specs.Prelude.{◌≡◌, ℕ, ◌≤◌, false, Bool, Option, Some, None, unwrap_or, List, [], ◌∷◌, drop, map}
+use Rattle.oc_model.specs.declared.answer.Answer.{Answer}
+use Rattle.oc_model.specs.declared.answer.Answer.TheVariants as words
+use Rattle.oc_model.specs.declared.message.Message.{Message}
+use Rattle.oc_model.specs.declared.record.Record.{Record}
+use Rattle.oc_model.specs.declared.soft.Soft.{Soft}
+use Rattle.oc_model.specs.declared.want.Want.{Want}
+use Rattle.oc_model.specs.Node.{Control}
+use Rattle.oc_model.specs.Plan.{Plan}
+use Rattle.oc_model.specs.Records.{folded}
+use Rattle.oc_model.specs.Step.{fill}
+use Rattle.oc_state.specs.declared.touch.Touch.{Touch}
+use Rattle.oc_state.specs.declared.volatile.Volatile.{Volatile}
+use Rattle.oc_state.specs.Touched.{leases_after, rates_after, counts_after}
+use Rattle.oc_state.specs.Volatile.{soft_of}
+
+-- what a plan changes of a node: the durable changes; the small parts of what a start clears; the nodes still to be asked, if they are
+-- set anew, and how many of them are taken off; what it touches of the lists by number. And what it sends, answers, wants and keeps;
+-- `room` is how many bytes can be filled into its chunk
+pub record PlanView : Type 0 where
+  pub records : List Record
+  pub volatile : Volatile
+  pub tries : Option (List ℕ)
+  pub taken : ℕ
+  pub touches : List Touch
+  pub sends : List Message
+  pub answer : Answer
+  pub wants : Option Want
+  pub keeps : Option ℕ
+  pub seals : Bool
+  pub room : ℕ
+
+-- a plan of nothing, at a node with these small parts
+abbrev pub empty_plan : Volatile → PlanView
+empty_plan v = record {
+  records = [];
+  volatile = v;
+  tries = None;
+  taken = 0;
+  touches = [];
+  sends = [];
+  answer = words.Ok;
+  wants = None;
+  keeps = None;
+  seals = false;
+  room = 0;
+}
+
+-- what a start clears, after the plan
+abbrev pub soft_after : Soft → PlanView → Soft
+soft_after s p = soft_of p.volatile (drop p.taken (unwrap_or p.tries s.tries))
+
+-- the node after the plan
+abbrev pub control_after : Control → PlanView → Control
+control_after n p = record n {
+  kept = folded n.kept p.records;
+  soft = soft_after n.soft p;
+  leases = leases_after n.kept.table n.me n.leases p.touches;
+  rates = rates_after n.rates p.touches;
+  counts = counts_after n.counts p.touches;
+}
+
+-- the step under way that the plan is, at this node
+abbrev pub planned : Control → PlanView → Plan
+planned n p = record {
+  node = control_after n p;
+  records = p.records;
+  sends = p.sends;
+  answer = p.answer;
+  wants = p.wants;
+  keeps = p.keeps;
+  seals = p.seals;
+}
+
+-- Filling
+
+-- the plan wants this many bytes: its one message is the chunk, and there is room for them
+pub record IsWanting (p : PlanView) (count : ℕ) : Type 0 where
+  pub wants : (w : Want) × (p.wants ≡ Some w) × (w.count ≡ count)
+  pub chunk : (m : Message) × (p.sends ≡ m ∷ [])
+  pub room : count ≤ p.room
+
+-- the plan with these bytes in its chunk
+abbrev pub filled_with : List ℕ → PlanView → PlanView
+filled_with bytes p = record p { sends = map (fill bytes) p.sends; room = 0 }

@@ -1,0 +1,44 @@
+ghost use Rattle.std.specs.Prelude.{◌≡◌, ◌≤◌, [], ◌∷◌, ◌++◌, vec_len, take, OnOk};
+ghost use Rattle.std.specs.Option.{option_to_list};
+ghost use Rattle.oc_base.specs.declared.limits.TheConstants.{MAX_CHECK_IN_CERTS};
+ghost use Rattle.oc_step.specs.Since.{certs_of, certs_in};
+
+use oc_base::{Cert, MAX_CHECK_IN_CERTS, Memory};
+use oc_model::Record;
+
+/// The certificate of a record, if it has one.
+fn cert_of(change: &Record) -> Option<Cert>
+    ensures { option_to_list result ≡ certs_of change.now }
+{
+    match change {
+        Record::Entry { cert } => Some(*cert),
+        _ => None,
+    }
+}
+
+/// Puts a certificate at the end, if there is one and there are fewer than a check-in may have.
+fn push_cert(certs: &mut Vec<Cert>, cert: Option<Cert>) -> Result<(), Memory>
+    requires { vec_len certs.old ≤ MAX_CHECK_IN_CERTS }
+    ensures certs { OnOk result (certs.new.items ≡ take MAX_CHECK_IN_CERTS (certs.old.items ++ option_to_list cert)) }
+    ensures few { vec_len certs.new ≤ MAX_CHECK_IN_CERTS }
+{
+    if certs.len() == MAX_CHECK_IN_CERTS {
+        return Ok(());
+    }
+    if let Some(cert) = cert {
+        certs.push(cert)?;
+    }
+    Ok(())
+}
+
+/// Puts the certificates of these records at the end, no more than a check-in may have.
+pub(crate) fn push_certs(certs: &mut Vec<Cert>, records: &[Record]) -> Result<(), Memory>
+    requires { vec_len certs.old ≤ MAX_CHECK_IN_CERTS }
+    ensures certs { OnOk result (certs.new.items ≡ take MAX_CHECK_IN_CERTS (certs.old.items ++ certs_in records.now)) }
+    ensures few { OnOk result (vec_len certs.new ≤ MAX_CHECK_IN_CERTS) }
+{
+    for change in records {
+        push_cert(certs, cert_of(change))?;
+    }
+    Ok(())
+}

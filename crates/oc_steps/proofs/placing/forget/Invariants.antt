@@ -1,6 +1,0 @@
--- Nothing is known of those that were passed.
-use Rattle.std.proofs.Common.{◌≡◌, ℕ, ◌<◌, false, get_or}
-use Rattle.oc_steps.proofs.placing.forget.Given as goal
-
-abbrev pub invariant-loop-placed : goal.invariant-loop-placed
-invariant-loop-placed l = (k : ℕ) → k < l.placed-index → get_or l.known k false ≡ false

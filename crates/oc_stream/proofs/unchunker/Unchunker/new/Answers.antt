@@ -1,9 +1,0 @@
--- No bytes lead to the beginning.
-use Rattle.std.proofs.Common.{[], subst, sym}
-use Rattle.oc_stream.specs.Stages.{Stage}
-use Rattle.oc_stream.specs.Taken.{IsTaken}
-use Rattle.oc_stream.proofs.Steps.{nothing_taken}
-use Rattle.oc_stream.proofs.unchunker.Unchunker.new.Goals as goal
-
-pub returns : goal.returns
-returns c = subst (λ (s : Stage). IsTaken [] [] s) (sym c.in_ok-new.ensures) nothing_taken

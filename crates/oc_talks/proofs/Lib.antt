@@ -1,2 +1,0 @@
-pub mod RowsIn
-pub mod TalkLists

@@ -1,3 +1,0 @@
-pub mod Connection
-pub mod Rows
-pub mod TalksView

@@ -1,0 +1,74 @@
+-- What measure lines say.
+use Rattle.std.specs.Prelude.{◌≡◌, ◌≢◌, ℕ, ◌+◌, ◌-◌, ◌^◌, ◌≤◌, ◌==◌, min, if◌then◌else◌, Result, Ok, Err, List, [], ◌∷◌, ◌++◌, Vec}
+use Rattle.std.specs.Str.Lines.{lines}
+use Rattle.std.specs.declared.alloc.Global.{Global}
+use Rattle.oc_base.specs.Steps.{◌>>=◌}
+use Rattle.oc_base.specs.Words.{words, four, number_in, node_in}
+use Rattle.oc_base.specs.declared.limits.TheConstants.{MAX_RATE, MAX_HOPS}
+use Rattle.oc_base.specs.declared.why.Why.{Why}
+use Rattle.oc_base.specs.declared.why.Why.TheVariants.{Range}
+use Rattle.oc_updown.specs.declared.measure_fault.MeasureFault.{MeasureFault}
+use Rattle.oc_updown.specs.declared.measure_fault.MeasureFault.TheVariants.{Line, Memory}
+use Rattle.oc_updown.specs.declared.measure_lines.Measure.{Measure}
+
+-- of two of these many nodes, at a rate
+pub record IsMeasure (nodes : ℕ) (m : Measure) : Type 0 where
+  pub from : (1 ≤ m.from) × (m.from ≤ nodes)
+  pub peer : (1 ≤ m.peer) × (m.peer ≤ nodes)
+  pub other : m.peer ≢ m.from
+  pub rate : m.rate ≤ MAX_RATE
+
+-- the node whose number a field spells, which is another one
+abbrev pub peer_in : ℕ → ℕ → List ℕ → Result ℕ Why
+peer_in nodes from field = do
+  peer ← node_in nodes field
+  if peer == from then Err Range else Ok peer
+
+-- `FROM PEER RATE HOPS`
+abbrev pub measure_in : ℕ → List (List ℕ) → Result Measure Why
+measure_in nodes fields = do
+  (f, p, r, h) ← four fields
+  from ← node_in nodes f
+  peer ← peer_in nodes from p
+  rate ← number_in 0 MAX_RATE r
+  hops ← number_in 0 MAX_HOPS h
+  Ok (record { from = from; peer = peer; rate = rate; hops = hops })
+
+-- a cause, at this line
+abbrev pub at_line : {A : Type 0} → ℕ → Result A Why → Result A MeasureFault
+at_line i (Ok x) = Ok x
+at_line i (Err why) = Err (Line i why)
+
+-- the measures with that of one more line; an empty line has none
+abbrev pub with_line : ℕ → ℕ → List Measure → List (List ℕ) → Result (List Measure) MeasureFault
+with_line nodes i so_far [] = Ok so_far
+with_line nodes i so_far (word ∷ fields) = do
+  measure ← at_line i (measure_in nodes (word ∷ fields))
+  Ok (so_far ++ measure ∷ [])
+
+-- the number of the next line; numbers end at 32 bits
+abbrev pub next_line : ℕ → ℕ
+next_line i = min (i + 1) (2 ^ 32 - 1)
+
+-- the measures with those of these lines, the first of which has this number
+abbrev pub with_lines : ℕ → ℕ → List Measure → List (List ℕ) → Result (List Measure) MeasureFault
+with_lines nodes i so_far [] = Ok so_far
+with_lines nodes i so_far (line ∷ rest) = do
+  next ← with_line nodes i so_far (words line)
+  with_lines nodes (next_line i) next rest
+
+-- the measures of a text, or its first fault
+abbrev pub measures_in : ℕ → List ℕ → Result (List Measure) MeasureFault
+measures_in nodes text = with_lines nodes 1 [] (lines text)
+
+-- what a call gave is what is said, unless memory ran out
+abbrev pub Gives : Result (Vec Measure Global) MeasureFault → Result (List Measure) MeasureFault → Type 0
+Gives (Ok measures) said = said ≡ Ok measures.items
+Gives (Err (Line i why)) said = said ≡ Err (Line i why)
+Gives (Err Memory) said = Unit {0}
+
+-- the same for one more line
+abbrev pub GivesLine : ℕ → ℕ → List Measure → List Measure → List (List ℕ) → Result (Unit {0}) MeasureFault → Type 0
+GivesLine nodes number old new fields (Ok done) = with_line nodes number old fields ≡ Ok new
+GivesLine nodes number old new fields (Err (Line i why)) = with_line nodes number old fields ≡ Err (Line i why)
+GivesLine nodes number old new fields (Err Memory) = Unit {0}

@@ -1,0 +1,130 @@
+ghost use Rattle.std.specs.Prelude.{◌≡◌, ◌≢◌, ◌≤◌, ◌↔◌, IsTrue, true, false, Some, [], length, map, IfOk, IfSome};
+ghost use Rattle.oc_base.specs.declared.limits.TheConstants.{MAX_NODES};
+ghost use Rattle.oc_model.specs.Table.{newest, is_news, merge, leased_by, is_listed, IsListed, listed_in};
+ghost use Rattle.oc_updown.specs.Listing.{lines_in};
+ghost use Rattle.oc_updown.specs.TableView.{AreTableRows, entries_of};
+ghost use Rattle.oc_base.specs.Lawful.{IsCert};
+
+use crate::listing::lines_of;
+use crate::rows::{is_news, put, row_of};
+use crate::walk::is_listed;
+use oc_base::{Cert, Line, Memory, NodeId, Rows};
+use std::alloc::Global;
+use std::marker::Model;
+
+/// The newest certificate of each node, where there is one. A contract sees the number of nodes, the
+/// entries, ascending by subject, and how many rows there is memory for.
+#[derive(Drop)]
+pub struct Table {
+    alloc: Global,
+    /// By the index of the node.
+    rows: Rows<Option<Cert>>,
+}
+
+impl Model for Table {
+    ghost use Rattle.std.specs.Prelude.{length, ◌≤◌};
+    ghost use Rattle.oc_base.specs.declared.limits.TheConstants.{MAX_NODES};
+    ghost use Rattle.oc_updown.specs.TableView.{TableView, AreTableRows, entries_of};
+
+    ghost Value = { TableView };
+
+    ghost view = { λ t. record { nodes = length t.rows.items; entries = entries_of t.rows.items; room = t.rows.room } };
+
+    ghost invariant = { λ t. AreTableRows t.rows × (length t.rows.items ≤ MAX_NODES) };
+}
+
+impl Table {
+    /// An empty table for this many nodes, 1 to 1,024.
+    #[tactic(auto, using(crate::proofs::Entries::no_entries))]
+    pub fn new(alloc: Global, nodes: u32) -> Result<Table, Memory>
+        requires least { 1 ≤ nodes }
+        requires most { nodes ≤ MAX_NODES }
+        ensures nodes { IfOk result (λ table. table.nodes ≡ nodes) }
+        ensures empty { IfOk result (λ table. table.entries ≡ []) }
+    {
+        Ok(Table {
+            alloc,
+            rows: Rows::new(alloc, nodes as usize, None)?,
+        })
+    }
+
+    /// Removes all certificates. Takes no memory.
+    #[tactic(auto, using(crate::proofs::Entries::no_entries))]
+    pub fn clear(&mut self)
+        ensures entries { self.new.entries ≡ [] }
+        ensures nodes { self.new.nodes ≡ self.old.nodes }
+        ensures room { self.new.room ≡ self.old.room }
+    {
+        self.rows.fill(None);
+    }
+
+    /// Makes this the entry of its subject where there is none, or where it outranks the entry. Says
+    /// whether the entry changed. Takes no memory.
+    pub fn merge(&mut self, cert: &Cert) -> bool
+        requires { IsCert self.old.nodes cert.now }
+        ensures news { result ≡ is_news self.old.entries cert.now }
+        ensures entries { self.new.entries ≡ merge self.old.entries cert.now }
+        ensures taken { IsTrue result → newest self.new.entries cert.now.subject ≡ Some cert.now }
+        ensures changed { IsTrue result → newest self.old.entries cert.now.subject ≢ Some cert.now }
+        ensures kept { result ≡ false → self.new.entries ≡ self.old.entries }
+        ensures nodes { self.new.nodes ≡ self.old.nodes }
+        ensures room { self.new.room ≡ self.old.room }
+    {
+        if !is_news(&self.rows, cert) {
+            return false;
+        }
+        put(&mut self.rows, cert);
+        true
+    }
+
+    /// The newest certificate of a node.
+    pub fn entry(&self, subject: NodeId) -> Option<Cert>
+        ensures entry { result ≡ newest self.now.entries subject }
+        ensures fits { IfSome result (λ entry. (entry.subject ≡ subject) × IsCert self.now.nodes entry) }
+    {
+        row_of(&self.rows, subject)
+    }
+
+    /// The number of the ask by which the node is a child of the parent: that of its entry, where that
+    /// is alive and names this parent.
+    pub fn leased_by(&self, parent: NodeId, subject: NodeId) -> Option<u64>
+        ensures { result ≡ leased_by self.now.entries parent subject }
+    {
+        match self.entry(subject) {
+            Some(cert) if !cert.dead && cert.parent == parent => Some(cert.seq),
+            _ => None,
+        }
+    }
+
+    /// Whether a walk from the subject along certificates of living nodes, each time to the parent,
+    /// comes to the root. The root itself is not listed. Takes no memory.
+    #[tactic(auto, using(oc_model::proofs::Walks::listed_exactly))]
+    pub fn is_listed(&self, root: NodeId, subject: NodeId) -> bool
+        ensures walk { result ≡ is_listed self.now.entries root subject }
+        ensures listed { IsTrue result ↔ IsListed self.now.entries root subject }
+    {
+        is_listed(&self.rows, root, subject)
+    }
+
+    /// The listed nodes with their parents, ascending. Who is listed is found by walks over the rows
+    /// each time, and all walks together look at each row a few times.
+    #[tactic(auto, using(crate::proofs::Lines::lines_nodes))]
+    pub fn listed(&self, root: NodeId) -> Result<Vec<Line>, Memory>
+        ensures lines { IfOk result (λ lines. lines.items ≡ lines_in self.now.entries root) }
+        ensures nodes { IfOk result (λ lines. map (λ line. line.node) lines.items ≡ listed_in self.now.entries root) }
+    {
+        lines_of(self.alloc, &self.rows, root)
+    }
+
+    /// The row of each node, in the order of their numbers.
+    #[tactic(auto, using(crate::proofs::Entries::fewer_entries))]
+    pub fn rows(&self) -> &Rows<Option<Cert>>
+        ensures rows { AreTableRows result.now }
+        ensures entries { entries_of result.now.items ≡ self.now.entries }
+        ensures nodes { length result.now.items ≡ self.now.nodes }
+        ensures most { self.now.nodes ≤ MAX_NODES }
+        ensures fewer { length self.now.entries ≤ self.now.nodes }
+    {
+        &self.rows
+    }
+}

@@ -1,0 +1,83 @@
+-- What the words of each command ask for.
+use Rattle.std.specs.Prelude.{ℕ, ◌-◌, ◌^◌, ◌≤◌, min, Bool, Option, Some, None, Result, Ok, List}
+use Rattle.std.specs.Option.{ForSome}
+use Rattle.oc_base.specs.Steps.{◌>>=◌}
+use Rattle.oc_base.specs.Words.{number_in}
+use Rattle.oc_base.specs.declared.limits.TheConstants.{MAX_CHAIN, MAX_NODES}
+use Rattle.oc_base.specs.declared.why.Why.{Why}
+use Rattle.oc_words.specs.declared.request.Download.{Download}
+use Rattle.oc_words.specs.declared.request.Member.{Member}
+use Rattle.oc_words.specs.declared.request.Sample.{Sample}
+use Rattle.oc_words.specs.declared.request.Service.{Service}
+use Rattle.oc_words.specs.declared.request.TheConstants.{MAX_EVENTS, MAX_FOLLOWED, MAX_TURNS}
+
+-- ---- `gen SEED NODES EVENTS`
+
+-- a seed within 64 bits, a number of nodes, and a number of events from that of the nodes on
+abbrev pub sample_in : List ℕ → List ℕ → List ℕ → Result Sample Why
+sample_in seed_word nodes_word events_word = do
+  seed ← number_in 0 (2 ^ 64 - 1) seed_word
+  nodes ← number_in 1 MAX_NODES nodes_word
+  events ← number_in nodes MAX_EVENTS events_word
+  Ok (record { seed = seed; nodes = nodes; events = events })
+
+-- the numbers are within their ranges
+pub record IsSample (s : Sample) : Type 0 where
+  pub some : 1 ≤ s.nodes
+  pub few : s.nodes ≤ MAX_NODES
+  pub all_start : s.nodes ≤ s.events
+  pub not_more : s.events ≤ MAX_EVENTS
+
+-- ---- `node ID --turns N`
+
+-- an id within 64 bits, and a number of turns
+abbrev pub service_in : List ℕ → List ℕ → Bool → Result Service Why
+service_in id_word turns_word probes = do
+  id ← number_in 0 (2 ^ 64 - 1) id_word
+  turns ← number_in 0 MAX_TURNS turns_word
+  Ok (record { id = id; turns = turns; probes = probes })
+
+-- the number of turns is within its range
+abbrev pub IsService : Service → Type 0
+IsService s = s.turns ≤ MAX_TURNS
+
+-- ---- `check ID NODES CHAIN`
+
+-- a number of nodes, a chain of some of them, and the id of one
+abbrev pub member_in : List ℕ → List ℕ → List ℕ → Result Member Why
+member_in id_word nodes_word chain_word = do
+  nodes ← number_in 1 MAX_NODES nodes_word
+  chain ← number_in 1 (min nodes MAX_CHAIN) chain_word
+  id ← number_in 1 nodes id_word
+  Ok (record { id = id; nodes = nodes; chain = chain })
+
+-- the numbers are within their ranges
+pub record IsMember (m : Member) : Type 0 where
+  pub some : 1 ≤ m.id
+  pub within : m.id ≤ m.nodes
+  pub few : m.nodes ≤ MAX_NODES
+  pub chained : 1 ≤ m.chain
+  pub short : m.chain ≤ MAX_CHAIN
+  pub fits : m.chain ≤ m.nodes
+
+-- ---- `get URL`
+
+-- how many replies are followed, if the option was given
+abbrev pub times_in : Option (List ℕ) → Result (Option ℕ) Why
+times_in None = Ok None
+times_in (Some word) = do
+  times ← number_in 1 MAX_FOLLOWED word
+  Ok (Some times)
+
+-- the address, any text, and how many replies are followed
+abbrev pub download_in : List ℕ → Option (List ℕ) → Result Download Why
+download_in address follow = do
+  times ← times_in follow
+  Ok (record { address = address; times = times })
+
+-- the number of replies is within its range
+abbrev pub IsTimes : Option ℕ → Type 0
+IsTimes times = ForSome times (λ n. (1 ≤ n) × (n ≤ MAX_FOLLOWED))
+
+abbrev pub IsDownload : Download → Type 0
+IsDownload d = IsTimes d.times

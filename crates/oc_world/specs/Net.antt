@@ -1,0 +1,71 @@
+-- The net: each message as the text of the request that brings it.
+use Rattle.std.specs.Prelude.{◌≡◌, ℕ, ◌==◌, ◌&&◌, Bool, true, false, if◌then◌else◌, Option, Some, None, Result, Ok, Err, List, [], ◌∷◌, ◌++◌, codes, decimal, map, drop}
+use Rattle.oc_http.specs.Writing.{request_text}
+use Rattle.oc_model.specs.declared.message.Body.{Body}
+use Rattle.oc_model.specs.declared.message.Body.TheVariants.{Look, CheckAck}
+use Rattle.oc_model.specs.declared.message.Message.{Message}
+use Rattle.oc_model.specs.Lawful.{IsMessage}
+use Rattle.oc_wire.specs.declared.fault.WireFault.{WireFault}
+use Rattle.oc_wire.specs.MessageReading.{decoded}
+use Rattle.oc_wire.specs.Spelling.{spelling}
+
+-- the host of a node: `node` and its id
+abbrev pub host_of : ℕ → List ℕ
+host_of x = codes "node" ++ decimal x
+
+-- the request that brings a message to its receiver
+abbrev pub text_of : Message → List ℕ
+text_of m = request_text (host_of m.to) (spelling m)
+
+-- whether bytes begin with these
+abbrev pub begins : List ℕ → List ℕ → Bool
+begins [] bytes = true
+begins (c ∷ cs) [] = false
+begins (c ∷ cs) (b ∷ bs) = b == c && begins cs bs
+
+-- the end of a line, and an empty line
+abbrev pub head_end : List ℕ
+head_end = 13 ∷ 10 ∷ 13 ∷ 10 ∷ []
+
+-- what follows the first empty line
+abbrev pub body_in : List ℕ → List ℕ
+body_in [] = []
+body_in (byte ∷ rest) = if begins head_end (byte ∷ rest) then drop 3 rest else body_in rest
+
+abbrev pub message_or_look : Result Message WireFault → Message
+message_or_look (Ok m) = m
+message_or_look (Err fault) = record { from = 0; to = 0; body = Look }
+
+-- the message between `nodes` nodes that a text brings
+abbrev pub message_in : ℕ → List ℕ → Message
+message_in nodes text = message_or_look (decoded nodes (body_in text))
+
+-- a text is that of a lawful message
+pub record IsText (nodes : ℕ) (text : List ℕ) : Type 0 where
+  pub lawful : IsMessage nodes (message_in nodes text)
+  pub exact : text ≡ text_of (message_in nodes text)
+
+-- the number of nodes, every message in the order of sending, and how many more there is room for
+pub record NetView : Type 0 where
+  pub nodes : ℕ
+  pub messages : List Message
+  pub room : ℕ
+
+-- the net of these texts, where the list has room for `room` more
+abbrev pub net_of : ℕ → List (List ℕ) → ℕ → NetView
+net_of nodes texts room = record { nodes = nodes; messages = map (message_in nodes) texts; room = room }
+
+-- whether this acknowledges a check-in
+abbrev pub is_ack_body : Body → Bool
+is_ack_body (CheckAck seq upto rank ancestors) = true
+is_ack_body body = false
+
+-- whether the last of these does
+abbrev pub ends_with_ack : Bool → List Message → Bool
+ends_with_ack acks [] = acks
+ends_with_ack acks (m ∷ ms) = ends_with_ack (is_ack_body m.body) ms
+
+-- what is read from the text of a message, if there is one
+abbrev pub IsTextOf : Option Message → Option (List ℕ) → Type 0
+IsTextOf None text = text ≡ None
+IsTextOf (Some m) text = text ≡ Some (text_of m)

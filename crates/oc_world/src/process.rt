@@ -1,0 +1,259 @@
+//! A node, and whether it is up.
+
+ghost use Rattle.std.specs.Prelude.{◌≡◌, ◌≤◌, true, false, if◌then◌else◌, is_some, IfOk, OnOk, OnErr};
+ghost use Rattle.std.specs.List.{AllByRecursion};
+ghost use Rattle.oc_base.specs.Groups.{shelf};
+ghost use Rattle.oc_base.specs.Lawful.{IsNode};
+ghost use Rattle.oc_keep.specs.Files.{Survives, disks};
+ghost use Rattle.oc_keep.specs.KeptView.{header, header_of, node_of};
+ghost use Rattle.oc_keep.specs.Promises.{IsSameNode};
+ghost use Rattle.oc_keep.specs.ReadyView.{is_written, outcome_of, told_of};
+ghost use Rattle.oc_laws_step.specs.LawfulNode.{IsLawfulControl};
+ghost use Rattle.oc_model.specs.Lawful.{IsHeader, IsInput, IsMessage};
+ghost use Rattle.oc_model.specs.NextWorld.{keeps_write, stopped, writes};
+ghost use Rattle.oc_model.specs.Node.{new_node, restarted};
+ghost use Rattle.oc_model.specs.Step.{step};
+ghost use Rattle.oc_model.specs.World.{down};
+ghost use Rattle.oc_io.specs.MemDiskView.{view_of};
+ghost use Rattle.oc_model.specs.Status.{status_of};
+ghost use Rattle.oc_world.specs.ProcessView.{CanCommitTo, Renews, generation_of, resting};
+ghost use Rattle.oc_world.specs.Standing.{IsOpen, IsRunning};
+
+use crate::process_status::{groups_of, groups_recovered, lawful_node};
+use crate::standing::{Files, Standing};
+use crate::{process_acts, starting, stopping};
+use oc_base::{Memory, NodeId, Shelf};
+use oc_io::MemDisk;
+use oc_journal::is_kept_new;
+use oc_keep::{Kept, Node, Outcome, Ready, status_of, status_recovered};
+use oc_model::{Input, NodeStatus};
+use std::alloc::Global;
+use std::marker::Model;
+
+/// A node on its files, which stay when it goes down. Contracts see the model's process, and the node on its
+/// files, where it is up. Where it is down, the process is the node that its files recover. Every crash
+/// leaves what is durable of it.
+#[derive(Drop)]
+pub struct Process {
+    alloc: Global,
+    id: NodeId,
+    nodes: u32,
+    chain: u32,
+    /// The area of each node, by its number.
+    areas: Vec<u8>,
+    standing: Standing<MemDisk>,
+}
+
+impl Model for Process {
+    ghost use Rattle.oc_base.specs.Lawful.{IsNode};
+    ghost use Rattle.oc_keep.specs.KeptView.{header};
+    ghost use Rattle.oc_model.specs.Lawful.{IsHeader};
+    ghost use Rattle.oc_world.specs.ProcessView.{ProcessView};
+    ghost use Rattle.oc_world.specs.Standing.{Stands, process_of};
+
+    ghost Value = { ProcessView };
+
+    ghost view = { λ p. process_of (header p.nodes p.chain p.areas.items) p.id p.standing };
+
+    ghost invariant = { λ p. IsHeader (header p.nodes p.chain p.areas.items) × IsNode p.nodes p.id
+        × Stands (header p.nodes p.chain p.areas.items) p.id p.standing };
+}
+
+impl Process {
+    /// A new node that is down, on empty files.
+    pub fn new(
+        alloc: Global,
+        id: NodeId,
+        nodes: u32,
+        chain: u32,
+        areas: &[u8],
+    ) -> Result<Process, Memory>
+        requires header { IsHeader (header nodes chain areas.now) }
+        requires id { IsNode nodes id }
+        ensures { IfOk result (λ process. process ≡ resting (down (new_node (header nodes chain areas.now) id))) }
+    {
+        let areas = areas.to_vec(alloc)?;
+        Ok(Process {
+            alloc,
+            id,
+            nodes,
+            chain,
+            areas,
+            standing: Standing::Stopped(Files::empty(alloc)),
+        })
+    }
+
+    /// Whether the node is up.
+    pub fn is_up(&self) -> bool
+        ensures up { result ≡ self.now.process.up }
+        ensures kept { result ≡ is_some self.now.kept }
+    {
+        matches!(self.standing, Standing::Running(_))
+    }
+
+    /// The node on its files, where it is up.
+    fn kept(&self) -> &Kept<MemDisk>
+        requires { self.now.process.up ≡ true }
+        ensures node { node_of result.now ≡ self.now.process.node }
+        ensures open { IsOpen view_of result.now }
+    {
+        match &self.standing {
+            Standing::Running(kept) => kept,
+            Standing::Stopped(_) => unreachable!(),
+        }
+    }
+
+    /// The node, where it is up.
+    pub fn node(&self) -> &Node
+        requires { self.now.process.up ≡ true }
+        ensures control { result.now.control ≡ self.now.process.node.control }
+        ensures lawful { IsLawfulControl self.now.process.node.control.nodes self.now.process.node.control }
+    {
+        lawful_node(self.kept())
+    }
+
+    /// A start of a node that is down. If memory runs out, the node stays as it is.
+    pub fn start(&mut self) -> Result<(), Memory>
+        requires { self.old.process.up ≡ false }
+        ensures ok { OnOk result (self.new.process ≡ record { node = restarted self.old.process.node; up = true }) }
+        ensures err { OnErr result (self.new ≡ self.old) }
+    {
+        let kept = self.load()?;
+        self.standing.set(Standing::Running(kept));
+        Ok(())
+    }
+
+    /// The node that the files of one that is down recover, on copies of them: so the files stay as they are if
+    /// memory runs out.
+    fn load(&self) -> Result<Kept<MemDisk>, Memory>
+        requires { self.now.process.up ≡ false }
+        ensures running { IfOk result (λ kept.
+            IsRunning view_of (header_of self.now.process.node.control) self.now.process.node.control.me kept) }
+        ensures node { IfOk result (λ kept. node_of kept ≡ self.now.process.node) }
+    {
+        match &self.standing {
+            Standing::Running(_) => unreachable!(),
+            Standing::Stopped(files) => {
+                let copy = files.copy()?;
+                starting::load(
+                    self.alloc,
+                    copy,
+                    self.id,
+                    self.nodes,
+                    self.chain,
+                    &self.areas,
+                )
+            }
+        }
+    }
+
+    /// A crash of a node that is up.
+    pub fn crash(&mut self)
+        requires { self.old.process.up ≡ true }
+        ensures { self.new.process ≡ stopped self.old.process.node }
+    {
+        let kept = self.standing.take_running(Files::empty(self.alloc));
+        let files = stopping::crash(kept);
+        self.standing.set(Standing::Stopped(files));
+    }
+
+    /// Makes an input ready at a node that is up, whose control files are first turned over where they are
+    /// ripe. The node stays as it is.
+    pub fn ready(&mut self, input: Input) -> Result<Ready, Memory>
+        requires up { self.old.process.up ≡ true }
+        requires input { IsInput self.old.process.node.control.nodes self.old.process.node.control.me input }
+        ensures process { self.new.process ≡ self.old.process }
+        ensures step { IfOk result (λ ready. outcome_of self.old.process.node ready ≡ step self.old.process.node input) }
+        ensures writes { IfOk result (λ ready. is_written ready.write ≡ writes self.old.process.node input) }
+        ensures commits { IfOk result (λ ready. CanCommitTo self.new.kept ready) }
+        ensures lawful { IfOk result (λ ready. AllByRecursion (IsMessage self.old.process.node.control.nodes) ready.plan.sends) }
+        ensures renews { OnOk result (Renews self.old.kept self.new.kept) }
+    {
+        match &mut self.standing {
+            Standing::Running(kept) => process_acts::ready(kept, input),
+            Standing::Stopped(_) => unreachable!(),
+        }
+    }
+
+    /// Takes an input that was made ready since the last change. It takes no memory.
+    pub fn commit(&mut self, ready: Ready) -> Outcome
+        requires { CanCommitTo self.old.kept ready }
+        ensures outcome { result ≡ told_of (outcome_of self.old.process.node ready) }
+        ensures process { self.new.process ≡ record { node = (outcome_of self.old.process.node ready).node; up = true } }
+        ensures same { IsSameNode self.old.process.node.control self.new.process.node.control }
+        ensures generation { generation_of self.new.kept ≡ generation_of self.old.kept }
+    {
+        match &mut self.standing {
+            Standing::Running(kept) => process_acts::commit(kept, ready),
+            Standing::Stopped(_) => unreachable!(),
+        }
+    }
+
+    /// A stop of a node that is up, partway through an input, once `calls` of the calls that write its frame
+    /// have worked; the byte `image` is found wherever something was written and not synced. Answers whether
+    /// the frame is kept. If memory runs out, the node stays as it is.
+    pub fn stop(&mut self, input: Input, calls: u8, image: u8) -> Result<bool, Memory>
+        requires up { self.old.process.up ≡ true }
+        requires input { IsInput self.old.process.node.control.nodes self.old.process.node.control.me input }
+        requires calls { calls ≤ 4 }
+        ensures kept_new { IfOk result (λ kept_new. kept_new ≡ keeps_write calls image self.old.process.node input) }
+        ensures process { OnOk result (self.new.process ≡ stopped
+            (if keeps_write calls image self.old.process.node input then (step self.old.process.node input).node else self.old.process.node)) }
+        ensures same { IsSameNode self.old.process.node.control self.new.process.node.control }
+        ensures process_err { OnErr result (self.new.process ≡ self.old.process) }
+    {
+        let ready = self.ready(input)?;
+        let kept_new = ready.writes() && is_kept_new(calls, image);
+        let kept = self.standing.take_running(Files::empty(self.alloc));
+        let files = stopping::stop(kept, ready, calls, image);
+        self.standing.set(Standing::Stopped(files));
+        Ok(kept_new)
+    }
+
+    /// The disks of the node's files, those of the control files before that of the content. Every crash of
+    /// them leaves what is durable of the node.
+    pub fn into_disks(self) -> (MemDisk, MemDisk, MemDisk)
+        ensures { Survives view_of (header_of self.process.node.control) self.process.node.control.me
+            (disks result.0 result.1 result.2) self.process.node }
+    {
+        let Process {
+            alloc: _,
+            id: _,
+            nodes: _,
+            chain: _,
+            areas: _,
+            standing,
+        } = self;
+        match standing {
+            Standing::Running(kept) => kept.into_disks(),
+            Standing::Stopped(files) => {
+                let Files {
+                    control,
+                    alternate,
+                    content,
+                } = files;
+                (control, alternate, content)
+            }
+        }
+    }
+
+    /// The groups of the node with their lengths and seals, ascending by name.
+    pub fn held(&self) -> Result<Vec<Shelf>, Memory>
+        ensures { IfOk result (λ lines. lines.items ≡ shelf self.now.process.node.groups) }
+    {
+        if self.is_up() {
+            return groups_of(self.alloc, self.kept());
+        }
+        groups_recovered(self.alloc, self.load()?)
+    }
+
+    /// The state of the node.
+    pub fn status(&self) -> Result<NodeStatus, Memory>
+        ensures { IfOk result (λ status. status ≡ status_of self.now.process.node.control self.now.process.up) }
+    {
+        if self.is_up() {
+            return status_of(self.kept(), true);
+        }
+        status_recovered(self.load()?)
+    }
+}

@@ -1,0 +1,75 @@
+//! The state of a node: on its files, or down.
+
+ghost use Rattle.std.specs.Prelude.{◌≡◌, [], true, IfOk};
+ghost use Rattle.oc_io.specs.MemDiskView.{disk_of};
+ghost use Rattle.oc_world.specs.Standing.{is_running};
+
+use oc_base::Memory;
+use oc_io::{Disk, MemDisk};
+use oc_keep::Kept;
+use std::alloc::Global;
+use std::mem;
+
+/// The disks of the three files of a node.
+#[derive(Drop)]
+pub(crate) struct Files<D: Disk> {
+    pub(crate) control: D,
+    pub(crate) alternate: D,
+    pub(crate) content: D,
+}
+
+/// A node that runs on its files, or the files of one that is down. A node that is down has no state in
+/// memory.
+#[derive(Drop)]
+pub(crate) enum Standing<D: Disk> {
+    Running(Kept<D>),
+    Stopped(Files<D>),
+}
+
+impl<D: Disk + Drop> Standing<D> {
+    /// Has this state from now on.
+    pub(crate) fn set(&mut self, next: Standing<D>)
+        ensures { self.new ≡ next }
+    {
+        *self = next;
+    }
+
+    /// Takes out the node that runs, and leaves these files.
+    pub(crate) fn take_running(&mut self, left: Files<D>) -> Kept<D>
+        requires { is_running self.old ≡ true }
+        ensures { self.old ≡ Standing.Running result }
+    {
+        match mem::replace(self, Standing::Stopped(left)) {
+            Standing::Running(kept) => kept,
+            Standing::Stopped(_) => unreachable!(),
+        }
+    }
+}
+
+impl Files<MemDisk> {
+    /// Three empty files. It takes no memory.
+    pub(crate) fn empty(alloc: Global) -> Files<MemDisk>
+        ensures control { result.control ≡ disk_of [] }
+        ensures alternate { result.alternate ≡ disk_of [] }
+        ensures content { result.content ≡ disk_of [] }
+    {
+        Files {
+            control: MemDisk::new(Vec::new(alloc)),
+            alternate: MemDisk::new(Vec::new(alloc)),
+            content: MemDisk::new(Vec::new(alloc)),
+        }
+    }
+
+    /// Copies of the files, all of them safe.
+    pub(crate) fn copy(&self) -> Result<Files<MemDisk>, Memory>
+        ensures control { IfOk result (λ copy. copy.control ≡ disk_of self.now.control.bytes) }
+        ensures alternate { IfOk result (λ copy. copy.alternate ≡ disk_of self.now.alternate.bytes) }
+        ensures content { IfOk result (λ copy. copy.content ≡ disk_of self.now.content.bytes) }
+    {
+        Ok(Files {
+            control: self.control.copy()?,
+            alternate: self.alternate.copy()?,
+            content: self.content.copy()?,
+        })
+    }
+}

@@ -1,0 +1,62 @@
+//! A node that is down is read from its files.
+
+ghost use Rattle.std.specs.Prelude.{◌≡◌, IfOk};
+ghost use Rattle.oc_base.specs.Lawful.{IsNode};
+ghost use Rattle.oc_keep.specs.Files.{AreHonest, AreReliable};
+ghost use Rattle.oc_keep.specs.KeptView.{header, node_of};
+ghost use Rattle.oc_keep.specs.Promises.{HoldFiles};
+ghost use Rattle.oc_model.specs.Lawful.{IsHeader};
+ghost use Rattle.oc_world.specs.Standing.{IsRunning, disks_in, seen_in};
+
+use crate::standing::Files;
+use oc_base::{Memory, NodeId};
+use oc_io::Disk;
+use oc_keep::{KeepLoad, Kept};
+use std::alloc::Global;
+
+/// The node that these files recover. Files of a node on disks that do not fail are refused only where memory
+/// runs out.
+pub(crate) fn load<D: Disk + Drop>(
+    alloc: Global,
+    files: Files<D>,
+    id: NodeId,
+    nodes: u32,
+    chain: u32,
+    areas: &[u8],
+) -> Result<Kept<D>, Memory>
+    requires header { IsHeader (header nodes chain areas.now) }
+    requires id { IsNode nodes id }
+    requires honest { AreHonest D.view (disks_in files) }
+    requires reliable { AreReliable D.view (disks_in files) }
+    requires files { HoldFiles D.view nodes (disks_in files) }
+    ensures running { IfOk result (λ kept. IsRunning D.view (header nodes chain areas.now) id kept) }
+    ensures node { IfOk result (λ kept. node_of kept ≡ seen_in D.view (header nodes chain areas.now) id files) }
+{
+    let areas = copy_of(alloc, areas)?;
+    let Files {
+        control,
+        alternate,
+        content,
+    } = files;
+    match Kept::load(alloc, control, alternate, content, id, nodes, chain, areas) {
+        Ok(kept) => Ok(kept),
+        Err((_, _, _, error)) => Err(wanting(error)),
+    }
+}
+
+/// A copy of these areas.
+fn copy_of(alloc: Global, areas: &[u8]) -> Result<Vec<u8>, Memory>
+    ensures { IfOk result (λ copy. copy.items ≡ areas.now) }
+{
+    Ok(areas.to_vec(alloc)?)
+}
+
+/// The one refusal of files of a node on disks that do not fail.
+fn wanting(error: KeepLoad) -> Memory
+    requires { error ≡ KeepLoad.Memory }
+{
+    match error {
+        KeepLoad::Memory => Memory,
+        KeepLoad::Disk | KeepLoad::NotJournal(_) | KeepLoad::BadFrame(_, _) => unreachable!(),
+    }
+}

@@ -1,0 +1,42 @@
+//! How a node comes to stop, and what its files hold then.
+
+ghost use Rattle.std.specs.Prelude.{◌≡◌, ◌&&◌, ◌≤◌, if◌then◌else◌};
+ghost use Rattle.oc_base.specs.Stops.{is_kept_new};
+ghost use Rattle.oc_keep.specs.KeptView.{node_of};
+ghost use Rattle.oc_keep.specs.ReadyView.{CanCommit, is_written, outcome_of};
+ghost use Rattle.oc_io.specs.MemDiskView.{view_of};
+ghost use Rattle.oc_world.specs.Standing.{IsLeft, IsOpen};
+
+use crate::standing::Files;
+use oc_io::MemDisk;
+use oc_keep::{Kept, Ready};
+
+/// A node that runs crashes between two inputs.
+pub(crate) fn crash(kept: Kept<MemDisk>) -> Files<MemDisk>
+    requires { IsOpen view_of kept }
+    ensures { IsLeft kept.node.control (node_of kept) result }
+{
+    let (control, alternate, content) = kept.into_disks();
+    Files {
+        control: control.crash(),
+        alternate: alternate.crash(),
+        content: content.crash(),
+    }
+}
+
+/// A node that runs stops in an input that was made ready, once `calls` of the calls that write its frame
+/// have worked; the byte `image` is found wherever something was written and not synced.
+pub(crate) fn stop(kept: Kept<MemDisk>, ready: Ready, calls: u8, image: u8) -> Files<MemDisk>
+    requires open { IsOpen view_of kept }
+    requires ready { CanCommit view_of kept ready }
+    requires calls { calls ≤ 4 }
+    ensures { IsLeft kept.node.control
+        (if is_written ready.write && is_kept_new calls image then (outcome_of (node_of kept) ready).node else node_of kept) result }
+{
+    let (control, alternate, content) = kept.commit_stopped(ready, calls, image);
+    Files {
+        control,
+        alternate,
+        content,
+    }
+}

@@ -1,0 +1,41 @@
+//! Connections that end after each of their bytes.
+
+use crate::serve::outcome::words_of;
+use crate::serve::requests::PARTS;
+use crate::serve::runs::Runs;
+use crate::serve::settings::Setting;
+use crate::serve::table::Scenes;
+use std::alloc::Global;
+use test_tools::{Fault, spelled_in};
+
+/// The words of a row: after how many numbers of bytes, from none to all, one after another, the connection
+/// comes to the same lines and replies, and to which.
+pub struct Rows;
+
+impl Scenes for Rows {
+    fn answer(alloc: Global, setting: &Setting, text: &str) -> Result<String, Fault> {
+        let bytes = spelled_in(alloc, text)?;
+        let mut runs = Runs::new(alloc);
+        put_all(alloc, setting, &bytes, &mut runs)?;
+        runs.finish()
+    }
+}
+
+/// Puts the words of the connection that ends after each number of these bytes.
+fn put_all(alloc: Global, setting: &Setting, bytes: &[u8], runs: &mut Runs) -> Result<(), Fault> {
+    for count in 0..bytes.len().saturating_add(1) {
+        let front = bytes.get(..count).unwrap_or(bytes);
+        runs.put(words_of_front(alloc, setting, front)?)?;
+    }
+    Ok(())
+}
+
+/// The words of a connection that brings these bytes alone.
+fn words_of_front(alloc: Global, setting: &Setting, bytes: &[u8]) -> Result<String, Fault> {
+    let mut scene = String::new(alloc);
+    scene.push_str("come:")?;
+    for byte in bytes {
+        write!(scene, "\\x{byte:02x}")?;
+    }
+    words_of(alloc, setting, scene.as_str(), &PARTS)
+}

@@ -1,0 +1,37 @@
+//! Tables whose rows name a setting.
+
+use crate::serve::FOLDER;
+use crate::serve::settings::Setting;
+use std::alloc::Global;
+use std::io;
+use std::rt::Files;
+use test_tools::{Fault, Row, read_table, tell};
+
+/// What the rows of a table come to.
+pub trait Scenes {
+    /// The words that result from what a row is given after its setting.
+    fn answer(alloc: Global, setting: &Setting, given: &str) -> Result<String, Fault>;
+}
+
+/// Plays a table, which is the file of its name with `.txt` after it. Prints for each row the names of the
+/// table and of the row and `ok`, or the words that came in place of those that are expected.
+pub fn play_table<T: Scenes, R: Files + Print + Eprint + AllocGlobal>(
+    rt: &R,
+    settings: &str,
+    name: &str,
+) -> io::Result<()> {
+    let rows = read_table(rt, FOLDER, name)?;
+    for line in rows.lines() {
+        if let Some(row) = Row::read(line) {
+            tell(rt, name, &row, answer::<T>(rt.alloc(), settings, row.given))?;
+        }
+    }
+    Ok(())
+}
+
+/// The words that result from a row.
+fn answer<T: Scenes>(alloc: Global, settings: &str, given: &str) -> Result<String, Fault> {
+    let (name, given) = given.split_once(' ').unwrap_or((given, ""));
+    let setting = Setting::find(alloc, settings, name)?;
+    T::answer(alloc, &setting, given)
+}

@@ -1,0 +1,18 @@
+//! Turns one after another, with the dials and the probes of a node.
+
+use crate::serve::outcome::{Part, words_of};
+use crate::serve::settings::Setting;
+use crate::serve::table::Scenes;
+use std::alloc::Global;
+use test_tools::Fault;
+
+/// The words of a row: how the run ended, the lines, what was written on each connection, and what on each
+/// dial.
+pub struct Rows;
+
+impl Scenes for Rows {
+    fn answer(alloc: Global, setting: &Setting, scene: &str) -> Result<String, Fault> {
+        let parts = [Part::End(" > "), Part::Lines, Part::Written, Part::Dialled];
+        words_of(alloc, setting, scene, &parts)
+    }
+}

@@ -1,0 +1,312 @@
+//! Heads of HTTP messages, and what is read from them, however their bytes come.
+
+use crate::wire::pieces::Pieces;
+use crate::wire::words::{put, put_value};
+use oc_base::Text;
+use oc_http::{
+    Head, HttpFault, Reply, ReplyHead, Verb, read_body, read_head, read_response,
+    read_response_head,
+};
+use oc_io::{MemSource, Source, read_all};
+use std::alloc::Global;
+use test_tools::{Fault, Fields, put_spelled, spelled_in};
+
+/// A longer source is cut at its first and its last places alone.
+const MOST_PLACES: usize = 1000;
+
+/// How many of the first and of the last places these are.
+const EDGE: usize = 4;
+
+/// More bytes than a row has.
+const MOST_BYTES: usize = 2_000_000;
+
+/// What a source is read as.
+#[derive(Clone, Copy)]
+enum Form {
+    Request,
+    Message,
+    Response,
+    Reply,
+    /// A reply of which it is not said how many bytes are left after it.
+    Flood,
+}
+
+/// How a source is read, and the number of its call that fails, 0 where none does.
+#[derive(Clone, Copy)]
+struct Reader {
+    form: Form,
+    failing: u64,
+}
+
+/// Puts the words of a row: what is read, and what is read otherwise where the bytes come in other pieces.
+pub fn put_words(alloc: Global, given: &str, said: &mut String) -> Result<(), Fault> {
+    let (word, text) = given.split_once(' ').unwrap_or((given, ""));
+    let reader = reader_of(word)?;
+    let bytes = spelled_in(alloc, text)?;
+    put_source(alloc, said, reader, &bytes, MOST_BYTES, MOST_BYTES)?;
+    put_alone(alloc, said, reader, &bytes)?;
+    put_cuts(alloc, said, reader, &bytes)
+}
+
+/// Puts what is read from single bytes, where that is something other than the words so far.
+fn put_alone(alloc: Global, said: &mut String, reader: Reader, bytes: &[u8]) -> Result<(), Fault> {
+    let alone = words_of(alloc, reader, bytes, 1, 1)?;
+    if alone.as_str() == said.as_str() {
+        return Ok(());
+    }
+    put(said, ", and byte by byte ")?;
+    put(said, alone.as_str())
+}
+
+/// The reader of a word such as `request`, or `request/7`, where call 7 fails.
+fn reader_of(word: &str) -> Result<Reader, Fault> {
+    let (form, failing) = word.split_once('/').unwrap_or((word, "0"));
+    Ok(Reader {
+        form: form_of(form)?,
+        failing: Fields::of(failing, ' ').number()?,
+    })
+}
+
+fn form_of(word: &str) -> Result<Form, Fault> {
+    match word {
+        "request" => Ok(Form::Request),
+        "message" => Ok(Form::Message),
+        "response" => Ok(Form::Response),
+        "reply" => Ok(Form::Reply),
+        "flood" => Ok(Form::Flood),
+        _ => Err(Fault::Field),
+    }
+}
+
+/// Puts the first place at which a cut has something else read than the words so far.
+fn put_cuts(alloc: Global, said: &mut String, reader: Reader, bytes: &[u8]) -> Result<(), Fault> {
+    let length = bytes.len();
+    for at in 1..length {
+        if length > MOST_PLACES && EDGE <= at && at < length - EDGE {
+            continue;
+        }
+        if put_cut(alloc, said, reader, bytes, at)? {
+            break;
+        }
+    }
+    Ok(())
+}
+
+/// Puts what is read with a cut at this place, where that is something other than the words so far. Says whether it is.
+fn put_cut(
+    alloc: Global,
+    said: &mut String,
+    reader: Reader,
+    bytes: &[u8],
+    at: usize,
+) -> Result<bool, Fault> {
+    let cut = words_of(alloc, reader, bytes, at, MOST_BYTES)?;
+    if cut.as_str() == said.as_str() {
+        return Ok(false);
+    }
+    write!(said, ", and cut at {at} ")?;
+    put(said, cut.as_str())?;
+    Ok(true)
+}
+
+/// The words of what is read, where the bytes come in a piece of this length and then in further ones of
+/// `piece` bytes.
+fn words_of(
+    alloc: Global,
+    reader: Reader,
+    bytes: &[u8],
+    first: usize,
+    piece: usize,
+) -> Result<String, Fault> {
+    let mut said = String::new(alloc);
+    put_source(alloc, &mut said, reader, bytes, first, piece)?;
+    Ok(said)
+}
+
+/// Puts these words.
+fn put_source(
+    alloc: Global,
+    said: &mut String,
+    reader: Reader,
+    bytes: &[u8],
+    first: usize,
+    piece: usize,
+) -> Result<(), Fault> {
+    let source = source_of(alloc, reader.failing, bytes)?;
+    put_all(
+        alloc,
+        said,
+        reader.form,
+        &mut Pieces::new(source, first, piece.max(1)),
+    )
+}
+
+/// A source of these bytes, of which this call fails.
+fn source_of(alloc: Global, failing: u64, bytes: &[u8]) -> Result<MemSource, Fault> {
+    let bytes = bytes.to_vec(alloc)?;
+    Ok(MemSource::new(bytes, vec![in alloc; failing]?))
+}
+
+/// Puts what is read from a source, and how many bytes are left of it.
+fn put_all<S: Source>(
+    alloc: Global,
+    said: &mut String,
+    form: Form,
+    source: &mut S,
+) -> Result<(), Fault> {
+    put_read(alloc, said, form, source)?;
+    match form {
+        Form::Flood => Ok(()),
+        _ => put_rest(alloc, said, source),
+    }
+}
+
+/// Puts how many bytes are left of a source.
+fn put_rest<S: Source>(alloc: Global, said: &mut String, source: &mut S) -> Result<(), Fault> {
+    match read_all(alloc, source, MOST_BYTES) {
+        Ok(rest) => put_value(said, " rest=", rest.len()),
+        Err(_) => Err(Fault::Unready),
+    }
+}
+
+/// Puts what is read from a source.
+fn put_read<S: Source>(
+    alloc: Global,
+    said: &mut String,
+    form: Form,
+    source: &mut S,
+) -> Result<(), Fault> {
+    match form {
+        Form::Request => put_request(alloc, said, source),
+        Form::Message => put_message(alloc, said, source),
+        Form::Response => put_response(alloc, said, source),
+        Form::Reply | Form::Flood => put_whole_response(alloc, said, source),
+    }
+}
+
+/// Puts the head of a request.
+fn put_request<S: Source>(alloc: Global, said: &mut String, source: &mut S) -> Result<(), Fault> {
+    match read_head(alloc, source) {
+        Ok(head) => put_head(said, &head),
+        Err(fault) => put_fault(said, fault),
+    }
+}
+
+/// Puts the head and the body of a request.
+fn put_message<S: Source>(alloc: Global, said: &mut String, source: &mut S) -> Result<(), Fault> {
+    match read_head(alloc, source) {
+        Ok(head) => put_body(alloc, said, source, &head),
+        Err(fault) => put_fault(said, fault),
+    }
+}
+
+/// Puts the head of a request and the body after it.
+fn put_body<S: Source>(
+    alloc: Global,
+    said: &mut String,
+    source: &mut S,
+    head: &Head,
+) -> Result<(), Fault> {
+    match read_body(alloc, source, head) {
+        Ok(body) => {
+            put_head(said, head)?;
+            put(said, " body=")?;
+            put_spelled(said, &body)
+        }
+        Err(fault) => put_fault(said, fault),
+    }
+}
+
+/// Puts the head of a response.
+fn put_response<S: Source>(alloc: Global, said: &mut String, source: &mut S) -> Result<(), Fault> {
+    match read_response_head(alloc, source) {
+        Ok(head) => put_reply_head(said, &head),
+        Err(fault) => put_fault(said, fault),
+    }
+}
+
+/// Puts a response with its body.
+fn put_whole_response<S: Source>(
+    alloc: Global,
+    said: &mut String,
+    source: &mut S,
+) -> Result<(), Fault> {
+    match read_response(alloc, source) {
+        Ok(reply) => put_reply(said, &reply),
+        Err(fault) => put_fault(said, fault),
+    }
+}
+
+fn put_head(said: &mut String, head: &Head) -> Result<(), Fault> {
+    put(
+        said,
+        match head.method {
+            Verb::Get => "method=GET path=",
+            Verb::Head => "method=HEAD path=",
+            Verb::Post => "method=POST path=",
+            Verb::Other => "method=OTHER path=",
+        },
+    )?;
+    put_spelled(said, head.path.items())?;
+    put(said, " query=")?;
+    put_spelled(said, head.query.items())?;
+    put_value(said, " length=", head.length)?;
+    put_value(said, " expects=", head.expects)?;
+    put_value(said, " minor=", head.minor)?;
+    put_value(said, " closes=", head.closes)
+}
+
+fn put_reply_head(said: &mut String, head: &ReplyHead) -> Result<(), Fault> {
+    put_status(said, head.status, &head.location)?;
+    match head.length {
+        Some(length) => put_value(said, " length=", length)?,
+        None => put(said, " length=none")?,
+    }
+    put_value(said, " chunked=", head.chunked)?;
+    put_value(said, " closes=", head.closes)
+}
+
+/// Puts a reply that was read; reading gives neither a content type nor a rule.
+fn put_reply(said: &mut String, reply: &Reply) -> Result<(), Fault> {
+    put_status(said, reply.status, &reply.location)?;
+    put(said, " body=")?;
+    put_spelled(said, reply.body.items())?;
+    if reply.content_type || reply.rule.is_some() {
+        put(said, " and more")?;
+    }
+    Ok(())
+}
+
+fn put_status(said: &mut String, status: u16, location: &Option<Text>) -> Result<(), Fault> {
+    put_value(said, "status=", status)?;
+    put(said, " location=")?;
+    match location {
+        Some(location) => put_spelled(said, location.items()),
+        None => put(said, "none"),
+    }
+}
+
+fn put_fault(said: &mut String, fault: HttpFault) -> Result<(), Fault> {
+    match fault {
+        HttpFault::Coding { both } => put_value(said, "fault=coding both=", both),
+        HttpFault::Length { missing } => put_value(said, "fault=length missing=", missing),
+        HttpFault::Memory => Err(Fault::Memory),
+        _ => put(said, plain_fault(fault)),
+    }
+}
+
+/// The words of a fault without its fields.
+fn plain_fault(fault: HttpFault) -> &'static str {
+    match fault {
+        HttpFault::Source => "fault=source",
+        HttpFault::Ended => "fault=ended",
+        HttpFault::Head => "fault=head",
+        HttpFault::HeadLong => "fault=headlong",
+        HttpFault::Fields => "fault=fields",
+        HttpFault::Host => "fault=host",
+        HttpFault::Coding { .. } => "fault=coding",
+        HttpFault::Length { .. } => "fault=length",
+        HttpFault::BodyLong => "fault=bodylong",
+        HttpFault::Memory => "fault=memory",
+    }
+}

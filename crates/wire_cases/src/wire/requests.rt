@@ -1,0 +1,62 @@
+//! Requests that bring messages.
+
+ghost use Rattle.oc_wire.specs.Spelling.{HasSpelling};
+
+use crate::wire::words::{put, put_message, put_text, put_wire_fault};
+use oc_wire::{HttpWireFault, Message, decode, from_http, to_http};
+use std::alloc::Global;
+use test_tools::{Fault, Fields, spelled_in};
+
+/// Puts the words of a row: what a request brings, or the request of a message.
+pub fn put_words(alloc: Global, given: &str, said: &mut String) -> Result<(), Fault> {
+    let (word, rest) = given.split_once(' ').unwrap_or((given, ""));
+    match word {
+        "to" => put_written(alloc, Fields::of(rest, ' '), said),
+        "from" => put_read(alloc, rest, said),
+        _ => Err(Fault::Field),
+    }
+}
+
+/// Puts the request to a host that brings the message of these bytes.
+fn put_written(alloc: Global, mut fields: Fields<'_>, said: &mut String) -> Result<(), Fault> {
+    let host = fields.text();
+    let bytes = fields.bytes(alloc)?;
+    match decode(alloc, &bytes, 1024) {
+        Ok(message) => put_request(alloc, &message, host, said),
+        Err(_) => Err(Fault::Field),
+    }
+}
+
+fn put_request(alloc: Global, message: &Message, host: &str, said: &mut String) -> Result<(), Fault>
+    requires { HasSpelling message.now.body }
+{
+    match host {
+        "node2" => put_text(said, to_http(alloc, message, "node2")),
+        "127.0.0.1:7002" => put_text(said, to_http(alloc, message, "127.0.0.1:7002")),
+        _ => Err(Fault::Field),
+    }
+}
+
+/// Puts what the request of a text brings to some nodes.
+fn put_read(alloc: Global, given: &str, said: &mut String) -> Result<(), Fault> {
+    let (nodes, text) = given.split_once(' ').unwrap_or((given, ""));
+    let nodes = Fields::of(nodes, ' ').small()?;
+    let bytes = spelled_in(alloc, text)?;
+    match from_http(alloc, &bytes, nodes) {
+        Ok(message) => put_message(said, &message),
+        Err(fault) => put_fault(said, fault),
+    }
+}
+
+/// Puts the words of a request that brings no message.
+pub fn put_fault(said: &mut String, fault: HttpWireFault) -> Result<(), Fault> {
+    match fault {
+        HttpWireFault::NotHttp => put(said, "nothttp"),
+        HttpWireFault::Route => put(said, "route"),
+        HttpWireFault::Wire(fault) => {
+            put(said, "wire ")?;
+            put_wire_fault(said, fault)
+        }
+        HttpWireFault::Memory => Err(Fault::Memory),
+    }
+}

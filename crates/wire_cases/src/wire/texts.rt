@@ -1,0 +1,140 @@
+//! The texts of requests and replies.
+
+ghost use Rattle.std.specs.Prelude.{IfOk, IsTrue};
+ghost use Rattle.oc_http.specs.Writing.{HasPhrase};
+
+use crate::wire::words::put_text;
+use oc_base::{Bytes, Text};
+use oc_http::{
+    Connection, Framing, Reply, write_follow, write_get, write_probe, write_reply_head,
+    write_request, write_response, write_response_head,
+};
+use std::alloc::Global;
+use test_tools::{Fault, Fields, spelled_in};
+
+/// Puts the words of a row: the text that is written.
+pub fn put_words(alloc: Global, given: &str, said: &mut String) -> Result<(), Fault> {
+    let mut fields = Fields::of(given, ' ');
+    match fields.text() {
+        "request" => put_request(alloc, fields, said),
+        "get" => put_get(alloc, fields, said),
+        "probe" => put_text(said, write_probe(alloc, fields.text())),
+        "follow" => put_follow(alloc, fields, said),
+        "reply" => put_reply(alloc, fields, said),
+        "head" => put_head(alloc, fields, said),
+        "stream" => put_stream(alloc, fields, said),
+        _ => Err(Fault::Field),
+    }
+}
+
+fn put_request(alloc: Global, mut fields: Fields<'_>, said: &mut String) -> Result<(), Fault> {
+    if fields.text() != "node2" {
+        return Err(Fault::Field);
+    }
+    let body = spelled_in(alloc, fields.text())?;
+    put_text(said, write_request(alloc, "node2", &body))
+}
+
+fn put_get(alloc: Global, mut fields: Fields<'_>, said: &mut String) -> Result<(), Fault> {
+    let path = fields.text();
+    let query = some_text(fields.text());
+    put_text(said, write_get(alloc, path, query, fields.text()))
+}
+
+fn put_follow(alloc: Global, mut fields: Fields<'_>, said: &mut String) -> Result<(), Fault> {
+    let path = fields.text();
+    let start = fields.number()?;
+    let area = some_text(fields.text());
+    put_text(said, write_follow(alloc, path, start, area, fields.text()))
+}
+
+fn put_reply(alloc: Global, fields: Fields<'_>, said: &mut String) -> Result<(), Fault> {
+    let reply = reply_in(alloc, fields)?;
+    put_text(said, write_response(alloc, &reply))
+}
+
+fn put_head(alloc: Global, mut fields: Fields<'_>, said: &mut String) -> Result<(), Fault> {
+    let length = fields.number()?;
+    let reply = reply_in(alloc, fields)?;
+    put_text(said, write_response_head(alloc, &reply, length))
+}
+
+fn put_stream(alloc: Global, mut fields: Fields<'_>, said: &mut String) -> Result<(), Fault> {
+    let framing = framing_in(fields.text())?;
+    let connection = connection_in(fields.text())?;
+    let reply = reply_in(alloc, fields)?;
+    put_text(said, write_reply_head(alloc, &reply, framing, connection))
+}
+
+fn framing_in(text: &str) -> Result<Framing, Fault> {
+    match text {
+        "chunked" => Ok(Framing::Chunked),
+        length => Ok(Framing::Length(Fields::of(length, ' ').number()?)),
+    }
+}
+
+fn connection_in(text: &str) -> Result<Connection, Fault> {
+    match text {
+        "close" => Ok(Connection::Close),
+        "keep" => Ok(Connection::Keep),
+        _ => Err(Fault::Field),
+    }
+}
+
+/// The reply of the next fields: its status, its location, whether it has a content type, the rule, and the
+/// body.
+fn reply_in(alloc: Global, mut fields: Fields<'_>) -> Result<Reply, Fault>
+    ensures { IfOk result (λ reply. HasPhrase reply.status) }
+{
+    let status = status_in(fields.small()?)?;
+    let location = fields.text();
+    let content_type = fields.text() == "octets";
+    let rule = rule_in(fields.text())?;
+    let location = location_in(alloc, location)?;
+    Ok(Reply {
+        status,
+        location,
+        content_type,
+        body: Bytes::of(spelled_in(alloc, fields.text())?),
+        rule,
+    })
+}
+
+/// A status that has a phrase.
+fn status_in(number: u32) -> Result<u16, Fault>
+    ensures { IfOk result (λ status. HasPhrase status) }
+{
+    match u16::try_from(number) {
+        Ok(status) if has_phrase(status) => Ok(status),
+        _ => Err(Fault::Field),
+    }
+}
+
+fn location_in(alloc: Global, text: &str) -> Result<Option<Text>, Fault> {
+    match some_text(text) {
+        Some(text) => Ok(Some(Text::of(spelled_in(alloc, text)?))),
+        None => Ok(None),
+    }
+}
+
+fn rule_in(text: &str) -> Result<Option<u32>, Fault> {
+    match some_text(text) {
+        Some(text) => Ok(Some(Fields::of(text, ' ').small()?)),
+        None => Ok(None),
+    }
+}
+
+/// The text, or none for `-`.
+fn some_text(text: &str) -> Option<&str> {
+    if text == "-" { None } else { Some(text) }
+}
+
+/// Whether a status has a phrase.
+fn has_phrase(status: u16) -> bool
+    ensures { IsTrue result → HasPhrase status }
+{
+    matches!(
+        status,
+        200 | 204 | 302 | 400 | 403 | 404 | 405 | 411 | 413 | 431 | 501
+    )
+}

@@ -37,7 +37,6 @@
 
 mod change_log;
 mod children;
-mod freest;
 mod last_put;
 mod leases;
 mod listing;
@@ -47,6 +46,7 @@ mod measure_lines;
 mod measures;
 mod post;
 mod preference;
+mod redirection_law;
 mod rows;
 mod selecting;
 mod table;
@@ -54,7 +54,6 @@ mod waiting;
 mod walk;
 
 pub use change_log::ChangeLog;
-pub use freest::the_freest_listed_is_selected;
 pub use last_put::what_was_put_last_is_got;
 pub use leases::{LEASE_TIME, Leases};
 pub use locating::{follow_location, location};
@@ -62,5 +61,6 @@ pub use measure_fault::MeasureFault;
 pub use measure_lines::{Measure, read_lines};
 pub use measures::Measures;
 pub use oc_base::Line;
+pub use redirection_law::the_freest_listed_is_selected;
 pub use selecting::select;
 pub use table::Table;

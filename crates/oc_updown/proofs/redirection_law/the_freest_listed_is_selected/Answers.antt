@@ -1,5 +1,5 @@
 use Rattle.oc_updown.proofs.Server.{selected_best, selected_none}
-use Rattle.oc_updown.proofs.freest.the_freest_listed_is_selected.Goals as goal
+use Rattle.oc_updown.proofs.redirection_law.the_freest_listed_is_selected.Goals as goal
 
 pub returns-clause-some : goal.returns-clause-some
 returns-clause-some c = selected_best

@@ -2,17 +2,17 @@ use Rattle.std.proofs.Common.{◌≡◌, ℕ, ◌+◌, ◌-◌, ◌≤◌, Bool,
 use Rattle.std.specs.List.{slice_split, onto_first, position, position_or_len}
 use Rattle.std.proofs.lemmas.List.Splits.{slice_split_first, slice_split-cons_no}
 use Rattle.std.proofs.lemmas.List.{take_all}
-use Rattle.std.proofs.lemmas.Bool.{ltb-true}
+use Rattle.std.proofs.lemmas.Bool.{ltb-true, cases_Bool}
 use Rattle.std.proofs.lemmas.Bool.Decides.{nat_tests}
 
-true_or_false : (b : Bool) → (b ≡ true) ⊎ (b ≡ false)
-true_or_false true = inl refl
-true_or_false false = inr refl
+-- What a choice that gave a number, or none, was made by.
 
+-- a test that gave a number passed
 some_from_cond : (b : Bool) (n i : ℕ) → cond b (Some n) None ≡ Some i → (b ≡ true) × (n ≡ i)
 some_from_cond true n i h = (refl, cc)
 some_from_cond false n i h = cc
 
+-- a test that gave none did not pass
 none_from_cond : (b : Bool) (n : ℕ) → cond b (Some n) None ≡ None → b ≡ false
 none_from_cond true n h = cc
 none_from_cond false n h = refl
@@ -20,7 +20,7 @@ none_from_cond false n h = refl
 -- where no element passes before the end, there is one part
 split_past_end : (p : ℕ → Bool) (xs : List ℕ) → length xs ≤ position_or_len p xs → slice_split p xs ≡ xs ∷ []
 split_past_end p [] h = refl
-split_past_end p (x ∷ xs) h = elim (true_or_false (p x)) [
+split_past_end p (x ∷ xs) h = elim (cases_Bool (p x)) [
   | inl e ↦ let short : 0 ≡ position_or_len p (x ∷ xs) = rw e refl in absurd (omega (arith, h))
   | inr e ↦
       let deep : position_or_len p (x ∷ xs) ≡ position_or_len p xs + 1 = rw e (grind arith) in

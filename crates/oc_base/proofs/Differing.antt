@@ -1,19 +1,17 @@
 -- No row has the code of an earlier one exactly where no two have one code.
 use Rattle.std.proofs.Common.{◌≡◌, ◌≢◌, ℕ, suc, ◌==◌, Bool, true, false, not, ◌&&◌, List, [], ◌∷◌, refl, sym, ◌∙◌, arith, IsTrue, ◌↔◌}
 use Rattle.std.specs.List.{All, list_all}
+use Rattle.std.proofs.lemmas.Bool.{and_parts}
 use Rattle.std.proofs.lemmas.List.Kept.{AllPairs-cons}
 use Rattle.std.proofs.lemmas.List.Sums.{AllPass-from_list_all, list_all-from_AllPass}
 use Rattle.oc_base.specs.declared.code_row.CodeRow.{CodeRow}
 use Rattle.oc_base.specs.Codes.{AreDistinct, are_distinct}
 
-both_true : (a b : Bool) → (a && b) ≡ true → (a ≡ true) × (b ≡ true)
-both_true true b h = (refl, h)
-both_true false b h = absurd cc
-
 -- a test that two numbers differ
 not_equal : (a b : ℕ) → not (a == b) ≡ true → b ≢ a
 not_equal a b h = λ same. grind (arith, h, same)
 
+-- two numbers that differ pass the test
 are_different : (a b : ℕ) → b ≢ a → not (a == b) ≡ true
 are_different a b h = grind (arith, h)
 
@@ -25,7 +23,7 @@ all_other row rows h = λ k d lt. not_equal _ _ (AllPass-from_list_all _ rows h 
 pub distinct_by_test : (rows : List CodeRow) → are_distinct rows ≡ true → AreDistinct rows
 distinct_by_test [] h = λ i j d lt within. absurd (omega arith)
 distinct_by_test (row ∷ rows) h =
-    let b = both_true _ _ h in
+    let b = and_parts _ _ h in
     AllPairs-cons (λ a b. a.code ≢ b.code) row rows (all_other row rows b.0) (distinct_by_test rows b.1)
 
 -- and only where it is so

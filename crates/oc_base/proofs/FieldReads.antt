@@ -77,6 +77,7 @@ flag_is zero le = refl
 flag_is (suc zero) le = refl
 flag_is (suc (suc n)) le = absurd (omega (arith, le))
 
+-- a flag that is read is there
 flag_takes : (bytes : List ℕ) → IsBytes bytes → (at : ℕ) (b : Bool) (next : ℕ) → flag_at bytes at ≡ Ok (b, next) → Takes bytes at (flag b) next
 unfolding flag_at
 flag_takes bytes fits at b next e =
@@ -86,6 +87,7 @@ flag_takes bytes fits at b next e =
     let made : Bool × ℕ = (x.0.0 == 1, x.0.1) in
     subst (λ (y : Bool × ℕ). Takes bytes at (flag y.0) y.1) (ok_is made (b, next) x.2) (subst (λ (text : List ℕ). Takes bytes at text x.0.1) (flag_is x.0.0 t.0.1) t.1)
 
+-- a flag that is there is read
 flag_again : (bytes : List ℕ) → (at : ℕ) (b : Bool) (next : ℕ) → Takes bytes at (flag b) next → flag_at bytes at ≡ Ok (b, next)
 unfolding flag_at
 flag_again bytes at true next t = rw ((reads_byte_within 0 1 0 bytes (omega arith)).again (omega arith) at 1 next (omega arith, omega arith) t) refl
@@ -103,6 +105,7 @@ pub record ReadsCounted {A : Type 0} (nodes : ℕ) (bytes : List ℕ) (read : �
   pub takes : IsBytes bytes → (count at : ℕ) (xs : List A) (next : ℕ) → read count at ≡ Ok (xs, next) → (length xs ≡ count) × IsLawful xs × Takes bytes at (text xs) next
   pub again : nodes < 2 ^ 32 → (at : ℕ) (xs : List A) (next : ℕ) → at ≤ length bytes → IsLawful xs → Takes bytes at (text xs) next → read (length xs) at ≡ Ok (xs, next)
 
+-- a count of bytes that is read is there
 text_takes : (bytes : List ℕ) (count at : ℕ) (text : List ℕ) (next : ℕ) → text_at bytes count at ≡ Ok (text, next) → (length text ≡ count) × Takes bytes at text next
 unfolding text_at
 text_takes bytes count at text next e =
@@ -118,6 +121,7 @@ text_takes bytes count at text next e =
       },
     )
 
+-- bytes that are there are read
 text_again : (bytes : List ℕ) (at : ℕ) (text : List ℕ) (next : ℕ) → at ≤ length bytes → Takes bytes at text next → text_at bytes (length text) at ≡ Ok (text, next)
 unfolding text_at
 text_again bytes at text next within t =

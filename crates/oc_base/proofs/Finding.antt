@@ -5,12 +5,8 @@ use Rattle.std.specs.Cmp.Lexicographic.{slice_cmp}
 use Rattle.std.proofs.lemmas.List.{take_more, drop_all}
 use Rattle.std.proofs.Math.Seq.{drop-cons}
 use Rattle.oc_base.specs.Named.{AreAbove, AreAscending, IsFoundAt, IsFreeAt}
+use Rattle.oc_base.proofs.Each.{all_append}
 use Rattle.oc_base.proofs.NameOrder.{names_tied, names_rise}
-
--- what holds of the elements of two lists holds of those of both in a row
-all_append : {A : Type 0} (P : A → Type 0) (xs ys : List A) → AllByRecursion P xs → AllByRecursion P ys → AllByRecursion P (xs ++ ys)
-all_append P [] ys ps qs = qs
-all_append P (x ∷ xs) ys ps qs = (ps.0, all_append P xs ys ps.1 qs)
 
 -- what is above a name is above a lesser one
 pub above_lower : {A : Type 0} (name : A → List ℕ) (a b : List ℕ) (xs : List A) → slice_cmp nat_cmp a b ≡ Less → AreAbove name b xs → AreAbove name a xs

@@ -2,6 +2,7 @@ pub mod Cuts
 pub mod Pads
 pub mod Differing
 pub mod NameOrder
+pub mod Each
 pub mod Finding
 pub mod LineCuts
 pub mod FieldRuns

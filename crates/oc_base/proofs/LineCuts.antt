@@ -10,6 +10,7 @@ use Rattle.std.proofs.lemmas.List.Splits.{join_with_byte-slice_split, length-sli
 whole_from_one : (bytes last : List ℕ) → slice_split (λ b. b == 10) bytes ≡ last ∷ [] → last ≡ bytes
 whole_from_one bytes last h = sym (ap (join_with_byte 10) h) ∙ join_with_byte-slice_split 10 bytes
 
+-- one part that is not empty is one line
 one_part : (last : List ℕ) → 0 < length last → lines_of_parts (last ∷ []) ≡ last ∷ []
 one_part last some = grind (arith, nat_tests)
 
@@ -19,6 +20,7 @@ lines_last bytes last some h =
     let same = ap length (whole_from_one bytes last h) in
     ap lines_of_parts h ∙ one_part last (omega (arith, same))
 
+-- a part before others is a line before theirs
 part_more : (line : List ℕ) (parts : List (List ℕ)) → 0 < length parts → lines_of_parts (line ∷ parts) ≡ strip_carriage_return line ∷ lines_of_parts parts
 part_more line [] some = absurd (omega arith)
 part_more line (part ∷ parts) some = refl

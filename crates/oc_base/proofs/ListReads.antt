@@ -57,14 +57,17 @@ reads_items nodes bytes read text P kept reads before = record {
 abbrev pub OfUnit : {A : Type 0} → (A → Type 0) → Unit {0} → A → Type 0
 OfUnit P before x = P x
 
+-- items that don't depend on one another are each lawful
 all_of_follow : {A : Type 0} (P : A → Type 0) (xs : List A) → Follow (OfUnit P) (λ item. tt) tt xs → AllByRecursion P xs
 all_of_follow P [] h = tt
 all_of_follow P (x ∷ xs) h = (h.0, all_of_follow P xs h.1)
 
+-- and lawful ones follow one another
 follow_of_all : {A : Type 0} (P : A → Type 0) (xs : List A) → AllByRecursion P xs → Follow (OfUnit P) (λ item. tt) tt xs
 follow_of_all P [] h = tt
 follow_of_all P (x ∷ xs) h = (h.0, follow_of_all P xs h.1)
 
+-- reading such items gives exactly the lawful ones that are there
 pub reads_each : {A : Type 0} (nodes : ℕ) (bytes : List ℕ) (read : ℕ → Reading A) (text : A → List ℕ) (P : A → Type 0) → Reads nodes bytes read text P → ReadsCounted nodes bytes (each_at read) (flat_map text) (AllByRecursion P)
 reads_each nodes bytes read text P reads =
     let r = reads_items nodes bytes (λ before. read) text (OfUnit P) (λ item. tt) (λ before. reads) tt in

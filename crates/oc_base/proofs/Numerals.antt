@@ -14,10 +14,12 @@ use Rattle.oc_base.specs.Words.{is_number}
 
 -- What std's `parse` says of a field that is spelled as a number.
 
-abbrev AreDigits : List ℕ → Type 0
+-- digits
+abbrev pub AreDigits : List ℕ → Type 0
 AreDigits field = list_all is_ascii_digit field ≡ true
 
-numerals : IsNumeralModel AreDigits (digits_value 10)
+-- what std asks of digits and their value
+pub numerals : IsNumeralModel AreDigits (digits_value 10)
 numerals = numerals_by_value AreDigits (search rules)
 
 -- a number has some digits, and nothing else
@@ -33,7 +35,8 @@ pub IsUtf8-number : (field : List ℕ) → is_number field ≡ true → IsUtf8 f
 IsUtf8-number field spelled =
     IsUtf8-from_ascii field (IsAscii-from_digits field (numerals.to field (digits_from_number field spelled).1))
 
-some_from_ok : {E : Type 0} (r : Result ℕ E) (P Q : Type 0) (v : ℕ) → P → OkIff r (P × Q) v → SomeIff (result_ok r) Q v
+-- a number that is read is one that is parsed
+pub some_from_ok : {E : Type 0} (r : Result ℕ E) (P Q : Type 0) (v : ℕ) → P → OkIff r (P × Q) v → SomeIff (result_ok r) Q v
 some_from_ok (Ok n) P Q v p h = (h.0.1, h.1)
 some_from_ok (Err e) P Q v p h = λ q. h (p, q)
 

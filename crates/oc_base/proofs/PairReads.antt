@@ -15,6 +15,7 @@ use Rattle.oc_base.proofs.FieldReads.{Reads, reads_within, reads_id, reads_count
 abbrev pub pair_at : {A B : Type 0} → (ℕ → Reading A) → (ℕ → Reading B) → ℕ → Reading (A × B)
 pair_at first second at = two_fields first second (λ a b. (a, b)) at
 
+-- reading a pair gives exactly the lawful pairs that are there
 pub reads_pair : {A B : Type 0} {nodes : ℕ} {bytes : List ℕ} {first : ℕ → Reading A} {second : ℕ → Reading B} {ta : A → List ℕ} {tb : B → List ℕ} {P : A → Type 0} {Q : B → Type 0} → Reads nodes bytes first ta P → Reads nodes bytes second tb Q
     → Reads nodes bytes (pair_at first second) (λ x. ta x.0 ++ tb x.1) (λ x. P x.0 × Q x.1)
 reads_pair {A = A} {B = B} {bytes = bytes} {first = first} {second = second} {ta = ta} {tb = tb} {P = P} {Q = Q} r s = record {
@@ -41,12 +42,15 @@ bind_assoc (Err fault) f g = refl
 pub two_are : {A B Y : Type 0} (r : ℕ → Reading A) (s : ℕ → Reading B) (make : A → B → Y) (at : ℕ) → two_fields r s make at ≡ one_field (pair_at r s) (λ x. make x.0 x.1) at
 two_are r s make at = sym (simp bind_assoc)
 
+-- and so with three fields
 pub three_are : {A B C Y : Type 0} (r : ℕ → Reading A) (s : ℕ → Reading B) (t : ℕ → Reading C) (make : A → B → C → Y) (at : ℕ) → three_fields r s t make at ≡ one_field (pair_at (pair_at r s) t) (λ x. make x.0.0 x.0.1 x.1) at
 three_are r s t make at = sym (simp bind_assoc)
 
+-- with four
 pub four_are : {A B C D Y : Type 0} (r : ℕ → Reading A) (s : ℕ → Reading B) (t : ℕ → Reading C) (u : ℕ → Reading D) (make : A → B → C → D → Y) (at : ℕ) → four_fields r s t u make at ≡ one_field (pair_at (pair_at (pair_at r s) t) u) (λ x. make x.0.0.0 x.0.0.1 x.0.1 x.1) at
 four_are r s t u make at = sym (simp bind_assoc)
 
+-- and with six
 pub six_are : {A B C D E G Y : Type 0} (r : ℕ → Reading A) (s : ℕ → Reading B) (t : ℕ → Reading C) (u : ℕ → Reading D) (v : ℕ → Reading E) (w : ℕ → Reading G) (make : A → B → C → D → E → G → Y) (at : ℕ)
     → six_fields r s t u v w make at ≡ one_field (pair_at (pair_at (pair_at (pair_at (pair_at r s) t) u) v) w) (λ x. make x.0.0.0.0.0 x.0.0.0.0.1 x.0.0.0.1 x.0.0.1 x.0.1 x.1) at
 six_are r s t u v w make at = sym (simp bind_assoc)

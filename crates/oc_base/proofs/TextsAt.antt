@@ -1,7 +1,7 @@
 -- Texts and numbers at an index of bytes.
 use Rattle.std.proofs.Common.{◌≡◌, ℕ, ◌+◌, ◌^◌, ◌<◌, ◌≤◌, Bool, true, false, cond, ltb, ◌||◌, List, [], ◌∷◌, ◌++◌, length, get_or, take, drop, Result, Ok, Err, refl, sym, ap, subst, ◌∙◌, append_assoc, arith, inl, inr}
 use Rattle.std.specs.Int.{Width, w8, w16, w32, w64, byte_len, from_be_bytes, to_be_bytes}
-use Rattle.std.proofs.lemmas.Bool.{cases_lt, ltb-false, le-ltb}
+use Rattle.std.proofs.lemmas.Bool.{cases_lt, ltb-false, le-ltb, or_parts}
 use Rattle.std.proofs.lemmas.List.{take_at, drop_at, drop-drop, take-append-drop, length-append, length-drop, length-take, get_or-drop, get_or-take, get_or_past}
 use Rattle.std.proofs.lemmas.Nat.{be_bytes_2, be_bytes_4, be_bytes_8, from_be_bytes-to_be_bytes_2, from_be_bytes-to_be_bytes_4, from_be_bytes-to_be_bytes_8}
 use Rattle.oc_base.specs.declared.field.Short.{Short}
@@ -15,9 +15,11 @@ use Rattle.oc_base.specs.Reading.{or_short, within_at}
 abbrev pub IsBytes : List ℕ → Type 0
 IsBytes bytes = (i : ℕ) → get_or bytes i 0 < 256
 
+-- bytes after others are bytes
 IsBytes-drop : (n : ℕ) (bytes : List ℕ) → IsBytes bytes → IsBytes (drop n bytes)
 IsBytes-drop n bytes h i = rw get_or-drop (h (n + i))
 
+-- bytes before others are bytes
 IsBytes-take : (n : ℕ) (bytes : List ℕ) → IsBytes bytes → IsBytes (take n bytes)
 IsBytes-take n bytes h i =
     elim (cases_lt i n) [
@@ -49,6 +51,7 @@ pub record Takes (bytes : List ℕ) (at : ℕ) (text : List ℕ) (next : ℕ) : 
   pub there : IsAt bytes at text
   pub moved : next ≡ at + length text
 
+-- two texts one after the other are one
 pub takes_both : (bytes : List ℕ) (at : ℕ) (a : List ℕ) (mid : ℕ) (b : List ℕ) (next : ℕ) → Takes bytes at a mid → Takes bytes mid b next → Takes bytes at (a ++ b) next
 takes_both bytes at a mid b next s t = record {
   there = both_at bytes at a b s.there (subst (λ (k : ℕ). IsAt bytes k b) s.moved t.there);
@@ -59,9 +62,11 @@ takes_both bytes at a mid b next s t = record {
 pub takes_first : (bytes : List ℕ) (at : ℕ) (a b : List ℕ) (next : ℕ) → Takes bytes at (a ++ b) next → Takes bytes at a (at + length a)
 takes_first bytes at a b next t = record { there = first_at bytes at a b t.there; moved = refl }
 
+-- and the second of two texts one after the other
 pub takes_second : (bytes : List ℕ) (at : ℕ) (a b : List ℕ) (next : ℕ) → Takes bytes at (a ++ b) next → Takes bytes (at + length a) b next
 takes_second bytes at a b next t = record { there = second_at bytes at a b t.there; moved = omega (arith, t.moved, length-append a b) }
 
+-- an empty text is everywhere
 pub takes_nothing : (bytes : List ℕ) (at : ℕ) → Takes bytes at [] at
 takes_nothing bytes at = record { there = (drop at bytes, refl); moved = omega arith }
 
@@ -75,9 +80,11 @@ pub tested : {A F : Type 0} (b : Bool) (x z : Result A F) (y : A) (Q : Type 0) �
 tested true x z y Q e f g = f refl e
 tested false x z y Q e f g = g e
 
+-- a value that was read
 abbrev pub done : {A : Type 0} → A → Result A FieldFault
 done x = Ok x
 
+-- values that were read alike are one
 pub ok_is : {A : Type 0} (x y : A) → done x ≡ done y → x ≡ y
 ok_is x y e = cc
 
@@ -86,10 +93,7 @@ pub guard_ok : {A F : Type 0} (b : Bool) (fault : F) (x y : A) → cond b (Err f
 guard_ok true fault x y e = absurd cc
 guard_ok false fault x y e = (refl, cc)
 
-both_false : (a b : Bool) → (a || b) ≡ false → (a ≡ false) × (b ≡ false)
-both_false true b e = absurd cc
-both_false false b e = (refl, e)
-
+-- a field that is not cut off was read
 not_short : {A : Type 0} (r : Result A Short) (x : A) → or_short r ≡ Ok x → r ≡ Ok x
 not_short (Ok y) x e = cc
 not_short (Err short) x e = absurd cc
@@ -104,11 +108,13 @@ pub record IsWide (w : Width) (limit : ℕ) : Type 0 where
   pub again : (n : ℕ) → n < limit → from_be_bytes w (to_be_bytes w n) ≡ n
   pub below : (bytes : List ℕ) → IsBytes bytes → from_be_bytes w bytes < limit
 
+-- one byte is spelled as the number that it is
 one_back : (bytes : List ℕ) → length bytes ≡ 1 → IsBytes bytes → to_be_bytes w8 (from_be_bytes w8 bytes) ≡ bytes
 one_back [] len fits = absurd cc
 one_back (b ∷ []) len fits = ap (λ (x : ℕ). x ∷ []) (omega (arith, fits 0))
 one_back (b ∷ c ∷ bytes) len fits = absurd (omega (arith, len))
 
+-- one byte has all numbers below 2^8
 pub wide8 : IsWide w8 (2 ^ 8)
 wide8 = record {
   some = omega arith;
@@ -118,6 +124,7 @@ wide8 = record {
   below = λ bytes fits. omega (arith, fits 0);
 }
 
+-- two bytes those below 2^16
 pub wide16 : IsWide w16 (2 ^ 16)
 wide16 = record {
   some = omega arith;
@@ -127,6 +134,7 @@ wide16 = record {
   below = λ bytes fits. omega (arith, fits 0, fits 1);
 }
 
+-- four bytes those below 2^32
 pub wide32 : IsWide w32 (2 ^ 32)
 wide32 = record {
   some = omega arith;
@@ -136,6 +144,7 @@ wide32 = record {
   below = λ bytes fits. omega (arith, fits 0, fits 1, fits 2, fits 3);
 }
 
+-- eight bytes those below 2^64
 pub wide64 : IsWide w64 (2 ^ 64)
 wide64 = record {
   some = omega arith;
@@ -172,15 +181,17 @@ number_again w limit wide bytes at n next lt t =
 
 -- Numbers within a range
 
+-- a number in range that is read is there, and in range
 pub within_takes : (w : Width) (limit : ℕ) (wide : IsWide w limit) (least most : ℕ) (bytes : List ℕ) (at n next : ℕ) → IsBytes bytes → within_at w least most bytes at ≡ Ok (n, next) → Takes bytes at (to_be_bytes w n) next × (least ≤ n) × (n ≤ most)
 unfolding within_at
 within_takes w limit wide least most bytes at n next fits e =
     let b = bind_ok (or_short (number_at w bytes at)) (λ x. cond (ltb x.0 least || ltb most x.0) (Err faults.Value) (Ok x)) (n, next) e in
     let g = guard_ok (ltb b.0.0 least || ltb most b.0.0) faults.Value b.0 (n, next) b.2 in
-    let within = both_false _ _ g.0 in
+    let within = or_parts _ _ g.0 in
     let t = number_takes w limit wide bytes at b.0.0 b.0.1 fits b.1 in
     subst (λ (y : ℕ × ℕ). Takes bytes at (to_be_bytes w y.0) y.1 × (least ≤ y.0) × (y.0 ≤ most)) g.1 (t.0, ltb-false _ _ within.0, ltb-false _ _ within.1)
 
+-- a number in range that is there is read
 pub within_again : (w : Width) (limit : ℕ) (wide : IsWide w limit) (least most : ℕ) (bytes : List ℕ) (at n next : ℕ) → n < limit → least ≤ n → n ≤ most → Takes bytes at (to_be_bytes w n) next → within_at w least most bytes at ≡ Ok (n, next)
 unfolding within_at
 within_again w limit wide least most bytes at n next lt least_le le_most t =

@@ -4,8 +4,8 @@ use Rattle.std.specs.List.{AllPairs, list_all, position}
 use Rattle.oc_base.specs.declared.code_row.CodeRow.{CodeRow}
 
 -- the place of the first row with this code
-abbrev pub place_of : ℕ → List CodeRow → Option ℕ
-place_of code rows = position (λ row. row.code == code) rows
+abbrev pub row_of : ℕ → List CodeRow → Option ℕ
+row_of code rows = position (λ row. row.code == code) rows
 
 -- no two rows have one code
 abbrev pub AreDistinct : List CodeRow → Type 0

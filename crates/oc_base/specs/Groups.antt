@@ -17,6 +17,7 @@ abbrev pub with_group : Group → List Group → List Group
 with_group g [] = g ∷ []
 with_group g (k ∷ ks) = match_ordering (slice_cmp nat_cmp g.name k.name) (g ∷ k ∷ ks) (g ∷ ks) (k ∷ with_group g ks)
 
+-- this group, or an empty one of this name
 abbrev pub or_empty : List ℕ → Option Group → Group
 or_empty g None = record { name = g; bytes = []; sealed = false }
 or_empty g (Some k) = k

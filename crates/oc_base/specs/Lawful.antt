@@ -12,9 +12,11 @@ use Rattle.oc_base.specs.declared.refusal.Refusal.TheVariants as refusals
 abbrev pub IsNode : ℕ → ℕ → Type 0
 IsNode nodes x = (1 ≤ x) × (x ≤ nodes)
 
+-- ids of nodes
 abbrev pub AreNodes : ℕ → List ℕ → Type 0
 AreNodes nodes xs = AllByRecursion (IsNode nodes) xs
 
+-- no id, or that of a node
 abbrev pub IsNodeOrNone : ℕ → Option ℕ → Type 0
 IsNodeOrNone nodes None = Unit {0}
 IsNodeOrNone nodes (Some x) = IsNode nodes x
@@ -23,16 +25,19 @@ IsNodeOrNone nodes (Some x) = IsNode nodes x
 abbrev pub IsRate : ℕ → Type 0
 IsRate r = r ≤ MAX_RATE
 
--- a number of 64 bits, and one that is not 0
+-- a number of 64 bits
 abbrev pub IsLong : ℕ → Type 0
 IsLong n = n < 2 ^ 64
 
+-- a number of 64 bits that is not 0
 abbrev pub IsCount : ℕ → Type 0
 IsCount n = (1 ≤ n) × (n < 2 ^ 64)
 
+-- an epoch of 64 bits, and a depth within its limit
 abbrev pub IsRank : Rank → Type 0
 IsRank r = IsLong r.epoch × (r.depth ≤ MAX_DEPTH)
 
+-- no rank, or one within its limits
 abbrev pub IsRankOrNone : Option Rank → Type 0
 IsRankOrNone None = Unit {0}
 IsRankOrNone (Some r) = IsRank r
@@ -45,9 +50,11 @@ pub record IsCert (nodes : ℕ) (c : Cert) : Type 0 where
   pub number : IsLong c.number
   pub clients : IsLong c.clients
 
+-- such certificates
 abbrev pub AreCerts : ℕ → List Cert → Type 0
 AreCerts nodes cs = AllByRecursion (IsCert nodes) cs
 
+-- ids of nodes, of which a node may keep as many as ancestors
 abbrev pub AreAncestors : ℕ → List ℕ → Type 0
 AreAncestors nodes xs = AreNodes nodes xs × (length xs ≤ MAX_ANCESTORS)
 

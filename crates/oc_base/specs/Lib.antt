@@ -14,4 +14,4 @@ pub mod Steps
 pub mod Words
 pub mod Spelling
 pub mod Reading
-pub mod RowsView
+pub mod SlotsView

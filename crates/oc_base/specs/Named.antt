@@ -4,8 +4,8 @@ use Rattle.std.specs.List.{AllByRecursion}
 use Rattle.std.specs.declared.cmp.Ordering.TheVariants.{Less, Greater}
 use Rattle.std.specs.Ordering.{nat_cmp, is_eq}
 use Rattle.std.specs.Cmp.Lexicographic.{slice_cmp}
-use Rattle.oc_base.specs.declared.place.Place.{Place}
-use Rattle.oc_base.specs.declared.place.Place.TheVariants.{Found, Free}
+use Rattle.oc_base.specs.declared.named.Lookup.{Lookup}
+use Rattle.oc_base.specs.declared.named.Lookup.TheVariants.{Found, Free}
 
 -- whether two names are one
 abbrev pub same_name : List ℕ → List ℕ → Bool
@@ -33,16 +33,16 @@ IsFreeAt name [] g (suc i) = ⊥
 IsFreeAt name (x ∷ xs) g (suc i) = (slice_cmp nat_cmp g (name x) ≡ Greater) × IsFreeAt name xs g i
 
 -- where the name is or would be
-abbrev pub IsPlace : {A : Type 0} → (A → List ℕ) → List A → List ℕ → Place → Type 0
-IsPlace name xs g (Found i) = IsFoundAt name xs g i
-IsPlace name xs g (Free i) = IsFreeAt name xs g i
+abbrev pub LooksUp : {A : Type 0} → (A → List ℕ) → List A → List ℕ → Lookup → Type 0
+LooksUp name xs g (Found i) = IsFoundAt name xs g i
+LooksUp name xs g (Free i) = IsFreeAt name xs g i
 
 -- whether the name is absent
-abbrev pub is_free : Place → Bool
+abbrev pub is_free : Lookup → Bool
 is_free (Found i) = false
 is_free (Free i) = true
 
 -- a name that is found has an index below n
-abbrev pub IsThere : Place → ℕ → Type 0
+abbrev pub IsThere : Lookup → ℕ → Type 0
 IsThere (Found i) n = i < n
 IsThere (Free i) n = Unit {0}

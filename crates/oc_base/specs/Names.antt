@@ -22,6 +22,7 @@ abbrev pub is_path : List ℕ → Bool
 is_path [] = false
 is_path (b ∷ rest) = b == 47 && list_all is_segment (slice_split (λ x. x == 47) rest)
 
+-- the fault of a name of a right length: its first byte that no name has, or its form
 abbrev pub fault_at : Option ℕ → Bool → Option NameFault
 fault_at (Some i) formed = Some (Byte i)
 fault_at None formed = if formed then None else Some Form
@@ -32,6 +33,7 @@ name_fault bytes =
     if nat_lt (length bytes) MIN_NAME_BYTES || nat_lt MAX_NAME_BYTES (length bytes) then Some Length
     else fault_at (position (λ b. not (is_name_byte b)) bytes) (is_path bytes)
 
+-- the bytes where there is no fault, and else the fault
 abbrev pub name_or : List ℕ → Option NameFault → Result (List ℕ) NameFault
 name_or bytes None = Ok bytes
 name_or bytes (Some fault) = Err fault

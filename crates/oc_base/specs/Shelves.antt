@@ -2,8 +2,8 @@
 use Rattle.std.specs.Prelude.{◌≤◌, ◌<◌, ℕ, if◌then◌else◌, Option, Some, None, option_map, IsSomeAnd, List, [], ◌∷◌, length}
 use Rattle.oc_base.specs.declared.limits.TheConstants.{MAX_GROUPS, MAX_GROUP_BYTES}
 use Rattle.oc_base.specs.declared.shelf.Shelf.{Shelf}
-use Rattle.oc_base.specs.declared.place.Place.{Place}
-use Rattle.oc_base.specs.Named.{same_name, AreAbove, AreAscending, IsFoundAt, IsFreeAt, IsPlace}
+use Rattle.oc_base.specs.declared.named.Lookup.{Lookup}
+use Rattle.oc_base.specs.Named.{same_name, AreAbove, AreAscending, IsFoundAt, IsFreeAt, LooksUp}
 use Rattle.oc_base.specs.Names.{IsGroupName}
 
 -- the line of this name
@@ -36,8 +36,8 @@ abbrev pub IsFreeLineAt : List Shelf → List ℕ → ℕ → Type 0
 IsFreeLineAt ls g i = IsFreeAt (λ (l : Shelf). l.group) ls g i
 
 -- where the line of this name is or would be
-abbrev pub IsLinePlace : List Shelf → List ℕ → Place → Type 0
-IsLinePlace ls g place = IsPlace (λ (l : Shelf). l.group) ls g place
+abbrev pub LooksUpLine : List Shelf → List ℕ → Lookup → Type 0
+LooksUpLine ls g place = LooksUp (λ (l : Shelf). l.group) ls g place
 
 -- a line of a group within its limit
 abbrev pub IsLine : Shelf → Type 0

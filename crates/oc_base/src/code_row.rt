@@ -1,6 +1,6 @@
 ghost use Rattle.std.specs.Prelude.{◌≡◌, ◌↔◌, ◌==◌, not, IsTrue};
 ghost use Rattle.std.specs.List.{list_all};
-ghost use Rattle.oc_base.specs.Codes.{place_of, AreDistinct, are_distinct};
+ghost use Rattle.oc_base.specs.Codes.{row_of, AreDistinct, are_distinct};
 
 /// A kind of a binary format: its code, and the least length of its fields in bytes.
 #[derive(Clone, Copy, Debug, PartialEq, Eq)]
@@ -12,7 +12,7 @@ pub struct CodeRow {
 
 /// The place of the first row with this code.
 pub fn row_of<const N: usize>(rows: &[CodeRow; N], code: u8) -> Option<usize>
-    ensures { result ≡ place_of code rows.now }
+    ensures { result ≡ row_of code rows.now }
 {
     rows.iter().position(|row| row.code == code)
 }

@@ -1,18 +1,19 @@
-//! What every other crate names: node ids, ranks, certificates, group names, the small list types
-//! and the answer when memory runs out.
+//! What every other crate names: node ids, ranks, certificates, group names, the small list types,
+//! the limits of the system, and [`Memory`], the answer when memory runs out.
 //!
-//! The types live here for good, and the definitions of the model speak of them. A list type is a
-//! vector that contracts see as the list of its items, so a message, an event or a record that holds
-//! one *is* a value of the model. A [`NodeId`] is seen as its number, a [`GroupName`] as its bytes.
+//! The definitions of the model speak of these types. A list type is a vector that contracts see as
+//! the list of its items, so a message, an event or a record that holds one *is* a value of the model.
+//! A [`NodeId`] is seen as its number, a [`GroupName`] as its bytes.
 //!
-//! [`reading`] and [`writing`] have the fields that the binary formats are made of.
+//! * [`reading`] and [`writing`] have the fields that the binary formats are made of, [`words`] the lines
+//!   and words of the text formats, [`put`] and its kin the texts that are written.
+//! * [`look_up`] finds a name in a list ascending by name.
+//! * [`Slots`] have a value for each node, and are made as fast for a thousand nodes as for ten.
 //!
 //! The contracts used above: `GroupName::parse` accepts exactly the names with `IsGroupName`, and its
 //! refusals are `name_fault`; `of` and `items` of each list type are that list. What [`words`] reads
 //! of a line is `words` of it, and a number is `number_in`, with the first cause where it is refused.
-//!
-//! A value for each place below a count. Memory for all is taken at the beginning, and time only as far as places are
-//! used, so that what has a value for each node is made as fast among a thousand nodes as among ten.
+//! What is read of a binary field is what the function of its name in `specs/Reading` gives.
 #![tactic(auto)]
 
 mod cert;
@@ -25,14 +26,14 @@ mod group_name;
 mod limits;
 mod lists;
 mod memory;
+mod named;
 mod node_id;
-mod place;
 mod rank;
 pub mod reading;
 mod refusal;
 mod reserved;
-mod rows;
 mod shelf;
+mod slots;
 mod texts;
 mod why;
 pub mod words;
@@ -55,12 +56,12 @@ pub use limits::{
 };
 pub use lists::{Bytes, CertList, ChildList, IdList, LineList, ShelfList, Text};
 pub use memory::Memory;
+pub use named::{Lookup, Named, look_up};
 pub use node_id::NodeId;
-pub use place::{Named, Place, place_of};
 pub use rank::Rank;
 pub use refusal::Refusal;
 pub use reserved::push_reserved;
-pub use rows::Rows;
 pub use shelf::Shelf;
+pub use slots::Slots;
 pub use texts::{put, put_number, put_with_number};
 pub use why::Why;

@@ -5,11 +5,11 @@ use Rattle.oc_base.specs.declared.shelf.Shelf.{Shelf}
 use Rattle.oc_content.specs.declared.heading.Heading.{Heading}
 use Rattle.oc_content.specs.declared.track.Span.{Span}
 use Rattle.oc_content.specs.declared.index.Index.{Index}
-use Rattle.oc_base.specs.declared.place.Place.{Place}
-use Rattle.oc_base.specs.declared.place.Place.TheVariants.{Found, Free}
+use Rattle.oc_base.specs.declared.named.Lookup.{Lookup}
+use Rattle.oc_base.specs.declared.named.Lookup.TheVariants.{Found, Free}
 use Rattle.oc_base.specs.declared.group.Group.{Group}
 use Rattle.oc_base.specs.Groups.{shelf, shelf_of, or_empty}
-use Rattle.oc_base.specs.Shelves.{line_of, IsLinePlace}
+use Rattle.oc_base.specs.Shelves.{line_of, LooksUpLine}
 use Rattle.oc_content.specs.Entries.{Entry, entry_of}
 use Rattle.oc_content.specs.ContentFile.{fits, grown, with_entry, taken}
 use Rattle.oc_base.specs.declared.limits.TheConstants.{MAX_GROUPS, MAX_GROUP_BYTES}
@@ -27,7 +27,7 @@ line_at (j ∷ ks) zero k h e = ap shelf_of e
 line_at (j ∷ ks) (suc i) k h e = line_at ks i k (omega (arith, h)) e
 
 -- the groups with an entry are tracked
-tracked-add : (bodies : List (List ℕ)) (groups : List Group) (ps : List (List Span)) (h : Heading) (body : List ℕ) (count frame : ℕ) (place : Place) → AreTracked bodies groups ps → IsLinePlace (shelf groups) h.group place → fits (line_of h.group (shelf groups)) (length groups) h.start count h.seals ≡ true → count ≡ length (drop h.skip body) → entry_of body ≡ Some (entry_at h body) → frame ≡ length bodies → AreTracked (bodies ++ body ∷ []) (with_entry (entry_at h body) groups) (paths_with place (span_of h count frame) ps)
+tracked-add : (bodies : List (List ℕ)) (groups : List Group) (ps : List (List Span)) (h : Heading) (body : List ℕ) (count frame : ℕ) (place : Lookup) → AreTracked bodies groups ps → LooksUpLine (shelf groups) h.group place → fits (line_of h.group (shelf groups)) (length groups) h.start count h.seals ≡ true → count ≡ length (drop h.skip body) → entry_of body ≡ Some (entry_at h body) → frame ≡ length bodies → AreTracked (bodies ++ body ∷ []) (with_entry (entry_at h body) groups) (paths_with place (span_of h count frame) ps)
 tracked-add bodies groups ps h body count frame (Found i) tracked at fit many says number =
     let more = AreTracked-more bodies body groups ps tracked in
     let here : get_or (bodies ++ body ∷ []) frame [] ≡ body = get_or_push bodies body [] frame (sym number) in
@@ -52,22 +52,22 @@ tracked-add bodies groups ps h body count frame (Free i) tracked at fit many say
     (IsTracked-push (bodies ++ body ∷ []) (or_empty h.group None) [] h frame count body here within says many refl new.0 none) more)
 
 -- the lines of the groups with an entry
-lines-add : (groups : List Group) (h : Heading) (body : List ℕ) (count : ℕ) (place : Place) → IsLinePlace (shelf groups) h.group place → count ≡ length (drop h.skip body) → lines_with place h count (shelf groups) ≡ shelf (with_entry (entry_at h body) groups)
+lines-add : (groups : List Group) (h : Heading) (body : List ℕ) (count : ℕ) (place : Lookup) → LooksUpLine (shelf groups) h.group place → count ≡ length (drop h.skip body) → lines_with place h count (shelf groups) ≡ shelf (with_entry (entry_at h body) groups)
 lines-add groups h body count (Found i) at many =
     sym (ap shelf (with_entry-stands groups (entry_at h body) i at) ∙ shelf-changed groups h body count i many at)
 lines-add groups h body count (Free i) at many =
     sym (ap shelf (with_entry-goes groups (entry_at h body) i at) ∙ (shelf-insert groups i (fresh (entry_at h body)) ∙ ap (λ (n : ℕ). insert (shelf groups) i (record { group = h.group; held = n; sealed = h.seals })) (sym many)))
 
 -- as many paths as lines
-rows-add : (ss : List Shelf) (ps : List (List Span)) (h : Heading) (count : ℕ) (spans : List Span) (place : Place) → length ps ≡ length ss → length (paths_with place spans ps) ≡ length (lines_with place h count ss)
+rows-add : (ss : List Shelf) (ps : List (List Span)) (h : Heading) (count : ℕ) (spans : List Span) (place : Lookup) → length ps ≡ length ss → length (paths_with place spans ps) ≡ length (lines_with place h count ss)
 rows-add ss ps h count spans (Found i) e = length-changed (λ p. p ++ spans) i ps ∙ (e ∙ sym (length-changed (line_with h count) i ss))
 rows-add ss ps h count spans (Free i) e =
     length_insert i ps spans ∙ (ap suc e ∙ sym (length_insert i ss (record { group = h.group; held = count; sealed = h.seals })))
 
 -- the index with an entry is that of one frame more
-pub IsIndexOf-add : (bodies : List (List ℕ)) (groups : List Group) (x y : Index) (honest : Bool) (h : Heading) (body : List ℕ) (count frame : ℕ) (place : Place) → IsIndexOf bodies groups x honest → IsLinePlace x.shelves.items h.group place → fits (line_of h.group x.shelves.items) (length x.shelves.items) h.start count h.seals ≡ true → count ≡ length (drop h.skip body) → entry_of body ≡ Some (entry_at h body) → (IsTrue honest → frame ≡ length bodies) → y.shelves.items ≡ lines_with place h count x.shelves.items → paths y.tracks.items ≡ paths_with place (span_of h count frame) (paths x.tracks.items) → MAX_GROUPS ≤ vec_capacity y.shelves → MAX_GROUPS ≤ vec_capacity y.tracks → IsIndexOf (bodies ++ body ∷ []) (with_entry (entry_at h body) groups) y honest
+pub IsIndexOf-add : (bodies : List (List ℕ)) (groups : List Group) (x y : Index) (honest : Bool) (h : Heading) (body : List ℕ) (count frame : ℕ) (place : Lookup) → IsIndexOf bodies groups x honest → LooksUpLine x.shelves.items h.group place → fits (line_of h.group x.shelves.items) (length x.shelves.items) h.start count h.seals ≡ true → count ≡ length (drop h.skip body) → entry_of body ≡ Some (entry_at h body) → (IsTrue honest → frame ≡ length bodies) → y.shelves.items ≡ lines_with place h count x.shelves.items → paths y.tracks.items ≡ paths_with place (span_of h count frame) (paths x.tracks.items) → MAX_GROUPS ≤ vec_capacity y.shelves → MAX_GROUPS ≤ vec_capacity y.tracks → IsIndexOf (bodies ++ body ∷ []) (with_entry (entry_at h body) groups) y honest
 IsIndexOf-add bodies groups x y honest h body count frame place is at fit many says number lines tracks line_memory track_memory =
-    let at' : IsLinePlace (shelf groups) h.group place = subst (λ (ss : List Shelf). IsLinePlace ss h.group place) is.lines at in
+    let at' : LooksUpLine (shelf groups) h.group place = subst (λ (ss : List Shelf). LooksUpLine ss h.group place) is.lines at in
     let fit' : fits (line_of h.group (shelf groups)) (length groups) h.start count h.seals ≡ true =
     subst (λ (n : ℕ). fits (line_of h.group (shelf groups)) n h.start count h.seals ≡ true) (length-shelf groups) (subst (λ (ss : List Shelf). fits (line_of h.group ss) (length ss) h.start count h.seals ≡ true) is.lines fit) in
     record {
@@ -96,7 +96,7 @@ IsSized-good bodies groups x honest is =
     }
 
 -- where an entry fits there is a place for it
-pub place_within : (ss : List Shelf) (g : List ℕ) (place : Place) (start count : ℕ) (seals : Bool) → IsLinePlace ss g place → fits (line_of g ss) (length ss) start count seals ≡ true → IsWithin place (length ss)
+pub place_within : (ss : List Shelf) (g : List ℕ) (place : Lookup) (start count : ℕ) (seals : Bool) → LooksUpLine ss g place → fits (line_of g ss) (length ss) start count seals ≡ true → IsWithin place (length ss)
 place_within ss g (Found i) start count seals at fit = stands_within ss g i at
 place_within ss g (Free i) start count seals at fit =
     let absent : line_of g ss ≡ None = line_of-goes ss g i at in

@@ -4,9 +4,9 @@ use Rattle.std.proofs.lemmas.List.{length-drop, get_or_default}
 use Rattle.std.proofs.lemmas.Bool.Decides.{nat_tests}
 use Rattle.oc_base.specs.declared.shelf.Shelf.{Shelf}
 use Rattle.oc_content.specs.declared.errors.PutError.TheVariants.{Gap, Sealed, TooManyGroups, TooLong}
-use Rattle.oc_base.specs.declared.place.Place.{Place}
-use Rattle.oc_base.specs.declared.place.Place.TheVariants.{Found, Free}
-use Rattle.oc_base.specs.Shelves.{line_of, IsLinePlace}
+use Rattle.oc_base.specs.declared.named.Lookup.{Lookup}
+use Rattle.oc_base.specs.declared.named.Lookup.TheVariants.{Found, Free}
+use Rattle.oc_base.specs.Shelves.{line_of, LooksUpLine}
 use Rattle.oc_content.specs.ContentFile.{fits}
 use Rattle.oc_base.specs.declared.limits.TheConstants.{MAX_GROUP_BYTES, MAX_GROUPS}
 use Rattle.oc_content.specs.Putting.{standing, standing_in, fault_of, put_entry}
@@ -101,7 +101,7 @@ fits_first groups start bytes seals ok = all_three (0 == 0) (nat_lt groups MAX_G
   all_three a b c p q r = rw (p, q, r)
 
 -- what is put may follow what is held, if it adds anything
-pub put_fits : (ss : List Shelf) (name : List ℕ) (place : Place) (start : ℕ) (bytes : List ℕ) (last : Bool) → All (λ s. s.held ≤ MAX_GROUP_BYTES) ss → IsLinePlace ss name place → fault_of (standing_in ss name) start (length bytes) ≡ None → (is_free place || nat_lt 0 (length (put_entry (standing_in ss name) name start bytes last).bytes) || (put_entry (standing_in ss name) name start bytes last).seals) ≡ true → fits (line_of name ss) (length ss) (put_entry (standing_in ss name) name start bytes last).start (length (put_entry (standing_in ss name) name start bytes last).bytes) (put_entry (standing_in ss name) name start bytes last).seals ≡ true
+pub put_fits : (ss : List Shelf) (name : List ℕ) (place : Lookup) (start : ℕ) (bytes : List ℕ) (last : Bool) → All (λ s. s.held ≤ MAX_GROUP_BYTES) ss → LooksUpLine ss name place → fault_of (standing_in ss name) start (length bytes) ≡ None → (is_free place || nat_lt 0 (length (put_entry (standing_in ss name) name start bytes last).bytes) || (put_entry (standing_in ss name) name start bytes last).seals) ≡ true → fits (line_of name ss) (length ss) (put_entry (standing_in ss name) name start bytes last).start (length (put_entry (standing_in ss name) name start bytes last).bytes) (put_entry (standing_in ss name) name start bytes last).seals ≡ true
 put_fits ss name (Found i) start bytes last short at none adds =
     let d : Shelf = record { group = []; held = 0; sealed = false } in
     let inside = stands_within ss name i at in
@@ -116,7 +116,7 @@ put_fits ss name (Free i) start bytes last short at none adds =
     rw absent (fits_first (length ss) start bytes (last && not false && nat_le 0 (start + length bytes)) ok)
 
 -- where something may be put there is a place for it
-pub put_within : (ss : List Shelf) (name : List ℕ) (place : Place) (start count : ℕ) → IsLinePlace ss name place → fault_of (standing_in ss name) start count ≡ None → IsWithin place (length ss)
+pub put_within : (ss : List Shelf) (name : List ℕ) (place : Lookup) (start count : ℕ) → LooksUpLine ss name place → fault_of (standing_in ss name) start count ≡ None → IsWithin place (length ss)
 put_within ss name (Found i) start count at none = stands_within ss name i at
 put_within ss name (Free i) start count at none =
     let absent : line_of name ss ≡ None = line_of-goes ss name i at in
@@ -127,12 +127,12 @@ put_within ss name (Free i) start count at none =
       not_at_least a b e = grind (arith, nat_tests)
 
 -- a place is there
-pub place_there : (ss : List Shelf) (name : List ℕ) (place : Place) → IsLinePlace ss name place → IsThere place (length ss)
+pub place_there : (ss : List Shelf) (name : List ℕ) (place : Lookup) → LooksUpLine ss name place → IsThere place (length ss)
 place_there ss name (Found i) at = stands_within ss name i at
 place_there ss name (Free i) at = tt
 
 -- no group holds more than the most
-pub standing_short : (ss : List Shelf) (name : List ℕ) (place : Place) → All (λ s. s.held ≤ MAX_GROUP_BYTES) ss → IsLinePlace ss name place → (standing_in ss name).held ≤ MAX_GROUP_BYTES
+pub standing_short : (ss : List Shelf) (name : List ℕ) (place : Lookup) → All (λ s. s.held ≤ MAX_GROUP_BYTES) ss → LooksUpLine ss name place → (standing_in ss name).held ≤ MAX_GROUP_BYTES
 standing_short ss name (Found i) short at =
     let d : Shelf = record { group = []; held = 0; sealed = false } in
     let inside = stands_within ss name i at in
@@ -144,9 +144,9 @@ standing_short ss name (Free i) short at =
     rw absent (omega arith)
 
 -- what was put is ready
-pub ready_put : (ss : List Shelf) (rs : List ℕ) (spare : ℕ) (p : PieceView) (name : List ℕ) (start : ℕ) (bytes : List ℕ) (last : Bool) → All (λ s. s.held ≤ MAX_GROUP_BYTES) ss → IsLinePlace ss name p.place → fault_of (standing_in ss name) start (length bytes) ≡ None → p.entry ≡ put_entry (standing_in ss name) name start bytes last → HasTrackRoom rs p.room p.place → 0 < spare → IsReady ss rs spare p
+pub ready_put : (ss : List Shelf) (rs : List ℕ) (spare : ℕ) (p : PieceView) (name : List ℕ) (start : ℕ) (bytes : List ℕ) (last : Bool) → All (λ s. s.held ≤ MAX_GROUP_BYTES) ss → LooksUpLine ss name p.place → fault_of (standing_in ss name) start (length bytes) ≡ None → p.entry ≡ put_entry (standing_in ss name) name start bytes last → HasTrackRoom rs p.room p.place → 0 < spare → IsReady ss rs spare p
 ready_put ss rs spare p name start bytes last short at none is room some = record {
-  place = subst (λ (e : Entry). IsLinePlace ss e.group p.place) (sym is) at;
+  place = subst (λ (e : Entry). LooksUpLine ss e.group p.place) (sym is) at;
   fits = λ adds. subst (λ (e : Entry). fits (line_of e.group ss) (length ss) e.start (length e.bytes) e.seals ≡ true) (sym is) (put_fits ss name p.place start bytes last short at none (subst (λ (e : Entry). (is_free p.place || nat_lt 0 (length e.bytes) || e.seals) ≡ true) is adds));
   room = room;
   spare = some;

@@ -6,10 +6,10 @@ use Rattle.oc_journal.specs.JournalView.{JournalView}
 use Rattle.oc_journal.specs.Promises.{OnlyReads, NoneFailed}
 use Rattle.oc_content.specs.declared.errors.ContentError.{ContentError}
 use Rattle.oc_content.specs.declared.errors.ContentError.TheVariants.{Disk, NotJournal, BadFrame, Memory}
-use Rattle.oc_base.specs.declared.place.Place.{Place}
+use Rattle.oc_base.specs.declared.named.Lookup.{Lookup}
 use Rattle.oc_content.specs.declared.index.Index.{Index}
 use Rattle.oc_base.specs.declared.group.Group.{Group}
-use Rattle.oc_base.specs.Shelves.{line_of, IsLinePlace}
+use Rattle.oc_base.specs.Shelves.{line_of, LooksUpLine}
 use Rattle.oc_content.specs.Entries.{Entry}
 use Rattle.oc_content.specs.ContentFile.{fits, IsShelved, IsFirstBad}
 use Rattle.oc_base.specs.Named.{is_free}
@@ -30,7 +30,7 @@ parts j x = record { journal = j; shelves = x.shelves.items; rooms = rooms x.tra
 pub record PieceView : Type 0 where
   pub body : List ℕ
   pub entry : Entry
-  pub place : Place
+  pub place : Lookup
   pub room : ℕ
 
 -- a piece that adds nothing is for a group that is there, and has neither bytes nor a seal
@@ -39,7 +39,7 @@ adds p = is_free p.place || nat_lt 0 (length p.entry.bytes) || p.entry.seals
 
 -- nothing was put to these groups since the piece was prepared, and there is all the memory for it
 pub record IsReady (shelves : List Shelf) (rooms : List ℕ) (frames_to_come : ℕ) (p : PieceView) : Type 0 where
-  pub place : IsLinePlace shelves p.entry.group p.place
+  pub place : LooksUpLine shelves p.entry.group p.place
   pub fits : adds p ≡ true → fits (line_of p.entry.group shelves) (length shelves) p.entry.start (length p.entry.bytes) p.entry.seals ≡ true
   pub room : HasTrackRoom rooms p.room p.place
   pub spare : 0 < frames_to_come

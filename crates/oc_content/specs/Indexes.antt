@@ -1,8 +1,8 @@
 -- The index: the line of each group, and the frames that hold its bytes.
 use Rattle.std.specs.Prelude.{◌≡◌, ℕ, ◌+◌, ◌-◌, ◌<◌, ◌≤◌, nat_lt, if◌then◌else◌, Some, List, [], ◌∷◌, ◌++◌, length, drop, map, get_or, insert, flat_map, vec_capacity, All, IsTrue, Bool}
 use Rattle.oc_base.specs.declared.shelf.Shelf.{Shelf}
-use Rattle.oc_base.specs.declared.place.Place.{Place}
-use Rattle.oc_base.specs.declared.place.Place.TheVariants.{Found, Free}
+use Rattle.oc_base.specs.declared.named.Lookup.{Lookup}
+use Rattle.oc_base.specs.declared.named.Lookup.TheVariants.{Found, Free}
 use Rattle.oc_content.specs.declared.heading.Heading.{Heading}
 pub use Rattle.oc_content.specs.Lines.{changed, line_with}
 use Rattle.oc_content.specs.declared.track.Span.{Span}
@@ -68,12 +68,12 @@ pub record IsSized (x : Index) : Type 0 where
   pub short : All (λ s. s.held ≤ MAX_GROUP_BYTES) x.shelves.items
 
 -- the place is one of n groups, or free for one more
-abbrev pub IsWithin : Place → ℕ → Type 0
+abbrev pub IsWithin : Lookup → ℕ → Type 0
 IsWithin (Found i) n = i < n
 IsWithin (Free i) n = (i ≤ n) × (n < MAX_GROUPS)
 
 -- memory for one more frame: for a group that is held, in its own track; for a new one, in the track that it brings
-abbrev pub HasTrackRoom : List ℕ → ℕ → Place → Type 0
+abbrev pub HasTrackRoom : List ℕ → ℕ → Lookup → Type 0
 HasTrackRoom rooms room (Found i) = 0 < get_or rooms i 0
 HasTrackRoom rooms room (Free i) = 0 < room
 
@@ -82,7 +82,7 @@ abbrev pub spans_for : ℕ → ℕ
 spans_for n = if nat_lt 0 n then 1 else 0
 
 -- the rooms with an entry of n bytes, for whose group this room is brought where it is new
-abbrev pub rooms_with : Place → ℕ → ℕ → List ℕ → List ℕ
+abbrev pub rooms_with : Lookup → ℕ → ℕ → List ℕ → List ℕ
 rooms_with (Found i) room n rooms = changed (λ r. r - spans_for n) i rooms
 rooms_with (Free i) room n rooms = insert rooms i (room - spans_for n)
 
@@ -96,7 +96,7 @@ pub record KeepsTracks (old new : List Track) : Type 0 where
   pub rooms : (i : ℕ) → get_or (rooms old) i 0 ≤ get_or (rooms new) i 0
 
 -- the lines with an entry
-abbrev pub lines_with : Place → Heading → ℕ → List Shelf → List Shelf
+abbrev pub lines_with : Lookup → Heading → ℕ → List Shelf → List Shelf
 lines_with (Found i) h count ss = changed (line_with h count) i ss
 lines_with (Free i) h count ss = insert ss i (record { group = h.group; held = count; sealed = h.seals })
 
@@ -106,7 +106,7 @@ span_of h count frame =
     if nat_lt 0 count then record { frame = frame; start = h.start; skip = h.skip } ∷ [] else []
 
 -- the paths with an entry
-abbrev pub paths_with : Place → List Span → List (List Span) → List (List Span)
+abbrev pub paths_with : Lookup → List Span → List (List Span) → List (List Span)
 paths_with (Found i) ss ps = changed (λ p. p ++ ss) i ps
 paths_with (Free i) ss ps = insert ps i ss
 

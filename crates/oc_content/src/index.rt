@@ -2,7 +2,7 @@
 
 ghost use Rattle.std.specs.Prelude.{◌≡◌, ℕ, ◌+◌, ◌-◌, ◌^◌, ◌<◌, ◌≤◌, Bool, [], ◌∷◌, ◌++◌, List, length, vec_capacity, None, Some, true, MatchBool, IsTrue, IfOk, IfSome, MatchOption, OnOk, All, insert, get_or, ◌||◌};
 ghost use Rattle.oc_base.specs.declared.group.Group.{Group};
-ghost use Rattle.oc_base.specs.Shelves.{line_of, held_of, IsHeldAt, AreLinesAscending, IsLinePlace};
+ghost use Rattle.oc_base.specs.Shelves.{line_of, held_of, IsHeldAt, AreLinesAscending, LooksUpLine};
 ghost use Rattle.oc_content.specs.Entries.{entry_of};
 ghost use Rattle.oc_content.specs.ContentFile.{fits, taken, with_entry};
 ghost use Rattle.oc_base.specs.declared.limits.TheConstants.{MAX_GROUPS, MAX_GROUP_BYTES};
@@ -14,7 +14,7 @@ use crate::piece::Piece;
 use crate::spot::Spot;
 use crate::track::{Span, Track, find_byte};
 use crate::{Heading, grow_at};
-use oc_base::{GroupName, MAX_GROUP_BYTES, MAX_GROUPS, Place, Shelf, place_of};
+use oc_base::{GroupName, Lookup, MAX_GROUP_BYTES, MAX_GROUPS, Shelf, look_up};
 use std::alloc::{AllocError, Global};
 
 /// The lines of the groups, ascending by name, and their tracks in the same order.
@@ -51,7 +51,7 @@ impl Index {
             return Ok(false);
         };
         let count = (body.len() - heading.skip as usize) as u64;
-        let place = place_of(&self.shelves, &heading.group);
+        let place = look_up(&self.shelves, &heading.group);
         if !self.fits(place, &heading, count) {
             return Ok(false);
         }
@@ -61,19 +61,19 @@ impl Index {
     }
 
     /// Whether an entry with `count` bytes may follow what is held.
-    fn fits(&self, place: Place, heading: &Heading, count: u64) -> bool
-        requires { IsLinePlace self.now.shelves.items heading.now.group place }
+    fn fits(&self, place: Lookup, heading: &Heading, count: u64) -> bool
+        requires { LooksUpLine self.now.shelves.items heading.now.group place }
         ensures { result ≡ fits (line_of heading.now.group self.now.shelves.items)
             (length self.now.shelves.items) heading.now.start count heading.now.seals }
     {
         match place {
-            Place::Found(at) => fits_held(&self.shelves[at], heading, count),
-            Place::Free(_) => fits_new(self.shelves.len(), heading, count),
+            Lookup::Found(at) => fits_held(&self.shelves[at], heading, count),
+            Lookup::Free(_) => fits_new(self.shelves.len(), heading, count),
         }
     }
 
     /// Memory for one more span of a group: in its own track, or in the one that is handed out.
-    pub fn reserve(&mut self, alloc: Global, place: Place) -> Result<Track, AllocError>
+    pub fn reserve(&mut self, alloc: Global, place: Lookup) -> Result<Track, AllocError>
         requires { IsWithin place (length self.old.tracks.items) }
         ensures room { IfOk result (λ track. HasTrackRoom (rooms self.new.tracks.items) (room_of track) place) }
         ensures empty { IfOk result (λ track. track.spans.items ≡ []) }
@@ -82,11 +82,11 @@ impl Index {
         ensures memory { vec_capacity self.old.tracks ≤ vec_capacity self.new.tracks }
     {
         match place {
-            Place::Found(at) => {
+            Lookup::Found(at) => {
                 reserve_at(&mut self.tracks, at)?;
                 Ok(Track::new(alloc))
             }
-            Place::Free(_) => Track::with_room(alloc),
+            Lookup::Free(_) => Track::with_room(alloc),
         }
     }
 
@@ -117,9 +117,9 @@ impl Index {
         requires { AreLinesAscending self.now.shelves.items }
         ensures { result ≡ held_of group.now self.now.shelves.items }
     {
-        match place_of(&self.shelves, group) {
-            Place::Found(at) => Some(self.shelves[at].held),
-            Place::Free(_) => None,
+        match look_up(&self.shelves, group) {
+            Lookup::Found(at) => Some(self.shelves[at].held),
+            Lookup::Free(_) => None,
         }
     }
 
@@ -131,7 +131,7 @@ impl Index {
             → MatchOption result (¬ IsHeldAt group.now self.now.shelves.items start)
             (λ spot. IsSpot bodies group.now start spot) }
     {
-        let Place::Found(at) = place_of(&self.shelves, group) else {
+        let Lookup::Found(at) = look_up(&self.shelves, group) else {
             return None;
         };
         let (spans, skip) = self.find(at, start)?;
@@ -145,7 +145,7 @@ impl Index {
     /// held then.
     pub fn put(&mut self, piece: Piece, frame: u64) -> u64
         requires sized { IsSized self.old }
-        requires place { IsLinePlace self.old.shelves.items piece.entry.group piece.place }
+        requires place { LooksUpLine self.old.shelves.items piece.entry.group piece.place }
         requires fits { fits (line_of piece.entry.group self.old.shelves.items) (length self.old.shelves.items)
             piece.entry.start (length piece.entry.bytes) piece.entry.seals ≡ true }
         requires room { HasTrackRoom (rooms self.old.tracks.items) piece.room piece.place }
@@ -169,7 +169,7 @@ impl Index {
     }
 
     /// Adds an entry with `count` bytes, which is in the frame of this number.
-    pub fn add(&mut self, place: Place, track: Track, heading: &Heading, count: u64, frame: u64)
+    pub fn add(&mut self, place: Lookup, track: Track, heading: &Heading, count: u64, frame: u64)
         requires within { IsWithin place (length self.old.shelves.items) }
         requires rows { length self.old.tracks.items ≡ length self.old.shelves.items }
         requires line_memory { MAX_GROUPS ≤ vec_capacity self.old.shelves }
@@ -187,11 +187,11 @@ impl Index {
         ensures track_memory { vec_capacity self.new.tracks ≡ vec_capacity self.old.tracks }
     {
         match place {
-            Place::Found(at) => {
+            Lookup::Found(at) => {
                 grow_at(&mut self.shelves, at, heading, count);
                 add_span_at(&mut self.tracks, at, heading, count, frame);
             }
-            Place::Free(at) => self.insert(at, track, heading, count, frame),
+            Lookup::Free(at) => self.insert(at, track, heading, count, frame),
         }
     }
 

@@ -6,7 +6,7 @@ ghost use Rattle.oc_content.specs.ContentView.{adds};
 
 use crate::Heading;
 use crate::track::Track;
-use oc_base::{MAX_PUBLISH_BYTES, Place};
+use oc_base::{Lookup, MAX_PUBLISH_BYTES};
 use oc_journal::{Frame, FrameFault};
 use std::alloc::{AllocError, Global};
 use std::marker::Model;
@@ -18,7 +18,7 @@ pub struct Piece {
     pub(crate) frame: Frame,
     pub(crate) heading: Heading,
     pub(crate) count: u64,
-    pub(crate) place: Place,
+    pub(crate) place: Lookup,
     pub(crate) track: Track,
 }
 
@@ -41,7 +41,7 @@ impl Piece {
     pub(crate) fn new(
         alloc: Global,
         heading: Heading,
-        place: Place,
+        place: Lookup,
         track: Track,
         bytes: &[u8],
     ) -> Result<Piece, AllocError>
@@ -78,7 +78,7 @@ impl Piece {
     pub fn adds(&self) -> bool
         ensures { result ≡ adds self.now }
     {
-        matches!(self.place, Place::Free(_)) || 0 < self.count || self.heading.seals
+        matches!(self.place, Lookup::Free(_)) || 0 < self.count || self.heading.seals
     }
 }
 

@@ -4,7 +4,7 @@ ghost use Rattle.std.specs.Prelude.{◌≡◌, ◌≢◌, ◌+◌, ◌-◌, ◌^
 ghost use Rattle.oc_base.specs.Names.{IsGroupName};
 ghost use Rattle.oc_content.specs.Entries.{written, heading};
 ghost use Rattle.oc_base.specs.declared.limits.TheConstants.{MAX_GROUP_BYTES};
-ghost use Rattle.oc_base.specs.Shelves.{IsLinePlace};
+ghost use Rattle.oc_base.specs.Shelves.{LooksUpLine};
 ghost use Rattle.oc_base.specs.Named.{IsThere};
 ghost use Rattle.oc_content.specs.Indexes.{IsSized, HasTrackRoom, KeepsTracks, rooms};
 ghost use Rattle.oc_content.specs.Putting.{standing, standing_in, fault_of, put_entry};
@@ -15,7 +15,7 @@ use crate::errors::PutError;
 use crate::index::Index;
 use crate::piece::Piece;
 use crate::{Heading, Standing, past};
-use oc_base::{GroupName, MAX_GROUP_BYTES, MAX_GROUPS, MAX_PUBLISH_BYTES, Place, Shelf, place_of};
+use oc_base::{GroupName, Lookup, MAX_GROUP_BYTES, MAX_GROUPS, MAX_PUBLISH_BYTES, Shelf, look_up};
 use oc_io::Disk;
 use oc_journal::Journal;
 use std::alloc::{AllocError, Global};
@@ -74,13 +74,13 @@ fn piece_for(
     ensures entry { IfOk result (λ piece. piece.entry
         ≡ put_entry (standing_in index.old.shelves.items group.now) group.now start bytes.now last) }
     ensures body { IfOk result (λ piece. piece.body ≡ written piece.entry) }
-    ensures place { IfOk result (λ piece. IsLinePlace index.old.shelves.items group.now piece.place) }
+    ensures place { IfOk result (λ piece. LooksUpLine index.old.shelves.items group.now piece.place) }
     ensures room { IfOk result (λ piece. HasTrackRoom (rooms index.new.tracks.items) piece.room piece.place) }
     ensures lines { index.new.shelves ≡ index.old.shelves }
     ensures tracks { KeepsTracks index.old.tracks.items index.new.tracks.items }
     ensures memory { vec_capacity index.old.tracks ≤ vec_capacity index.new.tracks }
 {
-    let place = place_of(&index.shelves, group);
+    let place = look_up(&index.shelves, group);
     let standing = standing_at(&index.shelves, place);
     if let Some(fault) = refusal(&standing, start, bytes.len() as u64) {
         return Err(fault);
@@ -110,14 +110,14 @@ fn heading_for(standing: &Standing, group: GroupName, start: u64, count: u64, la
 }
 
 /// What is known of the group at a place.
-pub fn standing_at(shelves: &[Shelf], place: Place) -> Standing
+pub fn standing_at(shelves: &[Shelf], place: Lookup) -> Standing
     requires { IsThere place (length shelves.now) }
-    ensures { (name : List ℕ) → IsLinePlace shelves.now name place
+    ensures { (name : List ℕ) → LooksUpLine shelves.now name place
         → result ≡ standing_in shelves.now name }
 {
     match place {
-        Place::Found(at) => Standing::of_line(&shelves[at]),
-        Place::Free(_) => Standing::absent(shelves.len()),
+        Lookup::Found(at) => Standing::of_line(&shelves[at]),
+        Lookup::Free(_) => Standing::absent(shelves.len()),
     }
 }
 

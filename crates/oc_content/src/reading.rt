@@ -13,7 +13,7 @@ use crate::errors::ReadError;
 use crate::index::Index;
 use crate::is_full;
 use crate::track::Span;
-use oc_base::{GroupName, Place, place_of};
+use oc_base::{GroupName, Lookup, look_up};
 use oc_io::Disk;
 use oc_journal::{Journal, PeekError};
 
@@ -34,7 +34,7 @@ pub fn read_group<D: Disk>(
     ensures none_failed { ¬ IsErrOf result ReadError.Disk → NoneFailed D.view journal.old journal.new }
     ensures same { OnlyReads D.view journal.old journal.new }
 {
-    let Place::Found(at) = place_of(&index.shelves, group) else {
+    let Lookup::Found(at) = look_up(&index.shelves, group) else {
         return Err(ReadError::NoGroup);
     };
     let Some((spans, skip)) = index.find(at, start) else {

@@ -3,13 +3,13 @@ use Rattle.std.proofs.Common.{◌≡◌, ◌↔◌, ℕ, zero, suc, ◌+◌, ◌
 use Rattle.std.specs.List.{AllByRecursion}
 use Rattle.std.proofs.lemmas.List.{append-nil, length-take, length-drop, nil_from_length, take_all}
 use Rattle.oc_base.specs.declared.group.Group.{Group}
-use Rattle.oc_base.specs.declared.place.Place.{Place}
-use Rattle.oc_base.specs.declared.place.Place.TheVariants.{Found, Free}
+use Rattle.oc_base.specs.declared.named.Lookup.{Lookup}
+use Rattle.oc_base.specs.declared.named.Lookup.TheVariants.{Found, Free}
 use Rattle.oc_base.specs.declared.shelf.Shelf.{Shelf}
 use Rattle.oc_base.specs.Groups.{bytes_of, group_of, or_empty, shelf, shelf_of}
 use Rattle.oc_base.specs.Named.{same_name, is_free}
 use Rattle.oc_base.specs.Names.{IsGroupName}
-use Rattle.oc_base.specs.Shelves.{line_of, IsLineAt, IsLinePlace}
+use Rattle.oc_base.specs.Shelves.{line_of, IsLineAt, LooksUpLine}
 use Rattle.oc_base.proofs.NameOrder.{same_name-itself}
 use Rattle.oc_content.specs.ContentFile.{IsShelved, content_of, fits, groups_in, with_entry}
 use Rattle.oc_content.specs.ContentView.{ContentView, PieceView}
@@ -57,7 +57,7 @@ found_there (l ∷ ls) g zero h = let same : same_name g l.group ≡ true = ap (
 found_there (l ∷ ls) g (suc i) h = rw h.0 (found_there ls g i h.1)
 
 -- a place is free exactly where the name is absent
-free_is : (ls : List Shelf) (g : List ℕ) (place : Place) → IsLinePlace ls g place → is_free place ≡ not (is_some (line_of g ls))
+free_is : (ls : List Shelf) (g : List ℕ) (place : Lookup) → LooksUpLine ls g place → is_free place ≡ not (is_some (line_of g ls))
 free_is ls g (Found i) at = ap not (sym (found_there ls g i at))
 free_is ls g (Free i) at = ap (λ (l : Option Shelf). not (is_some l)) (sym (line_of-goes ls g i at))
 
@@ -196,7 +196,7 @@ made_commits view v s c c2 lines p q of w applies plain rest same is = record {
           records ∙ is.none,
           record {
             prepared = record {
-              place = subst (λ (ls : List Shelf). IsLinePlace ls piece.entry.group piece.place) (sym same.shelves) ready.place;
+              place = subst (λ (ls : List Shelf). LooksUpLine ls piece.entry.group piece.place) (sym same.shelves) ready.place;
               fits = λ some. subst (λ (ls : List Shelf). fits (line_of piece.entry.group ls) (length ls) piece.entry.start (length piece.entry.bytes) piece.entry.seals ≡ true) (sym same.shelves) (ready.fits some);
               room = track_room piece.place piece.room c.rooms c2.rooms same.rooms ready.room;
               spare = omega (arith, ready.spare, same.journal.spare);
@@ -211,7 +211,7 @@ made_commits view v s c c2 lines p q of w applies plain rest same is = record {
           },
         )
       where
-        track_room : (place : Place) (room : ℕ) (old new : List ℕ) → ((i : ℕ) → get_or old i 0 ≤ get_or new i 0) → HasTrackRoom old room place → HasTrackRoom new room place
+        track_room : (place : Lookup) (room : ℕ) (old new : List ℕ) → ((i : ℕ) → get_or old i 0 ≤ get_or new i 0) → HasTrackRoom old room place → HasTrackRoom new room place
         track_room (Found i) room old new more h = omega (arith, more i, h)
         track_room (Free i) room old new more h = h
 

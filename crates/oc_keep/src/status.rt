@@ -6,7 +6,7 @@ ghost use Rattle.oc_updown.specs.TableView.{AreTableRows, entries_of};
 ghost use Rattle.oc_model.specs.Status.{status_of};
 
 use crate::Kept;
-use oc_base::{Cert, CertList, IdList, LineList, Memory, Rows};
+use oc_base::{Cert, CertList, IdList, LineList, Memory, Slots};
 use oc_io::Disk;
 use oc_model::NodeStatus;
 use oc_updown::Table;
@@ -50,7 +50,7 @@ fn certificates(alloc: Global, table: &Table) -> Result<CertList, Memory>
 }
 
 /// Puts the certificates of these rows at the end.
-fn push_entries(list: &mut Vec<Cert>, rows: &Rows<Option<Cert>>) -> Result<(), Memory>
+fn push_entries(list: &mut Vec<Cert>, rows: &Slots<Option<Cert>>) -> Result<(), Memory>
     requires { AreTableRows rows.now }
     ensures { OnOk result (list.new.items ≡ list.old.items ++ entries_of rows.now.items) }
 {

@@ -20,7 +20,7 @@ ghost use Rattle.oc_state.specs.Standing.{standing_of};
 
 use crate::outcome::Outcome;
 use crate::step::take;
-use oc_base::{Memory, NodeId, Rank, Rows, Shelf};
+use oc_base::{Memory, NodeId, Rank, Shelf, Slots};
 use oc_model::{Input, Mode, Record};
 use oc_state::modes::parent_of;
 use oc_state::{Durable, Standing, Tries, Volatile, touch_all};
@@ -43,9 +43,9 @@ pub struct Node {
     tries: Tries,
     leases: Leases,
     /// The rate that each child told last, by its number.
-    rates: Rows<u64>,
+    rates: Slots<u64>,
     /// How many clients each node was sent, by its number.
-    counts: Rows<u64>,
+    counts: Slots<u64>,
     alloc: Global,
 }
 
@@ -82,8 +82,8 @@ impl Node {
         ensures { IfOk result (λ made. made.control ≡ new_control (record { nodes = nodes; chain = chain; areas = areas.items }) me) }
     {
         let leases = Leases::new(alloc, nodes)?;
-        let rates = Rows::new(alloc, nodes as usize, 0)?;
-        let counts = Rows::new(alloc, nodes as usize, 0)?;
+        let rates = Slots::new(alloc, nodes as usize, 0)?;
+        let counts = Slots::new(alloc, nodes as usize, 0)?;
         let durable = Durable::new(alloc, nodes)?;
         Ok(Node {
             id: me,

@@ -5,7 +5,7 @@ ghost use Rattle.oc_model.specs.Numbers.{at};
 ghost use Rattle.oc_updown.specs.TableView.{AreTableRows, entries_of};
 ghost use Rattle.oc_state.specs.Children.{child_of_row, other_child_of_row, told_of_row, told_children};
 
-use oc_base::{Cert, Child, Memory, NodeId, Rows};
+use oc_base::{Cert, Child, Memory, NodeId, Slots};
 use std::alloc::Global;
 
 /// The subject of a row, if it is a leased child of this node.
@@ -32,7 +32,7 @@ fn other_child_of_row(row: &Option<Cert>, me: NodeId, asker: NodeId) -> Option<N
 
 /// The least leased child of this node that is a member of the chain and not the asker.
 pub fn chain_child(
-    rows: &Rows<Option<Cert>>,
+    rows: &Slots<Option<Cert>>,
     me: NodeId,
     chain: u32,
     asker: NodeId,
@@ -52,7 +52,7 @@ pub fn chain_child(
 }
 
 /// The rate that a child told last, 0 where it told none.
-fn rate_of(rates: &Rows<u64>, child: NodeId) -> u64
+fn rate_of(rates: &Slots<u64>, child: NodeId) -> u64
     ensures { result ≡ at rates.now.items child 0 }
 {
     let place = (child.0 as usize).saturating_sub(1);
@@ -64,7 +64,7 @@ fn push_child(
     children: &mut Vec<Child>,
     row: &Option<Cert>,
     me: NodeId,
-    rates: &Rows<u64>,
+    rates: &Slots<u64>,
 ) -> Result<(), Memory>
     ensures { OnOk result (children.new.items ≡ children.old.items ++ told_of_row me rates.now.items row.now) }
 {
@@ -78,9 +78,9 @@ fn push_child(
 /// The leased children of this node, ascending, with the rates that they told last.
 pub fn children(
     alloc: Global,
-    rows: &Rows<Option<Cert>>,
+    rows: &Slots<Option<Cert>>,
     me: NodeId,
-    rates: &Rows<u64>,
+    rates: &Slots<u64>,
 ) -> Result<Vec<Child>, Memory>
     requires { AreTableRows rows.now }
     ensures { IfOk result (λ made. made.items ≡ told_children (entries_of rows.now.items) me rates.now.items) }

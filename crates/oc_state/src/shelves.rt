@@ -3,7 +3,7 @@ ghost use Rattle.oc_base.specs.Named.{same_name};
 ghost use Rattle.oc_base.specs.Shelves.{line_of, IsShelf};
 ghost use Rattle.oc_model.specs.Shelves.{line_at, with_line, limit, is_behind, first_behind};
 
-use oc_base::{GroupName, MAX_GROUP_BYTES, MAX_GROUPS, Memory, Place, Shelf, place_of};
+use oc_base::{GroupName, Lookup, MAX_GROUP_BYTES, MAX_GROUPS, Memory, Shelf, look_up};
 use oc_model::Answer;
 use std::alloc::Global;
 
@@ -78,9 +78,9 @@ pub fn with_line(alloc: Global, shelf: &[Shelf], line: &Shelf) -> Result<Vec<She
     requires { IsShelf shelf.now }
     ensures { IfOk result (λ made. made.items ≡ with_line line.now shelf.now) }
 {
-    match place_of(shelf, &line.group) {
-        Place::Found(index) => replace_line(alloc, shelf, index, line),
-        Place::Free(index) => insert_line(alloc, shelf, index, line),
+    match look_up(shelf, &line.group) {
+        Lookup::Found(index) => replace_line(alloc, shelf, index, line),
+        Lookup::Free(index) => insert_line(alloc, shelf, index, line),
     }
 }
 

@@ -8,7 +8,7 @@ ghost use Rattle.oc_state.specs.Snapshots.{rate_record};
 use crate::durable::Durable;
 use crate::ranks::rank_or_last;
 use crate::{Standing, all_waiting};
-use oc_base::{Cert, IdList, Memory, NodeId, Rank, Rows};
+use oc_base::{Cert, IdList, Memory, NodeId, Rank, Slots};
 use oc_model::{Mode, Record};
 use oc_updown::Measures;
 use std::alloc::Global;
@@ -26,7 +26,7 @@ fn push_row(list: &mut Vec<Record>, row: &Option<Cert>) -> Result<(), Memory>
 }
 
 /// Puts an entry for each of these rows at the end.
-fn push_rows(list: &mut Vec<Record>, rows: &Rows<Option<Cert>>) -> Result<(), Memory>
+fn push_rows(list: &mut Vec<Record>, rows: &Slots<Option<Cert>>) -> Result<(), Memory>
     requires { AreTableRows rows.now }
     ensures { OnOk result (list.new.items ≡ list.old.items ++ entries (entries_of rows.now.items)) }
 {

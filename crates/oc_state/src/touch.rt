@@ -4,7 +4,7 @@ ghost use Rattle.oc_base.specs.Lawful.{IsNode};
 ghost use Rattle.oc_model.specs.Numbers.{at, capped, put_at};
 ghost use Rattle.oc_state.specs.Touched.{IsTouch, leases_by, rates_by, counts_by, leases_after, rates_after, counts_after};
 
-use oc_base::{NodeId, Rows};
+use oc_base::{NodeId, Slots};
 use oc_updown::{Leases, Table};
 
 /// What a step touches of the lists that have an item for each node.
@@ -26,8 +26,8 @@ pub fn touch_all(
     table: &Table,
     me: NodeId,
     leases: &mut Leases,
-    rates: &mut Rows<u64>,
-    counts: &mut Rows<u64>,
+    rates: &mut Slots<u64>,
+    counts: &mut Slots<u64>,
 )
     requires touches { AllByRecursion (IsTouch table.now.nodes) touches.now }
     requires leases { length leases.old.ends ≡ table.now.nodes }
@@ -47,8 +47,8 @@ fn touch_one(
     table: &Table,
     me: NodeId,
     leases: &mut Leases,
-    rates: &mut Rows<u64>,
-    counts: &mut Rows<u64>,
+    rates: &mut Slots<u64>,
+    counts: &mut Slots<u64>,
 )
     requires touch { IsTouch table.now.nodes touch.now }
     requires leases { length leases.old.ends ≡ table.now.nodes }
@@ -70,7 +70,7 @@ fn touch_one(
 }
 
 /// One client more was sent to this node.
-fn count(counts: &mut Rows<u64>, node: NodeId)
+fn count(counts: &mut Slots<u64>, node: NodeId)
     requires { IsNode (length counts.old.items) node }
     ensures counts { counts.new.items ≡ put_at counts.old.items node (capped (at counts.old.items node 0 + 1)) }
     ensures length { length counts.new.items ≡ length counts.old.items }

@@ -8,7 +8,7 @@ ghost use Rattle.oc_step.specs.NodeView.{IsReached};
 ghost use Rattle.oc_state.specs.Standing.{standing_of};
 ghost use Rattle.oc_state.specs.Volatile.{volatile_of};
 
-use oc_base::{Child, Memory, NodeId, Rows};
+use oc_base::{Child, Memory, NodeId, Slots};
 use oc_state::children::children;
 use oc_state::{Durable, Standing, Tries, Volatile};
 use oc_updown::{ChangeLog, Leases, Measures, Table, select};
@@ -28,9 +28,9 @@ pub struct Before<'a> {
     pub tries: &'a Tries,
     pub leases: &'a Leases,
     /// The rate that each child told last, by its number.
-    pub rates: &'a Rows<u64>,
+    pub rates: &'a Slots<u64>,
     /// How many clients each node was sent, by its number.
-    pub counts: &'a Rows<u64>,
+    pub counts: &'a Slots<u64>,
     pub alloc: Global,
 }
 

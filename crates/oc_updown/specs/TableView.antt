@@ -3,7 +3,7 @@ use Rattle.std.specs.Prelude.{◌≡◌, ℕ, ◌+◌, Option, None, Some, List,
 use Rattle.std.specs.List.{filter_map}
 use Rattle.oc_base.specs.declared.cert.Cert.{Cert}
 use Rattle.oc_base.specs.Lawful.{IsCert}
-use Rattle.oc_base.specs.RowsView.{RowsView}
+use Rattle.oc_base.specs.SlotsView.{SlotsView}
 
 -- the number of nodes, a certificate for each that has one, ascending by subject, and how many rows there is memory for
 pub record TableView : Type 0 where
@@ -22,7 +22,7 @@ abbrev pub AreRows : List (Option Cert) → Type 0
 AreRows rows = AreRowsFrom (length rows) 1 rows
 
 -- the same for rows that have none wherever nothing was put
-abbrev pub AreTableRows : RowsView (Option Cert) → Type 0
+abbrev pub AreTableRows : SlotsView (Option Cert) → Type 0
 AreTableRows rows = AreRows rows.items × (rows.blank ≡ None)
 
 -- the certificates of these rows

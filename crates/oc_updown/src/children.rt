@@ -8,10 +8,10 @@ ghost use Rattle.oc_base.specs.Lawful.{IsNode};
 ghost use Rattle.oc_updown.specs.Children.{start_row, ended_of_row};
 
 use crate::leases::LEASE_TIME;
-use oc_base::{Cert, NodeId, Rows};
+use oc_base::{Cert, NodeId, Slots};
 
 /// The lease of a child begins anew.
-pub(crate) fn renew(ends: &mut Rows<Option<u64>>, child: NodeId, now: u64)
+pub(crate) fn renew(ends: &mut Slots<Option<u64>>, child: NodeId, now: u64)
     requires child { IsNode (length ends.old.items) child }
     requires now { now ≤ LAST_SECOND }
     ensures ends { ends.new.items ≡ renew ends.old.items child now }
@@ -29,7 +29,7 @@ fn is_lease_of(parent: NodeId, cert: &Cert) -> bool
 }
 
 /// The lease of a child begins, if no end is set for it.
-fn start(ends: &mut Rows<Option<u64>>, child: NodeId, now: u64)
+fn start(ends: &mut Slots<Option<u64>>, child: NodeId, now: u64)
     requires child { IsNode (length ends.old.items) child }
     requires now { now ≤ LAST_SECOND }
     ensures ends { ends.new.items ≡ start_if (at ends.old.items child None) ends.old.items child now }
@@ -42,7 +42,7 @@ fn start(ends: &mut Rows<Option<u64>>, child: NodeId, now: u64)
 }
 
 /// The lease of the subject of a row begins, if it is a child of this node and has no end.
-fn start_of_row(row: &Option<Cert>, me: NodeId, ends: &mut Rows<Option<u64>>, now: u64)
+fn start_of_row(row: &Option<Cert>, me: NodeId, ends: &mut Slots<Option<u64>>, now: u64)
     requires row { IfSome row.now (λ cert. IsNode (length ends.old.items) cert.subject) }
     requires now { now ≤ LAST_SECOND }
     ensures ends { ends.new.items ≡ start_row me row.now ends.old.items now }
@@ -58,9 +58,9 @@ fn start_of_row(row: &Option<Cert>, me: NodeId, ends: &mut Rows<Option<u64>>, no
 
 /// The leases of all children without an end begin.
 pub(crate) fn start_rows(
-    rows: &Rows<Option<Cert>>,
+    rows: &Slots<Option<Cert>>,
     me: NodeId,
-    ends: &mut Rows<Option<u64>>,
+    ends: &mut Slots<Option<u64>>,
     now: u64,
 )
     requires rows { AreTableRows rows.now }
@@ -80,7 +80,7 @@ pub(crate) fn start_rows(
 fn ended_of_row(
     row: &Option<Cert>,
     me: NodeId,
-    ends: &Rows<Option<u64>>,
+    ends: &Slots<Option<u64>>,
     now: u64,
 ) -> Option<NodeId>
     requires { IfSome row.now (λ cert. IsNode (length ends.now.items) cert.subject) }
@@ -95,7 +95,7 @@ fn ended_of_row(
 }
 
 /// Whether the lease of a child has ended.
-fn is_over(ends: &Rows<Option<u64>>, child: NodeId, now: u64) -> bool
+fn is_over(ends: &Slots<Option<u64>>, child: NodeId, now: u64) -> bool
     requires { IsNode (length ends.now.items) child }
     ensures { result ≡ is_over (at ends.now.items child None) now }
 {
@@ -107,9 +107,9 @@ fn is_over(ends: &Rows<Option<u64>>, child: NodeId, now: u64) -> bool
 
 /// The least child past a number whose lease has ended.
 pub(crate) fn next_over(
-    rows: &Rows<Option<Cert>>,
+    rows: &Slots<Option<Cert>>,
     me: NodeId,
-    ends: &Rows<Option<u64>>,
+    ends: &Slots<Option<u64>>,
     after: u32,
     now: u64,
 ) -> Option<NodeId>

@@ -6,7 +6,7 @@ ghost use Rattle.oc_updown.specs.Ended.{IsNextEnded};
 
 use crate::Table;
 use crate::children::{next_over, renew, start_rows};
-use oc_base::{Memory, NodeId, Rows};
+use oc_base::{Memory, NodeId, Slots};
 use std::alloc::Global;
 use std::marker::Model;
 
@@ -18,7 +18,7 @@ pub const LEASE_TIME: u64 = 30;
 #[derive(Drop)]
 pub struct Leases {
     /// By the index of the node.
-    ends: Rows<Option<u64>>,
+    ends: Slots<Option<u64>>,
 }
 
 impl Model for Leases {
@@ -36,7 +36,7 @@ impl Leases {
         ensures length { IfOk result (λ leases. length leases.ends ≡ nodes) }
     {
         Ok(Leases {
-            ends: Rows::new(alloc, nodes as usize, None)?,
+            ends: Slots::new(alloc, nodes as usize, None)?,
         })
     }
 

@@ -7,7 +7,7 @@ ghost use Rattle.oc_base.specs.Lawful.{IsNode};
 
 use crate::post::Post;
 use crate::rows::parent_of;
-use oc_base::{Cert, Line, Memory, NodeId, Rows};
+use oc_base::{Cert, Line, Memory, NodeId, Slots};
 use std::alloc::Global;
 
 /// What is known of a node.
@@ -19,7 +19,7 @@ fn known_of(known: &[Option<bool>], node: NodeId) -> Option<bool>
 }
 
 /// Whether the way up from a node comes to the root. It ends where something is known already.
-fn climb(rows: &Rows<Option<Cert>>, known: &[Option<bool>], root: NodeId, node: NodeId) -> bool
+fn climb(rows: &Slots<Option<Cert>>, known: &[Option<bool>], root: NodeId, node: NodeId) -> bool
     requires rows { AreRows rows.now.items }
     requires node { IsNode (length rows.now.items) node }
     requires places { length known.now ≡ length rows.now.items }
@@ -47,7 +47,7 @@ fn climb(rows: &Rows<Option<Cert>>, known: &[Option<bool>], root: NodeId, node: 
 
 /// Notes the answer of all nodes on the way up from a node, as far as nothing was known of them.
 fn note_way(
-    rows: &Rows<Option<Cert>>,
+    rows: &Slots<Option<Cert>>,
     known: &mut [Option<bool>],
     root: NodeId,
     node: NodeId,
@@ -75,7 +75,7 @@ fn note_way(
 
 /// The line of a node, where it is listed beneath the root.
 fn line_of(
-    rows: &Rows<Option<Cert>>,
+    rows: &Slots<Option<Cert>>,
     known: &mut [Option<bool>],
     root: NodeId,
     node: NodeId,
@@ -110,7 +110,7 @@ fn push_line(lines: &mut Vec<Line>, line: Option<Line>) -> Result<(), Memory>
 
 /// The line of the node of a row.
 fn line_of_row(
-    rows: &Rows<Option<Cert>>,
+    rows: &Slots<Option<Cert>>,
     known: &mut [Option<bool>],
     root: NodeId,
     row: &Option<Cert>,
@@ -132,7 +132,7 @@ fn line_of_row(
 /// a few times for all of them together.
 fn push_lines(
     lines: &mut Vec<Line>,
-    rows: &Rows<Option<Cert>>,
+    rows: &Slots<Option<Cert>>,
     known: &mut [Option<bool>],
     root: NodeId,
 ) -> Result<(), Memory>
@@ -152,7 +152,7 @@ fn push_lines(
 #[tactic(auto, using(crate::proofs::Climbs::none_known))]
 pub(crate) fn lines_of(
     alloc: Global,
-    rows: &Rows<Option<Cert>>,
+    rows: &Slots<Option<Cert>>,
     root: NodeId,
 ) -> Result<Vec<Line>, Memory>
     requires { AreTableRows rows.now }

@@ -2,7 +2,7 @@ ghost use Rattle.std.specs.Prelude.{◌≡◌, ◌≤◌, ◌<◌, length, repli
 ghost use Rattle.oc_model.specs.Measures.{reading_of, with_reading};
 ghost use Rattle.oc_model.specs.Node.{no_reading};
 
-use oc_base::{Memory, NodeId, Rows};
+use oc_base::{Memory, NodeId, Slots};
 use oc_model::Reading;
 use std::alloc::Global;
 use std::marker::Model;
@@ -13,7 +13,7 @@ const NOTHING: Reading = Reading { rate: 0, hops: 0 };
 /// The last reading of each peer. Contracts see it as the list of readings by the number of the peer.
 #[derive(Drop)]
 pub struct Measures {
-    readings: Rows<Reading>,
+    readings: Slots<Reading>,
 }
 
 impl Model for Measures {
@@ -30,7 +30,7 @@ impl Measures {
     pub fn new(alloc: Global, nodes: u32) -> Result<Measures, Memory>
         ensures { IfOk result (λ all. all ≡ replicate nodes no_reading) }
     {
-        let readings = Rows::new(alloc, nodes as usize, NOTHING)?;
+        let readings = Slots::new(alloc, nodes as usize, NOTHING)?;
         Ok(Measures { readings })
     }
 

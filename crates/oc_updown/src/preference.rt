@@ -2,7 +2,7 @@ ghost use Rattle.std.specs.Prelude.{◌≡◌, ◌<◌, ◌≤◌, length, IfSom
 ghost use Rattle.oc_model.specs.Numbers.{at};
 ghost use Rattle.oc_updown.specs.Better.{is_near, is_better, beats};
 
-use oc_base::{NodeId, Rows};
+use oc_base::{NodeId, Slots};
 
 /// By what one server is preferred to another for a client.
 #[derive(Drop)]
@@ -10,7 +10,7 @@ pub(crate) struct Preference<'a> {
     /// The area of each node, by its number.
     pub areas: &'a [u8],
     /// How many clients each node was sent, by its number.
-    pub counts: &'a Rows<u64>,
+    pub counts: &'a Slots<u64>,
     /// The area of the client.
     pub area: u8,
 }

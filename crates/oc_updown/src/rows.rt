@@ -3,11 +3,11 @@ ghost use Rattle.oc_model.specs.Table.{newest, parent_in, is_news, put};
 ghost use Rattle.oc_updown.specs.TableView.{AreRows, entries_of};
 ghost use Rattle.oc_base.specs.Lawful.{IsNode, IsCert};
 
-use oc_base::{Cert, NodeId, Rows};
+use oc_base::{Cert, NodeId, Slots};
 
 /// The certificate of a node, if there is one.
 #[tactic(auto, using(crate::proofs::Entries::newest_zero))]
-pub(crate) fn row_of(rows: &Rows<Option<Cert>>, node: NodeId) -> Option<Cert>
+pub(crate) fn row_of(rows: &Slots<Option<Cert>>, node: NodeId) -> Option<Cert>
     requires { AreRows rows.now.items }
     ensures entry { result ≡ newest (entries_of rows.now.items) node }
     ensures fits { IfSome result (λ entry. (entry.subject ≡ node) × IsCert (length rows.now.items) entry) }
@@ -19,7 +19,7 @@ pub(crate) fn row_of(rows: &Rows<Option<Cert>>, node: NodeId) -> Option<Cert>
 }
 
 /// The parent of a node that lives by its certificate.
-pub(crate) fn parent_of(rows: &Rows<Option<Cert>>, node: NodeId) -> Option<NodeId>
+pub(crate) fn parent_of(rows: &Slots<Option<Cert>>, node: NodeId) -> Option<NodeId>
     requires { AreRows rows.now.items }
     ensures parent { result ≡ parent_in (entries_of rows.now.items) node }
     ensures fits { IfSome result (λ parent. IsNode (length rows.now.items) parent) }
@@ -31,7 +31,7 @@ pub(crate) fn parent_of(rows: &Rows<Option<Cert>>, node: NodeId) -> Option<NodeI
 }
 
 /// Whether there is no row of the certificate's subject, or the certificate outranks it.
-pub(crate) fn is_news(rows: &Rows<Option<Cert>>, cert: &Cert) -> bool
+pub(crate) fn is_news(rows: &Slots<Option<Cert>>, cert: &Cert) -> bool
     requires { AreRows rows.now.items }
     ensures { result ≡ is_news (entries_of rows.now.items) cert.now }
 {
@@ -43,7 +43,7 @@ pub(crate) fn is_news(rows: &Rows<Option<Cert>>, cert: &Cert) -> bool
 
 /// Sets the row of the certificate's subject.
 #[tactic(auto, using(crate::proofs::Entries::put_row, crate::proofs::Entries::set_fits, crate::proofs::Entries::put_found))]
-pub(crate) fn put(rows: &mut Rows<Option<Cert>>, cert: &Cert)
+pub(crate) fn put(rows: &mut Slots<Option<Cert>>, cert: &Cert)
     requires rows { AreRows rows.old.items }
     requires cert { IsCert (length rows.old.items) cert.now }
     ensures entries { entries_of rows.new.items ≡ put (entries_of rows.old.items) cert.now }

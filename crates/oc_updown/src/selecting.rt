@@ -3,7 +3,7 @@ ghost use Rattle.oc_model.specs.Selected.{selected};
 
 use crate::Table;
 use crate::preference::Preference;
-use oc_base::{NodeId, Rows};
+use oc_base::{NodeId, Slots};
 
 /// The node to which this one, a member of the chain, sends a client of this area: a node past the chain
 /// that its table lists beneath it, in the client's area where there is any there; among these the one
@@ -17,7 +17,7 @@ pub fn select(
     me: NodeId,
     chain: u32,
     areas: &[u8],
-    counts: &Rows<u64>,
+    counts: &Slots<u64>,
     area: u8,
 ) -> Option<NodeId>
     requires areas { length areas.now ≡ table.now.nodes }

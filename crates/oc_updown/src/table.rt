@@ -8,7 +8,7 @@ ghost use Rattle.oc_base.specs.Lawful.{IsCert};
 use crate::listing::lines_of;
 use crate::rows::{is_news, put, row_of};
 use crate::walk::is_listed;
-use oc_base::{Cert, Line, Memory, NodeId, Rows};
+use oc_base::{Cert, Line, Memory, NodeId, Slots};
 use std::alloc::Global;
 use std::marker::Model;
 
@@ -18,7 +18,7 @@ use std::marker::Model;
 pub struct Table {
     alloc: Global,
     /// By the index of the node.
-    rows: Rows<Option<Cert>>,
+    rows: Slots<Option<Cert>>,
 }
 
 impl Model for Table {
@@ -44,7 +44,7 @@ impl Table {
     {
         Ok(Table {
             alloc,
-            rows: Rows::new(alloc, nodes as usize, None)?,
+            rows: Slots::new(alloc, nodes as usize, None)?,
         })
     }
 
@@ -118,7 +118,7 @@ impl Table {
 
     /// The row of each node, in the order of their numbers.
     #[tactic(auto, using(crate::proofs::Entries::fewer_entries))]
-    pub fn rows(&self) -> &Rows<Option<Cert>>
+    pub fn rows(&self) -> &Slots<Option<Cert>>
         ensures rows { AreTableRows result.now }
         ensures entries { entries_of result.now.items ≡ self.now.entries }
         ensures nodes { length result.now.items ≡ self.now.nodes }

@@ -4,7 +4,7 @@ ghost use Rattle.oc_updown.specs.TableView.{AreTableRows, entries_of};
 ghost use Rattle.oc_base.specs.Lawful.{IsNode};
 ghost use Rattle.oc_updown.specs.Waiting.{count_of};
 
-use oc_base::{Cert, Memory, NodeId, Rows, push_reserved};
+use oc_base::{Cert, Memory, NodeId, Slots, push_reserved};
 use std::alloc::Global;
 use std::collections::VecDeque;
 use std::marker::Model;
@@ -15,7 +15,7 @@ use std::marker::Model;
 pub(crate) struct Waiting {
     certs: VecDeque<Cert>,
     /// By the index of the node.
-    counts: Rows<u64>,
+    counts: Slots<u64>,
 }
 
 impl Model for Waiting {
@@ -37,7 +37,7 @@ impl Waiting {
     {
         Ok(Waiting {
             certs: VecDeque::new(alloc),
-            counts: Rows::new(alloc, nodes as usize, 0)?,
+            counts: Slots::new(alloc, nodes as usize, 0)?,
         })
     }
 
@@ -114,7 +114,7 @@ impl Waiting {
     }
 
     /// Puts the certificates of these rows at the end. There is room for them.
-    pub(crate) fn push_rows(&mut self, rows: &Rows<Option<Cert>>)
+    pub(crate) fn push_rows(&mut self, rows: &Slots<Option<Cert>>)
         requires rows { AreTableRows rows.now }
         requires nodes { length rows.now.items ≤ self.old.nodes }
         requires room { length self.old.certs + length (entries_of rows.now.items) ≤ self.old.room }

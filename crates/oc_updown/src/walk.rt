@@ -3,12 +3,12 @@ ghost use Rattle.oc_model.specs.Table.{parent_in, reaches, is_listed};
 ghost use Rattle.oc_updown.specs.TableView.{AreRows, entries_of};
 
 use crate::rows::parent_of;
-use oc_base::{Cert, NodeId, Rows};
+use oc_base::{Cert, NodeId, Slots};
 
 /// Whether the way up from a node comes to the root. A way that comes to it goes through no row
 /// twice, so as many steps as there are rows are enough, and a way that goes round in a loop ends.
 #[tactic(auto, using(oc_model::proofs::Walks::walk_step, oc_model::proofs::Walks::walk_ends, oc_model::proofs::Walks::walk_over))]
-pub(crate) fn reaches(rows: &Rows<Option<Cert>>, root: NodeId, node: NodeId) -> bool
+pub(crate) fn reaches(rows: &Slots<Option<Cert>>, root: NodeId, node: NodeId) -> bool
     requires { AreRows rows.now.items }
     ensures { result ≡ reaches (length rows.now.items) (entries_of rows.now.items) root (parent_in (entries_of rows.now.items) node) }
 {
@@ -25,7 +25,7 @@ pub(crate) fn reaches(rows: &Rows<Option<Cert>>, root: NodeId, node: NodeId) -> 
 
 /// Whether a node is listed beneath the root.
 #[tactic(auto, using(oc_model::proofs::Walks::listed_walk, crate::proofs::Entries::fewer_entries))]
-pub(crate) fn is_listed(rows: &Rows<Option<Cert>>, root: NodeId, node: NodeId) -> bool
+pub(crate) fn is_listed(rows: &Slots<Option<Cert>>, root: NodeId, node: NodeId) -> bool
     requires { AreRows rows.now.items }
     ensures { result ≡ is_listed (entries_of rows.now.items) root node }
 {

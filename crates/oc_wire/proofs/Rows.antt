@@ -4,7 +4,7 @@ use Rattle.std.specs.List.{position_or_len}
 use Rattle.std.proofs.lemmas.Bool.{eqb-true, eqb-false, ne_eqb, ltb-false}
 use Rattle.std.proofs.lemmas.List.Sums.{fails_before_first}
 use Rattle.std.proofs.lemmas.List.Quantifiers.{position-Some}
-use Rattle.oc_base.specs.Codes.{place_of}
+use Rattle.oc_base.specs.Codes.{row_of}
 use Rattle.oc_base.specs.declared.code_row.CodeRow.{CodeRow}
 use Rattle.oc_wire.specs.declared.codes.TheConstants.{CODES}
 use Rattle.oc_wire.specs.declared.fault.WireFault.TheVariants.{Kind}
@@ -15,11 +15,11 @@ use Rattle.oc_wire.specs.MessageReading.{fields_at, body_at}
 abbrev no_row : CodeRow
 no_row = record { code = 0; least = 0 }
 
-code_in_row : (code row : ℕ) → place_of code CODES ≡ Some row → (get_or CODES row no_row).code ≡ code
+code_in_row : (code row : ℕ) → row_of code CODES ≡ Some row → (get_or CODES row no_row).code ≡ code
 code_in_row code row h = eqb-true (get_or CODES row no_row).code code (position-Some (λ (r : CodeRow). r.code == code) CODES row no_row h).1
 
 -- the body of the kind with this code is that of its row
-pub body_in_row : (code row nodes : ℕ) (bytes : List ℕ) (at : ℕ) → place_of code CODES ≡ Some row → body_at code nodes bytes at ≡ of_field (fields_at row nodes bytes at)
+pub body_in_row : (code row nodes : ℕ) (bytes : List ℕ) (at : ℕ) → row_of code CODES ≡ Some row → body_at code nodes bytes at ≡ of_field (fields_at row nodes bytes at)
 unfolding body_at fields_at
 body_in_row code zero nodes bytes at h = subst (λ (n : ℕ). body_at n nodes bytes at ≡ of_field (fields_at 0 nodes bytes at)) (code_in_row code 0 h) refl
 body_in_row code (suc zero) nodes bytes at h = subst (λ (n : ℕ). body_at n nodes bytes at ≡ of_field (fields_at 1 nodes bytes at)) (code_in_row code 1 h) refl
@@ -41,14 +41,14 @@ all_before n none = by_test (nat_lt n 10) refl none where
   by_test false is e = ltb-false n 10 is
 
 -- a code that is in no row is none of these
-other_code : (code k : ℕ) → place_of code CODES ≡ None → k < 10 → (code == (get_or CODES k no_row).code) ≡ false
+other_code : (code k : ℕ) → row_of code CODES ≡ None → k < 10 → (code == (get_or CODES k no_row).code) ≡ false
 other_code code k none within =
     let behind = all_before (position_or_len (λ (r : CodeRow). r.code == code) CODES) none in
     let fails = fails_before_first (λ (r : CodeRow). r.code == code) CODES k no_row (omega (arith, behind, within)) in
     ne_eqb code (get_or CODES k no_row).code (λ same. eqb-false (get_or CODES k no_row).code code fails (sym same))
 
 -- no kind has a code that is in no row
-pub body_in_no_row : (code nodes : ℕ) (bytes : List ℕ) (at : ℕ) → place_of code CODES ≡ None → body_at code nodes bytes at ≡ Err (Kind code)
+pub body_in_no_row : (code nodes : ℕ) (bytes : List ℕ) (at : ℕ) → row_of code CODES ≡ None → body_at code nodes bytes at ≡ Err (Kind code)
 unfolding body_at
 body_in_no_row code nodes bytes at none =
     let not_1 : (code == 1) ≡ false = other_code code 0 none (omega arith) in

@@ -3,7 +3,7 @@
 ghost use Rattle.std.specs.Prelude.{◌≡◌};
 
 use crate::part::tables::table_in;
-use oc_base::{NodeId, Rows};
+use oc_base::{NodeId, Slots};
 use oc_updown::{Table, select};
 use std::alloc::Global;
 use test_tools::{Fault, Fields, put_shown};
@@ -42,7 +42,7 @@ fn put_selected(
     me: NodeId,
     chain: u32,
     areas: &[u8],
-    counts: &Rows<u64>,
+    counts: &Slots<u64>,
     mut fields: Fields<'_>,
     said: &mut String,
 ) -> Result<(), Fault> {
@@ -55,8 +55,8 @@ fn put_selected(
 }
 
 /// These numbers, by their place.
-fn rows_of(alloc: Global, numbers: &[u64]) -> Result<Rows<u64>, Fault> {
-    let mut rows = Rows::new(alloc, numbers.len(), 0)?;
+fn rows_of(alloc: Global, numbers: &[u64]) -> Result<Slots<u64>, Fault> {
+    let mut rows = Slots::new(alloc, numbers.len(), 0)?;
     for (place, number) in numbers.iter().enumerate() {
         if place < rows.len() {
             rows.put(place, *number);

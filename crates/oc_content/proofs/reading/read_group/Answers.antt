@@ -9,8 +9,8 @@ use Rattle.std.proofs.lemmas.Result.{err_from_is_err_and}
 use Rattle.oc_journal.proofs.ReadRuns.{OnlyReads-none}
 use Rattle.oc_content.proofs.reading.read_group.Goals as goal
 
-pub place_of-requires : goal.place_of-requires
-place_of-requires g c =
+pub look_up-requires : goal.look_up-requires
+look_up-requires g c =
     subst (λ (ss : List Shelf). AreLinesAscending ss) (sym c.deref.ensures.value) (IsIndexed-sized g.D.Disk.view c.args.journal.now c.args.index.now c.requires).ascending
 
 pub find-requires-clause-within : goal.find-requires-clause-within

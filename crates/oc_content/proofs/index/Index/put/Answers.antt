@@ -1,6 +1,6 @@
 use Rattle.std.proofs.Common.{◌≡◌, ◌++◌, ◌∷◌, [], ℕ, true, length, sym, ap, subst, arith}
-use Rattle.oc_base.specs.declared.place.Place.{Place}
-use Rattle.oc_base.specs.Shelves.{line_of, IsLinePlace}
+use Rattle.oc_base.specs.declared.named.Lookup.{Lookup}
+use Rattle.oc_base.specs.Shelves.{line_of, LooksUpLine}
 use Rattle.oc_content.specs.ContentFile.{fits, with_entry}
 use Rattle.oc_content.specs.Indexes.{IsWithin, IsIndexOf}
 use Rattle.oc_content.specs.ContentView.{PieceView}
@@ -11,7 +11,7 @@ pub add-requires-clause-within : goal.add-requires-clause-within
 add-requires-clause-within c =
     let ss = c.args.self.now.shelves.items in
     let p = c.args.piece in
-    subst (λ (place : Place). IsWithin place (length ss)) (sym (ap (λ (v : PieceView). v.place) c.piece.view_is)) (place_within ss p.entry.group p.place p.entry.start (length p.entry.bytes) p.entry.seals c.requires.place c.requires.fits)
+    subst (λ (place : Lookup). IsWithin place (length ss)) (sym (ap (λ (v : PieceView). v.place) c.piece.view_is)) (place_within ss p.entry.group p.place p.entry.start (length p.entry.bytes) p.entry.seals c.requires.place c.requires.fits)
 
 pub overflow_add-result : goal.overflow_add-result
 overflow_add-result c =
@@ -28,7 +28,7 @@ returns-clause-added c = λ bodies groups honest is number.
     let count = c.piece.inside.count in
     let place = c.piece.inside.place in
     let many = c.piece.invariant.count_is in
-    let at = subst (λ (v : PieceView). IsLinePlace ss v.entry.group v.place) (sym c.piece.view_is) c.requires.place in
+    let at = subst (λ (v : PieceView). LooksUpLine ss v.entry.group v.place) (sym c.piece.view_is) c.requires.place in
     let fit = subst (λ (v : PieceView). fits (line_of v.entry.group ss) (length ss) v.entry.start (length v.entry.bytes) v.entry.seals ≡ true) (sym c.piece.view_is) c.requires.fits in
     let fits_count = subst (λ (n : ℕ). fits (line_of h.group ss) (length ss) h.start n h.seals ≡ true) (sym many) fit in
     subst (λ (v : PieceView). IsIndexOf (bodies ++ v.body ∷ []) (with_entry v.entry groups) c.add.new.self honest) c.piece.view_is

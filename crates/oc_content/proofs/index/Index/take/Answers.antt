@@ -4,7 +4,7 @@ use Rattle.oc_base.specs.declared.shelf.Shelf.{Shelf}
 use Rattle.oc_content.specs.declared.track.Track.{Track}
 use Rattle.oc_content.specs.ContentFile.{with_entry}
 use Rattle.oc_content.specs.Headings.{entry_at}
-use Rattle.oc_base.specs.Shelves.{IsLinePlace}
+use Rattle.oc_base.specs.Shelves.{LooksUpLine}
 use Rattle.oc_content.specs.Indexes.{IsWithin, lines_with, paths_with, span_of}
 use Rattle.oc_content.proofs.Adding.{IsIndexOf-add, place_within, count_short, taken-refused}
 use Rattle.oc_content.proofs.index.Index.take.Goals as goal
@@ -19,15 +19,15 @@ pub reserve-requires : goal.reserve-requires
 reserve-requires c =
     let h = c.in-Some.heading in
     let ss = c.args.self.now.shelves.items in
-    let at = subst (λ (l : List Shelf). IsLinePlace l h.group c.place_of-place.result) c.deref.ensures.value c.place_of-place.ensures in
-    subst (λ (n : ℕ). IsWithin c.place_of-place.result n) (sym c.requires.rows) (place_within ss h.group c.place_of-place.result h.start (length c.args.body.now - h.skip) h.seals at (sym c.if-not-fits.ensures))
+    let at = subst (λ (l : List Shelf). LooksUpLine l h.group c.look_up-place.result) c.deref.ensures.value c.look_up-place.ensures in
+    subst (λ (n : ℕ). IsWithin c.look_up-place.result n) (sym c.requires.rows) (place_within ss h.group c.look_up-place.result h.start (length c.args.body.now - h.skip) h.seals at (sym c.if-not-fits.ensures))
 
 pub add-requires-clause-within : goal.add-requires-clause-within
 add-requires-clause-within c =
     let h = c.in-Some.heading in
     let ss = c.args.self.now.shelves.items in
-    let at = subst (λ (l : List Shelf). IsLinePlace l h.group c.place_of-place.result) c.deref.ensures.value c.place_of-place.ensures in
-    subst (λ (n : ℕ). IsWithin c.place_of-place.result n) (sym (ap (λ v. length v.items) c.in_ok-track.ensures.lines)) (place_within ss h.group c.place_of-place.result h.start (length c.args.body.now - h.skip) h.seals at (sym c.if-not-fits.ensures))
+    let at = subst (λ (l : List Shelf). LooksUpLine l h.group c.look_up-place.result) c.deref.ensures.value c.look_up-place.ensures in
+    subst (λ (n : ℕ). IsWithin c.look_up-place.result n) (sym (ap (λ v. length v.items) c.in_ok-track.ensures.lines)) (place_within ss h.group c.look_up-place.result h.start (length c.args.body.now - h.skip) h.seals at (sym c.if-not-fits.ensures))
 
 pub add-requires-clause-rows : goal.add-requires-clause-rows
 add-requires-clause-rows c =
@@ -46,8 +46,8 @@ returns c = λ bodies groups honest is number.
     let h = c.in-Some.heading in
     let body = c.args.body.now in
     let count = length body - h.skip in
-    let place = c.place_of-place.result in
-    let at = subst (λ (l : List Shelf). IsLinePlace l h.group place) c.deref.ensures.value c.place_of-place.ensures in (
+    let place = c.look_up-place.result in
+    let at = subst (λ (l : List Shelf). LooksUpLine l h.group place) c.deref.ensures.value c.look_up-place.ensures in (
       with_entry (entry_at h body) groups,
       IsIndexOf-add bodies groups c.args.self.now c.add.new.self honest h body count c.args.frame place is at (sym c.if-not-fits.ensures) (sym (length-drop h.skip body)) c.in-Some.ensures.entry number (c.add.ensures.lines ∙ ap (λ v. lines_with place h count v.items) c.in_ok-track.ensures.lines) (c.add.ensures.paths ∙ ap (paths_with place (span_of h count c.args.frame)) c.in_ok-track.ensures.tracks.paths) (omega (arith, c.requires.line_memory, ap (λ v. vec_capacity v) c.in_ok-track.ensures.lines, c.add.ensures.line_memory)) (omega (arith, c.requires.track_memory, c.in_ok-track.ensures.memory, c.add.ensures.track_memory)),
     )

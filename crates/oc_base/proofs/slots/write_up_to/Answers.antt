@@ -1,6 +1,6 @@
 use Rattle.std.proofs.Common.{◌∙◌, ◌++◌, ◌∷◌, [], ap, arith, append_assoc, replicate}
 use Rattle.std.proofs.lemmas.List.{replicate_more}
-use Rattle.oc_base.proofs.rows.write_up_to.Goals as goal
+use Rattle.oc_base.proofs.slots.write_up_to.Goals as goal
 
 pub loop-preserved : goal.loop-preserved
 loop-preserved g c = (

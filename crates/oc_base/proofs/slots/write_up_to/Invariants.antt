@@ -1,6 +1,6 @@
 use Rattle.std.proofs.Common.{◌≡◌, ◌+◌, ◌-◌, ◌≤◌, ◌++◌, length, replicate}
 use Rattle.std.specs.VecDeque.{deque_len, deque_capacity}
-use Rattle.oc_base.proofs.rows.write_up_to.Given as goal
+use Rattle.oc_base.proofs.slots.write_up_to.Given as goal
 
 abbrev pub invariant-loop : goal.invariant-loop
 invariant-loop g l =

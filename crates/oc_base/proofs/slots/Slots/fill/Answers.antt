@@ -1,7 +1,7 @@
 use Rattle.std.proofs.Common.{◌≡◌, ◌∙◌, ap, sym, length, replicate}
-use Rattle.oc_base.specs.RowsView.{filled_up}
+use Rattle.oc_base.specs.SlotsView.{filled_up}
 use Rattle.oc_base.proofs.Filling.{filled_length, none_written}
-use Rattle.oc_base.proofs.rows.Rows.fill.Goals as goal
+use Rattle.oc_base.proofs.slots.Slots.fill.Goals as goal
 
 pub returns-clause-items : goal.returns-clause-items
 returns-clause-items g c =

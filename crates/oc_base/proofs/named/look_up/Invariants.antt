@@ -1,6 +1,6 @@
 use Rattle.std.proofs.Common.{take}
 use Rattle.oc_base.proofs.Finding.{HasPassed}
-use Rattle.oc_base.proofs.place.place_of.Given as goal
+use Rattle.oc_base.proofs.named.look_up.Given as goal
 
 -- the names so far are before this one
 abbrev pub invariant-loop-at : goal.invariant-loop-at

@@ -1,5 +1,5 @@
 ghost use Rattle.std.specs.Prelude.{◌≡◌, ℕ, List};
-ghost use Rattle.oc_base.specs.Named.{AreAscending, IsPlace};
+ghost use Rattle.oc_base.specs.Named.{AreAscending, LooksUp};
 
 use crate::{Group, GroupName, Shelf};
 use std::cmp::Ordering;
@@ -34,26 +34,26 @@ impl Named for Shelf {
     }
 }
 
-/// The index of a name in a list ascending by name.
+/// Where a name is, or would be, in a list ascending by name.
 #[derive(Clone, Copy, Debug, PartialEq, Eq)]
-pub enum Place {
+pub enum Lookup {
     /// The name is at this index.
     Found(usize),
     /// The name is absent, and would be at this index.
     Free(usize),
 }
 
-/// The index of a name in a list ascending by name.
-pub fn place_of<T: Named>(items: &[T], name: &GroupName) -> Place
+/// Looks a name up in a list ascending by name.
+pub fn look_up<T: Named>(items: &[T], name: &GroupName) -> Lookup
     requires { AreAscending T.name_of items.now }
-    ensures { IsPlace T.name_of items.now name.now result }
+    ensures { LooksUp T.name_of items.now name.now result }
 {
     for (at, item) in items.iter().enumerate() {
         match name.cmp(item.name()) {
-            Ordering::Less => return Place::Free(at),
-            Ordering::Equal => return Place::Found(at),
+            Ordering::Less => return Lookup::Free(at),
+            Ordering::Equal => return Lookup::Found(at),
             Ordering::Greater => {}
         }
     }
-    Place::Free(items.len())
+    Lookup::Free(items.len())
 }

@@ -6,25 +6,25 @@ use std::alloc::Global;
 use std::collections::VecDeque;
 use std::marker::Model;
 
-/// A value for each place below a count, the same everywhere at first. All memory is taken at the
-/// beginning, but what follows the last place that was put is not written, so that to make one takes
-/// no longer for a thousand places than for ten.
+/// A value for each of a fixed number of slots, the same everywhere at first. All memory is taken at
+/// the beginning, but what follows the last slot that was put is not written, so making one takes no
+/// longer for a thousand slots than for ten. Slots are counted from 0.
 ///
 /// A contract sees the list of the values, how many of them are in use, the value of all others, and
 /// for how many there is memory.
 #[derive(Drop)]
-pub struct Rows<T> {
+pub struct Slots<T> {
     count: usize,
     blank: T,
     written: VecDeque<T>,
 }
 
-impl<T> Model for Rows<T> {
+impl<T> Model for Slots<T> {
     ghost use Rattle.std.specs.Prelude.{◌≤◌, length};
     ghost use Rattle.std.specs.VecDeque.{deque_capacity};
-    ghost use Rattle.oc_base.specs.RowsView.{RowsView, filled_up};
+    ghost use Rattle.oc_base.specs.SlotsView.{SlotsView, filled_up};
 
-    ghost Value = { RowsView T };
+    ghost Value = { SlotsView T };
 
     ghost view = { λ r. record {
       items = filled_up r.count r.blank r.written.items;
@@ -36,29 +36,29 @@ impl<T> Model for Rows<T> {
     ghost invariant = { λ r. (length r.written.items ≤ r.count) × (r.count ≤ deque_capacity r.written) };
 }
 
-impl<T: Copy> Rows<T> {
-    /// This value at each of this many places.
-    pub fn new(alloc: Global, count: usize, blank: T) -> Result<Rows<T>, Memory>
+impl<T: Copy> Slots<T> {
+    /// `count` slots, each with the value `blank`.
+    pub fn new(alloc: Global, count: usize, blank: T) -> Result<Slots<T>, Memory>
         ensures items { IfOk result (λ made. made.items ≡ replicate count blank) }
         ensures used { IfOk result (λ made. made.used ≡ 0) }
         ensures blank { IfOk result (λ made. made.blank ≡ blank) }
         ensures room { IfOk result (λ made. count ≤ made.room) }
     {
-        Ok(Rows {
+        Ok(Slots {
             count,
             blank,
             written: VecDeque::with_capacity(alloc, count)?,
         })
     }
 
-    /// How many places there are.
+    /// How many slots there are.
     pub fn len(&self) -> usize
         ensures { result ≡ length self.now.items }
     {
         self.count
     }
 
-    /// How many places are in use: each after them has the blank value.
+    /// How many slots are in use: each after them has the blank value.
     pub fn used(&self) -> usize
         ensures used { result ≡ self.now.used }
         ensures within { result ≤ length self.now.items }
@@ -67,30 +67,30 @@ impl<T: Copy> Rows<T> {
         self.written.len()
     }
 
-    /// The value at a place, or `other` past the last place.
-    pub fn get_or(&self, place: usize, other: T) -> T
-        ensures { result ≡ get_or self.now.items place other }
+    /// The value at a slot, or `other` past the last slot.
+    pub fn get_or(&self, slot: usize, other: T) -> T
+        ensures { result ≡ get_or self.now.items slot other }
     {
-        match self.written.get(place) {
+        match self.written.get(slot) {
             Some(value) => *value,
-            None if place < self.count => self.blank,
+            None if slot < self.count => self.blank,
             None => other,
         }
     }
 
-    /// Puts a value at a place. Takes no memory.
-    pub fn put(&mut self, place: usize, value: T)
-        requires { place < length self.old.items }
-        ensures items { self.new.items ≡ set self.old.items place value }
-        ensures used { self.new.used ≡ max self.old.used (place + 1) }
+    /// Puts a value at a slot. Takes no memory.
+    pub fn put(&mut self, slot: usize, value: T)
+        requires { slot < length self.old.items }
+        ensures items { self.new.items ≡ set self.old.items slot value }
+        ensures used { self.new.used ≡ max self.old.used (slot + 1) }
         ensures blank { self.new.blank ≡ self.old.blank }
         ensures room { self.new.room ≡ self.old.room }
     {
-        write_up_to(&mut self.written, place + 1, self.blank);
-        self.written[place] = value;
+        write_up_to(&mut self.written, slot + 1, self.blank);
+        self.written[slot] = value;
     }
 
-    /// Puts one value at every place. Takes no memory.
+    /// Puts one value at every slot. Takes no memory.
     pub fn fill(&mut self, value: T)
         ensures items { self.new.items ≡ replicate (length self.old.items) value }
         ensures used { self.new.used ≡ 0 }

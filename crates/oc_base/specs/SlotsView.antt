@@ -1,8 +1,8 @@
--- What a contract sees of rows.
+-- What a contract sees of slots.
 use Rattle.std.specs.Prelude.{ℕ, ◌-◌, List, ◌++◌, length, replicate}
 
--- the value at each place; how many places from the first on are in use; the value of all others; and for how many places there is memory
-pub record RowsView (X : Type 0) : Type 0 where
+-- the value at each slot; how many slots from the first on are in use; the value of all others; and for how many slots there is memory
+pub record SlotsView (X : Type 0) : Type 0 where
   pub items : List X
   pub used : ℕ
   pub blank : X

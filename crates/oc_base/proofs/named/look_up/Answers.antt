@@ -1,7 +1,7 @@
 use Rattle.std.proofs.Common.{nat_cmp, sym, ap, ◌∙◌, arith}
 use Rattle.std.specs.Cmp.Lexicographic.{slice_cmp}
 use Rattle.oc_base.proofs.Finding.{free_before, free_last, found_here}
-use Rattle.oc_base.proofs.place.place_of.Goals as goal
+use Rattle.oc_base.proofs.named.look_up.Goals as goal
 
 pub returns-in-Less : goal.returns-in-Less
 returns-in-Less g c = free_before g.T.Named.name_of c.args.name.now c.args.items.now c.loop-at.at c.index-items-at.result c.requires c.loop-at-test.true c.index-items-at.is (ap (slice_cmp nat_cmp c.args.name.now) (sym c.name.ensures) ∙ sym c.in-Less.ensures) c.loop-at.invariant

@@ -1,6 +1,5 @@
-//! What plain words say of a request.
-ghost use Rattle.std.specs.Prelude.{◌≡◌, ◌≤◌, min, IfOk, option_map};
-ghost use Rattle.oc_base.specs.Words.{number_in};
+//! The numbers of a request, from the words that stand for them.
+ghost use Rattle.std.specs.Prelude.{◌≡◌, IfOk, option_map};
 ghost use Rattle.oc_words.specs.Requests.{IsMember, IsSample, IsService, IsTimes, member_in, sample_in, service_in, times_in};
 
 use crate::request::{MAX_EVENTS, MAX_FOLLOWED, MAX_TURNS, Member, Sample, Service};
@@ -8,7 +7,7 @@ use oc_base::words::number;
 use oc_base::{MAX_CHAIN, MAX_NODES, Why};
 
 /// The sample that three words ask for.
-pub fn sample_in(seed: &str, nodes: &str, events: &str) -> Result<Sample, Why>
+pub(crate) fn sample_in(seed: &str, nodes: &str, events: &str) -> Result<Sample, Why>
     ensures said { result ≡ sample_in seed.now nodes.now events.now }
     ensures range { IfOk result IsSample }
 {
@@ -23,32 +22,24 @@ pub fn sample_in(seed: &str, nodes: &str, events: &str) -> Result<Sample, Why>
 }
 
 /// The run that two words ask for, which probes or not.
-pub fn service_in(id: &str, turns: &str, probes: bool) -> Result<Service, Why>
+pub(crate) fn service_in(id: &str, turns: &str, probes: bool) -> Result<Service, Why>
     ensures said { result ≡ service_in id.now turns.now probes }
     ensures range { IfOk result IsService }
 {
     Ok(Service {
         id: number(id.as_bytes(), 0, u64::MAX)?,
-        turns: turns_in(turns)?,
+        turns: number(turns.as_bytes(), 0, MAX_TURNS)?,
         probes,
     })
 }
 
-/// The number of turns that a word asks for.
-fn turns_in(word: &str) -> Result<u64, Why>
-    ensures said { result ≡ number_in 0 MAX_TURNS word.now }
-    ensures range { IfOk result (λ turns. turns ≤ MAX_TURNS) }
-{
-    number(word.as_bytes(), 0, MAX_TURNS)
-}
-
 /// The node that three words ask for.
-pub fn member_in(id: &str, nodes: &str, chain: &str) -> Result<Member, Why>
+pub(crate) fn member_in(id: &str, nodes: &str, chain: &str) -> Result<Member, Why>
     ensures said { result ≡ member_in id.now nodes.now chain.now }
     ensures range { IfOk result IsMember }
 {
     let nodes = number(nodes.as_bytes(), 1, u64::from(MAX_NODES))?;
-    let chain = number(chain.as_bytes(), 1, longest_chain(nodes))?;
+    let chain = number(chain.as_bytes(), 1, nodes.min(u64::from(MAX_CHAIN)))?;
     let id = number(id.as_bytes(), 1, nodes)?;
     Ok(Member {
         id: id as u32,
@@ -57,15 +48,8 @@ pub fn member_in(id: &str, nodes: &str, chain: &str) -> Result<Member, Why>
     })
 }
 
-/// How many chain members there can be among this many nodes.
-fn longest_chain(nodes: u64) -> u64
-    ensures { result ≡ min nodes MAX_CHAIN }
-{
-    nodes.min(u64::from(MAX_CHAIN))
-}
-
 /// How many replies are followed, by the word of the option.
-pub fn times_in(word: Option<&str>) -> Result<Option<u64>, Why>
+pub(crate) fn times_in(word: Option<&str>) -> Result<Option<u64>, Why>
     ensures said { result ≡ times_in (option_map (λ word. word.now) word.entry) }
     ensures range { IfOk result IsTimes }
 {

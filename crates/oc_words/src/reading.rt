@@ -7,10 +7,9 @@ ghost use Rattle.oc_words.specs.Arguments.{download_of, member_of, sample_of, se
 ghost use Rattle.oc_words.specs.Words.{Answers};
 
 use crate::arguments::{given, is_flagged, word};
+use crate::parsing::{member_in, sample_in, service_in, times_in};
 use crate::words::WordsFault;
-use crate::{
-    Address, Download, Member, Sample, Service, member_in, sample_in, service_in, times_in,
-};
+use crate::{Address, Download, Member, Sample, Service};
 use clap::ArgMatches;
 use oc_base::Why;
 use std::alloc::Global;

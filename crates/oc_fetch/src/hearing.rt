@@ -14,7 +14,6 @@ use crate::place::Place;
 use crate::redirection::redirect;
 use crate::room::Room;
 use crate::wish::Wish;
-use crate::{Meaning, meaning_of, start_after};
 use oc_http::ReplyHead;
 use oc_io::{Sink, Source};
 use std::alloc::Global;
@@ -40,10 +39,10 @@ pub(crate) fn hear<S: Source, K: Sink>(
     ensures sink_cause { IsErrOf result GetEnd.Sink → Rose (K.faults sink.old) (K.faults sink.new) }
 {
     let head = room.heads.read_response_head(source)?;
-    match meaning_of(head.status) {
-        Meaning::Content => take_content(alloc, wish, &head, place, room, source, sink),
-        Meaning::Redirection => redirect(alloc, place, head.location),
-        Meaning::Refusal => Err(GetEnd::Refused(head.status)),
+    match head.status {
+        200 => take_content(alloc, wish, &head, place, room, source, sink),
+        302 => redirect(alloc, place, head.location),
+        status => Err(GetEnd::Refused(status)),
     }
 }
 
@@ -80,7 +79,7 @@ fn take_content<S: Source, K: Sink>(
 fn go_past_content(place: &mut Place, head: &ReplyHead, count: u64)
     ensures { (content : List ℕ) → length content ≡ count → place.new ≡ after_content head.now content place.old }
 {
-    place.start = start_after(place.start, count);
+    place.start = place.start.saturating_add(count);
     place.kept = keeps(head);
     place.replies = wanted_after(head.length, place.replies);
 }

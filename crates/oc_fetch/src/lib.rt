@@ -16,16 +16,9 @@
 //!
 //! [`get`] has one more clause, `Completes`: where the dials give replies that lead to a whole content, nothing
 //! that came is refused.
-//!
-//! What a client that downloads decides: which URL it asks, what the status of a reply means to it, and where it is
-//! after a piece of a content, a whole content, or a redirection.
-//!
-//! These are decisions on a few numbers and texts, and know of no source, sink or link. What is done with them is in
-//! `oc_fetch`.
 #![tactic(auto)]
 
 mod address;
-mod asked;
 mod asking;
 mod chunks;
 mod content;
@@ -35,18 +28,13 @@ mod end;
 mod exchange;
 mod extent;
 mod hearing;
-mod meaning;
 mod place;
-mod progress;
 mod query;
 mod redirection;
 mod room;
 mod target;
 mod wish;
 
-pub use asked::{has_credentials, is_http};
 pub use download::{MAX_REDIRECTIONS, follow, get};
 pub use end::GetEnd;
 pub use extent::MAX_OPEN_BYTES;
-pub use meaning::{Meaning, meaning_of};
-pub use progress::{left_after, redirections_after, start_after};

@@ -8,7 +8,6 @@ ghost use Rattle.url.specs.Parts.{Parts};
 use crate::address::{UrlFault, read_location};
 use crate::end::GetEnd;
 use crate::place::Place;
-use crate::redirections_after;
 use crate::target::Target;
 use oc_base::Text;
 use std::alloc::Global;
@@ -44,5 +43,5 @@ fn go_to(place: &mut Place, target: Target)
 {
     place.target = target;
     place.kept = false;
-    place.redirections = redirections_after(place.redirections);
+    place.redirections -= 1;
 }

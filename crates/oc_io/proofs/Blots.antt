@@ -8,6 +8,7 @@ use Rattle.oc_io.specs.DiskPast.{MayLeave}
 use Rattle.oc_io.specs.declared.failures.Stop.{Stop}
 use Rattle.oc_io.specs.MemDiskView.{may_leave_seen, crash_by}
 
+-- a torn write stays one where the same bytes of both are blotted
 IsTorn-blotted : (at n p k byte : ℕ) (d e : List ℕ) → IsTorn at n d e → IsTorn at n (blotted p k byte d) (blotted p k byte e)
 IsTorn-blotted at n p k byte d e torn = record {
   before = take-blotted at p k byte e ∙ ap (blotted p k byte) torn.before ∙ sym (take-blotted at p k byte d);
@@ -16,12 +17,14 @@ IsTorn-blotted at n p k byte d e torn = record {
   no_longer = omega (arith, length-blotted p k byte d, length-blotted p k byte e, torn.no_longer);
 }
 
+-- and so where both lose what was not synced
 IsTorn-crashed : (at n byte : ℕ) (past : List Call) (d e : List ℕ) → IsTorn at n d e → IsTorn at n (crashed byte past d) (crashed byte past e)
 IsTorn-crashed at n byte [] d e torn = torn
 IsTorn-crashed at n byte (Synced ∷ past) d e torn = torn
 IsTorn-crashed at n byte (Wrote p over k ∷ past) d e torn =
     IsTorn-crashed at n byte past (blotted p k byte d) (blotted p k byte e) (IsTorn-blotted at n p k byte d e torn)
 
+-- past the end of both there is nothing
 past_the_end : (n : ℕ) (a b : List ℕ) → length a ≤ n → length b ≤ n → drop n a ≡ drop n b
 past_the_end n a b short_a short_b = drop_all n a short_a ∙ sym (drop_all n b short_b)
 

@@ -73,6 +73,7 @@ wrote-time d e at new within is =
     let bytes = ap (λ (x : MemDiskView). x.bytes) is in
     elapses-more d e call (ap (λ (x : MemDiskView). x.past) is) (ap (undone call) bytes ∙ undone-overwritten d.bytes at new within)
 
+-- each image after a write is an earlier one with a torn write
 pub wrote-tears : (d e : MemDiskView) (at : ℕ) (new : List ℕ) → at ≤ length d.bytes → e ≡ wrote d at new → Tears at (length new) (view_of d) (view_of e)
 wrote-tears d e at new within is c left =
     let before = undone-overwritten d.bytes at new within in

@@ -48,6 +48,7 @@ LeavesOnly-stays u v P law honest stays here =
 pub still_honest : (u v : DiskView) → GoesOn u v → IsTrue u.honest → IsTrue v.honest
 still_honest u v goes honest = subst (λ (b : Bool). IsTrue b) (sym goes.honest) honest
 
+-- the same disk later, and later still
 pub GoesOn-then : (u v w : DiskView) → GoesOn u v → GoesOn v w → GoesOn u w
 GoesOn-then u v w first second = record {
   honest = second.honest ∙ first.honest;
@@ -57,6 +58,7 @@ GoesOn-then u v w first second = record {
   count = omega (arith, first.count, second.count);
 }
 
+-- calls after calls take the room of both
 pub Takes-then : (u v w : DiskView) (m n k j : ℕ) → Takes m k u v → Takes n j v w → Takes (m + n) (k + j) u w
 Takes-then u v w m n k j first second = record {
   goes_on = GoesOn-then u v w first.goes_on second.goes_on;
@@ -75,20 +77,6 @@ CannotFail-then u v m n k j first sure = record {
   reliable = still_reliable u v first.goes_on sure.reliable;
   room = omega (arith, first.room, sure.room);
   calls = omega (arith, first.calls, sure.calls);
-}
-
--- a run that fails at once
-pub Fails-first : (u v : DiskView) (m n k j : ℕ) → Fails m k u v → Fails (m + n) (k + j) u v
-Fails-first u v m n k j failed = record {
-  count = failed.count;
-  unsure = λ sure. failed.unsure (record { reliable = sure.reliable; room = omega (arith, sure.room); calls = omega (arith, sure.calls) });
-}
-
--- a run that fails later
-pub Fails-then : (u v w : DiskView) (m n k j : ℕ) → Takes m k u v → Fails n j v w → Fails (m + n) (k + j) u w
-Fails-then u v w m n k j first failed = record {
-  count = Rose-after _ _ _ first.goes_on.count failed.count;
-  unsure = λ sure. failed.unsure (CannotFail-then u v m n k j first sure);
 }
 
 -- a run that fails after reads

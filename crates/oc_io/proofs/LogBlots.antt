@@ -3,19 +3,22 @@ use Rattle.std.proofs.Common.{◌≡◌, ℕ, zero, suc, ◌+◌, ◌-◌, ◌�
 use Rattle.std.proofs.lemmas.List.{length-take-le, length-drop, drop-drop}
 use Rattle.oc_io.specs.Calls.{Wrote, undone, IsWritten, Fits, blotted, crashed}
 use Rattle.oc_io.specs.DiskLog.{told}
-use Rattle.oc_io.specs.declared.disk_log.Step.{Step}
-use Rattle.oc_io.specs.declared.disk_log.Step.TheVariants.{Write, Sync}
+use Rattle.oc_io.specs.declared.disk_log.LoggedCall.{LoggedCall}
+use Rattle.oc_io.specs.declared.disk_log.LoggedCall.TheVariants.{Write, Sync}
 
+-- blotted bytes are as many
 pub length-blotted : (at n byte : ℕ) (bytes : List ℕ) → length (blotted at n byte bytes) ≡ length bytes
 length-blotted at n byte [] = refl
 length-blotted (suc at) n byte (b ∷ bytes) = ap suc (length-blotted at n byte bytes)
 length-blotted zero (suc n) byte (b ∷ bytes) = ap suc (length-blotted zero n byte bytes)
 length-blotted zero zero byte (b ∷ bytes) = refl
 
+-- where none is blotted, all stay
 blotted-none : (byte : ℕ) (bytes : List ℕ) → blotted zero zero byte bytes ≡ bytes
 blotted-none byte [] = refl
 blotted-none byte (b ∷ bytes) = refl
 
+-- the first of blotted bytes are the first ones blotted
 pub take-blotted : (m at n byte : ℕ) (bytes : List ℕ) → take m (blotted at n byte bytes) ≡ blotted at n byte (take m bytes)
 take-blotted zero at n byte bytes = refl
 take-blotted (suc m) at n byte [] = refl
@@ -23,10 +26,12 @@ take-blotted (suc m) (suc at) n byte (b ∷ bytes) = ap (λ (l : List ℕ). b �
 take-blotted (suc m) zero (suc n) byte (b ∷ bytes) = ap (λ (l : List ℕ). byte ∷ l) (take-blotted m zero n byte bytes)
 take-blotted (suc m) zero zero byte (b ∷ bytes) = refl
 
+-- a blot by equal numbers
 same_blot : (p q k j byte : ℕ) (bytes : List ℕ) → p ≡ q → k ≡ j → blotted p k byte bytes ≡ blotted q j byte bytes
 same_blot p q k j byte bytes same_offset same_count =
     ap (λ (x : ℕ). blotted x k byte bytes) same_offset ∙ ap (λ (x : ℕ). blotted q x byte bytes) same_count
 
+-- the rest of blotted bytes is the rest, blotted in as far as it was
 drop-blotted_is : (m at n byte : ℕ) (bytes : List ℕ) → drop m (blotted at n byte bytes) ≡ blotted (at - m) (n - (m - at)) byte (drop m bytes)
 drop-blotted_is zero at n byte bytes = same_blot at (at - zero) n (n - (zero - at)) byte bytes (omega arith) (omega arith)
 drop-blotted_is (suc m) at n byte [] = refl
@@ -48,6 +53,7 @@ take-blotted_before zero n byte bytes = refl
 take-blotted_before (suc at) n byte [] = refl
 take-blotted_before (suc at) n byte (b ∷ bytes) = ap (λ (l : List ℕ). b ∷ l) (take-blotted_before at n byte bytes)
 
+-- what is behind a blot stays
 pub drop-blotted_behind : (m at n byte : ℕ) (bytes : List ℕ) → m ≡ at + n → drop m (blotted at n byte bytes) ≡ drop m bytes
 drop-blotted_behind m at n byte [] is = refl
 drop-blotted_behind zero (suc at) n byte (b ∷ bytes) is = absurd (omega arith)
@@ -56,6 +62,7 @@ drop-blotted_behind (suc m) (suc at) n byte (b ∷ bytes) is = drop-blotted_behi
 drop-blotted_behind (suc m) zero (suc n) byte (b ∷ bytes) is = drop-blotted_behind m zero n byte bytes (omega arith)
 drop-blotted_behind m zero zero byte (b ∷ bytes) is = refl
 
+-- a blot at the front
 blotted-front : (n byte : ℕ) (bytes : List ℕ) → n ≤ length bytes → blotted zero n byte bytes ≡ replicate n byte ++ drop n bytes
 blotted-front zero byte bytes within = blotted-none byte bytes
 blotted-front (suc n) byte [] within = absurd (omega arith)
@@ -73,30 +80,33 @@ blotted-is at n byte bytes within =
     ∙ ap (λ (l : List ℕ). replicate n byte ++ l) (drop-drop n at bytes)
     )
 
+-- how many bytes there were before a write
 pub length-undone : (at n : ℕ) (over bytes : List ℕ) → IsWritten at over n bytes → length (undone (Wrote at over n) bytes) ≡ at + length over + (length bytes - (at + n))
 length-undone at n over bytes w =
     let within : at ≤ length bytes = omega (arith, w.within) in
     omega (arith, length-append (take at bytes ++ over) (drop (at + n) bytes), length-append (take at bytes) over, length-take-le at bytes within, length-drop (at + n) bytes)
 
 -- the same for the steps, newest first
-abbrev pub blotted_by : ℕ → List Step → List ℕ → List ℕ
+abbrev pub blotted_by : ℕ → List LoggedCall → List ℕ → List ℕ
 blotted_by byte [] bytes = bytes
 blotted_by byte (Sync ∷ steps) bytes = bytes
 blotted_by byte (Write at over n ∷ steps) bytes = blotted_by byte steps (blotted at n byte bytes)
 
-pub crashed-told : (byte : ℕ) (steps : List Step) (pool bytes : List ℕ) → crashed byte (told steps pool) bytes ≡ blotted_by byte steps bytes
+-- a crash by the calls is one by how they are kept
+pub crashed-told : (byte : ℕ) (steps : List LoggedCall) (pool bytes : List ℕ) → crashed byte (told steps pool) bytes ≡ blotted_by byte steps bytes
 crashed-told byte [] pool bytes = refl
 crashed-told byte (Sync ∷ steps) pool bytes = refl
 crashed-told byte (Write at over n ∷ steps) pool bytes =
     crashed-told byte steps (take (length pool - over) pool) (blotted at n byte bytes)
 
 -- each write of the steps since the last sync is within this many bytes
-abbrev pub AreWithin : ℕ → List Step → Type 0
+abbrev pub AreWithin : ℕ → List LoggedCall → Type 0
 AreWithin size [] = Unit {0}
 AreWithin size (Sync ∷ steps) = Unit {0}
 AreWithin size (Write at over n ∷ steps) = (at + n ≤ size) × AreWithin size steps
 
-pub AreWithin-told : (size : ℕ) (steps : List Step) (pool bytes : List ℕ) → length bytes ≤ size → Fits bytes (told steps pool) → AreWithin size steps
+-- calls that fit are within the bytes
+pub AreWithin-told : (size : ℕ) (steps : List LoggedCall) (pool bytes : List ℕ) → length bytes ≤ size → Fits bytes (told steps pool) → AreWithin size steps
 AreWithin-told size [] pool bytes short fits = tt
 AreWithin-told size (Sync ∷ steps) pool bytes short fits = tt
 AreWithin-told size (Write at over n ∷ steps) pool bytes short fits =

@@ -1,4 +1,4 @@
--- The record that a disk in memory keeps of its calls, newest first, and what a crash leaves by it.
+-- The calls that a disk in memory keeps, newest first, and what a crash leaves by them.
 use Rattle.std.specs.Prelude.{◌≡◌, ◌⊎◌, ℕ, zero, suc, ◌+◌, ◌≤◌, List, [], ◌∷◌, ◌++◌, length, take, drop}
 
 -- a call that worked: a write with its offset, the bytes that it wrote over and how many it wrote, or a sync
@@ -24,13 +24,13 @@ crashed byte [] bytes = bytes
 crashed byte (Synced ∷ past) bytes = bytes
 crashed byte (Wrote at over n ∷ past) bytes = crashed byte past (blotted at n byte bytes)
 
--- a write over the end of the bytes, or over as many as it wrote
+-- what a write at this offset left: its n bytes are within the bytes, and it wrote over n bytes, or over fewer where it went past the old end
 pub record IsWritten (at : ℕ) (over : List ℕ) (n : ℕ) (bytes : List ℕ) : Type 0 where
   pub within : at + n ≤ length bytes
   pub fits : length over ≤ n
   pub end : (length over ≡ n) ⊎ (at + n ≡ length bytes)
 
--- the record fits the bytes
+-- the calls fit the bytes that they left
 abbrev pub Fits : List ℕ → List Call → Type 0
 Fits bytes [] = Unit {0}
 Fits bytes (Synced ∷ past) = Fits bytes past

@@ -1,11 +1,11 @@
--- How a disk in memory keeps the record of its calls: steps in order, and the bytes that were written over in one pool.
+-- How a disk in memory keeps the record of its calls: the calls in order, and the bytes that were written over in one pool.
 use Rattle.std.specs.Prelude.{ℕ, ◌-◌, List, [], ◌∷◌, length, take, drop}
 use Rattle.oc_io.specs.Calls.{Call, Wrote, Synced}
-use Rattle.oc_io.specs.declared.disk_log.Step.{Step}
-use Rattle.oc_io.specs.declared.disk_log.Step.TheVariants.{Write, Sync}
+use Rattle.oc_io.specs.declared.disk_log.LoggedCall.{LoggedCall}
+use Rattle.oc_io.specs.declared.disk_log.LoggedCall.TheVariants.{Write, Sync}
 
 -- the calls of these steps, newest first
-abbrev pub told : List Step → List ℕ → List Call
+abbrev pub told : List LoggedCall → List ℕ → List Call
 told [] pool = []
 told (Write at over count ∷ steps) pool =
     Wrote at (drop (length pool - over) pool) count ∷ told steps (take (length pool - over) pool)

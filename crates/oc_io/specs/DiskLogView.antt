@@ -2,6 +2,7 @@
 use Rattle.std.specs.Prelude.{ℕ, List}
 use Rattle.oc_io.specs.Calls.{Call}
 
+-- the calls, newest first, and for how many more bytes and calls there is memory
 pub record DiskLogView : Type 0 where
   pub past : List Call
   pub room : ℕ

@@ -25,7 +25,7 @@ pub record DiskView : Type 1 where
   pub faults : ℕ
   -- no call that keeps within the size and the spare room fails
   pub reliable : Bool
-  -- the names of the loans through which the disk is reached
+  -- the names of the borrows through which the disk is reached
   pub name : List ℕ
   -- the calls that were listed to fail, where the disk is one on which failures can be set
   pub listed : List ℕ

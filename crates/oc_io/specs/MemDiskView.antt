@@ -9,6 +9,7 @@ use Rattle.oc_io.specs.declared.failures.Stop.{Stop}
 use Rattle.oc_io.specs.Tally.{called, faulted, IsListed}
 use Rattle.oc_io.specs.Failing.{Failing, no_failures, passed, none_fails, IsStopped}
 
+-- the bytes, the calls that worked, newest first, for how many more bytes and calls there is memory, and which calls fail
 pub record MemDiskView : Type 0 where
   pub bytes : List ℕ
   pub past : List Call
@@ -63,6 +64,7 @@ abbrev pub crash_by : Option Stop → List Call → List ℕ → List ℕ
 crash_by None past bytes = bytes
 crash_by (Some stop) past bytes = crashed stop.image past bytes
 
+-- the bytes of a disk after a crash
 abbrev pub crash_of : MemDiskView → List ℕ
 crash_of d = crash_by d.failing.stop d.past d.bytes
 
@@ -96,15 +98,18 @@ may_leave_seen bytes [] = refl
 may_leave_seen bytes (Synced ∷ past) = refl
 may_leave_seen bytes (Wrote at over n ∷ past) = inl refl
 
+-- what a crash may leave now, one since an earlier moment may have left
 had_left_now : (bytes : List ℕ) (past : List Call) (t : ℕ) (c : List ℕ) → MayLeave bytes past c → HadLeft bytes past t c
 had_left_now bytes [] t c now = now
 had_left_now bytes (call ∷ past) t c now = inl now
 
+-- since this moment there is no other
 only_left_now : (bytes : List ℕ) (past : List Call) (c : List ℕ) → HadLeft bytes past (length past) c → MayLeave bytes past c
 only_left_now bytes [] c left = left
 only_left_now bytes (call ∷ past) c (inl now) = now
 only_left_now bytes (call ∷ past) c (inr earlier) = absurd (omega (arith, earlier.0))
 
+-- a disk in memory keeps the disk model
 pub view_of-consistent : (d : MemDiskView) → IsConsistent (view_of d)
 view_of-consistent d = record {
   size = refl;
@@ -113,5 +118,6 @@ view_of-consistent d = record {
   only_now = λ c left. only_left_now d.bytes d.past c left;
 }
 
+-- and its limit
 pub view_of-reliable : (d : MemDiskView) → IsReliable (view_of d)
 view_of-reliable d = record { honest = refl; fits = λ some. omega (arith, some) }

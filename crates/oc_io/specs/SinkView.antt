@@ -4,6 +4,7 @@ use Rattle.std.proofs.Common.{sym, subst, ◌∙◌, ap, inl, inr}
 use Rattle.std.proofs.lemmas.List.{append-nil, append_assoc}
 use Rattle.oc_io.specs.Tally.{Tally, Passes, Stops, Passes-none, Passes-then, Passes-stops, fresh}
 
+-- the text, how many bytes can be kept, and the calls
 pub record SinkView : Type 0 where
   pub text : List ℕ
   pub room : ℕ
@@ -39,6 +40,7 @@ earlier_cause : (a b c : SinkView) → b.calls.listed ≡ a.calls.listed → Con
 earlier_cause a b c same (inl listed) = inl (subst (λ xs. Contains xs c.calls.made) same listed)
 earlier_cause a b c same (inr full) = inr full
 
+-- nothing was added
 pub TakesBehind-nothing : (s : SinkView) → TakesBehind s [] s
 TakesBehind-nothing s = record {
   text = sym (append-nil s.text);
@@ -46,6 +48,7 @@ TakesBehind-nothing s = record {
   calls = Passes-none s.calls;
 }
 
+-- an addition after an addition
 pub TakesBehind-then : (a b c : SinkView) (x y : List ℕ) → TakesBehind a x b → TakesBehind b y c → TakesBehind a (x ++ y) c
 TakesBehind-then a b c x y p q = record {
   text = adds a.text b.text c.text x y p.text q.text;
@@ -53,6 +56,7 @@ TakesBehind-then a b c x y p q = record {
   calls = Passes-then a.calls b.calls c.calls p.calls q.calls;
 }
 
+-- and then a failure
 pub TakesBehind-fails : (a b c : SinkView) (x y : List ℕ) → TakesBehind a x b → FailsFull b y c → FailsFull a (x ++ y) c
 TakesBehind-fails a b c x y p q = record {
   text = adds a.text b.text c.text x y p.text q.text;

@@ -4,6 +4,7 @@ use Rattle.std.proofs.Common.{sym, subst, ◌∙◌, ap}
 use Rattle.std.proofs.lemmas.List.{append_assoc}
 use Rattle.oc_io.specs.Tally.{Tally, Passes, Stops, Passes-none, Passes-then, Passes-stops, fresh}
 
+-- the bytes that are left, and the calls
 pub record SourceView : Type 0 where
   pub left : List ℕ
   pub calls : Tally
@@ -31,15 +32,18 @@ IsEmptied s = s.left ≡ []
 fronts : (a b c x y : List ℕ) → a ≡ x ++ b → b ≡ y ++ c → a ≡ (x ++ y) ++ c
 fronts a b c x y e f = e ∙ ap (λ rest. x ++ rest) f ∙ sym (append_assoc x y c)
 
+-- nothing came
 pub GivesFront-nothing : (s : SourceView) → GivesFront s [] s
 GivesFront-nothing s = record { front = refl; calls = Passes-none s.calls }
 
+-- bytes and then further bytes
 pub GivesFront-then : (a b c : SourceView) (x y : List ℕ) → GivesFront a x b → GivesFront b y c → GivesFront a (x ++ y) c
 GivesFront-then a b c x y p q = record {
   front = fronts a.left b.left c.left x y p.front q.front;
   calls = Passes-then a.calls b.calls c.calls p.calls q.calls;
 }
 
+-- and then a failure
 pub GivesFront-fails : (a b c : SourceView) (x y : List ℕ) → GivesFront a x b → FailsBehind b y c → FailsBehind a (x ++ y) c
 GivesFront-fails a b c x y p q = record {
   front = fronts a.left b.left c.left x y p.front q.front;

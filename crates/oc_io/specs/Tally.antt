@@ -52,6 +52,7 @@ Passes-none t = record {
   none = λ k above below. absurd (omega arith);
 }
 
+-- calls after calls that did not fail
 pub Passes-then : (a b c : Tally) → Passes a b → Passes b c → Passes a c
 Passes-then a b c p q = record {
   listed = q.listed ∙ p.listed;
@@ -60,6 +61,7 @@ Passes-then a b c p q = record {
   none = λ k above below. ⊎_elim (λ later. subst (λ xs. ¬ Contains xs k) p.listed (q.none k later below)) (p.none k above) (cases_lt b.made k);
 }
 
+-- and then one that failed
 pub Passes-stops : (a b c : Tally) → Passes a b → Stops b c → Stops a c
 Passes-stops a b c p q = record {
   listed = q.listed ∙ p.listed;

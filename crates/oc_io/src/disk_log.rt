@@ -4,10 +4,11 @@ ghost use Rattle.oc_io.specs.Calls.{Wrote, Synced, Fits, blotted, crashed};
 use std::alloc::{AllocError, Global};
 use std::marker::Model;
 
-/// A call of `write_at` or `sync` that worked.
+/// A call of `write_at` or `sync` that worked, as it is kept.
 #[derive(Clone, Copy, Debug)]
-pub enum Step {
-    /// A write: its offset, how many bytes it wrote over, and how many it wrote.
+pub enum LoggedCall {
+    /// A write: its offset, how many bytes it wrote over, and how many it wrote. It wrote over fewer
+    /// than it wrote where it went past the end.
     Write {
         at: usize,
         over: usize,
@@ -16,11 +17,13 @@ pub enum Step {
     Sync,
 }
 
-/// The record of the calls of a disk in memory. The bytes that were written over are kept in one
-/// pool, so that the record takes no memory after `reserve`.
+/// The calls of a disk in memory that worked, with the bytes that each wrote over. These bytes are kept
+/// in one pool, so that a call takes no memory for which `reserve` made room.
+///
+/// A contract sees the calls, newest first, and how many more bytes and calls there is room for.
 #[derive(Debug, Drop)]
 pub struct DiskLog {
-    steps: Vec<Step>,
+    steps: Vec<LoggedCall>,
     pool: Vec<u8>,
     room: usize,
     calls: usize,
@@ -66,7 +69,7 @@ impl DiskLog {
         self.calls
     }
 
-    /// Makes room for this many bytes and calls.
+    /// Makes room for at least `bytes` more bytes and `calls` more calls; room that is there stays.
     pub fn reserve(&mut self, bytes: usize, calls: usize) -> Result<(), AllocError>
         ensures ok { OnOk result
             (self.new ≡ record self.old { room = max self.old.room bytes; calls = max self.old.calls calls }) }
@@ -79,7 +82,8 @@ impl DiskLog {
         Ok(())
     }
 
-    /// Notes a write of `count` bytes over these.
+    /// Notes a write of `count` bytes from the offset `at` on, where `over` was before. It is shorter
+    /// than `count` where the write goes past the end.
     pub fn note_write(&mut self, at: usize, over: &[u8], count: usize)
         requires over { length over.now ≤ count }
         requires room { count ≤ self.old.room }
@@ -92,7 +96,7 @@ impl DiskLog {
     {
         self.pool.extend_from_slice(over).unwrap();
         self.steps
-            .push(Step::Write {
+            .push(LoggedCall::Write {
                 at,
                 over: over.len(),
                 count,
@@ -107,11 +111,11 @@ impl DiskLog {
         requires calls { 0 < self.old.calls }
         ensures { self.new ≡ record self.old { past = Synced ∷ self.old.past; calls = self.old.calls - 1 } }
     {
-        self.steps.push(Step::Sync).unwrap();
+        self.steps.push(LoggedCall::Sync).unwrap();
         self.calls -= 1;
     }
 
-    /// Makes each byte that was written since the last sync this byte.
+    /// Makes each byte that was written since the last sync the byte `image`.
     pub fn blot(self, bytes: &mut [u8], image: u8)
         requires { Fits bytes.old self.past }
         ensures { bytes.new ≡ crashed image self.past bytes.old }
@@ -119,14 +123,14 @@ impl DiskLog {
         let mut steps = self.steps;
         while let Some(step) = steps.pop() {
             match step {
-                Step::Write { at, count, .. } => fill(bytes, at, count, image),
-                Step::Sync => return,
+                LoggedCall::Write { at, count, .. } => fill(bytes, at, count, image),
+                LoggedCall::Sync => return,
             }
         }
     }
 }
 
-/// Makes each of `count` bytes from an offset on this byte.
+/// Makes each of the `count` bytes from the offset `at` on the byte `image`.
 fn fill(bytes: &mut [u8], at: usize, count: usize, image: u8)
     requires { at + count ≤ length bytes.old }
     ensures { bytes.new ≡ blotted at count image bytes.old }

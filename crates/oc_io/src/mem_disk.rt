@@ -6,8 +6,8 @@ ghost use Rattle.oc_io.specs.Faults.{NoFall, Rose};
 ghost use Rattle.oc_io.specs.MemDiskView.{disk_of, view_of, view_of-consistent, view_of-reliable, overwritten, refused, read, admitted, done, wrote, synced, reserved, crash_of, crash_by, Refuses};
 ghost use Rattle.oc_io.specs.Tally.{IsListed};
 
-use crate::DiskLog;
 use crate::disk::{Disk, MAX_RELIABLE_BYTES};
+use crate::disk_log::DiskLog;
 use crate::failures::{Failures, Stop};
 use crate::fault::Failed;
 use std::alloc::{AllocError, Global};
@@ -260,12 +260,8 @@ impl Disk for MemDisk {
         requires { at ≤ length self.old.bytes }
         ensures takes { Takes (length bytes.now) 1 (view_of self.old) (view_of self.new) }
         ensures time { IsTrue true → Elapses (view_of self.old) (view_of self.new) }
-        ensures turn { OnOk result (IsTrue true → length self.new.past ≡ length self.old.past + 1) }
         ensures written { OnOk result (IsTrue true → Holds self.old.bytes at bytes.now self.new.bytes) }
         ensures torn { IsTrue true → Tears at (length bytes.now) (view_of self.old) (view_of self.new) }
-        ensures size { OnOk result (length self.new.bytes ≡ max (length self.old.bytes) (at + length bytes.now)) }
-        ensures no_smaller { length self.old.bytes ≤ length self.new.bytes }
-        ensures no_fault { OnOk result (HasNoFault (view_of self.old) (view_of self.new)) }
         ensures fails { OnErr result (Fails (length bytes.now) 1 (view_of self.old) (view_of self.new)) }
 
         // It fails exactly where it is listed, there is no room, or the disk was stopped.
@@ -281,12 +277,8 @@ impl Disk for MemDisk {
     fn sync(&mut self) -> Result<(), Failed>
         ensures takes { Takes 0 1 (view_of self.old) (view_of self.new) }
         ensures time { IsTrue true → Elapses (view_of self.old) (view_of self.new) }
-        ensures turn { OnOk result (IsTrue true → length self.new.past ≡ length self.old.past + 1) }
         ensures durable { OnOk result (IsTrue true → Only self.old.bytes (view_of self.new).may_leave) }
-        ensures seen { IsTrue true → self.new.bytes ≡ self.old.bytes }
         ensures images { IsTrue true → AddsNoImage (view_of self.old) (view_of self.new) }
-        ensures size { length self.new.bytes ≡ length self.old.bytes }
-        ensures no_fault { OnOk result (HasNoFault (view_of self.old) (view_of self.new)) }
         ensures fails { OnErr result (Fails 0 1 (view_of self.old) (view_of self.new)) }
 
         // It fails exactly where it is listed, the record has no room, or the disk was stopped.

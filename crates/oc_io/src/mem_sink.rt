@@ -69,7 +69,6 @@ impl Sink for MemSink {
         ensures takes { IfOk result (λ n. TakesBehind self.old (take n bytes.now) self.new) }
         ensures some { IfOk result (λ n. 0 < length bytes.now → 0 < n) }
         ensures fails { OnErr result (FailsFull self.old [] self.new) }
-        ensures turn { self.new.calls.made ≤ self.old.calls.made + 1 }
         ensures count { NoFall self.old.calls.faults self.new.calls.faults }
         ensures cause { OnErr result (Rose self.old.calls.faults self.new.calls.faults) }
 

@@ -16,7 +16,7 @@ use Rattle.oc_http.specs.declared.fault.HttpFault.TheVariants as http
 use Rattle.oc_http.specs.declared.head.Head.{Head}
 use Rattle.oc_link.specs.Exchange.{Hears, HearsThenBreaks, Says, SaysFrontThenBreaks, SaysThenBreaks, Says-nothing, Says-then}
 use Rattle.oc_link.specs.LinkCalls.{IfTold, LinkFaults, OnCurrent, Told}
-use Rattle.oc_link.specs.LinkLoan.{LoanView, OnCurrent-then, Talks, Told-then}
+use Rattle.oc_link.specs.LinkBorrow.{BorrowView, OnCurrent-then, ChangesCurrent, Told-then}
 use Rattle.oc_link.specs.Story.{Connection, IsReadOut, Story}
 use Rattle.oc_routes.specs.Refusals.{fault_of_http}
 use Rattle.oc_routes.specs.declared.fault.RouteFault.{RouteFault}
@@ -42,8 +42,8 @@ cut_told n bytes (Some a) (Some b) told = record { current = (take n bytes, drop
     parts (suc k) [] = refl
     parts (suc k) (x ∷ xs) = ap (λ (ys : List ℕ). x ∷ ys) (parts k xs)
 
-pub spoke : {S X Y : Type 0} (view : S → LoanView) (old new : S) (r : Result X Y) (whole : Bool) (st st2 : Option Story) (bytes : List ℕ)
-    → OnOk r (Talks (Says bytes) (view old) (view new)) → OnErr r ((n : ℕ) × (n < length bytes) × Talks (SaysThenBreaks (take n bytes)) (view old) (view new))
+pub spoke : {S X Y : Type 0} (view : S → BorrowView) (old new : S) (r : Result X Y) (whole : Bool) (st st2 : Option Story) (bytes : List ℕ)
+    → OnOk r (ChangesCurrent (Says bytes) (view old) (view new)) → OnErr r ((n : ℕ) × (n < length bytes) × ChangesCurrent (SaysThenBreaks (take n bytes)) (view old) (view new))
     → st ≡ (view old).story → st2 ≡ (view new).story → whole ≡ is_ok r → SaysOn whole bytes st st2
 spoke view old new (Ok x) whole st st2 bytes went broke a b is = rw (is, a, b) went.story
 spoke view old new (Err y) whole st st2 bytes went broke a b is = rw (is, a, b) (cut_told broke.0 bytes (view old).story (view new).story broke.2.story)
@@ -76,7 +76,7 @@ says_cut x y (Some a) (Some b) told =
 -- Heads
 
 -- from bytes that came through a loan
-took_until : {S : Type 0} (view : S → LoanView) (begun : S → Bool) (old new : S) (bytes : List ℕ) (fault : HttpFault)
+took_until : {S : Type 0} (view : S → BorrowView) (begun : S → Bool) (old new : S) (bytes : List ℕ) (fault : HttpFault)
     → Took (λ o given n. Brings (Hears given) given (view o) (begun o) (view n) (begun n)) (λ o given n. Brings (HearsThenBreaks given) given (view o) (begun o) (view n) (begun n)) old bytes new fault
     → HearsUntil fault bytes (view old).story (view new).story × (begun new ≡ (begun old || has_some bytes)) × Talked (view old).story (view new).story (view old).faults (view new).faults
 took_until view begun old new bytes http.Source took = (took.talks.story, took.begun, talks_talked (HearsThenBreaks bytes) (view old) (view new) took.talks)
@@ -114,7 +114,7 @@ head_unread number http.Ended true bytes old new is heard refuses = record { fau
 head_unread number http.Ended false bytes old new is heard refuses = ended_before number (nat_lt 1 number) bytes old new refl is heard refuses
 head_unread number fault begun bytes old new is heard refuses = record { fault = fault; bytes = bytes; heard = heard; refuses = refuses; named = refl; begun = tt }
 
-pub head_refused : {S : Type 0} (view : S → LoanView) (begun : S → Bool) (old new : S) (number : ℕ) (fault : HttpFault) (st st2 : Option Story) (is : Bool) (r : Result (Option Head) RouteFault)
+pub head_refused : {S : Type 0} (view : S → BorrowView) (begun : S → Bool) (old new : S) (number : ℕ) (fault : HttpFault) (st st2 : Option Story) (is : Bool) (r : Result (Option Head) RouteFault)
     → ((bytes : List ℕ) × Took (λ o given n. Brings (Hears given) given (view o) (begun o) (view n) (begun n)) (λ o given n. Brings (HearsThenBreaks given) given (view o) (begun o) (view n) (begun n)) old bytes new fault × RefusesRequest bytes (IfTold (view new).story IsReadOut) fault)
     → st ≡ (view old).story → st2 ≡ (view new).story → begun old ≡ false → is ≡ begun new → r ≡ unread fault number is → ReadsHead number r st st2
 head_refused view begun old new number fault st st2 is r (bytes, took, refuses) a b first last said =
@@ -122,23 +122,23 @@ head_refused view begun old new number fault st st2 is r (bytes, took, refuses) 
     let came : is ≡ has_some bytes = last ∙ t.1 ∙ ap (λ (x : Bool). x || has_some bytes) first in
     rw (said, a, b) (head_unread number fault is bytes (view old).story (view new).story came t.0 refuses)
 
-pub head_untalked : {S : Type 0} (view : S → LoanView) (begun : S → Bool) (old new : S) (fault : HttpFault) (st st2 : Option Story) (f f2 : LinkFaults)
+pub head_untalked : {S : Type 0} (view : S → BorrowView) (begun : S → Bool) (old new : S) (fault : HttpFault) (st st2 : Option Story) (f f2 : LinkFaults)
     → ((bytes : List ℕ) × Took (λ o given n. Brings (Hears given) given (view o) (begun o) (view n) (begun n)) (λ o given n. Brings (HearsThenBreaks given) given (view o) (begun o) (view n) (begun n)) old bytes new fault × RefusesRequest bytes (IfTold (view new).story IsReadOut) fault)
     → st ≡ (view old).story → st2 ≡ (view new).story → f ≡ (view old).faults → f2 ≡ (view new).faults → Talked st st2 f f2
 head_untalked view begun old new fault st st2 f f2 (bytes, took, refuses) a b c d = rw (a, b, c, d) (took_until view begun old new bytes fault took).2
 
-pub head_read : {S : Type 0} (view : S → LoanView) (begun : S → Bool) (old new : S) (number : ℕ) (head : Head) (st st2 : Option Story)
+pub head_read : {S : Type 0} (view : S → BorrowView) (begun : S → Bool) (old new : S) (number : ℕ) (head : Head) (st st2 : Option Story)
     → ((bytes : List ℕ) × Brings (Hears bytes) bytes (view old) (begun old) (view new) (begun new) × SaysRequest bytes head)
     → st ≡ (view old).story → st2 ≡ (view new).story → ReadsHead number (Ok (Some head)) st st2
 head_read view begun old new number head st st2 (bytes, came, says) a b = rw (a, b) (bytes, came.talks.story, says)
 
-pub head_talked : {S : Type 0} (view : S → LoanView) (begun : S → Bool) (old new : S) (head : Head) (st st2 : Option Story) (f f2 : LinkFaults)
+pub head_talked : {S : Type 0} (view : S → BorrowView) (begun : S → Bool) (old new : S) (head : Head) (st st2 : Option Story) (f f2 : LinkFaults)
     → ((bytes : List ℕ) × Brings (Hears bytes) bytes (view old) (begun old) (view new) (begun new) × SaysRequest bytes head)
     → st ≡ (view old).story → st2 ≡ (view new).story → f ≡ (view old).faults → f2 ≡ (view new).faults → Talked st st2 f f2
 head_talked view begun old new head st st2 f f2 (bytes, came, says) a b c d = rw (a, b, c, d) (talks_talked (Hears bytes) (view old) (view new) came.talks)
 
 -- what was read of a head wrote nothing
-pub head_silent : {S : Type 0} (view : S → LoanView) (begun : S → Bool) (old new : S) (fault : HttpFault) (st st2 : Option Story)
+pub head_silent : {S : Type 0} (view : S → BorrowView) (begun : S → Bool) (old new : S) (fault : HttpFault) (st st2 : Option Story)
     → ((bytes : List ℕ) × Took (λ o given n. Brings (Hears given) given (view o) (begun o) (view n) (begun n)) (λ o given n. Brings (HearsThenBreaks given) given (view o) (begun o) (view n) (begun n)) old bytes new fault × RefusesRequest bytes (IfTold (view new).story IsReadOut) fault)
     → st ≡ (view old).story → st2 ≡ (view new).story → WritesNothing st st2
 head_silent view begun old new fault st st2 (bytes, took, refuses) a b = rw (a, b) (until_on fault bytes (view old).story (view new).story (took_until view begun old new bytes fault took).0)
@@ -174,27 +174,27 @@ body_fits bytes head says = parts_fit says.head.method says.head.target says.hea
 
 -- Bodies
 
-pub body_heard : {S : Type 0} (view : S → LoanView) (old new : S) (r : Result (Vec ℕ) HttpFault) (st st2 : Option Story) → IfOk r (λ body. Talks (Hears body.items) (view old) (view new)) → st ≡ (view old).story → st2 ≡ (view new).story
+pub body_heard : {S : Type 0} (view : S → BorrowView) (old new : S) (r : Result (Vec ℕ) HttpFault) (st st2 : Option Story) → IfOk r (λ body. ChangesCurrent (Hears body.items) (view old) (view new)) → st ≡ (view old).story → st2 ≡ (view new).story
     → IfOk r (λ body. HearsOn body.items st st2)
 body_heard view old new (Ok body) st st2 came a b = rw (a, b) came.story
 body_heard view old new (Err fault) st st2 came a b = tt
 
-body_refused : {S : Type 0} (view : S → LoanView) (old new : S) (count : ℕ) (fault : HttpFault)
-    → ((bytes : List ℕ) × Took (λ o given n. Talks (Hears given) (view o) (view n)) (λ o given n. Talks (HearsThenBreaks given) (view o) (view n)) old bytes new fault × RefusesBody count bytes (IfTold (view new).story IsReadOut) fault)
+body_refused : {S : Type 0} (view : S → BorrowView) (old new : S) (count : ℕ) (fault : HttpFault)
+    → ((bytes : List ℕ) × Took (λ o given n. ChangesCurrent (Hears given) (view o) (view n)) (λ o given n. ChangesCurrent (HearsThenBreaks given) (view o) (view n)) old bytes new fault × RefusesBody count bytes (IfTold (view new).story IsReadOut) fault)
     → (bytes : List ℕ) × HearsUntil fault bytes (view old).story (view new).story × RefusesBody count bytes (HasEnded (view new).story) fault
 body_refused view old new count http.Source (bytes, took, refuses) = (bytes, took.story, refuses)
 body_refused view old new count fault (bytes, took, refuses) = (bytes, took.story, refuses)
 
-pub body_unheard : {S : Type 0} (view : S → LoanView) (old new : S) (r : Result (Vec ℕ) HttpFault) (count : ℕ) (st st2 : Option Story)
-    → IfErr r (λ fault. (bytes : List ℕ) × Took (λ o given n. Talks (Hears given) (view o) (view n)) (λ o given n. Talks (HearsThenBreaks given) (view o) (view n)) old bytes new fault × RefusesBody count bytes (IfTold (view new).story IsReadOut) fault)
+pub body_unheard : {S : Type 0} (view : S → BorrowView) (old new : S) (r : Result (Vec ℕ) HttpFault) (count : ℕ) (st st2 : Option Story)
+    → IfErr r (λ fault. (bytes : List ℕ) × Took (λ o given n. ChangesCurrent (Hears given) (view o) (view n)) (λ o given n. ChangesCurrent (HearsThenBreaks given) (view o) (view n)) old bytes new fault × RefusesBody count bytes (IfTold (view new).story IsReadOut) fault)
     → st ≡ (view old).story → st2 ≡ (view new).story
     → IfErr r (λ fault. (bytes : List ℕ) × HearsUntil fault bytes st st2 × RefusesBody count bytes (HasEnded st2) fault)
 body_unheard view old new (Ok body) count st st2 refused a b = tt
 body_unheard view old new (Err fault) count st st2 refused a b = rw (a, b) (body_refused view old new count fault refused)
 
 -- what was read of a body wrote nothing
-pub body_silent : {S : Type 0} (view : S → LoanView) (old new : S) (r : Result (Vec ℕ) HttpFault) (count : ℕ) (st st2 : Option Story) → IfOk r (λ body. Talks (Hears body.items) (view old) (view new))
-    → IfErr r (λ fault. (bytes : List ℕ) × Took (λ o given n. Talks (Hears given) (view o) (view n)) (λ o given n. Talks (HearsThenBreaks given) (view o) (view n)) old bytes new fault × RefusesBody count bytes (IfTold (view new).story IsReadOut) fault)
+pub body_silent : {S : Type 0} (view : S → BorrowView) (old new : S) (r : Result (Vec ℕ) HttpFault) (count : ℕ) (st st2 : Option Story) → IfOk r (λ body. ChangesCurrent (Hears body.items) (view old) (view new))
+    → IfErr r (λ fault. (bytes : List ℕ) × Took (λ o given n. ChangesCurrent (Hears given) (view o) (view n)) (λ o given n. ChangesCurrent (HearsThenBreaks given) (view o) (view n)) old bytes new fault × RefusesBody count bytes (IfTold (view new).story IsReadOut) fault)
     → st ≡ (view old).story → st2 ≡ (view new).story → WritesNothing st st2
 body_silent view old new (Ok body) count st st2 came refused a b = rw (a, b) (hears_on body.items (view old).story (view new).story came.story)
 body_silent view old new (Err fault) count st st2 came refused a b =

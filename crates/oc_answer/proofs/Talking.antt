@@ -16,7 +16,7 @@ use Rattle.oc_link.specs.ClockView.{Series}
 use Rattle.oc_io.specs.DiskView.{DiskView}
 use Rattle.oc_link.specs.Exchange.{Hears, HearsThenBreaks, Says, SaysThenBreaks}
 use Rattle.oc_link.specs.LinkCalls.{LinkFaults, CountsTalking, OnCurrent, Told}
-use Rattle.oc_link.specs.LinkLoan.{LoanView, Talks}
+use Rattle.oc_link.specs.LinkBorrow.{BorrowView, ChangesCurrent}
 use Rattle.oc_http.specs.Taking.{Took}
 use Rattle.oc_http.specs.declared.fault.HttpFault.{HttpFault}
 use Rattle.oc_http.specs.declared.fault.HttpFault.TheVariants as http
@@ -50,7 +50,7 @@ only_current R (Some a) (Some b) told =
     told.rest ∙ ap (λ (p : List Connection). record a { past = p; current = b.current }) (sym (ap (λ (s : Story). s.past) told.rest))
 
 -- what goes through a loan of the link is a talk
-pub talks_talked : (R : Option Connection → Option Connection → Type 0) (a b : LoanView) → Talks R a b → Talked a.story b.story a.faults b.faults
+pub talks_talked : (R : Option Connection → Option Connection → Type 0) (a b : BorrowView) → ChangesCurrent R a b → Talked a.story b.story a.faults b.faults
 talks_talked R a b talks = record { story = only_current R a.story b.story talks.story; counts = talks.counts }
 
 -- the end of a connection is a talk
@@ -141,13 +141,13 @@ module _ {D K : Type 0} (view : D → DiskView) (takes fails : K → List ℕ �
 
 -- What is written and read through a loan
 
-pub said : {S X Y : Type 0} (view : S → LoanView) (old new : S) (r : Result X Y) (st st2 : Option Story) (f f2 : LinkFaults) (bytes : List ℕ)
-    → OnOk r (Talks (Says bytes) (view old) (view new)) → OnErr r ((n : ℕ) × (n < length bytes) × Talks (SaysThenBreaks (take n bytes)) (view old) (view new))
+pub said : {S X Y : Type 0} (view : S → BorrowView) (old new : S) (r : Result X Y) (st st2 : Option Story) (f f2 : LinkFaults) (bytes : List ℕ)
+    → OnOk r (ChangesCurrent (Says bytes) (view old) (view new)) → OnErr r ((n : ℕ) × (n < length bytes) × ChangesCurrent (SaysThenBreaks (take n bytes)) (view old) (view new))
     → st ≡ (view old).story → st2 ≡ (view new).story → f ≡ (view old).faults → f2 ≡ (view new).faults → Talked st st2 f f2
 said view old new (Ok x) st st2 f f2 bytes spoke broke a b c d = rw (a, b, c, d) (talks_talked (Says bytes) (view old) (view new) spoke)
 said view old new (Err y) st st2 f f2 bytes spoke broke a b c d = rw (a, b, c, d) (talks_talked (SaysThenBreaks (take broke.0 bytes)) (view old) (view new) broke.2)
 
-took_talked : {S : Type 0} (view : S → LoanView) (old new : S) (bytes : List ℕ) (fault : HttpFault) → Took (λ o given n. Talks (Hears given) (view o) (view n)) (λ o given n. Talks (HearsThenBreaks given) (view o) (view n)) old bytes new fault
+took_talked : {S : Type 0} (view : S → BorrowView) (old new : S) (bytes : List ℕ) (fault : HttpFault) → Took (λ o given n. ChangesCurrent (Hears given) (view o) (view n)) (λ o given n. ChangesCurrent (HearsThenBreaks given) (view o) (view n)) old bytes new fault
     → Talked (view old).story (view new).story (view old).faults (view new).faults
 took_talked view old new bytes http.Source took = talks_talked (HearsThenBreaks bytes) (view old) (view new) took
 took_talked view old new bytes fault took = talks_talked (Hears bytes) (view old) (view new) took
@@ -231,9 +231,9 @@ module _ {D K : Type 0} (view : D → DiskView) (takes fails : K → List ℕ �
   line_reply ends.Link k k2 s s2 looks survives stops = absurd stops
   line_reply ends.Full k k2 s s2 looks survives stops = absurd stops
 
-pub heard_body : {S : Type 0} (view : S → LoanView) (old new : S) (r : Result (Vec ℕ) HttpFault) (Q : HttpFault → List ℕ → Type 0) (st st2 : Option Story) (f f2 : LinkFaults)
-    → IfOk r (λ body. Talks (Hears body.items) (view old) (view new))
-    → IfErr r (λ fault. (bytes : List ℕ) × Took (λ o given n. Talks (Hears given) (view o) (view n)) (λ o given n. Talks (HearsThenBreaks given) (view o) (view n)) old bytes new fault × Q fault bytes)
+pub heard_body : {S : Type 0} (view : S → BorrowView) (old new : S) (r : Result (Vec ℕ) HttpFault) (Q : HttpFault → List ℕ → Type 0) (st st2 : Option Story) (f f2 : LinkFaults)
+    → IfOk r (λ body. ChangesCurrent (Hears body.items) (view old) (view new))
+    → IfErr r (λ fault. (bytes : List ℕ) × Took (λ o given n. ChangesCurrent (Hears given) (view o) (view n)) (λ o given n. ChangesCurrent (HearsThenBreaks given) (view o) (view n)) old bytes new fault × Q fault bytes)
     → st ≡ (view old).story → st2 ≡ (view new).story → f ≡ (view old).faults → f2 ≡ (view new).faults → Talked st st2 f f2
 heard_body view old new (Ok body) Q st st2 f f2 read refused a b c d = rw (a, b, c, d) (talks_talked (Hears body.items) (view old) (view new) read)
 heard_body view old new (Err y) Q st st2 f f2 read refused a b c d = rw (a, b, c, d) (took_talked view old new refused.0 y refused.1)

@@ -1,4 +1,4 @@
 pub mod DialLists
 pub mod MemLinkStory
-pub mod RowsIn
-pub mod TalkLists
+pub mod StringsIn
+pub mod ConnectionLists

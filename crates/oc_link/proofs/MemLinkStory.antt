@@ -8,7 +8,7 @@ use Rattle.oc_link.specs.Exchange.{Hears, SaysFrontThenBreaks, Says-nothing}
 use Rattle.oc_link.specs.LinkCalls.{Told, OnCurrent, OnOutgoing, TakesNext, DialsTo, DialFails, connection_of, address_of}
 use Rattle.oc_link.specs.MemLinkView.{MemLinkView, CountsDials, told, took_next, after_read, after_dial, after_dial_read, dial_failed, dial_call_failed}
 use Rattle.oc_link.specs.Story.{Connection, Dial, Story, broken, through}
-use Rattle.oc_link.specs.TalksView.{at, further, left_of}
+use Rattle.oc_link.specs.ConnectionsView.{at, further, left_of}
 
 -- from a story that is told to one that is told
 told_if : (R : Story → Story → Type 0) (b c : Bool) (s t : Story) → (c ≡ true → b ≡ true) → (c ≡ true → R s t) → Told R (if b then Some s else None) (if c then Some t else None)
@@ -33,55 +33,38 @@ first_of : (xs : List (List ℕ)) → 0 < length xs → xs ≡ at xs 0 ∷ drop 
 first_of [] some = absurd (omega (arith, some))
 first_of (x ∷ xs) some = refl
 
+-- the oldest connection that waits was taken
 pub took : (v w : MemLinkView) → w ≡ took_next v → 0 < length v.story.waiting → Told TakesNext (told v) (told w)
 took v w is some =
     tells_same TakesNext v w (took_next v) is refl (at v.story.waiting 0, drop 1 v.story.waiting, first_of v.story.waiting some, refl)
 
+-- nothing has no prefix but nothing
 take-nil : (n : ℕ) → take n (let none : List ℕ = [] in none) ≡ []
 take-nil zero = refl
 take-nil (suc n) = refl
-
--- what is read is the front of what is left
-hears : (n : ℕ) (front : List ℕ) (o : Option Connection) → front ≡ take n (left_of o) → Hears front o (option_map (further n) o)
-hears n front None is = is ∙ take-nil n
-hears n front (Some c) is = record {
-  left = sym (take-append-drop n c.left) ∙ ap (λ (x : List ℕ). x ++ drop n c.left) (sym is);
-  read = ap (λ (x : List ℕ). c.read ++ x) (sym is);
-  written = refl;
-  failed = refl;
-}
-
-pub read_tells : (n : ℕ) (front : List ℕ) (v w : MemLinkView) → w ≡ after_read n v → front ≡ take n (left_of v.story.current) → Told (OnCurrent (Hears front)) (told v) (told w)
-read_tells n front v w is front_is =
-    tells_same (OnCurrent (Hears front)) v w (after_read n v) is refl (record { current = hears n front v.story.current front_is; rest = refl })
 
 -- the connection of a dial, and its address
 through-connection : (f : Connection → Connection) (o : Option Dial) → connection_of (option_map (through f) o) ≡ option_map f (connection_of o)
 through-connection f None = refl
 through-connection f (Some d) = refl
 
+-- a dial keeps its address
 through-address : (f : Connection → Connection) (o : Option Dial) → address_of (option_map (through f) o) ≡ address_of o
 through-address f None = refl
 through-address f (Some d) = refl
 
-pub dial_read_tells : (n : ℕ) (front : List ℕ) (v w : MemLinkView) → w ≡ after_dial_read n v → front ≡ take n (left_of (connection_of v.story.outgoing)) → Told (OnOutgoing (Hears front)) (told v) (told w)
-dial_read_tells n front v w is front_is =
-    tells_same (OnOutgoing (Hears front)) v w (after_dial_read n v) is refl
-    (record {
-      outgoing = rw (through-connection (further n) v.story.outgoing) (hears n front (connection_of v.story.outgoing) front_is);
-      address = through-address (further n) v.story.outgoing;
-      rest = refl;
-    })
-
+-- a dial that works
 pub dials_to : (address bytes : List ℕ) (v w : MemLinkView) → w ≡ after_dial address bytes v → Told (DialsTo address bytes) (told v) (told w)
 dials_to address bytes v w is =
     tells_same (DialsTo address bytes) v w (after_dial address bytes v) is refl (at v.replies 0, refl)
 
+-- a dial that fails
 pub dial_fails : (address bytes : List ℕ) (v w : MemLinkView) → v.faults.dialling ≤ w.faults.dialling → (CountsDials w → w.story ≡ (dial_failed v).story) → Told (DialFails address bytes) (told v) (told w)
 dial_fails address bytes v w grows is =
     tells (DialFails address bytes) v w grows
     (λ counts. (cut_dial (at v.replies 0), record { address = (address, refl); written = (bytes, refl); failed = refl }, is counts))
 
+-- a write on the outgoing connection that fails
 pub dial_more_breaks : (bytes : List ℕ) (v w : MemLinkView) → w ≡ dial_call_failed v → v.faults.dialling ≤ w.faults.dialling → Told (OnOutgoing (SaysFrontThenBreaks bytes)) (told v) (told w)
 dial_more_breaks bytes v w is grows =
     tells (OnOutgoing (SaysFrontThenBreaks bytes)) v w grows (λ _. rw is (broke v.story))

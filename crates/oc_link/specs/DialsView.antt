@@ -2,7 +2,7 @@
 use Rattle.std.specs.Prelude.{ℕ, Option, None, option_to_list, List, [], ◌∷◌, ◌++◌, drop}
 use Rattle.std.specs.Option.{option_map}
 use Rattle.oc_link.specs.Story.{Connection, Dial, unused, broken}
-use Rattle.oc_link.specs.TalksView.{at}
+use Rattle.oc_link.specs.ConnectionsView.{at}
 
 -- the replies of the dials to come, the dials that ended, the outgoing one, how many were refused after the last reply was taken,
 -- and the bytes that can still be written

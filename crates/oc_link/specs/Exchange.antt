@@ -43,10 +43,12 @@ SaysFrontThenBreaks bytes old new =
 
 -- Nothing, and one after another
 
+-- nothing was read
 pub Hears-nothing : (c : Option Connection) → Hears [] c c
 Hears-nothing None = refl
 Hears-nothing (Some c) = record { left = refl; read = sym (append-nil c.read); written = refl; failed = refl }
 
+-- nothing was written
 pub Says-nothing : (c : Option Connection) → Says [] c c
 Says-nothing None = refl
 Says-nothing (Some c) = ap (λ (written : List ℕ). record c { written = written }) (sym (append-nil c.written))
@@ -63,6 +65,7 @@ adds a b c x y e f = f ∙ ap (λ (front : List ℕ). front ++ y) e ∙ append_a
 nothing : (x y : List ℕ) → x ≡ [] → y ≡ [] → x ++ y ≡ []
 nothing x y e f = ap (λ (front : List ℕ). front ++ y) e ∙ f
 
+-- bytes were read, and then further ones
 pub Hears-then : (x y : List ℕ) (a b c : Option Connection) → Hears x a b → Hears y b c → Hears (x ++ y) a c
 Hears-then x y None None None p q = nothing x y p q
 Hears-then x y None None (Some c) p q = absurd q
@@ -76,6 +79,7 @@ Hears-then x y (Some a) (Some b) (Some c) p q = record {
   failed = q.failed ∙ p.failed;
 }
 
+-- bytes were written, and then further ones
 pub Says-then : (x y : List ℕ) (a b c : Option Connection) → Says x a b → Says y b c → Says (x ++ y) a c
 Says-then x y None None None p q = nothing x y p q
 Says-then x y None None (Some c) p q = absurd q
@@ -85,8 +89,10 @@ Says-then x y (Some a) (Some b) None p q = absurd q
 Says-then x y (Some a) (Some b) (Some c) p q =
     q ∙ ap (wrote y) p ∙ ap (λ (written : List ℕ). record a { written = written }) (append_assoc a.written x y)
 
+-- bytes were read, further ones, and then a call failed
 pub Hears-breaks : (x y : List ℕ) (a b c : Option Connection) → Hears x a b → HearsThenBreaks y b c → HearsThenBreaks (x ++ y) a c
 Hears-breaks x y a b c p (between, q, breaks) = (between, Hears-then x y a b between p q, breaks)
 
+-- bytes were written, further ones, and then a call failed
 pub Says-breaks : (x y : List ℕ) (a b c : Option Connection) → Says x a b → SaysThenBreaks y b c → SaysThenBreaks (x ++ y) a c
 Says-breaks x y a b c p (between, q, breaks) = (between, Says-then x y a b between p q, breaks)

@@ -1,10 +1,10 @@
 pub mod Story
 pub mod Exchange
 pub mod LinkCalls
-pub mod LinkLoan
+pub mod LinkBorrow
 pub mod ClockView
 pub mod DialsView
 pub mod MemLinkView
 pub mod Connection
-pub mod Rows
-pub mod TalksView
+pub mod ByteStrings
+pub mod ConnectionsView

@@ -4,9 +4,10 @@ use Rattle.std.specs.Option.{option_map}
 use Rattle.oc_link.specs.DialsView.{cut_dial}
 use Rattle.oc_link.specs.LinkCalls.{LinkFaults}
 use Rattle.oc_link.specs.Story.{Story, dials, unused, wrote, broken, through, closed, hung_up}
-use Rattle.oc_link.specs.TalksView.{at, further}
+use Rattle.oc_link.specs.ConnectionsView.{at, further}
 use Rattle.oc_io.specs.Tally.{Tally, fresh, called, faulted, counted}
 
+-- the story, the replies of the dials to come, the room, and the calls
 pub record MemLinkView : Type 0 where
   pub story : Story
   pub replies : List (List ℕ)
@@ -54,8 +55,8 @@ listen_failed v = record v {
 }
 
 -- a call on the current connection failed
-abbrev pub talk_failed : MemLinkView → MemLinkView
-talk_failed v = record v {
+abbrev pub call_failed : MemLinkView → MemLinkView
+call_failed v = record v {
   story = record v.story { current = option_map broken v.story.current };
   calls = faulted (called v.calls);
   faults = record v.faults { talking = counted v.faults.talking };

@@ -1,22 +1,22 @@
 ghost use Rattle.std.specs.Prelude.{◌≡◌};
 ghost use Rattle.oc_link.specs.Exchange.{Hears, HearsThenBreaks, Says, SaysThenBreaks};
 ghost use Rattle.oc_link.specs.LinkCalls.{IfTold};
-ghost use Rattle.oc_link.specs.LinkLoan.{Talks, Talks-hears-nothing, Talks-hears-then, Talks-hears-fails, Talks-says-nothing, Talks-says-then, Talks-says-fails};
+ghost use Rattle.oc_link.specs.LinkBorrow.{ChangesCurrent, Current-hears-nothing, Current-hears-then, Current-hears-fails, Current-says-nothing, Current-says-then, Current-says-fails};
 ghost use Rattle.oc_link.specs.Story.{IsReadOut};
 
 use crate::link::Link;
 use oc_io::{Failed, Sink, Source};
 
-/// The current connection of a link that is lent: a source of what comes on it, and a sink of what
+/// The current connection of a borrowed link: a source of what comes on it, and a sink of what
 /// goes.
 #[derive(Drop)]
 pub struct Current<'a, L: Link> {
-    /// The lender's link.
+    /// The link.
     pub link: &'a mut L,
 }
 
 impl<'a, L: Link> Current<'a, L> {
-    /// The current connection of this link. What is done to it is done to the lender's.
+    /// The current connection of this link. What is done to it is done to the link that is borrowed.
     pub fn new(link: &'a mut L) -> Current<'a, L>
         ensures loan { result.link.ghost_name ≡ link.entry.ghost_name }
         ensures link { result.link.now ≡ link.old }
@@ -26,11 +26,11 @@ impl<'a, L: Link> Current<'a, L> {
 }
 
 impl<L: Link> Source for Current<'_, L> {
-    ghost gives = { λ old bytes new. Talks (Hears bytes)
+    ghost gives = { λ old bytes new. ChangesCurrent (Hears bytes)
         (record { name = old.link.ghost_name; story = L.story old.link.now; faults = L.faults old.link.now })
         (record { name = new.link.ghost_name; story = L.story new.link.now; faults = L.faults new.link.now }) };
 
-    ghost fails = { λ old bytes new. Talks (HearsThenBreaks bytes)
+    ghost fails = { λ old bytes new. ChangesCurrent (HearsThenBreaks bytes)
         (record { name = old.link.ghost_name; story = L.story old.link.now; faults = L.faults old.link.now })
         (record { name = new.link.ghost_name; story = L.story new.link.now; faults = L.faults new.link.now }) };
 
@@ -40,15 +40,15 @@ impl<L: Link> Source for Current<'_, L> {
 
     ghost faults = { λ c. (L.faults c.link.now).talking };
 
-    ghost gives_nothing = { λ c. Talks-hears-nothing
+    ghost gives_nothing = { λ c. Current-hears-nothing
         (record { name = c.link.ghost_name; story = L.story c.link.now; faults = L.faults c.link.now }) };
 
-    ghost gives_then = { λ a b c. Talks-hears-then
+    ghost gives_then = { λ a b c. Current-hears-then
         (record { name = a.link.ghost_name; story = L.story a.link.now; faults = L.faults a.link.now })
         (record { name = b.link.ghost_name; story = L.story b.link.now; faults = L.faults b.link.now })
         (record { name = c.link.ghost_name; story = L.story c.link.now; faults = L.faults c.link.now }) };
 
-    ghost gives_fails = { λ a b c. Talks-hears-fails
+    ghost gives_fails = { λ a b c. Current-hears-fails
         (record { name = a.link.ghost_name; story = L.story a.link.now; faults = L.faults a.link.now })
         (record { name = b.link.ghost_name; story = L.story b.link.now; faults = L.faults b.link.now })
         (record { name = c.link.ghost_name; story = L.story c.link.now; faults = L.faults c.link.now }) };
@@ -59,11 +59,11 @@ impl<L: Link> Source for Current<'_, L> {
 }
 
 impl<L: Link> Sink for Current<'_, L> {
-    ghost takes = { λ old bytes new. Talks (Says bytes)
+    ghost takes = { λ old bytes new. ChangesCurrent (Says bytes)
         (record { name = old.link.ghost_name; story = L.story old.link.now; faults = L.faults old.link.now })
         (record { name = new.link.ghost_name; story = L.story new.link.now; faults = L.faults new.link.now }) };
 
-    ghost fails = { λ old bytes new. Talks (SaysThenBreaks bytes)
+    ghost fails = { λ old bytes new. ChangesCurrent (SaysThenBreaks bytes)
         (record { name = old.link.ghost_name; story = L.story old.link.now; faults = L.faults old.link.now })
         (record { name = new.link.ghost_name; story = L.story new.link.now; faults = L.faults new.link.now }) };
 
@@ -71,15 +71,15 @@ impl<L: Link> Sink for Current<'_, L> {
 
     ghost faults = { λ c. (L.faults c.link.now).talking };
 
-    ghost takes_nothing = { λ c. Talks-says-nothing
+    ghost takes_nothing = { λ c. Current-says-nothing
         (record { name = c.link.ghost_name; story = L.story c.link.now; faults = L.faults c.link.now }) };
 
-    ghost takes_then = { λ a b c. Talks-says-then
+    ghost takes_then = { λ a b c. Current-says-then
         (record { name = a.link.ghost_name; story = L.story a.link.now; faults = L.faults a.link.now })
         (record { name = b.link.ghost_name; story = L.story b.link.now; faults = L.faults b.link.now })
         (record { name = c.link.ghost_name; story = L.story c.link.now; faults = L.faults c.link.now }) };
 
-    ghost takes_fails = { λ a b c. Talks-says-fails
+    ghost takes_fails = { λ a b c. Current-says-fails
         (record { name = a.link.ghost_name; story = L.story a.link.now; faults = L.faults a.link.now })
         (record { name = b.link.ghost_name; story = L.story b.link.now; faults = L.faults b.link.now })
         (record { name = c.link.ghost_name; story = L.story c.link.now; faults = L.faults c.link.now }) };

@@ -3,10 +3,10 @@ ghost use Rattle.std.specs.Option.{option_copied, option_map};
 ghost use Rattle.oc_link.specs.DialsView.{DialsView, all_dials, over, with_failed};
 ghost use Rattle.oc_link.specs.LinkCalls.{connection_of};
 ghost use Rattle.oc_link.specs.Story.{broken, wrote, unused, through};
-ghost use Rattle.oc_link.specs.TalksView.{further, left_of};
+ghost use Rattle.oc_link.specs.ConnectionsView.{further, left_of};
 ghost use Rattle.oc_io.specs.Tally.{counted};
 
-use crate::{Rows, Talks};
+use crate::{ByteStrings, Connections};
 use std::alloc::{AllocError, Global};
 use std::marker::Model;
 
@@ -14,9 +14,9 @@ use std::marker::Model;
 /// replies.
 #[derive(Debug, Drop)]
 pub struct Dials {
-    talks: Talks,
+    connections: Connections,
     /// The address of each dial that took a reply.
-    addresses: Rows,
+    addresses: ByteStrings,
     /// How many dials were made after the last reply was taken.
     refused: u64,
     /// The bytes for which there is room.
@@ -30,17 +30,17 @@ impl Model for Dials {
     ghost Value = { DialsView };
 
     ghost view = { λ d. record {
-      replies = d.talks.waiting;
-      past = dials_of d.talks.past d.addresses.rows ++ replicate d.refused nowhere;
-      outgoing = outgoing_of (length d.talks.past) d.talks.current d.addresses.rows;
+      replies = d.connections.waiting;
+      past = dials_of d.connections.past d.addresses.strings ++ replicate d.refused nowhere;
+      outgoing = outgoing_of (length d.connections.past) d.connections.current d.addresses.strings;
       refused = d.refused;
       room = d.room;
     } };
 
-    ghost invariant = { λ d. (length d.addresses.rows ≡ length d.talks.past + length (option_to_list d.talks.current))
-        × (d.addresses.places ≡ length d.talks.waiting)
-        × (d.room ≤ d.talks.room) × (d.room ≤ d.addresses.room)
-        × (0 < d.refused → length d.talks.waiting + length (option_to_list d.talks.current) ≡ 0) };
+    ghost invariant = { λ d. (length d.addresses.strings ≡ length d.connections.past + length (option_to_list d.connections.current))
+        × (d.addresses.string_room ≡ length d.connections.waiting)
+        × (d.room ≤ d.connections.room) × (d.room ≤ d.addresses.room)
+        × (0 < d.refused → length d.connections.waiting + length (option_to_list d.connections.current) ≡ 0) };
 }
 
 impl Dials {
@@ -54,10 +54,10 @@ impl Dials {
           room = room;
         }) }
     {
-        let addresses = Rows::new(alloc, room, replies.len())?;
-        let talks = Talks::new(alloc, replies, room)?;
+        let addresses = ByteStrings::new(alloc, room, replies.len())?;
+        let connections = Connections::new(alloc, replies, room)?;
         Ok(Dials {
-            talks,
+            connections,
             addresses,
             refused: 0,
             room,
@@ -68,21 +68,21 @@ impl Dials {
     pub fn is_open(&self) -> bool
         ensures { result ≡ is_some self.now.outgoing }
     {
-        self.talks.is_open()
+        self.connections.is_open()
     }
 
     /// Whether a reply is left.
     pub fn waits(&self) -> bool
         ensures { result ≡ not (length self.now.replies == 0) }
     {
-        self.talks.waits()
+        self.connections.waits()
     }
 
     /// Ends the outgoing dial, if there is one.
     pub fn close(&mut self)
         ensures { self.new ≡ over self.old }
     {
-        self.talks.close();
+        self.connections.close();
     }
 
     /// Another dial, with the next reply, in the place of the outgoing one.
@@ -98,10 +98,10 @@ impl Dials {
           room = self.old.room - (length address.now + length bytes.now);
         } }
     {
-        self.talks.next();
+        self.connections.next();
         self.addresses.begin();
         self.addresses.extend(address);
-        self.talks.write(bytes);
+        self.connections.write(bytes);
         self.room -= address.len() + bytes.len();
     }
 
@@ -130,7 +130,7 @@ impl Dials {
         ensures bytes { take result buf.new ≡ take result (left_of (connection_of self.old.outgoing)) }
         ensures view { self.new ≡ record self.old { outgoing = option_map (through (further result)) self.old.outgoing } }
     {
-        self.talks.read(buf, most)
+        self.connections.read(buf, most)
     }
 
     /// Writes on the outgoing dial.
@@ -142,7 +142,7 @@ impl Dials {
           room = self.old.room - length bytes.now;
         } }
     {
-        self.talks.write(bytes);
+        self.connections.write(bytes);
         self.room -= bytes.len();
     }
 
@@ -150,7 +150,7 @@ impl Dials {
     pub fn fail(&mut self)
         ensures { self.new ≡ record self.old { outgoing = option_map (through broken) self.old.outgoing } }
     {
-        self.talks.fail();
+        self.connections.fail();
     }
 
     /// What was written on the dial at this place, counted from 0.
@@ -159,7 +159,7 @@ impl Dials {
     {
         let taken = self.addresses.len() as u64;
         if at < taken {
-            self.talks.written(at as usize)
+            self.connections.written(at as usize)
         } else if at - taken < self.refused {
             Some(&[])
         } else {

@@ -3,13 +3,13 @@ ghost use Rattle.std.specs.Option.{option_copied, option_map};
 ghost use Rattle.oc_link.specs.Exchange.{Hears, Says, Breaks, SaysFrontThenBreaks};
 ghost use Rattle.oc_io.specs.Faults.{Rose};
 ghost use Rattle.oc_link.specs.LinkCalls.{CountsListening, CountsTalking, CountsDialling, Told, IfTold, NextGives, OnCurrent, OnOutgoing, DialsTo, DialFails, connection_of};
-ghost use Rattle.oc_link.specs.MemLinkView.{MemLinkView, CountsDials, link_of, told, passed, listen_failed, talk_failed, dial_call_failed, dial_failed, took_next, after_read, after_write, after_dial, after_dial_more, after_dial_read};
+ghost use Rattle.oc_link.specs.MemLinkView.{MemLinkView, CountsDials, link_of, told, passed, listen_failed, call_failed, dial_call_failed, dial_failed, took_next, after_read, after_write, after_dial, after_dial_more, after_dial_read};
 ghost use Rattle.oc_link.specs.Story.{broken, through, closed, hung_up, taken, dials, IsReadOut, IsHeardOut};
-ghost use Rattle.oc_link.specs.TalksView.{left_of};
+ghost use Rattle.oc_link.specs.ConnectionsView.{left_of};
 ghost use Rattle.oc_io.specs.Tally.{counted, IsListed};
 ghost use Rattle.oc_link.specs.declared.link.Arrival.TheVariants.{Conn, Quiet};
 
-use crate::Talks;
+use crate::Connections;
 use crate::dials::Dials;
 use crate::link::{Arrival, Link};
 use oc_io::{CallTally, Failed};
@@ -20,7 +20,7 @@ use std::marker::Model;
 /// dials, as far as its room goes. It keeps neither address nor bytes of a dial that fails.
 #[derive(Debug, Drop)]
 pub struct MemLink {
-    arrivals: Talks,
+    arrivals: Connections,
     dials: Dials,
     room: usize,
     cut: usize,
@@ -74,7 +74,7 @@ impl MemLink {
             (map (λ v. v.items) arrivals.items) (map (λ v. v.items) replies.items) room cut fails.items) }
     {
         Ok(MemLink {
-            arrivals: Talks::new(alloc, arrivals, room)?,
+            arrivals: Connections::new(alloc, arrivals, room)?,
             dials: Dials::new(alloc, replies, room)?,
             room,
             cut,
@@ -109,7 +109,7 @@ impl MemLink {
     }
 
     /// Counts a fault on the current connection.
-    fn talk_fails(&mut self) -> Failed
+    fn call_fails(&mut self) -> Failed
         ensures { self.new ≡ record self.old {
           story = record self.old.story { current = option_map broken self.old.story.current };
           faults = record self.old.faults { talking = counted self.old.faults.talking };
@@ -198,10 +198,10 @@ impl Link for MemLink {
         ensures passed { IfOk result (λ n. ¬ IsListed self.old.calls × (¬ (self.old.story.current ≡ None))
             × (self.new ≡ after_read n self.old)) }
         ensures failed { OnErr result ((IsListed self.old.calls ⊎ (self.old.story.current ≡ None))
-            × (self.new ≡ talk_failed self.old)) }
+            × (self.new ≡ call_failed self.old)) }
     {
         if self.calls.call_if(self.arrivals.is_open()).is_err() {
-            return Err(self.talk_fails());
+            return Err(self.call_fails());
         }
         Ok(self.arrivals.read(buf, self.cut))
     }
@@ -220,12 +220,12 @@ impl Link for MemLink {
         ensures passed { IfOk result (λ n. ¬ IsListed self.old.calls × (¬ (self.old.story.current ≡ None))
             × (self.new ≡ after_write (take n bytes.now) self.old)) }
         ensures failed { OnErr result ((IsListed self.old.calls ⊎ ((self.old.story.current ≡ None)
-            ⊎ ((0 < length bytes.now) × (self.old.room ≡ 0)))) × (self.new ≡ talk_failed self.old)) }
+            ⊎ ((0 < length bytes.now) × (self.old.room ≡ 0)))) × (self.new ≡ call_failed self.old)) }
     {
         let count = bytes.len().min(self.room);
         let can = self.arrivals.is_open() && (count > 0 || bytes.is_empty());
         if self.calls.call_if(can).is_err() {
-            return Err(self.talk_fails());
+            return Err(self.call_fails());
         }
         self.arrivals.write(&bytes[..count]);
         self.room -= count;

@@ -1,21 +1,21 @@
 ghost use Rattle.std.specs.Prelude.{◌≡◌};
 ghost use Rattle.oc_link.specs.Exchange.{Hears, HearsThenBreaks};
 ghost use Rattle.oc_link.specs.LinkCalls.{IfTold};
-ghost use Rattle.oc_link.specs.LinkLoan.{Dials, Dials-hears-nothing, Dials-hears-then, Dials-hears-fails};
+ghost use Rattle.oc_link.specs.LinkBorrow.{ChangesOutgoing, Outgoing-hears-nothing, Outgoing-hears-then, Outgoing-hears-fails};
 ghost use Rattle.oc_link.specs.Story.{IsHeardOut};
 
 use crate::link::Link;
 use oc_io::{Failed, Source};
 
-/// The outgoing connection of a link that is lent: a source of what comes back on it.
+/// The outgoing connection of a borrowed link: a source of what comes back on it.
 #[derive(Drop)]
 pub struct Outgoing<'a, L: Link> {
-    /// The lender's link.
+    /// The link.
     pub link: &'a mut L,
 }
 
 impl<'a, L: Link> Outgoing<'a, L> {
-    /// The outgoing connection of this link. What is done to it is done to the lender's.
+    /// The outgoing connection of this link. What is done to it is done to the link that is borrowed.
     pub fn new(link: &'a mut L) -> Outgoing<'a, L>
         ensures loan { result.link.ghost_name ≡ link.entry.ghost_name }
         ensures link { result.link.now ≡ link.old }
@@ -25,11 +25,11 @@ impl<'a, L: Link> Outgoing<'a, L> {
 }
 
 impl<L: Link> Source for Outgoing<'_, L> {
-    ghost gives = { λ old bytes new. Dials (Hears bytes)
+    ghost gives = { λ old bytes new. ChangesOutgoing (Hears bytes)
         (record { name = old.link.ghost_name; story = L.story old.link.now; faults = L.faults old.link.now })
         (record { name = new.link.ghost_name; story = L.story new.link.now; faults = L.faults new.link.now }) };
 
-    ghost fails = { λ old bytes new. Dials (HearsThenBreaks bytes)
+    ghost fails = { λ old bytes new. ChangesOutgoing (HearsThenBreaks bytes)
         (record { name = old.link.ghost_name; story = L.story old.link.now; faults = L.faults old.link.now })
         (record { name = new.link.ghost_name; story = L.story new.link.now; faults = L.faults new.link.now }) };
 
@@ -39,15 +39,15 @@ impl<L: Link> Source for Outgoing<'_, L> {
 
     ghost faults = { λ o. (L.faults o.link.now).dialling };
 
-    ghost gives_nothing = { λ o. Dials-hears-nothing
+    ghost gives_nothing = { λ o. Outgoing-hears-nothing
         (record { name = o.link.ghost_name; story = L.story o.link.now; faults = L.faults o.link.now }) };
 
-    ghost gives_then = { λ a b c. Dials-hears-then
+    ghost gives_then = { λ a b c. Outgoing-hears-then
         (record { name = a.link.ghost_name; story = L.story a.link.now; faults = L.faults a.link.now })
         (record { name = b.link.ghost_name; story = L.story b.link.now; faults = L.faults b.link.now })
         (record { name = c.link.ghost_name; story = L.story c.link.now; faults = L.faults c.link.now }) };
 
-    ghost gives_fails = { λ a b c. Dials-hears-fails
+    ghost gives_fails = { λ a b c. Outgoing-hears-fails
         (record { name = a.link.ghost_name; story = L.story a.link.now; faults = L.faults a.link.now })
         (record { name = b.link.ghost_name; story = L.story b.link.now; faults = L.faults b.link.now })
         (record { name = c.link.ghost_name; story = L.story c.link.now; faults = L.faults c.link.now }) };

@@ -9,7 +9,7 @@ use Rattle.oc_http.specs.declared.fault.HttpFault.TheVariants as http
 use Rattle.oc_http.specs.declared.reply.Reply.{Reply}
 use Rattle.oc_link.specs.Exchange.{Hears, HearsThenBreaks}
 use Rattle.oc_link.specs.LinkCalls.{Told, IfTold, OnOutgoing, DialsTo, DialFails, connection_of, address_of}
-use Rattle.oc_link.specs.LinkLoan.{LoanView, Dials}
+use Rattle.oc_link.specs.LinkBorrow.{BorrowView, ChangesOutgoing}
 use Rattle.oc_link.specs.Story.{Connection, Dial, Story, hung_up, unused, wrote, broken, IsHeardOut}
 use Rattle.oc_probe.specs.Faults.{fault_of_http}
 use Rattle.oc_probe.specs.Probes.{Asked, IsAnswer, IsAnswered, IsUnanswered, AreAny, HearsUntil, Probed}
@@ -131,11 +131,11 @@ pub heard_until : {S : Type 0} (gives fails : S → List ℕ → S → Type 0) (
 heard_until gives fails old new a b ended http.Source given failed h = (h.0, failed h.0 h.1, h.2)
 heard_until gives fails old new a b ended fault given failed h = (h.0, given h.0 h.1, h.2)
 
-pub heard_refused : {S : Type 0} (view : S → LoanView) (old new : S) (r : Result Reply HttpFault) (a d : Option Story) → IfErr r (λ fault. (bytes : List ℕ) × Took (λ o given n. Dials (Hears given) (view o) (view n)) (λ o given n. Dials (HearsThenBreaks given) (view o) (view n)) old bytes new fault × RefusesReply bytes (IfTold (view new).story IsHeardOut) fault) → a ≡ (view old).story → d ≡ (view new).story → IfErr r (λ fault. (bytes : List ℕ) × HearsUntil fault bytes a d × RefusesReply bytes (IfTold d IsHeardOut) fault)
+pub heard_refused : {S : Type 0} (view : S → BorrowView) (old new : S) (r : Result Reply HttpFault) (a d : Option Story) → IfErr r (λ fault. (bytes : List ℕ) × Took (λ o given n. ChangesOutgoing (Hears given) (view o) (view n)) (λ o given n. ChangesOutgoing (HearsThenBreaks given) (view o) (view n)) old bytes new fault × RefusesReply bytes (IfTold (view new).story IsHeardOut) fault) → a ≡ (view old).story → d ≡ (view new).story → IfErr r (λ fault. (bytes : List ℕ) × HearsUntil fault bytes a d × RefusesReply bytes (IfTold d IsHeardOut) fault)
 heard_refused view old new (Ok reply) a d refused first last = tt
 heard_refused view old new (Err fault) a d refused first last =
     rw (first, last)
-    (heard_until (λ o given n. Dials (Hears given) (view o) (view n)) (λ o given n. Dials (HearsThenBreaks given) (view o) (view n)) old new (view old).story (view new).story (IfTold (view new).story IsHeardOut) fault (λ bytes h. h.story) (λ bytes h. h.story) refused)
+    (heard_until (λ o given n. ChangesOutgoing (Hears given) (view o) (view n)) (λ o given n. ChangesOutgoing (HearsThenBreaks given) (view o) (view n)) old new (view old).story (view new).story (IfTold (view new).story IsHeardOut) fault (λ bytes h. h.story) (λ bytes h. h.story) refused)
 
 -- What the probe answers
 

@@ -1,6 +1,6 @@
 ghost use Rattle.std.specs.Prelude.{◌≡◌, ℕ, ◌-◌, ◌<◌, ◌≤◌, List, [], ◌∷◌, ◌++◌, length, IfOk, IfSome, slice_get, slice_range};
 ghost use Rattle.std.specs.Option.{option_copied, option_map};
-ghost use Rattle.oc_link.specs.Rows.{grown, rows_in, AreStarts};
+ghost use Rattle.oc_link.specs.ByteStrings.{grown, strings_in, AreStarts};
 
 use std::alloc::{AllocError, Global};
 use std::marker::Model;
@@ -8,80 +8,73 @@ use std::marker::Model;
 /// Byte strings one after another in one buffer, which never grows past what was made. Only the last
 /// string grows.
 #[derive(Debug, Drop)]
-pub struct Rows {
+pub struct ByteStrings {
     bytes: Vec<u8>,
     /// The place where each string begins.
     starts: Vec<usize>,
     /// The bytes for which there is room.
     room: usize,
     /// The strings for which there is room.
-    places: usize,
+    string_room: usize,
 }
 
-impl Model for Rows {
+impl Model for ByteStrings {
     ghost use Rattle.std.specs.Prelude.{◌≤◌, ◌+◌, length, vec_len, vec_capacity};
-    ghost use Rattle.oc_link.specs.Rows.{RowsView, rows_in, AreStarts};
+    ghost use Rattle.oc_link.specs.ByteStrings.{ByteStringsView, strings_in, AreStarts};
 
-    ghost Value = { RowsView };
+    ghost Value = { ByteStringsView };
 
-    ghost view = { λ r. record { rows = rows_in r.bytes.items r.starts.items; room = r.room; places = r.places } };
+    ghost view = { λ r. record { strings = strings_in r.bytes.items r.starts.items; room = r.room; string_room = r.string_room } };
 
     ghost invariant = { λ r. (vec_len r.bytes + r.room ≤ vec_capacity r.bytes)
-        × (vec_len r.starts + r.places ≤ vec_capacity r.starts)
+        × (vec_len r.starts + r.string_room ≤ vec_capacity r.starts)
         × AreStarts (length r.bytes.items) r.starts.items };
 }
 
-impl Rows {
+impl ByteStrings {
     /// No strings, and room for this many bytes and strings.
-    pub fn new(alloc: Global, room: usize, places: usize) -> Result<Rows, AllocError>
-        ensures { IfOk result (λ r. r ≡ record { rows = []; room = room; places = places }) }
+    pub fn new(alloc: Global, room: usize, string_room: usize) -> Result<ByteStrings, AllocError>
+        ensures { IfOk result (λ r. r ≡ record { strings = []; room = room; string_room = string_room }) }
     {
-        Ok(Rows {
+        Ok(ByteStrings {
             bytes: Vec::with_capacity(alloc, room)?,
-            starts: Vec::with_capacity(alloc, places)?,
+            starts: Vec::with_capacity(alloc, string_room)?,
             room,
-            places,
+            string_room,
         })
-    }
-
-    /// The bytes for which there is room.
-    pub fn room(&self) -> usize
-        ensures { result ≡ self.now.room }
-    {
-        self.room
     }
 
     /// How many strings there are.
     pub fn len(&self) -> usize
-        ensures { result ≡ length self.now.rows }
+        ensures { result ≡ length self.now.strings }
     {
         self.starts.as_slice().len()
     }
 
     /// Begins another string, which is empty at first.
     pub fn begin(&mut self)
-        requires { 0 < self.old.places }
-        ensures { self.new ≡ record self.old { rows = self.old.rows ++ [] ∷ []; places = self.old.places - 1 } }
+        requires { 0 < self.old.string_room }
+        ensures { self.new ≡ record self.old { strings = self.old.strings ++ [] ∷ []; string_room = self.old.string_room - 1 } }
     {
         let end = self.bytes.as_slice().len();
         self.starts.push(end).unwrap();
-        self.places -= 1;
+        self.string_room -= 1;
     }
 
     /// Puts these bytes after the last string.
     pub fn extend(&mut self, more: &[u8])
         requires room { length more.now ≤ self.old.room }
-        requires some { 0 < length self.old.rows }
+        requires some { 0 < length self.old.strings }
         ensures { self.new ≡ record self.old
-            { rows = grown self.old.rows more.now; room = self.old.room - length more.now } }
+            { strings = grown self.old.strings more.now; room = self.old.room - length more.now } }
     {
         self.bytes.extend_from_slice(more).unwrap();
         self.room -= more.len();
     }
 
     /// The string at this place, counted from 0.
-    pub fn row(&self, at: usize) -> Option<&[u8]>
-        ensures { option_copied result ≡ slice_get self.now.rows at }
+    pub fn get(&self, at: usize) -> Option<&[u8]>
+        ensures { option_copied result ≡ slice_get self.now.strings at }
     {
         let bytes = self.bytes.as_slice();
         let starts = self.starts.as_slice();
@@ -100,8 +93,8 @@ impl Rows {
 fn first_ends(starts: &[usize], len: usize) -> Option<(usize, usize)>
     requires { AreStarts len starts.now }
     ensures within { IfSome result (λ ends. (ends.0 ≤ ends.1) × (ends.1 ≤ len)) }
-    ensures row { (bytes : List ℕ) → length bytes ≡ len
-        → slice_get (rows_in bytes starts.now) 0 ≡ option_map (λ ends. slice_range bytes ends.0 ends.1) result }
+    ensures string { (bytes : List ℕ) → length bytes ≡ len
+        → slice_get (strings_in bytes starts.now) 0 ≡ option_map (λ ends. slice_range bytes ends.0 ends.1) result }
 {
     match starts {
         [] => None,

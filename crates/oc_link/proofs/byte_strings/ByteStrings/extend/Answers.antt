@@ -1,6 +1,6 @@
 use Rattle.std.proofs.Common.{◌≡◌, ◌≤◌, ◌+◌, ◌++◌, vec_len, ap, length, length-append, arith}
-use Rattle.oc_link.proofs.RowsIn.{AreStarts-more, extended}
-use Rattle.oc_link.proofs.rows.Rows.extend.Goals as goal
+use Rattle.oc_link.proofs.StringsIn.{AreStarts-more, extended}
+use Rattle.oc_link.proofs.byte_strings.ByteStrings.extend.Goals as goal
 
 pub invariant_of-self : goal.invariant_of-self
 invariant_of-self c =
@@ -16,4 +16,4 @@ pub returns : goal.returns
 returns c =
     let items : c.extend_from_slice.new.self.items ≡ c.self.inside.bytes.items ++ c.args.more.now =
     rw c.unwrap.ensures at c.extend_from_slice.ensures.items in
-    extended c.self.inside.bytes.items c.extend_from_slice.new.self.items c.args.more.now c.self.inside.starts.items c.self.inside.room c.self.inside.places c.args.self.now c.self.invariant.2 items c.self.view_is
+    extended c.self.inside.bytes.items c.extend_from_slice.new.self.items c.args.more.now c.self.inside.starts.items c.self.inside.room c.self.inside.string_room c.args.self.now c.self.invariant.2 items c.self.view_is

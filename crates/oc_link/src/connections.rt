@@ -1,15 +1,15 @@
 ghost use Rattle.std.specs.Prelude.{◌≡◌, ◌↔◌, ◌+◌, ◌-◌, ◌<◌, ◌≤◌, false, IsTrue, Option, None, Some, [], ◌++◌, not, ◌==◌, length, min, take, drop, map, IfOk, IsSome, is_some, slice_get, option_to_list};
 ghost use Rattle.std.specs.Option.{option_copied, option_map};
 ghost use Rattle.oc_link.specs.Connection.{broken, wrote};
-ghost use Rattle.oc_link.specs.TalksView.{TalksView, ended, begun, further, left_of};
+ghost use Rattle.oc_link.specs.ConnectionsView.{ConnectionsView, ended, begun, further, left_of};
 
-use crate::rows::Rows;
+use crate::byte_strings::ByteStrings;
 use std::alloc::{AllocError, Global};
 use std::marker::Model;
 
 /// How far a connection has come: the bytes of it that were read, and whether a call on it failed.
 #[derive(Clone, Copy, Debug)]
-pub struct Talk {
+pub struct Progress {
     pub read: usize,
     pub failed: bool,
 }
@@ -17,40 +17,40 @@ pub struct Talk {
 /// Connections in memory, one after another: those that wait, those that ended, and one that may be
 /// current. What is written on them is kept.
 #[derive(Debug, Drop)]
-pub struct Talks {
+pub struct Connections {
     /// The bytes that each connection gives, oldest first.
     given: Vec<Vec<u8>>,
     /// Those that ended.
-    past: Vec<Talk>,
+    past: Vec<Progress>,
     /// The current one, which comes after them.
-    current: Option<Talk>,
+    current: Option<Progress>,
     /// What was written on each of those that ended and on the current one.
-    written: Rows,
+    written: ByteStrings,
 }
 
-impl Model for Talks {
+impl Model for Connections {
     ghost use Rattle.std.specs.Prelude.{◌≡◌, ◌≤◌, ◌+◌, length, map, drop, vec_capacity};
-    ghost use Rattle.oc_link.specs.TalksView.{TalksView, connections, count_of, current_of, IsWithinBytes, at};
+    ghost use Rattle.oc_link.specs.ConnectionsView.{ConnectionsView, connections_of, count_of, current_of, IsWithinBytes, at};
 
-    ghost Value = { TalksView };
+    ghost Value = { ConnectionsView };
 
     ghost view = { λ t. record {
       waiting = drop (length t.past.items + count_of t.current) (map (λ v. v.items) t.given.items);
-      past = connections t.past.items (map (λ v. v.items) t.given.items) t.written.rows;
-      current = current_of (map (λ v. v.items) t.given.items) (length t.past.items) t.current t.written.rows;
+      past = connections_of t.past.items (map (λ v. v.items) t.given.items) t.written.strings;
+      current = current_of (map (λ v. v.items) t.given.items) (length t.past.items) t.current t.written.strings;
       room = t.written.room;
     } };
 
-    ghost invariant = { λ t. (length t.written.rows ≡ length t.past.items + count_of t.current)
-        × (length t.written.rows + t.written.places ≡ length t.given.items)
+    ghost invariant = { λ t. (length t.written.strings ≡ length t.past.items + count_of t.current)
+        × (length t.written.strings + t.written.string_room ≡ length t.given.items)
         × (length t.given.items ≤ vec_capacity t.past)
         × IsWithinBytes (at (map (λ v. v.items) t.given.items) (length t.past.items)) t.current };
 }
 
-impl Talks {
+impl Connections {
     /// Connections that give these bytes, all of which wait, and room for this many bytes that are
     /// written.
-    pub fn new(alloc: Global, given: Vec<Vec<u8>>, room: usize) -> Result<Talks, AllocError>
+    pub fn new(alloc: Global, given: Vec<Vec<u8>>, room: usize) -> Result<Connections, AllocError>
         ensures { IfOk result (λ t. t ≡ record {
           waiting = map (λ v. v.items) given.items;
           past = [];
@@ -59,8 +59,8 @@ impl Talks {
         }) }
     {
         let past = Vec::with_capacity(alloc, given.len())?;
-        let written = Rows::new(alloc, room, given.len())?;
-        Ok(Talks {
+        let written = ByteStrings::new(alloc, room, given.len())?;
+        Ok(Connections {
             given,
             past,
             current: None,
@@ -87,8 +87,8 @@ impl Talks {
     pub fn close(&mut self)
         ensures { self.new ≡ ended self.old }
     {
-        if let Some(talk) = self.current {
-            self.past.push(talk).unwrap();
+        if let Some(progress) = self.current {
+            self.past.push(progress).unwrap();
             self.current = None;
         }
     }
@@ -100,7 +100,7 @@ impl Talks {
     {
         self.close();
         self.written.begin();
-        self.current = Some(Talk {
+        self.current = Some(Progress {
             read: 0,
             failed: false,
         });
@@ -127,14 +127,14 @@ impl Talks {
         ensures bytes { take result buf.new ≡ take result (left_of self.old.current) }
         ensures view { self.new ≡ record self.old { current = option_map (further result) self.old.current } }
     {
-        let Some(talk) = self.current else {
+        let Some(progress) = self.current else {
             return 0;
         };
         let bytes = self.given[self.past.len()].as_slice();
-        let count = fill(buf, unread(bytes, talk), most);
-        self.current = Some(Talk {
-            read: talk.read + count,
-            failed: talk.failed,
+        let count = fill(buf, unread(bytes, progress), most);
+        self.current = Some(Progress {
+            read: progress.read + count,
+            failed: progress.failed,
         });
         count
     }
@@ -155,9 +155,9 @@ impl Talks {
     pub fn fail(&mut self)
         ensures { self.new ≡ record self.old { current = option_map broken self.old.current } }
     {
-        if let Some(talk) = self.current {
-            self.current = Some(Talk {
-                read: talk.read,
+        if let Some(progress) = self.current {
+            self.current = Some(Progress {
+                read: progress.read,
                 failed: true,
             });
         }
@@ -168,16 +168,16 @@ impl Talks {
         ensures { option_copied result ≡ option_map (λ c. c.written)
             (slice_get (self.now.past ++ option_to_list self.now.current) at) }
     {
-        self.written.row(at)
+        self.written.get(at)
     }
 }
 
 /// What is left of a connection's bytes.
-fn unread(bytes: &[u8], talk: Talk) -> &[u8]
-    requires { talk.read ≤ length bytes.now }
-    ensures { result.now ≡ drop talk.read bytes.now }
+fn unread(bytes: &[u8], progress: Progress) -> &[u8]
+    requires { progress.read ≤ length bytes.now }
+    ensures { result.now ≡ drop progress.read bytes.now }
 {
-    &bytes[talk.read..]
+    &bytes[progress.read..]
 }
 
 /// Fills a prefix of the buffer with a prefix of these bytes, at most `most`, and answers its length.

@@ -1,7 +1,7 @@
 use Rattle.std.proofs.Common.{◌≡◌, ◌∷◌, ◌++◌, [], length, subst, sym, arith}
-use Rattle.oc_link.specs.Rows.{AreStarts}
-use Rattle.oc_link.proofs.RowsIn.{AreStarts-push, begun}
-use Rattle.oc_link.proofs.rows.Rows.begin.Goals as goal
+use Rattle.oc_link.specs.ByteStrings.{AreStarts}
+use Rattle.oc_link.proofs.StringsIn.{AreStarts-push, begun}
+use Rattle.oc_link.proofs.byte_strings.ByteStrings.begin.Goals as goal
 
 pub invariant_of-self : goal.invariant_of-self
 invariant_of-self c =
@@ -13,4 +13,4 @@ pub returns : goal.returns
 returns c =
     let items : c.push.new.self.items ≡ c.self.inside.starts.items ++ length c.self.inside.bytes.items ∷ [] =
     rw (c.unwrap.ensures, c.as_slice-end.ensures.value) at c.push.ensures.items in
-    begun c.self.inside.bytes.items c.self.inside.starts.items c.push.new.self.items c.self.inside.room c.self.inside.places c.args.self.now c.self.invariant.2 items c.self.view_is
+    begun c.self.inside.bytes.items c.self.inside.starts.items c.push.new.self.items c.self.inside.room c.self.inside.string_room c.args.self.now c.self.invariant.2 items c.self.view_is

@@ -2,54 +2,54 @@
 use Rattle.std.specs.Prelude.{ℕ, ◌≤◌, Option, None, Some, option_to_list, List, [], ◌∷◌, ◌++◌, length, take, drop, slice_index_or}
 use Rattle.std.specs.Option.{option_map}
 use Rattle.oc_link.specs.Connection.{Connection, unused}
-use Rattle.oc_link.specs.declared.talks.Talk.{Talk}
+use Rattle.oc_link.specs.declared.connections.Progress.{Progress}
 
 -- the bytes of the connections that wait, the connections that ended, the current one, and the bytes that can still be written
-pub record TalksView : Type 0 where
+pub record ConnectionsView : Type 0 where
   pub waiting : List (List ℕ)
   pub past : List Connection
   pub current : Option Connection
   pub room : ℕ
 
 -- a connection that gives these bytes, how far it has come, and what was written on it
-abbrev pub connection_of : List ℕ → Talk → List ℕ → Connection
-connection_of bytes talk written = record {
-  read = take talk.read bytes;
-  left = drop talk.read bytes;
+abbrev pub connection_of : List ℕ → Progress → List ℕ → Connection
+connection_of bytes progress written = record {
+  read = take progress.read bytes;
+  left = drop progress.read bytes;
   written = written;
-  failed = talk.failed;
+  failed = progress.failed;
 }
 
 -- the connections of these bytes, one by one
-abbrev pub connections : List Talk → List (List ℕ) → List (List ℕ) → List Connection
-connections [] given rows = []
-connections (talk ∷ talks) (bytes ∷ given) (row ∷ rows) = connection_of bytes talk row ∷ connections talks given rows
-connections (talk ∷ talks) given rows = []
+abbrev pub connections_of : List Progress → List (List ℕ) → List (List ℕ) → List Connection
+connections_of [] given strings = []
+connections_of (progress ∷ connections) (bytes ∷ given) (string ∷ strings) = connection_of bytes progress string ∷ connections_of connections given strings
+connections_of (progress ∷ connections) given strings = []
 
 -- one is current, or none
-abbrev pub count_of : Option Talk → ℕ
+abbrev pub count_of : Option Progress → ℕ
 count_of None = 0
-count_of (Some talk) = 1
+count_of (Some progress) = 1
 
 -- the string at a place, and none past the end
 abbrev pub at : List (List ℕ) → ℕ → List ℕ
 at xs k = slice_index_or xs k []
 
 -- the current connection, which comes after those that ended
-abbrev pub current_of : List (List ℕ) → ℕ → Option Talk → List (List ℕ) → Option Connection
-current_of given k talk rows = option_map (λ t. connection_of (at given k) t (at rows k)) talk
+abbrev pub current_of : List (List ℕ) → ℕ → Option Progress → List (List ℕ) → Option Connection
+current_of given k progress strings = option_map (λ t. connection_of (at given k) t (at strings k)) progress
 
 -- how far the current connection has come is within its bytes
-abbrev pub IsWithinBytes : List ℕ → Option Talk → Type 0
+abbrev pub IsWithinBytes : List ℕ → Option Progress → Type 0
 IsWithinBytes bytes None = Unit {0}
-IsWithinBytes bytes (Some talk) = talk.read ≤ length bytes
+IsWithinBytes bytes (Some progress) = progress.read ≤ length bytes
 
 -- the current connection ended
-abbrev pub ended : TalksView → TalksView
+abbrev pub ended : ConnectionsView → ConnectionsView
 ended v = record v { past = v.past ++ option_to_list v.current; current = None }
 
 -- the oldest that waits is current, and the one before ended
-abbrev pub begun : TalksView → TalksView
+abbrev pub begun : ConnectionsView → ConnectionsView
 begun v = record (ended v) { waiting = drop 1 v.waiting; current = Some (unused (at v.waiting 0)) }
 
 -- this many more bytes of a connection were read

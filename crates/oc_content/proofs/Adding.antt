@@ -4,6 +4,7 @@ use Rattle.std.proofs.lemmas.List.{length-map, get_or_push, length_push}
 use Rattle.oc_base.specs.declared.shelf.Shelf.{Shelf}
 use Rattle.oc_content.specs.declared.heading.Heading.{Heading}
 use Rattle.oc_content.specs.declared.track.Span.{Span}
+use Rattle.oc_content.specs.declared.track.Track.{Track}
 use Rattle.oc_content.specs.declared.index.Index.{Index}
 use Rattle.oc_base.specs.declared.named.Lookup.{Lookup}
 use Rattle.oc_base.specs.declared.named.Lookup.TheVariants.{Found, Free}
@@ -14,8 +15,9 @@ use Rattle.oc_content.specs.Entries.{Entry, entry_of}
 use Rattle.oc_content.specs.ContentFile.{fits, grown, with_entry, taken}
 use Rattle.oc_base.specs.declared.limits.TheConstants.{MAX_GROUPS, MAX_GROUP_BYTES}
 use Rattle.oc_content.specs.Headings.{entry_at}
-use Rattle.oc_content.specs.Indexes.{IsTracked, AreTracked, paths, span_of, lines_with, line_with, paths_with, IsIndexOf, IsSized, IsWithin}
-use Rattle.oc_content.proofs.Lists.{length-changed, length_insert, all_places}
+use Rattle.oc_content.specs.Indexes.{IsTracked, AreTracked, paths, span_of, lines_with, line_with, paths_with, IsIndexOf, IsSized, OnlyReserves, IsWithin}
+use Rattle.oc_base.proofs.Each.{all_at}
+use Rattle.oc_content.proofs.Lists.{length-changed, length_insert}
 use Rattle.oc_content.proofs.Lines.{length-shelf, stands_within, goes_within, stands_name, line_of-stands, line_of-goes, with_entry-stands, with_entry-goes, shelf-changed, shelf-insert, fresh}
 use Rattle.oc_content.proofs.Meanings.{content_of-good, content_of-push, fits_held, fits_new}
 use Rattle.oc_content.proofs.Tracking.{AreTracked-more, AreTracked-changed, AreTracked-insert, IsTracked-push}
@@ -92,10 +94,21 @@ IsSized-good bodies groups x honest is =
       track_memory = is.track_memory;
       ascending = rw is.lines good.ascending;
       few = omega (arith, good.few, length-shelf groups, ap length is.lines);
-      short = rw is.lines (all_places (λ s. s.held ≤ MAX_GROUP_BYTES) (shelf groups) good.short);
+      short = rw is.lines (all_at (λ s. s.held ≤ MAX_GROUP_BYTES) (shelf groups) good.short);
     }
 
--- where an entry fits there is a place for it
+-- and with more memory it is within the limits still
+pub IsSized-reserved : (x y : Index) → IsSized x → OnlyReserves x y → IsSized y
+IsSized-reserved x y sized keeps = record {
+  rows = sym (length-map y.tracks.items (λ (t : Track). t.spans.items)) ∙ (ap length keeps.tracks.paths ∙ (length-map x.tracks.items (λ (t : Track). t.spans.items) ∙ (sized.rows ∙ sym (ap (λ v. length v.items) keeps.lines))));
+  line_memory = omega (arith, sized.line_memory, ap (λ v. vec_capacity v) keeps.lines);
+  track_memory = omega (arith, sized.track_memory, keeps.memory);
+  ascending = rw keeps.lines sized.ascending;
+  few = omega (arith, sized.few, ap (λ v. length v.items) keeps.lines);
+  short = rw keeps.lines sized.short;
+}
+
+-- where an entry fits there is an index for it
 pub place_within : (ss : List Shelf) (g : List ℕ) (place : Lookup) (start count : ℕ) (seals : Bool) → LooksUpLine ss g place → fits (line_of g ss) (length ss) start count seals ≡ true → IsWithin place (length ss)
 place_within ss g (Found i) start count seals at fit = stands_within ss g i at
 place_within ss g (Free i) start count seals at fit =

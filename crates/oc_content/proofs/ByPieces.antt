@@ -15,6 +15,7 @@ use Rattle.oc_base.proofs.NameOrder.{names_equal, names_back, names_apart}
 use Rattle.oc_content.specs.Entries.{Entry, entry_of, fields, named}
 use Rattle.oc_content.specs.ContentFile.{fits, grown, with_entry, taken, more, content_of, groups_in, bytes_in}
 use Rattle.oc_content.specs.GroupPieces.{is_entry_for, is_for, entry_piece, piece_for, pieces_for, begins_with_zero, seals_for, sealed_in}
+use Rattle.oc_content.proofs.Meanings.{none_more}
 use Rattle.oc_content.proofs.Others.{found_other}
 
 -- a group that was put is found
@@ -33,6 +34,7 @@ abbrev pub after_entry : List ℕ → Option Group → Option Entry → Option G
 after_entry g o None = o
 after_entry g o (Some e) = cond (same_name g e.group) (Some (grown e (or_empty g o))) o
 
+-- a group after an entry
 found_after : (g : List ℕ) (ks : List Group) (e : Entry) → group_of g (with_entry e ks) ≡ after_entry g (group_of g ks) (Some e)
 found_after g ks e = by_name (same_name g e.group) refl where
   by_name : (b : Bool) → same_name g e.group ≡ b → group_of g (with_entry e ks) ≡ cond b (Some (grown e (or_empty g (group_of g ks)))) (group_of g ks)
@@ -46,10 +48,6 @@ abbrev pub after_bodies : List ℕ → Option Group → List (List ℕ) → Opti
 after_bodies g o [] = o
 after_bodies g o (body ∷ bodies) = after_bodies g (after_entry g o (entry_of body)) bodies
 
-none_left : (bodies : List (List ℕ)) → fold more None bodies ≡ None
-none_left [] = refl
-none_left (body ∷ bodies) = none_left bodies
-
 -- one frame
 took : (g : List ℕ) (ks : List Group) (entry : Option Entry) (js : List Group) → taken ks entry ≡ Some js → group_of g js ≡ after_entry g (group_of g ks) entry
 took g ks None js is = absurd cc
@@ -58,11 +56,12 @@ took g ks (Some e) js is = by_fit (fits (line_of e.group (shelf ks)) (length ks)
   by_fit true h = let same : with_entry e ks ≡ js = cc in ap (group_of g) (sym same) ∙ found_after g ks e
   by_fit false h = absurd cc
 
+-- a group after more bodies
 found_from : (g : List ℕ) (bodies : List (List ℕ)) (ks js : List Group) → fold more (Some ks) bodies ≡ Some js → group_of g js ≡ after_bodies g (group_of g ks) bodies
 found_from g [] ks js is = let same : ks ≡ js = cc in ap (group_of g) (sym same)
 found_from g (body ∷ bodies) ks js is = by_next (λ is2 h. found_from g bodies is2 js h) (taken ks (entry_of body)) refl where
   by_next : ((is2 : List Group) → fold more (Some is2) bodies ≡ Some js → group_of g js ≡ after_bodies g (group_of g is2) bodies) → (next : Option (List Group)) → taken ks (entry_of body) ≡ next → group_of g js ≡ after_bodies g (after_entry g (group_of g ks) (entry_of body)) bodies
-  by_next rest None n = let none : None ≡ Some js = sym (none_left bodies) ∙ rw n at is in absurd cc
+  by_next rest None n = let none : None ≡ Some js = sym (none_more bodies) ∙ rw n at is in absurd cc
   by_next rest (Some is2) n =
       rest is2 (rw n at is) ∙ ap (λ (o : Option Group). after_bodies g o bodies) (took g ks (entry_of body) is2 n)
 
@@ -74,6 +73,7 @@ bytes_after g o (Some e) = by_name (same_name g e.group) where
   by_name true = refl
   by_name false = sym (append-nil (or_empty g o).bytes)
 
+-- its bytes are those it had and the pieces for it
 bytes_by_pieces : (g : List ℕ) (bodies : List (List ℕ)) (o : Option Group) → (or_empty g (after_bodies g o bodies)).bytes ≡ (or_empty g o).bytes ++ pieces_for g bodies
 bytes_by_pieces g [] o = sym (append-nil (or_empty g o).bytes)
 bytes_by_pieces g (body ∷ bodies) o =
@@ -95,14 +95,17 @@ there_after g o (Some e) = by_name (same_name g e.group) o where
   by_name false None = refl
   by_name false (Some k) = refl
 
+-- tests in any grouping
 or_assoc : (a b c : Bool) → (a || b) || c ≡ a || (b || c)
 or_assoc true b c = refl
 or_assoc false b c = refl
 
+-- a test beside one that fails
 or_none : (a : Bool) → a || false ≡ a
 or_none true = refl
 or_none false = refl
 
+-- it is there where it was, or where a body is for it
 there_by_bodies : (g : List ℕ) (bodies : List (List ℕ)) (o : Option Group) → is_some (after_bodies g o bodies) ≡ is_some o || list_any (is_for g) bodies
 there_by_bodies g [] o = sym (or_none (is_some o))
 there_by_bodies g (body ∷ bodies) o =
@@ -115,6 +118,7 @@ past_test : (b : Bool) (entry : Option Entry) (e : Entry) → cond b None entry 
 past_test true entry e is = absurd cc
 past_test false entry e is = is
 
+-- the fields say the seal that they are read with
 fields_seal : (seals : Bool) (bytes : List ℕ) (e : Entry) → fields seals bytes ≡ Some e → e.seals ≡ seals
 fields_seal seals [] e is = absurd cc
 fields_seal seals (n ∷ rest) e is =
@@ -123,6 +127,7 @@ fields_seal seals (n ∷ rest) e is =
     let same : Some (record { group = name; start = from_be_bytes w64 (take 8 (drop n rest)); bytes = drop 8 (drop n rest); seals = seals }) ≡ Some e = past_test (is_some (name_fault name)) _ e said in
     cc
 
+-- and a body that of its first byte
 body_seals : (body : List ℕ) (e : Entry) → entry_of body ≡ Some e → e.seals ≡ begins_with_zero body
 body_seals [] e is = absurd cc
 body_seals (b ∷ rest) e is = by_first (b == 0) is where
@@ -135,6 +140,7 @@ abbrev pub entry_seals : Option Entry → Bool
 entry_seals None = false
 entry_seals (Some e) = e.seals
 
+-- so a body seals a group where it is for it and begins with the byte 0
 seals_by_first : (g body : List ℕ) (entry : Option Entry) → entry_of body ≡ entry → (is_entry_for g entry && entry_seals entry) ≡ (is_entry_for g entry && begins_with_zero body)
 seals_by_first g body None is = refl
 seals_by_first g body (Some e) is = ap (λ (b : Bool). same_name g e.group && b) (body_seals body e is)
@@ -147,6 +153,7 @@ sealed_after g o (Some e) = by_name (same_name g e.group) where
   by_name true = refl
   by_name false = sym (or_none (or_empty g o).sealed)
 
+-- a group is sealed where it was, or where a body seals it
 sealed_by_bodies : (g : List ℕ) (bodies : List (List ℕ)) (o : Option Group) → (or_empty g (after_bodies g o bodies)).sealed ≡ (or_empty g o).sealed || list_any (seals_for g) bodies
 sealed_by_bodies g [] o = sym (or_none (or_empty g o).sealed)
 sealed_by_bodies g (body ∷ bodies) o =
@@ -168,14 +175,17 @@ good g bodies some = by_content (content_of bodies) refl some where
     is_none none = cc
   by_content (Some js) is h = found_from g bodies [] js is
 
+-- the bytes of a group in good frames
 pub bytes_are_pieces : (bodies : List (List ℕ)) (g : List ℕ) → IsSome (content_of bodies) → bytes_in g bodies ≡ pieces_for g bodies
 bytes_are_pieces bodies g some =
     ap (λ (o : Option Group). (or_empty g o).bytes) (good g bodies some) ∙ bytes_by_pieces g bodies None
 
+-- its seal
 pub sealed_by_zero : (bodies : List (List ℕ)) (g : List ℕ) → IsSome (content_of bodies) → IsTrue (sealed_in g bodies) ↔ Any (λ body. seals_for g body ≡ true) bodies
 sealed_by_zero bodies g some =
     any_by_test (seals_for g) bodies (sealed_in g bodies) (ap (λ (o : Option Group). (or_empty g o).sealed) (good g bodies some) ∙ sealed_by_bodies g bodies None)
 
+-- and whether it is held
 pub held_by_bodies : (bodies : List (List ℕ)) (g : List ℕ) → IsSome (content_of bodies) → IsSome (group_of g (groups_in bodies)) ↔ Any (λ body. is_for g body ≡ true) bodies
 held_by_bodies bodies g some =
     any_by_test (is_for g) bodies (is_some (group_of g (groups_in bodies))) (ap (λ (o : Option Group). is_some o) (good g bodies some) ∙ there_by_bodies g bodies None)

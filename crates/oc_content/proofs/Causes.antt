@@ -21,6 +21,7 @@ use Rattle.oc_content.specs.declared.index.Index.{Index}
 use Rattle.oc_content.specs.Indexes.{rooms, memory_of}
 use Rattle.oc_content.specs.Errors.{load_error}
 use Rattle.oc_content.specs.Promises.{RefusesContent, ClosesByCommit}
+use Rattle.oc_content.proofs.Meanings.{none_more}
 
 -- the journal was refused
 pub refused_load : (old new : DiskView) (error : LoadError) → RefusesLoad old new error → RefusesContent old new (load_error error)
@@ -43,16 +44,13 @@ refused_index u v w frames (BadFrame i) goes are journal why = λ honest.
     (journal honest, subst (λ (fs : List (List ℕ)). IsFirstBad fs i) (are honest) (why (still_honest u v goes honest)))
 refused_index u v w frames Memory goes are journal why = tt
 
--- frames after a bad one are bad
-none_more : (bodies : List (List ℕ)) → fold more None bodies ≡ None
-none_more [] = refl
-none_more (body ∷ bodies) = none_more bodies
-
+-- where some first frames are bad, all are
 bad_stays : (n : ℕ) (bodies : List (List ℕ)) → content_of (take n bodies) ≡ None → content_of bodies ≡ None
 bad_stays n bodies bad =
     ap content_of (sym (take-append-drop n bodies)) ∙ fold-append more (Some []) (take n bodies) (drop n bodies)
     ∙ ap (λ (c : Option (List Group)). fold more c (drop n bodies)) bad ∙ none_more (drop n bodies)
 
+-- nothing is not something
 not_some : (content : Option (List Group)) → content ≡ None → ¬ IsSome content
 not_some content none some = absurd (no_some (subst (λ (c : Option (List Group)). IsSome c) none some))
   where

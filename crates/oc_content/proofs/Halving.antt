@@ -62,6 +62,7 @@ pub record Holds (bodies : List (List ℕ)) (g : List ℕ) (at start i : ℕ) (s
 own_start : (bodies : List (List ℕ)) (g : List ℕ) (at : ℕ) (s : Span) → IsSpan bodies g at s → IsSpan bodies g s.start s
 own_start bodies g at s is = subst (λ (n : ℕ). IsSpan bodies g n s) (sym is.start) is
 
+-- the last span that begins at a byte or before it holds it
 pub span_holds : (bodies : List (List ℕ)) (g : List ℕ) (at start i : ℕ) (ss : List Span) (d : Span) → AreSpans bodies g at ss → start < at + length (flat_map (bytes_at bodies) ss) → i < length ss → (get_or ss i d).start ≤ start → (suc i < length ss → start < (get_or ss (suc i) d).start) → Holds bodies g at start i ss d
 span_holds bodies g at start i [] d are end inside least next = absurd (omega (arith, inside))
 span_holds bodies g at start zero (s ∷ []) d are end inside least next = record {

@@ -1,12 +1,6 @@
--- Lists: what holds of each element, and a change or an insert at a place.
+-- Lists: a change or an insert at an index.
 use Rattle.std.proofs.Common.{◌≡◌, ℕ, zero, suc, ◌<◌, ◌≤◌, List, [], ◌∷◌, ◌++◌, length, get_or, map, insert, set, refl, sym, ap, ◌∙◌, arith}
-use Rattle.std.specs.List.{AllByRecursion}
 use Rattle.oc_content.specs.Indexes.{changed}
-
--- what follows at each element holds of each
-pub all_weaker : {X : Type 0} (P Q : X → Type 0) → ((x : X) → P x → Q x) → (xs : List X) → AllByRecursion P xs → AllByRecursion Q xs
-all_weaker P Q f [] all = tt
-all_weaker P Q f (x ∷ xs) all = (f x all.0, all_weaker P Q f xs all.1)
 
 -- a change keeps the length
 pub length-changed : {X : Type 0} (f : X → X) (i : ℕ) (xs : List X) → length (changed f i xs) ≡ length xs
@@ -38,17 +32,6 @@ pub length_insert : {X : Type 0} (i : ℕ) (xs : List X) (y : X) → length (ins
 length_insert zero xs y = refl
 length_insert (suc i) [] y = refl
 length_insert (suc i) (x ∷ xs) y = ap suc (length_insert i xs y)
-
--- what holds of each holds at each place
-pub all_places : {X : Type 0} (P : X → Type 0) (xs : List X) → AllByRecursion P xs → (k : ℕ) (d : X) → k < length xs → P (get_or xs k d)
-all_places P [] all k d h = absurd (omega (arith, h))
-all_places P (x ∷ xs) all zero d h = all.0
-all_places P (x ∷ xs) all (suc k) d h = all_places P xs all.1 k d (omega (arith, h))
-
--- what holds of the elements of two lists holds of those of both in a row
-pub all_append : {X : Type 0} (P : X → Type 0) (xs ys : List X) → AllByRecursion P xs → AllByRecursion P ys → AllByRecursion P (xs ++ ys)
-all_append P [] ys ps qs = qs
-all_append P (x ∷ xs) ys ps qs = (ps.0, all_append P xs ys ps.1 qs)
 
 -- what was written at a place, seen through a map
 pub get_or-map_set : {X Y : Type 0} (m : X → Y) (i : ℕ) (xs : List X) (y : X) (d : Y) → i < length xs → get_or (map m (set xs i y)) i d ≡ m y

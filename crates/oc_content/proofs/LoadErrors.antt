@@ -5,16 +5,15 @@ use Rattle.oc_journal.specs.declared.errors.FrameError.TheVariants as frames
 use Rattle.oc_content.specs.declared.errors.ContentError.TheVariants.{Disk, NotJournal, BadFrame, Memory}
 use Rattle.oc_content.specs.Errors.{frame_error}
 
-pub no_error : {T E : Type 0} (x : T) (y : E) → IsErrOf (Ok x) y → ⊥
-no_error x y is = absurd cc
-
 -- memory ran out
 pub memory_not_bad : {T : Type 0} (i : ℕ) → IsErrOf {T = T} (Err Memory) (BadFrame i) → ⊥
 memory_not_bad i is = absurd cc
 
+-- which is no failed call
 pub memory_not_disk : {T : Type 0} → IsErrOf {T = T} (Err Memory) Disk → ⊥
 memory_not_disk is = absurd cc
 
+-- and no bad file
 pub memory_not_journal : {T : Type 0} → IsErrOf {T = T} (Err Memory) NotJournal → ⊥
 memory_not_journal is = absurd cc
 
@@ -22,6 +21,7 @@ memory_not_journal is = absurd cc
 pub bad_not_disk : {T : Type 0} (i : ℕ) → IsErrOf {T = T} (Err (BadFrame i)) Disk → ⊥
 bad_not_disk i is = absurd cc
 
+-- and the file is a journal
 pub bad_not_journal : {T : Type 0} (i : ℕ) → IsErrOf {T = T} (Err (BadFrame i)) NotJournal → ⊥
 bad_not_journal i is = absurd cc
 
@@ -30,10 +30,12 @@ pub unread_not_bad : {T : Type 0} (e : FrameError) (i : ℕ) → IsErrOf {T = T}
 unread_not_bad frames.Disk i is = absurd cc
 unread_not_bad frames.Memory i is = absurd cc
 
+-- and the file is a journal
 pub unread_not_journal : {T : Type 0} (e : FrameError) → IsErrOf {T = T} (Err (frame_error e)) NotJournal → ⊥
 unread_not_journal frames.Disk is = absurd cc
 unread_not_journal frames.Memory is = absurd cc
 
+-- a call failed where the journal says so
 pub unread_disk : {T U : Type 0} (e : FrameError) → IsErrOf {T = T} (Err (frame_error e)) Disk → IsErrOf {T = U} (Err e) frames.Disk
 unread_disk frames.Disk is = refl
 unread_disk frames.Memory is = absurd cc

@@ -20,6 +20,7 @@ pub record GroupAt (bodies : List (List ℕ)) (groups : List Group) (ss : List S
   pub held : length group.bytes ≡ get_or (helds ss) at 0
   pub found : group_of g groups ≡ Some group
 
+-- a group that is found is tracked at its index
 group_stands : (bodies : List (List ℕ)) (groups : List Group) (ps : List (List Span)) (g : List ℕ) (at : ℕ) → AreTracked bodies groups ps → IsLineAt (shelf groups) g at → GroupAt bodies groups (shelf groups) ps g at
 group_stands bodies [] ps g at are stands = absurd stands
 group_stands bodies (k ∷ ks) [] g at are stands = absurd are
@@ -30,6 +31,7 @@ group_stands bodies (k ∷ ks) (p ∷ ps) g (suc at) are stands =
     let there = group_stands bodies ks ps g at are.1 stands.1 in
     record { group = there.group; named = there.named; tracked = there.tracked; held = there.held; found = group_of-past g k ks stands.0 ∙ there.found }
 
+-- and so in an index
 pub group_at : (bodies : List (List ℕ)) (groups : List Group) (x : Index) (honest : Bool) (g : List ℕ) (at : ℕ) → IsIndexOf bodies groups x honest → IsTrue honest → IsLineAt x.shelves.items g at → GroupAt bodies groups x.shelves.items (paths x.tracks.items) g at
 group_at bodies groups x honest g at is h stands =
     subst (λ (ss : List Shelf). GroupAt bodies groups ss (paths x.tracks.items) g at) (sym is.lines) (group_stands bodies groups (paths x.tracks.items) g at (is.tracked h) (subst (λ (ss : List Shelf). IsLineAt ss g at) is.lines stands))
@@ -42,6 +44,7 @@ held_of-stands (s ∷ ss) g zero stands =
     rw same
 held_of-stands (s ∷ ss) g (suc at) stands = rw stands.0 (held_of-stands ss g at stands.1)
 
+-- an absent group has no bytes
 pub held_of-goes : (ss : List Shelf) (g : List ℕ) (at : ℕ) → IsFreeLineAt ss g at → held_of g ss ≡ None
 held_of-goes ss g at goes = rw (line_of-goes ss g at goes)
 
@@ -49,10 +52,12 @@ held_of-goes ss g at goes = rw (line_of-goes ss g at goes)
 pub held_at : (ss : List Shelf) (g : List ℕ) (at start : ℕ) → IsLineAt ss g at → start < get_or (helds ss) at 0 → IsHeldAt g ss start
 held_at ss g at start stands within = rw (held_of-stands ss g at stands) within
 
+-- past the end of a group is no byte
 pub past_end : (ss : List Shelf) (g : List ℕ) (at start : ℕ) → IsLineAt ss g at → get_or (helds ss) at 0 ≤ start → ¬ IsHeldAt g ss start
 past_end ss g at start stands past =
     λ h. let within : start < get_or (helds ss) at 0 = rw (held_of-stands ss g at stands) at h in omega (arith, within, past)
 
+-- and none in an absent group
 pub absent_group : (ss : List Shelf) (g : List ℕ) (at start : ℕ) → IsFreeLineAt ss g at → ¬ IsHeldAt g ss start
 absent_group ss g at start goes = λ h. rw (held_of-goes ss g at goes) at h
 

@@ -13,9 +13,14 @@ use Rattle.oc_base.specs.declared.group_name.NameFault.{NameFault}
 use Rattle.oc_content.specs.Entries.{Entry, entry_of, fields, named}
 use Rattle.oc_content.specs.ContentFile.{fits, grown, with_entry, taken, more, content_of}
 use Rattle.oc_base.specs.declared.limits.TheConstants.{MAX_GROUPS, MAX_GROUP_BYTES}
-use Rattle.oc_content.proofs.Lists.{all_weaker}
+use Rattle.oc_base.proofs.Each.{all_weaker}
 use Rattle.oc_content.proofs.Lines.{line_of-shelf, fresh}
 use Rattle.oc_base.proofs.NameOrder.{names_tied, names_back, names_rise}
+
+-- frames after a bad one are bad
+pub none_more : (bodies : List (List ℕ)) → fold more None bodies ≡ None
+none_more [] = refl
+none_more (body ∷ bodies) = none_more bodies
 
 -- the parts of a test that passes
 and_three : (a b c : Bool) → (a && b && c) ≡ true → (a ≡ true) × (b ≡ true) × (c ≡ true)
@@ -24,6 +29,7 @@ and_three true true false h = absurd cc
 and_three true false c h = absurd cc
 and_three false b c h = absurd cc
 
+-- and of four tests
 and_four : (a b c d : Bool) → (a && b && c && d) ≡ true → (a ≡ true) × (b ≡ true) × (c ≡ true) × (d ≡ true)
 and_four true true true true h = (refl, refl, refl, refl)
 and_four true true true false h = absurd cc
@@ -174,6 +180,7 @@ fold-none : (bodies : List (List ℕ)) → fold more None bodies ≡ None
 fold-none [] = refl
 fold-none (b ∷ bodies) = fold-none bodies
 
+-- groups stay good
 good_from : (bodies : List (List ℕ)) (ks js : List Group) → IsGood ks → fold more (Some ks) bodies ≡ Some js → IsGood js
 good_from [] ks js good h = let same : ks ≡ js = cc in subst IsGood same good
 good_from (b ∷ bodies) ks js good h = by_next (λ is g. good_from bodies is js g) (taken ks (entry_of b)) refl where
@@ -198,6 +205,7 @@ pub fold_push : {X Y : Type 0} (f : Y → X → Y) (a : Y) (xs : List X) (x : X)
 fold_push f a [] x = refl
 fold_push f a (y ∷ xs) x = fold_push f (f a y) xs x
 
+-- one frame more
 pub content_of-push : (bodies : List (List ℕ)) (groups : List Group) (body : List ℕ) → content_of bodies ≡ Some groups → content_of (bodies ++ body ∷ []) ≡ taken groups (entry_of body)
 content_of-push bodies groups body h =
     fold_push more (Some []) bodies body ∙ ap (λ (c : Option (List Group)). more c body) h

@@ -9,22 +9,23 @@ use Rattle.oc_base.specs.declared.named.Lookup.TheVariants.{Found, Free}
 use Rattle.oc_base.specs.Shelves.{line_of, LooksUpLine}
 use Rattle.oc_content.specs.ContentFile.{fits}
 use Rattle.oc_base.specs.declared.limits.TheConstants.{MAX_GROUP_BYTES, MAX_GROUPS}
-use Rattle.oc_content.specs.Putting.{standing, standing_in, fault_of, put_entry}
+use Rattle.oc_content.specs.Putting.{group_state, group_state_in, fault_of, put_entry}
 use Rattle.oc_base.specs.Named.{IsThere, is_free}
-use Rattle.oc_content.specs.declared.entry_putting.Standing.{Standing}
+use Rattle.oc_content.specs.declared.group_state.GroupState.{GroupState}
 use Rattle.oc_content.specs.Entries.{Entry}
 use Rattle.oc_content.specs.ContentView.{PieceView, IsReady}
 use Rattle.oc_content.specs.Indexes.{IsWithin, HasTrackRoom}
 use Rattle.oc_content.proofs.Lines.{stands_within, goes_within, line_of-stands, line_of-goes}
 
 -- what is not refused
-pub record IsAllowed (s : Standing) (start count : ℕ) : Type 0 where
+pub record IsAllowed (s : GroupState) (start count : ℕ) : Type 0 where
   pub behind : start ≤ s.held
   pub unsealed : s.sealed ≡ true → start + count ≤ s.held
   pub few : s.one_too_many ≡ false
   pub short : start + count ≤ MAX_GROUP_BYTES
 
-pub allowed : (s : Standing) (start count : ℕ) → fault_of s start count ≡ None → IsAllowed s start count
+-- what has no cause to be refused
+pub allowed : (s : GroupState) (start count : ℕ) → fault_of s start count ≡ None → IsAllowed s start count
 allowed s start count h = by_tests (nat_lt s.held start) s.sealed (nat_lt s.held (start + count)) s.one_too_many (nat_lt MAX_GROUP_BYTES (start + count)) refl refl refl refl refl where
   not_less : (a b : ℕ) → nat_lt a b ≡ false → b ≤ a
   not_less a b e = grind (arith, nat_tests)
@@ -50,7 +51,7 @@ allowed s start count h = by_tests (nat_lt s.held start) s.sealed (nat_lt s.held
   }
 
 -- what is put to a group that is there may follow it, if it adds anything
-fits_there : (line : Shelf) (groups start : ℕ) (bytes : List ℕ) (last : Bool) (name : List ℕ) → line.held ≤ MAX_GROUP_BYTES → IsAllowed (standing (Some line) groups) start (length bytes) → (nat_lt 0 (length (drop (line.held - start) bytes)) || (last && not line.sealed && nat_le line.held (start + length bytes))) ≡ true → fits (Some line) groups line.held (length (drop (line.held - start) bytes)) (last && not line.sealed && nat_le line.held (start + length bytes)) ≡ true
+fits_there : (line : Shelf) (groups start : ℕ) (bytes : List ℕ) (last : Bool) (name : List ℕ) → line.held ≤ MAX_GROUP_BYTES → IsAllowed (group_state (Some line) groups) start (length bytes) → (nat_lt 0 (length (drop (line.held - start) bytes)) || (last && not line.sealed && nat_le line.held (start + length bytes))) ≡ true → fits (Some line) groups line.held (length (drop (line.held - start) bytes)) (last && not line.sealed && nat_le line.held (start + length bytes)) ≡ true
 fits_there line groups start bytes last name held ok adds = by_seal line.sealed refl where
   len : length (drop (line.held - start) bytes) ≡ length bytes - (line.held - start)
   len = length-drop (line.held - start) bytes
@@ -89,7 +90,7 @@ fits_there line groups start bytes last name held ok adds = by_seal line.sealed 
       all_four (line.held == line.held) (not line.sealed) (nat_le (line.held + length (drop (line.held - start) bytes)) MAX_GROUP_BYTES) _ (same line.held) unsealed within more
 
 -- and to a new group
-fits_first : (groups start : ℕ) (bytes : List ℕ) (seals : Bool) → IsAllowed (standing None groups) start (length bytes) → fits None groups 0 (length (drop (0 - start) bytes)) seals ≡ true
+fits_first : (groups start : ℕ) (bytes : List ℕ) (seals : Bool) → IsAllowed (group_state None groups) start (length bytes) → fits None groups 0 (length (drop (0 - start) bytes)) seals ≡ true
 fits_first groups start bytes seals ok = all_three (0 == 0) (nat_lt groups MAX_GROUPS) (nat_le (length (drop (0 - start) bytes)) MAX_GROUP_BYTES) refl few within where
   few : nat_lt groups MAX_GROUPS ≡ true
   few = let e : nat_le MAX_GROUPS groups ≡ false = ok.few in grind (arith, nat_tests)
@@ -101,26 +102,26 @@ fits_first groups start bytes seals ok = all_three (0 == 0) (nat_lt groups MAX_G
   all_three a b c p q r = rw (p, q, r)
 
 -- what is put may follow what is held, if it adds anything
-pub put_fits : (ss : List Shelf) (name : List ℕ) (place : Lookup) (start : ℕ) (bytes : List ℕ) (last : Bool) → All (λ s. s.held ≤ MAX_GROUP_BYTES) ss → LooksUpLine ss name place → fault_of (standing_in ss name) start (length bytes) ≡ None → (is_free place || nat_lt 0 (length (put_entry (standing_in ss name) name start bytes last).bytes) || (put_entry (standing_in ss name) name start bytes last).seals) ≡ true → fits (line_of name ss) (length ss) (put_entry (standing_in ss name) name start bytes last).start (length (put_entry (standing_in ss name) name start bytes last).bytes) (put_entry (standing_in ss name) name start bytes last).seals ≡ true
+pub put_fits : (ss : List Shelf) (name : List ℕ) (place : Lookup) (start : ℕ) (bytes : List ℕ) (last : Bool) → All (λ s. s.held ≤ MAX_GROUP_BYTES) ss → LooksUpLine ss name place → fault_of (group_state_in ss name) start (length bytes) ≡ None → (is_free place || nat_lt 0 (length (put_entry (group_state_in ss name) name start bytes last).bytes) || (put_entry (group_state_in ss name) name start bytes last).seals) ≡ true → fits (line_of name ss) (length ss) (put_entry (group_state_in ss name) name start bytes last).start (length (put_entry (group_state_in ss name) name start bytes last).bytes) (put_entry (group_state_in ss name) name start bytes last).seals ≡ true
 put_fits ss name (Found i) start bytes last short at none adds =
     let d : Shelf = record { group = []; held = 0; sealed = false } in
     let inside = stands_within ss name i at in
     let s = get_or ss i d in
     let there : line_of name ss ≡ Some s = line_of-stands ss name i s at (get_or_default ss i d s inside) in
-    let ok = allowed (standing (Some s) (length ss)) start (length bytes) (rw there at none) in
+    let ok = allowed (group_state (Some s) (length ss)) start (length bytes) (rw there at none) in
     let more = rw there at adds in
     rw there (fits_there s (length ss) start bytes last name (short i d inside) ok more)
 put_fits ss name (Free i) start bytes last short at none adds =
     let absent : line_of name ss ≡ None = line_of-goes ss name i at in
-    let ok = allowed (standing None (length ss)) start (length bytes) (rw absent at none) in
+    let ok = allowed (group_state None (length ss)) start (length bytes) (rw absent at none) in
     rw absent (fits_first (length ss) start bytes (last && not false && nat_le 0 (start + length bytes)) ok)
 
 -- where something may be put there is a place for it
-pub put_within : (ss : List Shelf) (name : List ℕ) (place : Lookup) (start count : ℕ) → LooksUpLine ss name place → fault_of (standing_in ss name) start count ≡ None → IsWithin place (length ss)
+pub put_within : (ss : List Shelf) (name : List ℕ) (place : Lookup) (start count : ℕ) → LooksUpLine ss name place → fault_of (group_state_in ss name) start count ≡ None → IsWithin place (length ss)
 put_within ss name (Found i) start count at none = stands_within ss name i at
 put_within ss name (Free i) start count at none =
     let absent : line_of name ss ≡ None = line_of-goes ss name i at in
-    let ok = allowed (standing None (length ss)) start count (rw absent at none) in
+    let ok = allowed (group_state None (length ss)) start count (rw absent at none) in
     let few : nat_le MAX_GROUPS (length ss) ≡ false = ok.few in
     (goes_within ss name i at, not_at_least MAX_GROUPS (length ss) few) where
       not_at_least : (a b : ℕ) → nat_le a b ≡ false → b < a
@@ -132,19 +133,19 @@ place_there ss name (Found i) at = stands_within ss name i at
 place_there ss name (Free i) at = tt
 
 -- no group holds more than the most
-pub standing_short : (ss : List Shelf) (name : List ℕ) (place : Lookup) → All (λ s. s.held ≤ MAX_GROUP_BYTES) ss → LooksUpLine ss name place → (standing_in ss name).held ≤ MAX_GROUP_BYTES
-standing_short ss name (Found i) short at =
+pub state_short : (ss : List Shelf) (name : List ℕ) (place : Lookup) → All (λ s. s.held ≤ MAX_GROUP_BYTES) ss → LooksUpLine ss name place → (group_state_in ss name).held ≤ MAX_GROUP_BYTES
+state_short ss name (Found i) short at =
     let d : Shelf = record { group = []; held = 0; sealed = false } in
     let inside = stands_within ss name i at in
     let s = get_or ss i d in
     let there : line_of name ss ≡ Some s = line_of-stands ss name i s at (get_or_default ss i d s inside) in
     rw there (short i d inside)
-standing_short ss name (Free i) short at =
+state_short ss name (Free i) short at =
     let absent : line_of name ss ≡ None = line_of-goes ss name i at in
     rw absent (omega arith)
 
 -- what was put is ready
-pub ready_put : (ss : List Shelf) (rs : List ℕ) (spare : ℕ) (p : PieceView) (name : List ℕ) (start : ℕ) (bytes : List ℕ) (last : Bool) → All (λ s. s.held ≤ MAX_GROUP_BYTES) ss → LooksUpLine ss name p.place → fault_of (standing_in ss name) start (length bytes) ≡ None → p.entry ≡ put_entry (standing_in ss name) name start bytes last → HasTrackRoom rs p.room p.place → 0 < spare → IsReady ss rs spare p
+pub ready_put : (ss : List Shelf) (rs : List ℕ) (spare : ℕ) (p : PieceView) (name : List ℕ) (start : ℕ) (bytes : List ℕ) (last : Bool) → All (λ s. s.held ≤ MAX_GROUP_BYTES) ss → LooksUpLine ss name p.place → fault_of (group_state_in ss name) start (length bytes) ≡ None → p.entry ≡ put_entry (group_state_in ss name) name start bytes last → HasTrackRoom rs p.room p.place → 0 < spare → IsReady ss rs spare p
 ready_put ss rs spare p name start bytes last short at none is room some = record {
   place = subst (λ (e : Entry). LooksUpLine ss e.group p.place) (sym is) at;
   fits = λ adds. subst (λ (e : Entry). fits (line_of e.group ss) (length ss) e.start (length e.bytes) e.seals ≡ true) (sym is) (put_fits ss name p.place start bytes last short at none (subst (λ (e : Entry). (is_free p.place || nat_lt 0 (length e.bytes) || e.seals) ≡ true) is adds));

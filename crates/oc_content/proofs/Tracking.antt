@@ -27,6 +27,7 @@ IsSpan-more bodies body group at s is =
       says = subst (λ (b : List ℕ). entry_of b ≡ Some (record { group = group; start = at; bytes = drop s.skip b; seals = is.seals })) (sym same) is.says;
     }
 
+-- spans of fewer frames are spans of more
 AreSpans-more : (bodies : List (List ℕ)) (body group : List ℕ) (at : ℕ) (ss : List Span) → AreSpans bodies group at ss → AreSpans (bodies ++ body ∷ []) group at ss
 AreSpans-more bodies body group at [] are = tt
 AreSpans-more bodies body group at (s ∷ ss) are = (
@@ -34,6 +35,7 @@ AreSpans-more bodies body group at (s ∷ ss) are = (
   subst (λ (b : List ℕ). AreSpans (bodies ++ body ∷ []) group (at + length b) ss) (sym (bytes_at-more bodies body s are.0.within)) (AreSpans-more bodies body group (at + length (bytes_at bodies s)) ss are.1),
 )
 
+-- with the same bytes
 flat_map-more : (bodies : List (List ℕ)) (body group : List ℕ) (at : ℕ) (ss : List Span) → AreSpans bodies group at ss → flat_map (bytes_at (bodies ++ body ∷ [])) ss ≡ flat_map (bytes_at bodies) ss
 flat_map-more bodies body group at [] are = refl
 flat_map-more bodies body group at (s ∷ ss) are =

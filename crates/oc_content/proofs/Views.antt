@@ -18,9 +18,10 @@ use Rattle.oc_base.specs.declared.group.Group.{Group}
 use Rattle.oc_base.specs.Groups.{group_of, shelf, shelf_of, bytes_of, or_empty}
 use Rattle.oc_content.specs.Entries.{Entry, entry_of}
 use Rattle.oc_content.specs.ContentFile.{fits, taken, content_of, groups_in, bytes_in, with_entry, IsShelved, IsSameElsewhere, groups_after}
-use Rattle.oc_content.specs.Indexes.{IsIndexOf, IsSized, AreTracked, KeepsTracks, paths, helds, bytes_at, IsTracked}
+use Rattle.oc_content.specs.Indexes.{IsIndexOf, IsSized, AreTracked, OnlyReserves, paths, helds, bytes_at, IsTracked}
 use Rattle.oc_content.specs.Founds.{IsRest, BeginsWithin, IsSpot}
 use Rattle.oc_content.specs.ContentView.{IsIndexed, IsOpened, parts}
+use Rattle.oc_content.specs.Promises.{PutsNothing}
 use Rattle.oc_content.proofs.Adding.{IsSized-good}
 use Rattle.oc_content.proofs.Lines.{line_of-shelf, length-shelf}
 use Rattle.oc_content.proofs.Meanings.{content_of-good, content_of-push, lines_of_good}
@@ -43,9 +44,11 @@ IsIndexed-shelf view j x is =
 pub good_frames : {D : Type 0} (view : D → DiskView) (j : JournalView D) (x : Index) (is : IsIndexed view j x) → IsTrue (view j.disk).honest → content_of j.frames ≡ Some is.groups
 good_frames view j x is honest = ap content_of (is.frames honest) ∙ is.is.content
 
+-- and the groups are these
 pub groups_are : {D : Type 0} (view : D → DiskView) (j : JournalView D) (x : Index) (is : IsIndexed view j x) → IsTrue (view j.disk).honest → groups_in j.frames ≡ is.groups
 groups_are view j x is honest = ap (λ (c : Option (List Group)). unwrap_or c []) (good_frames view j x is honest)
 
+-- the lines tell the frames
 pub shelved : {D : Type 0} (view : D → DiskView) (j : JournalView D) (x : Index) → IsIndexed view j x → IsTrue (view j.disk).honest → IsShelved j.frames x.shelves.items
 shelved view j x is honest = ap (option_map shelf) (good_frames view j x is honest) ∙ ap Some (sym is.is.lines)
 
@@ -61,22 +64,23 @@ held_is groups g n h = by_found (group_of g groups) refl where
       let same : length k.bytes ≡ n = cc in
       sym same ∙ ap (λ (f : Option Group). length (or_empty g f).bytes) (sym e)
 
+-- and the length of a group
 pub held_bytes : {D : Type 0} (view : D → DiskView) (j : JournalView D) (x : Index) (g : List ℕ) (n : ℕ) → IsIndexed view j x → IsTrue (view j.disk).honest → held_of g x.shelves.items ≡ Some n → n ≡ length (bytes_in g j.frames)
 held_bytes view j x g n is honest h =
     held_is is.groups g n (ap (held_of g) (sym is.is.lines) ∙ h) ∙ ap (λ (ks : List Group). length (bytes_of g ks)) (sym (groups_are view j x is honest))
 
 -- a call that put nothing
-pub IsIndexed-kept : {D : Type 0} (view : D → DiskView) (j k : JournalView D) (x y : Index) → IsIndexed view j x → (view k.disk).honest ≡ (view j.disk).honest → (IsTrue (view j.disk).honest → k.frames ≡ j.frames) → y.shelves ≡ x.shelves → KeepsTracks x.tracks.items y.tracks.items → vec_capacity x.tracks ≤ vec_capacity y.tracks → IsIndexed view k y
-IsIndexed-kept view j k x y is honest frames lines tracks memory = record {
+pub IsIndexed-kept : {D : Type 0} (view : D → DiskView) (j k : JournalView D) (x y : Index) → IsIndexed view j x → (view k.disk).honest ≡ (view j.disk).honest → (IsTrue (view j.disk).honest → k.frames ≡ j.frames) → OnlyReserves x y → IsIndexed view k y
+IsIndexed-kept view j k x y is honest frames keeps = record {
   bodies = is.bodies;
   groups = is.groups;
   is = record {
     content = is.is.content;
-    lines = ap (λ v. v.items) lines ∙ is.is.lines;
-    rows = sym (length-map y.tracks.items (λ (t : Track). t.spans.items)) ∙ (ap length tracks.paths ∙ (length-map x.tracks.items (λ (t : Track). t.spans.items) ∙ (is.is.rows ∙ ap (λ v. length v.items) (sym lines))));
-    line_memory = omega (arith, is.is.line_memory, ap (λ v. vec_capacity v) lines);
-    track_memory = omega (arith, is.is.track_memory, memory);
-    tracked = λ h. subst (λ (ps : List (List Span)). AreTracked is.bodies is.groups ps) (sym tracks.paths) (is.is.tracked (subst (λ (b : Bool). IsTrue b) honest h));
+    lines = ap (λ v. v.items) keeps.lines ∙ is.is.lines;
+    rows = sym (length-map y.tracks.items (λ (t : Track). t.spans.items)) ∙ (ap length keeps.tracks.paths ∙ (length-map x.tracks.items (λ (t : Track). t.spans.items) ∙ (is.is.rows ∙ ap (λ v. length v.items) (sym keeps.lines))));
+    line_memory = omega (arith, is.is.line_memory, ap (λ v. vec_capacity v) keeps.lines);
+    track_memory = omega (arith, is.is.track_memory, keeps.memory);
+    tracked = λ h. subst (λ (ps : List (List Span)). AreTracked is.bodies is.groups ps) (sym keeps.tracks.paths) (is.is.tracked (subst (λ (b : Bool). IsTrue b) honest h));
   };
   frames = λ h. let k_honest = subst (λ (b : Bool). IsTrue b) honest h in frames k_honest ∙ is.frames k_honest;
 }
@@ -84,12 +88,22 @@ IsIndexed-kept view j k x y is honest frames lines tracks memory = record {
 -- a call that left the index alone
 pub IsIndexed-same : {D : Type 0} (view : D → DiskView) (j k : JournalView D) (x : Index) → IsIndexed view j x → (view k.disk).honest ≡ (view j.disk).honest → (IsTrue (view j.disk).honest → k.frames ≡ j.frames) → IsIndexed view k x
 IsIndexed-same view j k x is honest frames =
-    IsIndexed-kept view j k x x is honest frames refl (record { paths = refl; rooms = λ i. omega arith }) (omega arith)
+    IsIndexed-kept view j k x x is honest frames (record { lines = refl; tracks = record { paths = refl; rooms = λ i. omega arith }; memory = omega arith })
+
+-- and what is seen of the content then
+pub PutsNothing-by : {D : Type 0} (view : D → DiskView) (j k : JournalView D) (x y : Index) → OnlyReads view j k → OnlyReserves x y → PutsNothing view (parts j x) (parts k y)
+PutsNothing-by view j k x y reads keeps = record {
+  journal = reads;
+  shelves = ap (λ v. v.items) keeps.lines;
+  rooms = keeps.tracks.rooms;
+  memory = omega (arith, ap (λ v. vec_capacity v) keeps.lines, keeps.memory);
+}
 
 -- what adding an entry says of the index
 abbrev pub Puts : List ℕ → Entry → ℕ → Index → Index → Type 0
 Puts body e number x y = (bodies : List (List ℕ)) (groups : List Group) (honest : Bool) → IsIndexOf bodies groups x honest → (IsTrue honest → number ≡ length bodies) → IsIndexOf (bodies ++ body ∷ []) (with_entry e groups) y honest
 
+-- an entry was added
 pub IsIndexed-put : {D : Type 0} (view : D → DiskView) (j k : JournalView D) (x y : Index) (body : List ℕ) (e : Entry) (number : ℕ) → IsIndexed view j x → number ≡ length j.frames → (view k.disk).honest ≡ (view j.disk).honest → (IsTrue (view j.disk).honest → k.frames ≡ j.frames ++ body ∷ []) → Puts body e number x y → IsIndexed view k y
 IsIndexed-put view j k x y body e number is count honest frames puts =
     let added = puts is.bodies is.groups (view j.disk).honest is.is (λ h. count ∙ ap length (is.frames h)) in
@@ -132,6 +146,7 @@ pub begins_rest : (bodies : List (List ℕ)) (k : Group) (start : ℕ) (spans : 
 begins_rest bodies k start spans skip rest =
     subst (λ (ss : List Span). BeginsWithin bodies skip ss) (sym rest.are) (omega (arith, rest.here))
 
+-- what is held of a group is its length
 pub held_some : {D : Type 0} (view : D → DiskView) (j : JournalView D) (x : Index) (g : List ℕ) (r : Option ℕ) → IsIndexed view j x → r ≡ held_of g x.shelves.items → IfSome r (λ n. IsTrue (view j.disk).honest → n ≡ length (bytes_in g j.frames))
 held_some view j x g None is e = tt
 held_some view j x g (Some n) is e = λ honest. held_bytes view j x g n is honest (sym e)
@@ -169,16 +184,19 @@ bytes_there : {D : Type 0} (view : D → DiskView) (j : JournalView D) (x : Inde
 bytes_there view j x g k is honest found =
     ap (bytes_of g) (groups_are view j x is honest) ∙ ap (λ (f : Option Group). (or_empty g f).bytes) found
 
+-- a read past the end
 pub read_past : {D : Type 0} (view : D → DiskView) (j : JournalView D) (x : Index) (g : List ℕ) (at start : ℕ) → IsIndexed view j x → IsLineAt x.shelves.items g at → Finds x at start None → IsTrue (view j.disk).honest → length (bytes_in g j.frames) ≤ start
 read_past view j x g at start is stands finds honest =
     let there = group_at is.bodies is.groups x (view j.disk).honest g at is.is honest stands in
     omega (arith, finds is.bodies there.group there.tracked there.held, ap length (bytes_there view j x g there.group is honest there.found))
 
+-- a read begins within a span
 pub read_begins : {D : Type 0} (view : D → DiskView) (j : JournalView D) (x : Index) (g : List ℕ) (at start : ℕ) (spans : List Span) (skip : ℕ) → IsIndexed view j x → IsLineAt x.shelves.items g at → Finds x at start (Some (spans, skip)) → IsTrue (view j.disk).honest → BeginsWithin j.frames skip spans
 read_begins view j x g at start spans skip is stands finds honest =
     let there = group_at is.bodies is.groups x (view j.disk).honest g at is.is honest stands in
     subst (λ (bs : List (List ℕ)). BeginsWithin bs skip spans) (sym (is.frames honest)) (begins_rest is.bodies there.group start spans skip (finds is.bodies there.group there.tracked there.held))
 
+-- a read gives the bytes of the group
 pub read_there : {D : Type 0} (view : D → DiskView) (j : JournalView D) (x : Index) (g : List ℕ) (at start : ℕ) (spans : List Span) (skip : ℕ) → IsIndexed view j x → IsLineAt x.shelves.items g at → Finds x at start (Some (spans, skip)) → IsTrue (view j.disk).honest → drop skip (flat_map (bytes_at j.frames) spans) ≡ drop start (bytes_in g j.frames)
 read_there view j x g at start spans skip is stands finds honest =
     let there = group_at is.bodies is.groups x (view j.disk).honest g at is.is honest stands in

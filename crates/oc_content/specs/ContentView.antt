@@ -55,7 +55,13 @@ pub record IsIndexed {D : Type 0} (view : D → DiskView) (j : JournalView D) (x
   pub is : IsIndexOf bodies groups x (view j.disk).honest
   pub frames : IsTrue (view j.disk).honest → j.frames ≡ bodies
 
--- the same for the first n frames
+-- a piece that adds something to the groups is ready for this journal and its index
+pub record CanAppend {D : Type 0} (view : D → DiskView) (j : JournalView D) (x : Index) (p : PieceView) : Type 0 where
+  pub indexed : IsIndexed view j x
+  pub ready : IsReady x.shelves.items (rooms x.tracks.items) j.spare p
+  pub adds_some : IsTrue (adds p)
+
+-- the index is that of the first n frames
 pub record IsIndexedTo {D : Type 0} (view : D → DiskView) (j : JournalView D) (x : Index) (n : ℕ) : Type 0 where
   pub bodies : List (List ℕ)
   pub groups : List Group

@@ -95,6 +95,12 @@ pub record KeepsTracks (old new : List Track) : Type 0 where
   pub paths : paths new ≡ paths old
   pub rooms : (i : ℕ) → get_or (rooms old) i 0 ≤ get_or (rooms new) i 0
 
+-- memory was reserved, and nothing else was done
+pub record OnlyReserves (old new : Index) : Type 0 where
+  pub lines : new.shelves ≡ old.shelves
+  pub tracks : KeepsTracks old.tracks.items new.tracks.items
+  pub memory : vec_capacity old.tracks ≤ vec_capacity new.tracks
+
 -- the lines with an entry
 abbrev pub lines_with : Lookup → Heading → ℕ → List Shelf → List Shelf
 lines_with (Found i) h count ss = changed (line_with h count) i ss

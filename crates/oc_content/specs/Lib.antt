@@ -11,4 +11,4 @@ pub mod Promises
 pub mod Entries
 pub mod Headings
 pub mod Lines
-pub mod Standings
+pub mod GroupStates

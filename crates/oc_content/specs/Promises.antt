@@ -9,7 +9,7 @@ use Rattle.oc_content.specs.ContentFile.{content_of, groups_in, with_entry, IsBa
 use Rattle.oc_content.specs.ContentView.{ContentView, PieceView, IsPrepared}
 use Rattle.oc_content.specs.Entries.{written}
 use Rattle.oc_content.specs.Indexes.{rooms_with}
-use Rattle.oc_content.specs.Putting.{standing_in, put_entry}
+use Rattle.oc_content.specs.Putting.{group_state_in, put_entry}
 
 -- Loading
 
@@ -36,7 +36,7 @@ pub record PutsNothing {D : Type 0} (view : D → DiskView) (old new : ContentVi
 
 -- the piece of these bytes from an offset of a group on, with its seal where they are the last, which can be committed
 pub record Prepares {D : Type 0} (view : D → DiskView) (group : List ℕ) (start : ℕ) (bytes : List ℕ) (last : Bool) (old new : ContentView D) (piece : PieceView) : Type 0 where
-  pub entry : piece.entry ≡ put_entry (standing_in old.shelves group) group start bytes last
+  pub entry : piece.entry ≡ put_entry (group_state_in old.shelves group) group start bytes last
   pub body : piece.body ≡ written piece.entry
   pub prepared : IsPrepared new piece
   pub room : HasRoom view new.journal (length piece.body)

@@ -3,18 +3,18 @@ use Rattle.std.specs.Prelude.{ℕ, ◌+◌, ◌-◌, Bool, ◌&&◌, not, nat_lt
 use Rattle.oc_base.specs.declared.shelf.Shelf.{Shelf}
 use Rattle.oc_content.specs.declared.errors.PutError.{PutError}
 use Rattle.oc_content.specs.declared.errors.PutError.TheVariants.{Gap, Sealed, TooManyGroups, TooLong}
-use Rattle.oc_content.specs.declared.entry_putting.Standing.{Standing}
-pub use Rattle.oc_content.specs.Standings.{standing}
+use Rattle.oc_content.specs.declared.group_state.GroupState.{GroupState}
+pub use Rattle.oc_content.specs.GroupStates.{group_state}
 use Rattle.oc_base.specs.Shelves.{line_of}
 use Rattle.oc_base.specs.declared.limits.TheConstants.{MAX_GROUP_BYTES}
 use Rattle.oc_content.specs.Entries.{Entry}
 
--- the standing of the group of this name among these lines
-abbrev pub standing_in : List Shelf → List ℕ → Standing
-standing_in shelves group = standing (line_of group shelves) (length shelves)
+-- what is known of the group of this name among these lines
+abbrev pub group_state_in : List Shelf → List ℕ → GroupState
+group_state_in shelves group = group_state (line_of group shelves) (length shelves)
 
 -- the first cause that refuses `count` bytes from a place on
-abbrev pub fault_of : Standing → ℕ → ℕ → Option PutError
+abbrev pub fault_of : GroupState → ℕ → ℕ → Option PutError
 fault_of s start count =
     if nat_lt s.held start then Some (Gap s.held)
     else if s.sealed && nat_lt s.held (start + count) then Some Sealed
@@ -23,7 +23,7 @@ fault_of s start count =
     else None
 
 -- the bytes past those held; and the seal where they are the last, reach the end of what is held, and the group is not sealed
-abbrev pub put_entry : Standing → List ℕ → ℕ → List ℕ → Bool → Entry
+abbrev pub put_entry : GroupState → List ℕ → ℕ → List ℕ → Bool → Entry
 put_entry s group start bytes last = record {
   group = group;
   start = s.held;

@@ -3,8 +3,7 @@
 ghost use Rattle.std.specs.Prelude.{◌≡◌, ◌≢◌, ◌↔◌, ◌+◌, ◌<◌, false, length, IsTrue, IsOk, IsErrOf, OnErr, IfOk, IfErr};
 ghost use Rattle.oc_io.specs.DiskView.{CannotFail};
 ghost use Rattle.oc_journal.specs.Promises.{AppendsSafely, ClosesByAppend, IsFullFor};
-ghost use Rattle.oc_content.specs.ContentView.{IsIndexed, IsReady, adds, parts};
-ghost use Rattle.oc_content.specs.Indexes.{rooms};
+ghost use Rattle.oc_content.specs.ContentView.{IsIndexed, CanAppend, parts};
 ghost use Rattle.oc_content.specs.Promises.{Commits};
 
 use crate::index::Index;
@@ -12,15 +11,13 @@ use crate::piece::Piece;
 use oc_io::Disk;
 use oc_journal::{AppendError, Journal};
 
-/// Appends a piece to the journal and then adds it to the index.
+/// Appends a piece to the journal, and where that works adds it to the index.
 pub fn append<D: Disk>(
     journal: &mut Journal<D>,
     index: &mut Index,
     piece: Piece,
 ) -> Result<u64, AppendError>
-    requires indexed { IsIndexed D.view journal.old index.old }
-    requires ready { IsReady index.old.shelves.items (rooms index.old.tracks.items) journal.old.spare piece }
-    requires adds { IsTrue (adds piece) }
+    requires { CanAppend D.view journal.old index.old piece }
     ensures indexed { IsIndexed D.view journal.new index.new }
     ensures commits { IfOk result (λ held.
         Commits D.view piece held (parts journal.old index.old) (parts journal.new index.new)) }

@@ -11,7 +11,7 @@ ghost use Rattle.oc_content.specs.ContentFile.{IsShelved, groups_in, bytes_in, c
 ghost use Rattle.oc_content.specs.ContentView.{adds, IsPrepared, IsOpened, RefusesIndex};
 ghost use Rattle.oc_content.specs.Founds.{IsSpot};
 ghost use Rattle.oc_content.specs.Promises.{IsContentOf, RefusesContent, PutsNothing, Prepares, Commits, ClosesByCommit};
-ghost use Rattle.oc_content.specs.Putting.{standing_in, fault_of};
+ghost use Rattle.oc_content.specs.Putting.{group_state_in, fault_of};
 
 use crate::committing::append;
 use crate::errors::{ContentError, PutError, ReadError};
@@ -122,9 +122,9 @@ impl<D: Disk> Content<D> {
 
         // When it refuses.
         ensures fault { IfErr result (λ error. error ≢ PutError.Memory
-            → fault_of (standing_in self.old.shelves group.now) start (length bytes.now) ≡ Some error) }
+            → fault_of (group_state_in self.old.shelves group.now) start (length bytes.now) ≡ Some error) }
         ensures none { OnOk result
-            (fault_of (standing_in self.old.shelves group.now) start (length bytes.now) ≡ None) }
+            (fault_of (group_state_in self.old.shelves group.now) start (length bytes.now) ≡ None) }
     {
         ready(
             alloc,

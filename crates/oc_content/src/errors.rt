@@ -7,7 +7,8 @@ ghost use Rattle.oc_content.specs.declared.errors.ReadError.TheVariants.{Disk as
 ghost use Rattle.oc_content.specs.Errors.{load_error, frame_error};
 
 use oc_base::Memory;
-use oc_journal::{FrameError, LoadError, PeekError};
+use oc_io::Failed;
+use oc_journal::{FrameError, LoadError};
 use std::alloc::AllocError;
 
 /// Why a content log was not loaded.
@@ -96,10 +97,10 @@ impl From<Memory> for PutError {
     }
 }
 
-impl From<PeekError> for ReadError {
+impl From<Failed> for ReadError {
     ghost from_gives = { λ _ error. error ≡ ReadDisk };
 
-    fn from(_error: PeekError) -> ReadError {
+    fn from(_failed: Failed) -> ReadError {
         ReadError::Disk
     }
 }

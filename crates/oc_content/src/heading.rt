@@ -26,7 +26,8 @@ pub struct Heading {
 }
 
 impl Heading {
-    /// The heading of a body with these words.
+    /// The heading of an entry of this group, which has `start` bytes before it, and is sealed after it
+    /// where `seals` is set.
     pub fn of(group: GroupName, start: u64, seals: bool) -> Heading
         ensures group { result.group ≡ group }
         ensures start { result.start ≡ start }
@@ -57,7 +58,7 @@ impl Heading {
         }
     }
 
-    /// The body with this heading and these bytes.
+    /// The body of a frame: this heading, and then these bytes.
     pub fn body(&self, alloc: Global, bytes: &[u8]) -> Result<Vec<u8>, AllocError>
         requires { length bytes.now ≤ MAX_PUBLISH_BYTES }
         ensures body { IfOk result (λ body.

@@ -1,4 +1,4 @@
-//! The line and the track of each group.
+//! The line of each group, and the frames that hold its bytes.
 
 ghost use Rattle.std.specs.Prelude.{◌≡◌, ℕ, ◌+◌, ◌-◌, ◌^◌, ◌<◌, ◌≤◌, Bool, [], ◌∷◌, ◌++◌, List, length, vec_capacity, None, Some, true, MatchBool, IsTrue, IfOk, IfSome, MatchOption, OnOk, All, insert, get_or, ◌||◌};
 ghost use Rattle.oc_base.specs.declared.group.Group.{Group};
@@ -7,13 +7,14 @@ ghost use Rattle.oc_content.specs.Entries.{entry_of};
 ghost use Rattle.oc_content.specs.ContentFile.{fits, taken, with_entry};
 ghost use Rattle.oc_base.specs.declared.limits.TheConstants.{MAX_GROUPS, MAX_GROUP_BYTES};
 ghost use Rattle.oc_content.specs.Tracks.{room_of};
-ghost use Rattle.oc_content.specs.Indexes.{IsIndexOf, IsSized, IsWithin, HasTrackRoom, paths, rooms, line_with, lines_with, span_of, paths_with, spans_for, rooms_with, memory_of, changed, KeepsTracks, helds, IsTracked};
+ghost use Rattle.oc_content.specs.Indexes.{IsIndexOf, IsSized, IsWithin, HasTrackRoom, paths, rooms, line_with, lines_with, span_of, paths_with, spans_for, rooms_with, memory_of, changed, KeepsTracks, OnlyReserves, helds, IsTracked};
 ghost use Rattle.oc_content.specs.Founds.{IsRest, IsSpot};
 
+use crate::entry_lines::grow_at;
+use crate::heading::Heading;
 use crate::piece::Piece;
 use crate::spot::Spot;
 use crate::track::{Span, Track, find_byte};
-use crate::{Heading, grow_at};
 use oc_base::{GroupName, Lookup, MAX_GROUP_BYTES, MAX_GROUPS, Shelf, look_up};
 use std::alloc::{AllocError, Global};
 
@@ -38,7 +39,7 @@ impl Index {
         })
     }
 
-    /// Takes the frame of this number, and answers whether it may follow those before it.
+    /// Adds the frame of the number `frame`, and answers whether it may follow those before it.
     pub fn take(&mut self, alloc: Global, frame: u64, body: &[u8]) -> Result<bool, AllocError>
         requires { IsSized self.old }
         ensures { IfOk result (λ took. (bodies : List (List ℕ)) (groups : List Group) (honest : Bool)
@@ -77,9 +78,7 @@ impl Index {
         requires { IsWithin place (length self.old.tracks.items) }
         ensures room { IfOk result (λ track. HasTrackRoom (rooms self.new.tracks.items) (room_of track) place) }
         ensures empty { IfOk result (λ track. track.spans.items ≡ []) }
-        ensures lines { self.new.shelves ≡ self.old.shelves }
-        ensures tracks { KeepsTracks self.old.tracks.items self.new.tracks.items }
-        ensures memory { vec_capacity self.old.tracks ≤ vec_capacity self.new.tracks }
+        ensures keeps { OnlyReserves self.old self.new }
     {
         match place {
             Lookup::Found(at) => {
@@ -170,13 +169,10 @@ impl Index {
 
     /// Adds an entry with `count` bytes, which is in the frame of this number.
     pub fn add(&mut self, place: Lookup, track: Track, heading: &Heading, count: u64, frame: u64)
+        requires sized { IsSized self.old }
         requires within { IsWithin place (length self.old.shelves.items) }
-        requires rows { length self.old.tracks.items ≡ length self.old.shelves.items }
-        requires line_memory { MAX_GROUPS ≤ vec_capacity self.old.shelves }
-        requires track_memory { MAX_GROUPS ≤ vec_capacity self.old.tracks }
         requires room { HasTrackRoom (rooms self.old.tracks.items) (room_of track) place }
         requires empty { track.spans.items ≡ [] }
-        requires short { All (λ s. s.held ≤ MAX_GROUP_BYTES) self.old.shelves.items }
         requires few { count ≤ MAX_GROUP_BYTES }
         ensures lines { self.new.shelves.items ≡ lines_with place heading.now count self.old.shelves.items }
         ensures paths { paths self.new.tracks.items
@@ -197,11 +193,9 @@ impl Index {
 
     /// Puts a new group at its index.
     fn insert(&mut self, at: usize, mut track: Track, heading: &Heading, count: u64, frame: u64)
+        requires sized { IsSized self.old }
         requires within { at ≤ length self.old.shelves.items }
         requires few { length self.old.shelves.items < MAX_GROUPS }
-        requires rows { length self.old.tracks.items ≡ length self.old.shelves.items }
-        requires line_memory { MAX_GROUPS ≤ vec_capacity self.old.shelves }
-        requires track_memory { MAX_GROUPS ≤ vec_capacity self.old.tracks }
         requires room { 0 < room_of track }
         requires empty { track.spans.items ≡ [] }
         ensures lines { self.new.shelves.items ≡ insert self.old.shelves.items at

@@ -4,7 +4,7 @@ ghost use Rattle.oc_content.specs.Entries.{entry_of, heading as heading_of};
 ghost use Rattle.oc_content.specs.Tracks.{room_of};
 ghost use Rattle.oc_content.specs.ContentView.{adds};
 
-use crate::Heading;
+use crate::heading::Heading;
 use crate::track::Track;
 use oc_base::{Lookup, MAX_PUBLISH_BYTES};
 use oc_journal::{Frame, FrameFault};
@@ -37,7 +37,7 @@ impl Model for Piece {
 }
 
 impl Piece {
-    /// A piece with this heading and these bytes, for a group at this place.
+    /// A piece with this heading and these bytes, for a group that was looked up.
     pub(crate) fn new(
         alloc: Global,
         heading: Heading,

@@ -1,26 +1,28 @@
 //! What is put to a group, and when it is refused.
 
-ghost use Rattle.std.specs.Prelude.{◌≡◌, ◌≢◌, ◌+◌, ◌-◌, ◌^◌, ◌<◌, ◌≤◌, ℕ, None, Some, List, IfOk, IfErr, OnOk, length, drop, vec_capacity, not, nat_le, ◌&&◌};
+ghost use Rattle.std.specs.Prelude.{◌≡◌, ◌≢◌, ◌+◌, ◌-◌, ◌^◌, ◌<◌, ◌≤◌, ℕ, None, Some, List, IfOk, IfErr, OnOk, length, drop, not, nat_le, ◌&&◌};
 ghost use Rattle.oc_base.specs.Names.{IsGroupName};
 ghost use Rattle.oc_content.specs.Entries.{written, heading};
 ghost use Rattle.oc_base.specs.declared.limits.TheConstants.{MAX_GROUP_BYTES};
 ghost use Rattle.oc_base.specs.Shelves.{LooksUpLine};
 ghost use Rattle.oc_base.specs.Named.{IsThere};
-ghost use Rattle.oc_content.specs.Indexes.{IsSized, HasTrackRoom, KeepsTracks, rooms};
-ghost use Rattle.oc_content.specs.Putting.{standing, standing_in, fault_of, put_entry};
-ghost use Rattle.oc_content.specs.ContentView.{IsIndexed, IsReady};
-ghost use Rattle.oc_journal.specs.Promises.{OnlyReads, NoneFailed, HasRoom};
+ghost use Rattle.oc_content.specs.Indexes.{IsSized, HasTrackRoom, OnlyReserves, rooms};
+ghost use Rattle.oc_content.specs.Putting.{group_state, group_state_in, fault_of, put_entry};
+ghost use Rattle.oc_content.specs.ContentView.{IsIndexed, parts};
+ghost use Rattle.oc_content.specs.Promises.{Prepares, PutsNothing};
+ghost use Rattle.oc_journal.specs.Promises.{NoneFailed};
 
 use crate::errors::PutError;
+use crate::group_state::{GroupState, past};
+use crate::heading::Heading;
 use crate::index::Index;
 use crate::piece::Piece;
-use crate::{Heading, Standing, past};
 use oc_base::{GroupName, Lookup, MAX_GROUP_BYTES, MAX_GROUPS, MAX_PUBLISH_BYTES, Shelf, look_up};
 use oc_io::Disk;
 use oc_journal::Journal;
 use std::alloc::{AllocError, Global};
 
-/// Makes ready the bytes from a place on for a group, with all memory for them.
+/// Makes ready bytes of a group from the offset `start` on, with all memory for them.
 pub fn ready<D: Disk>(
     alloc: Global,
     journal: &mut Journal<D>,
@@ -34,28 +36,21 @@ pub fn ready<D: Disk>(
     requires name { IsGroupName group.now }
     requires few { length bytes.now ≤ MAX_PUBLISH_BYTES }
     ensures indexed { IsIndexed D.view journal.new index.new }
-    ensures entry { IfOk result (λ piece. piece.entry
-        ≡ put_entry (standing_in index.old.shelves.items group.now) group.now start bytes.now last) }
-    ensures body { IfOk result (λ piece. piece.body ≡ written piece.entry) }
-    ensures ready { IfOk result (λ piece.
-        IsReady index.new.shelves.items (rooms index.new.tracks.items) journal.new.spare piece) }
-    ensures room { IfOk result (λ piece. HasRoom D.view journal.new (length piece.body)) }
-    ensures fault { IfErr result (λ error. error ≢ PutError.Memory
-        → fault_of (standing_in index.old.shelves.items group.now) start (length bytes.now) ≡ Some error) }
-    ensures none { OnOk result
-        (fault_of (standing_in index.old.shelves.items group.now) start (length bytes.now) ≡ None) }
-    ensures same { OnlyReads D.view journal.old journal.new }
+    ensures prepares { IfOk result (λ piece. Prepares D.view group.now start bytes.now last
+        (parts journal.old index.old) (parts journal.new index.new) piece) }
+    ensures same { PutsNothing D.view (parts journal.old index.old) (parts journal.new index.new) }
     ensures none_failed { NoneFailed D.view journal.old journal.new }
-    ensures lines { index.new.shelves ≡ index.old.shelves }
-    ensures memory { vec_capacity index.old.tracks ≤ vec_capacity index.new.tracks }
-    ensures tracks { KeepsTracks index.old.tracks.items index.new.tracks.items }
+    ensures fault { IfErr result (λ error. error ≢ PutError.Memory
+        → fault_of (group_state_in index.old.shelves.items group.now) start (length bytes.now) ≡ Some error) }
+    ensures none { OnOk result
+        (fault_of (group_state_in index.old.shelves.items group.now) start (length bytes.now) ≡ None) }
 {
     let piece = piece_for(alloc, index, group, start, bytes, last)?;
     journal.reserve(piece.frame())?;
     Ok(piece)
 }
 
-/// The piece of bytes from a place on for a group, with the memory of the index for it.
+/// The piece of these bytes of a group from the offset `start` on, with the memory of the index for it.
 fn piece_for(
     alloc: Global,
     index: &mut Index,
@@ -68,74 +63,70 @@ fn piece_for(
     requires name { IsGroupName group.now }
     requires few { length bytes.now ≤ MAX_PUBLISH_BYTES }
     ensures fault { IfErr result (λ error. error ≢ PutError.Memory
-        → fault_of (standing_in index.old.shelves.items group.now) start (length bytes.now) ≡ Some error) }
+        → fault_of (group_state_in index.old.shelves.items group.now) start (length bytes.now) ≡ Some error) }
     ensures none { OnOk result
-        (fault_of (standing_in index.old.shelves.items group.now) start (length bytes.now) ≡ None) }
+        (fault_of (group_state_in index.old.shelves.items group.now) start (length bytes.now) ≡ None) }
     ensures entry { IfOk result (λ piece. piece.entry
-        ≡ put_entry (standing_in index.old.shelves.items group.now) group.now start bytes.now last) }
+        ≡ put_entry (group_state_in index.old.shelves.items group.now) group.now start bytes.now last) }
     ensures body { IfOk result (λ piece. piece.body ≡ written piece.entry) }
     ensures place { IfOk result (λ piece. LooksUpLine index.old.shelves.items group.now piece.place) }
     ensures room { IfOk result (λ piece. HasTrackRoom (rooms index.new.tracks.items) piece.room piece.place) }
-    ensures lines { index.new.shelves ≡ index.old.shelves }
-    ensures tracks { KeepsTracks index.old.tracks.items index.new.tracks.items }
-    ensures memory { vec_capacity index.old.tracks ≤ vec_capacity index.new.tracks }
+    ensures keeps { OnlyReserves index.old index.new }
 {
     let place = look_up(&index.shelves, group);
-    let standing = standing_at(&index.shelves, place);
-    if let Some(fault) = refusal(&standing, start, bytes.len() as u64) {
+    let state = state_at(&index.shelves, place);
+    if let Some(fault) = refusal(&state, start, bytes.len() as u64) {
         return Err(fault);
     }
-    let heading = heading_for(&standing, *group, start, bytes.len() as u64, last);
+    let heading = heading_for(&state, *group, start, bytes.len() as u64, last);
     let track = index.reserve(alloc, place)?;
     Ok(Piece::new(
         alloc,
         heading,
         place,
         track,
-        past(bytes, standing.held - start),
+        past(bytes, state.held - start),
     )?)
 }
 
 /// The heading of what is put: it begins where the group ends, and seals it where the bytes are the
 /// last, reach that end, and the group is not sealed.
-fn heading_for(standing: &Standing, group: GroupName, start: u64, count: u64, last: bool) -> Heading
+fn heading_for(state: &GroupState, group: GroupName, start: u64, count: u64, last: bool) -> Heading
     requires { start + count < 2 ^ 64 }
     ensures group { result.group ≡ group }
-    ensures start { result.start ≡ standing.now.held }
-    ensures seals { result.seals ≡ last && not standing.now.sealed && nat_le standing.now.held (start + count) }
-    ensures skip { result.skip ≡ length (heading result.seals group standing.now.held) }
+    ensures start { result.start ≡ state.now.held }
+    ensures seals { result.seals ≡ last && not state.now.sealed && nat_le state.now.held (start + count) }
+    ensures skip { result.skip ≡ length (heading result.seals group state.now.held) }
 {
-    let seals = last && !standing.sealed && standing.held <= start + count;
-    Heading::of(group, standing.held, seals)
+    let seals = last && !state.sealed && state.held <= start + count;
+    Heading::of(group, state.held, seals)
 }
 
-/// What is known of the group at a place.
-pub fn standing_at(shelves: &[Shelf], place: Lookup) -> Standing
+/// What is known of a group that was looked up.
+pub fn state_at(shelves: &[Shelf], place: Lookup) -> GroupState
     requires { IsThere place (length shelves.now) }
     ensures { (name : List ℕ) → LooksUpLine shelves.now name place
-        → result ≡ standing_in shelves.now name }
+        → result ≡ group_state_in shelves.now name }
 {
     match place {
-        Lookup::Found(at) => Standing::of_line(&shelves[at]),
-        Lookup::Free(_) => Standing::absent(shelves.len()),
+        Lookup::Found(at) => GroupState::of_line(&shelves[at]),
+        Lookup::Free(_) => GroupState::absent(shelves.len()),
     }
 }
 
-/// The first cause that refuses `count` bytes from a place on, if any does.
-pub fn refusal(standing: &Standing, start: u64, count: u64) -> Option<PutError>
-    requires held { standing.now.held ≤ MAX_GROUP_BYTES }
+/// The first cause that refuses `count` bytes from the offset `start` on, if any does.
+pub fn refusal(state: &GroupState, start: u64, count: u64) -> Option<PutError>
+    requires held { state.now.held ≤ MAX_GROUP_BYTES }
     requires count { count ≤ MAX_GROUP_BYTES }
-    ensures { result ≡ fault_of standing.now start count }
+    ensures { result ≡ fault_of state.now start count }
 {
-    if start > standing.held {
-        return Some(PutError::Gap {
-            held: standing.held,
-        });
+    if start > state.held {
+        return Some(PutError::Gap { held: state.held });
     }
     let end = start + count;
-    if standing.sealed && end > standing.held {
+    if state.sealed && end > state.held {
         Some(PutError::Sealed)
-    } else if standing.one_too_many {
+    } else if state.one_too_many {
         Some(PutError::TooManyGroups)
     } else if end > MAX_GROUP_BYTES {
         Some(PutError::TooLong)

@@ -11,11 +11,10 @@ ghost use Rattle.oc_content.specs.Founds.{BeginsWithin};
 
 use crate::errors::ReadError;
 use crate::index::Index;
-use crate::is_full;
 use crate::track::Span;
 use oc_base::{GroupName, Lookup, look_up};
-use oc_io::Disk;
-use oc_journal::{Journal, PeekError};
+use oc_io::{Disk, Failed};
+use oc_journal::Journal;
 
 /// Reads the bytes of a group from an offset on, as many as fit; answers how many.
 pub fn read_group<D: Disk>(
@@ -50,7 +49,7 @@ pub fn read_spans<D: Disk>(
     spans: &[Span],
     mut skip: u32,
     buf: &mut [u8],
-) -> Result<usize, PeekError>
+) -> Result<usize, Failed>
     requires { skip < MAX_GROUP_BYTES }
     ensures within { IfOk result (λ n. n ≤ length buf.old) }
     ensures bytes { IfOk result (λ n. IsTrue (D.view journal.old.disk).honest
@@ -62,7 +61,7 @@ pub fn read_spans<D: Disk>(
 {
     let mut count = 0;
     for span in spans {
-        if is_full(count, buf.len()) {
+        if count == buf.len() {
             break;
         }
         count = read_span(journal, span, skip, buf, count)?;
@@ -79,7 +78,7 @@ fn read_span<D: Disk>(
     skip: u32,
     buf: &mut [u8],
     count: usize,
-) -> Result<usize, PeekError>
+) -> Result<usize, Failed>
     requires skip { skip < MAX_GROUP_BYTES }
     requires count { count ≤ length buf.old }
     ensures within { IfOk result (λ n. (count ≤ n) × (n ≤ length buf.old)) }

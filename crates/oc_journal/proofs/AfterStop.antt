@@ -22,6 +22,7 @@ left_of-passed : (stop : Option Stop) → left_of (passed stop) ≡ left_of stop
 left_of-passed None = refl
 left_of-passed (Some stop) = refl
 
+-- a crash after three calls leaves the byte of the stop
 crash_by-passed : (stop : Option Stop) (past : List Call) (bytes : List ℕ) → IsSome stop → crash_by (passed (passed (passed stop))) past bytes ≡ crashed (image_of stop) past bytes
 crash_by-passed None past bytes some = absurd (no_stop some)
   where

@@ -43,6 +43,7 @@ frames_within-frame n body tail short more =
     ∙ ap (λ (b : List ℕ). b ∷ frames_within n (next_gate rest)) (body_in-written body tail short more)
     ∙ ap (λ (t : List ℕ). body ∷ frames_within n t) (next_gate-written body tail short more)
 
+-- a whole frame is passed
 is_broken_within-frame : (n : ℕ) (body tail : List ℕ) → length body < 2 ^ 32 → 0 < length tail → is_broken_within (suc n) (1 ∷ (to_be_bytes w32 (length body) ++ (body ++ tail))) ≡ is_broken_within n tail
 is_broken_within-frame n body tail short more =
     let rest = to_be_bytes w32 (length body) ++ (body ++ tail) in
@@ -54,6 +55,7 @@ blocks-cons : (body : List ℕ) (bodies : List (List ℕ)) (tail : List ℕ) →
 blocks-cons body bodies tail =
     ap (λ (l : List ℕ). 1 ∷ (to_be_bytes w32 (length body) ++ l)) (append_assoc body (blocks bodies) tail)
 
+-- something follows the frames
 more_behind : (bodies : List (List ℕ)) (tail : List ℕ) → 0 < length tail → 0 < length (blocks bodies ++ tail)
 more_behind bodies tail more = omega (arith, length-append (blocks bodies) tail)
 
@@ -67,6 +69,7 @@ frames_within-blocks (body ∷ bodies) k tail short more =
     ∙ frames_within-frame (length bodies + k) body (blocks bodies ++ tail) short.0 (more_behind bodies tail more)
     ∙ ap (λ (fs : List (List ℕ)). body ∷ fs) (frames_within-blocks bodies k tail short.1 more)
 
+-- all whole frames are passed
 pub is_broken_within-blocks : (bodies : List (List ℕ)) (k : ℕ) (tail : List ℕ) → AreShort bodies → 0 < length tail → is_broken_within (length bodies + k) (blocks bodies ++ tail) ≡ is_broken_within k tail
 is_broken_within-blocks [] k tail short more = ap (λ (n : ℕ). is_broken_within n tail) (zero-add k)
 is_broken_within-blocks (body ∷ bodies) k tail short more =
@@ -81,6 +84,7 @@ pub length-blocks_least : (bodies : List (List ℕ)) → 5 * length bodies ≤ l
 length-blocks_least [] = omega arith
 length-blocks_least (body ∷ bodies) = omega (arith, length-append body (blocks bodies), length-blocks_least bodies)
 
+-- one frame more, and what follows it
 pub blocks-push : (bodies : List (List ℕ)) (body rest : List ℕ) → blocks (bodies ++ body ∷ []) ++ rest ≡ blocks bodies ++ (1 ∷ (to_be_bytes w32 (length body) ++ (body ++ rest)))
 blocks-push [] body rest = blocks-cons body [] rest
 blocks-push (b ∷ bodies) body rest =
@@ -88,11 +92,13 @@ blocks-push (b ∷ bodies) body rest =
     ∙ ap (λ (l : List ℕ). 1 ∷ (to_be_bytes w32 (length b) ++ (b ++ l))) (blocks-push bodies body rest)
     ∙ sym (blocks-cons b bodies (1 ∷ (to_be_bytes w32 (length body) ++ (body ++ rest))))
 
+-- and its length
 pub length-blocks_push : (bodies : List (List ℕ)) (body : List ℕ) → length (blocks (bodies ++ body ∷ [])) ≡ length (blocks bodies) + 5 + length body
 length-blocks_push bodies body =
     let same : length (blocks (bodies ++ body ∷ []) ++ []) ≡ length (blocks bodies ++ (1 ∷ (to_be_bytes w32 (length body) ++ (body ++ [])))) = ap length (blocks-push bodies body []) in
     omega (arith, same, length-append (blocks (bodies ++ body ∷ [])) [], length-append (blocks bodies) (1 ∷ (to_be_bytes w32 (length body) ++ (body ++ []))), length-append body [])
 
+-- one short body more
 pub AreShort-push : (bodies : List (List ℕ)) (body : List ℕ) → AreShort bodies → length body < 2 ^ 32 → AreShort (bodies ++ body ∷ [])
 AreShort-push [] body short one = (one, tt)
 AreShort-push (b ∷ bodies) body short one = (short.0, AreShort-push bodies body short.1 one)
@@ -102,6 +108,7 @@ closed : (n gate : ℕ) (rest : List ℕ) → gate ≢ 1 → frames_within n (ga
 closed zero gate rest shut = refl
 closed (suc n) gate rest shut = grind (arith, nat_tests)
 
+-- a gate that is not open ends the frames
 unbroken : (n gate : ℕ) (rest : List ℕ) → gate ≢ 1 → is_broken_within n (gate ∷ rest) ≡ false
 unbroken zero gate rest shut = refl
 unbroken (suc n) gate rest shut = grind (arith, nat_tests)

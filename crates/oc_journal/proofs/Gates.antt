@@ -8,11 +8,11 @@ use Rattle.std.proofs.Math.Seq.{take-add}
 use Rattle.oc_io.specs.DiskView.{DiskView, StaysAsItWas}
 use Rattle.oc_io.proofs.DiskMoments.{still_honest}
 use Rattle.oc_journal.specs.JournalFile.{magic, length_in, blocks, AreShort, IsNoJournal}
-use Rattle.oc_journal.specs.JournalView.{at_spot, at_spots}
+use Rattle.oc_journal.specs.JournalView.{at_extent, at_extents}
 use Rattle.oc_journal.specs.Scanning.{IsScanned, IsFound, IsGate, IsBrokenAt}
-use Rattle.oc_journal.specs.declared.spot.Spot.{Spot}
+use Rattle.oc_journal.specs.declared.extent.Extent.{Extent}
 use Rattle.oc_journal.proofs.Blocks.{blocks-push, AreShort-push, length_in-number, broken_file}
-use Rattle.oc_journal.proofs.Spots.{within_push, snoc_some}
+use Rattle.oc_journal.proofs.Extents.{within_push, snoc_some}
 
 -- a head of five bytes is a gate and a length
 head_is : (head : List ℕ) (len : ℕ) → length head ≡ 5 → get_or head 0 0 ≡ 1 → drop 1 head ≡ to_be_bytes w32 len → head ≡ 1 ∷ to_be_bytes w32 len
@@ -61,19 +61,19 @@ scanned_front file gate len parts =
     ∙ ap (λ (k : ℕ). take gate file ++ take k (1 ∷ rest)) count
 
 -- one frame more was found
-pub IsScanned-more : (v : DiskView) (spots : List Spot) (gate len size next : ℕ) → IsScanned v spots gate → (IsTrue v.honest → v.size ≡ length v.seen) → len < 2 ^ 32 → size ≡ v.size → gate + 5 + len < size → (IsTrue v.honest → IsGate v.seen gate (Some len)) → next ≡ gate + 5 + len → IsScanned v (spots ++ record { at = gate + 5; len = len } ∷ []) next
-IsScanned-more v spots gate len size next scanned law short same_size whole found is =
-    let spot : Spot = record { at = gate + 5; len = len } in
+pub IsScanned-more : (v : DiskView) (extents : List Extent) (gate len size next : ℕ) → IsScanned v extents gate → (IsTrue v.honest → v.size ≡ length v.seen) → len < 2 ^ 32 → size ≡ v.size → gate + 5 + len < size → (IsTrue v.honest → IsGate v.seen gate (Some len)) → next ≡ gate + 5 + len → IsScanned v (extents ++ record { at = gate + 5; len = len } ∷ []) next
+IsScanned-more v extents gate len size next scanned law short same_size whole found is =
+    let extent : Extent = record { at = gate + 5; len = len } in
     let start = scanned.start in
     let file = v.seen in
     let body = take len (drop (gate + 5) file) in
-    let bodies = at_spots file spots in
-    let pushed : at_spots file (spots ++ spot ∷ []) ≡ bodies ++ body ∷ [] = map-append (at_spot file) spots (spot ∷ []) in
+    let bodies = at_extents file extents in
+    let pushed : at_extents file (extents ++ extent ∷ []) ≡ bodies ++ body ∷ [] = map-append (at_extent file) extents (extent ∷ []) in
     let long : IsTrue v.honest → length body ≡ len = λ h. length-take-le len (drop (gate + 5) file) (omega (arith, length-drop (gate + 5) file, law h)) in
     record {
-      within = within_push spots spot gate next scanned.within (omega arith) (omega arith) (omega arith);
+      within = within_push extents extent gate next scanned.within (omega arith) (omega arith) (omega arith);
       start = omega arith;
-      first = λ none. absurd (snoc_some spots spot none);
+      first = λ none. absurd (snoc_some extents extent none);
       size = omega arith;
       front = λ h.
           ap (λ (k : ℕ). take k file) (let e : next ≡ gate + (5 + len) = omega arith in e)
@@ -88,19 +88,19 @@ IsScanned-more v spots gate len size next scanned law short same_size whole foun
     }
 
 -- the first gate of a file with the magic
-pub IsScanned-start : (v : DiskView) (spots : List Spot) → spots ≡ [] → 9 < v.size → (IsTrue v.honest → take 8 v.seen ≡ magic) → IsScanned v spots 8
-IsScanned-start v spots empty long begins = record {
-  within = subst (λ (s : List Spot). All (λ spot. (9 ≤ spot.at) × (spot.at + spot.len ≤ 8)) s) (sym empty) (λ k d inside. absurd (omega arith));
+pub IsScanned-start : (v : DiskView) (extents : List Extent) → extents ≡ [] → 9 < v.size → (IsTrue v.honest → take 8 v.seen ≡ magic) → IsScanned v extents 8
+IsScanned-start v extents empty long begins = record {
+  within = subst (λ (s : List Extent). All (λ extent. (9 ≤ extent.at) × (extent.at + extent.len ≤ 8)) s) (sym empty) (λ k d inside. absurd (omega arith));
   start = omega arith;
   first = λ _. refl;
   size = omega arith;
-  front = λ h. begins h ∙ ap (λ (s : List Spot). magic ++ blocks (at_spots v.seen s)) (sym empty);
-  short = λ h. subst (λ (s : List Spot). AreShort (at_spots v.seen s)) (sym empty) tt;
+  front = λ h. begins h ∙ ap (λ (s : List Extent). magic ++ blocks (at_extents v.seen s)) (sym empty);
+  short = λ h. subst (λ (s : List Extent). AreShort (at_extents v.seen s)) (sym empty) tt;
 }
 
 -- the gate that was reached is not open
-pub IsFound-shut : (v : DiskView) (spots : List Spot) (gate : ℕ) → IsScanned v spots gate → (IsTrue v.honest → v.size ≡ length v.seen) → (IsTrue v.honest → IsGate v.seen gate None) → IsFound v spots gate
-IsFound-shut v spots gate scanned law shut = record {
+pub IsFound-shut : (v : DiskView) (extents : List Extent) (gate : ℕ) → IsScanned v extents gate → (IsTrue v.honest → v.size ≡ length v.seen) → (IsTrue v.honest → IsGate v.seen gate None) → IsFound v extents gate
+IsFound-shut v extents gate scanned law shut = record {
   within = scanned.within;
   start = scanned.start;
   first = scanned.first;
@@ -108,7 +108,7 @@ IsFound-shut v spots gate scanned law shut = record {
   ends = λ h. record {
     gate = get_or v.seen gate 0;
     stale = drop (gate + 1) v.seen;
-    parts = sym (take-append-drop gate v.seen) ∙ ap (λ (l : List ℕ). l ++ drop gate v.seen) (scanned.front h) ∙ ap (λ (l : List ℕ). (magic ++ blocks (at_spots v.seen spots)) ++ l) (drop_more v.seen gate 0 (omega (arith, law h, scanned.size)));
+    parts = sym (take-append-drop gate v.seen) ∙ ap (λ (l : List ℕ). l ++ drop gate v.seen) (scanned.front h) ∙ ap (λ (l : List ℕ). (magic ++ blocks (at_extents v.seen extents)) ++ l) (drop_more v.seen gate 0 (omega (arith, law h, scanned.size)));
     shut = shut h;
     end = sym (length-take-le gate v.seen (omega (arith, law h, scanned.size))) ∙ ap length (scanned.front h);
     short = scanned.short h;
@@ -116,10 +116,10 @@ IsFound-shut v spots gate scanned law shut = record {
 }
 
 -- the gate that was reached has no whole frame after it
-pub IsNoJournal-broken : (v : DiskView) (spots : List Spot) (gate : ℕ) → IsScanned v spots gate → v.size ≡ length v.seen → 9 < v.size → IsTrue v.honest → IsBrokenAt v.seen gate → IsNoJournal v.seen
-IsNoJournal-broken v spots gate scanned law long h broken =
-    let parts : v.seen ≡ (magic ++ blocks (at_spots v.seen spots)) ++ (1 ∷ broken.rest) = sym (take-append-drop gate v.seen) ∙ ap (λ (l : List ℕ). l ++ drop gate v.seen) (scanned.front h) ∙ ap (λ (l : List ℕ). (magic ++ blocks (at_spots v.seen spots)) ++ l) broken.gate_open in
-    subst IsNoJournal (sym parts) (broken_file (at_spots v.seen spots) broken.rest (scanned.short h) broken.cut (omega (arith, ap length parts, law, long)))
+pub IsNoJournal-broken : (v : DiskView) (extents : List Extent) (gate : ℕ) → IsScanned v extents gate → v.size ≡ length v.seen → 9 < v.size → IsTrue v.honest → IsBrokenAt v.seen gate → IsNoJournal v.seen
+IsNoJournal-broken v extents gate scanned law long h broken =
+    let parts : v.seen ≡ (magic ++ blocks (at_extents v.seen extents)) ++ (1 ∷ broken.rest) = sym (take-append-drop gate v.seen) ∙ ap (λ (l : List ℕ). l ++ drop gate v.seen) (scanned.front h) ∙ ap (λ (l : List ℕ). (magic ++ blocks (at_extents v.seen extents)) ++ l) broken.gate_open in
+    subst IsNoJournal (sym parts) (broken_file (at_extents v.seen extents) broken.rest (scanned.short h) broken.cut (omega (arith, ap length parts, law, long)))
 
 -- what was read at a gate after other reads was so before them
 pub IsGate-earlier : (u v : DiskView) (gate : ℕ) (found : Option ℕ) → StaysAsItWas u v → (IsTrue v.honest → IsGate v.seen gate found) → IsTrue u.honest → IsGate u.seen gate found

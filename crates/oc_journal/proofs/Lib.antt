@@ -2,7 +2,7 @@ pub mod Blocks
 pub mod Worked
 pub mod Steps
 pub mod Writes
-pub mod Spots
+pub mod Extents
 pub mod Gates
 pub mod Loads
 pub mod LoadRuns

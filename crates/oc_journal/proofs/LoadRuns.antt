@@ -4,28 +4,28 @@ use Rattle.oc_io.specs.DiskView.{DiskView, GoesOn, StaysAsItWas, Elapses, AddsNo
 use Rattle.oc_io.proofs.Counts.{Rose-after}
 use Rattle.oc_io.proofs.DiskMoments.{GoesOn-then, LeavesOnly-on, LeavesOnly-stays, still_honest, still_reliable}
 use Rattle.oc_journal.specs.JournalFile.{frames_of, magic, IsNoJournal}
-use Rattle.oc_journal.specs.JournalView.{at_spots, IsSettled, IsIndexed, IsLikeAnImage}
+use Rattle.oc_journal.specs.JournalView.{at_extents, IsSettled, IsIndexed, IsLikeAnImage}
 use Rattle.oc_journal.specs.Promises.{LoadsSafely}
 use Rattle.oc_journal.specs.declared.errors.LoadError.TheVariants.{Disk, NotJournal, Memory}
-use Rattle.oc_journal.specs.declared.spot.Spot.{Spot}
-use Rattle.oc_journal.proofs.Spots.{IsIndexed-none}
+use Rattle.oc_journal.specs.declared.extent.Extent.{Extent}
+use Rattle.oc_journal.proofs.Extents.{IsIndexed-none}
 use Rattle.oc_journal.proofs.Steps.{frames_of-small}
 
 -- a value is no error, and no error is another one
 pub no_error : {T E : Type 0} (x : T) (y : E) → IsErrOf (Ok x) y → ⊥
 no_error x y is = absurd cc
 
+-- a failed call is no bad file
 pub disk_not_file : {T : Type 0} → IsErrOf {T = T} (Err Disk) NotJournal → ⊥
 disk_not_file is = absurd cc
 
+-- nor is want of memory
 pub memory_not_file : {T : Type 0} → IsErrOf {T = T} (Err Memory) NotJournal → ⊥
 memory_not_file is = absurd cc
 
+-- nor is that a failed call
 pub memory_not_disk : {T : Type 0} → IsErrOf {T = T} (Err Memory) Disk → ⊥
 memory_not_disk is = absurd cc
-
-pub file_not_disk : {T : Type 0} → IsErrOf {T = T} (Err NotJournal) Disk → ⊥
-file_not_disk is = absurd cc
 
 -- an error with a value of another type
 pub same_error : {A B E : Type 0} (x y : E) → IsErrOf {T = A} {E = E} (Err x) y → IsErrOf {T = B} {E = E} (Err x) y
@@ -73,15 +73,16 @@ module _ (u v : DiskView) (size : ℕ) (is : size ≡ v.size) (seen : v.seen ≡
   pub no_journal_at_start : (size ≤ 9 → ⊥) → take 8 v.seen ≢ magic → IsNoJournal u.seen
   no_journal_at_start long other = (omega (arith, long, is, law.size, ap length seen), inl (λ e. other (ap (take 8) seen ∙ e)))
 
+-- a short file is a new one
 pub short_is_journal : (file : List ℕ) → length file ≤ 9 → ¬ IsNoJournal file
 short_is_journal file short broken = omega (arith, short, broken.0)
 
 -- The index of a new file, which was no longer than a header.
-module _ (u v w : DiskView) (spots : List Spot) (empty : spots ≡ []) where
-  pub IsIndexed-new : w.honest ≡ v.honest → 8 < w.size → (IsTrue v.honest → IsSettled w 8) → (IsTrue v.honest → frames_of w.seen ≡ []) → IsIndexed w spots 8 false
+module _ (u v w : DiskView) (extents : List Extent) (empty : extents ≡ []) where
+  pub IsIndexed-new : w.honest ≡ v.honest → 8 < w.size → (IsTrue v.honest → IsSettled w 8) → (IsTrue v.honest → frames_of w.seen ≡ []) → IsIndexed w extents 8 false
   IsIndexed-new honest size settled none =
       let back : IsTrue w.honest → IsTrue v.honest = λ h. subst (λ b. IsTrue b) honest h in
-      IsIndexed-none w w spots 8 false empty refl (omega arith) size (omega arith) (λ h. settled (back h)) (λ h. none (back h))
+      IsIndexed-none w w extents 8 false empty refl (omega arith) size (omega arith) (λ h. settled (back h)) (λ h. none (back h))
 
-  pub frames-new : length u.seen ≤ 9 → at_spots w.seen spots ≡ frames_of u.seen
-  frames-new short = ap (at_spots w.seen) empty ∙ sym (frames_of-small u.seen short)
+  pub frames-new : length u.seen ≤ 9 → at_extents w.seen extents ≡ frames_of u.seen
+  frames-new short = ap (at_extents w.seen) empty ∙ sym (frames_of-small u.seen short)

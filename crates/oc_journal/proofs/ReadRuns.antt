@@ -9,6 +9,7 @@ use Rattle.oc_journal.specs.Promises.{IsLoaded, LoadsSafely, OnlyReads, NoneFail
 pub OnlyReads-none : {D : Type 0} (view : D → DiskView) (u : JournalView D) → OnlyReads view u u
 OnlyReads-none view u = record { disk = StaysAsItWas-none (view u.disk); frames = λ _. refl; count = refl; end = refl; spare = omega arith }
 
+-- no call at all
 pub NoneFailed-none : {D : Type 0} (view : D → DiskView) (u : JournalView D) → NoneFailed view u u
 NoneFailed-none view u = record { closed = refl; no_fault = refl }
 
@@ -22,6 +23,7 @@ OnlyReads-then view u v w law first second = record {
   spare = omega (arith, first.spare, second.spare);
 }
 
+-- calls after calls that did not fail
 pub NoneFailed-then : {D : Type 0} (view : D → DiskView) (u v w : JournalView D) → NoneFailed view u v → NoneFailed view v w → NoneFailed view u w
 NoneFailed-then view u v w first second = record { closed = second.closed ∙ first.closed; no_fault = second.no_fault ∙ first.no_fault }
 

@@ -17,10 +17,12 @@ at_byte c p q n long inside front back =
 pub front_of : (p q : List ℕ) (x n : ℕ) → length p ≡ n → take n (p ++ (x ∷ q)) ≡ p
 front_of p q x n long = take_at p (x ∷ q) n long
 
+-- what follows a byte
 pub back_of : (p q : List ℕ) (x n : ℕ) → length p ≡ n → drop (n + 1) (p ++ (x ∷ q)) ≡ q
 back_of p q x n long =
     ap (λ (l : List ℕ). drop (n + 1) l) (sym (append_assoc p (x ∷ []) q)) ∙ drop_at (p ++ (x ∷ [])) q (n + 1) (omega (arith, length-append p (x ∷ [])))
 
+-- what is before a byte, and the byte
 front_with : (p q : List ℕ) (x n : ℕ) → length p ≡ n → take (n + 1) (p ++ (x ∷ q)) ≡ p ++ (x ∷ [])
 front_with p q x n long =
     ap (λ (l : List ℕ). take (n + 1) l) (sym (append_assoc p (x ∷ []) q)) ∙ take_at (p ++ (x ∷ [])) q (n + 1) (omega (arith, length-append p (x ∷ [])))
@@ -86,6 +88,7 @@ pub torn_behind : (file c : List ℕ) (bodies : List (List ℕ)) (offset n : ℕ
 torn_behind file c bodies offset n e torn =
     frames_of-ended c bodies offset (EndsAt-same_front file c bodies offset e torn.before)
 
+-- a frame was written after the gate
 pub written_behind : (file new : List ℕ) (bodies : List (List ℕ)) (offset : ℕ) (body : List ℕ) → EndsAt file bodies offset → Holds file (offset + 1) (encoded body) new → IsStaged new bodies offset body
 written_behind file new bodies offset body e holds =
     let base = magic ++ blocks bodies in
@@ -147,6 +150,7 @@ torn_gate file c bodies offset body s one torn =
       | inr shut ↦ inl (frames_of-ended c bodies offset (record { gate = gate; stale = encoded body ++ s.stale; parts = parts; shut = shut; end = s.end; short = s.short }))
     ]
 
+-- the gate was opened
 pub written_gate : (file new : List ℕ) (bodies : List (List ℕ)) (offset : ℕ) (body : List ℕ) → IsStaged file bodies offset body → length body < 2 ^ 32 → Holds file offset (1 ∷ []) new → EndsAt new (bodies ++ body ∷ []) (offset + 5 + length body)
 written_gate file new bodies offset body s one holds =
     let base = magic ++ blocks bodies in
@@ -189,9 +193,11 @@ pub frames_of-small : (file : List ℕ) → length file ≤ 9 → frames_of file
 frames_of-small file small =
     ap (λ (b : Bool). cond b (frames_within (length file) (drop 8 file)) []) (le-ltb 9 (length file) small)
 
+-- a torn header leaves no frame
 pub torn_header : (file c : List ℕ) → length file ≤ 9 → IsTorn 0 9 file c → frames_of c ≡ []
 torn_header file c small torn = frames_of-small c (omega (arith, torn.no_longer))
 
+-- a header has no frame after it
 pub written_header : (file new : List ℕ) → length file ≤ 9 → Holds file 0 header new → EndsAt new [] 8
 written_header file new small holds = record {
   gate = 0;

@@ -10,11 +10,14 @@ control = refl
 two : frames_of (magic ++ (1 ∷ 0 ∷ 0 ∷ 0 ∷ 0 ∷ 1 ∷ 0 ∷ 0 ∷ 0 ∷ 2 ∷ 8 ∷ 9 ∷ 7 ∷ 1 ∷ 1 ∷ [])) ≡ [] ∷ (8 ∷ 9 ∷ []) ∷ []
 two = refl
 
+-- a header has no frames
 none : frames_of header ≡ []
 none = refl
 
+-- a frame that is cut off
 broken : is_broken_within 20 (1 ∷ 0 ∷ 0 ∷ 0 ∷ 2 ∷ 8 ∷ 9 ∷ []) ≡ true
 broken = refl
 
+-- how a body is encoded
 hello : encoded (8 ∷ 9 ∷ []) ≡ 0 ∷ 0 ∷ 0 ∷ 2 ∷ 8 ∷ 9 ∷ 0 ∷ []
 hello = refl

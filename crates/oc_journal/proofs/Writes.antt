@@ -14,6 +14,11 @@ pub both : {T E P Q R : Type 0} → (r : Result T E) → (P → Q → R) → OnO
 both (Ok x) f p q = f p q
 both (Err e) f p q = tt
 
+-- and their pair
+pub ok_pair : {T E : Type 0} → (P Q : Type 0) → (r : Result T E) → OnOk r P → OnOk r Q → OnOk r (P × Q)
+ok_pair P Q (Ok x) p q = (p, q)
+ok_pair P Q (Err e) p q = tt
+
 -- a settled disk is told by where its frames end
 pub IsSettled-from : (v : DiskView) (bodies : List (List ℕ)) (offset : ℕ) → EndsAt v.seen bodies offset → IsSafe v → IsSettled v offset
 IsSettled-from v bodies offset e safe = record {

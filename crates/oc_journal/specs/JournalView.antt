@@ -3,7 +3,7 @@ use Rattle.std.specs.Prelude.{◌≡◌, ℕ, ◌+◌, ◌<◌, ◌≤◌, Bool,
 use Rattle.std.specs.List.{All}
 use Rattle.oc_io.specs.DiskView.{DiskView, IsSafe}
 use Rattle.oc_journal.specs.JournalFile.{frames_of, end_of, EndsAt, IsJournalOf}
-use Rattle.oc_journal.specs.declared.spot.Spot.{Spot}
+use Rattle.oc_journal.specs.declared.extent.Extent.{Extent}
 
 -- the disk, the bodies of the frames, the offset where they end, how many more frames the index has memory for, and whether the disk failed
 pub record JournalView (D : Type 0) : Type 0 where
@@ -13,13 +13,13 @@ pub record JournalView (D : Type 0) : Type 0 where
   pub spare : ℕ
   pub closed : Bool
 
--- the bytes of a file at a spot
-abbrev pub at_spot : List ℕ → Spot → List ℕ
-at_spot file spot = take spot.len (drop spot.at file)
+-- the bytes of a file at an extent
+abbrev pub at_extent : List ℕ → Extent → List ℕ
+at_extent file extent = take extent.len (drop extent.at file)
 
--- the bodies at these spots
-abbrev pub at_spots : List ℕ → List Spot → List (List ℕ)
-at_spots file spots = map (at_spot file) spots
+-- the bodies at these extents
+abbrev pub at_extents : List ℕ → List Extent → List (List ℕ)
+at_extents file extents = map (at_extent file) extents
 
 -- the file that a read gives is frames that end at this offset, and all of it is safe
 pub record IsSettled (v : DiskView) (end : ℕ) : Type 0 where
@@ -28,13 +28,13 @@ pub record IsSettled (v : DiskView) (end : ℕ) : Type 0 where
 
 -- Each body is after the first gate and before the end of the frames, which is within the file; without bodies the end is the first gate.
 -- While no call on an honest disk has failed, the bodies are the frames of what a read gives, and all is safe.
-pub record IsIndexed (v : DiskView) (spots : List Spot) (end : ℕ) (closed : Bool) : Type 0 where
-  pub within : All (λ spot. (9 ≤ spot.at) × (spot.at + spot.len ≤ end)) spots
+pub record IsIndexed (v : DiskView) (extents : List Extent) (end : ℕ) (closed : Bool) : Type 0 where
+  pub within : All (λ extent. (9 ≤ extent.at) × (extent.at + extent.len ≤ end)) extents
   pub start : 8 ≤ end
-  pub first : spots ≡ [] → end ≡ 8
+  pub first : extents ≡ [] → end ≡ 8
   pub size : end < v.size
   pub settled : closed ≡ false → IsTrue v.honest → IsSettled v end
-  pub frames : closed ≡ false → IsTrue v.honest → at_spots v.seen spots ≡ frames_of v.seen
+  pub frames : closed ≡ false → IsTrue v.honest → at_extents v.seen extents ≡ frames_of v.seen
 
 -- every crash leaves these frames
 abbrev pub HasFrames : DiskView → List (List ℕ) → Type 0

@@ -4,3 +4,4 @@ pub mod Scanning
 pub mod Promises
 pub mod FrameBytes
 pub mod Stopped
+pub mod Written

@@ -4,25 +4,25 @@ use Rattle.std.specs.Int.{w32, to_be_bytes}
 use Rattle.std.specs.List.{All}
 use Rattle.oc_io.specs.DiskView.{DiskView}
 use Rattle.oc_journal.specs.JournalFile.{magic, blocks, is_whole, AreShort, EndsAt}
-use Rattle.oc_journal.specs.JournalView.{at_spots}
-use Rattle.oc_journal.specs.declared.spot.Spot.{Spot}
+use Rattle.oc_journal.specs.JournalView.{at_extents}
+use Rattle.oc_journal.specs.declared.extent.Extent.{Extent}
 
--- These spots were found before a gate. Each is after the first gate and before this one, which is the first where there is none.
-pub record IsScanned (v : DiskView) (spots : List Spot) (gate : ℕ) : Type 0 where
-  pub within : All (λ spot. (9 ≤ spot.at) × (spot.at + spot.len ≤ gate)) spots
+-- These extents were found before a gate. Each is after the first gate and before this one, which is the first where there is none.
+pub record IsScanned (v : DiskView) (extents : List Extent) (gate : ℕ) : Type 0 where
+  pub within : All (λ extent. (9 ≤ extent.at) × (extent.at + extent.len ≤ gate)) extents
   pub start : 8 ≤ gate
-  pub first : spots ≡ [] → gate ≡ 8
+  pub first : extents ≡ [] → gate ≡ 8
   pub size : gate < v.size
-  pub front : IsTrue v.honest → take gate v.seen ≡ magic ++ blocks (at_spots v.seen spots)
-  pub short : IsTrue v.honest → AreShort (at_spots v.seen spots)
+  pub front : IsTrue v.honest → take gate v.seen ≡ magic ++ blocks (at_extents v.seen extents)
+  pub short : IsTrue v.honest → AreShort (at_extents v.seen extents)
 
--- the file is the frames at these spots and a gate that is not open
-pub record IsFound (v : DiskView) (spots : List Spot) (end : ℕ) : Type 0 where
-  pub within : All (λ spot. (9 ≤ spot.at) × (spot.at + spot.len ≤ end)) spots
+-- the file is the frames at these extents and a gate that is not open
+pub record IsFound (v : DiskView) (extents : List Extent) (end : ℕ) : Type 0 where
+  pub within : All (λ extent. (9 ≤ extent.at) × (extent.at + extent.len ≤ end)) extents
   pub start : 8 ≤ end
-  pub first : spots ≡ [] → end ≡ 8
+  pub first : extents ≡ [] → end ≡ 8
   pub size : end < v.size
-  pub ends : IsTrue v.honest → EndsAt v.seen (at_spots v.seen spots) end
+  pub ends : IsTrue v.honest → EndsAt v.seen (at_extents v.seen extents) end
 
 -- what is read at a gate: it is not open, or it is open and a frame with a body of this length is whole after it
 abbrev pub IsGate : List ℕ → ℕ → Option ℕ → Type 0

@@ -17,11 +17,12 @@ pub record CanStop (n : ℕ) (journal : JournalView MemDiskView) : Type 0 where
 abbrev pub frames_after : ℕ → ℕ → List (List ℕ) → List ℕ → List (List ℕ)
 frames_after calls image frames body = if is_kept_new calls image then frames ++ body ∷ [] else frames
 
--- how many calls work before the stop, and the byte that a crash leaves then
+-- how many calls work before the stop
 abbrev pub left_of : Option Stop → ℕ
 left_of None = 0
 left_of (Some stop) = stop.left
 
+-- the byte that a crash leaves
 abbrev pub image_of : Option Stop → ℕ
 image_of None = 0
 image_of (Some stop) = stop.image

@@ -45,13 +45,6 @@ pub enum FrameError {
     Memory,
 }
 
-/// Why a part of a body was not read.
-#[derive(Clone, Copy, Debug, PartialEq, Eq)]
-pub enum PeekError {
-    /// A call on the disk failed.
-    Disk,
-}
-
 impl From<Failed> for LoadError {
     ghost from_gives = { λ _ error. error ≡ LoadDisk };
 

@@ -6,11 +6,11 @@ ghost use Rattle.oc_journal.specs.JournalView.{HasFrames, HoldsJournal};
 ghost use Rattle.oc_journal.specs.Promises.{IsLoaded, LoadsSafely, RefusesLoad, OnlyReads, NoneFailed, ClosesByRead, HasRoom, IsFullFor, Appends, AppendsSafely, ClosesByAppend, Restarts, RestartsSafely, ClosesByRestart};
 ghost use Rattle.oc_journal.specs.Stopped.{frames_after, CanStop};
 
-use crate::errors::{AppendError, FrameError, LoadError, PeekError, RestartError};
+use crate::errors::{AppendError, FrameError, LoadError, RestartError};
+use crate::extent::Extent;
 use crate::frame::Frame;
 use crate::loading::find;
 use crate::safely::{FIRST_GATE, close_first_gate, write_frame};
-use crate::spot::Spot;
 use crate::stopped::write_until_stop;
 use oc_base::{MAX_JOURNAL_BYTES, Memory};
 use oc_io::{Disk, Failed, MemDisk};
@@ -23,20 +23,20 @@ use std::marker::Model;
 #[derive(Drop)]
 pub struct Journal<D: Disk> {
     disk: D,
-    spots: Vec<Spot>,
+    extents: Vec<Extent>,
     end: u64,
     closed: bool,
 }
 
 impl<D: Disk> Model for Journal<D> {
     ghost use Rattle.std.specs.Prelude.{◌-◌, vec_len, vec_capacity};
-    ghost use Rattle.oc_journal.specs.JournalView.{JournalView, at_spots, IsIndexed};
+    ghost use Rattle.oc_journal.specs.JournalView.{JournalView, at_extents, IsIndexed};
 
     ghost Value = { JournalView D };
 
-    ghost view = { λ j. record { disk = j.disk; frames = at_spots (D.view j.disk).seen j.spots.items; end = j.end; spare = vec_capacity j.spots - vec_len j.spots; closed = j.closed } };
+    ghost view = { λ j. record { disk = j.disk; frames = at_extents (D.view j.disk).seen j.extents.items; end = j.end; spare = vec_capacity j.extents - vec_len j.extents; closed = j.closed } };
 
-    ghost invariant = { λ j. IsIndexed (D.view j.disk) j.spots.items j.end j.closed };
+    ghost invariant = { λ j. IsIndexed (D.view j.disk) j.extents.items j.end j.closed };
 }
 
 impl<D: Disk> Journal<D> {
@@ -56,7 +56,7 @@ impl<D: Disk> Journal<D> {
         match find(alloc, &mut disk) {
             Ok(index) => Ok(Journal {
                 disk,
-                spots: index.spots,
+                extents: index.extents,
                 end: index.end,
                 closed: false,
             }),
@@ -72,7 +72,7 @@ impl<D: Disk> Journal<D> {
         ensures kept { self.now.closed ≡ false → IsTrue (D.view self.now.disk).honest
             → HasFrames (D.view self.now.disk) self.now.frames }
     {
-        self.spots.len() as u64
+        self.extents.len() as u64
     }
 
     /// The offset in the file where the frames end, which is that of the gate after them.
@@ -105,7 +105,7 @@ impl<D: Disk> Journal<D> {
         ensures same { OnlyReads D.view self.old self.new }
         ensures none_failed { NoneFailed D.view self.old self.new }
     {
-        self.spots.reserve(1)?;
+        self.extents.reserve(1)?;
         self.disk.reserve(u64::from(frame.body_len()) + 7)?;
         Ok(())
     }
@@ -140,7 +140,7 @@ impl<D: Disk> Journal<D> {
             self.closed = true;
             return Err(AppendError::Disk);
         };
-        self.spots.push_reserved(Spot {
+        self.extents.push_reserved(Extent {
             at: self.end + 5,
             len,
         });
@@ -165,14 +165,14 @@ impl<D: Disk> Journal<D> {
         if self.closed {
             return Err(RestartError::Closed);
         }
-        if self.spots.is_empty() {
+        if self.extents.is_empty() {
             return Ok(());
         }
         let Ok(()) = close_first_gate(&mut self.disk) else {
             self.closed = true;
             return Err(RestartError::Disk);
         };
-        self.spots.clear();
+        self.extents.clear();
         self.end = FIRST_GATE;
         Ok(())
     }
@@ -194,15 +194,15 @@ impl<D: Disk> Journal<D> {
         ensures works { IsTrue (D.view self.old.disk).reliable
             → IfErr result (λ error. error ≡ FrameError.Memory) }
     {
-        if index >= self.spots.len() as u64 {
+        if index >= self.extents.len() as u64 {
             return Ok(false);
         }
-        let spot = self.spots[index as usize];
-        let len = spot.len as usize;
+        let extent = self.extents[index as usize];
+        let len = extent.len as usize;
         into.reserve(len)?;
         into.clear();
         into.resize(len, 0)?;
-        let Ok(_) = self.disk.read_at(spot.at, into) else {
+        let Ok(_) = self.disk.read_at(extent.at, into) else {
             self.closed = true;
             return Err(FrameError::Disk);
         };
@@ -210,8 +210,8 @@ impl<D: Disk> Journal<D> {
     }
 
     /// Copies the body of a frame from the offset `skip` on into the buffer, as many bytes as fit,
-    /// and answers how many. It takes no memory. After `Disk` the journal is closed.
-    pub fn peek(&mut self, index: u64, skip: u32, buf: &mut [u8]) -> Result<usize, PeekError>
+    /// and answers how many. It takes no memory. After `Failed` the journal is closed.
+    pub fn peek(&mut self, index: u64, skip: u32, buf: &mut [u8]) -> Result<usize, Failed>
         ensures within { IfOk result (λ n. n ≤ length buf.old) }
         ensures count { IfOk result (λ n. IsTrue (D.view self.old.disk).honest
             → n ≡ min (length buf.old) (length (get_or self.old.frames index []) - skip)) }
@@ -224,18 +224,18 @@ impl<D: Disk> Journal<D> {
         // On a reliable disk they are read.
         ensures works { IsTrue (D.view self.old.disk).reliable → IsOk result }
     {
-        if index >= self.spots.len() as u64 {
+        if index >= self.extents.len() as u64 {
             return Ok(0);
         }
-        let spot = self.spots[index as usize];
-        if skip >= spot.len {
+        let extent = self.extents[index as usize];
+        if skip >= extent.len {
             return Ok(0);
         }
-        let count = buf.len().min((spot.len - skip) as usize);
-        let at = spot.at + u64::from(skip);
+        let count = buf.len().min((extent.len - skip) as usize);
+        let at = extent.at + u64::from(skip);
         let Ok(count) = read_part(&mut self.disk, at, count, buf) else {
             self.closed = true;
-            return Err(PeekError::Disk);
+            return Err(Failed);
         };
         Ok(count)
     }
@@ -257,7 +257,7 @@ impl Journal<MemDisk> {
     {
         let Journal {
             mut disk,
-            spots: _,
+            extents: _,
             end,
             closed: _,
         } = self;

@@ -12,8 +12,9 @@
 //!         magic   gate length      body gate length   body gate
 //! ```
 //!
-//! A frame is written after the closed gate and made safe before the gate is opened, and that is
-//! made safe too. What follows the last gate was never a frame, or is no longer one.
+//! Only a gate of the byte 1 is open. A frame is written after the closed gate and made safe before the
+//! gate is opened, and that is made safe too. What follows the last gate was never a frame, or is no
+//! longer one.
 //!
 //! A contract sees a [`Journal`] as its disk, the bodies of its frames, where they end, how many more
 //! its index has memory for, and whether it is closed. `specs/Promises` names what each call
@@ -25,30 +26,25 @@
 //! reliable disk with the room no call fails.
 //!
 //! `load` finds the frames by one read at each gate. `frame` and `peek` then make one read of the
-//! disk. `append` takes no memory and makes four calls of `write_at` and `sync`.
-//!
-//! The gate before a frame: the byte that says whether the frame after it counts.
-//!
-//! [`is_open`] says which byte that is. A frame is written after a gate that is not open, and then the
-//! gate is opened, each by [`write_safely`]: a write and a sync. So there are four calls of the disk, and
-//! at every moment of them a crash leaves the frame whole after an open gate, or a gate that is not open.
-//! [`is_kept_new`] says which of the two it is, by the calls that worked before the crash.
+//! disk. `append` takes no memory and makes four calls of `write_at` and `sync`: it writes the frame
+//! behind the closed gate and then the gate, each by [`write_safely`], a write and a sync. So at every
+//! moment a crash leaves the frame whole after an open gate, or a gate that is not open. Which of the
+//! two it is, the calls that worked tell, and after three of them the byte that the crash leaves as the
+//! gate: [`is_kept_new`].
 #![tactic(auto)]
 
 mod errors;
+mod extent;
 mod frame;
-mod gate;
 mod journal;
 mod loading;
 mod safely;
-mod spot;
 mod stopped;
 mod stops;
 mod synced;
 
-pub use errors::{AppendError, FrameError, LoadError, PeekError, RestartError};
+pub use errors::{AppendError, FrameError, LoadError, RestartError};
 pub use frame::{Frame, FrameFault};
-pub use gate::is_open;
 pub use journal::Journal;
 pub use stops::is_kept_new;
 pub use synced::write_safely;

@@ -2,35 +2,37 @@ ghost use Rattle.std.specs.Prelude.{◌≡◌, ◌≢◌, ℕ, ◌+◌, ◌<◌,
 ghost use Rattle.std.specs.Int.{w32, to_be_bytes};
 ghost use Rattle.oc_io.specs.DiskView.{IsSafe, StaysAsItWas, FailsToRead, HasNoFault};
 ghost use Rattle.oc_journal.specs.JournalFile.{magic, header, frames_of, IsNoJournal};
-ghost use Rattle.oc_journal.specs.JournalView.{at_spots, IsIndexed};
+ghost use Rattle.oc_journal.specs.JournalView.{at_extents, IsIndexed};
 ghost use Rattle.oc_journal.specs.Promises.{LoadsSafely};
 ghost use Rattle.oc_journal.specs.Scanning.{IsFound, IsGate, IsBrokenAt};
 
 use crate::errors::LoadError;
-use crate::is_open;
+use crate::extent::Extent;
 use crate::safely::{FIRST_GATE, write_header};
-use crate::spot::Spot;
 use oc_io::{Disk, Failed};
 use std::alloc::Global;
 
 /// What every journal file begins with.
 const MAGIC: [u8; 8] = *b"OVERCST1";
 
+/// The byte of an open gate: every other byte is that of a gate that is not open.
+const OPEN: u8 = 1;
+
 /// The length of a header in bytes.
 const HEADER_LEN: u64 = 9;
 
 /// Where the bodies of the frames are, and where the frames end.
 #[derive(Debug, Drop)]
-pub struct Index {
-    pub spots: Vec<Spot>,
+pub struct FrameIndex {
+    pub extents: Vec<Extent>,
     pub end: u64,
 }
 
 /// Finds the frames of a file, and makes the header of a new one.
-pub fn find<D: Disk>(alloc: Global, disk: &mut D) -> Result<Index, LoadError>
-    ensures indexed { IfOk result (λ index. IsIndexed (D.view disk.new) index.spots.items index.end false) }
+pub fn find<D: Disk>(alloc: Global, disk: &mut D) -> Result<FrameIndex, LoadError>
+    ensures indexed { IfOk result (λ index. IsIndexed (D.view disk.new) index.extents.items index.end false) }
     ensures frames { IfOk result (λ index. IsTrue (D.view disk.old).honest
-        → at_spots (D.view disk.new).seen index.spots.items ≡ frames_of (D.view disk.old).seen) }
+        → at_extents (D.view disk.new).seen index.extents.items ≡ frames_of (D.view disk.old).seen) }
     ensures header { OnOk result (IsTrue (D.view disk.old).honest → length (D.view disk.old).seen ≤ 9
         → (D.view disk.new).seen ≡ header) }
     ensures journal { OnOk result (IsTrue (D.view disk.old).honest → ¬ IsNoJournal (D.view disk.old).seen) }
@@ -43,8 +45,8 @@ pub fn find<D: Disk>(alloc: Global, disk: &mut D) -> Result<Index, LoadError>
     let size = make_safe(disk)?;
     if size <= HEADER_LEN {
         write_header(disk)?;
-        return Ok(Index {
-            spots: Vec::new(alloc),
+        return Ok(FrameIndex {
+            extents: Vec::new(alloc),
             end: FIRST_GATE,
         });
     }
@@ -115,12 +117,12 @@ fn check_magic<D: Disk>(disk: &mut D) -> Result<(), LoadError>
 }
 
 /// Finds the frames of a safe file of this size, from the first gate on, by a read at each gate.
-fn find_frames<D: Disk>(alloc: Global, disk: &mut D, size: u64) -> Result<Index, LoadError>
+fn find_frames<D: Disk>(alloc: Global, disk: &mut D, size: u64) -> Result<FrameIndex, LoadError>
     requires safe { IsTrue (D.view disk.old).honest → IsSafe (D.view disk.old) }
     requires size { size ≡ (D.view disk.old).size }
     requires long { 9 < size }
     requires magic { IsTrue (D.view disk.old).honest → take 8 (D.view disk.old).seen ≡ magic }
-    ensures found { IfOk result (λ index. IsFound (D.view disk.old) index.spots.items index.end) }
+    ensures found { IfOk result (λ index. IsFound (D.view disk.old) index.extents.items index.end) }
     ensures not_journal { IsErrOf result LoadError.NotJournal → IsTrue (D.view disk.old).honest
         → IsNoJournal (D.view disk.old).seen }
     ensures size { (D.view disk.new).size ≡ (D.view disk.old).size }
@@ -128,14 +130,14 @@ fn find_frames<D: Disk>(alloc: Global, disk: &mut D, size: u64) -> Result<Index,
     ensures no_fault { OnOk result (HasNoFault (D.view disk.old) (D.view disk.new)) }
     ensures disk { IsErrOf result LoadError.Disk → FailsToRead (D.view disk.old) (D.view disk.new) }
 {
-    let mut spots = Vec::new(alloc);
+    let mut extents = Vec::new(alloc);
     let mut gate = FIRST_GATE;
     while let Some(len) = read_gate(disk, gate, size)? {
         let at = gate + 5;
-        spots.push(Spot { at, len })?;
+        extents.push(Extent { at, len })?;
         gate = at + u64::from(len);
     }
-    Ok(Index { spots, end: gate })
+    Ok(FrameIndex { extents, end: gate })
 }
 
 /// Reads a gate and the length after it: `None` where the gate is not open, and else the length of
@@ -155,7 +157,7 @@ fn read_gate<D: Disk>(disk: &mut D, gate: u64, size: u64) -> Result<Option<u32>,
 {
     let mut head = [0; 5];
     let read = disk.read_at(gate, &mut head)?;
-    if !is_open(head[0]) {
+    if head[0] != OPEN {
         return Ok(None);
     }
     let len = len_in(&head);

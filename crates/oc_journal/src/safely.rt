@@ -1,7 +1,8 @@
-ghost use Rattle.std.specs.Prelude.{◌≡◌, ℕ, ◌+◌, ◌^◌, ◌<◌, ◌≤◌, [], ◌∷◌, ◌++◌, IsTrue, length, take, drop, OnOk, OnErr};
-ghost use Rattle.oc_io.specs.DiskView.{IsSafe, Takes, Fails, HasNoFault, LeavesOnly};
-ghost use Rattle.oc_journal.specs.JournalFile.{header, frames_of, IsBeforeOrAfter, IsAllOrNone};
+ghost use Rattle.std.specs.Prelude.{◌≡◌, ℕ, ◌+◌, ◌^◌, ◌<◌, ◌≤◌, IsTrue, length, take, drop, OnOk, OnErr};
+ghost use Rattle.oc_io.specs.DiskView.{IsSafe, Takes, Fails, LeavesOnly};
+ghost use Rattle.oc_journal.specs.JournalFile.{frames_of, IsBeforeOrAfter, IsAllOrNone};
 ghost use Rattle.oc_journal.specs.JournalView.{IsSettled, IsLikeAnImage};
+ghost use Rattle.oc_journal.specs.Written.{AddsFrame, ClearsFrames, BeginsFile};
 
 use crate::frame::Frame;
 use crate::write_safely;
@@ -19,16 +20,7 @@ pub fn write_frame<D: Disk>(disk: &mut D, end: u64, frame: &Frame) -> Result<(),
     requires settled { IsTrue (D.view disk.old).honest → IsSettled (D.view disk.old) end }
     requires fits { end < 2 ^ 63 }
     ensures takes { Takes (length frame.now + 6) 4 (D.view disk.old) (D.view disk.new) }
-    ensures turns { OnOk result (IsTrue (D.view disk.old).honest
-        → (D.view disk.new).moment ≡ (D.view disk.old).moment + 4) }
-
-    // The frame is added, and all is safe.
-    ensures settled { OnOk result (IsTrue (D.view disk.old).honest
-        → IsSettled (D.view disk.new) (end + 5 + length frame.now)) }
-    ensures added { OnOk result (IsTrue (D.view disk.old).honest
-        → frames_of (D.view disk.new).seen ≡ frames_of (D.view disk.old).seen ++ frame.now ∷ []) }
-    ensures body { OnOk result (IsTrue (D.view disk.old).honest
-        → take (length frame.now) (drop (end + 5) (D.view disk.new).seen) ≡ frame.now) }
+    ensures adds { OnOk result (AddsFrame frame.now end (D.view disk.old) (D.view disk.new)) }
     ensures size { OnOk result (end + 5 + length frame.now < (D.view disk.new).size) }
 
     // What is before the gate stays.
@@ -38,7 +30,6 @@ pub fn write_frame<D: Disk>(disk: &mut D, end: u64, frame: &Frame) -> Result<(),
     ensures any_moment { IsTrue (D.view disk.old).honest
         → LeavesOnly (D.view disk.old) (D.view disk.new)
         (IsBeforeOrAfter (frames_of (D.view disk.old).seen) frame.now) }
-    ensures no_fault { OnOk result (HasNoFault (D.view disk.old) (D.view disk.new)) }
     ensures fails { OnErr result (Fails (length frame.now + 6) 4 (D.view disk.old) (D.view disk.new)) }
 {
     write_safely(disk, end + 1, frame.bytes())?;
@@ -51,11 +42,7 @@ pub fn close_first_gate<D: Disk>(disk: &mut D) -> Result<(), Failed>
     requires settled { IsTrue (D.view disk.old).honest
         → (end : ℕ) × IsSettled (D.view disk.old) end × (0 < length (frames_of (D.view disk.old).seen)) }
     ensures takes { Takes 1 2 (D.view disk.old) (D.view disk.new) }
-    ensures turns { OnOk result (IsTrue (D.view disk.old).honest
-        → (D.view disk.new).moment ≡ (D.view disk.old).moment + 2) }
-    ensures settled { OnOk result (IsTrue (D.view disk.old).honest → IsSettled (D.view disk.new) 8) }
-    ensures none { OnOk result (IsTrue (D.view disk.old).honest
-        → frames_of (D.view disk.new).seen ≡ []) }
+    ensures clears { OnOk result (ClearsFrames (D.view disk.old) (D.view disk.new)) }
 
     // What follows the gate stays.
     ensures behind { IsTrue (D.view disk.old).honest
@@ -64,7 +51,6 @@ pub fn close_first_gate<D: Disk>(disk: &mut D) -> Result<(), Failed>
     ensures any_moment { IsTrue (D.view disk.old).honest
         → LeavesOnly (D.view disk.old) (D.view disk.new)
         (IsAllOrNone (frames_of (D.view disk.old).seen)) }
-    ensures no_fault { OnOk result (HasNoFault (D.view disk.old) (D.view disk.new)) }
     ensures fails { OnErr result (Fails 1 2 (D.view disk.old) (D.view disk.new)) }
 {
     write_safely(disk, FIRST_GATE, &[0])
@@ -77,14 +63,10 @@ pub fn write_header<D: Disk>(disk: &mut D) -> Result<(), Failed>
     requires room { 9 ≤ (D.view disk.old).room }
     requires calls { 2 ≤ (D.view disk.old).calls }
     ensures takes { Takes 9 2 (D.view disk.old) (D.view disk.new) }
-    ensures seen { OnOk result (IsTrue (D.view disk.old).honest → (D.view disk.new).seen ≡ header) }
-    ensures settled { OnOk result (IsTrue (D.view disk.old).honest → IsSettled (D.view disk.new) 8) }
-    ensures none { OnOk result (IsTrue (D.view disk.old).honest
-        → frames_of (D.view disk.new).seen ≡ []) }
+    ensures begins { OnOk result (BeginsFile (D.view disk.old) (D.view disk.new)) }
     ensures size { OnOk result (8 < (D.view disk.new).size) }
     ensures any_moment { IsTrue (D.view disk.old).honest
         → LeavesOnly (D.view disk.old) (D.view disk.new) (IsLikeAnImage (D.view disk.old)) }
-    ensures no_fault { OnOk result (HasNoFault (D.view disk.old) (D.view disk.new)) }
     ensures fails { OnErr result (Fails 9 2 (D.view disk.old) (D.view disk.new)) }
 {
     write_safely(disk, 0, &HEADER)

@@ -12,8 +12,8 @@ use Rattle.oc_base.specs.Names.{IsGroupName}
 use Rattle.oc_base.specs.Shelves.{line_of, AreLines, IsLine, IsShelf}
 use Rattle.oc_base.proofs.NameOrder.{names_equal}
 use Rattle.oc_content.specs.ContentFile.{with_entry}
-use Rattle.oc_content.specs.declared.entry_putting.Standing.{Standing}
-use Rattle.oc_content.specs.Putting.{standing, standing_in, fault_of}
+use Rattle.oc_content.specs.declared.group_state.GroupState.{GroupState}
+use Rattle.oc_content.specs.Putting.{group_state, group_state_in, fault_of}
 use Rattle.oc_content.proofs.Lines.{line_of-shelf}
 use Rattle.oc_model.specs.declared.answer.Answer.{Answer}
 use Rattle.oc_model.specs.declared.answer.Answer.TheVariants as words
@@ -60,20 +60,20 @@ limit_free false true h = absurd cc
 limit_free false false h = (refl, refl)
 
 -- the first of four tests that passes is none
-no_fault : (s : Standing) (start count : ℕ) → nat_lt s.held start ≡ false → (s.sealed && nat_lt s.held (start + count)) ≡ false → s.one_too_many ≡ false → nat_lt MAX_GROUP_BYTES (start + count) ≡ false → fault_of s start count ≡ None
+no_fault : (s : GroupState) (start count : ℕ) → nat_lt s.held start ≡ false → (s.sealed && nat_lt s.held (start + count)) ≡ false → s.one_too_many ≡ false → nat_lt MAX_GROUP_BYTES (start + count) ≡ false → fault_of s start count ≡ None
 no_fault s start count gap shut many long = rw (gap, shut, many, long) refl
 
--- The standing of a group among the lines
+-- What is known of a group by its line
 
-held_is : (g : List ℕ) (line : Option Shelf) (n : ℕ) → (standing line n).held ≡ (line_or_none g line).held
+held_is : (g : List ℕ) (line : Option Shelf) (n : ℕ) → (group_state line n).held ≡ (line_or_none g line).held
 held_is g None n = refl
 held_is g (Some l) n = refl
 
-sealed_is : (g : List ℕ) (line : Option Shelf) (n : ℕ) → (standing line n).sealed ≡ (line_or_none g line).sealed
+sealed_is : (g : List ℕ) (line : Option Shelf) (n : ℕ) → (group_state line n).sealed ≡ (line_or_none g line).sealed
 sealed_is g None n = refl
 sealed_is g (Some l) n = refl
 
-many_is : (line : Option Shelf) (n : ℕ) → (standing line n).one_too_many ≡ (not (is_some line) && nat_le MAX_GROUPS n)
+many_is : (line : Option Shelf) (n : ℕ) → (group_state line n).one_too_many ≡ (not (is_some line) && nat_le MAX_GROUPS n)
 many_is None n = refl
 many_is (Some l) n = refl
 
@@ -90,7 +90,7 @@ line_found : (g : List ℕ) (ls : List Shelf) → AreLines ls → IfFound IsLine
 line_found g [] all = tt
 line_found g (l ∷ ls) all = cond_both (same_name g l.group) (Some l) (line_of g ls) (IfFound IsLine) (λ _. all.0) (λ _. line_found g ls all.2)
 
-short_line : (line : Option Shelf) (n : ℕ) → IfFound IsLine line → (standing line n).held ≤ MAX_GROUP_BYTES
+short_line : (line : Option Shelf) (n : ℕ) → IfFound IsLine line → (group_state line n).held ≤ MAX_GROUP_BYTES
 short_line None n ok = omega arith
 short_line (Some l) n ok = ok.1
 
@@ -104,22 +104,22 @@ module _ (ls : List Shelf) (g bytes : List ℕ) (named : IsGroupName g) (few : l
   abbrev Fits : Plan → Type 0
   Fits q = CanKeep ls (record { group = g; bytes = bytes }) q.keeps q.seals
 
-  held_same : (standing_in ls g).held ≡ the_line.held
+  held_same : (group_state_in ls g).held ≡ the_line.held
   held_same = held_is g (line_of g ls) (length ls)
 
-  sealed_same : (standing_in ls g).sealed ≡ the_line.sealed
+  sealed_same : (group_state_in ls g).sealed ≡ the_line.sealed
   sealed_same = sealed_is g (line_of g ls) (length ls)
 
-  held_short : (standing_in ls g).held ≤ MAX_GROUP_BYTES
+  held_short : (group_state_in ls g).held ≤ MAX_GROUP_BYTES
   held_short = short_line (line_of g ls) (length ls) (line_found g ls ok)
 
   -- nothing refuses a piece that is within the limits
-  within_limits : (at : ℕ) → nat_lt the_line.held at ≡ false → (the_line.sealed && nat_lt the_line.held (at + length bytes)) ≡ false → limit ls g (at + length bytes) ≡ None → fault_of (standing_in ls g) at (length bytes) ≡ None
+  within_limits : (at : ℕ) → nat_lt the_line.held at ≡ false → (the_line.sealed && nat_lt the_line.held (at + length bytes)) ≡ false → limit ls g (at + length bytes) ≡ None → fault_of (group_state_in ls g) at (length bytes) ≡ None
   within_limits at gap shut free =
       let parts = limit_free (not (is_some (line_of g ls)) && nat_le MAX_GROUPS (length ls)) (nat_lt MAX_GROUP_BYTES (at + length bytes)) free in
-      no_fault (standing_in ls g) at (length bytes)
+      no_fault (group_state_in ls g) at (length bytes)
       (ap (λ (h : ℕ). nat_lt h at) held_same ∙ gap)
-      (ap (λ (h : ℕ). (standing_in ls g).sealed && nat_lt h (at + length bytes)) held_same ∙ ap (λ (b : Bool). b && nat_lt the_line.held (at + length bytes)) sealed_same ∙ shut)
+      (ap (λ (h : ℕ). (group_state_in ls g).sealed && nat_lt h (at + length bytes)) held_same ∙ ap (λ (b : Bool). b && nat_lt the_line.held (at + length bytes)) sealed_same ∙ shut)
       (many_is (line_of g ls) (length ls) ∙ parts.0) parts.1
 
   not_before : (n : ℕ) → nat_lt n n ≡ false
@@ -137,7 +137,7 @@ module _ (ls : List Shelf) (g bytes : List ℕ) (named : IsGroupName g) (few : l
     short = held_short;
     free = within_limits the_line.held (not_before the_line.held) (rw is_open refl) free;
     adds =
-        rw (length-drop ((standing_in ls g).held - the_line.held) bytes)
+        rw (length-drop ((group_state_in ls g).held - the_line.held) bytes)
         (subst (λ (h : ℕ). (not (is_some (line_of g ls)) || nat_lt 0 (length bytes - (h - the_line.held)) || false) ≡ true) (sym held_same)
         (publish_adds (not (is_some (line_of g ls))) (length bytes) the_line.held more));
     seals = refl;
@@ -171,7 +171,7 @@ module _ (ls : List Shelf) (g bytes : List ℕ) (named : IsGroupName g) (few : l
 
   chunk_fits : (start : ℕ) (last : Bool) → nat_lt the_line.held start ≡ false → (the_line.sealed && nat_lt the_line.held (start + length bytes)) ≡ false → limit ls g (start + length bytes) ≡ None → (not (is_some (line_of g ls)) || nat_lt the_line.held (start + length bytes) || adds_seal the_line (start + length bytes) last) ≡ true → CanPut ls (record { group = g; bytes = bytes }) start (adds_seal the_line (start + length bytes) last)
   chunk_fits start last gap shut free more =
-      let seals : (adds_seal the_line (start + length bytes) last && not (standing_in ls g).sealed && nat_le (standing_in ls g).held (start + length bytes)) ≡ adds_seal the_line (start + length bytes) last =
+      let seals : (adds_seal the_line (start + length bytes) last && not (group_state_in ls g).sealed && nat_le (group_state_in ls g).held (start + length bytes)) ≡ adds_seal the_line (start + length bytes) last =
       rw (held_same, sealed_same) (seal_again last (not the_line.sealed) (nat_le the_line.held (start + length bytes))) in
       record {
         named = named;
@@ -179,7 +179,7 @@ module _ (ls : List Shelf) (g bytes : List ℕ) (named : IsGroupName g) (few : l
         short = held_short;
         free = within_limits start gap shut free;
         adds =
-            rw (seals, length-drop ((standing_in ls g).held - start) bytes)
+            rw (seals, length-drop ((group_state_in ls g).held - start) bytes)
             (subst (λ (h : ℕ). (not (is_some (line_of g ls)) || nat_lt 0 (length bytes - (h - start)) || adds_seal the_line (start + length bytes) last) ≡ true) (sym held_same)
             (chunk_adds (not (is_some (line_of g ls))) (adds_seal the_line (start + length bytes) last) (length bytes) the_line.held start gap more));
         seals = seals;
@@ -207,16 +207,16 @@ module _ (ls : List Shelf) (g bytes : List ℕ) (named : IsGroupName g) (few : l
 -- a seal closes a group that is held
 seal_fits : (ls : List Shelf) (g : List ℕ) (l : Shelf) → IsGroupName g → line_of g ls ≡ Some l → l.sealed ≡ false → l.held ≤ MAX_GROUP_BYTES → CanPut ls (record { group = g; bytes = [] }) l.held true
 seal_fits ls g l named there is_open short =
-    let standing_is : standing_in ls g ≡ standing (Some l) (length ls) = ap (λ (o : Option Shelf). standing o (length ls)) there in
+    let state_is : group_state_in ls g ≡ group_state (Some l) (length ls) = ap (λ (o : Option Shelf). group_state o (length ls)) there in
     let short' : nat_lt MAX_GROUP_BYTES (l.held + 0) ≡ false = not_above l.held short in
     let seals : (not l.sealed && nat_le l.held (l.held + 0)) ≡ true = rw is_open (grind (arith, nat_tests)) in
-    let seals' : (entry_for ls (record { group = g; bytes = [] }) l.held true).seals ≡ true = rw standing_is seals in
+    let seals' : (entry_for ls (record { group = g; bytes = [] }) l.held true).seals ≡ true = rw state_is seals in
     record {
       named = named;
       few = omega arith;
-      short = rw standing_is short;
-      free = rw standing_is (no_fault (standing (Some l) (length ls)) l.held 0 (grind (arith, nat_tests)) (rw is_open refl) refl short');
-      adds = rw seals' (or_true (not (is_some (line_of g ls)) || nat_lt 0 (length (drop ((standing_in ls g).held - l.held) []))));
+      short = rw state_is short;
+      free = rw state_is (no_fault (group_state (Some l) (length ls)) l.held 0 (grind (arith, nat_tests)) (rw is_open refl) refl short');
+      adds = rw seals' (or_true (not (is_some (line_of g ls)) || nat_lt 0 (length (drop ((group_state_in ls g).held - l.held) []))));
       seals = seals';
     }
   where
@@ -286,10 +286,10 @@ group_named g (k ∷ ks) = by_test (group_named g ks) (same_name g k.name) refl 
   by_test rest true e = sym (names_equal g k.name e)
   by_test rest false e = rest
 
-held_bytes : (g : List ℕ) (ks : List Group) → (standing_in (shelf ks) g).held ≡ length (group_or_empty g ks).bytes
-held_bytes g ks = ap (λ (o : Option Shelf). (standing o (length (shelf ks))).held) (line_of-shelf g ks) ∙ by_group (group_of g ks)
+held_bytes : (g : List ℕ) (ks : List Group) → (group_state_in (shelf ks) g).held ≡ length (group_or_empty g ks).bytes
+held_bytes g ks = ap (λ (o : Option Shelf). (group_state o (length (shelf ks))).held) (line_of-shelf g ks) ∙ by_group (group_of g ks)
   where
-    by_group : (o : Option Group) → (standing (option_map shelf_of o) (length (shelf ks))).held ≡ length (or_empty g o).bytes
+    by_group : (o : Option Group) → (group_state (option_map shelf_of o) (length (shelf ks))).held ≡ length (or_empty g o).bytes
     by_group None = refl
     by_group (Some k) = refl
 
@@ -297,8 +297,8 @@ pub kept_is : (ks : List Group) (p : Piece) (at : ℕ) (closes : Bool) → CanPu
 kept_is ks p at closes can =
     let k = group_or_empty p.group ks in
     let name : k.name ≡ p.group = group_named p.group ks in
-    let held : (standing_in (shelf ks) p.group).held ≡ length k.bytes = held_bytes p.group ks in
+    let held : (group_state_in (shelf ks) p.group).held ≡ length k.bytes = held_bytes p.group ks in
     ap (λ (j : Group). with_group j ks)
     (ap (λ (x : List ℕ). record { name = x; bytes = k.bytes ++ drop (length k.bytes - at) p.bytes; sealed = k.sealed || closes }) name
     ∙ ap (λ (n : ℕ). record { name = p.group; bytes = k.bytes ++ drop (n - at) p.bytes; sealed = k.sealed || closes }) (sym held)
-    ∙ ap (λ (b : Bool). record { name = p.group; bytes = k.bytes ++ drop ((standing_in (shelf ks) p.group).held - at) p.bytes; sealed = k.sealed || b }) (sym can.seals))
+    ∙ ap (λ (b : Bool). record { name = p.group; bytes = k.bytes ++ drop ((group_state_in (shelf ks) p.group).held - at) p.bytes; sealed = k.sealed || b }) (sym can.seals))

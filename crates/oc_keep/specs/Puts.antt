@@ -5,13 +5,13 @@ use Rattle.oc_base.specs.declared.shelf.Shelf.{Shelf}
 use Rattle.oc_base.specs.Names.{IsGroupName}
 use Rattle.oc_base.specs.Shelves.{line_of}
 use Rattle.oc_content.specs.Entries.{Entry}
-use Rattle.oc_content.specs.Putting.{standing_in, fault_of, put_entry}
+use Rattle.oc_content.specs.Putting.{group_state_in, fault_of, put_entry}
 use Rattle.oc_model.specs.declared.want.Want.{Want}
 use Rattle.oc_model.specs.Step.{Piece}
 
 -- the entry of a piece that begins at this place of its group, and perhaps closes it
 abbrev pub entry_for : List Shelf → Piece → ℕ → Bool → Entry
-entry_for shelf p at closes = put_entry (standing_in shelf p.group) p.group at p.bytes closes
+entry_for shelf p at closes = put_entry (group_state_in shelf p.group) p.group at p.bytes closes
 
 -- whether an entry adds anything: its group is new, or it has bytes or a seal
 abbrev pub adds_to : List Shelf → Entry → Bool
@@ -21,8 +21,8 @@ adds_to shelf e = not (is_some (line_of e.group shelf)) || nat_lt 0 (length e.by
 pub record CanPut (shelf : List Shelf) (p : Piece) (at : ℕ) (closes : Bool) : Type 0 where
   pub named : IsGroupName p.group
   pub few : length p.bytes ≤ MAX_PUBLISH_BYTES
-  pub short : (standing_in shelf p.group).held ≤ MAX_GROUP_BYTES
-  pub free : fault_of (standing_in shelf p.group) at (length p.bytes) ≡ None
+  pub short : (group_state_in shelf p.group).held ≤ MAX_GROUP_BYTES
+  pub free : fault_of (group_state_in shelf p.group) at (length p.bytes) ≡ None
   pub adds : adds_to shelf (entry_for shelf p at closes) ≡ true
   pub seals : (entry_for shelf p at closes).seals ≡ closes
 

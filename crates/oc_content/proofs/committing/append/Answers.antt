@@ -40,7 +40,7 @@ pub put-requires-clause-place : goal.put-requires-clause-place
 put-requires-clause-place g c = c.requires.ready.place
 
 pub put-requires-clause-fits : goal.put-requires-clause-fits
-put-requires-clause-fits g c = c.requires.ready.fits c.requires.adds
+put-requires-clause-fits g c = c.requires.ready.fits c.requires.adds_some
 
 pub put-requires-clause-room : goal.put-requires-clause-room
 put-requires-clause-room g c = c.requires.ready.room

@@ -3,7 +3,8 @@ use Rattle.std.proofs.lemmas.Result.{err_from_is_err_and}
 use Rattle.oc_io.proofs.DiskMoments.{still_honest}
 use Rattle.oc_content.specs.ContentFile.{IsFirstBad}
 use Rattle.oc_content.proofs.Loading.{IsIndexedTo-start, IsSized-to, IsIndexedTo-more, IsFirstBad-at, IsIndexed-all}
-use Rattle.oc_content.proofs.LoadErrors.{bad_not_disk, bad_not_journal, memory_not_bad, memory_not_disk, memory_not_journal, no_error, unread_disk, unread_not_bad, unread_not_journal}
+use Rattle.oc_content.proofs.LoadErrors.{bad_not_disk, bad_not_journal, memory_not_bad, memory_not_disk, memory_not_journal, unread_disk, unread_not_bad, unread_not_journal}
+use Rattle.oc_journal.proofs.LoadRuns.{no_error}
 use Rattle.oc_journal.proofs.ReadRuns.{ClosesByRead-then, OnlyReads-none, OnlyReads-then, NoneFailed-none, NoneFailed-then}
 use Rattle.oc_content.proofs.indexing.index_frames.Goals as goal
 

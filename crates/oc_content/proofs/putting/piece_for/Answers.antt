@@ -1,15 +1,15 @@
 use Rattle.std.proofs.Common.{◌≡◌, ◌≤◌, ℕ, List, length, sym, ap, subst, ◌∙◌}
 use Rattle.oc_base.specs.declared.shelf.Shelf.{Shelf}
-use Rattle.oc_content.specs.declared.entry_putting.Standing.{Standing}
+use Rattle.oc_content.specs.declared.group_state.GroupState.{GroupState}
 use Rattle.oc_base.specs.declared.limits.TheConstants.{MAX_GROUP_BYTES}
 use Rattle.oc_base.specs.Shelves.{LooksUpLine}
-use Rattle.oc_content.specs.Putting.{standing_in, fault_of}
+use Rattle.oc_content.specs.Putting.{group_state_in, fault_of}
 use Rattle.oc_content.specs.Indexes.{IsWithin}
-use Rattle.oc_content.proofs.Puts.{put_within, place_there, standing_short}
+use Rattle.oc_content.proofs.Puts.{put_within, place_there, state_short}
 use Rattle.oc_content.proofs.putting.piece_for.Goals as goal
 
-pub standing_at-standing-requires : goal.standing_at-standing-requires
-standing_at-standing-requires c =
+pub state_at-state-requires : goal.state_at-state-requires
+state_at-state-requires c =
     let at = subst (λ (l : List Shelf). LooksUpLine l c.args.group.now c.look_up-place.result) (c.deref.ensures.value ∙ sym c.deref-2.ensures.value) c.look_up-place.ensures in
     place_there c.deref-2.result.now c.args.group.now c.look_up-place.result at
 
@@ -18,14 +18,14 @@ refusal-requires-clause-held c =
     let ss = c.args.index.now.shelves.items in
     let name = c.args.group.now in
     let at = subst (λ (l : List Shelf). LooksUpLine l name c.look_up-place.result) c.deref.ensures.value c.look_up-place.ensures in
-    let is = subst (λ (l : List Shelf). LooksUpLine l name c.look_up-place.result → c.standing_at-standing.result ≡ standing_in l name) c.deref-2.ensures.value (c.standing_at-standing.ensures name) at in
-    subst (λ (s : Standing). s.held ≤ MAX_GROUP_BYTES) (sym is) (standing_short ss name c.look_up-place.result c.requires.sized.short at)
+    let is = subst (λ (l : List Shelf). LooksUpLine l name c.look_up-place.result → c.state_at-state.result ≡ group_state_in l name) c.deref-2.ensures.value (c.state_at-state.ensures name) at in
+    subst (λ (s : GroupState). s.held ≤ MAX_GROUP_BYTES) (sym is) (state_short ss name c.look_up-place.result c.requires.sized.short at)
 
 pub reserve-requires : goal.reserve-requires
 reserve-requires c =
     let ss = c.args.index.now.shelves.items in
     let name = c.args.group.now in
     let at = subst (λ (l : List Shelf). LooksUpLine l name c.look_up-place.result) c.deref.ensures.value c.look_up-place.ensures in
-    let is = subst (λ (l : List Shelf). LooksUpLine l name c.look_up-place.result → c.standing_at-standing.result ≡ standing_in l name) c.deref-2.ensures.value (c.standing_at-standing.ensures name) at in
-    let none = ap (λ (s : Standing). fault_of s c.args.start (length c.args.bytes.now)) (sym is) ∙ sym c.in_default.ensures in
+    let is = subst (λ (l : List Shelf). LooksUpLine l name c.look_up-place.result → c.state_at-state.result ≡ group_state_in l name) c.deref-2.ensures.value (c.state_at-state.ensures name) at in
+    let none = ap (λ (s : GroupState). fault_of s c.args.start (length c.args.bytes.now)) (sym is) ∙ sym c.in_default.ensures in
     subst (λ (n : ℕ). IsWithin c.look_up-place.result n) (sym c.requires.sized.rows) (put_within ss name c.look_up-place.result c.args.start (length c.args.bytes.now) at none)

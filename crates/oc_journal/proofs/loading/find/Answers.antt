@@ -2,7 +2,7 @@ use Rattle.std.proofs.Common.{◌≡◌, ◌≤◌, IsTrue, false, length, sym, 
 use Rattle.std.proofs.lemmas.Result.{IfOk-weaker, err_from_is_err_and, on_ok_weaker}
 use Rattle.oc_io.proofs.DiskMoments.{GoesOn-then, still_honest}
 use Rattle.oc_journal.specs.JournalFile.{frames_of, header, IsNoJournal}
-use Rattle.oc_journal.specs.JournalView.{at_spots, IsIndexed}
+use Rattle.oc_journal.specs.JournalView.{at_extents, IsIndexed}
 use Rattle.oc_journal.specs.Scanning.{IsFound}
 use Rattle.oc_journal.proofs.Loads.{LoadsSafely-then, IsSafe-stays, IsIndexed-found, found-frames, found-journal}
 use Rattle.oc_journal.proofs.LoadRuns.{IsIndexed-new, disk_not_file, frames-new, no_error, no_journal_at_start, read_fails_after, safe_later, same_error, short_at_start, short_is_journal, write_fails_after}
@@ -32,8 +32,8 @@ returns-clause-indexed g c =
     let scanned = c.find_frames.ensures.stays in
     let u = g.D.Disk.view c.args.disk.now in
     let first = c.make_safe.ensures.safely.goes_on in
-    IfOk-weaker c.find_frames.result (λ index. IsFound m index.spots.items index.end) (λ index. IsIndexed w index.spots.items index.end false)
-    (λ index found. IsIndexed-found m w index.spots.items index.end found scanned.goes_on.honest c.find_frames.ensures.size scanned.seen
+    IfOk-weaker c.find_frames.result (λ index. IsFound m index.extents.items index.end) (λ index. IsIndexed w index.extents.items index.end false)
+    (λ index found. IsIndexed-found m w index.extents.items index.end found scanned.goes_on.honest c.find_frames.ensures.size scanned.seen
     (λ h. let back = subst (λ b. IsTrue b) (read.goes_on.honest ∙ first.honest) h in
     let k = still_honest u v first back in
     IsSafe-stays m w scanned h (IsSafe-stays v m read k (c.in_ok-size.ensures.safe back))))
@@ -48,10 +48,10 @@ returns-clause-frames g c =
     let read = c.check_magic.ensures.stays in
     let scanned = c.find_frames.ensures.stays in
     let first = c.make_safe.ensures.safely.goes_on in
-    IfOk-weaker c.find_frames.result (λ index. IsFound m index.spots.items index.end) (λ index. IsTrue u.honest → at_spots w.seen index.spots.items ≡ frames_of u.seen)
+    IfOk-weaker c.find_frames.result (λ index. IsFound m index.extents.items index.end) (λ index. IsTrue u.honest → at_extents w.seen index.extents.items ≡ frames_of u.seen)
     (λ index found honest. let k = still_honest u v first honest in
     let h = still_honest v m read.goes_on k in
-    found-frames m w index.spots.items index.end found scanned.goes_on.honest c.find_frames.ensures.size scanned.seen (λ h. IsSafe-stays m w scanned h (IsSafe-stays v m read k (c.in_ok-size.ensures.safe honest))) h
+    found-frames m w index.extents.items index.end found scanned.goes_on.honest c.find_frames.ensures.size scanned.seen (λ h. IsSafe-stays m w scanned h (IsSafe-stays v m read k (c.in_ok-size.ensures.safe honest))) h
     ∙ ap frames_of (read.seen k ∙ c.make_safe.ensures.seen honest))
     c.find_frames.ensures.found
 
@@ -64,11 +64,11 @@ returns-clause-journal g c =
     let read = c.check_magic.ensures.stays in
     let scanned = c.find_frames.ensures.stays in
     let first = c.make_safe.ensures.safely.goes_on in
-    IfOk-weaker c.find_frames.result (λ index. IsFound m index.spots.items index.end) (λ _. IsTrue u.honest → ¬ IsNoJournal u.seen)
+    IfOk-weaker c.find_frames.result (λ index. IsFound m index.extents.items index.end) (λ _. IsTrue u.honest → ¬ IsNoJournal u.seen)
     (λ index found honest. let k = still_honest u v first honest in
     let h = still_honest v m read.goes_on k in
     subst (λ file. ¬ IsNoJournal file) (read.seen k ∙ c.make_safe.ensures.seen honest)
-    (found-journal m w index.spots.items index.end found scanned.goes_on.honest c.find_frames.ensures.size scanned.seen (λ h. IsSafe-stays m w scanned h (IsSafe-stays v m read k (c.in_ok-size.ensures.safe honest))) h))
+    (found-journal m w index.extents.items index.end found scanned.goes_on.honest c.find_frames.ensures.size scanned.seen (λ h. IsSafe-stays m w scanned h (IsSafe-stays v m read k (c.in_ok-size.ensures.safe honest))) h))
     c.find_frames.ensures.found
 
 pub returns-clause-header : goal.returns-clause-header
@@ -77,7 +77,7 @@ returns-clause-header g c =
     let v = g.D.Disk.view c.make_safe.new.disk in
     let m = g.D.Disk.view c.check_magic.new.disk in
     let w = g.D.Disk.view c.find_frames.new.disk in
-    IfOk-weaker c.find_frames.result (λ index. IsFound m index.spots.items index.end) (λ _. IsTrue u.honest → length u.seen ≤ 9 → w.seen ≡ header)
+    IfOk-weaker c.find_frames.result (λ index. IsFound m index.extents.items index.end) (λ _. IsTrue u.honest → length u.seen ≤ 9 → w.seen ≡ header)
     (λ index found honest small. let k = still_honest u v c.make_safe.ensures.safely.goes_on honest in
     let law = g.met.D.Disk.consistent c.make_safe.new.disk k in
     absurd (omega (arith, c.if-size-le-HEADER_LEN.false, c.in_ok-size.ensures.size, law.size, ap length (c.make_safe.ensures.seen honest), small)))
@@ -178,7 +178,7 @@ returns-then-size-le-HEADER_LEN-clause-indexed g c =
     let u = g.D.Disk.view c.args.disk.now in
     let v = g.D.Disk.view c.make_safe.new.disk in
     let w = g.D.Disk.view c.write_header.new.disk in
-    IsIndexed-new u v w c.new.result.items c.new.ensures.items c.write_header.ensures.takes.goes_on.honest c.in_ok-write_header.ensures.size c.in_ok-write_header.ensures.settled c.in_ok-write_header.ensures.none
+    IsIndexed-new u v w c.new.result.items c.new.ensures.items c.write_header.ensures.takes.goes_on.honest c.in_ok-write_header.ensures.size c.in_ok-write_header.ensures.begins.settled c.in_ok-write_header.ensures.begins.none
 
 pub returns-then-size-le-HEADER_LEN-clause-frames : goal.returns-then-size-le-HEADER_LEN-clause-frames
 returns-then-size-le-HEADER_LEN-clause-frames g c = λ honest.
@@ -194,7 +194,7 @@ returns-then-size-le-HEADER_LEN-clause-header g c = λ honest _.
     let u = g.D.Disk.view c.args.disk.now in
     let v = g.D.Disk.view c.make_safe.new.disk in
     let first = c.make_safe.ensures.safely.goes_on in
-    c.in_ok-write_header.ensures.seen (still_honest u v first honest)
+    c.in_ok-write_header.ensures.begins.seen (still_honest u v first honest)
 
 pub returns-then-size-le-HEADER_LEN-clause-journal : goal.returns-then-size-le-HEADER_LEN-clause-journal
 returns-then-size-le-HEADER_LEN-clause-journal g c = λ honest.
@@ -205,7 +205,7 @@ returns-then-size-le-HEADER_LEN-clause-journal g c = λ honest.
     short_is_journal u.seen (short_at_start u v c.in_ok-size.size c.in_ok-size.ensures.size (c.make_safe.ensures.seen honest) law (omega (arith, c.if-size-le-HEADER_LEN.true)))
 
 pub returns-then-size-le-HEADER_LEN-clause-no_fault : goal.returns-then-size-le-HEADER_LEN-clause-no_fault
-returns-then-size-le-HEADER_LEN-clause-no_fault g c = c.in_ok-write_header.ensures.no_fault ∙ c.in_ok-size.ensures.no_fault
+returns-then-size-le-HEADER_LEN-clause-no_fault g c = c.in_ok-write_header.ensures.begins.no_fault ∙ c.in_ok-size.ensures.no_fault
 
 pub returns-then-size-le-HEADER_LEN-clause-not_journal : goal.returns-then-size-le-HEADER_LEN-clause-not_journal
 returns-then-size-le-HEADER_LEN-clause-not_journal g c = λ is. absurd (no_error _ _ is)

@@ -12,11 +12,11 @@ returns-then-read-lt5-clause-not_journal g c = λ _ honest.
       | then-read-lt5-via-then-read-lt5 w ↦ inl (omega (arith, w.if-read-lt5.true))
       | then-read-lt5-via-else-read-lt5+then-from-size w ↦ inr (omega (arith, w.if-from-size.true, w.from.ensures, size, c.requires.size))
     ] in
-    gate_broken file c.read_at.new.buf c.args.gate c.in_ok-read.read c.len_in-len.result (omega arith) (omega (arith, c.in_ok-read.ensures.count, size)) (omega (arith, size)) (c.in_ok-read.ensures.bytes honest) (c.is_open.ensures.0 c.if-not-is_open.false) c.len_in-len.ensures short (omega arith)
+    gate_broken file c.read_at.new.buf c.args.gate c.in_ok-read.read c.len_in-len.result (omega arith) (omega (arith, c.in_ok-read.ensures.count, size)) (omega (arith, size)) (c.in_ok-read.ensures.bytes honest) c.if-head-ne-OPEN.false c.len_in-len.ensures short (omega arith)
 
 pub returns-clause-gate : goal.returns-clause-gate
 returns-clause-gate g c = λ honest.
     let v = g.D.Disk.view c.args.disk.now in
     let file = v.seen in
     let size = (g.met.D.Disk.consistent c.args.disk.now honest).size in
-    gate_whole file c.read_at.new.buf c.args.gate c.in_ok-read.read c.len_in-len.result (omega arith) (omega (arith, c.in_ok-read.ensures.count, size)) (omega (arith, size)) (c.in_ok-read.ensures.bytes honest) (omega (arith, c.in_ok-read.ensures.count, size)) (c.is_open.ensures.0 c.if-not-is_open.false) c.len_in-len.ensures
+    gate_whole file c.read_at.new.buf c.args.gate c.in_ok-read.read c.len_in-len.result (omega arith) (omega (arith, c.in_ok-read.ensures.count, size)) (omega (arith, size)) (c.in_ok-read.ensures.bytes honest) (omega (arith, c.in_ok-read.ensures.count, size)) c.if-head-ne-OPEN.false c.len_in-len.ensures

@@ -3,20 +3,21 @@ use Rattle.oc_io.specs.DiskView.{IsTorn}
 use Rattle.oc_io.proofs.DiskMoments.{LeavesOnly-weaker, still_honest}
 use Rattle.oc_journal.specs.JournalFile.{frames_of, IsAllOrNone}
 use Rattle.oc_journal.proofs.Blocks.{frames_of-ended}
-use Rattle.oc_journal.proofs.Writes.{both, IsSettled-from, closing_torn, closing_ends, torn_seen}
+use Rattle.oc_journal.proofs.Writes.{both, ok_pair, IsSettled-from, closing_torn, closing_ends, torn_seen}
 use Rattle.oc_journal.proofs.safely.close_first_gate.Goals as goal
 
-pub returns-clause-settled : goal.returns-clause-settled
-returns-clause-settled g c =
+pub returns-clause-clears : goal.returns-clause-clears
+returns-clause-clears g c =
     let v = g.D.Disk.view c.args.disk.now in
     let w = g.D.Disk.view c.write_safely.new.disk in
-    both c.write_safely.result (λ written safe honest. let s = c.requires.settled honest in IsSettled-from w [] 8 (closing_ends v w s.0 s.1 s.2 (written honest)) (safe honest)) c.write_safely.ensures.written c.write_safely.ensures.safe
-
-pub returns-clause-none : goal.returns-clause-none
-returns-clause-none g c =
-    let v = g.D.Disk.view c.args.disk.now in
-    let w = g.D.Disk.view c.write_safely.new.disk in
-    both c.write_safely.result (λ written safe honest. let s = c.requires.settled honest in frames_of-ended w.seen [] 8 (closing_ends v w s.0 s.1 s.2 (written honest))) c.write_safely.ensures.written c.write_safely.ensures.safe
+    let e = c.write_safely.ensures in
+    let r = c.write_safely.result in
+    both r (λ w1 w2. record {
+      settled = λ honest. let s = c.requires.settled honest in IsSettled-from w [] 8 (closing_ends v w s.0 s.1 s.2 (w1.0 honest)) (w1.1 honest);
+      none = λ honest. let s = c.requires.settled honest in frames_of-ended w.seen [] 8 (closing_ends v w s.0 s.1 s.2 (w1.0 honest));
+      two = w2.0;
+      no_fault = w2.1;
+    }) (ok_pair _ _ r e.written e.safe) (ok_pair _ _ r e.turns e.no_fault)
 
 -- what a read gives is the old file with the gate torn
 pub returns-clause-behind : goal.returns-clause-behind

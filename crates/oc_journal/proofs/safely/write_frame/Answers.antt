@@ -1,11 +1,11 @@
-use Rattle.std.proofs.Common.{ℕ, ◌≡◌, ◌+◌, [], ◌∷◌, ◌++◌, length, take, sym, ◌∙◌, ap, subst, arith}
+use Rattle.std.proofs.Common.{ℕ, IsTrue, ◌≡◌, ◌+◌, [], ◌∷◌, ◌++◌, length, take, sym, ◌∙◌, ap, subst, arith}
 use Rattle.std.proofs.lemmas.List.{take-take}
 use Rattle.std.proofs.lemmas.Result.{err_from_is_err_and}
 use Rattle.oc_io.specs.DiskView.{DiskView, Holds, IsTorn}
 use Rattle.oc_io.proofs.DiskMoments.{LeavesOnly-weaker, LeavesOnly-then, still_honest}
 use Rattle.oc_journal.specs.JournalFile.{frames_of, IsBeforeOrAfter}
 use Rattle.oc_journal.proofs.Blocks.{frames_of-ended}
-use Rattle.oc_journal.proofs.Writes.{both, IsSettled-from, behind_torn, gate_torn, gate_ends, gate_body, torn_seen}
+use Rattle.oc_journal.proofs.Writes.{both, ok_pair, IsSettled-from, behind_torn, gate_torn, gate_ends, gate_body, torn_seen}
 use Rattle.oc_journal.proofs.safely.write_frame.Goals as goal
 
 -- what a torn write leaves before its range
@@ -57,59 +57,26 @@ returns-clause-any_moment g c = λ honest.
     let second = LeavesOnly-weaker m w (IsTorn c.args.end 1 m.seen) P (gate_torn v m w c.args.end body s c.bytes.ensures.short behind) (c.write_safely-2.ensures.any_moment honest_m (c.in_ok-write_safely.ensures.safe honest)) in
     LeavesOnly-then v m w P first second
 
-pub returns-clause-settled : goal.returns-clause-settled
-returns-clause-settled g c =
+pub returns-clause-adds : goal.returns-clause-adds
+returns-clause-adds g c =
     let v = g.D.Disk.view c.args.disk.now in
     let m = g.D.Disk.view c.write_safely.new.disk in
     let w = g.D.Disk.view c.write_safely-2.new.disk in
     let body = c.args.frame.now in
-    both c.write_safely-2.result (λ written safe honest.
-    let honest_m = still_honest v m c.write_safely.ensures.takes.goes_on honest in
-    let behind = subst (λ bytes. Holds v.seen (c.args.end + 1) bytes m.seen) c.bytes.ensures.bytes (c.in_ok-write_safely.ensures.written honest) in
-    IsSettled-from w (frames_of v.seen ++ body ∷ []) (c.args.end + 5 + length body) (gate_ends v m w c.args.end body (c.requires.settled honest) c.bytes.ensures.short behind (written honest_m)) (safe honest_m))
-    c.write_safely-2.ensures.written c.write_safely-2.ensures.safe
+    let e = c.write_safely-2.ensures in
+    let r = c.write_safely-2.result in
+    let honest_m = λ (honest : IsTrue v.honest). still_honest v m c.write_safely.ensures.takes.goes_on honest in
+    let behind = λ (honest : IsTrue v.honest). subst (λ bytes. Holds v.seen (c.args.end + 1) bytes m.seen) c.bytes.ensures.bytes (c.in_ok-write_safely.ensures.written honest) in
+    both r (λ w1 w2. record {
+      settled = λ honest. IsSettled-from w (frames_of v.seen ++ body ∷ []) (c.args.end + 5 + length body) (gate_ends v m w c.args.end body (c.requires.settled honest) c.bytes.ensures.short (behind honest) (w1.0 (honest_m honest))) (w1.1 (honest_m honest));
+      added = λ honest. frames_of-ended w.seen (frames_of v.seen ++ body ∷ []) (c.args.end + 5 + length body) (gate_ends v m w c.args.end body (c.requires.settled honest) c.bytes.ensures.short (behind honest) (w1.0 (honest_m honest)));
+      body_there = λ honest. gate_body v m w c.args.end body (c.requires.settled honest) c.bytes.ensures.short (behind honest) (w1.0 (honest_m honest));
+      four = λ honest. omega (arith, w2.0 (honest_m honest), c.in_ok-write_safely.ensures.turns honest);
+      no_fault = w2.1 ∙ c.in_ok-write_safely.ensures.no_fault;
+    }) (ok_pair _ _ r e.written e.safe) (ok_pair _ _ r e.turns e.no_fault)
 
-pub returns-clause-added : goal.returns-clause-added
-returns-clause-added g c =
-    let v = g.D.Disk.view c.args.disk.now in
-    let m = g.D.Disk.view c.write_safely.new.disk in
-    let w = g.D.Disk.view c.write_safely-2.new.disk in
-    let body = c.args.frame.now in
-    both c.write_safely-2.result (λ written safe honest.
-    let honest_m = still_honest v m c.write_safely.ensures.takes.goes_on honest in
-    let behind = subst (λ bytes. Holds v.seen (c.args.end + 1) bytes m.seen) c.bytes.ensures.bytes (c.in_ok-write_safely.ensures.written honest) in
-    frames_of-ended w.seen (frames_of v.seen ++ body ∷ []) (c.args.end + 5 + length body) (gate_ends v m w c.args.end body (c.requires.settled honest) c.bytes.ensures.short behind (written honest_m)))
-    c.write_safely-2.ensures.written c.write_safely-2.ensures.safe
-
-pub returns-clause-body : goal.returns-clause-body
-returns-clause-body g c =
-    let v = g.D.Disk.view c.args.disk.now in
-    let m = g.D.Disk.view c.write_safely.new.disk in
-    let w = g.D.Disk.view c.write_safely-2.new.disk in
-    let body = c.args.frame.now in
-    both c.write_safely-2.result (λ written safe honest.
-    let honest_m = still_honest v m c.write_safely.ensures.takes.goes_on honest in
-    let behind = subst (λ bytes. Holds v.seen (c.args.end + 1) bytes m.seen) c.bytes.ensures.bytes (c.in_ok-write_safely.ensures.written honest) in
-    gate_body v m w c.args.end body (c.requires.settled honest) c.bytes.ensures.short behind (written honest_m))
-    c.write_safely-2.ensures.written c.write_safely-2.ensures.safe
-
-pub returns-in_err-write_safely-clause-turns : goal.returns-in_err-write_safely-clause-turns
-returns-in_err-write_safely-clause-turns g c =
-    let p = err_from_is_err_and c.from_residual.result c.from_residual.ensures.1 in
-    rw p.1 tt
-
-pub returns-in_err-write_safely-clause-settled : goal.returns-in_err-write_safely-clause-settled
-returns-in_err-write_safely-clause-settled g c =
-    let p = err_from_is_err_and c.from_residual.result c.from_residual.ensures.1 in
-    rw p.1 tt
-
-pub returns-in_err-write_safely-clause-added : goal.returns-in_err-write_safely-clause-added
-returns-in_err-write_safely-clause-added g c =
-    let p = err_from_is_err_and c.from_residual.result c.from_residual.ensures.1 in
-    rw p.1 tt
-
-pub returns-in_err-write_safely-clause-body : goal.returns-in_err-write_safely-clause-body
-returns-in_err-write_safely-clause-body g c =
+pub returns-in_err-write_safely-clause-adds : goal.returns-in_err-write_safely-clause-adds
+returns-in_err-write_safely-clause-adds g c =
     let p = err_from_is_err_and c.from_residual.result c.from_residual.ensures.1 in
     rw p.1 tt
 
@@ -118,22 +85,8 @@ returns-in_err-write_safely-clause-size g c =
     let p = err_from_is_err_and c.from_residual.result c.from_residual.ensures.1 in
     rw p.1 tt
 
-pub returns-in_err-write_safely-clause-no_fault : goal.returns-in_err-write_safely-clause-no_fault
-returns-in_err-write_safely-clause-no_fault g c =
-    let p = err_from_is_err_and c.from_residual.result c.from_residual.ensures.1 in
-    rw p.1 tt
-
 pub returns-in_err-write_safely-clause-no_smaller : goal.returns-in_err-write_safely-clause-no_smaller
 returns-in_err-write_safely-clause-no_smaller g c = c.write_safely.ensures.no_smaller
-
-pub returns-clause-turns : goal.returns-clause-turns
-returns-clause-turns g c =
-    let v = g.D.Disk.view c.args.disk.now in
-    let m = g.D.Disk.view c.write_safely.new.disk in
-    both c.write_safely-2.result (λ turns _ honest. omega (arith, turns (still_honest v m c.write_safely.ensures.takes.goes_on honest), c.in_ok-write_safely.ensures.turns honest)) c.write_safely-2.ensures.turns c.write_safely-2.ensures.turns
-
-pub returns-clause-no_fault : goal.returns-clause-no_fault
-returns-clause-no_fault g c = both c.write_safely-2.result (λ second _. second ∙ c.in_ok-write_safely.ensures.no_fault) c.write_safely-2.ensures.no_fault c.write_safely-2.ensures.no_fault
 
 pub returns-clause-no_smaller : goal.returns-clause-no_smaller
 returns-clause-no_smaller g c = omega (arith, c.write_safely.ensures.no_smaller, c.write_safely-2.ensures.no_smaller)

@@ -5,9 +5,12 @@ use Rattle.oc_content.proofs.Views.{shelved}
 use Rattle.oc_content.proofs.Causes.{parts_kept, closed_parts}
 use Rattle.oc_content.proofs.content.Content.commit.Goals as goal
 
-pub append-requires-clause-ready : goal.append-requires-clause-ready
-append-requires-clause-ready g c =
-    subst (λ (v : ContentView g.row.D.Denot). IsPrepared v c.args.piece) (sym c.self.view_is) c.requires.prepared
+pub append-requires : goal.append-requires
+append-requires g c = record {
+  indexed = c.self.invariant;
+  ready = subst (λ (v : ContentView g.row.D.Denot). IsPrepared v c.args.piece) (sym c.self.view_is) c.requires.prepared;
+  adds_some = c.requires.adds;
+}
 
 pub returns-clause-lines : goal.returns-clause-lines
 returns-clause-lines g c = λ honest.

@@ -6,7 +6,7 @@ use Rattle.oc_content.specs.ContentFile.{with_entry}
 use Rattle.oc_content.specs.Headings.{entry_at}
 use Rattle.oc_base.specs.Shelves.{LooksUpLine}
 use Rattle.oc_content.specs.Indexes.{IsWithin, lines_with, paths_with, span_of}
-use Rattle.oc_content.proofs.Adding.{IsIndexOf-add, place_within, count_short, taken-refused}
+use Rattle.oc_content.proofs.Adding.{IsIndexOf-add, place_within, count_short, taken-refused, IsSized-reserved}
 use Rattle.oc_content.proofs.index.Index.take.Goals as goal
 
 pub returns-then-not-fits : goal.returns-then-not-fits
@@ -27,13 +27,10 @@ add-requires-clause-within c =
     let h = c.in-Some.heading in
     let ss = c.args.self.now.shelves.items in
     let at = subst (λ (l : List Shelf). LooksUpLine l h.group c.look_up-place.result) c.deref.ensures.value c.look_up-place.ensures in
-    subst (λ (n : ℕ). IsWithin c.look_up-place.result n) (sym (ap (λ v. length v.items) c.in_ok-track.ensures.lines)) (place_within ss h.group c.look_up-place.result h.start (length c.args.body.now - h.skip) h.seals at (sym c.if-not-fits.ensures))
+    subst (λ (n : ℕ). IsWithin c.look_up-place.result n) (sym (ap (λ v. length v.items) c.in_ok-track.ensures.keeps.lines)) (place_within ss h.group c.look_up-place.result h.start (length c.args.body.now - h.skip) h.seals at (sym c.if-not-fits.ensures))
 
-pub add-requires-clause-rows : goal.add-requires-clause-rows
-add-requires-clause-rows c =
-    let old = c.args.self.now.tracks.items in
-    let new = c.reserve.new.self.tracks.items in
-    sym (length-map new (λ (t : Track). t.spans.items)) ∙ (ap length c.in_ok-track.ensures.tracks.paths ∙ (length-map old (λ (t : Track). t.spans.items) ∙ (c.requires.rows ∙ sym (ap (λ v. length v.items) c.in_ok-track.ensures.lines))))
+pub add-requires-clause-sized : goal.add-requires-clause-sized
+add-requires-clause-sized c = IsSized-reserved c.args.self.now c.reserve.new.self c.requires c.reserve.ensures.keeps
 
 pub add-requires-clause-few : goal.add-requires-clause-few
 add-requires-clause-few c =
@@ -49,5 +46,5 @@ returns c = λ bodies groups honest is number.
     let place = c.look_up-place.result in
     let at = subst (λ (l : List Shelf). LooksUpLine l h.group place) c.deref.ensures.value c.look_up-place.ensures in (
       with_entry (entry_at h body) groups,
-      IsIndexOf-add bodies groups c.args.self.now c.add.new.self honest h body count c.args.frame place is at (sym c.if-not-fits.ensures) (sym (length-drop h.skip body)) c.in-Some.ensures.entry number (c.add.ensures.lines ∙ ap (λ v. lines_with place h count v.items) c.in_ok-track.ensures.lines) (c.add.ensures.paths ∙ ap (paths_with place (span_of h count c.args.frame)) c.in_ok-track.ensures.tracks.paths) (omega (arith, c.requires.line_memory, ap (λ v. vec_capacity v) c.in_ok-track.ensures.lines, c.add.ensures.line_memory)) (omega (arith, c.requires.track_memory, c.in_ok-track.ensures.memory, c.add.ensures.track_memory)),
+      IsIndexOf-add bodies groups c.args.self.now c.add.new.self honest h body count c.args.frame place is at (sym c.if-not-fits.ensures) (sym (length-drop h.skip body)) c.in-Some.ensures.entry number (c.add.ensures.lines ∙ ap (λ v. lines_with place h count v.items) c.in_ok-track.ensures.keeps.lines) (c.add.ensures.paths ∙ ap (paths_with place (span_of h count c.args.frame)) c.in_ok-track.ensures.keeps.tracks.paths) (omega (arith, c.requires.line_memory, ap (λ v. vec_capacity v) c.in_ok-track.ensures.keeps.lines, c.add.ensures.line_memory)) (omega (arith, c.requires.track_memory, c.in_ok-track.ensures.keeps.memory, c.add.ensures.track_memory)),
     )

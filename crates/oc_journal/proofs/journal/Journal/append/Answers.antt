@@ -1,6 +1,6 @@
 use Rattle.std.proofs.Common.{ℕ, IsTrue, List, [], ◌∷◌, ◌++◌, refl, sym, ◌∙◌, ap, subst, arith, rules}
 use Rattle.oc_journal.specs.JournalView.{JournalView}
-use Rattle.oc_journal.proofs.Spots.{at_spots-same_front, appended-frames, appended-indexed, appended-kept}
+use Rattle.oc_journal.proofs.Extents.{at_extents-same_front, appended-frames, appended-indexed, appended-kept}
 use Rattle.oc_journal.proofs.LoadRuns.{no_error}
 use Rattle.oc_journal.proofs.Shut.{not_both, closed_not_full, closed_not_disk, full_not_closed, full_not_disk, disk_not_closed, AppendsSafely-shut, leaves_before_or_after}
 use Rattle.oc_journal.proofs.journal.Journal.append.Goals as goal
@@ -10,7 +10,7 @@ invariant_of-self-2 g c =
     let v = g.D.Disk.view c.self.inside.disk in
     let w = g.D.Disk.view c.write_frame.new.disk in
     let e = c.in-Ok.ensures in
-    appended-indexed v w c.self.inside.spots.items c.push_reserved.new.self.items c.self.inside.end c.body_len-len.result c.args.frame.now c.self.inside.closed c.self.invariant c.if-self.false c.push_reserved.ensures.items c.body_len-len.ensures.len e.takes.goes_on.honest e.size e.settled e.added e.body e.front _ (omega (arith, c.from-2.ensures))
+    appended-indexed v w c.self.inside.extents.items c.push_reserved.new.self.items c.self.inside.end c.body_len-len.result c.args.frame.now c.self.inside.closed c.self.invariant c.if-self.false c.push_reserved.ensures.items c.body_len-len.ensures.len e.takes.goes_on.honest e.size e.adds.settled e.adds.added e.adds.body_there e.front _ (omega (arith, c.from-2.ensures))
 
 pub returns-clause-appends : goal.returns-clause-appends
 returns-clause-appends g c =
@@ -20,8 +20,8 @@ returns-clause-appends g c =
     let was = ap (λ (j : JournalView g.row.D.Denot). j.frames) c.self.view_is in
     let inside = λ (honest : IsTrue (g.D.Disk.view c.args.self.now.disk).honest). subst (λ (j : JournalView g.row.D.Denot). IsTrue (g.D.Disk.view j.disk).honest) (sym c.self.view_is) honest in
     record {
-      frames = λ honest. appended-frames v w c.self.inside.spots.items c.push_reserved.new.self.items c.self.inside.end c.body_len-len.result c.args.frame.now c.self.inside.closed c.self.invariant c.if-self.false c.push_reserved.ensures.items c.body_len-len.ensures.len e.takes.goes_on.honest e.size e.settled e.added e.body e.front (inside honest) ∙ ap (λ (fs : List (List ℕ)). fs ++ c.args.frame.now ∷ []) was;
-      kept = λ honest. appended-kept v w c.self.inside.spots.items c.push_reserved.new.self.items c.self.inside.end c.body_len-len.result c.args.frame.now c.self.inside.closed c.self.invariant c.if-self.false c.push_reserved.ensures.items c.body_len-len.ensures.len e.takes.goes_on.honest e.size e.settled e.added e.body e.front (inside honest);
+      frames = λ honest. appended-frames v w c.self.inside.extents.items c.push_reserved.new.self.items c.self.inside.end c.body_len-len.result c.args.frame.now c.self.inside.closed c.self.invariant c.if-self.false c.push_reserved.ensures.items c.body_len-len.ensures.len e.takes.goes_on.honest e.size e.adds.settled e.adds.added e.adds.body_there e.front (inside honest) ∙ ap (λ (fs : List (List ℕ)). fs ++ c.args.frame.now ∷ []) was;
+      kept = λ honest. appended-kept v w c.self.inside.extents.items c.push_reserved.new.self.items c.self.inside.end c.body_len-len.result c.args.frame.now c.self.inside.closed c.self.invariant c.if-self.false c.push_reserved.ensures.items c.body_len-len.ensures.len e.takes.goes_on.honest e.size e.adds.settled e.adds.added e.adds.body_there e.front (inside honest);
       end = search rules;
       four = search rules;
       spare = search rules;
@@ -38,7 +38,7 @@ returns-in_default-clause-disk g c = λ _.
     record {
       fails = search rules;
       closes = search rules;
-      frames = λ honest. at_spots-same_front (g.D.Disk.view c.write_frame.new.disk).seen (g.D.Disk.view c.self.inside.disk).seen c.self.inside.spots.items c.self.inside.end (c.write_frame.ensures.front (inside honest)) c.self.invariant.within ∙ was;
+      frames = λ honest. at_extents-same_front (g.D.Disk.view c.write_frame.new.disk).seen (g.D.Disk.view c.self.inside.disk).seen c.self.inside.extents.items c.self.inside.end (c.write_frame.ensures.front (inside honest)) c.self.invariant.within ∙ was;
     }
 
 pub returns-then-self-clause-appends : goal.returns-then-self-clause-appends
@@ -79,7 +79,7 @@ returns-in_default-clause-appends g c = tt
 
 pub returns-in_default-clause-safely : goal.returns-in_default-clause-safely
 returns-in_default-clause-safely g c = rw (← c.self.view_is) (record {
-  any_moment = λ is_open honest. leaves_before_or_after (g.D.Disk.view c.self.inside.disk) (g.D.Disk.view c.write_frame.new.disk) c.self.inside.spots.items c.self.inside.end c.self.inside.closed c.self.invariant is_open honest c.args.frame.now (c.write_frame.ensures.any_moment honest);
+  any_moment = λ is_open honest. leaves_before_or_after (g.D.Disk.view c.self.inside.disk) (g.D.Disk.view c.write_frame.new.disk) c.self.inside.extents.items c.self.inside.end c.self.inside.closed c.self.invariant is_open honest c.args.frame.now (c.write_frame.ensures.any_moment honest);
   takes = c.write_frame.ensures.takes;
 })
 
@@ -94,7 +94,7 @@ returns-in_default-clause-works g c = rw (← c.self.view_is) (λ _ sure. absurd
 
 pub returns-clause-safely : goal.returns-clause-safely
 returns-clause-safely g c = rw (← c.self.view_is) (record {
-  any_moment = λ is_open honest. leaves_before_or_after (g.D.Disk.view c.self.inside.disk) (g.D.Disk.view c.write_frame.new.disk) c.self.inside.spots.items c.self.inside.end c.self.inside.closed c.self.invariant is_open honest c.args.frame.now (c.write_frame.ensures.any_moment honest);
+  any_moment = λ is_open honest. leaves_before_or_after (g.D.Disk.view c.self.inside.disk) (g.D.Disk.view c.write_frame.new.disk) c.self.inside.extents.items c.self.inside.end c.self.inside.closed c.self.invariant is_open honest c.args.frame.now (c.write_frame.ensures.any_moment honest);
   takes = c.write_frame.ensures.takes;
 })
 

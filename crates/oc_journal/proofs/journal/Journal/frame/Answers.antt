@@ -89,10 +89,10 @@ returns-in_err-resize-clause-works g c =
     rw (p.1, p.2) (λ _. refl)
 
 pub invariant_of-self : goal.invariant_of-self
-invariant_of-self g c = IsIndexed-read (g.D.Disk.view c.self.inside.disk) (g.D.Disk.view c.read_at.new.self) c.self.inside.spots.items c.self.inside.end c.self.inside.closed c.self.invariant c.read_at.ensures.stays c.read_at.ensures.size
+invariant_of-self g c = IsIndexed-read (g.D.Disk.view c.self.inside.disk) (g.D.Disk.view c.read_at.new.self) c.self.inside.extents.items c.self.inside.end c.self.inside.closed c.self.invariant c.read_at.ensures.stays c.read_at.ensures.size
 
 pub invariant_of-self-in_default : goal.invariant_of-self-in_default
-invariant_of-self-in_default g c = IsIndexed-closed (g.D.Disk.view c.self.inside.disk) (g.D.Disk.view c.read_at.new.self) c.self.inside.spots.items c.self.inside.end c.self.inside.closed c.self.invariant c.read_at.ensures.stays c.read_at.ensures.size
+invariant_of-self-in_default g c = IsIndexed-closed (g.D.Disk.view c.self.inside.disk) (g.D.Disk.view c.read_at.new.self) c.self.inside.extents.items c.self.inside.end c.self.inside.closed c.self.invariant c.read_at.ensures.stays c.read_at.ensures.size
 
 pub returns-in_default-clause-found : goal.returns-in_default-clause-found
 returns-in_default-clause-found g c = tt
@@ -110,7 +110,7 @@ pub returns-in_default-clause-none_failed : goal.returns-in_default-clause-none_
 returns-in_default-clause-none_failed g c = λ other. absurd (other refl)
 
 pub returns-in_default-clause-same : goal.returns-in_default-clause-same
-returns-in_default-clause-same g c = rw (← c.self.view_is) (OnlyReads-read g.D.Disk.view c.self.inside.disk c.read_at.new.self c.self.inside.spots.items c.read_at.ensures.stays _ _ _ _)
+returns-in_default-clause-same g c = rw (← c.self.view_is) (OnlyReads-read g.D.Disk.view c.self.inside.disk c.read_at.new.self c.self.inside.extents.items c.read_at.ensures.stays _ _ _ _)
 
 pub returns-clause-absent : goal.returns-clause-absent
 returns-clause-absent g c = λ is. absurd cc
@@ -125,7 +125,7 @@ pub returns-clause-none_failed : goal.returns-clause-none_failed
 returns-clause-none_failed g c = rw (← c.self.view_is) (λ _. record { closed = refl; no_fault = c.in-Ok.ensures.no_fault })
 
 pub returns-clause-same : goal.returns-clause-same
-returns-clause-same g c = rw (← c.self.view_is) (OnlyReads-read g.D.Disk.view c.self.inside.disk c.read_at.new.self c.self.inside.spots.items c.read_at.ensures.stays _ _ _ _)
+returns-clause-same g c = rw (← c.self.view_is) (OnlyReads-read g.D.Disk.view c.self.inside.disk c.read_at.new.self c.self.inside.extents.items c.read_at.ensures.stays _ _ _ _)
 
 pub returns-clause-works : goal.returns-clause-works
 returns-clause-works g c = λ _. tt

@@ -1,6 +1,6 @@
 use Rattle.std.proofs.Common.{IsTrue, refl, sym, ◌∙◌, ap, subst, arith, rules}
 use Rattle.oc_journal.specs.JournalView.{JournalView}
-use Rattle.oc_journal.proofs.Spots.{at_spots-same_back, IsIndexed-none}
+use Rattle.oc_journal.proofs.Extents.{at_extents-same_back, IsIndexed-none}
 use Rattle.oc_journal.proofs.LoadRuns.{no_error}
 use Rattle.oc_journal.proofs.Shut.{not_both, shut_not_failed, failed_not_shut, RestartsSafely-shut, leaves_all_or_none}
 use Rattle.oc_journal.proofs.journal.Journal.restart.Goals as goal
@@ -8,7 +8,7 @@ use Rattle.oc_journal.proofs.journal.Journal.restart.Goals as goal
 pub invariant_of-self-2 : goal.invariant_of-self-2
 invariant_of-self-2 g c =
     let e = c.in-Ok.ensures in
-    IsIndexed-none (g.D.Disk.view c.self.inside.disk) (g.D.Disk.view c.close_first_gate.new.disk) c.clear.new.self.items c.self.inside.end c.self.inside.closed c.clear.ensures.items e.takes.goes_on.honest c.self.invariant.start c.self.invariant.size e.no_smaller e.settled e.none
+    IsIndexed-none (g.D.Disk.view c.self.inside.disk) (g.D.Disk.view c.close_first_gate.new.disk) c.clear.new.self.items c.self.inside.end c.self.inside.closed c.clear.ensures.items e.takes.goes_on.honest c.self.invariant.start c.self.invariant.size e.no_smaller e.clears.settled e.clears.none
 
 -- the gate may be closed: the bodies after it are the same
 pub returns-in_default-clause-disk : goal.returns-in_default-clause-disk
@@ -18,7 +18,7 @@ returns-in_default-clause-disk g c = λ _.
     record {
       fails = search rules;
       closes = search rules;
-      frames = λ honest. at_spots-same_back (g.D.Disk.view c.close_first_gate.new.disk).seen (g.D.Disk.view c.self.inside.disk).seen c.self.inside.spots.items c.self.inside.end (c.close_first_gate.ensures.behind (inside honest)) c.self.invariant.within ∙ was;
+      frames = λ honest. at_extents-same_back (g.D.Disk.view c.close_first_gate.new.disk).seen (g.D.Disk.view c.self.inside.disk).seen c.self.inside.extents.items c.self.inside.end (c.close_first_gate.ensures.behind (inside honest)) c.self.invariant.within ∙ was;
     }
 
 pub returns-then-self-clause-restarts : goal.returns-then-self-clause-restarts
@@ -56,7 +56,7 @@ returns-in_default-clause-restarts g c = tt
 
 pub returns-in_default-clause-safely : goal.returns-in_default-clause-safely
 returns-in_default-clause-safely g c = rw (← c.self.view_is) (record {
-  any_moment = λ is_open honest. leaves_all_or_none (g.D.Disk.view c.self.inside.disk) (g.D.Disk.view c.close_first_gate.new.disk) c.self.inside.spots.items c.self.inside.end c.self.inside.closed c.self.invariant is_open honest (c.close_first_gate.ensures.any_moment honest);
+  any_moment = λ is_open honest. leaves_all_or_none (g.D.Disk.view c.self.inside.disk) (g.D.Disk.view c.close_first_gate.new.disk) c.self.inside.extents.items c.self.inside.end c.self.inside.closed c.self.invariant is_open honest (c.close_first_gate.ensures.any_moment honest);
   takes = c.close_first_gate.ensures.takes;
   spare = omega arith;
 })
@@ -84,7 +84,7 @@ returns-clause-works g c = λ _ _. refl
 
 pub returns-clause-safely : goal.returns-clause-safely
 returns-clause-safely g c = rw (← c.self.view_is) (record {
-  any_moment = λ is_open honest. leaves_all_or_none (g.D.Disk.view c.self.inside.disk) (g.D.Disk.view c.close_first_gate.new.disk) c.self.inside.spots.items c.self.inside.end c.self.inside.closed c.self.invariant is_open honest (c.close_first_gate.ensures.any_moment honest);
+  any_moment = λ is_open honest. leaves_all_or_none (g.D.Disk.view c.self.inside.disk) (g.D.Disk.view c.close_first_gate.new.disk) c.self.inside.extents.items c.self.inside.end c.self.inside.closed c.self.invariant is_open honest (c.close_first_gate.ensures.any_moment honest);
   takes = c.close_first_gate.ensures.takes;
   spare = search rules;
 })

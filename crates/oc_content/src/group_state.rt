@@ -1,13 +1,13 @@
-//! What of bytes that are put goes into an entry.
+//! What is known of a group before bytes are put to it, and what of them is new to it.
 
 ghost use Rattle.std.specs.Prelude.{◌≡◌, None, Some, ℕ, drop};
-ghost use Rattle.oc_content.specs.Standings.{standing};
+ghost use Rattle.oc_content.specs.GroupStates.{group_state};
 
 use oc_base::{MAX_GROUPS, Shelf};
 
 /// What is known of a group: an absent one counts as empty.
 #[derive(Clone, Copy)]
-pub struct Standing {
+pub struct GroupState {
     /// Bytes held.
     pub held: u64,
     pub sealed: bool,
@@ -15,12 +15,12 @@ pub struct Standing {
     pub one_too_many: bool,
 }
 
-impl Standing {
+impl GroupState {
     /// What is known of the group of a line.
-    pub fn of_line(shelf: &Shelf) -> Standing
-        ensures { (groups : ℕ) → result ≡ standing (Some shelf.now) groups }
+    pub fn of_line(shelf: &Shelf) -> GroupState
+        ensures { (groups : ℕ) → result ≡ group_state (Some shelf.now) groups }
     {
-        Standing {
+        GroupState {
             held: shelf.held,
             sealed: shelf.sealed,
             one_too_many: false,
@@ -28,10 +28,10 @@ impl Standing {
     }
 
     /// What is known of an absent group, where there are `groups` others.
-    pub fn absent(groups: usize) -> Standing
-        ensures { result ≡ standing None groups }
+    pub fn absent(groups: usize) -> GroupState
+        ensures { result ≡ group_state None groups }
     {
-        Standing {
+        GroupState {
             held: 0,
             sealed: false,
             one_too_many: groups >= MAX_GROUPS,
@@ -39,7 +39,7 @@ impl Standing {
     }
 }
 
-/// The bytes past those that are held.
+/// The bytes behind the first `held_of_them`, which are held already.
 pub fn past(bytes: &[u8], held_of_them: u64) -> &[u8]
     ensures { result.now ≡ drop held_of_them bytes.now }
 {

@@ -1,6 +1,6 @@
 use Rattle.std.proofs.Common.{◌-◌, ◌∙◌, ap, length, drop, arith, length-drop}
 use Rattle.std.proofs.lemmas.List.{take_all, drop_min}
-use Rattle.oc_content.proofs.entry_putting.past.Goals as goal
+use Rattle.oc_content.proofs.group_state.past.Goals as goal
 
 pub returns : goal.returns
 returns c =

@@ -6,7 +6,6 @@ ghost use Rattle.oc_fetch.specs.declared.address.UrlFault.TheVariants.{Bad};
 ghost use Rattle.url.specs.Parser.{Gives, Parsed};
 ghost use Rattle.url.specs.Parts.{Parts, has_credentials};
 
-use crate::is_http;
 use std::alloc::Global;
 use std::str;
 use url::{ParseError, ParseResult, Url};
@@ -56,12 +55,12 @@ fn checked(read: ParseResult<Url>) -> Result<Url, UrlFault>
 fn can_be_asked(url: &Url) -> bool
     ensures { result ≡ is_good url.now }
 {
-    is_http(url.scheme()) && url.has_host() && !has_credentials(url)
+    url.scheme() == "http" && url.has_host() && !has_credentials(url)
 }
 
 /// Whether there is a user or a password.
 fn has_credentials(url: &Url) -> bool
     ensures { result ≡ has_credentials url.now }
 {
-    crate::has_credentials(url.username(), url.password().is_some())
+    !url.username().is_empty() || url.password().is_some()
 }

@@ -8,7 +8,6 @@ ghost use Rattle.oc_io.specs.Faults.{NoFall, Rose};
 use crate::chunks::pass_chunked;
 use crate::end::GetEnd;
 use crate::extent::{Extent, MAX_OPEN_BYTES};
-use crate::left_after;
 use crate::room::Room;
 use oc_io::{Sink, Source, write_all};
 use std::alloc::Global;
@@ -58,10 +57,10 @@ fn pass_counted<S: Source, K: Sink>(
     'pieces: while left > 0 {
         let most = left.min(buffer.len() as u64) as usize;
         let moved = move_piece(source, sink, &mut buffer[..most])?;
-        let Some(rest) = left_after(left, moved) else {
+        if moved == 0 {
             return Err(GetEnd::Reply);
-        };
-        left = rest;
+        }
+        left -= moved as u64;
     }
     Ok(())
 }

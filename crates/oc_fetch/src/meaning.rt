@@ -4,7 +4,7 @@ ghost use Rattle.oc_fetch.specs.Meanings.{IsMeant};
 
 /// What the status of a reply means to a client.
 #[derive(Clone, Copy, Debug, PartialEq, Eq)]
-pub enum Meaning {
+pub(crate) enum Meaning {
     /// The reply brings a content.
     Content,
     /// The reply sends the client to another URL.
@@ -14,7 +14,7 @@ pub enum Meaning {
 }
 
 /// What a status means: 200 brings a content, 302 sends elsewhere, and each other refuses.
-pub fn meaning_of(status: u16) -> Meaning
+pub(crate) fn meaning_of(status: u16) -> Meaning
     ensures { IsMeant result status }
 {
     match status {

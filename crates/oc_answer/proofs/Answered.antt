@@ -2,8 +2,8 @@
 use Rattle.std.proofs.Common.{◌≡◌, ◌≤◌, ℕ, ◌-◌, true, false, Bool, Some, None, Option, List, length, refl, sym, ap, subst, ◌∙◌}
 use Rattle.oc_base.specs.Groups.{bytes_of, shelf}
 use Rattle.oc_base.specs.declared.group.Group.{Group}
-use Rattle.oc_http.specs.declared.framing.Connection.{Connection}
-use Rattle.oc_http.specs.declared.framing.Connection.TheVariants.{Close}
+use Rattle.oc_http.specs.declared.framing.Persistence.{Persistence}
+use Rattle.oc_http.specs.declared.framing.Persistence.TheVariants.{Close}
 use Rattle.oc_keep.specs.KeptView.{IsHonest, KeptView, disks_of, node_of}
 use Rattle.oc_keep.proofs.Stays.{all_honest}
 use Rattle.oc_model.specs.declared.answer.Answer.{Answer}
@@ -101,7 +101,7 @@ fits_step (asks.Client g area start manner) i n addresses last belongs =
     (client_fits (step n (inputs.Client area start g)).answer manner g area start (is_sealed (asks.Client g area start manner) (shelf (step n (inputs.Client area start g)).node.groups)) addresses last (step n (inputs.Client area start g)).node.groups
     (λ count is. serves_held n area start count g is))
 
-replied_with : (addresses : List (List ℕ)) (asked : Asks) (last said : Bool) (kept : Connection) (n : Node) (i : Input) (groups : List Group) (answer : Answer) (reply : Option Message) (a b : Option Story)
+replied_with : (addresses : List (List ℕ)) (asked : Asks) (last said : Bool) (kept : Persistence) (n : Node) (i : Input) (groups : List Group) (answer : Answer) (reply : Option Message) (a b : Option Story)
     → groups ≡ (step n i).node.groups → answer ≡ (step n i).answer → reply ≡ back_to_sender i (step n i).sends → Belongs asked i
     → SaysResponse asked (response_to asked answer reply (is_sealed asked (shelf groups)) addresses last) said kept groups a b
     → RepliesTo addresses asked last i said kept n a b
@@ -114,7 +114,7 @@ replied_with addresses asked last said kept n i groups answer reply a b same ans
     subst (λ (m : Option Message). SaysResponse asked (response_to asked (step n i).answer m (is_sealed asked (shelf (step n i).node.groups)) addresses last) said kept (step n i).node.groups a b) back two in
     three (fits_step asked i n addresses last belongs)
 
-pub replied_to : {D : Type 0} (view : D → DiskView) (k0 k1 : KeptView D) (i : Input) (outcome : OutcomeView) (addresses : List (List ℕ)) (asked : Asks) (last said : Bool) (kept : Connection) (answer : Answer) (reply : Option Message) (a b : Option Story)
+pub replied_to : {D : Type 0} (view : D → DiskView) (k0 k1 : KeptView D) (i : Input) (outcome : OutcomeView) (addresses : List (List ℕ)) (asked : Asks) (last said : Bool) (kept : Persistence) (answer : Answer) (reply : Option Message) (a b : Option Story)
     → (IsHonest view k1 → Responds addresses asked last answer reply (node_of k1).groups said kept a b)
     → KeepsOne view i outcome k0 k1 → answer ≡ outcome.answer → reply ≡ sent_back (sender_of i) outcome.sends → Belongs asked i → IsHonest view k0
     → RepliesTo addresses asked last i said kept (node_of k0) a b

@@ -1,8 +1,8 @@
 -- The requests of a connection, one after the other.
 use Rattle.std.proofs.Common.{◌≡◌, ◌<◌, ℕ, ◌+◌, false, true, not, ◌||◌, Bool, Some, None, Ok, Err, Option, Result, List, [], ◌∷◌, ◌++◌, length, inl, inr, refl, sym, ap, subst, ◌∙◌, arith}
 use Rattle.oc_http.specs.Taking.{SaysRequest}
-use Rattle.oc_http.specs.declared.framing.Connection.{Connection}
-use Rattle.oc_http.specs.declared.framing.Connection.TheVariants.{Close, Keep}
+use Rattle.oc_http.specs.declared.framing.Persistence.{Persistence}
+use Rattle.oc_http.specs.declared.framing.Persistence.TheVariants.{Close, Keep}
 use Rattle.oc_http.specs.declared.head.Head.{Head}
 use Rattle.oc_keep.specs.KeptView.{IsHonest, KeptView, disks_of, node_of}
 use Rattle.oc_keep.specs.Promises.{IsSameNode}
@@ -79,7 +79,7 @@ reads_as me nodes me2 nodes2 number rules rules2 r r2 a b p q s t reads =
 -- One request
 
 -- a request that was read, and what it is answered
-pub serves_read : (t : Terms) (addresses : List (List ℕ)) (number : ℕ) (request : Request) (d : Deed) (kept : Connection) (n : Node) (a b c : Option Story)
+pub serves_read : (t : Terms) (addresses : List (List ℕ)) (number : ℕ) (request : Request) (d : Deed) (kept : Persistence) (n : Node) (a b c : Option Story)
     → HearsRequest t number request.asks (input_in request.entry) request.last a b → Replies addresses request d kept n b c → Serves t addresses number d kept n a c
 serves_read t addresses number request (deeds.Answers i failed) kept n a b c heard (is, said) = record {
   asked = request.asks;
@@ -239,7 +239,7 @@ sixteenth : (closes : Bool) (last : Bool) → last ≡ (closes || true) → last
 sixteenth true last e = e
 sixteenth false last e = e
 
-closed_off : (said : Bool) (text : List ℕ) (wanted : Connection) (a b : Option Story) → wanted ≡ Close → IsSaid said text wanted Keep a b → ⊥
+closed_off : (said : Bool) (text : List ℕ) (wanted : Persistence) (a b : Option Story) → wanted ≡ Close → IsSaid said text wanted Keep a b → ⊥
 closed_off true text wanted a b closes (went, kept) = let e : Keep ≡ Close = kept ∙ closes in cc
 closed_off false text wanted a b closes (went, kept) = cc
 
@@ -294,7 +294,7 @@ terms_stay a b rules same =
 
 module _ {D K : Type 0} (view : D → DiskView) (takes fails : K → List ℕ → K → Type 0) (count : K → ℕ) where
   -- what is said of a request by the node after some deeds
-  pub serves_then : (rules : List Rule) (addresses : List (List ℕ)) (number : ℕ) (ds : List Deed) (d : Deed) (kept : Connection) (a b : Scene D K) (st st2 : Option Story) → Did view takes count [] ds a b → IsHonest view a.kept
+  pub serves_then : (rules : List Rule) (addresses : List (List ℕ)) (number : ℕ) (ds : List Deed) (d : Deed) (kept : Persistence) (a b : Scene D K) (st st2 : Option Story) → Did view takes count [] ds a b → IsHonest view a.kept
       → (IsHonest view b.kept → Serves (terms b.kept rules) addresses number d kept (node_of b.kept) st st2)
       → Serves (terms a.kept rules) addresses number d kept (after_inputs (node_of a.kept) (inputs_of ds)) st st2
   serves_then rules addresses number ds d kept a b st st2 did honest serves =

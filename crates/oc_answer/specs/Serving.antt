@@ -6,8 +6,8 @@ use Rattle.std.specs.Str.{bytes_eq}
 use Rattle.oc_base.specs.Groups.{bytes_of, shelf}
 use Rattle.oc_base.specs.declared.shelf.Shelf.{Shelf}
 use Rattle.oc_base.specs.declared.group.Group.{Group}
-use Rattle.oc_http.specs.declared.framing.Connection.{Connection}
-use Rattle.oc_http.specs.declared.framing.Connection.TheVariants.{Close, Keep}
+use Rattle.oc_http.specs.declared.framing.Persistence.{Persistence}
+use Rattle.oc_http.specs.declared.framing.Persistence.TheVariants.{Close, Keep}
 use Rattle.oc_keep.specs.KeptView.{KeptView}
 use Rattle.oc_keep.specs.Trials.{after_inputs}
 use Rattle.oc_model.specs.declared.answer.Answer.{Answer}
@@ -93,21 +93,21 @@ whole_text asked response groups = response.text ++ content_text asked response.
 -- Requests
 
 -- the text was written, and what becomes of the connection is what the response says; or a prefix of it, and the connection ends
-abbrev pub IsSaid : Bool → List ℕ → Connection → Connection → Option Story → Option Story → Type 0
+abbrev pub IsSaid : Bool → List ℕ → Persistence → Persistence → Option Story → Option Story → Type 0
 IsSaid true text wanted kept old new = SaysOn true text old new × (kept ≡ wanted)
 IsSaid false text wanted kept old new = SaysOn false text old new × (kept ≡ Close)
 
 -- a response was written with its content
-abbrev pub SaysResponse : Asks → Response → Bool → Connection → List Group → Option Story → Option Story → Type 0
+abbrev pub SaysResponse : Asks → Response → Bool → Persistence → List Group → Option Story → Option Story → Type 0
 SaysResponse asked response said kept groups old new =
     Fits asked response.content groups → IsSaid said (whole_text asked response groups) response.connection kept old new
 
 -- the response to this answer of a step, and to this message that goes back to a sender, was written with its content
-pub record Responds (addresses : List (List ℕ)) (asked : Asks) (last : Bool) (answer : Answer) (reply : Option Message) (groups : List Group) (said : Bool) (kept : Connection) (old new : Option Story) : Type 0 where
+pub record Responds (addresses : List (List ℕ)) (asked : Asks) (last : Bool) (answer : Answer) (reply : Option Message) (groups : List Group) (said : Bool) (kept : Persistence) (old new : Option Story) : Type 0 where
   pub says : SaysResponse asked (response_to asked answer reply (is_sealed asked (shelf groups)) addresses last) said kept groups old new
 
 -- the input of a request is answered by the text of its step's outcome
-abbrev pub RepliesTo : List (List ℕ) → Asks → Bool → Input → Bool → Connection → Node → Option Story → Option Story → Type 0
+abbrev pub RepliesTo : List (List ℕ) → Asks → Bool → Input → Bool → Persistence → Node → Option Story → Option Story → Type 0
 RepliesTo addresses asked last i said kept n old new =
     IsSaid said (whole_text asked (response_for addresses asked last i n) (step n i).node.groups) (response_for addresses asked last i n).connection kept old new
 
@@ -116,7 +116,7 @@ abbrev pub shown : List (List ℕ) → Asks → Bool → Response
 shown addresses asked last = response_to asked answers.Ok None false addresses last
 
 -- the input of a request was heard, and is answered so
-pub record IsAnswered (t : Terms) (addresses : List (List ℕ)) (number : ℕ) (i : Input) (said : Bool) (kept : Connection) (n : Node) (old new : Option Story) : Type 0 where
+pub record IsAnswered (t : Terms) (addresses : List (List ℕ)) (number : ℕ) (i : Input) (said : Bool) (kept : Persistence) (n : Node) (old new : Option Story) : Type 0 where
   pub asked : Asks
   pub last : Bool
   pub between : Option Story
@@ -124,7 +124,7 @@ pub record IsAnswered (t : Terms) (addresses : List (List ℕ)) (number : ℕ) (
   pub answered : RepliesTo addresses asked last i said kept n between new
 
 -- a request that is no input was heard, and is answered
-pub record IsShown (t : Terms) (addresses : List (List ℕ)) (number : ℕ) (kept : Connection) (old new : Option Story) : Type 0 where
+pub record IsShown (t : Terms) (addresses : List (List ℕ)) (number : ℕ) (kept : Persistence) (old new : Option Story) : Type 0 where
   pub asked : Asks
   pub last : Bool
   pub between : Option Story
@@ -138,7 +138,7 @@ SaysRefusal None old new = new ≡ old
 SaysRefusal (Some text) old new = (said : Bool) × SaysOn said text old new
 
 -- a request is refused, which ends the connection
-pub record IsTurnedAway (t : Terms) (number : ℕ) (why : List ℕ) (kept : Connection) (old new : Option Story) : Type 0 where
+pub record IsTurnedAway (t : Terms) (number : ℕ) (why : List ℕ) (kept : Persistence) (old new : Option Story) : Type 0 where
   pub refused : Refused
   pub between : Option Story
   pub is_refused : IsRefused t number refused old between
@@ -147,14 +147,14 @@ pub record IsTurnedAway (t : Terms) (number : ℕ) (why : List ℕ) (kept : Conn
   pub ends : kept ≡ Close
 
 -- what the deed of the request of this number is on its connection
-abbrev pub Serves : Terms → List (List ℕ) → ℕ → Deed → Connection → Node → Option Story → Option Story → Type 0
+abbrev pub Serves : Terms → List (List ℕ) → ℕ → Deed → Persistence → Node → Option Story → Option Story → Type 0
 Serves t addresses number (Answers i failed) kept n old new = IsAnswered t addresses number i (not failed) kept n old new
 Serves t addresses number (Notes why) kept n old new = IsTurnedAway t number why kept old new
 Serves t addresses number Talks kept n old new = IsShown t addresses number kept old new ⊎ (EndsBefore number old new × (kept ≡ Close))
 Serves t addresses number d kept n old new = ⊥
 
 -- what the deed of a request that was read is on its connection
-abbrev pub Replies : List (List ℕ) → Request → Deed → Connection → Node → Option Story → Option Story → Type 0
+abbrev pub Replies : List (List ℕ) → Request → Deed → Persistence → Node → Option Story → Option Story → Type 0
 Replies addresses request (Answers i failed) kept n old new =
     (input_in request.entry ≡ Some i) × RepliesTo addresses request.asks request.last i (not failed) kept n old new
 Replies addresses request Talks kept n old new =

@@ -21,7 +21,7 @@ use crate::replying::{say, send_response};
 use crate::requests::{Request, read_request};
 use oc_base::{GroupName, NodeId, Shelf};
 use oc_config::Config;
-use oc_http::{Connection, HeadReader};
+use oc_http::{Persistence, HeadReader};
 use oc_io::{Disk, Sink};
 use oc_keep::Kept;
 use oc_link::Link;
@@ -42,7 +42,7 @@ pub(crate) fn serve_request<D: Disk, L: Link, K: Sink>(
     link: &mut L,
     sink: &mut K,
     number: u64,
-) -> Result<Connection, TurnEnd>
+) -> Result<Persistence, TurnEnd>
     requires open { kept.old.closed ≡ false }
     requires rules { length config.now.rules ≤ MOST_RULES }
     ensures did { IfOk result (λ connection. (deed : Deed) × IsRequest deed × ((addresses : List (List ℕ)) (seconds millis : Series)
@@ -64,7 +64,7 @@ pub(crate) fn serve_request<D: Disk, L: Link, K: Sink>(
     let (me, nodes) = (node.id(), node.nodes());
     match read_request(alloc, reader, me, nodes, &config.rules, link, number) {
         Ok(Some(request)) => answer(alloc, kept, outbox, config, link, sink, request),
-        Ok(None) => Ok(Connection::Close),
+        Ok(None) => Ok(Persistence::Close),
         Err(RouteFault::Refused(refused)) => refuse(alloc, link, sink, refused),
         Err(RouteFault::Memory) => Err(TurnEnd::Memory),
     }
@@ -76,9 +76,9 @@ fn refuse<L: Link, K: Sink>(
     link: &mut L,
     sink: &mut K,
     refused: Refused,
-) -> Result<Connection, TurnEnd>
+) -> Result<Persistence, TurnEnd>
     ensures refused { IfOk result (λ connection. NotesOne K.takes K.faults (why_text refused) sink.old sink.new
-        × SaysRefusal (refusal_text refused) (L.story link.old) (L.story link.new) × (connection ≡ Connection.Close)) }
+        × SaysRefusal (refusal_text refused) (L.story link.old) (L.story link.new) × (connection ≡ Persistence.Close)) }
     ensures stops { IfErr result (λ end. NoteStops K.takes K.fails K.faults end (why_text refused) sink.old sink.new) }
     // Nothing is written before the line.
     ensures silent { OnErr result (L.story link.new ≡ L.story link.old) }
@@ -89,7 +89,7 @@ fn refuse<L: Link, K: Sink>(
     put_refusal_line(&mut line, refused)?;
     write_line(sink, &line)?;
     say_any(link, reply);
-    Ok(Connection::Close)
+    Ok(Persistence::Close)
 }
 
 /// Writes the reply to a refused request, where it has one.
@@ -111,7 +111,7 @@ fn answer<D: Disk, L: Link, K: Sink>(
     link: &mut L,
     sink: &mut K,
     request: Request,
-) -> Result<Connection, TurnEnd>
+) -> Result<Persistence, TurnEnd>
     requires open { kept.old.closed ≡ false }
     requires request { IsLawfulRequest kept.old.node.control.nodes kept.old.node.control.me request }
     ensures did { IfOk result (λ connection. (deed : Deed) × IsRequest deed × ((addresses : List (List ℕ)) (seconds millis : Series)
@@ -143,7 +143,7 @@ fn show<L: Link>(
     link: &mut L,
     asks: &Asks,
     last: bool,
-) -> Result<Connection, TurnEnd>
+) -> Result<Persistence, TurnEnd>
     requires { IsAsked asks.now }
     ensures said { IfOk result (λ connection. (said : Bool) × IsSaid said (shown config.now.addresses asks.now last).text
         (shown config.now.addresses asks.now last).connection connection (L.story link.old) (L.story link.new)) }
@@ -163,7 +163,7 @@ fn show<L: Link>(
     if say(link, response.text.items()) {
         return Ok(response.connection);
     }
-    Ok(Connection::Close)
+    Ok(Persistence::Close)
 }
 
 /// Takes the input of a request, and then answers it.
@@ -178,7 +178,7 @@ fn answer_input<D: Disk, L: Link, K: Sink>(
     asks: &Asks,
     entry: Entry,
     last: bool,
-) -> Result<Connection, TurnEnd>
+) -> Result<Persistence, TurnEnd>
     requires open { kept.old.closed ≡ false }
     requires asks { IsAsked asks.now }
     requires entry { IsEntry kept.old.node.control.nodes kept.old.node.control.me entry }
@@ -217,7 +217,7 @@ fn reply_to<D: Disk, L: Link, K: Sink>(
     answer: Answer,
     reply: Option<Message>,
     last: bool,
-) -> Result<Connection, TurnEnd>
+) -> Result<Persistence, TurnEnd>
     requires open { kept.old.closed ≡ false }
     requires asks { IsAsked asks.now }
     requires text { ForSome reply (λ message. HasSpelling message.body) }
@@ -248,7 +248,7 @@ fn reply_to<D: Disk, L: Link, K: Sink>(
     // While no disk failed, the node is what the files recover.
     let _node = kept.node();
     write_failed_line(sink)?;
-    Ok(Connection::Close)
+    Ok(Persistence::Close)
 }
 
 /// The sender of a message that came.

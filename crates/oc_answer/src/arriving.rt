@@ -12,7 +12,7 @@ ghost use Rattle.oc_turn.specs.Scenes.{Did, EndsStill, scene};
 
 use crate::answering::serve_request;
 use oc_config::Config;
-use oc_http::{Connection, HeadReader};
+use oc_http::{Persistence, HeadReader};
 use oc_io::{Disk, Sink};
 use oc_keep::Kept;
 use oc_link::Link;
@@ -82,8 +82,8 @@ fn serve_requests<D: Disk, L: Link, K: Sink>(
     'requests: for served in 0..MAX_REQUESTS {
         let next = serve_request(alloc, reader, kept, outbox, config, link, sink, served + 1)?;
         match next {
-            Connection::Keep => {}
-            Connection::Close => return Ok(()),
+            Persistence::Keep => {}
+            Persistence::Close => return Ok(()),
         }
     }
     Ok(())

@@ -7,8 +7,8 @@ use Rattle.httparse.specs.Ascii.{crlf_bytes}
 use Rattle.httparse.specs.Grammar.{Field, LineEnd}
 use Rattle.oc_base.specs.declared.limits.TheConstants.{MAX_FIELDS}
 use Rattle.oc_chunked.specs.declared.fault.ChunkFault.TheVariants.{Bad, Long}
-use Rattle.oc_chunked.specs.declared.limits.TheConstants.{MAX_CHUNK_SIZE, MAX_CLOSING_BYTES}
-use Rattle.oc_chunked.specs.Stages.{Stage, in_chunk, in_closing, ended, refused, is_final}
+use Rattle.oc_chunked.specs.declared.limits.TheConstants.{MAX_CHUNK_SIZE, MAX_TRAILER_BYTES}
+use Rattle.oc_chunked.specs.Stages.{Stage, in_chunk, in_trailer, ended, refused, is_final}
 use Rattle.oc_chunked.specs.Unfinished.{ReadsFields}
 use Rattle.oc_chunked.proofs.Forms.{fields_form}
 use Rattle.oc_chunked.proofs.Fronts.{same_front}
@@ -158,16 +158,16 @@ whole_not_body size bytes rest v x c s long e (inr broken) comparable =
           broken.other (is ∙ sym (ap (λ (n : ℕ). slice_index crlf_bytes (2 - n)) two))
     ]
 
--- the stage after closing fields that were collected so far
+-- the stage after trailer fields that were collected so far
 abbrev pub stage_behind : List ℕ → Outcome (List Field × LineEnd) → Stage
-stage_behind v unended = in_closing v
+stage_behind v unended = in_trailer v
 stage_behind v hopeless = refused Bad
 stage_behind v too_long = refused Long
 stage_behind v (whole fields) = if nat_le (length fields.0) MAX_FIELDS then ended else refused Bad
 
-pub record IsClosingBody (v c : List ℕ) (s : Stage) : Type 0 where
+pub record IsTrailerBody (v c : List ℕ) (s : Stage) : Type 0 where
   pub outcome : Outcome (List Field × LineEnd)
-  pub collects : Collects ReadsFields MAX_CLOSING_BYTES v outcome
+  pub collects : Collects ReadsFields MAX_TRAILER_BYTES v outcome
   pub content : c ≡ []
   pub stage : s ≡ stage_behind v outcome
 
@@ -182,9 +182,9 @@ comparable_outcome : (v x : List ℕ) (s : Stage) (o : Outcome (List Field × Li
 comparable_outcome v x s o is (inl none) = inl none
 comparable_outcome v x s o is (inr final) = inr (last_of_final v o (ap is_final (sym is) ∙ final))
 
-pub closing_once : (v x c d : List ℕ) (s t : Stage) → IsClosingBody v c s → IsClosingBody (v ++ x) d t → IsComparable x s → Agrees x s t c d
-closing_once v x c d s t first second comparable =
-    let one = collects_once fields_form MAX_CLOSING_BYTES v x first.outcome second.outcome first.collects second.collects (comparable_outcome v x s first.outcome first.stage comparable) in
+pub trailer_once : (v x c d : List ℕ) (s t : Stage) → IsTrailerBody v c s → IsTrailerBody (v ++ x) d t → IsComparable x s → Agrees x s t c d
+trailer_once v x c d s t first second comparable =
+    let one = collects_once fields_form MAX_TRAILER_BYTES v x first.outcome second.outcome first.collects second.collects (comparable_outcome v x s first.outcome first.stage comparable) in
     let same : v ≡ v ++ x = sym (append-nil v) ∙ ap (λ (z : List ℕ). v ++ z) (sym one.none) in
     record {
       none = one.none;
@@ -200,7 +200,7 @@ pub record IsGreatBody (v c : List ℕ) (s : Stage) : Type 0 where
 
 -- what follows a size line that says this size
 pub data IsBody (size : ℕ) (v c : List ℕ) (s : Stage) : Type 0 where
-  closing : size ≡ 0 → IsClosingBody v c s → IsBody size v c s
+  trailer : size ≡ 0 → IsTrailerBody v c s → IsBody size v c s
   chunk : 0 < size → size ≤ MAX_CHUNK_SIZE → IsChunkBody size v c s → IsBody size v c s
   great : MAX_CHUNK_SIZE < size → IsGreatBody v c s → IsBody size v c s
 
@@ -212,12 +212,12 @@ great_once v x c d s t first second = record {
 }
 
 pub body_once : (size : ℕ) (v x c d : List ℕ) (s t : Stage) → IsBody size v c s → IsBody size (v ++ x) d t → IsComparable x s → Agrees x s t c d
-body_once size v x c d s t (closing n a) (closing m b) comparable = closing_once v x c d s t a b comparable
-body_once size v x c d s t (closing n a) (chunk m l b) comparable = absurd (omega (arith, n, m))
-body_once size v x c d s t (closing n a) (great m b) comparable = absurd (omega (arith, n, m))
-body_once size v x c d s t (chunk n l a) (closing m b) comparable = absurd (omega (arith, n, m))
+body_once size v x c d s t (trailer n a) (trailer m b) comparable = trailer_once v x c d s t a b comparable
+body_once size v x c d s t (trailer n a) (chunk m l b) comparable = absurd (omega (arith, n, m))
+body_once size v x c d s t (trailer n a) (great m b) comparable = absurd (omega (arith, n, m))
+body_once size v x c d s t (chunk n l a) (trailer m b) comparable = absurd (omega (arith, n, m))
 body_once size v x c d s t (chunk n l a) (chunk m k b) comparable = chunk_once size v x c d s t a b comparable
 body_once size v x c d s t (chunk n l a) (great m b) comparable = absurd (omega (arith, l, m))
-body_once size v x c d s t (great n a) (closing m b) comparable = absurd (omega (arith, n, m))
+body_once size v x c d s t (great n a) (trailer m b) comparable = absurd (omega (arith, n, m))
 body_once size v x c d s t (great n a) (chunk m k b) comparable = absurd (omega (arith, n, k))
 body_once size v x c d s t (great n a) (great m b) comparable = great_once v x c d s t a b

@@ -1,4 +1,4 @@
--- How many closing fields there are.
+-- How many trailer fields there are.
 use Rattle.std.proofs.Common.{◌≡◌, ◌≢◌, ℕ, ◌*◌, ◌<◌, ◌≤◌, List, [], ◌∷◌, ◌++◌, length, take, refl, sym, ap, ◌∙◌, arith, length-append}
 use Rattle.std.specs.Prelude.{All}
 use Rattle.std.specs.List.{AllByRecursion, flat_map}
@@ -9,7 +9,7 @@ use Rattle.httparse.specs.declared.Error.TheVariants as errors
 use Rattle.httparse.specs.declared.spans.HeaderSpan.{HeaderSpan}
 use Rattle.httparse.specs.Grammar.{LineEnd, crlf, lf, print_end, Field, IsField, print_field, print_section, NeverHasSection}
 use Rattle.httparse.specs.Spans.{SectionExceeds, AreFieldsAt, header_bytes, name_and_value}
-use Rattle.oc_chunked.specs.declared.limits.TheConstants.{FIELD_ROOM, MAX_CLOSING_BYTES}
+use Rattle.oc_chunked.specs.declared.limits.TheConstants.{FIELD_ROOM, MAX_TRAILER_BYTES}
 
 -- the end of a line is a byte at least
 long_end : (end : LineEnd) → 1 ≤ length (print_end end)
@@ -37,13 +37,13 @@ few_fields fields last all =
     omega (arith, length-append (flat_map print_field fields) (print_end last))
 
 -- not too many bytes have no more fields than there is room for
-fields_fit : (bytes : List ℕ) (room : ℕ) → FIELD_ROOM ≤ room → length bytes ≤ MAX_CLOSING_BYTES → SectionExceeds room bytes → ⊥
+fields_fit : (bytes : List ℕ) (room : ℕ) → FIELD_ROOM ≤ room → length bytes ≤ MAX_TRAILER_BYTES → SectionExceeds room bytes → ⊥
 fields_fit bytes room enough short found =
     let few = few_fields found.3 lf found.4.0 in
     omega (arith, few, found.5, ap length found.2, length-append found.0 found.1, ap length found.4.1, length-append found.0 (print_end lf), length-append (print_section found.3 lf) [])
 
 -- each error but one says that there can be no fields, and that one cannot be
-pub never_fields : (bytes : List ℕ) (room : ℕ) (error : Error) → FIELD_ROOM ≤ room → length bytes ≤ MAX_CLOSING_BYTES → (error ≢ errors.TooManyHeaders → NeverHasSection bytes) → (error ≡ errors.TooManyHeaders → SectionExceeds room bytes) → NeverHasSection bytes
+pub never_fields : (bytes : List ℕ) (room : ℕ) (error : Error) → FIELD_ROOM ≤ room → length bytes ≤ MAX_TRAILER_BYTES → (error ≢ errors.TooManyHeaders → NeverHasSection bytes) → (error ≡ errors.TooManyHeaders → SectionExceeds room bytes) → NeverHasSection bytes
 never_fields bytes room errors.TooManyHeaders enough short never exceeds = absurd (fields_fit bytes room enough short (exceeds refl))
 never_fields bytes room error enough short never exceeds = never (λ same. cc)
 

@@ -1,4 +1,4 @@
--- Size lines and closing fields: what is not whole yet.
+-- Size lines and trailer fields: what is not whole yet.
 use Rattle.std.proofs.Common.{◌≡◌, ◌≢◌, ℕ, inl, inr, List, [], ◌∷◌, ◌++◌, refl, sym, ap, ◌∙◌, subst}
 use Rattle.std.specs.List.{flat_map}
 use Rattle.std.proofs.lemmas.List.{append_assoc}
@@ -42,7 +42,7 @@ print_end-ended : (end : LineEnd) → print_end end ≡ ended_line (before_feed 
 print_end-ended crlf = refl
 print_end-ended lf = refl
 
--- closing fields without their last line feed
+-- trailer fields without their last line feed
 abbrev fields_front : List Field × LineEnd → List ℕ
 fields_front fields = flat_map print_field fields.0 ++ before_feed fields.1
 
@@ -56,7 +56,7 @@ fields_unique bytes s t r q x y =
     let same = section_unique bytes s.0 t.0 s.1 t.1 r q x y in
     (λ i. (same.0 i, same.1 i), same.2)
 
--- closing fields are a form
+-- trailer fields are a form
 pub fields_form : IsForm ReadsFields
 fields_form = record {
   line = fields_front;

@@ -3,7 +3,7 @@ pub mod Forms
 pub mod Steps
 pub mod SizeSteps
 pub mod ChunkSteps
-pub mod ClosingSteps
+pub mod TrailerSteps
 pub mod FieldCounts
 pub mod LineAnswers
 pub mod Fronts

@@ -7,15 +7,15 @@ use Rattle.httparse.specs.Ascii.{crlf_bytes}
 use Rattle.httparse.specs.Grammar.{ChunkLine, IsChunkLine, print_chunk_line, chunk_size, ReadsChunkLine, Field, LineEnd}
 use Rattle.httparse.proofs.ChunkLemmas.{chunk_line_unique}
 use Rattle.oc_chunked.specs.declared.fault.ChunkFault.TheVariants.{Bad, Long, Memory}
-use Rattle.oc_chunked.specs.declared.limits.TheConstants.{MAX_SIZE_LINE_BYTES, MAX_CLOSING_BYTES}
+use Rattle.oc_chunked.specs.declared.limits.TheConstants.{MAX_SIZE_LINE_BYTES, MAX_TRAILER_BYTES}
 use Rattle.oc_chunked.specs.Chunked.{Chunk, IsChunk, print_chunk, print_chunks, content_of}
-use Rattle.oc_chunked.specs.Stages.{Stage, in_size, in_chunk, in_closing, ended, refused, is_final}
+use Rattle.oc_chunked.specs.Stages.{Stage, in_size, in_chunk, in_trailer, ended, refused, is_final}
 use Rattle.oc_chunked.specs.Taken.{IsSizeLine, IsShortChunk, IsClosedBy, LeadsOn, IsTaken}
 use Rattle.oc_chunked.specs.Unfinished.{IsUnfinished, ReadsFields}
 use Rattle.oc_chunked.proofs.Forms.{size_form}
 use Rattle.oc_chunked.proofs.Fronts.{shorter_front, same_front}
 use Rattle.oc_chunked.proofs.Collected.{Outcome, unended, hopeless, too_long, whole, Collects, IsLast, collects_once}
-use Rattle.oc_chunked.proofs.Bodies.{Agrees, IsComparable, stage_behind, IsBody, closing, chunk, great, body_once, whole_not_body}
+use Rattle.oc_chunked.proofs.Bodies.{Agrees, IsComparable, stage_behind, IsBody, trailer, chunk, great, body_once, whole_not_body}
 
 -- the outcome is no whole line
 abbrev pub IsNoLine : Outcome ChunkLine → Type 0
@@ -45,14 +45,14 @@ pub record IsSized (u c : List ℕ) (s : Stage) : Type 0 where
   pub bytes : u ≡ print_chunk_line line ++ behind
   pub body : IsBody (chunk_size line) behind c s
 
--- a closing line and what follows it
-sized_closing : (front u c : List ℕ) (s : Stage) (o : Outcome (List Field × LineEnd)) → IsClosedBy front u c → Collects ReadsFields MAX_CLOSING_BYTES front o → s ≡ stage_behind front o → IsSized u c s
-sized_closing front u c s o closed collects stage = record {
+-- a trailer line and what follows it
+sized_trailer : (front u c : List ℕ) (s : Stage) (o : Outcome (List Field × LineEnd)) → IsClosedBy front u c → Collects ReadsFields MAX_TRAILER_BYTES front o → s ≡ stage_behind front o → IsSized u c s
+sized_trailer front u c s o closed collects stage = record {
   line = closed.line;
   behind = front;
   size = closed.size;
   bytes = closed.bytes_are;
-  body = closing closed.none (record { outcome = o; collects = collects; content = closed.content_is; stage = stage });
+  body = trailer closed.none (record { outcome = o; collects = collects; content = closed.content_is; stage = stage });
 }
 
 abbrev pub IsBehind : List ℕ → List ℕ → Stage → Type 0
@@ -74,8 +74,8 @@ behind (in_chunk left) u c part = inr (record {
   bytes = part.bytes_are;
   body = chunk part.some part.fits (inl (record { left = left; left_is = part.left_is; more = part.more; content = part.content_is; end = part.end; stage = refl }));
 })
-behind (in_closing front) u c part = inr (sized_closing front u c (in_closing front) unended part.closed (part.unfinished, part.short) refl)
-behind ended u c part = inr (sized_closing part.front u c ended (whole part.fields) part.closed (part.reads, part.short) (rw (le-leb _ _ part.few) refl))
+behind (in_trailer front) u c part = inr (sized_trailer front u c (in_trailer front) unended part.closed (part.unfinished, part.short) refl)
+behind ended u c part = inr (sized_trailer part.front u c ended (whole part.fields) part.closed (part.reads, part.short) (rw (le-leb _ _ part.few) refl))
 behind (refused Bad) u c (inl bad) = inl (record { outcome = hopeless; none = tt; collects = (bad.hopeless, bad.short); content = bad.content_is; stage = refl })
 behind (refused Bad) u c (inr (inl big)) = inr (record {
   line = big.line;
@@ -105,11 +105,11 @@ behind (refused Bad) u c (inr (inr (inl broken))) =
       }));
     })
 behind (refused Bad) u c (inr (inr (inr bad))) = elim bad.cause [
-  | inl never ↦ inr (sized_closing bad.front u c (refused Bad) hopeless bad.closed (never, bad.short) refl)
-  | inr many ↦ inr (sized_closing bad.front u c (refused Bad) (whole many.0) bad.closed (many.1, bad.short) (rw (lt-leb _ _ many.2) refl))
+  | inl never ↦ inr (sized_trailer bad.front u c (refused Bad) hopeless bad.closed (never, bad.short) refl)
+  | inr many ↦ inr (sized_trailer bad.front u c (refused Bad) (whole many.0) bad.closed (many.1, bad.short) (rw (lt-leb _ _ many.2) refl))
 ]
 behind (refused Long) u c (inl line) = inl (record { outcome = too_long; none = tt; collects = (line.unfinished, line.long); content = line.content_is; stage = refl })
-behind (refused Long) u c (inr fields) = inr (sized_closing fields.front u c (refused Long) too_long fields.closed (fields.unfinished, fields.long) refl)
+behind (refused Long) u c (inr fields) = inr (sized_trailer fields.front u c (refused Long) too_long fields.closed (fields.unfinished, fields.long) refl)
 behind (refused Memory) u c none = absurd none
 
 -- a size line as it is collected
@@ -185,7 +185,7 @@ chunk_not_sized u x rest c s k is e first comparable =
     let size = ap chunk_size same.0 in
     let bytes : first.behind ++ x ≡ k.bytes ++ (crlf_bytes ++ rest) = same.1 ∙ append_assoc k.bytes crlf_bytes rest in
     elim first.body [
-      | closing none body ↦ omega (arith, none, size, is.some)
+      | trailer none body ↦ omega (arith, none, size, is.some)
       | great over body ↦ omega (arith, over, size, is.fits)
       | chunk some fits body ↦ whole_not_body (chunk_size first.line) k.bytes rest first.behind x c s (is.whole ∙ sym size) bytes body comparable
     ]

@@ -8,7 +8,7 @@ use Rattle.httparse.specs.Ascii.{line_feed, crlf_bytes}
 use Rattle.httparse.specs.Grammar.{ChunkLine, print_chunk_line, chunk_size, ReadsChunkLine, NeverHasChunkLine}
 use Rattle.oc_chunked.specs.declared.fault.ChunkFault.TheVariants.{Bad, Long}
 use Rattle.oc_chunked.specs.declared.limits.TheConstants.{MAX_CHUNK_SIZE, MAX_SIZE_LINE_BYTES}
-use Rattle.oc_chunked.specs.Stages.{in_size, in_chunk, in_closing, refused, stage_at}
+use Rattle.oc_chunked.specs.Stages.{in_size, in_chunk, in_trailer, refused, stage_at}
 use Rattle.oc_chunked.specs.Taken.{Takes, IsPartOfSize, IsSizeLine}
 use Rattle.oc_chunked.specs.Unfinished.{IsUnfinished}
 use Rattle.oc_chunked.specs.Views.{behind_size_line}
@@ -83,9 +83,9 @@ to_chunk line b l rest reads some fits = Takes-behind (in_size line) (in_chunk (
       end = nothing_behind (chunk_size l);
     })
 
--- or the closing fields begin
-to_closing : (line : List ℕ) (b : ℕ) (l : ChunkLine) (rest : List ℕ) → ReadsChunkLine (line ++ b ∷ []) l rest → chunk_size l ≡ 0 → Takes (in_size line) (b ∷ []) [] (in_closing [])
-to_closing line b l rest reads none = Takes-behind (in_size line) (in_closing []) (b ∷ []) [] (λ behind more part.
+-- or the trailer fields begin
+to_trailer : (line : List ℕ) (b : ℕ) (l : ChunkLine) (rest : List ℕ) → ReadsChunkLine (line ++ b ∷ []) l rest → chunk_size l ≡ 0 → Takes (in_size line) (b ∷ []) [] (in_trailer [])
+to_trailer line b l rest reads none = Takes-behind (in_size line) (in_trailer []) (b ∷ []) [] (λ behind more part.
     let found = found_line line b l rest behind more reads part in record {
       closed = record {
         line = l;
@@ -113,7 +113,7 @@ to_great line b l rest reads great = Takes-behind (in_size line) (refused Bad) (
 -- after a size line the text is where its size says
 pub size_found : (line : List ℕ) (b : ℕ) (l : ChunkLine) (rest : List ℕ) → ReadsChunkLine (line ++ b ∷ []) l rest → Takes (in_size line) (b ∷ []) [] (stage_at (behind_size_line (chunk_size l)) [])
 size_found line b l rest reads = elim (eqb_tells (chunk_size l) 0) [
-  | inl none ↦ rw (none.0) (to_closing line b l rest reads none.1)
+  | inl none ↦ rw (none.0) (to_trailer line b l rest reads none.1)
   | inr some ↦ elim (leb_tells (chunk_size l) MAX_CHUNK_SIZE) [
     | inl fits ↦ rw (some.0, fits.0) (to_chunk line b l rest reads (omega (arith, some.1)) fits.1)
     | inr great ↦ rw (some.0, great.0) (to_great line b l rest reads great.1)

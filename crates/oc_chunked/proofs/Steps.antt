@@ -2,7 +2,7 @@
 use Rattle.std.proofs.Common.{◌≡◌, ℕ, List, [], ◌++◌, take, drop, Some, refl, sym, ap, ◌∙◌, subst, arith}
 use Rattle.std.proofs.lemmas.List.{append_assoc, append-nil, take-append-drop}
 use Rattle.oc_chunked.specs.Chunked.{print_chunks, content_of}
-use Rattle.oc_chunked.specs.Stages.{Stage, in_size, in_chunk, in_closing, ended, refused, fault_in}
+use Rattle.oc_chunked.specs.Stages.{Stage, in_size, in_chunk, in_trailer, ended, refused, fault_in}
 use Rattle.oc_chunked.specs.declared.fault.ChunkFault.{ChunkFault}
 use Rattle.oc_chunked.specs.Taken.{IsTaken, Takes, LeadsOn, RefusesPiece}
 use Rattle.oc_chunked.proofs.Forms.{size_form, IsUnfinished-none}
@@ -66,7 +66,7 @@ nothing_taken = record {
 pub refused_in : (s : Stage) (fault : ChunkFault) → fault_in s ≡ Some fault → s ≡ refused fault
 refused_in (in_size line) fault is = cc
 refused_in (in_chunk left) fault is = cc
-refused_in (in_closing front) fault is = cc
+refused_in (in_trailer front) fault is = cc
 refused_in ended fault is = cc
 refused_in (refused other) fault is = cc
 

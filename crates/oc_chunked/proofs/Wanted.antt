@@ -4,7 +4,7 @@ use Rattle.std.proofs.lemmas.Bool.{cases_lt}
 use Rattle.std.proofs.lemmas.List.{append_assoc, append-nil, take_all, drop_all}
 use Rattle.httparse.specs.Ascii.{crlf_bytes}
 use Rattle.httparse.specs.Grammar.{print_chunk_line, chunk_size}
-use Rattle.oc_chunked.specs.Stages.{Stage, in_size, in_chunk, in_closing, ended, refused, wanted_at}
+use Rattle.oc_chunked.specs.Stages.{Stage, in_size, in_chunk, in_trailer, ended, refused, wanted_at}
 use Rattle.oc_chunked.specs.Taken.{IsTaken, Takes}
 use Rattle.oc_chunked.proofs.OneWay.{taken_once}
 use Rattle.oc_chunked.proofs.Steps.{Takes-behind}
@@ -54,6 +54,6 @@ wanted_missing (in_chunk left) bytes given more content first last = elim (cases
       let some = some_missing (in_chunk left) bytes given more content (λ e. cc e) first last in
       omega (arith, few, some)
 ]
-wanted_missing (in_closing front) bytes given more content first last = some_missing (in_closing front) bytes given more content (λ e. cc e) first last
+wanted_missing (in_trailer front) bytes given more content first last = some_missing (in_trailer front) bytes given more content (λ e. cc e) first last
 wanted_missing ended bytes given more content first last = omega arith
 wanted_missing (refused fault) bytes given more content first last = some_missing (refused fault) bytes given more content (λ e. cc e) first last

@@ -30,26 +30,26 @@ abbrev pub content_of : List Chunk → List ℕ
 content_of chunks = flat_map (λ c. c.bytes) chunks
 
 -- what closes a text: a size line, fields and their empty line
-pub record Closing : Type 0 where
+pub record Trailer : Type 0 where
   pub line : ChunkLine
   pub fields : List Field
   pub last : LineEnd
 
 -- the size is 0, and there are not too many fields
-pub record IsClosing (e : Closing) : Type 0 where
+pub record IsTrailer (e : Trailer) : Type 0 where
   pub line : IsChunkLine e.line
   pub none : chunk_size e.line ≡ 0
   pub fields : All IsField e.fields
   pub few : length e.fields ≤ MAX_FIELDS
 
-abbrev pub print_closing : Closing → List ℕ
-print_closing e = print_chunk_line e.line ++ print_section e.fields e.last
+abbrev pub print_trailer : Trailer → List ℕ
+print_trailer e = print_chunk_line e.line ++ print_section e.fields e.last
 
 -- the text is chunked for the content
 pub record IsChunked (text content : List ℕ) : Type 0 where
   pub chunks : List Chunk
-  pub closing : Closing
+  pub trailer : Trailer
   pub all : AllByRecursion IsChunk chunks
-  pub closes : IsClosing closing
-  pub text_is : text ≡ print_chunks chunks ++ print_closing closing
+  pub closes : IsTrailer trailer
+  pub text_is : text ≡ print_chunks chunks ++ print_trailer trailer
   pub content_is : content ≡ content_of chunks

@@ -2,18 +2,18 @@
 use Rattle.std.specs.Prelude.{◌≡◌, ℕ, ◌+◌, ◌-◌, ◌≤◌, max, List, Bool, true, false, Option, Some, None}
 use Rattle.oc_chunked.specs.declared.fault.ChunkFault.{ChunkFault}
 use Rattle.oc_chunked.specs.declared.fault.ChunkFault.TheVariants as faults
-use Rattle.oc_chunked.specs.declared.place.Place.{Place}
-use Rattle.oc_chunked.specs.declared.place.Place.TheVariants as places
-use Rattle.oc_chunked.specs.declared.place.Refusal.{Refusal}
-use Rattle.oc_chunked.specs.declared.place.Refusal.TheVariants as refusals
+use Rattle.oc_chunked.specs.declared.state.State.{State}
+use Rattle.oc_chunked.specs.declared.state.State.TheVariants as states
+use Rattle.oc_chunked.specs.declared.state.Refusal.{Refusal}
+use Rattle.oc_chunked.specs.declared.state.Refusal.TheVariants as refusals
 
 pub data Stage : Type 0 where
   -- in a size line, of which these bytes came
   in_size : List ℕ → Stage
   -- in a chunk, of which this many bytes are left, its CR LF among them
   in_chunk : ℕ → Stage
-  -- in the closing fields, of which these bytes came
-  in_closing : List ℕ → Stage
+  -- in the trailer fields, of which these bytes came
+  in_trailer : List ℕ → Stage
   -- after a whole text
   ended : Stage
   -- after bytes that are refused
@@ -50,10 +50,10 @@ abbrev pub fault_of : Refusal → ChunkFault
 fault_of refusals.Bad = faults.Bad
 fault_of refusals.Long = faults.Long
 
--- the stage at a place, with these bytes of a line
-abbrev pub stage_at : Place → List ℕ → Stage
-stage_at places.Size line = in_size line
-stage_at (places.Chunk left) line = in_chunk left
-stage_at places.Closing line = in_closing line
-stage_at places.End line = ended
-stage_at (places.Refused refusal) line = refused (fault_of refusal)
+-- the stage at a state, with these bytes of a line
+abbrev pub stage_at : State → List ℕ → Stage
+stage_at states.Size line = in_size line
+stage_at (states.Chunk left) line = in_chunk left
+stage_at states.Trailer line = in_trailer line
+stage_at states.End line = ended
+stage_at (states.Refused refusal) line = refused (fault_of refusal)

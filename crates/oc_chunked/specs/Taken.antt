@@ -6,9 +6,9 @@ use Rattle.httparse.specs.Grammar.{ChunkLine, IsChunkLine, print_chunk_line, chu
 use Rattle.oc_base.specs.declared.limits.TheConstants.{MAX_FIELDS}
 use Rattle.oc_chunked.specs.declared.fault.ChunkFault.{ChunkFault}
 use Rattle.oc_chunked.specs.declared.fault.ChunkFault.TheVariants.{Bad, Long, Memory}
-use Rattle.oc_chunked.specs.declared.limits.TheConstants.{MAX_CHUNK_SIZE, MAX_SIZE_LINE_BYTES, MAX_CLOSING_BYTES}
+use Rattle.oc_chunked.specs.declared.limits.TheConstants.{MAX_CHUNK_SIZE, MAX_SIZE_LINE_BYTES, MAX_TRAILER_BYTES}
 use Rattle.oc_chunked.specs.Chunked.{Chunk, IsChunk, print_chunks, content_of}
-use Rattle.oc_chunked.specs.Stages.{Stage, in_size, in_chunk, in_closing, ended, refused}
+use Rattle.oc_chunked.specs.Stages.{Stage, in_size, in_chunk, in_trailer, ended, refused}
 use Rattle.oc_chunked.specs.Unfinished.{IsUnfinished, IsHopeless, ReadsFields}
 
 -- a size line that is not too long
@@ -51,20 +51,20 @@ pub record IsClosedBy (behind bytes content : List ℕ) : Type 0 where
   pub bytes_are : bytes ≡ print_chunk_line line ++ behind
   pub content_is : content ≡ []
 
--- such a line and a part of the closing fields
-pub record IsPartOfClosing (front bytes content : List ℕ) : Type 0 where
+-- such a line and a part of the trailer fields
+pub record IsPartOfTrailer (front bytes content : List ℕ) : Type 0 where
   pub closed : IsClosedBy front bytes content
   pub unfinished : IsUnfinished ReadsFields front
-  pub short : length front < MAX_CLOSING_BYTES
+  pub short : length front < MAX_TRAILER_BYTES
 
--- such a line and all the closing fields
+-- such a line and all the trailer fields
 pub record IsWhole (bytes content : List ℕ) : Type 0 where
   pub front : List ℕ
   pub fields : List Field × LineEnd
   pub closed : IsClosedBy front bytes content
   pub reads : ReadsFields front fields []
   pub few : length fields.0 ≤ MAX_FIELDS
-  pub short : length front ≤ MAX_CLOSING_BYTES
+  pub short : length front ≤ MAX_TRAILER_BYTES
 
 -- a line that is no size line
 pub record HasBadSize (bytes content : List ℕ) : Type 0 where
@@ -90,13 +90,13 @@ pub record HasBadEnd (bytes content : List ℕ) : Type 0 where
   pub other : byte ≢ slice_index crlf_bytes (2 - left)
   pub bytes_are : bytes ≡ before ++ byte ∷ []
 
--- a size line for 0, and a line that is no closing field or too many fields
-pub record HasBadClosing (bytes content : List ℕ) : Type 0 where
+-- a size line for 0, and a line that is no trailer field or too many fields
+pub record HasBadTrailer (bytes content : List ℕ) : Type 0 where
   pub front : List ℕ
   pub closed : IsClosedBy front bytes content
   pub cause : IsHopeless ReadsFields front
       ⊎ ((fields : List Field × LineEnd) × ReadsFields front fields [] × (MAX_FIELDS < length fields.0))
-  pub short : length front ≤ MAX_CLOSING_BYTES
+  pub short : length front ≤ MAX_TRAILER_BYTES
 
 -- as many bytes as a size line may have, without its end
 pub record HasLongSize (bytes content : List ℕ) : Type 0 where
@@ -104,21 +104,21 @@ pub record HasLongSize (bytes content : List ℕ) : Type 0 where
   pub long : length bytes ≡ MAX_SIZE_LINE_BYTES
   pub content_is : content ≡ []
 
--- a size line for 0, and as many bytes as the closing fields may have, without their end
-pub record HasLongClosing (bytes content : List ℕ) : Type 0 where
+-- a size line for 0, and as many bytes as the trailer fields may have, without their end
+pub record HasLongTrailer (bytes content : List ℕ) : Type 0 where
   pub front : List ℕ
   pub closed : IsClosedBy front bytes content
   pub unfinished : IsUnfinished ReadsFields front
-  pub long : length front ≡ MAX_CLOSING_BYTES
+  pub long : length front ≡ MAX_TRAILER_BYTES
 
 -- after whole chunks these bytes lead to this stage, with this content
 abbrev pub LeadsOn : Stage → List ℕ → List ℕ → Type 0
 LeadsOn (in_size line) bytes content = IsPartOfSize line bytes content
 LeadsOn (in_chunk left) bytes content = IsPartOfChunk left bytes content
-LeadsOn (in_closing front) bytes content = IsPartOfClosing front bytes content
+LeadsOn (in_trailer front) bytes content = IsPartOfTrailer front bytes content
 LeadsOn ended bytes content = IsWhole bytes content
-LeadsOn (refused Bad) bytes content = HasBadSize bytes content ⊎ HasGreatSize bytes content ⊎ HasBadEnd bytes content ⊎ HasBadClosing bytes content
-LeadsOn (refused Long) bytes content = HasLongSize bytes content ⊎ HasLongClosing bytes content
+LeadsOn (refused Bad) bytes content = HasBadSize bytes content ⊎ HasGreatSize bytes content ⊎ HasBadEnd bytes content ⊎ HasBadTrailer bytes content
+LeadsOn (refused Long) bytes content = HasLongSize bytes content ⊎ HasLongTrailer bytes content
 LeadsOn (refused Memory) bytes content = ⊥
 
 -- these bytes lead to this stage, with this content

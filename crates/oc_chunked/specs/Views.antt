@@ -1,17 +1,17 @@
 -- What is seen of a reader of chunked texts.
 use Rattle.std.specs.Prelude.{◌≡◌, ℕ, ◌<◌, ◌==◌, nat_le, nat_lt, if◌then◌else◌, Option, Some, None, List, [], ◌∷◌, ◌++◌, length, ◌+◌, ⊤}
 use Rattle.oc_base.specs.declared.limits.TheConstants.{MAX_FIELDS}
-use Rattle.oc_chunked.specs.declared.limits.TheConstants.{MAX_CHUNK_SIZE, MAX_CLOSING_BYTES}
-use Rattle.oc_chunked.specs.declared.place.Place.{Place}
-use Rattle.oc_chunked.specs.declared.place.Place.TheVariants.{Size, Chunk, Closing, End, Refused}
-use Rattle.oc_chunked.specs.declared.place.Refusal.TheVariants.{Bad, Long}
+use Rattle.oc_chunked.specs.declared.limits.TheConstants.{MAX_CHUNK_SIZE, MAX_TRAILER_BYTES}
+use Rattle.oc_chunked.specs.declared.state.State.{State}
+use Rattle.oc_chunked.specs.declared.state.State.TheVariants.{Size, Chunk, Trailer, End, Refused}
+use Rattle.oc_chunked.specs.declared.state.Refusal.TheVariants.{Bad, Long}
 use Rattle.oc_chunked.specs.declared.progress.Progress.{Progress}
 use Rattle.oc_chunked.specs.Stages.{Stage, stage_at}
 use Rattle.oc_chunked.specs.Taken.{Takes}
 
 -- the stage that it is in
 abbrev pub stage_of : Progress → Stage
-stage_of p = stage_at p.place p.line.items
+stage_of p = stage_at p.state p.line.items
 
 -- with these bytes it went on to the new stage, and their content was put after what was given
 pub record Advances (old new : Progress) (bytes before after : List ℕ) : Type 0 where
@@ -19,28 +19,28 @@ pub record Advances (old new : Progress) (bytes before after : List ℕ) : Type 
   pub given : after ≡ before ++ content
   pub takes : Takes (stage_of old) bytes content (stage_of new)
 
--- with one byte the stage went on to a place, or on in the line that it is in
-abbrev pub GoesOn : (List ℕ → Stage) → List ℕ → ℕ → Option Place → Type 0
-GoesOn at line byte None = Takes (at line) (byte ∷ []) [] (at (line ++ byte ∷ [])) × (length line + 1 < MAX_CLOSING_BYTES)
-GoesOn at line byte (Some place) = Takes (at line) (byte ∷ []) [] (stage_at place [])
+-- one byte led from the stage to a state, or on within the line
+abbrev pub GoesOn : (List ℕ → Stage) → List ℕ → ℕ → Option State → Type 0
+GoesOn at line byte None = Takes (at line) (byte ∷ []) [] (at (line ++ byte ∷ [])) × (length line + 1 < MAX_TRAILER_BYTES)
+GoesOn at line byte (Some state) = Takes (at line) (byte ∷ []) [] (stage_at state [])
 
--- the place is in a line
-abbrev pub IsLine : Place → Type 0
+-- the bytes end within a line
+abbrev pub IsLine : State → Type 0
 IsLine Size = ⊤
-IsLine Closing = ⊤
-IsLine place = ⊥
+IsLine Trailer = ⊤
+IsLine state = ⊥
 
--- the place in a text after a size line that says this size
-abbrev pub behind_size_line : ℕ → Place
+-- the state after a size line that says this size
+abbrev pub behind_size_line : ℕ → State
 behind_size_line size =
-    if size == 0 then Closing
+    if size == 0 then Trailer
     else if nat_le size MAX_CHUNK_SIZE then Chunk (size + 2)
     else Refused Bad
 
--- the place in a text after this many closing fields
-abbrev pub behind_fields : ℕ → Place
+-- the state after this many trailer fields
+abbrev pub behind_fields : ℕ → State
 behind_fields count = if nat_le count MAX_FIELDS then End else Refused Bad
 
--- the place in a text within lines of `count` bytes that may have fewer than the most
-abbrev pub place_within : ℕ → ℕ → Option Place
-place_within count most = if nat_lt count most then None else Some (Refused Long)
+-- the state within lines of `count` bytes that may have fewer than the most
+abbrev pub state_within : ℕ → ℕ → Option State
+state_within count most = if nat_lt count most then None else Some (Refused Long)

@@ -7,10 +7,10 @@ use std::fmt;
 /// Why a piece of a chunked text is refused.
 #[derive(Clone, Copy, Debug, PartialEq, Eq)]
 pub enum ChunkFault {
-    /// The text is not chunked: a size line or the closing fields are malformed, a chunk has more than
-    /// 2^30 bytes or there are more than 64 closing fields, or a chunk is not followed by CR LF.
+    /// The text is not chunked: a size line or the trailer fields are malformed, a chunk has more than
+    /// 2^30 bytes or there are more than 64 trailer fields, or a chunk is not followed by CR LF.
     Bad,
-    /// A size line or the closing fields are too long.
+    /// A size line or the trailer fields are too long.
     Long,
     /// Memory ran out.
     Memory,

@@ -2,7 +2,7 @@
 //!
 //! [`chunk_text`] writes a content as chunks. An [`Unchunker`] reads a chunked text in pieces, cut
 //! anywhere, and says how many bytes surely still belong to it. `httparse` reads the size lines and the
-//! closing fields; it is asked at the end of each of their lines.
+//! trailer fields; it is asked at the end of each of their lines.
 //!
 //! `specs/Chunked` says what a chunked text is. `specs/Taken` says how far bytes lead a reader into
 //! such a text (`IsTaken`), and with which content. The layers above rest on this: whatever the pieces,
@@ -16,14 +16,14 @@ mod fault;
 mod law;
 mod limits;
 mod lines;
-mod place;
 mod progress;
 mod reserved;
+mod state;
 mod unchunker;
 mod writing;
 
 pub use fault::ChunkFault;
 pub use law::{a_chunked_text_ends, a_text_is_read_in_one_way, a_written_text_is_read};
-pub use limits::{MAX_CHUNK_SIZE, MAX_CLOSING_BYTES, MAX_SIZE_LINE_BYTES};
+pub use limits::{MAX_CHUNK_SIZE, MAX_SIZE_LINE_BYTES, MAX_TRAILER_BYTES};
 pub use unchunker::Unchunker;
 pub use writing::chunk_text;

@@ -6,10 +6,10 @@ pub const MAX_CHUNK_SIZE: u64 = 1_073_741_824;
 /// The greatest number of bytes of a size line, its end among them.
 pub const MAX_SIZE_LINE_BYTES: usize = 1_024;
 
-/// The greatest number of bytes of the closing fields and their empty line.
-pub const MAX_CLOSING_BYTES: usize = 8_192;
+/// The greatest number of bytes of the trailer fields and their empty line.
+pub const MAX_TRAILER_BYTES: usize = 8_192;
 
-/// How many closing fields `httparse` has room for: more than `MAX_CLOSING_BYTES` hold, since each takes
+/// How many trailer fields `httparse` has room for: more than `MAX_TRAILER_BYTES` hold, since each takes
 /// three bytes.
 pub(crate) const FIELD_ROOM: usize = 2_731;
 

@@ -1,11 +1,11 @@
 ghost use Rattle.std.specs.Prelude.{◌≡◌, ◌+◌, ◌<◌, ◌≤◌, [], ◌∷◌, ◌++◌, length, take, IfOk, true, false, not, vec_len, vec_capacity};
-ghost use Rattle.oc_chunked.specs.declared.limits.TheConstants.{MAX_CLOSING_BYTES, FIELD_ROOM};
+ghost use Rattle.oc_chunked.specs.declared.limits.TheConstants.{MAX_TRAILER_BYTES, FIELD_ROOM};
 
 use crate::fault::ChunkFault;
-use crate::limits::{FIELD_ROOM, MAX_CLOSING_BYTES};
-use crate::lines::{behind_closing, behind_end, behind_size};
-use crate::place::Place;
+use crate::limits::{FIELD_ROOM, MAX_TRAILER_BYTES};
+use crate::lines::{behind_end, behind_size, behind_trailer};
 use crate::reserved::put_reserved;
+use crate::state::State;
 use httparse::spans::{EMPTY_HEADER_SPAN, HeaderSpan};
 use oc_base::{Memory, push_reserved};
 use std::alloc::Global;
@@ -13,13 +13,13 @@ use std::alloc::Global;
 /// How far the reading of a chunked text has come.
 #[derive(Drop)]
 pub(crate) struct Progress {
-    place: Place,
-    /// What has come so far of the size line or of the closing fields.
+    state: State,
+    /// What has come so far of the size line or of the trailer fields.
     line: Vec<u8>,
-    /// Room for the closing fields.
+    /// Room for the trailer fields.
     spans: Vec<HeaderSpan>,
-    ghost line_fits: { vec_len line < MAX_CLOSING_BYTES },
-    ghost room: { MAX_CLOSING_BYTES ≤ vec_capacity line },
+    ghost line_fits: { vec_len line < MAX_TRAILER_BYTES },
+    ghost room: { MAX_TRAILER_BYTES ≤ vec_capacity line },
     ghost spans_fit: { FIELD_ROOM ≤ vec_len spans },
 }
 
@@ -27,17 +27,17 @@ impl Progress {
     ghost use Rattle.oc_chunked.specs.Stages.{in_size, is_ended, is_final, fault_in, wanted_at, StillWants};
     ghost use Rattle.oc_chunked.specs.Taken.{Takes};
     ghost use Rattle.oc_chunked.specs.Views.{stage_of, Advances, IsLine};
-    ghost use Rattle.oc_chunked.specs.declared.place.Place.TheVariants.{Chunk};
+    ghost use Rattle.oc_chunked.specs.declared.state.State.TheVariants.{Chunk};
 
     /// At the beginning of a text.
     pub(crate) fn new(alloc: Global) -> Result<Progress, Memory>
         ensures { IfOk result (λ p. stage_of p ≡ in_size []) }
     {
         let mut line = Vec::new(alloc);
-        line.reserve(MAX_CLOSING_BYTES)?;
+        line.reserve(MAX_TRAILER_BYTES)?;
         let spans = vec![in alloc; EMPTY_HEADER_SPAN; FIELD_ROOM]?;
         Ok(Progress {
-            place: Place::Size,
+            state: State::Size,
             line,
             spans,
         })
@@ -47,8 +47,8 @@ impl Progress {
     pub(crate) fn fault(&self) -> Option<ChunkFault>
         ensures { result ≡ fault_in (stage_of self.now) }
     {
-        match self.place {
-            Place::Refused(refusal) => Some(refusal.fault()),
+        match self.state {
+            State::Refused(refusal) => Some(refusal.fault()),
             _ => None,
         }
     }
@@ -57,16 +57,16 @@ impl Progress {
     pub(crate) fn is_ended(&self) -> bool
         ensures { result ≡ is_ended (stage_of self.now) }
     {
-        matches!(self.place, Place::End)
+        matches!(self.state, State::End)
     }
 
     /// How many further bytes surely belong to the text, and one where it is refused.
     pub(crate) fn wanted(&self) -> usize
         ensures { result ≡ wanted_at (stage_of self.now) }
     {
-        match self.place {
-            Place::Chunk { left } => (left as usize).saturating_sub(2).max(1),
-            Place::End => 0,
+        match self.state {
+            State::Chunk { left } => (left as usize).saturating_sub(2).max(1),
+            State::End => 0,
             _ => 1,
         }
     }
@@ -91,7 +91,7 @@ impl Progress {
     fn is_open(&self) -> bool
         ensures { result ≡ not (is_final (stage_of self.now)) }
     {
-        !matches!(self.place, Place::End | Place::Refused(_))
+        !matches!(self.state, State::End | State::Refused(_))
     }
 
     /// Takes some bytes, one or more, of what is left of a piece.
@@ -105,9 +105,9 @@ impl Progress {
         ensures room { vec_len out.new + length rest.now ≤ vec_capacity out.new + result }
         ensures wants { StillWants (stage_of self.old) result (stage_of self.new) }
     {
-        match self.place {
-            Place::Chunk { left } if left > 2 => self.take_content(left, rest, out),
-            Place::Chunk { left } => {
+        match self.state {
+            State::Chunk { left } if left > 2 => self.take_content(left, rest, out),
+            State::Chunk { left } => {
                 self.take_end(left, rest[0]);
                 1
             }
@@ -120,7 +120,7 @@ impl Progress {
 
     /// Takes bytes of a chunk, of which there are this many with its CR LF.
     fn take_content(&mut self, left: u32, rest: &[u8], out: &mut Vec<u8>) -> usize
-        requires place { self.old.place ≡ Chunk left }
+        requires state { self.old.state ≡ Chunk left }
         requires more { 2 < left }
         requires some { 0 < length rest.now }
         requires room { vec_len out.old + length rest.now ≤ vec_capacity out.old }
@@ -133,7 +133,7 @@ impl Progress {
     {
         let count = rest.len().min(left as usize - 2);
         put_reserved(out, &rest[..count]);
-        self.place = Place::Chunk {
+        self.state = State::Chunk {
             left: left - count as u32,
         };
         count
@@ -141,27 +141,27 @@ impl Progress {
 
     /// Takes a byte of the CR LF after a chunk.
     fn take_end(&mut self, left: u32, byte: u8)
-        requires place { self.old.place ≡ Chunk left }
+        requires state { self.old.state ≡ Chunk left }
         requires few { left ≤ 2 }
         ensures { Takes (stage_of self.old) (byte ∷ []) [] (stage_of self.new) }
     {
         self.line.clear();
-        self.place = behind_end(left, byte);
+        self.state = behind_end(left, byte);
     }
 
-    /// Takes a byte of a size line or of the closing fields.
+    /// Takes a byte of a size line or of the trailer fields.
     fn take_line_byte(&mut self, byte: u8)
-        requires { IsLine self.old.place }
+        requires { IsLine self.old.state }
         ensures { Takes (stage_of self.old) (byte ∷ []) [] (stage_of self.new) }
     {
         push_reserved(&mut self.line, byte);
-        let next = match self.place {
-            Place::Size => behind_size(&self.line, byte),
-            _ => behind_closing(&self.line, &mut self.spans, byte),
+        let next = match self.state {
+            State::Size => behind_size(&self.line, byte),
+            _ => behind_trailer(&self.line, &mut self.spans, byte),
         };
-        if let Some(place) = next {
+        if let Some(state) = next {
             self.line.clear();
-            self.place = place;
+            self.state = state;
         }
     }
 }

@@ -5,7 +5,7 @@ use std::alloc::Global;
 use std::marker::Model;
 
 /// A reader of a chunked text (RFC 9112, section 7.1) that comes in pieces, cut anywhere. Chunk
-/// extensions and closing fields are passed over.
+/// extensions and trailer fields are passed over.
 ///
 /// Contracts see it as the stage that it is in. `IsTaken` says which bytes lead to which stage, and
 /// with which content.

@@ -10,7 +10,7 @@ use std::alloc::Global;
 use std::io::Write;
 
 /// The chunked text of a content (RFC 9112, section 7.1): chunks of 4,096 bytes and one of the rest,
-/// without extensions or closing fields.
+/// without extensions or trailer fields.
 pub fn chunk_text(alloc: Global, bytes: &[u8]) -> Result<Vec<u8>, Memory>
     ensures text { IfOk result (λ text. text.items ≡ chunked_text bytes.now) }
     ensures chunked { IfOk result (λ text. IsChunked text.items bytes.now) }

@@ -2,7 +2,7 @@
 use Rattle.std.specs.Prelude.{◌≡◌, ◌⊎◌, ℕ, Option, Some, None, List, ◌++◌, map}
 use Rattle.oc_fetch.specs.Addresses.{IsAddressOf}
 use Rattle.oc_fetch.specs.Completeness.{LeadToContent, text_of}
-use Rattle.oc_fetch.specs.Downloads.{first_place}
+use Rattle.oc_fetch.specs.Downloads.{first_state}
 use Rattle.oc_link.specs.Story.{Dial, Story, dials}
 use Rattle.url.specs.Parts.{Parts}
 use Rattle.oc_words.specs.declared.request.Download.{Download}
@@ -25,4 +25,4 @@ pub record IsServed (address : List ℕ) (old new : Option Story) : Type 0 where
   pub told_after : new ≡ Some after
   pub made : List Dial
   pub dials_are : dials after ≡ dials before ++ made
-  pub lead : LeadToContent (first_place url 1) (map text_of made)
+  pub lead : LeadToContent (first_state url 1) (map text_of made)

@@ -9,12 +9,12 @@ use Rattle.oc_policy.specs.declared.deciding.TheConstants.{MAX_RULES}
 use Rattle.oc_config.specs.Addresses.{is_address}
 use Rattle.oc_config.specs.Nodes.{nodes_in, addresses_of, areas_of}
 use Rattle.oc_config.specs.Reading.{IsConfig}
-use Rattle.oc_config.specs.Settings.{Place, Settings}
+use Rattle.oc_config.specs.Settings.{NodeSettings, Settings}
 use Rattle.oc_config.proofs.Places.{put_all, all_none, addresses_good}
 use Rattle.oc_config.proofs.Said.{areas_as_many, full}
 
 -- the ranges of the parts, of this many tables
-pub record AreRead (s : Settings) (n : ℕ) (ts : List Members) (places : List (Option Place)) : Type 0 where
+pub record AreRead (s : Settings) (n : ℕ) (ts : List Members) (places : List (Option NodeSettings)) : Type 0 where
   pub many : length ts ≡ n
   pub chain : (1 ≤ s.chain) × (s.chain ≤ MAX_CHAIN)
   pub count : (1 ≤ n) × (n ≤ MAX_NODES)
@@ -26,7 +26,7 @@ pub record AreRead (s : Settings) (n : ℕ) (ts : List Members) (places : List (
   pub rules : length s.rules ≤ MAX_RULES
 
 -- with these the whole is a configuration
-pub lawful : (s : Settings) (n : ℕ) (ts : List Members) (places : List (Option Place)) → AreRead s n ts places → IsConfig s
+pub lawful : (s : Settings) (n : ℕ) (ts : List Members) (places : List (Option NodeSettings)) → AreRead s n ts places → IsConfig s
 lawful s n ts places read =
     let nodes : nodes_in (replicate (length ts) None) ts ≡ Ok places = subst (λ (k : ℕ). nodes_in (replicate k None) ts ≡ Ok places) (sym read.many) read.nodes in
     let put = put_all ts (replicate (length ts) None) places nodes in

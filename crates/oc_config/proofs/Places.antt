@@ -6,8 +6,8 @@ use Rattle.std.specs.Prelude.{slice_set}
 use Rattle.std.specs.List.{AllByRecursion}
 use Rattle.toml.specs.Data.{Members, as_integer, as_str}
 use Rattle.oc_config.specs.Addresses.{is_address}
-use Rattle.oc_config.specs.Nodes.{id_in, address_of, address_in, area_in, place_of, entry_with, entry_in, put_place, put_new, node_in, nodes_in, address_at, addresses_of}
-use Rattle.oc_config.specs.Settings.{Place}
+use Rattle.oc_config.specs.Nodes.{id_in, address_of, address_in, node_area_in, place_of, entry_with, entry_in, put_place, put_new, node_in, nodes_in, address_at, addresses_of}
+use Rattle.oc_config.specs.Settings.{NodeSettings}
 use Rattle.oc_config.specs.Values.{required, read_as, whole_in}
 use Rattle.oc_config.specs.declared.fault.ConfigFault.{ConfigFault}
 use Rattle.oc_config.specs.declared.fault.ConfigFault.TheVariants.{Value}
@@ -17,9 +17,9 @@ use Rattle.oc_config.proofs.Lists.{none_or_some, filter_map_put}
 use Rattle.oc_config.proofs.Tables.{within_range}
 
 -- a table that was put into an empty place
-pub record IsPut (places next : List (Option Place)) (t : Members) : Type 0 where
+pub record IsPut (places next : List (Option NodeSettings)) (t : Members) : Type 0 where
   pub id : ℕ
-  pub place : Place
+  pub place : NodeSettings
   pub id_is : id_in (length places) t ≡ Ok id
   pub place_is : entry_in t ≡ Ok place
   pub first : 1 ≤ id
@@ -35,11 +35,11 @@ id_range nodes t id e =
 abbrev given : {A : Type 0} → A → Result A ConfigFault
 given x = Ok x
 
-same_places : (a b : List (Option Place)) → given a ≡ given b → a ≡ b
+same_places : (a b : List (Option NodeSettings)) → given a ≡ given b → a ≡ b
 same_places a b e = cc e
 
 -- the table of a node that is read is put
-pub put : (places next : List (Option Place)) (t : Members) → node_in places t ≡ Ok next → IsPut places next t
+pub put : (places next : List (Option NodeSettings)) (t : Members) → node_in places t ≡ Ok next → IsPut places next t
 put places next t e =
     let step = steps (id_in (length places) t) (λ id. put_new places id t) next e in
     let range = id_range (length places) t step.value step.first in
@@ -60,35 +60,35 @@ put places next t e =
     ]
 
 -- putting keeps the number of places
-pub put_length : (places next : List (Option Place)) (t : Members) → IsPut places next t → length next ≡ length places
+pub put_length : (places next : List (Option NodeSettings)) (t : Members) → IsPut places next t → length next ≡ length places
 put_length places next t p = ap length p.next_is ∙ length-set places (p.id - 1) (Some p.place)
 
 -- and what is at other places
-put_keeps : (places next : List (Option Place)) (t : Members) (i : ℕ) (place : Place) → IsPut places next t → get_or places i None ≡ Some place → get_or next i None ≡ Some place
+put_keeps : (places next : List (Option NodeSettings)) (t : Members) (i : ℕ) (place : NodeSettings) → IsPut places next t → get_or places i None ≡ Some place → get_or next i None ≡ Some place
 put_keeps places next t i place p there = elim (cases_eq i (p.id - 1)) [
   | inl same ↦
       let free = subst (λ (k : ℕ). get_or places k None ≡ None) (sym same) p.free in
       let e : Some place ≡ None = sym there ∙ free in cc e
-  | inr other ↦ ap (λ (xs : List (Option Place)). get_or xs i None) p.next_is ∙ get_or-set_other places (p.id - 1) i (Some p.place) None other ∙ there
+  | inr other ↦ ap (λ (xs : List (Option NodeSettings)). get_or xs i None) p.next_is ∙ get_or-set_other places (p.id - 1) i (Some p.place) None other ∙ there
 ]
 
 -- it is at its own
-put_there : (places next : List (Option Place)) (t : Members) → (p : IsPut places next t) → get_or next (p.id - 1) None ≡ Some p.place
+put_there : (places next : List (Option NodeSettings)) (t : Members) → (p : IsPut places next t) → get_or next (p.id - 1) None ≡ Some p.place
 put_there places next t p =
-    ap (λ (xs : List (Option Place)). get_or xs (p.id - 1) None) p.next_is ∙ get_or-set_same places (p.id - 1) (Some p.place) None (omega (arith, p.first, p.last))
+    ap (λ (xs : List (Option NodeSettings)). get_or xs (p.id - 1) None) p.next_is ∙ get_or-set_same places (p.id - 1) (Some p.place) None (omega (arith, p.first, p.last))
 
 -- and one node more has a place
-put_more : (places next : List (Option Place)) (t : Members) → IsPut places next t → length (addresses_of next) ≡ length (addresses_of places) + 1
+put_more : (places next : List (Option NodeSettings)) (t : Members) → IsPut places next t → length (addresses_of next) ≡ length (addresses_of places) + 1
 put_more places next t p =
-    ap (λ (xs : List (Option Place)). length (addresses_of xs)) p.next_is
+    ap (λ (xs : List (Option NodeSettings)). length (addresses_of xs)) p.next_is
     ∙ filter_map_put address_at places (p.id - 1) None (Some p.place) p.place.address (omega (arith, p.first, p.last)) (ap address_at p.free) refl
 
 -- what is at a place has an address
-abbrev pub IsGood : Option Place → Type 0
+abbrev pub IsGood : Option NodeSettings → Type 0
 IsGood None = Unit {0}
 IsGood (Some place) = is_address place.address ≡ true
 
-set_good : (places : List (Option Place)) (i : ℕ) (o : Option Place) → AllByRecursion IsGood places → IsGood o → AllByRecursion IsGood (slice_set places i o)
+set_good : (places : List (Option NodeSettings)) (i : ℕ) (o : Option NodeSettings) → AllByRecursion IsGood places → IsGood o → AllByRecursion IsGood (slice_set places i o)
 set_good [] i o all good = tt
 set_good (x ∷ places) zero o all good = (good, all.1)
 set_good (x ∷ places) (suc i) o all good = (all.0, set_good places i o all.1 good)
@@ -103,40 +103,40 @@ address_good (Some s) text e = elim (cases_Bool (is_address s)) [
   | inr bad ↦ let found = rw bad at e in cc found
 ]
 
-same_address : (address : List ℕ) (area : ℕ) (place : Place) → place_of address area ≡ given place → address ≡ place.address
+same_address : (address : List ℕ) (area : ℕ) (place : NodeSettings) → place_of address area ≡ given place → address ≡ place.address
 same_address address area place e =
-    let made : Place = record { address = address; area = area } in
+    let made : NodeSettings = record { address = address; area = area } in
     let same : made ≡ place = cc e in
-    ap (λ (p : Place). p.address) same
+    ap (λ (p : NodeSettings). p.address) same
 
-put_good : (places next : List (Option Place)) (t : Members) → IsPut places next t → AllByRecursion IsGood places → AllByRecursion IsGood next
+put_good : (places next : List (Option NodeSettings)) (t : Members) → IsPut places next t → AllByRecursion IsGood places → AllByRecursion IsGood next
 put_good places next t p all =
     let address = steps (address_in t) (λ address. entry_with t address) p.place p.place_is in
     let value = steps (required Address t) (λ d. read_as Address (address_of (as_str d))) address.value address.first in
     let good = address_good (as_str value.value) address.value (there (address_of (as_str value.value)) (Value Address) address.value value.then) in
-    let area = steps (area_in t) (λ area. place_of address.value area) p.place address.then in
+    let area = steps (node_area_in t) (λ area. place_of address.value area) p.place address.then in
     let same = same_address address.value area.value p.place area.then in
-    subst (λ (xs : List (Option Place)). AllByRecursion IsGood xs) (sym p.next_is) (set_good places (p.id - 1) (Some p.place) all (ap is_address (sym same) ∙ good))
+    subst (λ (xs : List (Option NodeSettings)). AllByRecursion IsGood xs) (sym p.next_is) (set_good places (p.id - 1) (Some p.place) all (ap is_address (sym same) ∙ good))
 
 -- what is known after all tables were put
-pub record AreSaid (places after : List (Option Place)) (nodes : ℕ) (t : Members) : Type 0 where
+pub record AreSaid (places after : List (Option NodeSettings)) (nodes : ℕ) (t : Members) : Type 0 where
   pub id : ℕ
-  pub place : Place
+  pub place : NodeSettings
   pub id_is : id_in nodes t ≡ Ok id
   pub place_is : entry_in t ≡ Ok place
   pub first : 1 ≤ id
   pub last : id ≤ nodes
   pub there : get_or after (id - 1) None ≡ Some place
 
-pub record ArePut (places after : List (Option Place)) (ts : List Members) : Type 0 where
+pub record ArePut (places after : List (Option NodeSettings)) (ts : List Members) : Type 0 where
   pub long : length after ≡ length places
   pub count : length (addresses_of after) ≡ length (addresses_of places) + length ts
-  pub kept : (i : ℕ) (place : Place) → get_or places i None ≡ Some place → get_or after i None ≡ Some place
+  pub kept : (i : ℕ) (place : NodeSettings) → get_or places i None ≡ Some place → get_or after i None ≡ Some place
   pub good : AllByRecursion IsGood places → AllByRecursion IsGood after
   pub said : AllByRecursion (AreSaid places after (length places)) ts
 
 -- the same facts, of places of the same number
-same_number : (a b after : List (Option Place)) (ts : List Members) → length a ≡ length b → AllByRecursion (AreSaid a after (length a)) ts → AllByRecursion (AreSaid b after (length b)) ts
+same_number : (a b after : List (Option NodeSettings)) (ts : List Members) → length a ≡ length b → AllByRecursion (AreSaid a after (length a)) ts → AllByRecursion (AreSaid b after (length b)) ts
 same_number a b after [] e all = tt
 same_number a b after (t ∷ ts) e all =
     let one = all.0 in (
@@ -153,14 +153,14 @@ same_number a b after (t ∷ ts) e all =
     )
 
 -- table for table
-pub put_all : (ts : List Members) (places after : List (Option Place)) → nodes_in places ts ≡ Ok after → ArePut places after ts
+pub put_all : (ts : List Members) (places after : List (Option NodeSettings)) → nodes_in places ts ≡ Ok after → ArePut places after ts
 put_all [] places after e =
     let same : places ≡ after = cc in
     record {
       long = ap length (sym same);
-      count = omega (arith, ap (λ (xs : List (Option Place)). length (addresses_of xs)) same);
-      kept = λ i place is. subst (λ (xs : List (Option Place)). get_or xs i None ≡ Some place) same is;
-      good = λ all. subst (λ (xs : List (Option Place)). AllByRecursion IsGood xs) same all;
+      count = omega (arith, ap (λ (xs : List (Option NodeSettings)). length (addresses_of xs)) same);
+      kept = λ i place is. subst (λ (xs : List (Option NodeSettings)). get_or xs i None ≡ Some place) same is;
+      good = λ all. subst (λ (xs : List (Option NodeSettings)). AllByRecursion IsGood xs) same all;
       said = tt;
     }
 put_all (t ∷ ts) places after e =
@@ -197,7 +197,7 @@ all_none zero = tt
 all_none (suc n) = (tt, all_none n)
 
 -- of good places each address is one
-pub addresses_good : (places : List (Option Place)) → AllByRecursion IsGood places → AllByRecursion (λ address. is_address address ≡ true) (addresses_of places)
+pub addresses_good : (places : List (Option NodeSettings)) → AllByRecursion IsGood places → AllByRecursion (λ address. is_address address ≡ true) (addresses_of places)
 addresses_good [] all = tt
 addresses_good (None ∷ places) all = addresses_good places all.1
 addresses_good (Some place ∷ places) all = (all.0, addresses_good places all.1)

@@ -6,30 +6,30 @@ use Rattle.std.specs.List.{AllByRecursion}
 use Rattle.toml.specs.Data.{Members}
 use Rattle.oc_config.specs.Laws.{IsSaid}
 use Rattle.oc_config.specs.Nodes.{nodes_in, address_at, area_at, addresses_of, areas_of}
-use Rattle.oc_config.specs.Settings.{Place, Settings}
+use Rattle.oc_config.specs.Settings.{NodeSettings, Settings}
 use Rattle.oc_config.proofs.Lists.{filter_map_full, filter_map_alike}
 use Rattle.oc_config.proofs.Places.{AreSaid, ArePut, put_all, none_first}
 
-no_area : (o : Option Place) → address_at o ≡ None → area_at o ≡ None
+no_area : (o : Option NodeSettings) → address_at o ≡ None → area_at o ≡ None
 no_area None e = refl
 no_area (Some place) e = cc
 
-some_area : (o : Option Place) (address : List ℕ) → address_at o ≡ Some address → (area : ℕ) × (area_at o ≡ Some area)
+some_area : (o : Option NodeSettings) (address : List ℕ) → address_at o ≡ Some address → (area : ℕ) × (area_at o ≡ Some area)
 some_area None address e = cc
 some_area (Some place) address e = (place.area, refl)
 
 -- there are as many areas as addresses
-pub areas_as_many : (places : List (Option Place)) → length (areas_of places) ≡ length (addresses_of places)
+pub areas_as_many : (places : List (Option NodeSettings)) → length (areas_of places) ≡ length (addresses_of places)
 areas_as_many places = sym (filter_map_alike address_at area_at no_area some_area places)
 
 -- after all tables were put into places that were free, each place is taken
-pub full : (ts : List Members) (after : List (Option Place)) → ArePut (replicate (length ts) None) after ts → (length after ≡ length ts) × (length (addresses_of after) ≡ length ts)
+pub full : (ts : List Members) (after : List (Option NodeSettings)) → ArePut (replicate (length ts) None) after ts → (length after ≡ length ts) × (length (addresses_of after) ≡ length ts)
 full ts after put =
     let none = length-replicate (length ts) None in
     (put.long ∙ none, put.count ∙ ap (λ (n : ℕ). n + length ts) (none_first (length ts)) ∙ omega arith)
 
 -- what the places say, the settings say
-said_all : (s : Settings) (places after : List (Option Place)) (nodes : ℕ) (ts : List Members) → s.addresses ≡ addresses_of after → s.areas ≡ areas_of after → length after ≡ nodes → length (addresses_of after) ≡ nodes → AllByRecursion (AreSaid places after nodes) ts → AllByRecursion (IsSaid s nodes) ts
+said_all : (s : Settings) (places after : List (Option NodeSettings)) (nodes : ℕ) (ts : List Members) → s.addresses ≡ addresses_of after → s.areas ≡ areas_of after → length after ≡ nodes → length (addresses_of after) ≡ nodes → AllByRecursion (AreSaid places after nodes) ts → AllByRecursion (IsSaid s nodes) ts
 said_all s places after nodes [] addresses areas long many all = tt
 said_all s places after nodes (t ∷ ts) addresses areas long many all =
     let one = all.0 in
@@ -46,7 +46,7 @@ said_all s places after nodes (t ∷ ts) addresses areas long many all =
     )
 
 -- of settings with these places each table is said
-pub settings_say : (s : Settings) (ts : List Members) (after : List (Option Place)) → nodes_in (replicate (length ts) None) ts ≡ Ok after → s.addresses ≡ addresses_of after → s.areas ≡ areas_of after → AllByRecursion (IsSaid s (length ts)) ts
+pub settings_say : (s : Settings) (ts : List Members) (after : List (Option NodeSettings)) → nodes_in (replicate (length ts) None) ts ≡ Ok after → s.addresses ≡ addresses_of after → s.areas ≡ areas_of after → AllByRecursion (IsSaid s (length ts)) ts
 settings_say s ts after e addresses areas =
     let put = put_all ts (replicate (length ts) None) after e in
     let whole = full ts after put in

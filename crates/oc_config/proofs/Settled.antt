@@ -6,7 +6,7 @@ use Rattle.oc_config.specs.AccessRules.{rules_in}
 use Rattle.oc_config.specs.Laws.{IsSaid}
 use Rattle.oc_config.specs.Nodes.{nodes_in, addresses_of, areas_of}
 use Rattle.oc_config.specs.Reading.{chain_in, node_tables_in, chain_within, measures_in, settings_with, with_rules, with_measures, with_chain, with_tables, with_nodes, settings_in}
-use Rattle.oc_config.specs.Settings.{Place, Settings}
+use Rattle.oc_config.specs.Settings.{NodeSettings, Settings}
 use Rattle.oc_config.specs.declared.fault.ConfigFault.{ConfigFault}
 use Rattle.oc_config.proofs.Results.{steps}
 use Rattle.oc_config.proofs.Said.{settings_say}
@@ -16,7 +16,7 @@ same_Ok a b r x y = let e : Ok a ≡ r = sym x in cc
 
 -- the places that settings were read from
 record HasPlaces (s : Settings) (tables : List Members) : Type 0 where
-  places : List (Option Place)
+  places : List (Option NodeSettings)
   nodes : nodes_in (replicate (length tables) None) tables ≡ Ok places
   addresses : s.addresses ≡ addresses_of places
   areas : s.areas ≡ areas_of places

@@ -12,7 +12,7 @@ use Rattle.oc_base.specs.Steps.{◌>>=◌}
 use Rattle.oc_policy.specs.declared.rule.Rule.{Rule}
 use Rattle.oc_config.specs.AccessRules.{rule_in, rules_from}
 use Rattle.oc_config.specs.Nodes.{GivesNode, node_in, nodes_in}
-use Rattle.oc_config.specs.Settings.{Place}
+use Rattle.oc_config.specs.Settings.{NodeSettings}
 use Rattle.oc_config.specs.Values.{GivesBy, tables_at}
 use Rattle.oc_config.specs.declared.entry.Entry.{Entry}
 use Rattle.oc_config.specs.declared.fault.ConfigFault.{ConfigFault}
@@ -37,19 +37,19 @@ nothing_left (t ∷ ts) (suc i) h = nothing_left ts i (omega (arith, h))
 -- Nodes
 
 -- after a node that was put
-pub node_put : (places next : List (Option Place)) (ts : Tables) (i : ℕ) (t : Bor (BTreeMap (String Global) TomlValue)) → i < length ts → t ≡ get_or ts i t → node_in places (table_view t.now) ≡ Ok next → nodes_in next (tables_at (drop (i + 1) ts)) ≡ nodes_in places (tables_at (drop i ts))
+pub node_put : (places next : List (Option NodeSettings)) (ts : Tables) (i : ℕ) (t : Bor (BTreeMap (String Global) TomlValue)) → i < length ts → t ≡ get_or ts i t → node_in places (table_view t.now) ≡ Ok next → nodes_in next (tables_at (drop (i + 1) ts)) ≡ nodes_in places (tables_at (drop i ts))
 node_put places next ts i t inside is put =
     let rest = tables_at (drop (i + 1) ts) in
-    sym (ap (nodes_in places) (next_table ts i t inside is) ∙ ap (λ (r : Result (List (Option Place)) ConfigFault). r >>= (λ p. nodes_in p rest)) put)
+    sym (ap (nodes_in places) (next_table ts i t inside is) ∙ ap (λ (r : Result (List (Option NodeSettings)) ConfigFault). r >>= (λ p. nodes_in p rest)) put)
 
 -- at a node that has a fault
-node_refused : (places : List (Option Place)) (fault : ConfigFault) (ts : Tables) (i : ℕ) (t : Bor (BTreeMap (String Global) TomlValue)) → i < length ts → t ≡ get_or ts i t → node_in places (table_view t.now) ≡ Err fault → nodes_in places (tables_at (drop i ts)) ≡ Err fault
+node_refused : (places : List (Option NodeSettings)) (fault : ConfigFault) (ts : Tables) (i : ℕ) (t : Bor (BTreeMap (String Global) TomlValue)) → i < length ts → t ≡ get_or ts i t → node_in places (table_view t.now) ≡ Err fault → nodes_in places (tables_at (drop i ts)) ≡ Err fault
 node_refused places fault ts i t inside is refused =
     let rest = tables_at (drop (i + 1) ts) in
-    ap (nodes_in places) (next_table ts i t inside is) ∙ ap (λ (r : Result (List (Option Place)) ConfigFault). r >>= (λ p. nodes_in p rest)) refused
+    ap (nodes_in places) (next_table ts i t inside is) ∙ ap (λ (r : Result (List (Option NodeSettings)) ConfigFault). r >>= (λ p. nodes_in p rest)) refused
 
 -- the fault of a node is that of all
-pub node_fault : (said : Result (List (Option Place)) ConfigFault) (places next : List (Option Place)) (fault : ConfigFault) (ts : Tables) (i : ℕ) (t : Bor (BTreeMap (String Global) TomlValue)) → i < length ts → t ≡ get_or ts i t → nodes_in places (tables_at (drop i ts)) ≡ said → GivesNode (Err fault) places next (table_view t.now) → GivesBy {X = Vec (Option Entry) Global} (λ v. v.items) (Err fault) said
+pub node_fault : (said : Result (List (Option NodeSettings)) ConfigFault) (places next : List (Option NodeSettings)) (fault : ConfigFault) (ts : Tables) (i : ℕ) (t : Bor (BTreeMap (String Global) TomlValue)) → i < length ts → t ≡ get_or ts i t → nodes_in places (tables_at (drop i ts)) ≡ said → GivesNode (Err fault) places next (table_view t.now) → GivesBy {X = Vec (Option Entry) Global} (λ v. v.items) (Err fault) said
 node_fault said places next Toml ts i t inside is rest gives = sym rest ∙ node_refused places Toml ts i t inside is gives
 node_fault said places next (Missing key) ts i t inside is rest gives = sym rest ∙ node_refused places (Missing key) ts i t inside is gives
 node_fault said places next (Value key) ts i t inside is rest gives = sym rest ∙ node_refused places (Value key) ts i t inside is gives

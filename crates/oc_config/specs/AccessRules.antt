@@ -4,15 +4,14 @@ use Rattle.std.specs.Result.{result_ok}
 use Rattle.std.specs.Str.{bytes_eq}
 use Rattle.toml.specs.Data.{Data, Members, as_str, as_bool}
 use Rattle.oc_base.specs.Steps.{◌>>=◌}
-use Rattle.oc_base.specs.declared.limits.TheConstants.{MAX_AREA}
 use Rattle.oc_policy.specs.Prefixes.{parsed_prefix}
 use Rattle.oc_policy.specs.declared.deciding.TheConstants.{MAX_RULES}
 use Rattle.oc_policy.specs.declared.rule.Action.{Action}
 use Rattle.oc_policy.specs.declared.rule.Action.TheVariants.{Get, Post}
 use Rattle.oc_policy.specs.declared.rule.Rule.{Rule}
-use Rattle.oc_config.specs.Values.{value_in, required, read_as, read_if, whole_in, tables_in}
+use Rattle.oc_config.specs.Values.{value_in, required, read_as, read_if, area_in, tables_in}
 use Rattle.oc_config.specs.declared.fault.ConfigFault.{ConfigFault}
-use Rattle.oc_config.specs.declared.key.Key.TheVariants.{Rule as RuleKey, Allow, Prefix, Method, Area}
+use Rattle.oc_config.specs.declared.key.Key.TheVariants.{Rule as RuleKey, Allow, Prefix, Method}
 
 abbrev pub allow_in : Members → Result Bool ConfigFault
 allow_in members = do
@@ -42,9 +41,6 @@ method_of d = action_of (as_str d)
 
 abbrev pub method_in : Members → Result (Option Action) ConfigFault
 method_in members = read_if Method method_of (value_in Method members)
-
-abbrev pub area_in : Members → Result (Option ℕ) ConfigFault
-area_in members = read_if Area (whole_in 0 MAX_AREA) (value_in Area members)
 
 -- the rule of a table
 abbrev pub rule_in : Members → Result Rule ConfigFault

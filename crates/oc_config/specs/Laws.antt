@@ -2,12 +2,12 @@
 use Rattle.std.specs.Prelude.{◌≡◌, ℕ, ◌-◌, Some, Ok, slice_get}
 use Rattle.toml.specs.Data.{Members}
 use Rattle.oc_config.specs.Nodes.{id_in, entry_in}
-use Rattle.oc_config.specs.Settings.{Place, Settings}
+use Rattle.oc_config.specs.Settings.{NodeSettings, Settings}
 
 -- the settings say of the node with this table's id, one of `nodes` nodes, what the table says
 pub record IsSaid (s : Settings) (nodes : ℕ) (table : Members) : Type 0 where
   pub id : ℕ
-  pub place : Place
+  pub place : NodeSettings
   pub id_is : id_in nodes table ≡ Ok id
   pub place_is : entry_in table ≡ Ok place
   pub address : slice_get s.addresses (id - 1) ≡ Some place.address

@@ -6,4 +6,3 @@ pub mod Nodes
 pub mod AccessRules
 pub mod Reading
 pub mod Laws
-pub mod Places

@@ -17,7 +17,7 @@ use Rattle.oc_policy.specs.declared.rule.Rule.{Rule}
 use Rattle.oc_config.specs.AccessRules.{rules_in}
 use Rattle.oc_config.specs.Addresses.{is_address}
 use Rattle.oc_config.specs.Nodes.{nodes_in, addresses_of, areas_of}
-use Rattle.oc_config.specs.Settings.{Place, Settings}
+use Rattle.oc_config.specs.Settings.{NodeSettings, Settings}
 use Rattle.oc_config.specs.Values.{value_in, required, read_as, whole_in, tables_in, fault_of, GivesBy}
 use Rattle.oc_config.specs.declared.fault.ConfigFault.{ConfigFault}
 use Rattle.oc_config.specs.declared.fault.ConfigFault.TheVariants.{Toml, Value}
@@ -57,24 +57,24 @@ measures_in nodes members = measures_at nodes (value_in Measures members)
 -- What a table says, with the first fault in the order of these steps:
 
 -- all of it
-abbrev pub settings_with : ℕ → List (Option Place) → List Measure → List Rule → Result Settings ConfigFault
+abbrev pub settings_with : ℕ → List (Option NodeSettings) → List Measure → List Rule → Result Settings ConfigFault
 settings_with chain places measures rules =
     Ok (record { chain = chain; addresses = addresses_of places; areas = areas_of places; measures = measures; rules = rules })
 
 -- the rules, where all before them is read
-abbrev pub with_rules : Members → ℕ → List (Option Place) → List Measure → Result Settings ConfigFault
+abbrev pub with_rules : Members → ℕ → List (Option NodeSettings) → List Measure → Result Settings ConfigFault
 with_rules members chain places measures = do
   rules ← rules_in members
   settings_with chain places measures rules
 
 -- the measures
-abbrev pub with_measures : Members → ℕ → ℕ → List (Option Place) → Result Settings ConfigFault
+abbrev pub with_measures : Members → ℕ → ℕ → List (Option NodeSettings) → Result Settings ConfigFault
 with_measures members chain nodes places = do
   measures ← measures_in nodes members
   with_rules members chain places measures
 
 -- the chain against the number of nodes
-abbrev pub with_chain : Members → ℕ → ℕ → List (Option Place) → Result Settings ConfigFault
+abbrev pub with_chain : Members → ℕ → ℕ → List (Option NodeSettings) → Result Settings ConfigFault
 with_chain members chain nodes places = do
   done ← chain_within nodes chain
   with_measures members chain nodes places

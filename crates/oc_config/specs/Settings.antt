@@ -3,8 +3,8 @@ use Rattle.std.specs.Prelude.{ℕ, List}
 use Rattle.oc_updown.specs.declared.measure_lines.Measure.{Measure}
 use Rattle.oc_policy.specs.declared.rule.Rule.{Rule}
 
--- what is said of a node
-pub record Place : Type 0 where
+-- what is said of a node, apart from its id
+pub record NodeSettings : Type 0 where
   pub address : List ℕ
   pub area : ℕ
 

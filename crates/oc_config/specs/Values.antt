@@ -7,14 +7,13 @@ use Rattle.toml.specs.Data.{Data, Items, no_items, item, Members, get_member, as
 use Rattle.toml.specs.View.{table_view}
 use Rattle.toml.specs.declared.value.Value.{Value as TomlValue}
 use Rattle.oc_base.specs.Steps.{◌>>=◌}
-use Rattle.oc_config.specs.declared.place.IdFault.{IdFault}
-use Rattle.oc_config.specs.declared.place.IdFault.TheVariants as ids
+use Rattle.oc_base.specs.declared.limits.TheConstants.{MAX_AREA}
 use Rattle.oc_updown.specs.declared.measure_fault.MeasureFault.{MeasureFault}
 use Rattle.oc_updown.specs.declared.measure_fault.MeasureFault.TheVariants as measures
 use Rattle.oc_config.specs.declared.fault.ConfigFault.{ConfigFault}
-use Rattle.oc_config.specs.declared.fault.ConfigFault.TheVariants.{Missing, Value, Repeat, Measure, Memory}
+use Rattle.oc_config.specs.declared.fault.ConfigFault.TheVariants.{Missing, Value, Measure, Memory}
 use Rattle.oc_config.specs.declared.key.Key.{Key}
-use Rattle.oc_config.specs.declared.key.Key.TheVariants.{Id}
+use Rattle.oc_config.specs.declared.key.Key.TheVariants.{Area}
 use Rattle.oc_config.specs.Keys.{key_text}
 
 -- the value of a key
@@ -43,6 +42,10 @@ within least most o = None
 
 abbrev pub whole_in : ℕ → ℕ → Data → Option ℕ
 whole_in least most d = within least most (as_integer d)
+
+-- the area that a table says, if it says one
+abbrev pub area_in : Members → Result (Option ℕ) ConfigFault
+area_in members = read_if Area (whole_in 0 MAX_AREA) (value_in Area members)
 
 -- how many items there are
 abbrev pub count_items : Items → ℕ
@@ -89,8 +92,3 @@ GivesTables result tables fault = GivesBy (λ v. tables_at v.items) result (ok_o
 abbrev pub fault_of : MeasureFault → ConfigFault
 fault_of (measures.Line line why) = Measure line why
 fault_of measures.Memory = Memory
-
--- a fault of an id
-abbrev pub fault_of_id : IdFault → ConfigFault
-fault_of_id ids.Value = Value Id
-fault_of_id (ids.Repeat id) = Repeat id

@@ -9,9 +9,9 @@ pub(crate) struct Entry {
 
 impl Model for Entry {
     ghost use Rattle.std.specs.Prelude.{string_bytes};
-    ghost use Rattle.oc_config.specs.Settings.{Place};
+    ghost use Rattle.oc_config.specs.Settings.{NodeSettings};
 
-    ghost Value = { Place };
+    ghost Value = { NodeSettings };
 
     ghost view = { λ e. record { address = string_bytes e.address; area = e.area } };
 }

@@ -1,7 +1,6 @@
 ghost use Rattle.std.specs.Prelude.{◌≡◌};
-ghost use Rattle.oc_config.specs.Values.{fault_of, fault_of_id};
+ghost use Rattle.oc_config.specs.Values.{fault_of};
 
-use crate::IdFault;
 use crate::key::Key;
 use oc_base::{Memory, Why};
 use oc_updown::MeasureFault;
@@ -78,17 +77,6 @@ impl From<MeasureFault> for ConfigFault {
         match error {
             MeasureFault::Line { line, why } => ConfigFault::Measure { line, why },
             MeasureFault::Memory => ConfigFault::Memory,
-        }
-    }
-}
-
-impl From<IdFault> for ConfigFault {
-    ghost from_gives = { λ error fault. fault ≡ fault_of_id error };
-
-    fn from(error: IdFault) -> ConfigFault {
-        match error {
-            IdFault::Value => ConfigFault::Value(Key::Id),
-            IdFault::Repeat(id) => ConfigFault::Repeat(id),
         }
     }
 }

@@ -1,15 +1,13 @@
 //! The configuration of a network: its nodes, what is measured, and who may read and post what.
 //!
 //! A configuration is a TOML text. [`read`] is what the layers above use: it gives exactly what
-//! `settings_of` makes of the bytes, the settings or the first fault, unless memory runs out. What the
-//! text is as a table is said by `toml` (`parse_document`); `specs/Reading` says what a table means,
-//! with its faults in their order, `specs/Nodes` what the table of a node means and `specs/AccessRules`
-//! what that of a rule does. What is read is within the ranges (`IsConfig`).
-//! [`each_node_has_its_table`] says that each address and area is that of the table with the node's id.
+//! `settings_of` makes of the bytes, the settings or the first fault, unless memory runs out. What is
+//! read is within the ranges (`IsConfig`), and [`each_node_has_its_table`] says that each address and
+//! area is that of the table with the node's id.
 //!
-//! The ids of the nodes of a configuration: each has one place of its own, and no id is said twice.
-//!
-//! Of the faults that an id can have, a bad value comes before a repeat ([`free_place`]).
+//! What the text is as a table is said by `toml` (`parse_document`); `specs/Reading` says what a table
+//! means, with its faults in their order, `specs/Nodes` what the table of a node means, and
+//! `specs/AccessRules` what that of a rule does.
 #![tactic(auto)]
 
 mod address;
@@ -19,7 +17,6 @@ mod fault;
 mod key;
 mod law;
 mod nodes;
-mod place;
 mod reading;
 mod rules;
 mod values;
@@ -31,5 +28,4 @@ pub use law::each_node_has_its_table;
 pub use oc_base::Why;
 pub use oc_policy::{Action, Prefix, Rule};
 pub use oc_updown::Measure;
-pub use place::{IdFault, free_place};
 pub use reading::read;

@@ -1,19 +1,18 @@
 //! The tables of nodes.
 
-ghost use Rattle.std.specs.Prelude.{◌≡◌, ◌≤◌, IfOk, IfSome, OnOk, length, vec_len, replicate, None};
-ghost use Rattle.toml.specs.View.{view, table_view};
+ghost use Rattle.std.specs.Prelude.{◌≡◌, ◌≤◌, IfOk, OnOk, length, vec_len, replicate, None};
+ghost use Rattle.toml.specs.View.{table_view};
 ghost use Rattle.oc_config.specs.Values.{Gives, GivesBy, tables_at};
-ghost use Rattle.oc_config.specs.Nodes.{said_id, address_in, area_in, entry_in, nodes_in, GivesNode, GivesSplit, PutsPlace};
+ghost use Rattle.oc_config.specs.Nodes.{id_in, address_in, node_area_in, entry_in, nodes_in, GivesNode, GivesSplit, PutsPlace};
 
 use crate::address::is_address;
 use crate::entry::Entry;
 use crate::fault::ConfigFault;
-use crate::free_place;
 use crate::key::Key;
-use crate::values::{required, value_at, whole};
-use oc_base::{MAX_AREA, MAX_NODES, Memory};
+use crate::values::{area, required, whole};
+use oc_base::{MAX_NODES, Memory};
 use std::alloc::Global;
-use toml::{Table, Value};
+use toml::Table;
 
 /// What is said of each node, by its id. Each id from 1 to the number of tables occurs in one of them.
 pub(crate) fn nodes(alloc: Global, tables: &[&Table]) -> Result<Vec<Option<Entry>>, ConfigFault>
@@ -48,19 +47,23 @@ fn put_node(
     ensures said { GivesNode result places.old.items places.new.items (table_view table.now) }
     ensures len { vec_len places.new ≡ vec_len places.old }
 {
-    let place = free_place(places, id(table, places.len())?)?;
+    let id = id(table, places.len())?;
+    let place = id as usize - 1;
+    if places[place].is_some() {
+        return Err(ConfigFault::Repeat(id));
+    }
     places[place] = Some(entry(alloc, table)?);
     Ok(())
 }
 
-/// The id that the table of one of `nodes` nodes says, `None` where its value is none from 1 to `nodes`.
-fn id(table: &Table, nodes: usize) -> Result<Option<u32>, ConfigFault>
+/// The id that the table of one of `nodes` nodes says.
+fn id(table: &Table, nodes: usize) -> Result<u32, ConfigFault>
     requires { nodes ≤ MAX_NODES }
-    ensures said { result ≡ said_id nodes (table_view table.now) }
-    ensures range { IfOk result (λ said. IfSome said (λ id. (1 ≤ id) × (id ≤ nodes))) }
+    ensures said { result ≡ id_in nodes (table_view table.now) }
+    ensures range { IfOk result (λ id. (1 ≤ id) × (id ≤ nodes)) }
 {
     let value = required(table, Key::Id)?;
-    Ok(whole(value, 1, nodes as u32))
+    whole(value, 1, nodes as u32).ok_or(ConfigFault::Value(Key::Id))
 }
 
 /// What a table says of a node, apart from its id.
@@ -68,7 +71,7 @@ fn entry(alloc: Global, table: &Table) -> Result<Entry, ConfigFault>
     ensures { Gives result (entry_in (table_view table.now)) }
 {
     let address = address(table)?;
-    let area = area(table)?;
+    let area = node_area(table)?;
     Ok(Entry {
         address: String::from_str(alloc, address)?,
         area,
@@ -86,16 +89,10 @@ fn address(table: &Table) -> Result<&str, ConfigFault>
 }
 
 /// The area of a node, which is 0 where its table says none.
-fn area(table: &Table) -> Result<u8, ConfigFault>
-    ensures { result ≡ area_in (table_view table.now) }
+fn node_area(table: &Table) -> Result<u8, ConfigFault>
+    ensures { result ≡ node_area_in (table_view table.now) }
 {
-    match value_at(table, Key::Area) {
-        None => Ok(0),
-        Some(value) => match whole(value, 0, u32::from(MAX_AREA)) {
-            Some(area) => Ok(area as u8),
-            None => Err(ConfigFault::Value(Key::Area)),
-        },
-    }
+    Ok(area(table)?.unwrap_or(0))
 }
 
 /// The addresses and the areas of the places, in their order.

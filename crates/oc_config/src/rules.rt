@@ -3,12 +3,11 @@
 ghost use Rattle.std.specs.Prelude.{◌≡◌, ◌≤◌, [], IfOk, length, vec_len};
 ghost use Rattle.toml.specs.View.{view, table_view};
 ghost use Rattle.oc_config.specs.Values.{GivesBy, tables_at};
-ghost use Rattle.oc_config.specs.AccessRules.{rules_in, rules_from, rule_in, allow_in, prefix_in, method_in, method_of, area_in};
+ghost use Rattle.oc_config.specs.AccessRules.{rules_in, rules_from, rule_in, allow_in, prefix_in, method_in, method_of};
 
 use crate::fault::ConfigFault;
 use crate::key::Key;
-use crate::values::{required, tables, value_at, whole};
-use oc_base::MAX_AREA;
+use crate::values::{area, required, tables, value_at};
 use oc_policy::{Action, MAX_RULES, Prefix, Rule};
 use std::alloc::Global;
 use toml::{Table, Value};
@@ -89,17 +88,5 @@ fn action(value: &Value) -> Option<Action>
         Some("get") => Some(Action::Get),
         Some("post") => Some(Action::Post),
         _ => None,
-    }
-}
-
-fn area(table: &Table) -> Result<Option<u8>, ConfigFault>
-    ensures { result ≡ area_in (table_view table.now) }
-{
-    match value_at(table, Key::Area) {
-        None => Ok(None),
-        Some(value) => match whole(value, 0, u32::from(MAX_AREA)) {
-            Some(area) => Ok(Some(area as u8)),
-            None => Err(ConfigFault::Value(Key::Area)),
-        },
     }
 }

@@ -2,10 +2,11 @@
 
 ghost use Rattle.std.specs.Prelude.{◌≡◌, ◌≤◌, Some, Err, IfSome, IfOk, IfErr, option_map, length, vec_len};
 ghost use Rattle.toml.specs.View.{view, table_view, items_view};
-ghost use Rattle.oc_config.specs.Values.{value_in, required, whole_in, GivesBy, GivesTables, tables_in, tables_of, all_tables};
+ghost use Rattle.oc_config.specs.Values.{value_in, required, whole_in, area_in, GivesBy, GivesTables, tables_in, tables_of, all_tables};
 
 use crate::fault::ConfigFault;
 use crate::key::Key;
+use oc_base::MAX_AREA;
 use std::alloc::Global;
 use toml::{Table, Value};
 
@@ -37,6 +38,19 @@ pub(crate) fn whole(value: &Value, least: u32, most: u32) -> Option<u32>
         Some(number)
     } else {
         None
+    }
+}
+
+/// The area that a table says, if it says one.
+pub(crate) fn area(table: &Table) -> Result<Option<u8>, ConfigFault>
+    ensures { result ≡ area_in (table_view table.now) }
+{
+    match value_at(table, Key::Area) {
+        None => Ok(None),
+        Some(value) => match whole(value, 0, u32::from(MAX_AREA)) {
+            Some(area) => Ok(Some(area as u8)),
+            None => Err(ConfigFault::Value(Key::Area)),
+        },
     }
 }
 

@@ -10,7 +10,7 @@ use Rattle.oc_fetch.specs.declared.extent.Extent.TheVariants.{Chunked}
 use Rattle.oc_fetch.specs.declared.extent.TheConstants.{MAX_OPEN_BYTES}
 use Rattle.oc_fetch.proofs.Moving.{Then, front_whole, front_behind, unseen}
 use Rattle.oc_io.specs.Faults.{NoFall}
-use Rattle.oc_chunked.specs.Stages.{Stage, in_size, in_chunk, in_closing, ended, refused, is_ended, wanted_at}
+use Rattle.oc_chunked.specs.Stages.{Stage, in_size, in_chunk, in_trailer, ended, refused, is_ended, wanted_at}
 use Rattle.oc_chunked.specs.Taken.{IsTaken}
 
 -- What is wanted
@@ -19,7 +19,7 @@ use Rattle.oc_chunked.specs.Taken.{IsTaken}
 pub wanted_none : (s : Stage) → wanted_at s ≡ 0 → is_ended s ≡ true
 wanted_none (in_size line) none = cc
 wanted_none (in_chunk left) none = absurd (omega (arith, none))
-wanted_none (in_closing front) none = cc
+wanted_none (in_trailer front) none = cc
 wanted_none ended none = refl
 wanted_none (refused fault) none = cc
 
@@ -27,7 +27,7 @@ wanted_none (refused fault) none = cc
 pub wanted_some : (s : Stage) → 0 < wanted_at s → is_ended s ≡ false
 wanted_some (in_size line) some = refl
 wanted_some (in_chunk left) some = refl
-wanted_some (in_closing front) some = refl
+wanted_some (in_trailer front) some = refl
 wanted_some ended some = absurd (omega (arith, some))
 wanted_some (refused fault) some = refl
 
@@ -89,7 +89,7 @@ passed_put gives takes sent a b p q r s count more gathered left has put = recor
 ended_at : (s : Stage) → is_ended s ≡ true → s ≡ ended
 ended_at (in_size line) end = cc
 ended_at (in_chunk left) end = cc
-ended_at (in_closing front) end = cc
+ended_at (in_trailer front) end = cc
 ended_at ended end = refl
 ended_at (refused fault) end = cc
 
@@ -97,7 +97,7 @@ ended_at (refused fault) end = cc
 ends_early : (s : Stage) (content rest : List ℕ) (over : Bool) → is_ended s ≡ false → rest ≡ [] → over ≡ true → BreaksOff s content rest over
 ends_early (in_size line) content rest over goes none end = inl (none, refl, end)
 ends_early (in_chunk left) content rest over goes none end = inl (none, refl, end)
-ends_early (in_closing front) content rest over goes none end = inl (none, refl, end)
+ends_early (in_trailer front) content rest over goes none end = inl (none, refl, end)
 ends_early ended content rest over goes none end = cc
 ends_early (refused fault) content rest over goes none end = inr (inl (fault, refl))
 

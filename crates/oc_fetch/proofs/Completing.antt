@@ -11,7 +11,7 @@ use Rattle.oc_fetch.specs.declared.end.GetEnd.{GetEnd}
 use Rattle.oc_fetch.specs.declared.end.GetEnd.TheVariants as ends
 use Rattle.oc_fetch.specs.declared.extent.Extent.{Extent}
 use Rattle.oc_fetch.specs.declared.extent.Extent.TheVariants.{Counted, Chunked, ToTheEnd}
-use Rattle.oc_fetch.specs.declared.place.Place.{Place}
+use Rattle.oc_fetch.specs.declared.client_state.ClientState.{ClientState}
 use Rattle.oc_fetch.proofs.OneHead.{OneAnswer, same_head, says_more, not_headless}
 use Rattle.oc_fetch.proofs.Spoken.{some_is}
 use Rattle.oc_http.specs.declared.reply.ReplyHead.{ReplyHead}
@@ -43,12 +43,12 @@ not_both n a b = absurd (omega (arith, a, b))
 
 -- Where a turn led on
 
--- two redirections of one reply lead to one place
-one_place : (place : Place) (h k : ReplyHead) (p q : Place) → h ≡ k → Redirects place h p → Redirects place k q → p ≡ q
-one_place place h k p q e r s =
+-- two redirections of one reply lead to one state
+one_state : (state : ClientState) (h k : ReplyHead) (p q : ClientState) → h ≡ k → Redirects state h p → Redirects state k q → p ≡ q
+one_state state h k p q e r s =
     let location : Some r.follows.points.text ≡ Some s.follows.points.text = sym r.follows.points.is ∙ ap (λ (x : ReplyHead). x.location) e ∙ s.follows.points.is in
-    let url = one_url place.target r.follows.points.text s.follows.points.text r.follows.url s.follows.url (some_is _ _ location) r.follows.points.leads s.follows.points.leads in
-    r.follows.next_is ∙ ap (λ (u : Parts). sent_to u place) url ∙ sym s.follows.next_is
+    let url = one_url state.target r.follows.points.text s.follows.points.text r.follows.url s.follows.url (some_is _ _ location) r.follows.points.leads s.follows.points.leads in
+    r.follows.next_is ∙ ap (λ (u : Parts). sent_to u state) url ∙ sym s.follows.next_is
 
 -- after a content of which one was wanted none is wanted
 none_wanted : (length : Option ℕ) (replies : ℕ) → replies ≡ 1 → wanted_after length replies ≡ 0
@@ -56,18 +56,18 @@ none_wanted None replies one = omega arith
 none_wanted (Some count) replies one = refl
 
 -- where none is wanted, the conversation is done
-none_goes_on : (wish : Wish) (place : Place) (through : List Turn) (content : List ℕ) (reached : Place) (last : Option Turn) (rest : List ℕ) (end : GetEnd) → place.replies ≡ 0 → Leads wish place through content reached → EndsAt wish reached last rest end → IsUnrefused end
-none_goes_on wish place (t ∷ through) content reached last rest end none leads ends = absurd (omega (arith, leads.0, none))
-none_goes_on wish place [] content reached None rest ends.Done none leads ends = tt
-none_goes_on wish place [] content reached None rest ends.Memory none leads ends = tt
-none_goes_on wish place [] content reached None rest ends.Link none leads ends = tt
-none_goes_on wish place [] content reached None rest ends.Sink none leads ends = tt
-none_goes_on wish place [] content reached None rest ends.BadUrl none leads ends = absurd ends
-none_goes_on wish place [] content reached None rest (ends.Refused status) none leads ends = absurd ends
-none_goes_on wish place [] content reached None rest ends.Redirects none leads ends = absurd ends
-none_goes_on wish place [] content reached None rest ends.Reply none leads ends = absurd ends
-none_goes_on wish place [] content reached (Some turn) rest end none leads ends =
-    let same : reached.replies ≡ place.replies = ap (λ (p : Place). p.replies) leads.1 in
+none_goes_on : (wish : Wish) (state : ClientState) (through : List Turn) (content : List ℕ) (reached : ClientState) (last : Option Turn) (rest : List ℕ) (end : GetEnd) → state.replies ≡ 0 → Leads wish state through content reached → EndsAt wish reached last rest end → IsUnrefused end
+none_goes_on wish state (t ∷ through) content reached last rest end none leads ends = absurd (omega (arith, leads.0, none))
+none_goes_on wish state [] content reached None rest ends.Done none leads ends = tt
+none_goes_on wish state [] content reached None rest ends.Memory none leads ends = tt
+none_goes_on wish state [] content reached None rest ends.Link none leads ends = tt
+none_goes_on wish state [] content reached None rest ends.Sink none leads ends = tt
+none_goes_on wish state [] content reached None rest ends.BadUrl none leads ends = absurd ends
+none_goes_on wish state [] content reached None rest (ends.Refused status) none leads ends = absurd ends
+none_goes_on wish state [] content reached None rest ends.Redirects none leads ends = absurd ends
+none_goes_on wish state [] content reached None rest ends.Reply none leads ends = absurd ends
+none_goes_on wish state [] content reached (Some turn) rest end none leads ends =
+    let same : reached.replies ≡ state.replies = ap (λ (p : ClientState). p.replies) leads.1 in
     absurd (omega (arith, ends.0, same, none))
 
 -- Where the last turn ended
@@ -81,22 +81,22 @@ not_cut Chunked behind left over end holds none = absurd holds
 not_cut ToTheEnd behind left over end holds none = absurd (omega (arith, length-append behind left, holds, none))
 
 -- a 200 with a whole content
-content_unrefused : OneAnswer → (place : Place) (turn : Turn) (text : List ℕ) (written : List ℕ) (end : GetEnd) → IsFrontOf turn text → Replied text IsContent → EndsWith whole place turn.reply turn.over written end → IsUnrefused end
-content_unrefused one place turn text written ends.Link front said ends = tt
-content_unrefused one place turn text written ends.Sink front said ends = tt
-content_unrefused one place turn text written ends.Memory front said ends = tt
-content_unrefused one place turn text written ends.Done front said ends = tt
-content_unrefused one place turn text written ends.BadUrl front said ends = absurd ends
-content_unrefused one place turn text written (ends.Refused status) front said ends =
+content_unrefused : OneAnswer → (state : ClientState) (turn : Turn) (text : List ℕ) (written : List ℕ) (end : GetEnd) → IsFrontOf turn text → Replied text IsContent → EndsWith whole state turn.reply turn.over written end → IsUnrefused end
+content_unrefused one state turn text written ends.Link front said ends = tt
+content_unrefused one state turn text written ends.Sink front said ends = tt
+content_unrefused one state turn text written ends.Memory front said ends = tt
+content_unrefused one state turn text written ends.Done front said ends = tt
+content_unrefused one state turn text written ends.BadUrl front said ends = absurd ends
+content_unrefused one state turn text written (ends.Refused status) front said ends =
     let was = ends.1 in
     let same = same_head one text was.head said.head _ _ (says_more turn.reply front.left text was.head was.behind front.split was.says) said.says in
     absurd (was.so.1 (sym was.so.0 ∙ ap (λ (h : ReplyHead). h.status) same.0 ∙ said.so.0.status))
-content_unrefused one place turn text written ends.Redirects front said ends =
+content_unrefused one state turn text written ends.Redirects front said ends =
     let was = ends.2 in
     let same = same_head one text was.head said.head _ _ (says_more turn.reply front.left text was.head was.behind front.split was.says) said.says in
     absurd (not_both said.head.status said.so.0.status (sym (ap (λ (h : ReplyHead). h.status) same.0) ∙ was.so.1.status))
-content_unrefused one place turn text written ends.Reply front said (inl none) = absurd (not_headless one turn.reply front.left text turn.over said.head said.behind front.split front.end said.says none.0)
-content_unrefused one place turn text written ends.Reply front said (inr was) =
+content_unrefused one state turn text written ends.Reply front said (inl none) = absurd (not_headless one turn.reply front.left text turn.over said.head said.behind front.split front.end said.says none.0)
+content_unrefused one state turn text written ends.Reply front said (inr was) =
     let same = same_head one text was.head said.head _ _ (says_more turn.reply front.left text was.head was.behind front.split was.says) said.says in
     absurd (elim was.so [
       | inl nowhere ↦ not_both said.head.status said.so.0.status (sym (ap (λ (h : ReplyHead). h.status) same.0) ∙ nowhere.0.status)
@@ -109,24 +109,24 @@ content_unrefused one place turn text written ends.Reply front said (inr was) =
     ])
 
 -- a redirection that leads on
-redirection_unrefused : OneAnswer → (place next : Place) (turn : Turn) (text : List ℕ) (written : List ℕ) (end : GetEnd) → IsFrontOf turn text → Replied text (λ head behind. Redirects place head next) → EndsWith whole place turn.reply turn.over written end → IsUnrefused end
-redirection_unrefused one place next turn text written ends.Link front said ends = tt
-redirection_unrefused one place next turn text written ends.Sink front said ends = tt
-redirection_unrefused one place next turn text written ends.Memory front said ends = tt
-redirection_unrefused one place next turn text written ends.Done front said ends = tt
-redirection_unrefused one place next turn text written ends.BadUrl front said ends = absurd ends
-redirection_unrefused one place next turn text written (ends.Refused status) front said ends =
+redirection_unrefused : OneAnswer → (state next : ClientState) (turn : Turn) (text : List ℕ) (written : List ℕ) (end : GetEnd) → IsFrontOf turn text → Replied text (λ head behind. Redirects state head next) → EndsWith whole state turn.reply turn.over written end → IsUnrefused end
+redirection_unrefused one state next turn text written ends.Link front said ends = tt
+redirection_unrefused one state next turn text written ends.Sink front said ends = tt
+redirection_unrefused one state next turn text written ends.Memory front said ends = tt
+redirection_unrefused one state next turn text written ends.Done front said ends = tt
+redirection_unrefused one state next turn text written ends.BadUrl front said ends = absurd ends
+redirection_unrefused one state next turn text written (ends.Refused status) front said ends =
     let was = ends.1 in
     let same = same_head one text was.head said.head _ _ (says_more turn.reply front.left text was.head was.behind front.split was.says) said.says in
     absurd (was.so.2 (sym was.so.0 ∙ ap (λ (h : ReplyHead). h.status) same.0 ∙ said.so.status))
-redirection_unrefused one place next turn text written ends.Redirects front said ends = absurd (omega (arith, ends.1, said.so.follows.may))
-redirection_unrefused one place next turn text written ends.Reply front said (inl none) = absurd (not_headless one turn.reply front.left text turn.over said.head said.behind front.split front.end said.says none.0)
-redirection_unrefused one place next turn text written ends.Reply front said (inr was) =
+redirection_unrefused one state next turn text written ends.Redirects front said ends = absurd (omega (arith, ends.1, said.so.follows.may))
+redirection_unrefused one state next turn text written ends.Reply front said (inl none) = absurd (not_headless one turn.reply front.left text turn.over said.head said.behind front.split front.end said.says none.0)
+redirection_unrefused one state next turn text written ends.Reply front said (inr was) =
     let same = same_head one text was.head said.head _ _ (says_more turn.reply front.left text was.head was.behind front.split was.says) said.says in
     let status = ap (λ (h : ReplyHead). h.status) same.0 in
     absurd (elim was.so [
       | inl nowhere ↦
-          let lost : IsLost place.target (Some said.so.follows.points.text) = subst (λ (l : Option (List ℕ)). IsLost place.target l) (ap (λ (h : ReplyHead). h.location) same.0 ∙ said.so.follows.points.is) nowhere.0.lost in
+          let lost : IsLost state.target (Some said.so.follows.points.text) = subst (λ (l : Option (List ℕ)). IsLost state.target l) (ap (λ (h : ReplyHead). h.location) same.0 ∙ said.so.follows.points.is) nowhere.0.lost in
           lost said.so.follows.url said.so.follows.points.leads
       | inr stops ↦ elim stops [
         | inl untaken ↦ not_both was.head.status untaken.0.status (status ∙ said.so.status)
@@ -135,44 +135,44 @@ redirection_unrefused one place next turn text written ends.Reply front said (in
     ])
 
 -- a last turn
-last_unrefused : OneAnswer → (place : Place) (turn : Turn) (text : List ℕ) (texts : List (List ℕ)) (written : List ℕ) (end : GetEnd) → IsFrontOf turn text → LeadToContent place (text ∷ texts) → EndsIn whole place turn written end → IsUnrefused end
-last_unrefused one place turn text texts written end front leads (inr cut) = subst IsUnrefused (sym cut.2) tt
-last_unrefused one place turn text texts written end front (inl content) (inl asked) = content_unrefused one place turn text written end front content asked.1
-last_unrefused one place turn text texts written end front (inr (next, said, more)) (inl asked) = redirection_unrefused one place next turn text written end front said asked.1
+last_unrefused : OneAnswer → (state : ClientState) (turn : Turn) (text : List ℕ) (texts : List (List ℕ)) (written : List ℕ) (end : GetEnd) → IsFrontOf turn text → LeadToContent state (text ∷ texts) → EndsIn whole state turn written end → IsUnrefused end
+last_unrefused one state turn text texts written end front leads (inr cut) = subst IsUnrefused (sym cut.2) tt
+last_unrefused one state turn text texts written end front (inl content) (inl asked) = content_unrefused one state turn text written end front content asked.1
+last_unrefused one state turn text texts written end front (inr (next, said, more)) (inl asked) = redirection_unrefused one state next turn text written end front said asked.1
 
--- at a place
-at_unrefused : OneAnswer → (place : Place) (last : Option Turn) (texts : List (List ℕ)) (written : List ℕ) (end : GetEnd) → AreFronts (option_to_list last) texts → LeadToContent place texts → EndsAt whole place last written end → IsUnrefused end
-at_unrefused one place None texts written ends.Done fronts leads ends = tt
-at_unrefused one place None texts written ends.Memory fronts leads ends = tt
-at_unrefused one place None texts written ends.Link fronts leads ends = tt
-at_unrefused one place None texts written ends.Sink fronts leads ends = tt
-at_unrefused one place None texts written ends.BadUrl fronts leads ends = absurd ends
-at_unrefused one place None texts written (ends.Refused status) fronts leads ends = absurd ends
-at_unrefused one place None texts written ends.Redirects fronts leads ends = absurd ends
-at_unrefused one place None texts written ends.Reply fronts leads ends = absurd ends
-at_unrefused one place (Some turn) [] written end fronts leads ends = absurd fronts
-at_unrefused one place (Some turn) (text ∷ texts) written end fronts leads ends = last_unrefused one place turn text texts written end fronts.0 leads ends.1
+-- at a state
+at_unrefused : OneAnswer → (state : ClientState) (last : Option Turn) (texts : List (List ℕ)) (written : List ℕ) (end : GetEnd) → AreFronts (option_to_list last) texts → LeadToContent state texts → EndsAt whole state last written end → IsUnrefused end
+at_unrefused one state None texts written ends.Done fronts leads ends = tt
+at_unrefused one state None texts written ends.Memory fronts leads ends = tt
+at_unrefused one state None texts written ends.Link fronts leads ends = tt
+at_unrefused one state None texts written ends.Sink fronts leads ends = tt
+at_unrefused one state None texts written ends.BadUrl fronts leads ends = absurd ends
+at_unrefused one state None texts written (ends.Refused status) fronts leads ends = absurd ends
+at_unrefused one state None texts written ends.Redirects fronts leads ends = absurd ends
+at_unrefused one state None texts written ends.Reply fronts leads ends = absurd ends
+at_unrefused one state (Some turn) [] written end fronts leads ends = absurd fronts
+at_unrefused one state (Some turn) (text ∷ texts) written end fronts leads ends = last_unrefused one state turn text texts written end fronts.0 leads ends.1
 
 -- The whole
 
-pub unrefused : OneAnswer → (place : Place) (through : List Turn) (content : List ℕ) (reached : Place) (last : Option Turn) (texts : List (List ℕ)) (rest : List ℕ) (end : GetEnd) → place.replies ≡ 1 → Leads whole place through content reached → EndsAt whole reached last rest end → AreFronts (through ++ option_to_list last) texts → LeadToContent place texts → IsUnrefused end
-unrefused one place [] content reached last texts rest end wanted leads ends fronts lead =
-    at_unrefused one place last texts rest end fronts lead (subst (λ (p : Place). EndsAt whole p last rest end) leads.1 ends)
-unrefused one place (turn ∷ through) content reached last [] rest end wanted leads ends fronts lead = absurd fronts
-unrefused one place (turn ∷ through) content reached last (text ∷ texts) rest end wanted (some, (next, first, more, goes, split, leads)) ends fronts lead =
+pub unrefused : OneAnswer → (state : ClientState) (through : List Turn) (content : List ℕ) (reached : ClientState) (last : Option Turn) (texts : List (List ℕ)) (rest : List ℕ) (end : GetEnd) → state.replies ≡ 1 → Leads whole state through content reached → EndsAt whole reached last rest end → AreFronts (through ++ option_to_list last) texts → LeadToContent state texts → IsUnrefused end
+unrefused one state [] content reached last texts rest end wanted leads ends fronts lead =
+    at_unrefused one state last texts rest end fronts lead (subst (λ (p : ClientState). EndsAt whole p last rest end) leads.1 ends)
+unrefused one state (turn ∷ through) content reached last [] rest end wanted leads ends fronts lead = absurd fronts
+unrefused one state (turn ∷ through) content reached last (text ∷ texts) rest end wanted (some, (next, first, more, goes, split, leads)) ends fronts lead =
     let was = goes.leads in
     let front = fronts.0 in
     let longer = says_more turn.reply front.left text was.head was.behind front.split was.says in
     elim was.so [
-      | inr brings ↦ none_goes_on whole next through more reached last rest end (ap (λ (p : Place). p.replies) brings.next_is ∙ none_wanted was.head.length place.replies wanted) leads ends
+      | inr brings ↦ none_goes_on whole next through more reached last rest end (ap (λ (p : ClientState). p.replies) brings.next_is ∙ none_wanted was.head.length state.replies wanted) leads ends
       | inl redirects ↦ elim lead [
         | inl said ↦
             let same = same_head one text was.head said.head _ _ longer said.says in
             absurd (not_both said.head.status said.so.0.status (sym (ap (λ (h : ReplyHead). h.status) same.0) ∙ redirects.0.status))
         | inr led ↦
             let same = same_head one text was.head led.1.head _ _ longer led.1.says in
-            let place_is = one_place place was.head led.1.head next led.0 same.0 redirects.0 led.1.so in
-            let still : next.replies ≡ 1 = ap (λ (p : Place). p.replies) redirects.0.follows.next_is ∙ wanted in
-            unrefused one next through more reached last texts rest end still leads ends fronts.1 (subst (λ (p : Place). LeadToContent p texts) (sym place_is) led.2)
+            let state_is = one_state state was.head led.1.head next led.0 same.0 redirects.0 led.1.so in
+            let still : next.replies ≡ 1 = ap (λ (p : ClientState). p.replies) redirects.0.follows.next_is ∙ wanted in
+            unrefused one next through more reached last texts rest end still leads ends fronts.1 (subst (λ (p : ClientState). LeadToContent p texts) (sym state_is) led.2)
       ]
     ]

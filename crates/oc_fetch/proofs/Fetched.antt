@@ -4,7 +4,7 @@ use Rattle.std.proofs.lemmas.List.{append-nil, append_cancel_left}
 use Rattle.oc_fetch.specs.Addresses.{IsAddressOf, IsBadAddress}
 use Rattle.oc_fetch.specs.Completeness.{text_of, LeadToContent, IsUnrefused, Completes}
 use Rattle.oc_fetch.specs.Conversations.{Converses}
-use Rattle.oc_fetch.specs.Downloads.{first_place, IsUnasked, Downloads, content_of}
+use Rattle.oc_fetch.specs.Downloads.{first_state, IsUnasked, Downloads, content_of}
 use Rattle.oc_fetch.specs.Ends.{end_of_url}
 use Rattle.oc_fetch.specs.Passing.{Sent, IsTalked}
 use Rattle.oc_fetch.specs.Turns.{Turn, Makes}
@@ -13,13 +13,13 @@ use Rattle.oc_fetch.specs.declared.address.UrlFault.{UrlFault}
 use Rattle.oc_fetch.specs.declared.address.UrlFault.TheVariants as urls
 use Rattle.oc_fetch.specs.declared.end.GetEnd.{GetEnd}
 use Rattle.oc_fetch.specs.declared.end.GetEnd.TheVariants as ends
-use Rattle.oc_fetch.specs.declared.place.Place.{Place}
+use Rattle.oc_fetch.specs.declared.client_state.ClientState.{ClientState}
 use Rattle.oc_fetch.proofs.Completing.{unrefused}
 use Rattle.oc_fetch.proofs.Dialling.{all_dial, fronts_made}
 use Rattle.oc_fetch.proofs.OneHead.{OneAnswer}
 use Rattle.oc_fetch.proofs.Spoken.{told_so}
 use Rattle.oc_link.specs.LinkCalls.{Told}
-use Rattle.oc_link.specs.LinkBorrow.{Told-same}
+use Rattle.oc_link.specs.LinkLoan.{Told-same}
 use Rattle.oc_link.specs.Story.{Story, dials}
 use Rattle.url.specs.Parts.{Parts}
 
@@ -53,13 +53,13 @@ unasked_so address urls.Bad end e bad = subst (λ (x : GetEnd). IsUnasked addres
 unasked_so address urls.Memory end e bad = subst (λ (x : GetEnd). IsUnasked address x) (sym e) tt
 
 -- memory ran out before the first request
-pub starved_talked : {K : Type 0} (takes breaks : K → List ℕ → K → Type 0) → ((k : K) → takes k [] k) → (wish : Wish) (place : Place) (o : Option Story) (k : K) → IsTalked takes breaks (Converses wish place) o o k k ends.Memory
-starved_talked takes breaks nothing wish place o k = record {
+pub starved_talked : {K : Type 0} (takes breaks : K → List ℕ → K → Type 0) → ((k : K) → takes k [] k) → (wish : Wish) (state : ClientState) (o : Option Story) (k : K) → IsTalked takes breaks (Converses wish state) o o k k ends.Memory
+starved_talked takes breaks nothing wish state o k = record {
   turns = [];
   written = [];
   makes = Told-same (Makes []) makes_none o;
   sent = nothing k;
-  so = record { through = []; content = []; reached = place; last = None; rest = []; leads = (refl, refl); ends = refl; turns_are = refl; written_is = refl };
+  so = record { through = []; content = []; reached = state; last = None; rest = []; leads = (refl, refl); ends = refl; turns_are = refl; written_is = refl };
 }
 
 -- what is so of a talk, where more follows from it
@@ -94,12 +94,12 @@ completes one address url turns written end good (inl unasked) old new makes = �
 completes one address url turns written end good (inr (other, is, talk)) old new makes = λ made e lead.
     let same : made ≡ makes.made = append_cancel_left (dials old) made makes.made (sym e ∙ makes.dials_are) in
     let url_is = one_parsed address url other good is in
-    let from = first_place other 1 in
+    let from = first_state other 1 in
     let dial = all_dial from talk.through talk.content talk.reached talk.last talk.rest end refl talk.leads talk.ends in
     let fronts = fronts_made turns makes.made (rw talk.turns_are dial) makes.told in
     unrefused one from talk.through talk.content talk.reached talk.last (map text_of made) talk.rest end refl talk.leads talk.ends
     (rw (← talk.turns_are, same) fronts)
-    (subst (λ (u : Parts). LeadToContent (first_place u 1) (map text_of made)) url_is lead)
+    (subst (λ (u : Parts). LeadToContent (first_state u 1) (map text_of made)) url_is lead)
 
 pub told_completes : {K : Type 0} (takes breaks : K → List ℕ → K → Type 0) → OneAnswer → (address : List ℕ) (url : Parts) (end : GetEnd) (a b : Option Story) (p q : K) → IsAddressOf address url → IsTalked takes breaks (Downloads content_of address 1) a b p q end → Told (Completes url end) a b
 told_completes takes breaks one address url end a b p q good talked =

@@ -4,7 +4,7 @@ use Rattle.std.specs.List.{All}
 use Rattle.std.proofs.lemmas.Bool.{ne_eqb}
 use Rattle.std.proofs.lemmas.List.Elements.{All-from_get_or}
 use Rattle.std.proofs.lemmas.List.Splits.{slice_split_at, slice_split_none}
-use Rattle.oc_fetch.specs.Queries.{parts}
+use Rattle.oc_http.specs.Queries.{parts}
 
 -- no byte is an `&`
 free : (bs : List ℕ) → ((i : ℕ) → i < length bs → get_or bs i 0 ≢ 38) → All (λ b. (b == 38) ≡ false) bs

@@ -7,53 +7,53 @@ use Rattle.oc_fetch.specs.Turns.{Turn, Talk, IsCutAddress, behind_turn, behind_t
 use Rattle.oc_fetch.specs.Wishes.{Wish, dialled_at}
 use Rattle.oc_fetch.specs.declared.end.GetEnd.{GetEnd}
 use Rattle.oc_fetch.specs.declared.end.GetEnd.TheVariants.{Done}
-use Rattle.oc_fetch.specs.declared.place.Place.{Place}
+use Rattle.oc_fetch.specs.declared.client_state.ClientState.{ClientState}
 use Rattle.oc_fetch.proofs.Made.{Shows, IsReady, shows_then, shows_makes, behind_turns-push, last_behind}
 use Rattle.oc_fetch.proofs.Moving.{Then, sent_then}
 use Rattle.oc_fetch.proofs.Spoken.{told_so, some_is}
 use Rattle.oc_link.specs.LinkCalls.{Told}
-use Rattle.oc_link.specs.LinkBorrow.{Told-same, Told-then}
+use Rattle.oc_link.specs.LinkLoan.{Told-same, Told-then}
 use Rattle.oc_link.specs.Story.{Story, hung_up}
 
--- turns went by and led to this place
-pub record HasTalked {K : Type 0} (takes : K → List ℕ → K → Type 0) (wish : Wish) (first : Place) (old new : Option Story) (before after : K) (place : Place) : Type 0 where
+-- turns went by and led to this state
+pub record HasTalked {K : Type 0} (takes : K → List ℕ → K → Type 0) (wish : Wish) (first : ClientState) (old new : Option Story) (before after : K) (state : ClientState) : Type 0 where
   pub through : List Turn
   pub content : List ℕ
   pub shows : Told (Shows (behind_turns no_talks through)) old new
   pub sent : takes before content after
-  pub leads : Leads wish first through content place
-  pub ready : IsReady (dialled_at place.kept place) (behind_turns no_talks through).last
+  pub leads : Leads wish first through content state
+  pub ready : IsReady (dialled_at state.kept state) (behind_turns no_talks through).last
 
 -- where the connection is not kept a turn can begin
-ready_new : (kept : Bool) (place : Place) (last : Option Talk) → kept ≡ false → IsReady (dialled_at kept place) last
-ready_new false place last e = tt
-ready_new true place last e = cc
+ready_new : (kept : Bool) (state : ClientState) (last : Option Talk) → kept ≡ false → IsReady (dialled_at kept state) last
+ready_new false state last e = tt
+ready_new true state last e = cc
 
 -- where there is a connection a turn can begin
 ready_any : (at : Option (List ℕ)) (last : Option Talk) → IsReady None last → IsReady at last
 ready_any None last ready = ready
 ready_any (Some address) last ready = tt
 
-pub talked_first : {K : Type 0} (takes : K → List ℕ → K → Type 0) → ((k : K) → takes k [] k) → (wish : Wish) (place : Place) (o : Option Story) (k : K) → place.kept ≡ false → HasTalked takes wish place o o k k place
-talked_first takes nothing wish place o k new = record {
+pub talked_first : {K : Type 0} (takes : K → List ℕ → K → Type 0) → ((k : K) → takes k [] k) → (wish : Wish) (state : ClientState) (o : Option Story) (k : K) → state.kept ≡ false → HasTalked takes wish state o o k k state
+talked_first takes nothing wish state o k new = record {
   through = [];
   content = [];
   shows = Told-same (Shows no_talks) (λ s. (refl, refl)) o;
   sent = nothing k;
   leads = (refl, refl);
-  ready = ready_new place.kept place None new;
+  ready = ready_new state.kept state None new;
 }
 
 -- a turn at the end of others
-leads_push : (wish : Wish) (first : Place) (turns : List Turn) (content : List ℕ) (place : Place) (turn : Turn) (more : List ℕ) (next : Place) → Leads wish first turns content place → 0 < place.replies → GoesOn wish place turn more next → Leads wish first (turns ++ turn ∷ []) (content ++ more) next
-leads_push wish first [] content place turn more next (none, same) wanted goes =
-    let P : Place → Type 0 = λ p. Leads wish p (turn ∷ []) (content ++ more) next in
+leads_push : (wish : Wish) (first : ClientState) (turns : List Turn) (content : List ℕ) (state : ClientState) (turn : Turn) (more : List ℕ) (next : ClientState) → Leads wish first turns content state → 0 < state.replies → GoesOn wish state turn more next → Leads wish first (turns ++ turn ∷ []) (content ++ more) next
+leads_push wish first [] content state turn more next (none, same) wanted goes =
+    let P : ClientState → Type 0 = λ p. Leads wish p (turn ∷ []) (content ++ more) next in
     subst P same (wanted, (next, more, [], goes, ap (λ (c : List ℕ). c ++ more) none ∙ sym (append-nil more), (refl, refl)))
-leads_push wish first (t ∷ turns) content place turn more next (some, (second, x, rest, step, split, leads)) wanted goes =
-    (some, (second, x, rest ++ more, step, ap (λ (c : List ℕ). c ++ more) split ∙ append_assoc x rest more, leads_push wish second turns rest place turn more next leads wanted goes))
+leads_push wish first (t ∷ turns) content state turn more next (some, (second, x, rest, step, split, leads)) wanted goes =
+    (some, (second, x, rest ++ more, step, ap (λ (c : List ℕ). c ++ more) split ∙ append_assoc x rest more, leads_push wish second turns rest state turn more next leads wanted goes))
 
-pub talked_then : {K : Type 0} (takes : K → List ℕ → K → Type 0) → Then takes takes → (wish : Wish) (first place next : Place) (a b c : Option Story) (p q r : K) → 0 < place.replies → HasTalked takes wish first a b p q place → IsExchanged takes (λ turn content. GoesOn wish place turn content next) b c q r → HasTalked takes wish first a c p r next
-talked_then takes then wish first place next a b c p q r wanted has goes =
+pub talked_then : {K : Type 0} (takes : K → List ℕ → K → Type 0) → Then takes takes → (wish : Wish) (first state next : ClientState) (a b c : Option Story) (p q r : K) → 0 < state.replies → HasTalked takes wish first a b p q state → IsExchanged takes (λ turn content. GoesOn wish state turn content next) b c q r → HasTalked takes wish first a c p r next
+talked_then takes then wish first state next a b c p q r wanted has goes =
     let talks = behind_turns no_talks has.through in
     let ready : IsReady goes.turn.dialled talks.last = subst (λ (at : Option (List ℕ)). IsReady at talks.last) (sym goes.so.asks.dialled) has.ready in
     let shows = Told-then (Shows talks) (Speaks goes.turn) (Shows (behind_turn talks goes.turn)) (λ x y z s t. shows_then talks goes.turn x y z ready s t) a b c has.shows goes.spoke in
@@ -63,7 +63,7 @@ talked_then takes then wish first place next a b c p q r wanted has goes =
       content = has.content ++ goes.content;
       shows = rw pushed shows;
       sent = then p q r has.content goes.content has.sent goes.sent;
-      leads = leads_push wish first has.through has.content place goes.turn goes.content next has.leads wanted goes.so;
+      leads = leads_push wish first has.through has.content state goes.turn goes.content next has.leads wanted goes.so;
       ready = rw pushed (ready_any (dialled_at next.kept next) _ (last_behind goes.turn.dialled goes.turn talks.last ready));
     }
 
@@ -84,26 +84,26 @@ cut_ready None (Some address) talk cut ready = absurd cut
 cut_ready (Some front) None talk cut ready = absurd cut
 cut_ready (Some front) (Some address) talk cut ready = tt
 
-turn_ready : (wish : Wish) (place : Place) (turn : Turn) (written : List ℕ) (end : GetEnd) (talk : Option Talk) → IsReady (dialled_at place.kept place) talk → EndsIn wish place turn written end → IsReady turn.dialled talk
-turn_ready wish place turn written end talk ready (inl asked) = subst (λ (at : Option (List ℕ)). IsReady at talk) (sym asked.0.dialled) ready
-turn_ready wish place turn written end talk ready (inr cut) = cut_ready turn.dialled (dialled_at place.kept place) talk cut.0.address ready
+turn_ready : (wish : Wish) (state : ClientState) (turn : Turn) (written : List ℕ) (end : GetEnd) (talk : Option Talk) → IsReady (dialled_at state.kept state) talk → EndsIn wish state turn written end → IsReady turn.dialled talk
+turn_ready wish state turn written end talk ready (inl asked) = subst (λ (at : Option (List ℕ)). IsReady at talk) (sym asked.0.dialled) ready
+turn_ready wish state turn written end talk ready (inr cut) = cut_ready turn.dialled (dialled_at state.kept state) talk cut.0.address ready
 
 -- a last turn begins where it can
-last_ready : (wish : Wish) (place : Place) (last : Option Turn) (written : List ℕ) (end : GetEnd) (talk : Option Talk) → IsReady (dialled_at place.kept place) talk → EndsAt wish place last written end → (turn : Turn) → last ≡ Some turn → IsReady turn.dialled talk
-last_ready wish place None written end talk ready ends turn e = cc
-last_ready wish place (Some last) written end talk ready ends turn e =
-    subst (λ (t : Turn). IsReady t.dialled talk) (some_is last turn e) (turn_ready wish place last written end talk ready ends.1)
+last_ready : (wish : Wish) (state : ClientState) (last : Option Turn) (written : List ℕ) (end : GetEnd) (talk : Option Talk) → IsReady (dialled_at state.kept state) talk → EndsAt wish state last written end → (turn : Turn) → last ≡ Some turn → IsReady turn.dialled talk
+last_ready wish state None written end talk ready ends turn e = cc
+last_ready wish state (Some last) written end talk ready ends turn e =
+    subst (λ (t : Turn). IsReady t.dialled talk) (some_is last turn e) (turn_ready wish state last written end talk ready ends.1)
 
-pub talked_last : {K : Type 0} (takes breaks : K → List ℕ → K → Type 0) → Then takes takes → Then takes breaks → (wish : Wish) (first place : Place) (a b c : Option Story) (p q r : K) (end : GetEnd) → HasTalked takes wish first a b p q place → IsLastExchanged takes breaks (EndsAt wish place) b c q r end → IsTalkedThrough takes breaks (Converses wish first) a c p r end
-talked_last takes breaks then fail wish first place a b c p q r end has last = record {
+pub talked_last : {K : Type 0} (takes breaks : K → List ℕ → K → Type 0) → Then takes takes → Then takes breaks → (wish : Wish) (first state : ClientState) (a b c : Option Story) (p q r : K) (end : GetEnd) → HasTalked takes wish first a b p q state → IsLastExchanged takes breaks (EndsAt wish state) b c q r end → IsTalkedThrough takes breaks (Converses wish first) a c p r end
+talked_last takes breaks then fail wish first state a b c p q r end has last = record {
   turns = has.through ++ option_to_list last.turn;
   written = has.content ++ last.written;
-  makes = Told-then (Shows (behind_turns no_talks has.through)) (MaySpeakLast last.turn) (MakesOnceHung (has.through ++ option_to_list last.turn)) (λ x y z s t. makes_last has.through last.turn x y z (last_ready wish place last.turn last.written end _ has.ready last.so) s t) a b c has.shows last.spoke;
+  makes = Told-then (Shows (behind_turns no_talks has.through)) (MaySpeakLast last.turn) (MakesOnceHung (has.through ++ option_to_list last.turn)) (λ x y z s t. makes_last has.through last.turn x y z (last_ready wish state last.turn last.written end _ has.ready last.so) s t) a b c has.shows last.spoke;
   sent = sent_then takes breaks then fail end p q r has.content last.written has.sent last.sent;
   so = record {
     through = has.through;
     content = has.content;
-    reached = place;
+    reached = state;
     last = last.turn;
     rest = last.written;
     leads = has.leads;
@@ -114,8 +114,8 @@ talked_last takes breaks then fail wish first place a b c p q r end has last = r
 }
 
 -- no reply is wanted any more
-pub talked_through : {K : Type 0} (takes breaks : K → List ℕ → K → Type 0) (wish : Wish) (first place : Place) (a b : Option Story) (p q : K) → place.replies ≡ 0 → HasTalked takes wish first a b p q place → IsTalkedThrough takes breaks (Converses wish first) a b p q Done
-talked_through takes breaks wish first place a b p q none has = record {
+pub talked_through : {K : Type 0} (takes breaks : K → List ℕ → K → Type 0) (wish : Wish) (first state : ClientState) (a b : Option Story) (p q : K) → state.replies ≡ 0 → HasTalked takes wish first a b p q state → IsTalkedThrough takes breaks (Converses wish first) a b p q Done
+talked_through takes breaks wish first state a b p q none has = record {
   turns = has.through;
   written = has.content;
   makes = told_so (Shows (behind_turns no_talks has.through)) (MakesOnceHung has.through) (λ x y s. shows_makes has.through x y (hung_up y) s refl) a b has.shows;
@@ -123,7 +123,7 @@ talked_through takes breaks wish first place a b p q none has = record {
   so = record {
     through = has.through;
     content = has.content;
-    reached = place;
+    reached = state;
     last = None;
     rest = [];
     leads = has.leads;
@@ -155,15 +155,15 @@ fewer_wanted None replies wanted = omega arith
 fewer_wanted (Some count) replies wanted = wanted
 
 -- after each turn fewer replies and redirections are left
-pub goes_down : (wish : Wish) (place next : Place) (turn : Turn) (content : List ℕ) → 0 < place.replies → GoesOn wish place turn content next → next.replies + next.redirections < place.replies + place.redirections
-goes_down wish place next turn content wanted goes = elim goes.leads.so [
+pub goes_down : (wish : Wish) (state next : ClientState) (turn : Turn) (content : List ℕ) → 0 < state.replies → GoesOn wish state turn content next → next.replies + next.redirections < state.replies + state.redirections
+goes_down wish state next turn content wanted goes = elim goes.leads.so [
   | inl redirects ↦
-      let replies : next.replies ≡ place.replies = ap (λ (p : Place). p.replies) redirects.0.follows.next_is in
-      let redirections : next.redirections ≡ place.redirections - 1 = ap (λ (p : Place). p.redirections) redirects.0.follows.next_is in
+      let replies : next.replies ≡ state.replies = ap (λ (p : ClientState). p.replies) redirects.0.follows.next_is in
+      let redirections : next.redirections ≡ state.redirections - 1 = ap (λ (p : ClientState). p.redirections) redirects.0.follows.next_is in
       omega (arith, replies, redirections, redirects.0.follows.may)
   | inr brings ↦
-      let replies : next.replies ≡ wanted_after goes.leads.head.length place.replies = ap (λ (p : Place). p.replies) brings.next_is in
-      let redirections : next.redirections ≡ place.redirections = ap (λ (p : Place). p.redirections) brings.next_is in
-      let fewer = fewer_wanted goes.leads.head.length place.replies wanted in
+      let replies : next.replies ≡ wanted_after goes.leads.head.length state.replies = ap (λ (p : ClientState). p.replies) brings.next_is in
+      let redirections : next.redirections ≡ state.redirections = ap (λ (p : ClientState). p.redirections) brings.next_is in
+      let fewer = fewer_wanted goes.leads.head.length state.replies wanted in
       omega (arith, replies, redirections, fewer)
 ]

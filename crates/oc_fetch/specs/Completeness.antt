@@ -1,7 +1,7 @@
 -- When a download can end only with its content, or where a call or memory failed.
 use Rattle.std.specs.Prelude.{◌≡◌, ◌⊎◌, ℕ, ◌≤◌, List, [], ◌∷◌, ◌++◌, length, map, ⊤}
 use Rattle.oc_fetch.specs.Conversations.{Replied, Serves, Redirects}
-use Rattle.oc_fetch.specs.Downloads.{first_place}
+use Rattle.oc_fetch.specs.Downloads.{first_state}
 use Rattle.oc_fetch.specs.Replies.{extent_of}
 use Rattle.oc_fetch.specs.Wishes.{whole}
 use Rattle.oc_fetch.specs.declared.end.GetEnd.{GetEnd}
@@ -9,7 +9,7 @@ use Rattle.oc_fetch.specs.declared.end.GetEnd.TheVariants.{Done, Link, Sink, Mem
 use Rattle.oc_fetch.specs.declared.extent.Extent.{Extent}
 use Rattle.oc_fetch.specs.declared.extent.Extent.TheVariants.{Counted, Chunked, ToTheEnd}
 use Rattle.oc_fetch.specs.declared.extent.TheConstants.{MAX_OPEN_BYTES}
-use Rattle.oc_fetch.specs.declared.place.Place.{Place}
+use Rattle.oc_fetch.specs.declared.client_state.ClientState.{ClientState}
 use Rattle.oc_link.specs.Story.{Dial, Story, dials}
 use Rattle.url.specs.Parts.{Parts}
 
@@ -24,11 +24,11 @@ HoldsWhole Chunked behind = ⊥
 HoldsWhole ToTheEnd behind = length behind ≤ MAX_OPEN_BYTES
 
 -- replies each of which leads on to the next, up to a 200 with a whole content
-abbrev pub LeadToContent : Place → List (List ℕ) → Type 0
-LeadToContent place [] = ⊤
-LeadToContent place (text ∷ texts) =
+abbrev pub LeadToContent : ClientState → List (List ℕ) → Type 0
+LeadToContent state [] = ⊤
+LeadToContent state (text ∷ texts) =
     Replied text (λ head behind. Serves whole head × HoldsWhole (extent_of head) behind)
-    ⊎ ((next : Place) × Replied text (λ head behind. Redirects place head next) × LeadToContent next texts)
+    ⊎ ((next : ClientState) × Replied text (λ head behind. Redirects state head next) × LeadToContent next texts)
 
 -- nothing that came was refused
 abbrev pub IsUnrefused : GetEnd → Type 0
@@ -41,4 +41,4 @@ IsUnrefused end = ⊥
 -- where the dials that were made gave such replies, nothing was refused
 abbrev pub Completes : Parts → GetEnd → Story → Story → Type 0
 Completes url end old new =
-    (made : List Dial) → dials new ≡ dials old ++ made → LeadToContent (first_place url 1) (map text_of made) → IsUnrefused end
+    (made : List Dial) → dials new ≡ dials old ++ made → LeadToContent (first_state url 1) (map text_of made) → IsUnrefused end

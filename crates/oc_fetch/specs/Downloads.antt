@@ -7,12 +7,12 @@ use Rattle.oc_fetch.specs.Turns.{Turn}
 use Rattle.oc_fetch.specs.Wishes.{Wish, whole, news}
 use Rattle.oc_fetch.specs.declared.end.GetEnd.{GetEnd}
 use Rattle.oc_fetch.specs.declared.end.GetEnd.TheVariants.{BadUrl, Memory}
-use Rattle.oc_fetch.specs.declared.place.Place.{Place}
+use Rattle.oc_fetch.specs.declared.client_state.ClientState.{ClientState}
 use Rattle.url.specs.Parts.{Parts}
 
 -- where a client that wants `times` replies begins
-abbrev pub first_place : Parts → ℕ → Place
-first_place url times = record {
+abbrev pub first_state : Parts → ℕ → ClientState
+first_state url times = record {
   target = url;
   start = start_of url.query;
   kept = false;
@@ -30,7 +30,7 @@ IsUnasked address end = ⊥
 abbrev pub Downloads : (Parts → Wish) → List ℕ → ℕ → List Turn → List ℕ → GetEnd → Type 0
 Downloads wish_for address times turns written end =
     (IsUnasked address end × (turns ≡ []) × (written ≡ []))
-    ⊎ ((url : Parts) × IsAddressOf address url × Converses (wish_for url) (first_place url times) turns written end)
+    ⊎ ((url : Parts) × IsAddressOf address url × Converses (wish_for url) (first_state url times) turns written end)
 
 -- the content of a URL
 abbrev pub content_of : Parts → Wish

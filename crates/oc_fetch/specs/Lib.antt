@@ -11,3 +11,4 @@ pub mod Conversations
 pub mod Downloads
 pub mod Completeness
 pub mod Redirections
+pub mod Meanings

@@ -1,25 +1,15 @@
 -- What the query of a URL says to a client that follows a group.
 use Rattle.std.specs.Prelude.{ℕ, ◌==◌, if◌then◌else◌, Option, Some, None, unwrap_or, Result, Ok, Err, List, [], ◌∷◌, codes}
-use Rattle.std.specs.List.{slice_split}
-use Rattle.std.specs.Str.{byte}
 use Rattle.oc_base.specs.declared.limits.TheConstants.{MAX_START}
 use Rattle.oc_base.specs.declared.why.Why.{Why}
 use Rattle.oc_base.specs.Words.{number_in}
+use Rattle.oc_http.specs.Queries.{parts, or_else}
 
 -- what follows a prefix, where the bytes begin with it
 abbrev pub behind : List ℕ → List ℕ → Option (List ℕ)
 behind [] bytes = Some bytes
 behind (p ∷ prefix) [] = None
 behind (p ∷ prefix) (b ∷ bytes) = if b == p then behind prefix bytes else None
-
--- the parts of a query, which are separated by `&`
-abbrev pub parts : List ℕ → List (List ℕ)
-parts query = slice_split (λ b. b == byte "&") query
-
--- the first, or else the second
-abbrev pub or_else : {A : Type 0} → Option A → Option A → Option A
-or_else (Some first) second = Some first
-or_else None second = second
 
 -- the first value of a name with its `=`
 abbrev pub first_value : List ℕ → List (List ℕ) → Option (List ℕ)

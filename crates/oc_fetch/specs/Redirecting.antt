@@ -3,7 +3,7 @@ use Rattle.std.specs.Prelude.{◌≡◌, ℕ, ◌-◌, ◌<◌, false, Option, S
 use Rattle.oc_fetch.specs.Addresses.{LeadsTo, LeadsNowhere}
 use Rattle.oc_fetch.specs.declared.end.GetEnd.{GetEnd}
 use Rattle.oc_fetch.specs.declared.end.GetEnd.TheVariants.{Redirects, Reply, Memory}
-use Rattle.oc_fetch.specs.declared.place.Place.{Place}
+use Rattle.oc_fetch.specs.declared.client_state.ClientState.{ClientState}
 use Rattle.url.specs.Parts.{Parts}
 
 -- there is no Location, or it leads to no good URL
@@ -11,26 +11,26 @@ abbrev pub IsLost : Parts → Option (List ℕ) → Type 0
 IsLost asked None = ⊤
 IsLost asked (Some location) = LeadsNowhere asked location
 
--- a place from which another URL is asked for, on a new connection
-abbrev pub sent_to : Parts → Place → Place
-sent_to url place = record place { target = url; kept = false; redirections = place.redirections - 1 }
+-- a state from which another URL is asked for, on a new connection
+abbrev pub sent_to : Parts → ClientState → ClientState
+sent_to url state = record state { target = url; kept = false; redirections = state.redirections - 1 }
 
 -- there is a Location, and it leads to this URL
-pub record Points (place : Place) (location : Option (List ℕ)) (url : Parts) : Type 0 where
+pub record Points (state : ClientState) (location : Option (List ℕ)) (url : Parts) : Type 0 where
   pub text : List ℕ
   pub is : location ≡ Some text
-  pub leads : LeadsTo place.target text url
+  pub leads : LeadsTo state.target text url
 
--- the client follows the Location to this place
-pub record Follows (place : Place) (location : Option (List ℕ)) (next : Place) : Type 0 where
+-- the client follows the Location to this state
+pub record Follows (state : ClientState) (location : Option (List ℕ)) (next : ClientState) : Type 0 where
   pub url : Parts
-  pub points : Points place location url
-  pub may : 0 < place.redirections
-  pub next_is : next ≡ sent_to url place
+  pub points : Points state location url
+  pub may : 0 < state.redirections
+  pub next_is : next ≡ sent_to url state
 
 -- the client does not follow the Location
-abbrev pub StaysAt : Place → Option (List ℕ) → GetEnd → Type 0
-StaysAt place location Redirects = (place.redirections ≡ 0) × ((url : Parts) × Points place location url)
-StaysAt place location Reply = IsLost place.target location
-StaysAt place location Memory = ⊤
-StaysAt place location end = ⊥
+abbrev pub StaysAt : ClientState → Option (List ℕ) → GetEnd → Type 0
+StaysAt state location Redirects = (state.redirections ≡ 0) × ((url : Parts) × Points state location url)
+StaysAt state location Reply = IsLost state.target location
+StaysAt state location Memory = ⊤
+StaysAt state location end = ⊥

@@ -6,24 +6,24 @@ ghost use Rattle.oc_fetch.specs.Wishes.{dialled_at};
 ghost use Rattle.oc_io.specs.Faults.{Rose};
 ghost use Rattle.oc_link.specs.LinkCalls.{Told, CountsDialling};
 
+use crate::client_state::ClientState;
 use crate::end::GetEnd;
-use crate::place::Place;
 use oc_link::Link;
 
 /// Writes a request where it belongs.
-pub(crate) fn ask<L: Link>(place: &Place, request: &[u8], link: &mut L) -> Result<(), GetEnd>
+pub(crate) fn ask<L: Link>(state: &ClientState, request: &[u8], link: &mut L) -> Result<(), GetEnd>
     ensures asked { OnOk result
-        (Told (Speaks (asking (dialled_at place.now.kept place.now) request.now)) (L.story link.old) (L.story link.new)) }
+        (Told (Speaks (asking (dialled_at state.now.kept state.now) request.now)) (L.story link.old) (L.story link.new)) }
     ensures cut { IfErr result (λ end. (end ≡ GetEnd.Link) × ((turn : Turn)
-        × IsCut (dialled_at place.now.kept place.now) request.now turn
+        × IsCut (dialled_at state.now.kept state.now) request.now turn
         × Told (SpeaksLast turn) (L.story link.old) (L.story link.new))) }
     ensures count { CountsDialling (L.faults link.old) (L.faults link.new) }
     ensures cause { IsErrOf result GetEnd.Link → Rose (L.faults link.old).dialling (L.faults link.new).dialling }
 {
-    if place.kept {
+    if state.kept {
         ask_again(request, link)
     } else {
-        ask_at(place.target.address(), request, link)
+        ask_at(state.target.address(), request, link)
     }
 }
 

@@ -4,7 +4,7 @@ ghost use Rattle.std.specs.Prelude.{◌≡◌, IfOk};
 ghost use Rattle.oc_fetch.specs.Addresses.{IsAddressOf, IsBadAddress};
 ghost use Rattle.oc_fetch.specs.Completeness.{Completes};
 ghost use Rattle.oc_fetch.specs.Conversations.{Converses};
-ghost use Rattle.oc_fetch.specs.Downloads.{Downloads, IsUnasked, first_place, content_of, news_of};
+ghost use Rattle.oc_fetch.specs.Downloads.{Downloads, IsUnasked, first_state, content_of, news_of};
 ghost use Rattle.oc_fetch.specs.Ends.{end_of_url};
 ghost use Rattle.oc_fetch.specs.Passing.{IsTalked};
 ghost use Rattle.oc_fetch.specs.Redirections.{StopsAtThird};
@@ -14,9 +14,9 @@ ghost use Rattle.oc_link.specs.LinkCalls.{Told, CountsDialling};
 ghost use Rattle.url.specs.Parts.{Parts};
 
 use crate::address::{UrlFault, read_address};
+use crate::client_state::ClientState;
 use crate::conversation::converse;
 use crate::end::GetEnd;
-use crate::place::Place;
 use crate::query;
 use crate::target::Target;
 use crate::wish::Wish;
@@ -123,7 +123,7 @@ fn download<L: Link, K: Sink>(
     link: &mut L,
     sink: &mut K,
 ) -> GetEnd
-    ensures talked { IsTalked K.takes K.fails (Converses (wish_of wish.now) (first_place url times))
+    ensures talked { IsTalked K.takes K.fails (Converses (wish_of wish.now) (first_state url times))
         (L.story link.old) (L.story link.new) sink.old sink.new result }
     ensures link_count { CountsDialling (L.faults link.old) (L.faults link.new) }
     ensures sink_count { NoFall (K.faults sink.old) (K.faults sink.new) }
@@ -133,14 +133,14 @@ fn download<L: Link, K: Sink>(
     let start = query::start(url.query());
     match Target::new(alloc, url) {
         Ok(target) => {
-            let place = Place {
+            let state = ClientState {
                 target,
                 start,
                 kept: false,
                 redirections: MAX_REDIRECTIONS,
                 replies: times,
             };
-            converse(alloc, wish, place, link, sink)
+            converse(alloc, wish, state, link, sink)
         }
         Err(Memory) => GetEnd::Memory,
     }

@@ -10,47 +10,47 @@ ghost use Rattle.oc_link.specs.LinkCalls.{Told, IfTold, OnOutgoing, CountsDialli
 ghost use Rattle.oc_link.specs.Story.{IsHeardOut};
 
 use crate::asking::ask;
+use crate::client_state::ClientState;
 use crate::end::GetEnd;
 use crate::hearing::hear;
-use crate::place::Place;
 use crate::room::Room;
 use crate::wish::{Wish, write_request};
 use oc_io::Sink;
 use oc_link::{Link, Outgoing};
 use std::alloc::Global;
 
-/// Makes the request of a client at a place, passes on the content that comes, and goes to the place to
+/// Makes the request of a client in a state, passes on the content that comes, and goes to the state to
 /// which the reply leads.
 pub(crate) fn exchange<L: Link, K: Sink>(
     alloc: Global,
     wish: &Wish,
-    place: &mut Place,
+    state: &mut ClientState,
     room: &mut Room,
     link: &mut L,
     sink: &mut K,
 ) -> Result<(), GetEnd>
-    requires { 0 < place.old.replies }
+    requires { 0 < state.old.replies }
     ensures goes_on { OnOk result (IsExchanged K.takes
-        (λ turn content. GoesOn (wish_of wish.now) place.old turn content place.new)
+        (λ turn content. GoesOn (wish_of wish.now) state.old turn content state.new)
         (L.story link.old) (L.story link.new) sink.old sink.new) }
     ensures ends { IfErr result (λ end. IsLastExchanged K.takes K.fails
-        (EndsAt (wish_of wish.now) place.old)
+        (EndsAt (wish_of wish.now) state.old)
         (L.story link.old) (L.story link.new) sink.old sink.new end) }
     ensures link_count { CountsDialling (L.faults link.old) (L.faults link.new) }
     ensures sink_count { NoFall (K.faults sink.old) (K.faults sink.new) }
     ensures link_cause { IsErrOf result GetEnd.Link → Rose (L.faults link.old).dialling (L.faults link.new).dialling }
     ensures sink_cause { IsErrOf result GetEnd.Sink → Rose (K.faults sink.old) (K.faults sink.new) }
 {
-    let request = write_request(alloc, wish, place)?;
-    ask(place, &request, link)?;
-    hear_outgoing(alloc, wish, place, room, link, sink)
+    let request = write_request(alloc, wish, state)?;
+    ask(state, &request, link)?;
+    hear_outgoing(alloc, wish, state, room, link, sink)
 }
 
 /// Takes a reply from the outgoing connection.
 fn hear_outgoing<L: Link, K: Sink>(
     alloc: Global,
     wish: &Wish,
-    place: &mut Place,
+    state: &mut ClientState,
     room: &mut Room,
     link: &mut L,
     sink: &mut K,
@@ -58,18 +58,18 @@ fn hear_outgoing<L: Link, K: Sink>(
     ensures heard { OnOk result (IsHeard
         (λ old bytes new. Told (OnOutgoing (Hears bytes)) (L.story old) (L.story new))
         (λ l. IfTold (L.story l) IsHeardOut) K.takes
-        (λ reply over content. LeadsOn (wish_of wish.now) place.old reply over content place.new)
+        (λ reply over content. LeadsOn (wish_of wish.now) state.old reply over content state.new)
         link.old link.new sink.old sink.new) }
     ensures last { IfErr result (λ end. IsLastHeard
         (λ old bytes new. Told (OnOutgoing (Hears bytes)) (L.story old) (L.story new))
         (λ old bytes new. Told (OnOutgoing (HearsThenBreaks bytes)) (L.story old) (L.story new))
         (λ l. IfTold (L.story l) IsHeardOut) K.takes K.fails
-        (EndsWith (wish_of wish.now) place.old)
+        (EndsWith (wish_of wish.now) state.old)
         link.old link.new sink.old sink.new end) }
     ensures link_count { CountsDialling (L.faults link.old) (L.faults link.new) }
     ensures sink_count { NoFall (K.faults sink.old) (K.faults sink.new) }
     ensures link_cause { IsErrOf result GetEnd.Link → Rose (L.faults link.old).dialling (L.faults link.new).dialling }
     ensures sink_cause { IsErrOf result GetEnd.Sink → Rose (K.faults sink.old) (K.faults sink.new) }
 {
-    hear(alloc, wish, place, room, &mut Outgoing::new(link), sink)
+    hear(alloc, wish, state, room, &mut Outgoing::new(link), sink)
 }

@@ -7,10 +7,11 @@ ghost use Rattle.oc_fetch.specs.Wishes.{wish_of, Takes, keeps};
 ghost use Rattle.oc_fetch.specs.Replies.{extent_of};
 ghost use Rattle.oc_io.specs.Faults.{NoFall, Rose};
 
+use crate::client_state::ClientState;
 use crate::content::pass_content;
 use crate::end::GetEnd;
 use crate::extent::Extent;
-use crate::place::Place;
+use crate::meaning::{Meaning, meaning_of};
 use crate::redirection::redirect;
 use crate::room::Room;
 use crate::wish::Wish;
@@ -18,47 +19,47 @@ use oc_http::ReplyHead;
 use oc_io::{Sink, Source};
 use std::alloc::Global;
 
-/// Takes a reply from a source, passes its content on to a sink, and goes to the place to which it
+/// Takes a reply from a source, passes its content on to a sink, and goes to the state to which it
 /// leads.
 pub(crate) fn hear<S: Source, K: Sink>(
     alloc: Global,
     wish: &Wish,
-    place: &mut Place,
+    state: &mut ClientState,
     room: &mut Room,
     source: &mut S,
     sink: &mut K,
 ) -> Result<(), GetEnd>
     ensures heard { OnOk result (IsHeard S.gives S.ended K.takes
-        (λ reply over content. LeadsOn (wish_of wish.now) place.old reply over content place.new)
+        (λ reply over content. LeadsOn (wish_of wish.now) state.old reply over content state.new)
         source.old source.new sink.old sink.new) }
     ensures last { IfErr result (λ end. IsLastHeard S.gives S.fails S.ended K.takes K.fails
-        (EndsWith (wish_of wish.now) place.old) source.old source.new sink.old sink.new end) }
+        (EndsWith (wish_of wish.now) state.old) source.old source.new sink.old sink.new end) }
     ensures source_count { NoFall (S.faults source.old) (S.faults source.new) }
     ensures sink_count { NoFall (K.faults sink.old) (K.faults sink.new) }
     ensures source_cause { IsErrOf result GetEnd.Link → Rose (S.faults source.old) (S.faults source.new) }
     ensures sink_cause { IsErrOf result GetEnd.Sink → Rose (K.faults sink.old) (K.faults sink.new) }
 {
     let head = room.heads.read_response_head(source)?;
-    match head.status {
-        200 => take_content(alloc, wish, &head, place, room, source, sink),
-        302 => redirect(alloc, place, head.location),
-        status => Err(GetEnd::Refused(status)),
+    match meaning_of(head.status) {
+        Meaning::Content => take_content(alloc, wish, &head, state, room, source, sink),
+        Meaning::Redirection => redirect(alloc, state, head.location),
+        Meaning::Refusal => Err(GetEnd::Refused(head.status)),
     }
 }
 
-/// Passes the content of a reply of 200 on, and goes to the place after it.
+/// Passes the content of a reply of 200 on, and goes to the state after it.
 fn take_content<S: Source, K: Sink>(
     alloc: Global,
     wish: &Wish,
     head: &ReplyHead,
-    place: &mut Place,
+    state: &mut ClientState,
     room: &mut Room,
     source: &mut S,
     sink: &mut K,
 ) -> Result<(), GetEnd>
     requires { head.now.status ≡ 200 }
     ensures brought { OnOk result (IsHeard S.gives S.ended K.takes
-        (λ body over content. Brings (wish_of wish.now) place.old head.now body over content place.new)
+        (λ body over content. Brings (wish_of wish.now) state.old head.now body over content state.new)
         source.old source.new sink.old sink.new) }
     ensures last { IfErr result (λ end. IsLastHeard S.gives S.fails S.ended K.takes K.fails
         (StopsContent (wish_of wish.now) head.now) source.old source.new sink.old sink.new end) }
@@ -71,17 +72,17 @@ fn take_content<S: Source, K: Sink>(
         return Err(GetEnd::Reply);
     }
     let count = pass_content(alloc, extent_of(head), source, sink, room)?;
-    go_past_content(place, head, count);
+    go_past_content(state, head, count);
     Ok(())
 }
 
-/// Goes to the place after a content of `count` bytes.
-fn go_past_content(place: &mut Place, head: &ReplyHead, count: u64)
-    ensures { (content : List ℕ) → length content ≡ count → place.new ≡ after_content head.now content place.old }
+/// Goes to the state after a content of `count` bytes.
+fn go_past_content(state: &mut ClientState, head: &ReplyHead, count: u64)
+    ensures { (content : List ℕ) → length content ≡ count → state.new ≡ after_content head.now content state.old }
 {
-    place.start = place.start.saturating_add(count);
-    place.kept = keeps(head);
-    place.replies = wanted_after(head.length, place.replies);
+    state.start = state.start.saturating_add(count);
+    state.kept = keeps(head);
+    state.replies = wanted_after(head.length, state.replies);
 }
 
 /// Whether the client takes the content of such a reply.

@@ -4,23 +4,22 @@
 //! comes. [`follow`] asks for a group again and again, each time from the byte after what it has written, on
 //! the same connection where the server keeps it.
 //!
-//! Both have one contract, `Downloads`. It names the turns: which request was written where, and what was read
-//! after it. `specs/Addresses` says which URLs are asked and where, `specs/Wishes` has the requests,
-//! `specs/Replies` says what a reply is and what of it is content, and `specs/Conversations` says from which
-//! place to which each reply leads, and how each [`GetEnd`] results from what was read. `specs/Turns` says which
-//! dials the turns make: a link that tells its story shows these and no others. The content of each reply of
-//! 200 was written in order, or a prefix of it where it was not read whole, and nothing else.
+//! Both have one contract, `Downloads`. It names the turns: which request was written where, and what was
+//! read after it. `specs/Addresses` says which URLs are asked and where, `specs/Wishes` has the requests,
+//! `specs/Replies` says what a reply is and what of it is content, and `specs/Conversations` to which state
+//! each reply leads, and how each [`GetEnd`] results from what was read. `specs/Turns` says which dials the
+//! turns make: a link that tells its story shows these and no others. The content of each reply of 200 was
+//! written in order, or a prefix of it where it was not read whole, and nothing else.
 //!
-//! `StopsAtThird` says of the same turns that `Redirects` comes exactly after a third 302 with a good Location,
-//! unless a call or memory failed (`specs/Redirections`).
-//!
-//! [`get`] has one more clause, `Completes`: where the dials give replies that lead to a whole content, nothing
-//! that came is refused.
+//! `StopsAtThird` says of the same turns that `Redirects` comes exactly after a third 302 with a good
+//! Location, unless a call or memory failed (`specs/Redirections`). [`get`] has one more clause,
+//! `Completes`: where the dials give replies that lead to a whole content, nothing that came is refused.
 #![tactic(auto)]
 
 mod address;
 mod asking;
 mod chunks;
+mod client_state;
 mod content;
 mod conversation;
 mod download;
@@ -28,7 +27,7 @@ mod end;
 mod exchange;
 mod extent;
 mod hearing;
-mod place;
+mod meaning;
 mod query;
 mod redirection;
 mod room;

@@ -4,7 +4,8 @@ ghost use Rattle.std.specs.Prelude.{◌≡◌, ◌<◌, ◌==◌, ◌≤◌, [],
 ghost use Rattle.std.specs.List.{slice_split};
 ghost use Rattle.std.specs.Str.{byte};
 ghost use Rattle.oc_base.specs.declared.limits.TheConstants.{MAX_START as START_LIMIT};
-ghost use Rattle.oc_fetch.specs.Queries.{behind, parts, first_value, start_said, first_start, start_of, area_of};
+ghost use Rattle.oc_http.specs.Queries.{parts};
+ghost use Rattle.oc_fetch.specs.Queries.{behind, first_value, start_said, first_start, start_of, area_of};
 
 use oc_base::MAX_START;
 use oc_base::words::number;

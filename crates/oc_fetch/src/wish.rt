@@ -3,7 +3,7 @@
 ghost use Rattle.std.specs.Prelude.{◌≡◌, IfOk};
 ghost use Rattle.oc_fetch.specs.Wishes.{wish_of, request_of};
 
-use crate::place::Place;
+use crate::client_state::ClientState;
 use oc_base::Memory;
 use oc_http::{write_follow, write_get};
 use std::alloc::Global;
@@ -17,17 +17,21 @@ pub(crate) enum Wish {
     News(Option<String>),
 }
 
-/// The request of a client at a place.
-pub(crate) fn write_request(alloc: Global, wish: &Wish, place: &Place) -> Result<Vec<u8>, Memory>
-    ensures { IfOk result (λ text. text.items ≡ request_of (wish_of wish.now) place.now) }
+/// The request of a client in a state.
+pub(crate) fn write_request(
+    alloc: Global,
+    wish: &Wish,
+    state: &ClientState,
+) -> Result<Vec<u8>, Memory>
+    ensures { IfOk result (λ text. text.items ≡ request_of (wish_of wish.now) state.now) }
 {
-    let url = place.target.url();
-    let host = place.target.host();
+    let url = state.target.url();
+    let host = state.target.host();
     match wish {
         Wish::Whole => write_get(alloc, url.path(), url.query(), host),
         Wish::News(area) => {
             let area = area.as_ref().map(|area| area.as_str());
-            write_follow(alloc, url.path(), place.start, area, host)
+            write_follow(alloc, url.path(), state.start, area, host)
         }
     }
 }

@@ -6,12 +6,12 @@ use Rattle.oc_http.specs.Fields.{Named, named, is_present, is_unusable, length_o
 use Rattle.oc_http.specs.Lengths.{fault_or}
 use Rattle.oc_http.specs.Gives.{Gives}
 use Rattle.oc_http.specs.Fields.{has_host_fault}
-use Rattle.oc_http.specs.Requests.{read_request, head_fault, verb_of, is_post}
+use Rattle.oc_http.specs.Requests.{read_request, head_fault, method_of, is_post}
 use Rattle.oc_http.specs.Responses.{read_reply_head, reply_head_fault, is_chunked}
 use Rattle.oc_http.specs.Taking.{Took, IsAnswered, StopsInHead, RefusesHead}
 use Rattle.oc_http.specs.declared.fault.HttpFault.{HttpFault}
 use Rattle.oc_http.specs.declared.fault.HttpFault.TheVariants.{Source, Ended, Head, HeadLong, Fields, Host, Coding, Length, BodyLong, Memory}
-use Rattle.oc_http.specs.declared.head.Verb.{Verb}
+use Rattle.oc_http.specs.declared.head.Method.{Method}
 use Rattle.oc_http.proofs.Stops.{Joins}
 
 -- a fault that a whole head can have
@@ -41,13 +41,13 @@ pub first_fault : {A : Type 0} (value : A) (first : Option HttpFault) (fault : H
 first_fault value None fault h = cc
 first_fault value (Some first) fault h = cc
 
-head_fault-field : (verb : Verb) (minor : ℕ) (fields : List Named) (fault : HttpFault) → head_fault verb minor fields ≡ Some fault → IsFieldFault fault
-head_fault-field verb minor fields fault =
+head_fault-field : (method : Method) (minor : ℕ) (fields : List Named) (fault : HttpFault) → head_fault method minor fields ≡ Some fault → IsFieldFault fault
+head_fault-field method minor fields fault =
     chain (nat_lt MAX_FIELDS (length fields)) Fields _ fault (tt {0})
     (chain (has_host_fault minor (hosts fields)) Host _ fault (tt {0})
     (chain (is_present (codings fields)) (Coding (is_present (lengths fields))) _ fault (tt {0})
     (chain (is_unusable (lengths fields)) (Length false) _ fault (tt {0})
-    (chain (is_post verb && not (is_present (lengths fields))) (Length true) _ fault (tt {0})
+    (chain (is_post method && not (is_present (lengths fields))) (Length true) _ fault (tt {0})
     (chain (nat_lt MAX_BODY_BYTES (unwrap_or (length_of (lengths fields)) 0)) BodyLong None fault (tt {0}) (none fault))))))
 
 reply_head_fault-field : (fields : List Named) (fault : HttpFault) → reply_head_fault fields ≡ Some fault → IsFieldFault fault
@@ -57,7 +57,7 @@ reply_head_fault-field fields fault =
     (chain (is_unusable (lengths fields)) (Length false) None fault (tt {0}) (none fault)))
 
 pub request_fields : RefusesFields read_request
-request_fields head fault h = head_fault-field (verb_of head.method) head.minor (named head.fields) fault (first_fault _ _ fault h)
+request_fields head fault h = head_fault-field (method_of head.method) head.minor (named head.fields) fault (first_fault _ _ fault h)
 
 pub reply_head_fields : RefusesFields read_reply_head
 reply_head_fields head fault h = reply_head_fault-field (named head.fields) fault (first_fault _ _ fault h)

@@ -9,7 +9,7 @@ use Rattle.oc_http.specs.Fields.{has_host_fault}
 use Rattle.oc_http.specs.Requests.{head_fault, is_post, wanted_length, body_length}
 use Rattle.oc_http.specs.declared.fault.HttpFault.{HttpFault}
 use Rattle.oc_http.specs.declared.fault.HttpFault.TheVariants.{Fields, Host, Coding, Length, BodyLong}
-use Rattle.oc_http.specs.declared.head.Verb.{Verb}
+use Rattle.oc_http.specs.declared.head.Method.{Method}
 
 -- the first fault of what is told of the length
 abbrev length_fault : Bool → List (List ℕ) → Option HttpFault
@@ -41,5 +41,5 @@ tests false false wanted [] told = told_is wanted told
 tests false false wanted (value ∷ more) told = refl
 
 -- the two definitions of it are one
-pub length_is : (verb : Verb) (minor : ℕ) (fields : List Named) → body_length verb minor fields ≡ fault_or (unwrap_or (length_of (lengths fields)) 0) (head_fault verb minor fields)
-length_is verb minor fields = tests (nat_lt MAX_FIELDS (length fields)) (has_host_fault minor (hosts fields)) (is_post verb) (codings fields) (lengths fields)
+pub length_is : (method : Method) (minor : ℕ) (fields : List Named) → body_length method minor fields ≡ fault_or (unwrap_or (length_of (lengths fields)) 0) (head_fault method minor fields)
+length_is method minor fields = tests (nat_lt MAX_FIELDS (length fields)) (has_host_fault minor (hosts fields)) (is_post method) (codings fields) (lengths fields)

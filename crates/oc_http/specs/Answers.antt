@@ -1,13 +1,14 @@
 -- What is answered for the bytes that are left of a source, where these are known.
-use Rattle.std.specs.Prelude.{◌≡◌, ℕ, true, false, Result, Ok, Err, List, [], ◌++◌, codes, ⊤}
+use Rattle.std.specs.Prelude.{◌≡◌, ℕ, true, false, Result, Ok, Err, List, [], ◌++◌, ⊤}
 use Rattle.httparse.specs.Grammar.{ReadsRequest, ReadsResponse}
+use Rattle.oc_http.specs.Paths.{message_path}
 use Rattle.oc_http.specs.Requests.{read_request}
 use Rattle.oc_http.specs.Responses.{read_reply_head}
 use Rattle.oc_http.specs.Taking.{IsAnswered, RefusesHead, SaysReply, RefusesReply}
 use Rattle.oc_http.specs.declared.fault.HttpFault.{HttpFault}
 use Rattle.oc_http.specs.declared.fault.HttpFault.TheVariants.{Source, Memory}
 use Rattle.oc_http.specs.declared.head.Head.{Head}
-use Rattle.oc_http.specs.declared.head.Verb.TheVariants.{Post}
+use Rattle.oc_http.specs.declared.head.Method.TheVariants.{Post}
 use Rattle.oc_http.specs.declared.reply.Reply.{Reply}
 use Rattle.oc_http.specs.declared.reply.ReplyHead.{ReplyHead}
 
@@ -38,4 +39,4 @@ AnswersReply left rest (Err fault) = (bytes : List ℕ) × (left ≡ bytes ++ re
 
 -- what the head of a node's request says, with a body of `count` bytes
 abbrev pub written_head : ℕ → Head
-written_head count = record { method = Post; path = codes "/!overcast"; query = []; length = count; expects = false; minor = 1; closes = true }
+written_head count = record { method = Post; path = message_path; query = []; length = count; expects = false; minor = 1; closes = true }

@@ -6,9 +6,9 @@ use Rattle.oc_http.specs.Requests.{head_fault, expects}
 use Rattle.oc_http.specs.Responses.{reply_head_fault, reply_fault, is_chunked}
 use Rattle.oc_http.specs.Writing.{request_text, get_text, follow_text, probe_text, head_text, response_text}
 use Rattle.oc_http.specs.declared.fault.HttpFault.TheVariants as faults
-use Rattle.oc_http.specs.declared.framing.Connection.TheVariants.{Keep}
+use Rattle.oc_http.specs.declared.framing.Persistence.TheVariants.{Keep}
 use Rattle.oc_http.specs.declared.framing.Framing.TheVariants as framings
-use Rattle.oc_http.specs.declared.head.Verb.TheVariants.{Get, Post}
+use Rattle.oc_http.specs.declared.head.Method.TheVariants.{Get, Post}
 use Rattle.oc_http.specs.declared.reply.Reply.{Reply}
 
 abbrev host : Named

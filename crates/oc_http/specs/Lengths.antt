@@ -10,9 +10,9 @@ fault_or value None = Ok value
 fault_or value (Some fault) = Err fault
 
 -- the length that the fields give, if it is usable
-abbrev pub told_length : List (List ℕ) → Result (Option ℕ) HttpFault
-told_length values = if is_unusable values then Err (Length false) else Ok (length_of values)
+abbrev pub content_length : List (List ℕ) → Result (Option ℕ) HttpFault
+content_length values = if is_unusable values then Err (Length false) else Ok (length_of values)
 
 -- a transfer coding is refused first, then a length that is not just one number
 abbrev pub checked_length : List (List ℕ) → List (List ℕ) → Result (Option ℕ) HttpFault
-checked_length codings lengths = if is_present codings then Err (Coding (is_present lengths)) else told_length lengths
+checked_length codings lengths = if is_present codings then Err (Coding (is_present lengths)) else content_length lengths

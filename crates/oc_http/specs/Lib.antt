@@ -13,3 +13,5 @@ pub mod Bytes
 pub mod Fields
 pub mod Found
 pub mod Targets
+pub mod Paths
+pub mod Queries

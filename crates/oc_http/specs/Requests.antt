@@ -10,29 +10,29 @@ use Rattle.oc_http.specs.Lengths.{fault_or, checked_length}
 use Rattle.oc_http.specs.declared.fault.HttpFault.{HttpFault}
 use Rattle.oc_http.specs.declared.fault.HttpFault.TheVariants as faults
 use Rattle.oc_http.specs.declared.head.Head.{Head}
-use Rattle.oc_http.specs.declared.head.Verb.{Verb}
-use Rattle.oc_http.specs.declared.head.Verb.TheVariants as verbs
+use Rattle.oc_http.specs.declared.head.Method.{Method}
+use Rattle.oc_http.specs.declared.head.Method.TheVariants as methods
 
 -- the method that this text names
-abbrev pub verb_of : List ℕ → Verb
-verb_of method =
-    if bytes_eq method (codes "GET") then verbs.Get
-    else if bytes_eq method (codes "HEAD") then verbs.Head
-    else if bytes_eq method (codes "POST") then verbs.Post
-    else verbs.Other
+abbrev pub method_of : List ℕ → Method
+method_of method =
+    if bytes_eq method (codes "GET") then methods.Get
+    else if bytes_eq method (codes "HEAD") then methods.Head
+    else if bytes_eq method (codes "POST") then methods.Post
+    else methods.Other
 
-abbrev pub is_post : Verb → Bool
-is_post verbs.Post = true
-is_post verb = false
+abbrev pub is_post : Method → Bool
+is_post methods.Post = true
+is_post method = false
 
 -- the first fault of a request's head
-abbrev pub head_fault : Verb → ℕ → List Named → Option HttpFault
-head_fault verb minor fields =
+abbrev pub head_fault : Method → ℕ → List Named → Option HttpFault
+head_fault method minor fields =
     if nat_lt MAX_FIELDS (length fields) then Some faults.Fields
     else if has_host_fault minor (hosts fields) then Some faults.Host
     else if is_present (codings fields) then Some (faults.Coding (is_present (lengths fields)))
     else if is_unusable (lengths fields) then Some (faults.Length false)
-    else if is_post verb && not (is_present (lengths fields)) then Some (faults.Length true)
+    else if is_post method && not (is_present (lengths fields)) then Some (faults.Length true)
     else if nat_lt MAX_BODY_BYTES (unwrap_or (length_of (lengths fields)) 0) then Some faults.BodyLong
     else None
 
@@ -42,11 +42,11 @@ wanted_length wanted None = if wanted then Err (faults.Length true) else Ok 0
 wanted_length wanted (Some count) = if nat_lt MAX_BODY_BYTES count then Err faults.BodyLong else Ok count
 
 -- the length of a request's body, or the first fault of the head, test by test
-abbrev pub body_length : Verb → ℕ → List Named → Result ℕ HttpFault
-body_length verb minor fields =
+abbrev pub body_length : Method → ℕ → List Named → Result ℕ HttpFault
+body_length method minor fields =
     if nat_lt MAX_FIELDS (length fields) then Err faults.Fields
     else if has_host_fault minor (hosts fields) then Err faults.Host
-    else (checked_length (codings fields) (lengths fields) >>= wanted_length (is_post verb))
+    else (checked_length (codings fields) (lengths fields) >>= wanted_length (is_post method))
 
 -- a request of version 1.1 waits for 100 Continue before it sends the body
 abbrev pub expects : ℕ → List Named → Bool
@@ -55,7 +55,7 @@ expects minor fields = minor == 1 && is_only (codes "100-continue") (expectation
 -- what the head of a request says
 abbrev pub head_of : List ℕ → List ℕ → ℕ → List Named → Head
 head_of method target minor fields = record {
-  method = verb_of method;
+  method = method_of method;
   path = path_of target;
   query = query_of target;
   length = unwrap_or (length_of (lengths fields)) 0;
@@ -67,7 +67,7 @@ head_of method target minor fields = record {
 -- what these parts of a head say, or its first fault
 abbrev pub read_request_parts : List ℕ → List ℕ → ℕ → List Named → Result Head HttpFault
 read_request_parts method target minor fields =
-    fault_or (head_of method target minor fields) (head_fault (verb_of method) minor fields)
+    fault_or (head_of method target minor fields) (head_fault (method_of method) minor fields)
 
 -- what a whole head says, or its first fault
 abbrev pub read_request : RequestHead → Result Head HttpFault

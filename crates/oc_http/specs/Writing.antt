@@ -3,11 +3,12 @@ use Rattle.std.specs.Prelude.{ℕ, ◌≤◌, Bool, true, false, ◌||◌, ◌==
 use Rattle.std.specs.Char.{is_ascii_alphanumeric}
 use Rattle.std.specs.List.{list_all}
 use Rattle.std.specs.Str.{byte}
+use Rattle.oc_http.specs.Paths.{probe_path}
 use Rattle.oc_http.specs.declared.reply.Reply.{Reply}
 use Rattle.oc_http.specs.declared.framing.Framing.{Framing}
 use Rattle.oc_http.specs.declared.framing.Framing.TheVariants as framings
-use Rattle.oc_http.specs.declared.framing.Connection.{Connection}
-use Rattle.oc_http.specs.declared.framing.Connection.TheVariants.{Close, Keep}
+use Rattle.oc_http.specs.declared.framing.Persistence.{Persistence}
+use Rattle.oc_http.specs.declared.framing.Persistence.TheVariants.{Close, Keep}
 
 -- the end of a line
 abbrev pub line_end : List ℕ
@@ -36,7 +37,7 @@ abbrev pub length_line : ℕ → List ℕ
 length_line count = codes "Content-Length: " ++ decimal count ++ line_end
 
 -- `Connection: close`, except where the connection is kept
-abbrev pub connection_line : Connection → List ℕ
+abbrev pub connection_line : Persistence → List ℕ
 connection_line Close = codes "Connection: close\r\n"
 connection_line Keep = []
 
@@ -50,7 +51,7 @@ abbrev pub request_text : List ℕ → List ℕ → List ℕ
 request_text host body = request_head_text host (length body) ++ body
 
 -- a GET request
-abbrev pub get_request_text : List ℕ → List ℕ → Connection → List ℕ
+abbrev pub get_request_text : List ℕ → List ℕ → Persistence → List ℕ
 get_request_text target host connection =
     codes "GET " ++ target ++ codes " HTTP/1.1\r\n" ++ host_line host ++ connection_line connection ++ line_end
 
@@ -65,7 +66,7 @@ get_text path query host = get_request_text (path ++ query_text query) host Clos
 
 -- the request of a probe
 abbrev pub probe_text : List ℕ → List ℕ
-probe_text host = get_text (codes "/!probe") None host
+probe_text host = get_text probe_path None host
 
 -- `&area=A`, where there is one
 abbrev pub area_text : Option (List ℕ) → List ℕ
@@ -139,11 +140,11 @@ abbrev pub content_line : ℕ → Framing → List ℕ
 content_line status framing = if status == 204 then [] else framing_line framing
 
 -- the last lines of a head, one of which is empty
-abbrev pub head_end : Connection → List ℕ
+abbrev pub head_end : Persistence → List ℕ
 head_end connection = connection_line connection ++ line_end
 
 -- the head of a reply, with the empty line that ends it
-abbrev pub head_text : Reply → Framing → Connection → List ℕ
+abbrev pub head_text : Reply → Framing → Persistence → List ℕ
 head_text reply framing connection =
     status_line reply.status ++ location_line reply.status reply.location ++ allow_line reply.status ++ rule_line reply.rule
     ++ content_type_line reply.content_type ++ content_line reply.status framing ++ connection_line connection ++ line_end

@@ -7,9 +7,9 @@ pub enum Framing {
     Chunked,
 }
 
-/// What becomes of the connection after a message (RFC 9112, section 9.6).
+/// What becomes of the connection after a message (RFC 9112, sections 9.3 and 9.6).
 #[derive(Clone, Copy, Debug)]
-pub enum Connection {
+pub enum Persistence {
     Close,
     Keep,
 }

@@ -2,7 +2,7 @@ use oc_base::Text;
 
 /// What a request's method is, as far as it matters here.
 #[derive(Clone, Copy, PartialEq, Eq)]
-pub enum Verb {
+pub enum Method {
     Get,
     Head,
     Post,
@@ -12,7 +12,7 @@ pub enum Verb {
 /// What the head of a request says.
 #[derive(Drop)]
 pub struct Head {
-    pub method: Verb,
+    pub method: Method,
     /// The target up to the first `?`, without scheme and authority.
     pub path: Text,
     /// What follows that `?`.

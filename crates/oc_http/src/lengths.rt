@@ -2,7 +2,7 @@
 
 ghost use Rattle.std.specs.Prelude.{◌≡◌};
 ghost use Rattle.oc_http.specs.Fields.{codings, lengths};
-ghost use Rattle.oc_http.specs.Lengths.{told_length, checked_length};
+ghost use Rattle.oc_http.specs.Lengths.{content_length, checked_length};
 
 use crate::fault::HttpFault;
 use crate::{Fields, Found, length_of};
@@ -22,7 +22,7 @@ pub(crate) fn checked_length(fields: &Fields) -> Result<Option<u64>, HttpFault>
 
 /// The number of Content-Length, `None` where there is none.
 pub(crate) fn content_length(fields: &Fields) -> Result<Option<u64>, HttpFault>
-    ensures { result ≡ told_length (lengths fields.now) }
+    ensures { result ≡ content_length (lengths fields.now) }
 {
     match fields.find("content-length") {
         Found::Absent => Ok(None),

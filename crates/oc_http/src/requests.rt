@@ -3,13 +3,13 @@
 ghost use Rattle.std.specs.Prelude.{◌≡◌, [], IfOk};
 ghost use Rattle.httparse.specs.Grammar.{ReadsRequest, RequestHead};
 ghost use Rattle.oc_http.specs.Targets.{path_of, query_of};
-ghost use Rattle.oc_http.specs.Requests.{verb_of, is_post, wanted_length, body_length, expects, read_request, read_request_parts};
+ghost use Rattle.oc_http.specs.Requests.{method_of, is_post, wanted_length, body_length, expects, read_request, read_request_parts};
 ghost use Rattle.oc_http.specs.Lines.{IsRequestTaken};
 ghost use Rattle.oc_http.specs.Gives.{Gives};
 
 use crate::Fields;
 use crate::fault::HttpFault;
-use crate::head::{Head, Verb};
+use crate::head::{Head, Method};
 use crate::lengths::checked_length;
 use crate::texts::copy;
 use httparse::spans::{HeaderSpan, RequestSpans};
@@ -42,7 +42,7 @@ fn read_parts(
 ) -> Result<Head, HttpFault>
     ensures { Gives result (read_request_parts method.now target.now minor fields.now) }
 {
-    let method = verb_of(method);
+    let method = method_of(method);
     let length = body_length(method, minor, fields)?;
     let (path, query) = path_and_query(alloc, target)?;
     Ok(Head {
@@ -66,7 +66,7 @@ fn path_and_query(alloc: Global, target: &[u8]) -> Result<(Text, Text), Memory>
 }
 
 /// The length of the body in bytes, 0 where none is given, or the first fault of the head.
-fn body_length(method: Verb, minor: u8, fields: &Fields) -> Result<u64, HttpFault>
+fn body_length(method: Method, minor: u8, fields: &Fields) -> Result<u64, HttpFault>
     ensures { result ≡ body_length method minor fields.now }
 {
     if fields.are_too_many() {
@@ -79,11 +79,11 @@ fn body_length(method: Verb, minor: u8, fields: &Fields) -> Result<u64, HttpFaul
 }
 
 /// The length that is given, 0 where none is; one that is required and missing, or too great, is a fault.
-fn wanted_length(method: Verb, length: Option<u64>) -> Result<u64, HttpFault>
+fn wanted_length(method: Method, length: Option<u64>) -> Result<u64, HttpFault>
     ensures { result ≡ wanted_length (is_post method) length }
 {
     match length {
-        None if method == Verb::Post => Err(HttpFault::Length { missing: true }),
+        None if method == Method::Post => Err(HttpFault::Length { missing: true }),
         None => Ok(0),
         Some(length) if length > MAX_BODY_BYTES => Err(HttpFault::BodyLong),
         Some(length) => Ok(length),
@@ -91,14 +91,14 @@ fn wanted_length(method: Verb, length: Option<u64>) -> Result<u64, HttpFault>
 }
 
 /// The method that a text names.
-fn verb_of(method: &[u8]) -> Verb
-    ensures { result ≡ verb_of method.now }
+fn method_of(method: &[u8]) -> Method
+    ensures { result ≡ method_of method.now }
 {
     match method {
-        b"GET" => Verb::Get,
-        b"HEAD" => Verb::Head,
-        b"POST" => Verb::Post,
-        _ => Verb::Other,
+        b"GET" => Method::Get,
+        b"HEAD" => Method::Head,
+        b"POST" => Method::Post,
+        _ => Method::Other,
     }
 }
 

@@ -60,7 +60,7 @@ pub(crate) fn body_length(head: &ReplyHead) -> Option<u64>
 fn read_reply_head(alloc: Global, status: u16, fields: &Fields) -> Result<ReplyHead, HttpFault>
     ensures { Gives result (fault_or (reply_head_of status fields.now) (reply_head_fault fields.now)) }
 {
-    let length = told_length(fields)?;
+    let length = reply_length(fields)?;
     Ok(ReplyHead {
         status,
         location: location(alloc, fields)?,
@@ -71,7 +71,7 @@ fn read_reply_head(alloc: Global, status: u16, fields: &Fields) -> Result<ReplyH
 }
 
 /// The length of the body in bytes, where it is given, or the first fault of the head.
-fn told_length(fields: &Fields) -> Result<Option<u64>, HttpFault>
+fn reply_length(fields: &Fields) -> Result<Option<u64>, HttpFault>
     ensures { result ≡ fault_or (length_of (lengths fields.now)) (reply_head_fault fields.now) }
 {
     if fields.are_too_many() {

@@ -4,9 +4,9 @@ ghost use Rattle.std.specs.Prelude.{◌≡◌, [], ◌++◌, IfOk};
 ghost use Rattle.oc_http.specs.Parts.{line_text};
 ghost use Rattle.oc_http.specs.Writing.{HasPhrase, phrase_text, head_end, head_text, response_text, location_line, allow_line, rule_line, content_type_line, content_line, line_end};
 ghost use Rattle.oc_http.specs.declared.framing.Framing.TheVariants.{Length as OfLength};
-ghost use Rattle.oc_http.specs.declared.framing.Connection.TheVariants.{Close as Closing};
+ghost use Rattle.oc_http.specs.declared.framing.Persistence.TheVariants.{Close as Closing};
 
-use crate::framing::{Connection, Framing};
+use crate::framing::{Framing, Persistence};
 use crate::reply::Reply;
 use crate::texts::join;
 use itoa::Buffer;
@@ -30,7 +30,7 @@ pub fn write_response_head(alloc: Global, reply: &Reply, length: u64) -> Result<
     requires { HasPhrase reply.now.status }
     ensures { IfOk result (λ text. text.items ≡ head_text reply.now (OfLength length) Closing) }
 {
-    write_reply_head(alloc, reply, Framing::Length(length), Connection::Close)
+    write_reply_head(alloc, reply, Framing::Length(length), Persistence::Close)
 }
 
 /// The head of a reply whose content may be chunked and whose connection may be kept, as those to a
@@ -39,7 +39,7 @@ pub fn write_reply_head(
     alloc: Global,
     reply: &Reply,
     framing: Framing,
-    connection: Connection,
+    connection: Persistence,
 ) -> Result<Vec<u8>, Memory>
     requires { HasPhrase reply.now.status }
     ensures { IfOk result (λ text. text.items ≡ head_text reply.now framing connection) }
@@ -75,7 +75,7 @@ pub fn write_reply_head(
 
 /// A line of a head, all of it empty where the head has no such line.
 #[derive(Clone, Copy)]
-struct Line<'a> {
+struct FieldLine<'a> {
     /// The name, with the colon and the space after it.
     name: &'a [u8],
     value: &'a [u8],
@@ -83,20 +83,20 @@ struct Line<'a> {
     end: &'a [u8],
 }
 
-fn full_line<'a>(name: &'a [u8], value: &'a [u8]) -> Line<'a>
+fn field_line<'a>(name: &'a [u8], value: &'a [u8]) -> FieldLine<'a>
     ensures { line_text result ≡ name.now ++ value.now ++ line_end }
 {
-    Line {
+    FieldLine {
         name,
         value,
         end: b"\r\n",
     }
 }
 
-fn no_line<'a>() -> Line<'a>
+fn no_line<'a>() -> FieldLine<'a>
     ensures { line_text result ≡ [] }
 {
-    Line {
+    FieldLine {
         name: b"",
         value: b"",
         end: b"",
@@ -125,21 +125,21 @@ fn phrase_of<'a>(status: u16) -> &'a str
 }
 
 /// The last lines of a head: `Connection: close`, except where the connection is kept, and the empty line.
-fn head_end<'a>(connection: Connection) -> &'a [u8]
+fn head_end<'a>(connection: Persistence) -> &'a [u8]
     ensures { result.now ≡ head_end connection }
 {
     match connection {
-        Connection::Close => b"Connection: close\r\n\r\n",
-        Connection::Keep => b"\r\n",
+        Persistence::Close => b"Connection: close\r\n\r\n",
+        Persistence::Keep => b"\r\n",
     }
 }
 
 /// `Location`, of a 302.
-fn location_line(status: u16, location: &Option<Text>) -> Line<'_>
+fn location_line(status: u16, location: &Option<Text>) -> FieldLine<'_>
     ensures { line_text result ≡ location_line status location.now }
 {
     match location {
-        Some(location) if status == 302 => full_line(b"Location: ", location.items()),
+        Some(location) if status == 302 => field_line(b"Location: ", location.items()),
         _ => no_line(),
     }
 }
@@ -156,20 +156,20 @@ fn allow_line<'a>(status: u16) -> &'a [u8]
 }
 
 /// `Overcast-Rule`, where a rule denied the request.
-fn rule_line(rule: Option<u32>, digits: &mut Buffer) -> Line<'_>
+fn rule_line(rule: Option<u32>, digits: &mut Buffer) -> FieldLine<'_>
     ensures { line_text result ≡ rule_line rule }
 {
     match rule {
-        Some(number) => full_line(b"Overcast-Rule: ", digits.format(number).as_bytes()),
+        Some(number) => field_line(b"Overcast-Rule: ", digits.format(number).as_bytes()),
         None => no_line(),
     }
 }
 
 /// `Content-Type`, where it is given.
-fn content_type_line<'a>(told: bool) -> &'a [u8]
-    ensures { result.now ≡ content_type_line told }
+fn content_type_line<'a>(is_given: bool) -> &'a [u8]
+    ensures { result.now ≡ content_type_line is_given }
 {
-    if told {
+    if is_given {
         b"Content-Type: application/octet-stream\r\n"
     } else {
         b""
@@ -177,14 +177,14 @@ fn content_type_line<'a>(told: bool) -> &'a [u8]
 }
 
 /// Where the content ends, except for a 204.
-fn content_line(status: u16, framing: Framing, digits: &mut Buffer) -> Line<'_>
+fn content_line(status: u16, framing: Framing, digits: &mut Buffer) -> FieldLine<'_>
     ensures { line_text result ≡ content_line status framing }
 {
     if status == 204 {
         return no_line();
     }
     match framing {
-        Framing::Length(count) => full_line(b"Content-Length: ", digits.format(count).as_bytes()),
-        Framing::Chunked => full_line(b"Transfer-Encoding: ", b"chunked"),
+        Framing::Length(count) => field_line(b"Content-Length: ", digits.format(count).as_bytes()),
+        Framing::Chunked => field_line(b"Transfer-Encoding: ", b"chunked"),
     }
 }

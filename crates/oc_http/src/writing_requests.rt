@@ -3,6 +3,7 @@
 ghost use Rattle.std.specs.Prelude.{◌≡◌, ◌++◌, IfOk, option_map};
 ghost use Rattle.oc_http.specs.Writing.{IsHost, request_text, get_text, probe_text, follow_text, query_text, area_text};
 
+use crate::paths::PROBE_PATH;
 use crate::texts::join;
 use itoa::Buffer;
 use oc_base::Memory;
@@ -57,7 +58,7 @@ pub fn write_get(
 pub fn write_probe(alloc: Global, address: &str) -> Result<Vec<u8>, Memory>
     ensures { IfOk result (λ text. text.items ≡ probe_text address.now) }
 {
-    write_get(alloc, "/!probe", None, address)
+    write_get(alloc, PROBE_PATH, None, address)
 }
 
 /// The request of a download that follows a group: a GET from byte `start` on, which keeps the

@@ -1,5 +1,5 @@
-ghost use Rattle.std.specs.Prelude.{◌≡◌, ◌<◌, [], length, nat_lt};
-ghost use Rattle.oc_probe.specs.Rates.{kept_rates, with_rate, IsMedian};
+ghost use Rattle.std.specs.Prelude.{◌≡◌, ◌<◌, [], length};
+ghost use Rattle.oc_probe.specs.Rates.{with_rate, IsMedian};
 
 use std::marker::Model;
 
@@ -39,7 +39,7 @@ impl Recent {
     pub(crate) fn put(&mut self, rate: u64)
         ensures { self.new ≡ with_rate self.old rate }
     {
-        if has_room(self.count) {
+        if self.count < KEPT {
             self.rates[self.count] = rate;
             self.count += 1;
         } else {
@@ -58,11 +58,4 @@ impl Recent {
         let (_, median, _) = kept.select_nth_unstable((self.count - 1) / 2);
         *median
     }
-}
-
-/// Whether another rate can be kept beside this many.
-fn has_room(count: usize) -> bool
-    ensures { result ≡ nat_lt count kept_rates }
-{
-    count < KEPT
 }

@@ -1,9 +1,9 @@
 -- Worked examples: what requests ask, and what they are answered.
 use Rattle.std.specs.Prelude.{◌≡◌, ℕ, true, false, Bool, Some, None, Result, Ok, Err, List, [], ◌∷◌, ◌++◌, codes}
-use Rattle.oc_http.specs.declared.framing.Connection.TheVariants.{Close, Keep}
+use Rattle.oc_http.specs.declared.framing.Persistence.TheVariants.{Close, Keep}
 use Rattle.oc_http.specs.declared.head.Head.{Head}
-use Rattle.oc_http.specs.declared.head.Verb.{Verb}
-use Rattle.oc_http.specs.declared.head.Verb.TheVariants as verbs
+use Rattle.oc_http.specs.declared.head.Method.{Method}
+use Rattle.oc_http.specs.declared.head.Method.TheVariants as methods
 use Rattle.oc_model.specs.declared.answer.Answer.{Answer}
 use Rattle.oc_model.specs.declared.answer.Answer.TheVariants as answers
 use Rattle.oc_model.specs.declared.input.Input.TheVariants as inputs
@@ -25,14 +25,14 @@ use Rattle.oc_routes.specs.declared.refused.Refused.TheVariants as refusals
 use Rattle.oc_routes.specs.declared.response.Response.{Response}
 
 -- the head of a request of version 1.1 with no body
-abbrev head : Verb → List ℕ → List ℕ → Head
+abbrev head : Method → List ℕ → List ℕ → Head
 head method path query = record { method = method; path = path; query = query; length = 0; expects = false; minor = 1; closes = false }
 
 -- what a request without access rules asks
-abbrev asks_for : Verb → List ℕ → List ℕ → Asks → Type 0
+abbrev asks_for : Method → List ℕ → List ℕ → Asks → Type 0
 asks_for method path query wanted = asked (head method path query) [] ≡ Ok wanted
 
-abbrev refuses : Verb → List ℕ → List ℕ → Refused → Type 0
+abbrev refuses : Method → List ℕ → List ℕ → Refused → Type 0
 refuses method path query refused = asked (head method path query) [] ≡ Err refused
 
 -- three rules: nobody in area 4 reads the news, everybody else does everything, and the last rule decides nothing
@@ -41,36 +41,36 @@ rules = record { allow = false; action = Some Get; prefix = codes "/news"; area 
     ∷ record { allow = true; action = None; prefix = codes "/"; area = None }
     ∷ record { allow = false; action = Some Post; prefix = codes "/news/a"; area = None } ∷ []
 
-abbrev under_rules : Verb → List ℕ → List ℕ → Result Asks Refused → Type 0
+abbrev under_rules : Method → List ℕ → List ℕ → Result Asks Refused → Type 0
 under_rules method path query wanted = asked (head method path query) rules ≡ wanted
 
 pub record AreRouted : Type 0 where
-  pub client : asks_for verbs.Get (codes "/news/a") (codes "start=2") (asks.Client (codes "/news/a") 0 2 Once)
-  pub head_alone : asks_for verbs.Head (codes "/a") (codes "follow") (asks.Client (codes "/a") 0 0 HeadAlone)
-  pub follows : asks_for verbs.Get (codes "/a") (codes "start=0&follow") (asks.Client (codes "/a") 0 0 Follow)
-  pub version_1_0_follows_nothing : asked (record (head verbs.Get (codes "/a") (codes "follow")) { minor = 0 }) [] ≡ Ok (asks.Client (codes "/a") 0 0 Once)
-  pub nearly_follow : asks_for verbs.Get (codes "/a") (codes "follow=1&Follow") (asks.Client (codes "/a") 0 0 Once)
-  pub first_start : asks_for verbs.Get (codes "/a") (codes "x&start=1&start=y&area=255") (asks.Client (codes "/a") 255 1 Once)
-  pub publish : asks_for verbs.Post (codes "/a") (codes "follow") (asks.Publish (codes "/a"))
-  pub seal : asks_for verbs.Post (codes "/a") (codes "x=1&seal") (asks.Seal (codes "/a"))
-  pub seal_of_a_get : asks_for verbs.Get (codes "/a") (codes "seal") (asks.Client (codes "/a") 0 0 Once)
-  pub message : asks_for verbs.Post (codes "/!overcast") [] asks.Message
-  pub probe : asks_for verbs.Get (codes "/!probe") (codes "follow") (asks.Probe Follow)
-  pub put : refuses verbs.Other (codes "/%") (codes "start=x") refusals.Method
-  pub percent : refuses verbs.Get (codes "/a%20") (codes "start=x") refusals.Path
-  pub message_is_not_read : refuses verbs.Get (codes "/!overcast") [] refusals.Path
-  pub probe_is_not_posted : refuses verbs.Post (codes "/!probe") [] refusals.Path
-  pub no_number : refuses verbs.Get (codes "/a") (codes "start=x") refusals.Query
-  pub leading_zero : refuses verbs.Get (codes "/a") (codes "start=01") refusals.Query
-  pub first_start_counts : refuses verbs.Get (codes "/a") (codes "start=&start=1") refusals.Query
-  pub start_too_great : refuses verbs.Get (codes "/a") (codes "start=1099511627777") refusals.Query
-  pub area_too_great : refuses verbs.Post (codes "/a") (codes "area=256") refusals.Query
-  pub denied : under_rules verbs.Get (codes "/news/a") (codes "area=4") (Err (refusals.Denied 1))
-  pub head_is_denied : under_rules verbs.Head (codes "/news") (codes "area=4&area=5") (Err (refusals.Denied 1))
-  pub query_before_rules : under_rules verbs.Get (codes "/news") (codes "area=4&start=x") (Err refusals.Query)
-  pub newsroom : under_rules verbs.Get (codes "/newsroom") (codes "area=4") (Ok (asks.Client (codes "/newsroom") 4 0 Once))
-  pub news : under_rules verbs.Get (codes "/news/a") [] (Ok (asks.Client (codes "/news/a") 0 0 Once))
-  pub post_news : under_rules verbs.Post (codes "/news/a") [] (Ok (asks.Publish (codes "/news/a")))
+  pub client : asks_for methods.Get (codes "/news/a") (codes "start=2") (asks.Client (codes "/news/a") 0 2 Once)
+  pub head_alone : asks_for methods.Head (codes "/a") (codes "follow") (asks.Client (codes "/a") 0 0 HeadAlone)
+  pub follows : asks_for methods.Get (codes "/a") (codes "start=0&follow") (asks.Client (codes "/a") 0 0 Follow)
+  pub version_1_0_follows_nothing : asked (record (head methods.Get (codes "/a") (codes "follow")) { minor = 0 }) [] ≡ Ok (asks.Client (codes "/a") 0 0 Once)
+  pub nearly_follow : asks_for methods.Get (codes "/a") (codes "follow=1&Follow") (asks.Client (codes "/a") 0 0 Once)
+  pub first_start : asks_for methods.Get (codes "/a") (codes "x&start=1&start=y&area=255") (asks.Client (codes "/a") 255 1 Once)
+  pub publish : asks_for methods.Post (codes "/a") (codes "follow") (asks.Publish (codes "/a"))
+  pub seal : asks_for methods.Post (codes "/a") (codes "x=1&seal") (asks.Seal (codes "/a"))
+  pub seal_of_a_get : asks_for methods.Get (codes "/a") (codes "seal") (asks.Client (codes "/a") 0 0 Once)
+  pub message : asks_for methods.Post (codes "/!overcast") [] asks.Message
+  pub probe : asks_for methods.Get (codes "/!probe") (codes "follow") (asks.Probe Follow)
+  pub put : refuses methods.Other (codes "/%") (codes "start=x") refusals.Method
+  pub percent : refuses methods.Get (codes "/a%20") (codes "start=x") refusals.Path
+  pub message_is_not_read : refuses methods.Get (codes "/!overcast") [] refusals.Path
+  pub probe_is_not_posted : refuses methods.Post (codes "/!probe") [] refusals.Path
+  pub no_number : refuses methods.Get (codes "/a") (codes "start=x") refusals.Query
+  pub leading_zero : refuses methods.Get (codes "/a") (codes "start=01") refusals.Query
+  pub first_start_counts : refuses methods.Get (codes "/a") (codes "start=&start=1") refusals.Query
+  pub start_too_great : refuses methods.Get (codes "/a") (codes "start=1099511627777") refusals.Query
+  pub area_too_great : refuses methods.Post (codes "/a") (codes "area=256") refusals.Query
+  pub denied : under_rules methods.Get (codes "/news/a") (codes "area=4") (Err (refusals.Denied 1))
+  pub head_is_denied : under_rules methods.Head (codes "/news") (codes "area=4&area=5") (Err (refusals.Denied 1))
+  pub query_before_rules : under_rules methods.Get (codes "/news") (codes "area=4&start=x") (Err refusals.Query)
+  pub newsroom : under_rules methods.Get (codes "/newsroom") (codes "area=4") (Ok (asks.Client (codes "/newsroom") 4 0 Once))
+  pub news : under_rules methods.Get (codes "/news/a") [] (Ok (asks.Client (codes "/news/a") 0 0 Once))
+  pub post_news : under_rules methods.Post (codes "/news/a") [] (Ok (asks.Publish (codes "/news/a")))
 
 -- to node 1 from node 2: a rejoin of ask 7
 abbrev rejoin : Message
@@ -133,7 +133,7 @@ pub record AreAnswered : Type 0 where
       (record { text = lines (codes "HTTP/1.1 204 No Content" ∷ closes ∷ []); content = None; connection = Close })
   pub probe_head : answered (asks.Probe HeadAlone) answers.Ok false false
       (record { text = lines (codes "HTTP/1.1 200 OK" ∷ octets ∷ codes "Content-Length: 10240" ∷ closes ∷ []); content = None; connection = Close })
-  pub fifteenth : is_last (head verbs.Get (codes "/a") []) 15 ≡ false
-  pub sixteenth : is_last (head verbs.Get (codes "/a") []) 16 ≡ true
-  pub closing : is_last (record (head verbs.Get (codes "/a") []) { closes = true }) 1 ≡ true
-  pub nothing_to_continue : awaits_continue (record (head verbs.Post (codes "/a") []) { expects = true }) ≡ false
+  pub fifteenth : is_last (head methods.Get (codes "/a") []) 15 ≡ false
+  pub sixteenth : is_last (head methods.Get (codes "/a") []) 16 ≡ true
+  pub closing : is_last (record (head methods.Get (codes "/a") []) { closes = true }) 1 ≡ true
+  pub nothing_to_continue : awaits_continue (record (head methods.Post (codes "/a") []) { expects = true }) ≡ false

@@ -1,26 +1,18 @@
 -- What the query of a request says.
 use Rattle.std.specs.Prelude.{ℕ, Bool, ◌==◌, if◌then◌else◌, Option, Some, None, Result, Ok, List, [], ◌∷◌, length, take, drop, codes}
-use Rattle.std.specs.List.{list_any, slice_split}
-use Rattle.std.specs.Str.{byte, bytes_eq}
+use Rattle.std.specs.List.{list_any}
+use Rattle.std.specs.Str.{bytes_eq}
 use Rattle.oc_base.specs.Steps.{◌>>=◌, with_fault}
 use Rattle.oc_base.specs.Words.{number_in}
 use Rattle.oc_base.specs.declared.limits.TheConstants.{MAX_AREA, MAX_START}
+use Rattle.oc_http.specs.Queries.{parts, or_else}
 use Rattle.oc_routes.specs.declared.query.Query.{Query}
 use Rattle.oc_routes.specs.declared.refused.Refused.{Refused}
 use Rattle.oc_routes.specs.declared.refused.Refused.TheVariants as refusals
 
--- the parts of a query, which are separated by `&`
-abbrev pub parts : List ℕ → List (List ℕ)
-parts query = slice_split (λ b. b == byte "&") query
-
 -- the value of a part that begins with a name and its `=`
 abbrev pub value_in : List ℕ → List ℕ → Option (List ℕ)
 value_in name part = if bytes_eq (take (length name) part) name then Some (drop (length name) part) else None
-
--- the first, or else the second
-abbrev pub or_else : {A : Type 0} → Option A → Option A → Option A
-or_else (Some first) second = Some first
-or_else None second = second
 
 -- the first such value
 abbrev pub first_value : List ℕ → List (List ℕ) → Option (List ℕ)

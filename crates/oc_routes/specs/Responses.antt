@@ -2,8 +2,8 @@
 use Rattle.std.specs.Prelude.{ℕ, ◌-◌, Bool, true, false, not, Option, Some, None, List, [], ◌++◌, replicate, slice_get, unwrap_or}
 use Rattle.std.specs.Str.{byte}
 use Rattle.oc_http.specs.Writing.{head_text, response_text}
-use Rattle.oc_http.specs.declared.framing.Connection.{Connection}
-use Rattle.oc_http.specs.declared.framing.Connection.TheVariants.{Close, Keep}
+use Rattle.oc_http.specs.declared.framing.Persistence.{Persistence}
+use Rattle.oc_http.specs.declared.framing.Persistence.TheVariants.{Close, Keep}
 use Rattle.oc_http.specs.declared.framing.Framing.{Framing}
 use Rattle.oc_http.specs.declared.framing.Framing.TheVariants as framings
 use Rattle.oc_http.specs.declared.reply.Reply.{Reply}
@@ -52,7 +52,7 @@ seal_status answers.NoGroup = 404
 seal_status refusal = 403
 
 -- the connection is kept for a client that follows a group, unless its request is the last
-abbrev pub connection_for : Manner → Bool → Connection
+abbrev pub connection_for : Manner → Bool → Persistence
 connection_for Follow false = Keep
 connection_for manner last = Close
 

@@ -5,8 +5,8 @@ use Rattle.oc_base.specs.Names.{parsed_name}
 use Rattle.oc_base.specs.Steps.{◌>>=◌}
 use Rattle.oc_base.specs.declared.group_name.NameFault.{NameFault}
 use Rattle.oc_http.specs.declared.head.Head.{Head}
-use Rattle.oc_http.specs.declared.head.Verb.{Verb}
-use Rattle.oc_http.specs.declared.head.Verb.TheVariants as verbs
+use Rattle.oc_http.specs.declared.head.Method.{Method}
+use Rattle.oc_http.specs.declared.head.Method.TheVariants as methods
 use Rattle.oc_policy.specs.Rules.{verdict}
 use Rattle.oc_policy.specs.declared.deciding.Verdict.{Verdict}
 use Rattle.oc_policy.specs.declared.deciding.Verdict.TheVariants.{Allowed, Denied}
@@ -25,11 +25,11 @@ use Rattle.oc_routes.specs.declared.refused.Refused.{Refused}
 use Rattle.oc_routes.specs.declared.refused.Refused.TheVariants as refusals
 
 -- what a method does: GET and HEAD read, POST writes
-abbrev pub action_of : Verb → Result Action Refused
-action_of verbs.Get = Ok Get
-action_of verbs.Head = Ok Get
-action_of verbs.Post = Ok Post
-action_of verbs.Other = Err refusals.Method
+abbrev pub action_of : Method → Result Action Refused
+action_of methods.Get = Ok Get
+action_of methods.Head = Ok Get
+action_of methods.Post = Ok Post
+action_of methods.Other = Err refusals.Method
 
 -- the group of a path that is a group name
 abbrev pub named_group : Result (List ℕ) NameFault → Result Place Refused
@@ -55,17 +55,17 @@ permitted rules action (Group group) area = if_allowed (verdict rules action gro
 permitted rules action place area = Ok tt
 
 -- how a content is asked for: a part `follow` counts in a GET of version 1.1 alone
-abbrev pub manner_of : Verb → ℕ → Bool → Manner
-manner_of verbs.Get minor follow = if follow && minor == 1 then Follow else Once
+abbrev pub manner_of : Method → ℕ → Bool → Manner
+manner_of methods.Get minor follow = if follow && minor == 1 then Follow else Once
 manner_of method minor follow = HeadAlone
 
 -- what is asked of a group: a part `seal` counts in a POST alone
-abbrev pub asked_of_group : Verb → ℕ → Query → List ℕ → Asks
-asked_of_group verbs.Post minor query group = if query.seal then asks.Seal group else asks.Publish group
+abbrev pub asked_of_group : Method → ℕ → Query → List ℕ → Asks
+asked_of_group methods.Post minor query group = if query.seal then asks.Seal group else asks.Publish group
 asked_of_group method minor query group = asks.Client group query.area query.start (manner_of method minor query.follow)
 
 -- what is asked of a place
-abbrev pub asked_at : Verb → ℕ → Query → Place → Asks
+abbrev pub asked_at : Method → ℕ → Query → Place → Asks
 asked_at method minor query Messages = asks.Message
 asked_at method minor query Probe = asks.Probe (manner_of method minor query.follow)
 asked_at method minor query (Group group) = asked_of_group method minor query group

@@ -41,7 +41,7 @@ pub use fault::RouteFault;
 pub use inputs::input_of;
 pub use law::{examples_compute, steps_answer_by_the_table};
 pub use lines::{ProbeFailure, put_input_line, put_probe_line, put_refusal_line, put_write_line};
-pub use oc_http::Connection;
+pub use oc_http::Persistence;
 pub use refusals::refusal_reply;
 pub use refused::Refused;
 pub use replies::{reply_place, split_reply};

@@ -5,7 +5,7 @@ ghost use Rattle.oc_routes.specs.Routes.{action_of, group_in, place_in};
 
 use crate::refused::Refused;
 use oc_base::GroupName;
-use oc_http::Verb;
+use oc_http::Method;
 use oc_policy::Action;
 
 /// The path of messages.
@@ -23,13 +23,13 @@ pub(crate) enum Place {
 }
 
 /// What a method does with a path.
-pub(crate) fn action_of(method: Verb) -> Result<Action, Refused>
+pub(crate) fn action_of(method: Method) -> Result<Action, Refused>
     ensures { result ≡ action_of method }
 {
     match method {
-        Verb::Get | Verb::Head => Ok(Action::Get),
-        Verb::Post => Ok(Action::Post),
-        Verb::Other => Err(Refused::Method),
+        Method::Get | Method::Head => Ok(Action::Get),
+        Method::Post => Ok(Action::Post),
+        Method::Other => Err(Refused::Method),
     }
 }
 

@@ -1,7 +1,8 @@
 ghost use Rattle.std.specs.Prelude.{◌≡◌, ◌≤◌, IfOk, option_map};
 ghost use Rattle.std.specs.Str.{bytes_eq};
 ghost use Rattle.oc_base.specs.declared.limits.TheConstants.{MAX_AREA as AREA_LIMIT, MAX_START as START_LIMIT};
-ghost use Rattle.oc_routes.specs.Queries.{first_value, has_part, number_or_nought, parts, query_in, value_in};
+ghost use Rattle.oc_http.specs.Queries.{parts};
+ghost use Rattle.oc_routes.specs.Queries.{first_value, has_part, number_or_nought, query_in, value_in};
 
 use crate::refused::Refused;
 use oc_base::words::{is, number};

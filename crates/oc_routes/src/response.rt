@@ -1,5 +1,5 @@
 use oc_base::Text;
-use oc_http::Connection;
+use oc_http::Persistence;
 
 /// What a request is answered.
 #[derive(Debug, Drop)]
@@ -9,7 +9,7 @@ pub struct Response {
     /// The content that is written after it, where there is one.
     pub content: Option<Content>,
     /// What becomes of the connection after it.
-    pub connection: Connection,
+    pub connection: Persistence,
 }
 
 /// The content of a group that is sent.

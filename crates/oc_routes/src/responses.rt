@@ -13,7 +13,7 @@ use crate::refusals::bare_reply;
 use crate::response::{Content, Response};
 use crate::{Asks, Manner};
 use oc_base::{Bytes, GroupName, Memory, NodeId, Text};
-use oc_http::{Connection, Framing, Reply, write_reply_head, write_response};
+use oc_http::{Persistence, Framing, Reply, write_reply_head, write_response};
 use oc_model::{Answer, Message};
 use oc_probe::PROBE_BYTES;
 use oc_updown::{follow_location, location};
@@ -86,7 +86,7 @@ fn whole(alloc: Global, reply: &Reply) -> Result<Response, Memory>
     Ok(Response {
         text: Text::of(write_response(alloc, reply)?),
         content: None,
-        connection: Connection::Close,
+        connection: Persistence::Close,
     })
 }
 
@@ -98,7 +98,7 @@ fn status_alone(alloc: Global, status: u16) -> Result<Response, Memory>
     Ok(Response {
         text: Text::of(bare_reply(alloc, status, None)?),
         content: None,
-        connection: Connection::Close,
+        connection: Persistence::Close,
     })
 }
 
@@ -225,7 +225,7 @@ fn put_copies(text: &mut Vec<u8>, count: usize, byte: u8) -> Result<(), Memory>
 }
 
 /// The head of a 200 whose content has a type.
-fn typed_head(alloc: Global, framing: Framing, connection: Connection) -> Result<Vec<u8>, Memory>
+fn typed_head(alloc: Global, framing: Framing, connection: Persistence) -> Result<Vec<u8>, Memory>
     ensures { IfOk result (λ text. text.items ≡ head_text (typed []) framing connection) }
 {
     let reply = Reply {
@@ -257,11 +257,11 @@ fn framing_for(chunked: bool, count: u64) -> Framing
 }
 
 /// What becomes of the connection.
-fn connection_for(manner: Manner, last: bool) -> Connection
+fn connection_for(manner: Manner, last: bool) -> Persistence
     ensures { result ≡ connection_for manner last }
 {
     match manner {
-        Manner::Follow if !last => Connection::Keep,
-        _ => Connection::Close,
+        Manner::Follow if !last => Persistence::Keep,
+        _ => Persistence::Close,
     }
 }

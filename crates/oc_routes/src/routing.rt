@@ -9,7 +9,7 @@ use crate::place::{Place, action_of, place_in};
 use crate::query::{Query, query_in};
 use crate::refused::Refused;
 use oc_base::GroupName;
-use oc_http::{Head, Verb};
+use oc_http::{Head, Method};
 use oc_policy::{Action, MAX_RULES, Rule, Verdict, decide};
 
 /// What the head of a request asks under these access rules, or the first fault: of the method, the
@@ -41,7 +41,7 @@ fn permit(rules: &[Rule], action: Action, place: &Place, area: u8) -> Result<(),
 }
 
 /// What is asked of a place.
-fn asked_at(method: Verb, minor: u8, query: &Query, place: &Place) -> Asks
+fn asked_at(method: Method, minor: u8, query: &Query, place: &Place) -> Asks
     requires place { IsPlace place.now }
     requires start { query.now.start ≤ START_LIMIT }
     requires area { query.now.area ≤ AREA_LIMIT }
@@ -58,7 +58,7 @@ fn asked_at(method: Verb, minor: u8, query: &Query, place: &Place) -> Asks
 }
 
 /// What is asked of a group.
-fn asked_of_group(method: Verb, minor: u8, query: &Query, group: &GroupName) -> Asks
+fn asked_of_group(method: Method, minor: u8, query: &Query, group: &GroupName) -> Asks
     requires group { IsGroupName group.now }
     requires start { query.now.start ≤ START_LIMIT }
     requires area { query.now.area ≤ AREA_LIMIT }
@@ -67,8 +67,8 @@ fn asked_of_group(method: Verb, minor: u8, query: &Query, group: &GroupName) -> 
 {
     let group = *group;
     match method {
-        Verb::Post if query.seal => Asks::Seal { group },
-        Verb::Post => Asks::Publish { group },
+        Method::Post if query.seal => Asks::Seal { group },
+        Method::Post => Asks::Publish { group },
         _ => Asks::Client {
             group,
             area: query.area,
@@ -79,12 +79,12 @@ fn asked_of_group(method: Verb, minor: u8, query: &Query, group: &GroupName) -> 
 }
 
 /// How a content is asked for; `follow` counts only in a GET of version 1.1.
-fn manner_of(method: Verb, minor: u8, follow: bool) -> Manner
+fn manner_of(method: Method, minor: u8, follow: bool) -> Manner
     ensures { result ≡ manner_of method minor follow }
 {
     match method {
-        Verb::Get if follow && minor == 1 => Manner::Follow,
-        Verb::Get => Manner::Once,
+        Method::Get if follow && minor == 1 => Manner::Follow,
+        Method::Get => Manner::Once,
         _ => Manner::HeadAlone,
     }
 }

@@ -1,5 +1,5 @@
 -- What the bytes of a request bring.
-use Rattle.std.specs.Prelude.{◌≡◌, ℕ, ◌<◌, ◌⊎◌, Bool, true, false, ◌&&◌, ◌==◌, Result, Ok, Err, List, ◌++◌, length, codes, ⊤}
+use Rattle.std.specs.Prelude.{◌≡◌, ℕ, ◌<◌, ◌⊎◌, Bool, true, false, ◌&&◌, ◌==◌, Result, Ok, Err, List, ◌++◌, length, ⊤}
 use Rattle.std.specs.Global.{Vec}
 use Rattle.std.specs.Str.{bytes_eq}
 use Rattle.oc_http.specs.Answers.{IsDecided}
@@ -7,6 +7,7 @@ use Rattle.oc_http.specs.Answers as heads
 use Rattle.oc_http.specs.declared.fault.HttpFault.{HttpFault}
 use Rattle.oc_http.specs.declared.fault.HttpFault.TheVariants as http
 use Rattle.oc_http.specs.declared.head.Head.{Head}
+use Rattle.oc_http.specs.Paths.{message_path}
 use Rattle.oc_http.specs.Requests.{is_post}
 use Rattle.oc_model.specs.declared.message.Message.{Message}
 use Rattle.oc_wire.specs.declared.fault.WireFault.{WireFault}
@@ -16,7 +17,7 @@ use Rattle.oc_wire.specs.MessageReading.{decoded}
 
 -- a POST to `/!overcast` without a query
 abbrev pub is_route : Head → Bool
-is_route head = is_post head.method && bytes_eq head.path (codes "/!overcast") && length head.query == 0
+is_route head = is_post head.method && bytes_eq head.path message_path && length head.query == 0
 
 -- the bytes begin with this head of a request and this body, which is as long as the head says
 pub record IsRequest (bytes : List ℕ) (head : Head) (body : List ℕ) : Type 0 where

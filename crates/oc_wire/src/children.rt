@@ -1,10 +1,10 @@
 //! The fields of a `LookIs`: its children have ascending ids.
 
-ghost use Rattle.std.specs.Prelude.{◌≡◌, nat_lt};
+ghost use Rattle.std.specs.Prelude.{◌≡◌};
 ghost use Rattle.oc_base.specs.Reading.{items_at, Gives};
 ghost use Rattle.oc_wire.specs.FieldReading.{child_at, children_at, look_is_at};
 
-use crate::parent_at;
+use crate::fields::parent_at;
 use oc_base::reading::{flag_at, rate_at, u16_within_at, u32_within_at};
 use oc_base::{Child, ChildList, FieldFault, NodeId};
 use oc_model::Body;
@@ -12,7 +12,7 @@ use std::alloc::Global;
 
 /// The fields of a `LookIs`.
 #[tactic(auto, unfolding(crate::specs::FieldReading::look_is_at))]
-pub fn look_is_at(
+pub(crate) fn look_is_at(
     alloc: Global,
     nodes: u32,
     bytes: &[u8],
@@ -80,7 +80,7 @@ fn child_at(
     ensures { result ≡ child_at before nodes bytes.now at }
 {
     let (id, next) = u32_within_at(0, nodes, bytes, at)?;
-    if !is_greater(id, before.0) {
+    if id <= before.0 {
         return Err(FieldFault::Value);
     }
     let (rate, next) = rate_at(bytes, next)?;
@@ -89,11 +89,4 @@ fn child_at(
         rate,
     };
     Ok((child, next))
-}
-
-/// Whether an id is greater than the one before it.
-fn is_greater(id: u32, before: u32) -> bool
-    ensures { result ≡ nat_lt before id }
-{
-    before < id
 }

@@ -3,7 +3,8 @@ ghost use Rattle.oc_wire.specs.MessageReading.{Gives, decoded};
 ghost use Rattle.oc_model.specs.declared.message.Message.{Message};
 ghost use Rattle.oc_wire.specs.Messages.{Spells};
 
-use crate::{WireFault, read_message};
+use crate::WireFault;
+use crate::message_decoding::read_message;
 use oc_model::Message;
 use std::alloc::Global;
 

@@ -19,7 +19,11 @@ use std::alloc::Global;
 
 /// A parent, or 0 for none.
 #[tactic(auto, unfolding(crate::specs::FieldReading::parent_at))]
-pub fn parent_at(nodes: u32, bytes: &[u8], at: usize) -> Result<(Option<NodeId>, usize), FieldFault>
+pub(crate) fn parent_at(
+    nodes: u32,
+    bytes: &[u8],
+    at: usize,
+) -> Result<(Option<NodeId>, usize), FieldFault>
     ensures { result ≡ parent_at nodes bytes.now at }
 {
     let (id, next) = u32_within_at(0, nodes, bytes, at)?;
@@ -35,7 +39,7 @@ fn node_or_none(id: u32) -> Option<NodeId>
 
 /// A tag, and after a tag of 1 a rank.
 #[tactic(auto, unfolding(crate::specs::FieldReading::rank_or_none_at))]
-pub fn rank_or_none_at(bytes: &[u8], at: usize) -> Result<(Option<Rank>, usize), FieldFault>
+pub(crate) fn rank_or_none_at(bytes: &[u8], at: usize) -> Result<(Option<Rank>, usize), FieldFault>
     ensures { result ≡ rank_or_none_at bytes.now at }
 {
     let (is_ranked, next) = flag_at(bytes, at)?;
@@ -48,7 +52,11 @@ pub fn rank_or_none_at(bytes: &[u8], at: usize) -> Result<(Option<Rank>, usize),
 
 /// A refusal, and the node that it names.
 #[tactic(auto, unfolding(crate::specs::FieldReading::refusal_at))]
-pub fn refusal_at(nodes: u32, bytes: &[u8], at: usize) -> Result<(Refusal, usize), FieldFault>
+pub(crate) fn refusal_at(
+    nodes: u32,
+    bytes: &[u8],
+    at: usize,
+) -> Result<(Refusal, usize), FieldFault>
     ensures { result ≡ refusal_at nodes bytes.now at }
 {
     let (code, next) = byte_at(bytes, at)?;
@@ -89,7 +97,7 @@ fn refusal_with(
 
 /// A name after its length.
 #[tactic(auto, unfolding(crate::specs::FieldReading::name_at, oc_base::specs::Reading::text_at))]
-pub fn name_at(bytes: &[u8], at: usize) -> Result<(GroupName, usize), FieldFault>
+pub(crate) fn name_at(bytes: &[u8], at: usize) -> Result<(GroupName, usize), FieldFault>
     ensures { result ≡ name_at bytes.now at }
 {
     let (count, next) = u8_within_at(MIN_NAME_BYTES as u8, MAX_NAME_BYTES as u8, bytes, at)?;
@@ -128,7 +136,7 @@ fn is_after(before: Option<GroupName>, name: GroupName) -> bool
 
 /// The certificates of a check-in.
 #[tactic(auto, unfolding(crate::specs::FieldReading::certs_at))]
-pub fn certs_at(
+pub(crate) fn certs_at(
     alloc: Global,
     nodes: u32,
     bytes: &[u8],
@@ -162,7 +170,11 @@ fn count_of_certs_at(
 
 /// A shelf, with ascending names.
 #[tactic(auto, unfolding(crate::specs::FieldReading::have_at))]
-pub fn have_at(alloc: Global, bytes: &[u8], at: usize) -> Result<(ShelfList, usize), FieldFault>
+pub(crate) fn have_at(
+    alloc: Global,
+    bytes: &[u8],
+    at: usize,
+) -> Result<(ShelfList, usize), FieldFault>
     ensures { Gives result (have_at bytes.now at) }
 {
     let (count, next) = u8_within_at(0, MAX_GROUPS as u8, bytes, at)?;
@@ -208,7 +220,11 @@ fn line_at(before: Option<GroupName>, bytes: &[u8], at: usize) -> Result<(Shelf,
 
 /// The bytes of a chunk.
 #[tactic(auto, unfolding(crate::specs::FieldReading::chunk_bytes_at, oc_base::specs::Reading::text_at))]
-pub fn chunk_bytes_at(alloc: Global, bytes: &[u8], at: usize) -> Result<(Bytes, usize), FieldFault>
+pub(crate) fn chunk_bytes_at(
+    alloc: Global,
+    bytes: &[u8],
+    at: usize,
+) -> Result<(Bytes, usize), FieldFault>
     ensures { Gives result (chunk_bytes_at bytes.now at) }
 {
     let (count, next) = u16_within_at(0, MAX_CHUNK_BYTES as u16, bytes, at)?;

@@ -13,14 +13,12 @@ use crate::law::requests_have_one_answer;
 use crate::{HttpWireFault, decode, encode};
 use oc_base::Memory;
 use oc_http::{
-    Head, HttpFault, Verb, a_written_request_is_read, read_body, read_head, write_request,
+    Head, HttpFault, MESSAGE_PATH, Method, a_written_request_is_read, read_body, read_head,
+    write_request,
 };
 use oc_io::MemSource;
 use oc_model::Message;
 use std::alloc::Global;
-
-/// The path of a message's request.
-const PATH: &str = "/!overcast";
 
 /// The request that brings the message to `host`: a POST with the message's bytes as its body.
 pub fn to_http(alloc: Global, message: &Message, host: &str) -> Result<Vec<u8>, Memory>
@@ -85,7 +83,7 @@ fn request_from(alloc: Global, source: &mut MemSource) -> Result<(Head, Vec<u8>)
 fn is_route(head: &Head) -> bool
     ensures { result ≡ is_route head.now }
 {
-    head.method == Verb::Post
-        && head.path.items() == PATH.as_bytes()
+    head.method == Method::Post
+        && head.path.items() == MESSAGE_PATH.as_bytes()
         && head.query.items().is_empty()
 }

@@ -13,7 +13,7 @@ use std::alloc::Global;
 
 /// The fields of an `Ask`: its number, and its rank or none.
 #[tactic(auto, unfolding(crate::specs::FieldReading::ask_at))]
-pub fn ask_at(bytes: &[u8], at: usize) -> Result<(Body, usize), FieldFault>
+pub(crate) fn ask_at(bytes: &[u8], at: usize) -> Result<(Body, usize), FieldFault>
     ensures { result ≡ ask_at bytes.now at }
 {
     let (seq, next) = count_at(bytes, at)?;
@@ -23,7 +23,7 @@ pub fn ask_at(bytes: &[u8], at: usize) -> Result<(Body, usize), FieldFault>
 
 /// The fields of a `Yes`: the number of the ask, the rank, and the ancestors.
 #[tactic(auto, unfolding(crate::specs::FieldReading::yes_at))]
-pub fn yes_at(
+pub(crate) fn yes_at(
     alloc: Global,
     nodes: u32,
     bytes: &[u8],
@@ -44,7 +44,7 @@ pub fn yes_at(
 
 /// The fields of a `No`: the number of the ask, and the refusal.
 #[tactic(auto, unfolding(crate::specs::FieldReading::no_at))]
-pub fn no_at(nodes: u32, bytes: &[u8], at: usize) -> Result<(Body, usize), FieldFault>
+pub(crate) fn no_at(nodes: u32, bytes: &[u8], at: usize) -> Result<(Body, usize), FieldFault>
     ensures { result ≡ no_at nodes bytes.now at }
 {
     let (seq, next) = count_at(bytes, at)?;
@@ -54,7 +54,7 @@ pub fn no_at(nodes: u32, bytes: &[u8], at: usize) -> Result<(Body, usize), Field
 
 /// The fields of a `CheckIn`: its five numbers, and its certificates.
 #[tactic(auto, unfolding(crate::specs::FieldReading::check_in_at))]
-pub fn check_in_at(
+pub(crate) fn check_in_at(
     alloc: Global,
     nodes: u32,
     bytes: &[u8],
@@ -81,7 +81,7 @@ pub fn check_in_at(
 
 /// The fields of a `CheckAck`: two numbers, the rank, and the ancestors.
 #[tactic(auto, unfolding(crate::specs::FieldReading::check_ack_at))]
-pub fn check_ack_at(
+pub(crate) fn check_ack_at(
     alloc: Global,
     nodes: u32,
     bytes: &[u8],
@@ -104,7 +104,7 @@ pub fn check_ack_at(
 
 /// The field of a `Rejoin`: its number.
 #[tactic(auto, unfolding(crate::specs::FieldReading::rejoin_at))]
-pub fn rejoin_at(bytes: &[u8], at: usize) -> Result<(Body, usize), FieldFault>
+pub(crate) fn rejoin_at(bytes: &[u8], at: usize) -> Result<(Body, usize), FieldFault>
     ensures { result ≡ rejoin_at bytes.now at }
 {
     let (seq, next) = count_at(bytes, at)?;
@@ -113,7 +113,7 @@ pub fn rejoin_at(bytes: &[u8], at: usize) -> Result<(Body, usize), FieldFault>
 
 /// The field of a `Fetch`: a shelf.
 #[tactic(auto, unfolding(crate::specs::FieldReading::fetch_at))]
-pub fn fetch_at(alloc: Global, bytes: &[u8], at: usize) -> Result<(Body, usize), FieldFault>
+pub(crate) fn fetch_at(alloc: Global, bytes: &[u8], at: usize) -> Result<(Body, usize), FieldFault>
     ensures { Gives result (fetch_at bytes.now at) }
 {
     let (have, next) = have_at(alloc, bytes, at)?;
@@ -122,7 +122,7 @@ pub fn fetch_at(alloc: Global, bytes: &[u8], at: usize) -> Result<(Body, usize),
 
 /// The fields of a `Chunk`: the group, the start, whether it is the last, and the bytes.
 #[tactic(auto, unfolding(crate::specs::FieldReading::chunk_at))]
-pub fn chunk_at(alloc: Global, bytes: &[u8], at: usize) -> Result<(Body, usize), FieldFault>
+pub(crate) fn chunk_at(alloc: Global, bytes: &[u8], at: usize) -> Result<(Body, usize), FieldFault>
     ensures { Gives result (chunk_at bytes.now at) }
 {
     let (group, next) = name_at(bytes, at)?;

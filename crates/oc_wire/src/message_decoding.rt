@@ -4,8 +4,9 @@ ghost use Rattle.oc_wire.specs.MessageReading.{Gives, body_at, closed, decoded, 
 
 use crate::children::look_is_at;
 use crate::codes::CODES;
-use crate::{
-    WireFault, ask_at, check_ack_at, check_in_at, chunk_at, fetch_at, no_at, rejoin_at, yes_at,
+use crate::fault::WireFault;
+use crate::kinds::{
+    ask_at, check_ack_at, check_in_at, chunk_at, fetch_at, no_at, rejoin_at, yes_at,
 };
 use oc_base::{FieldFault, NodeId, row_of, take_u8, take_u32};
 use oc_model::{Body, Message};
@@ -13,32 +14,42 @@ use std::alloc::Global;
 
 /// The message between `nodes` nodes that all of the bytes are, or the first fault.
 #[tactic(auto, unfolding(crate::specs::MessageReading::decoded))]
-pub fn read_message(alloc: Global, nodes: u32, bytes: &[u8]) -> Result<Message, WireFault>
+pub(crate) fn read_message(alloc: Global, nodes: u32, bytes: &[u8]) -> Result<Message, WireFault>
     ensures { Gives result (decoded nodes bytes.now) }
 {
     let (from, next) = take_u32(bytes, 0)?;
     let (to, next) = take_u32(bytes, next)?;
     let (code, next) = take_u8(bytes, next)?;
-    message_at(alloc, nodes, from, to, code, bytes, next)
+    let header = Header { from, to, code };
+    message_at(alloc, nodes, header, bytes, next)
 }
 
-/// The message from this sender to this receiver, whose fields begin at an index, after its kind's code.
+/// What comes before the fields of a message.
+#[derive(Clone, Copy)]
+struct Header {
+    /// The id of the sender.
+    from: u32,
+    /// The id of the receiver.
+    to: u32,
+    /// The code of the kind.
+    code: u8,
+}
+
+/// The message with this header, whose fields begin at an index.
 fn message_at(
     alloc: Global,
     nodes: u32,
-    from: u32,
-    to: u32,
-    code: u8,
+    header: Header,
     bytes: &[u8],
     at: usize,
 ) -> Result<Message, WireFault>
-    ensures { Gives result (message_at nodes from to code bytes.now at) }
+    ensures { Gives result (message_at nodes header.from header.to header.code bytes.now at) }
 {
-    if !are_nodes(nodes, from, to) {
+    if !are_nodes(nodes, header.from, header.to) {
         return Err(WireFault::Stranger);
     }
-    let body = body_at(alloc, code, nodes, bytes, at)?;
-    closed(from, to, bytes.len(), body)
+    let body = body_at(alloc, header.code, nodes, bytes, at)?;
+    closed(header.from, header.to, bytes.len(), body)
 }
 
 /// The message with this body, which ends where the bytes do.

@@ -8,7 +8,7 @@ ghost use Rattle.oc_wire.specs.Spelling.{HasSpelling};
 use crate::text::asking::{Request, request_in};
 use oc_base::NodeId;
 use oc_model::{Answer, Message};
-use oc_routes::{Connection, Response, is_last, respond};
+use oc_routes::{Persistence, Response, is_last, respond};
 use oc_wire::decode;
 use std::alloc::Global;
 use test_tools::{Fault, Fields, put_spelled, spelled_in};
@@ -129,8 +129,8 @@ fn addresses(alloc: Global) -> Result<Vec<String>, Fault> {
 
 fn put_response(said: &mut String, response: &Response) -> Result<(), Fault> {
     said.push_str(match response.connection {
-        Connection::Close => "close ",
-        Connection::Keep => "keep ",
+        Persistence::Close => "close ",
+        Persistence::Keep => "keep ",
     })?;
     if let Some(content) = response.content {
         let start = content.start;

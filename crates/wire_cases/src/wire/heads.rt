@@ -4,7 +4,7 @@ use crate::wire::pieces::Pieces;
 use crate::wire::words::{put, put_value};
 use oc_base::Text;
 use oc_http::{
-    Head, HttpFault, Reply, ReplyHead, Verb, read_body, read_head, read_response,
+    Head, HttpFault, Reply, ReplyHead, Method, read_body, read_head, read_response,
     read_response_head,
 };
 use oc_io::{MemSource, Source, read_all};
@@ -241,10 +241,10 @@ fn put_head(said: &mut String, head: &Head) -> Result<(), Fault> {
     put(
         said,
         match head.method {
-            Verb::Get => "method=GET path=",
-            Verb::Head => "method=HEAD path=",
-            Verb::Post => "method=POST path=",
-            Verb::Other => "method=OTHER path=",
+            Method::Get => "method=GET path=",
+            Method::Head => "method=HEAD path=",
+            Method::Post => "method=POST path=",
+            Method::Other => "method=OTHER path=",
         },
     )?;
     put_spelled(said, head.path.items())?;

@@ -6,7 +6,7 @@ ghost use Rattle.oc_http.specs.Writing.{HasPhrase};
 use crate::wire::words::put_text;
 use oc_base::{Bytes, Text};
 use oc_http::{
-    Connection, Framing, Reply, write_follow, write_get, write_probe, write_reply_head,
+    Persistence, Framing, Reply, write_follow, write_get, write_probe, write_reply_head,
     write_request, write_response, write_response_head,
 };
 use std::alloc::Global;
@@ -73,10 +73,10 @@ fn framing_in(text: &str) -> Result<Framing, Fault> {
     }
 }
 
-fn connection_in(text: &str) -> Result<Connection, Fault> {
+fn connection_in(text: &str) -> Result<Persistence, Fault> {
     match text {
-        "close" => Ok(Connection::Close),
-        "keep" => Ok(Connection::Keep),
+        "close" => Ok(Persistence::Close),
+        "keep" => Ok(Persistence::Keep),
         _ => Err(Fault::Field),
     }
 }

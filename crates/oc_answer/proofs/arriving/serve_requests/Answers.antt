@@ -1,8 +1,8 @@
 use Rattle.std.proofs.Common.{ℕ, [], ◌∷◌, ◌++◌, ◌+◌, refl, subst, ◌∙◌, arith, length-append}
 use Rattle.std.proofs.lemmas.Result.{err_from_is_err_and}
 use Rattle.oc_keep.specs.KeptView.{node_of}
-use Rattle.oc_http.specs.declared.framing.Connection.{Connection}
-use Rattle.oc_http.specs.declared.framing.Connection.TheVariants.{Keep}
+use Rattle.oc_http.specs.declared.framing.Persistence.{Persistence}
+use Rattle.oc_http.specs.declared.framing.Persistence.TheVariants.{Keep}
 use Rattle.oc_keep.specs.Trials.{after_inputs}
 use Rattle.oc_turn.specs.Deeds.{inputs_of, outside_of}
 use Rattle.oc_turn.specs.Scenes.{scene}
@@ -52,7 +52,7 @@ requests-preserved g c =
         λ honest.
             keeps_one (terms a.kept.now a.config.now.rules) a.config.now.addresses 1 far.0 one.0 (node_of a.kept.now) (story a.link.now) (story m.link) (story new.link) (far.4 honest)
             (subst (λ (k : ℕ). Serves (terms a.kept.now a.config.now.rules) a.config.now.addresses k one.0 Keep (after_inputs (node_of a.kept.now) (inputs_of far.0)) (story m.link) (story new.link)) (omega (arith, far.2))
-            (subst (λ (k : Connection). Serves (terms a.kept.now a.config.now.rules) a.config.now.addresses (m.served + 1) one.0 k (after_inputs (node_of a.kept.now) (inputs_of far.0)) (story m.link) (story new.link)) c.in-Keep.is
+            (subst (λ (k : Persistence). Serves (terms a.kept.now a.config.now.rules) a.config.now.addresses (m.served + 1) one.0 k (after_inputs (node_of a.kept.now) (inputs_of far.0)) (story m.link) (story new.link)) c.in-Keep.is
             (serves_then g.D.Disk.view g.K.Sink.takes g.K.Sink.fails g.K.Sink.faults a.config.now.rules a.config.now.addresses (m.served + 1) far.0 one.0 c.in_ok-next.next
             (scene a.kept.now a.outbox.now a.sink.now (outside_of (story a.link.now) (faults a.link.now) untold untold)) (scene m.kept m.outbox m.sink (outside_of (story m.link) (faults m.link) untold untold)) (story m.link) (story new.link)
             (far.3 [] untold untold) honest one.3))),
@@ -81,7 +81,7 @@ returns-in-Close-clause-did g c =
           (far.3 addresses seconds millis) (one.2 addresses seconds millis),
       λ honest.
           closes_all (terms a.kept.now a.config.now.rules) a.config.now.addresses far.0 one.0 (node_of a.kept.now) (m.served + 1) (story a.link.now) (story m.link) (story new.link) (omega (arith, far.2)) (omega (arith, far.2)) (far.4 honest)
-          (subst (λ (k : Connection). Serves (terms a.kept.now a.config.now.rules) a.config.now.addresses (m.served + 1) one.0 k (after_inputs (node_of a.kept.now) (inputs_of far.0)) (story m.link) (story new.link)) c.in-Close.is
+          (subst (λ (k : Persistence). Serves (terms a.kept.now a.config.now.rules) a.config.now.addresses (m.served + 1) one.0 k (after_inputs (node_of a.kept.now) (inputs_of far.0)) (story m.link) (story new.link)) c.in-Close.is
           (serves_then g.D.Disk.view g.K.Sink.takes g.K.Sink.fails g.K.Sink.faults a.config.now.rules a.config.now.addresses (m.served + 1) far.0 one.0 c.in_ok-next.next
           (scene a.kept.now a.outbox.now a.sink.now (outside_of (story a.link.now) (faults a.link.now) untold untold)) (scene m.kept m.outbox m.sink (outside_of (story m.link) (faults m.link) untold untold)) (story m.link) (story new.link)
           (far.3 [] untold untold) honest one.3)),

@@ -8,7 +8,7 @@ use Rattle.oc_chunked.proofs.lines.behind_size.Goals as goal
 
 pub returns-then-byte-ne10 : goal.returns-then-byte-ne10
 returns-then-byte-ne10 c before is =
-    rw c.place_within.ensures (size_goes c.args.line.now before c.args.byte is (IsUnfinished-more size_form before c.args.byte c.if-byte-ne10.true))
+    rw c.state_within.ensures (size_goes c.args.line.now before c.args.byte is (IsUnfinished-more size_form before c.args.byte c.if-byte-ne10.true))
 
 pub returns-in-Ok-Complete : goal.returns-in-Ok-Complete
 returns-in-Ok-Complete c before is =
@@ -21,4 +21,4 @@ returns-in-Ok-Complete c before is =
 pub returns-in-Ok-Partial : goal.returns-in-Ok-Partial
 returns-in-Ok-Partial c before is =
     let found = rw c.in-Ok-Partial.field-0-is at c.in-Ok-Partial.ensures in
-    rw c.place_within-in-Ok-Partial.ensures (size_goes c.args.line.now before c.args.byte is (λ _. open_size c.args.line.now before c.args.byte is found.partial found.unfinished))
+    rw c.state_within-in-Ok-Partial.ensures (size_goes c.args.line.now before c.args.byte is (λ _. open_size c.args.line.now before c.args.byte is found.partial found.unfinished))

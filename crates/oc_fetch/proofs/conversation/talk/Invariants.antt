@@ -1,4 +1,4 @@
--- Turns went by, and led to the place.
+-- Turns went by, and led to the state.
 use Rattle.std.proofs.Common.{◌+◌}
 use Rattle.oc_fetch.specs.Wishes.{wish_of}
 use Rattle.oc_fetch.proofs.Talked.{HasTalked}
@@ -8,10 +8,10 @@ use Rattle.oc_fetch.proofs.conversation.talk.Given as goal
 
 abbrev pub invariant-turns : goal.invariant-turns
 invariant-turns g l = record {
-  has : HasTalked g.K.Sink.takes (wish_of l.wish) l.fn.place (g.L.Link.story l.fn.link) (g.L.Link.story l.link) l.fn.sink l.sink l.place;
+  has : HasTalked g.K.Sink.takes (wish_of l.wish) l.fn.state (g.L.Link.story l.fn.link) (g.L.Link.story l.link) l.fn.sink l.sink l.state;
   link_count : CountsDialling (g.L.Link.faults l.fn.link) (g.L.Link.faults l.link);
   sink_count : NoFall (g.K.Sink.faults l.fn.sink) (g.K.Sink.faults l.sink);
 }
 
 abbrev pub decreases-turns : goal.decreases-turns
-decreases-turns g l = l.place.replies + l.place.redirections
+decreases-turns g l = l.state.replies + l.state.redirections

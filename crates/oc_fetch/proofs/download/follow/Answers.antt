@@ -1,6 +1,6 @@
 use Rattle.std.proofs.Common.{inr, subst}
 use Rattle.oc_fetch.specs.Conversations.{Converses}
-use Rattle.oc_fetch.specs.Downloads.{Downloads, first_place, news_of}
+use Rattle.oc_fetch.specs.Downloads.{Downloads, first_state, news_of}
 use Rattle.oc_fetch.specs.Wishes.{Wish, wish_of}
 use Rattle.oc_fetch.specs.declared.end.GetEnd.TheVariants.{Memory}
 use Rattle.oc_fetch.proofs.Fetched.{unasked_talked, talked_so, unasked_so}
@@ -9,7 +9,7 @@ use Rattle.oc_fetch.proofs.download.follow.Goals as goal
 
 pub returns-in-Ok-news-clause-talked : goal.returns-in-Ok-news-clause-talked
 returns-in-Ok-news-clause-talked g c =
-    let from = first_place c.in-Ok.url c.args.times in
+    let from = first_state c.in-Ok.url c.args.times in
     talked_so g.K.Sink.takes g.K.Sink.fails (Converses (wish_of c.in-Ok-news.wish) from) (Downloads news_of c.args.address.now c.args.times) (g.L.Link.story c.args.link.now) (g.L.Link.story c.download.new.link) c.args.sink.now c.download.new.sink c.download.result
     (λ turns written so. inr (c.in-Ok.url, c.in-Ok.ensures.good, subst (λ (w : Wish). Converses w from turns written c.download.result) c.in-Ok-news.ensures so)) c.download.ensures.talked
 
@@ -27,7 +27,7 @@ returns-in-Err-news-clause-talked g c =
 
 pub returns-in-Ok-news-clause-redirects : goal.returns-in-Ok-news-clause-redirects
 returns-in-Ok-news-clause-redirects g c =
-    let from = first_place c.in-Ok.url c.args.times in
+    let from = first_state c.in-Ok.url c.args.times in
     talked_third g.K.Sink.takes g.K.Sink.fails c.a_response_head_has_one_answer.ensures news_of c.args.address.now c.args.times (g.L.Link.story c.args.link.now) (g.L.Link.story c.download.new.link) c.args.sink.now c.download.new.sink c.download.result
     (talked_so g.K.Sink.takes g.K.Sink.fails (Converses (wish_of c.in-Ok-news.wish) from) (Downloads news_of c.args.address.now c.args.times) (g.L.Link.story c.args.link.now) (g.L.Link.story c.download.new.link) c.args.sink.now c.download.new.sink c.download.result
     (λ turns written so. inr (c.in-Ok.url, c.in-Ok.ensures.good, subst (λ (w : Wish). Converses w from turns written c.download.result) c.in-Ok-news.ensures so)) c.download.ensures.talked)

@@ -1,6 +1,6 @@
 use Rattle.std.proofs.Common.{inr}
 use Rattle.oc_fetch.specs.Conversations.{Converses}
-use Rattle.oc_fetch.specs.Downloads.{Downloads, first_place, content_of}
+use Rattle.oc_fetch.specs.Downloads.{Downloads, first_state, content_of}
 use Rattle.oc_fetch.specs.Wishes.{whole}
 use Rattle.oc_fetch.proofs.Fetched.{unasked_talked, talked_so, told_completes, unasked_so}
 use Rattle.oc_fetch.proofs.Redirected.{talked_third}
@@ -8,7 +8,7 @@ use Rattle.oc_fetch.proofs.download.get.Goals as goal
 
 pub returns-in-Ok-clause-talked : goal.returns-in-Ok-clause-talked
 returns-in-Ok-clause-talked g c =
-    talked_so g.K.Sink.takes g.K.Sink.fails (Converses whole (first_place c.in-Ok.url 1)) (Downloads content_of c.args.address.now 1) (g.L.Link.story c.args.link.now) (g.L.Link.story c.download.new.link) c.args.sink.now c.download.new.sink c.download.result
+    talked_so g.K.Sink.takes g.K.Sink.fails (Converses whole (first_state c.in-Ok.url 1)) (Downloads content_of c.args.address.now 1) (g.L.Link.story c.args.link.now) (g.L.Link.story c.download.new.link) c.args.sink.now c.download.new.sink c.download.result
     (λ turns written so. inr (c.in-Ok.url, c.in-Ok.ensures.good, so)) c.download.ensures.talked
 
 pub returns-in-Ok-clause-bad : goal.returns-in-Ok-clause-bad
@@ -17,7 +17,7 @@ returns-in-Ok-clause-bad g c = λ bad. absurd (bad c.in-Ok.url c.in-Ok.ensures.g
 pub returns-in-Ok-clause-complete : goal.returns-in-Ok-clause-complete
 returns-in-Ok-clause-complete g c = λ url is.
     told_completes g.K.Sink.takes g.K.Sink.fails c.a_response_head_has_one_answer.ensures c.args.address.now url c.download.result (g.L.Link.story c.args.link.now) (g.L.Link.story c.download.new.link) c.args.sink.now c.download.new.sink is
-    (talked_so g.K.Sink.takes g.K.Sink.fails (Converses whole (first_place c.in-Ok.url 1)) (Downloads content_of c.args.address.now 1) (g.L.Link.story c.args.link.now) (g.L.Link.story c.download.new.link) c.args.sink.now c.download.new.sink c.download.result
+    (talked_so g.K.Sink.takes g.K.Sink.fails (Converses whole (first_state c.in-Ok.url 1)) (Downloads content_of c.args.address.now 1) (g.L.Link.story c.args.link.now) (g.L.Link.story c.download.new.link) c.args.sink.now c.download.new.sink c.download.result
     (λ turns written so. inr (c.in-Ok.url, c.in-Ok.ensures.good, so)) c.download.ensures.talked)
 
 pub returns-in-Err-clause-talked : goal.returns-in-Err-clause-talked
@@ -37,7 +37,7 @@ returns-in-Err-clause-complete g c = λ url is.
 pub returns-in-Ok-clause-redirects : goal.returns-in-Ok-clause-redirects
 returns-in-Ok-clause-redirects g c =
     talked_third g.K.Sink.takes g.K.Sink.fails c.a_response_head_has_one_answer.ensures content_of c.args.address.now 1 (g.L.Link.story c.args.link.now) (g.L.Link.story c.download.new.link) c.args.sink.now c.download.new.sink c.download.result
-    (talked_so g.K.Sink.takes g.K.Sink.fails (Converses whole (first_place c.in-Ok.url 1)) (Downloads content_of c.args.address.now 1) (g.L.Link.story c.args.link.now) (g.L.Link.story c.download.new.link) c.args.sink.now c.download.new.sink c.download.result
+    (talked_so g.K.Sink.takes g.K.Sink.fails (Converses whole (first_state c.in-Ok.url 1)) (Downloads content_of c.args.address.now 1) (g.L.Link.story c.args.link.now) (g.L.Link.story c.download.new.link) c.args.sink.now c.download.new.sink c.download.result
     (λ turns written so. inr (c.in-Ok.url, c.in-Ok.ensures.good, so)) c.download.ensures.talked)
 
 pub returns-in-Err-clause-redirects : goal.returns-in-Err-clause-redirects

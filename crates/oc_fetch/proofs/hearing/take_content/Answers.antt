@@ -18,4 +18,4 @@ returns-in_err-count-clause-last g c =
 pub returns-clause-brought : goal.returns-clause-brought
 returns-clause-brought g c =
     let of_head = subst (λ extent. IsPassed g.S.Source.gives g.S.Source.ended g.K.Sink.takes extent c.args.source.now c.pass_content.new.source c.args.sink.now c.pass_content.new.sink c.in_ok-count.count) c.extent_of.ensures c.in_ok-count.ensures.passed in
-    brought g.S.Source.gives g.S.Source.ended g.K.Sink.takes (wish_of c.args.wish.now) c.args.place.now c.go_past_content.new.place c.args.head.now c.args.source.now c.pass_content.new.source c.args.sink.now c.pass_content.new.sink c.in_ok-count.count (record { status = c.requires; taken = c.if-not-takes.ensures.0 refl }) c.go_past_content.ensures of_head
+    brought g.S.Source.gives g.S.Source.ended g.K.Sink.takes (wish_of c.args.wish.now) c.args.state.now c.go_past_content.new.state c.args.head.now c.args.source.now c.pass_content.new.source c.args.sink.now c.pass_content.new.sink c.in_ok-count.count (record { status = c.requires; taken = c.if-not-takes.ensures.0 refl }) c.go_past_content.ensures of_head

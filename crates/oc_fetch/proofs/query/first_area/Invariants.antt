@@ -1,7 +1,8 @@
 use denote.Shadow.{shadow}
 use denote.Text.{Utf8}
 use Rattle.std.proofs.Common.{◌≡◌, codes, length}
-use Rattle.oc_fetch.specs.Queries.{parts, first_value}
+use Rattle.oc_fetch.specs.Queries.{first_value}
+use Rattle.oc_http.specs.Queries.{parts}
 use Rattle.oc_fetch.proofs.query.first_area.Given as goal
 
 -- what the rest says is what the whole says

@@ -1,7 +1,8 @@
 use denote.Shadow.{shadow}
 use denote.Text.{Utf8}
 use Rattle.std.proofs.Common.{◌≡◌, length}
-use Rattle.oc_fetch.specs.Queries.{parts, first_start}
+use Rattle.oc_fetch.specs.Queries.{first_start}
+use Rattle.oc_http.specs.Queries.{parts}
 use Rattle.oc_fetch.proofs.query.first_start.Given as goal
 
 -- what the rest says is what the whole says

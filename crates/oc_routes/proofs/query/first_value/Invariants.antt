@@ -1,5 +1,6 @@
 use Rattle.std.proofs.Common.{◌≡◌, length}
-use Rattle.oc_routes.specs.Queries.{first_value, parts}
+use Rattle.oc_http.specs.Queries.{parts}
+use Rattle.oc_routes.specs.Queries.{first_value}
 use Rattle.oc_routes.proofs.query.first_value.Given as goal
 
 -- what the rest says is what the whole says

@@ -1,5 +1,6 @@
 use Rattle.std.proofs.Common.{◌≡◌, length}
-use Rattle.oc_routes.specs.Queries.{has_part, parts}
+use Rattle.oc_http.specs.Queries.{parts}
+use Rattle.oc_routes.specs.Queries.{has_part}
 use Rattle.oc_routes.proofs.query.has_part.Given as goal
 
 -- what the rest says is what the whole says

@@ -3,7 +3,7 @@ use Rattle.std.proofs.Common.{◌≡◌, ℕ, ◌+◌, ◌-◌, ◌≤◌, true,
 use Rattle.std.proofs.lemmas.List.{append_assoc, take-take, length-take-le}
 use Rattle.std.proofs.Math.Seq.{take-add}
 use Rattle.oc_chunked.specs.declared.progress.Progress.{Progress}
-use Rattle.oc_chunked.specs.Stages.{Stage, in_size, in_chunk, in_closing, ended, refused, is_final, fault_in, StillWants}
+use Rattle.oc_chunked.specs.Stages.{Stage, in_size, in_chunk, in_trailer, ended, refused, is_final, fault_in, StillWants}
 use Rattle.oc_chunked.specs.Views.{stage_of, Advances}
 use Rattle.oc_chunked.proofs.Steps.{Takes-then}
 use Rattle.oc_chunked.proofs.progress.Progress.take.Goals as goal
@@ -30,7 +30,7 @@ rest_long taken piece = length-take-le (length piece - taken) (drop taken piece)
 open_fine : (s : Stage) → true ≡ not (is_final s) → fault_in s ≡ None
 open_fine (in_size line) goes = refl
 open_fine (in_chunk left) goes = refl
-open_fine (in_closing front) goes = refl
+open_fine (in_trailer front) goes = refl
 open_fine ended goes = refl
 open_fine (refused fault) goes = cc
 

@@ -1,11 +1,11 @@
 use crate::target::Target;
 
-/// Where a client is in a conversation with servers.
+/// What a client asks next, and how much more it may ask.
 #[derive(Drop)]
-pub(crate) struct Place {
+pub(crate) struct ClientState {
     /// The URL that is asked.
     pub(crate) target: Target,
-    /// The byte of the group from which on it asks.
+    /// The byte of the group from which it asks.
     pub(crate) start: u64,
     /// The connection of the last reply is kept for the next request.
     pub(crate) kept: bool,

@@ -1,12 +1,12 @@
--- A byte more of the closing fields.
+-- A byte more of the trailer fields.
 use Rattle.std.proofs.Common.{ℕ, ◌+◌, ◌<◌, ◌≤◌, inl, inr, List, [], ◌∷◌, ◌++◌, length, refl, ap, ◌∙◌, subst, arith, length-append}
 use Rattle.std.proofs.lemmas.List.{append_assoc, append-nil}
 use Rattle.httparse.specs.Ascii.{line_feed}
 use Rattle.httparse.specs.Grammar.{print_chunk_line, Field, LineEnd, NeverHasSection}
 use Rattle.oc_base.specs.declared.limits.TheConstants.{MAX_FIELDS}
 use Rattle.oc_chunked.specs.declared.fault.ChunkFault.TheVariants.{Bad, Long}
-use Rattle.oc_chunked.specs.declared.limits.TheConstants.{MAX_CLOSING_BYTES}
-use Rattle.oc_chunked.specs.Stages.{in_closing, ended, refused}
+use Rattle.oc_chunked.specs.declared.limits.TheConstants.{MAX_TRAILER_BYTES}
+use Rattle.oc_chunked.specs.Stages.{in_trailer, ended, refused}
 use Rattle.oc_chunked.specs.Taken.{Takes, IsClosedBy}
 use Rattle.oc_chunked.specs.Unfinished.{IsUnfinished, ReadsFields}
 use Rattle.oc_chunked.proofs.Forms.{fields_form, whole_at_end}
@@ -23,16 +23,16 @@ closed_more front behind more b closed = record {
 }
 
 -- fields that are still unfinished
-pub closing_more : (front : List ℕ) (b : ℕ) → (IsUnfinished ReadsFields front → IsUnfinished ReadsFields (front ++ b ∷ [])) → length front + 1 < MAX_CLOSING_BYTES → Takes (in_closing front) (b ∷ []) [] (in_closing (front ++ b ∷ []))
-closing_more front b goes short = Takes-behind (in_closing front) (in_closing (front ++ b ∷ [])) (b ∷ []) [] (λ behind more part. record {
+pub trailer_more : (front : List ℕ) (b : ℕ) → (IsUnfinished ReadsFields front → IsUnfinished ReadsFields (front ++ b ∷ [])) → length front + 1 < MAX_TRAILER_BYTES → Takes (in_trailer front) (b ∷ []) [] (in_trailer (front ++ b ∷ []))
+trailer_more front b goes short = Takes-behind (in_trailer front) (in_trailer (front ++ b ∷ [])) (b ∷ []) [] (λ behind more part. record {
   closed = closed_more front behind more b part.closed;
   unfinished = goes part.unfinished;
   short = omega (arith, length-append front (b ∷ []));
 })
 
 -- fields that are too long
-pub closing_long : (front : List ℕ) (b : ℕ) → (IsUnfinished ReadsFields front → IsUnfinished ReadsFields (front ++ b ∷ [])) → MAX_CLOSING_BYTES ≤ length front + 1 → Takes (in_closing front) (b ∷ []) [] (refused Long)
-closing_long front b goes long = Takes-behind (in_closing front) (refused Long) (b ∷ []) [] (λ behind more part.
+pub trailer_long : (front : List ℕ) (b : ℕ) → (IsUnfinished ReadsFields front → IsUnfinished ReadsFields (front ++ b ∷ [])) → MAX_TRAILER_BYTES ≤ length front + 1 → Takes (in_trailer front) (b ∷ []) [] (refused Long)
+trailer_long front b goes long = Takes-behind (in_trailer front) (refused Long) (b ∷ []) [] (λ behind more part.
     inr (record {
       front = front ++ b ∷ [];
       closed = closed_more front behind more b part.closed;
@@ -41,8 +41,8 @@ closing_long front b goes long = Takes-behind (in_closing front) (refused Long) 
     }))
 
 -- a line that is no field
-pub closing_bad : (front : List ℕ) → (length front < MAX_CLOSING_BYTES → NeverHasSection (front ++ line_feed ∷ [])) → Takes (in_closing front) (line_feed ∷ []) [] (refused Bad)
-closing_bad front never = Takes-behind (in_closing front) (refused Bad) (line_feed ∷ []) [] (λ behind more part.
+pub trailer_bad : (front : List ℕ) → (length front < MAX_TRAILER_BYTES → NeverHasSection (front ++ line_feed ∷ [])) → Takes (in_trailer front) (line_feed ∷ []) [] (refused Bad)
+trailer_bad front never = Takes-behind (in_trailer front) (refused Bad) (line_feed ∷ []) [] (λ behind more part.
     inr (inr (inr (record {
       front = front ++ line_feed ∷ [];
       closed = closed_more front behind more line_feed part.closed;
@@ -62,8 +62,8 @@ whole_fields front b fields rest unfinished reads =
     subst (λ (z : List ℕ). ReadsFields (front ++ b ∷ []) fields z) none reads
 
 -- all the fields
-pub closing_end : (front : List ℕ) (b : ℕ) (fields : List Field × LineEnd) (rest : List ℕ) → ReadsFields (front ++ b ∷ []) fields rest → length fields.0 ≤ MAX_FIELDS → Takes (in_closing front) (b ∷ []) [] ended
-closing_end front b fields rest reads few = Takes-behind (in_closing front) ended (b ∷ []) [] (λ behind more part. record {
+pub trailer_end : (front : List ℕ) (b : ℕ) (fields : List Field × LineEnd) (rest : List ℕ) → ReadsFields (front ++ b ∷ []) fields rest → length fields.0 ≤ MAX_FIELDS → Takes (in_trailer front) (b ∷ []) [] ended
+trailer_end front b fields rest reads few = Takes-behind (in_trailer front) ended (b ∷ []) [] (λ behind more part. record {
   front = front ++ b ∷ [];
   fields = fields;
   closed = closed_more front behind more b part.closed;
@@ -73,8 +73,8 @@ closing_end front b fields rest reads few = Takes-behind (in_closing front) ende
 })
 
 -- too many fields
-pub closing_many : (front : List ℕ) (b : ℕ) (fields : List Field × LineEnd) (rest : List ℕ) → ReadsFields (front ++ b ∷ []) fields rest → MAX_FIELDS < length fields.0 → Takes (in_closing front) (b ∷ []) [] (refused Bad)
-closing_many front b fields rest reads many = Takes-behind (in_closing front) (refused Bad) (b ∷ []) [] (λ behind more part.
+pub trailer_many : (front : List ℕ) (b : ℕ) (fields : List Field × LineEnd) (rest : List ℕ) → ReadsFields (front ++ b ∷ []) fields rest → MAX_FIELDS < length fields.0 → Takes (in_trailer front) (b ∷ []) [] (refused Bad)
+trailer_many front b fields rest reads many = Takes-behind (in_trailer front) (refused Bad) (b ∷ []) [] (λ behind more part.
     inr (inr (inr (record {
       front = front ++ b ∷ [];
       closed = closed_more front behind more b part.closed;

@@ -5,13 +5,13 @@ use crate::fault::ChunkFault;
 
 /// Where in a chunked text the bytes taken so far end.
 #[derive(Clone, Copy, Debug, PartialEq, Eq)]
-pub(crate) enum Place {
+pub(crate) enum State {
     /// In a size line.
     Size,
     /// In a chunk, of which this many bytes are left, its CR LF among them.
     Chunk { left: u32 },
-    /// In the closing fields.
-    Closing,
+    /// In the trailer fields.
+    Trailer,
     /// After the text.
     End,
     /// After bytes that are refused.

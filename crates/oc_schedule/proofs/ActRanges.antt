@@ -10,13 +10,14 @@ use Rattle.oc_base.specs.declared.why.Why.{Why}
 use Rattle.oc_base.specs.declared.why.Why.TheVariants as causes
 use Rattle.oc_model.specs.declared.event.Act.{Act}
 use Rattle.oc_model.specs.declared.event.Act.TheVariants.{Tick, Check, Move, Fail, Pull, Measure, Publish, Seal, Client, Deliver}
+use Rattle.oc_model.specs.Numbers.{number_end}
 use Rattle.oc_base.specs.Lawful.{IsNode}
 use Rattle.oc_model.specs.Lawful.{IsAct}
 use Rattle.oc_schedule.proofs.Steps.{steps, behind_guard, within_guard}
 use Rattle.oc_base.specs.Words.{one, two, three, four, is_number, number_in, node_in}
 use Rattle.oc_base.specs.declared.limits.TheConstants.{MAX_RATE, MAX_START, MAX_TIME}
 use Rattle.oc_schedule.specs.Fields.{group_in, bytes_in}
-use Rattle.oc_schedule.specs.Acts.{tick_in, check_in, pair_in, move_in, fail_in, pull_in, measure_in, publish_in, seal_in, client_in, deliver_in, act_in, bytes_of_act, most_number, most_byte}
+use Rattle.oc_schedule.specs.Acts.{tick_in, check_in, pair_in, move_in, fail_in, pull_in, measure_in, publish_in, seal_in, client_in, deliver_in, act_in, bytes_of_act, most_byte}
 use Rattle.oc_base.specs.Steps.{with_fault}
 
 -- a number is from least to most
@@ -128,9 +129,9 @@ client_range nodes fields act h =
 deliver_range : (nodes : ℕ) (fields : List (List ℕ)) (act : Act) → deliver_in fields ≡ Ok act → IsActIfFew nodes act
 deliver_range nodes fields act h =
     steps (one fields) _ _ h λ k is_one then.
-    steps (number_in 1 most_number k) _ _ then λ number is_number end.
+    steps (number_in 1 number_end k) _ _ then λ number is_number end.
     let same : Deliver number ≡ act = cc end in
-    let range = number_range 1 most_number k number is_number in
+    let range = number_range 1 number_end k number is_number in
     subst (IsActIfFew nodes) same λ few. (range.0, omega arith)
 
 -- one of two readings, by a test of the word

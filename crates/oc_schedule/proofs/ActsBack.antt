@@ -7,9 +7,10 @@ use Rattle.oc_base.specs.declared.limits.TheConstants.{MAX_NODES, MAX_RATE, MAX_
 use Rattle.oc_model.specs.declared.event.Act.{Act}
 use Rattle.oc_model.specs.declared.event.Act.TheVariants as acts
 use Rattle.oc_model.specs.Lawful.{IsAct}
+use Rattle.oc_model.specs.Numbers.{number_end}
 use Rattle.oc_schedule.proofs.FieldsBack.{bytes_back, bytes_word, decimal_word, group_back, name_word, number_back}
 use Rattle.oc_schedule.proofs.LineBack.{AreWords}
-use Rattle.oc_schedule.specs.Acts.{act_fields, act_in, act_word, act_words, pair_in, most_byte, most_number, PublishesBytes}
+use Rattle.oc_schedule.specs.Acts.{act_fields, act_in, act_word, act_words, pair_in, most_byte, PublishesBytes}
 use Rattle.oc_schedule.specs.Fields.{group_in}
 
 -- the first step gives x, and the next gives y
@@ -58,7 +59,7 @@ act_back nodes (acts.Client x area start g) few h bytes =
     (then (number_in 0 MAX_START (decimal start)) _ start _ (number_back 0 MAX_START start (omega (arith, h.2)) (omega arith) h.2)
     (then (group_in g) _ g _ (group_back g h.3) refl)))
 act_back nodes (acts.Deliver k) few h bytes =
-    then (number_in 1 most_number (decimal k)) _ k _ (number_back 1 most_number k (omega (arith, h.1)) h.0 (omega (arith, h.1))) refl
+    then (number_in 1 number_end (decimal k)) _ k _ (number_back 1 number_end k (omega (arith, h.1)) h.0 (omega (arith, h.1))) refl
 
 pub act_are_words : (nodes : ℕ) (act : Act) → nodes ≤ MAX_NODES → IsAct nodes act → PublishesBytes act → AreWords (act_words act)
 act_are_words nodes (acts.Tick x t) few h bytes = (refl, ((node_word nodes x few h.0).0, (decimal_word t (omega (arith, h.1)), tt)))

@@ -9,12 +9,10 @@ use Rattle.oc_base.specs.declared.why.Why.{Why}
 use Rattle.oc_base.specs.declared.why.Why.TheVariants as causes
 use Rattle.oc_model.specs.declared.event.Act.{Act}
 use Rattle.oc_model.specs.declared.event.Act.TheVariants.{Tick, Check, Move, Fail, Pull, Measure, Publish, Seal, Client, Deliver}
+use Rattle.oc_model.specs.Numbers.{number_end}
 use Rattle.oc_schedule.specs.Fields.{group_in, bytes_in, bytes_text}
 
--- the greatest number of 64 bits, and of 8
-abbrev pub most_number : ℕ
-most_number = 18446744073709551615
-
+-- the greatest number of 8 bits
 abbrev pub most_byte : ℕ
 most_byte = 255
 
@@ -100,7 +98,7 @@ client_in nodes fields = do
 abbrev pub deliver_in : List (List ℕ) → Result Act Why
 deliver_in fields = do
   k ← one fields
-  number ← number_in 1 most_number k
+  number ← number_in 1 number_end k
   Ok (Deliver number)
 
 -- an act line, by its word

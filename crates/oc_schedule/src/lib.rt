@@ -21,7 +21,7 @@
 
 mod act_lines;
 mod acts;
-mod draft;
+mod builder;
 mod fault;
 mod fields;
 mod generating;

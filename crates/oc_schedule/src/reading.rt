@@ -1,12 +1,12 @@
 ghost use Rattle.std.specs.Prelude.{◌≡◌, ◌≤◌, ◌∷◌, IfOk, None};
 ghost use Rattle.std.specs.Str.Lines.{lines};
-ghost use Rattle.oc_schedule.specs.Draft.{script_of};
+ghost use Rattle.oc_schedule.specs.Builder.{script_of};
 ghost use Rattle.oc_base.specs.Words.{words};
 ghost use Rattle.oc_base.specs.declared.limits.TheConstants.{MAX_SCHEDULE_LINES};
 ghost use Rattle.oc_schedule.specs.Reading.{Gives, GivesBy};
 ghost use Rattle.oc_schedule.specs.Schedule.{IsSchedule, read_line, read_lines, read_statement, schedule_of};
 
-use crate::draft::Draft;
+use crate::builder::ScheduleBuilder;
 use crate::{Schedule, ScheduleFault, What};
 use oc_base::words::{first_line, first_word};
 use oc_base::{MAX_SCHEDULE_BYTES, MAX_SCHEDULE_LINES, Why};
@@ -33,7 +33,7 @@ pub fn read(alloc: Global, bytes: &[u8]) -> Result<Schedule, ScheduleFault>
 fn read_lines(alloc: Global, bytes: &[u8]) -> Result<Schedule, ScheduleFault>
     ensures { Gives result (read_lines 1 None (lines bytes.now)) }
 {
-    let mut draft = None;
+    let mut builder = None;
     let mut number = 1;
     let mut rest = bytes;
     'lines: while !rest.is_empty() {
@@ -41,12 +41,12 @@ fn read_lines(alloc: Global, bytes: &[u8]) -> Result<Schedule, ScheduleFault>
         if number > MAX_SCHEDULE_LINES {
             return Err(ScheduleFault::Limit(What::Lines));
         }
-        draft = read_line(alloc, draft, number, line)?;
+        builder = read_line(alloc, builder, number, line)?;
         number += 1;
         rest = behind;
     }
-    match draft {
-        Some(draft) => Ok(draft.into_schedule()),
+    match builder {
+        Some(builder) => Ok(builder.into_schedule()),
         None => Err(ScheduleFault::Line {
             line: number,
             why: Why::Header,
@@ -54,38 +54,40 @@ fn read_lines(alloc: Global, bytes: &[u8]) -> Result<Schedule, ScheduleFault>
     }
 }
 
-/// The draft after one more line, where there is none before the header.
+/// The builder after one more line, where there is none before the header.
 fn read_line(
     alloc: Global,
-    draft: Option<Draft>,
+    builder: Option<ScheduleBuilder>,
     number: u32,
     line: &[u8],
-) -> Result<Option<Draft>, ScheduleFault>
+) -> Result<Option<ScheduleBuilder>, ScheduleFault>
     requires { number ≤ MAX_SCHEDULE_LINES }
-    ensures { GivesBy script_of result (read_line number (script_of draft) line.now) }
+    ensures { GivesBy script_of result (read_line number (script_of builder) line.now) }
 {
     match first_word(line) {
-        None | Some(([b'#', ..], _)) => Ok(draft),
-        Some((word, fields)) => Ok(Some(read_statement(alloc, draft, number, line, word, fields)?)),
+        None | Some(([b'#', ..], _)) => Ok(builder),
+        Some((word, fields)) => Ok(Some(read_statement(
+            alloc, builder, number, line, word, fields,
+        )?)),
     }
 }
 
-/// The draft after a line that is not skipped, of this word and these fields.
+/// The builder after a line that is not skipped, of this word and these fields.
 fn read_statement(
     alloc: Global,
-    draft: Option<Draft>,
+    builder: Option<ScheduleBuilder>,
     number: u32,
     line: &[u8],
     word: &[u8],
     fields: &[u8],
-) -> Result<Draft, ScheduleFault>
+) -> Result<ScheduleBuilder, ScheduleFault>
     requires { words line.now ≡ word.now ∷ words fields.now }
-    ensures { GivesBy (λ d. d.schedule) result (read_statement number (script_of draft) word.now (words fields.now)) }
+    ensures { GivesBy (λ d. d.schedule) result (read_statement number (script_of builder) word.now (words fields.now)) }
 {
-    match draft {
-        Some(draft) => draft.with_line(alloc, number, word, fields),
-        None => match Draft::from_header(alloc, line) {
-            Ok(draft) => Ok(draft),
+    match builder {
+        Some(builder) => builder.with_line(alloc, number, word, fields),
+        None => match ScheduleBuilder::from_header(alloc, line) {
+            Ok(builder) => Ok(builder),
             Err(fault) => Err(fault.at(number)),
         },
     }

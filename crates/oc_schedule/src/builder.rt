@@ -15,7 +15,7 @@ use std::alloc::Global;
 
 /// The schedule of the lines so far, from the header on.
 #[derive(Drop)]
-pub(crate) struct Draft {
+pub(crate) struct ScheduleBuilder {
     schedule: Schedule,
     /// The bytes that its events publish.
     published: usize,
@@ -28,16 +28,16 @@ pub(crate) struct Draft {
     ghost areas: { length schedule.header.areas ≡ schedule.header.nodes },
 }
 
-impl Draft {
-    /// The draft after the header.
-    pub fn from_header(alloc: Global, line: &[u8]) -> Result<Draft, LineFault>
+impl ScheduleBuilder {
+    /// The builder after the header.
+    pub fn from_header(alloc: Global, line: &[u8]) -> Result<ScheduleBuilder, LineFault>
         ensures { GivesLineBy (λ d. d.schedule) result (first_script (words line.now)) }
     {
         let Ok((nodes, chain)) = opening(line) else {
             return Err(LineFault::Cause(Why::Header));
         };
         let areas = vec![in alloc; 0; nodes as usize]?;
-        Ok(Draft {
+        Ok(ScheduleBuilder {
             schedule: Schedule {
                 nodes,
                 chain,
@@ -49,7 +49,7 @@ impl Draft {
         })
     }
 
-    /// The draft after one more line, which is not skipped and has this number, first word and
+    /// The builder after one more line, which is not skipped and has this number, first word and
     /// fields.
     pub fn with_line(
         self,
@@ -57,7 +57,7 @@ impl Draft {
         number: u32,
         word: &[u8],
         fields: &[u8],
-    ) -> Result<Draft, ScheduleFault>
+    ) -> Result<ScheduleBuilder, ScheduleFault>
         ensures { GivesBy (λ d. d.schedule) result
             (read_statement number (Some self.schedule) word.now (words fields.now)) }
     {
@@ -79,34 +79,34 @@ impl Draft {
     pub fn into_schedule(self) -> Schedule
         ensures { result ≡ self.schedule }
     {
-        let Draft { schedule, .. } = self;
+        let ScheduleBuilder { schedule, .. } = self;
         schedule
     }
 
-    /// The draft with this area of a node.
-    fn with_area(self, node: NodeId, area: u8) -> Draft
+    /// The builder with this area of a node.
+    fn with_area(self, node: NodeId, area: u8) -> ScheduleBuilder
         requires { IsNode self.schedule.header.nodes node }
         ensures { result.schedule ≡ with_area self.schedule (node, area) }
     {
-        let Draft {
+        let ScheduleBuilder {
             mut schedule,
             published,
             settles,
         } = self;
         schedule.areas[node.index()] = area;
-        Draft {
+        ScheduleBuilder {
             schedule,
             published,
             settles,
         }
     }
 
-    /// The draft with one more event, where it passes no limit.
-    fn with_event(self, event: Event) -> Result<Draft, ScheduleFault>
+    /// The builder with one more event, where it passes no limit.
+    fn with_event(self, event: Event) -> Result<ScheduleBuilder, ScheduleFault>
         ensures { GivesBy (λ d. d.schedule) result
             (within_limits (with_event self.schedule event)) }
     {
-        let Draft {
+        let ScheduleBuilder {
             mut schedule,
             published,
             settles,
@@ -120,7 +120,7 @@ impl Draft {
             return Err(ScheduleFault::Limit(What::Settles));
         }
         schedule.events.push(event)?;
-        Ok(Draft {
+        Ok(ScheduleBuilder {
             schedule,
             published: published + more,
             settles: settles + once,

@@ -1,5 +1,5 @@
 -- Chain members among the nodes that are up: the leader, the one before a node, and those who join.
-use Rattle.std.proofs.Common.{◌≡◌, ℕ, zero, suc, ◌+◌, ◌-◌, ◌<◌, ◌≤◌, min, Bool, true, false, not, ◌&&◌, nat_lt, nat_le, Option, Some, None, List, [], ◌∷◌, ◌++◌, filter, length, drop, get_or, if◌then◌else◌, refl, ap, sym, ◌∙◌, arith, append-nil, ltb-true, ltb-false, leb-true}
+use Rattle.std.proofs.Common.{◌≡◌, ℕ, zero, suc, ◌+◌, ◌-◌, ◌<◌, ◌≤◌, min, Bool, true, false, not, ◌&&◌, nat_lt, nat_le, List, [], ◌∷◌, ◌++◌, filter, length, drop, get_or, if◌then◌else◌, refl, ap, sym, ◌∙◌, arith, append-nil, ltb-true, ltb-false, leb-true}
 use Rattle.std.specs.List.{AllByRecursion, list_all, range_with_len}
 use Rattle.std.proofs.lemmas.Bool.{le-leb, lt-leb, leb-false, le-ltb, lt-ltb}
 use Rattle.std.proofs.lemmas.List.{drop_more, drop_all}
@@ -30,39 +30,10 @@ filter_none f (x ∷ xs) all = let here : f x ≡ false = all.0 in rw here (filt
 
 -- The leader
 
--- the first of the nodes that are left is a member, or it is not
-pub leads_here : (f : ℕ → Bool) (xs : List ℕ) (i x : ℕ) (all : Option ℕ) → i < length xs → x ≡ get_or xs i x → f x ≡ true → first_of (filter f (drop i xs)) ≡ all → Some x ≡ all
-leads_here f xs i x all within is passes so_far =
-    let here : drop i xs ≡ x ∷ drop (i + 1) xs = drop_more xs i x within ∙ ap (λ (y : ℕ). y ∷ drop (i + 1) xs) (sym is) in
-    let next : first_of (filter f (drop i xs)) ≡ Some x = rw (here, passes) refl in
-    sym next ∙ so_far
-
--- it is not
-pub leads_later : (f : ℕ → Bool) (xs : List ℕ) (i x : ℕ) (all : Option ℕ) → i < length xs → x ≡ get_or xs i x → f x ≡ false → first_of (filter f (drop i xs)) ≡ all
-    → first_of (filter f (drop (i + 1) xs)) ≡ all
-leads_later f xs i x all within is fails so_far =
-    let here : drop i xs ≡ x ∷ drop (i + 1) xs = drop_more xs i x within ∙ ap (λ (y : ℕ). y ∷ drop (i + 1) xs) (sym is) in
-    let next : first_of (filter f (drop i xs)) ≡ first_of (filter f (drop (i + 1) xs)) = rw (here, fails) refl in
-    sym next ∙ so_far
-
--- none is left that could be
-pub none_leads : (f : ℕ → Bool) (xs : List ℕ) (i : ℕ) (all : Option ℕ) → length xs ≤ i → first_of (filter f (drop i xs)) ≡ all → None ≡ all
-none_leads f xs i all past so_far =
-    let none : first_of (filter f (drop i xs)) ≡ None = ap (λ (ys : List ℕ). first_of (filter f ys)) (drop_all i xs past) in
-    sym none ∙ so_far
-
 -- of all that are up it is the leader
 pub leader_first : (w : World) (xs : List ℕ) → IsRoll w xs → first_of (filter (λ x. is_member (node w x).control) xs) ≡ leader_of w
 unfolding leader_of
 leader_first w xs roll = ap (λ (ys : List ℕ). first_of (filter (λ x. is_member (node w x).control) ys)) roll.up
-
--- whether a node is a member
-pub member_is : (w : World) (chain x : ℕ) → HasChain w chain → IsNodeOf w x → x ≤ chain → is_member (node w x).control ≡ true
-member_is w chain x has node low = has.members x node ∙ le-leb x chain low
-
--- past the chain there is none
-pub member_not : (w : World) (chain x : ℕ) → HasChain w chain → IsNodeOf w x → chain < x → is_member (node w x).control ≡ false
-member_not w chain x has node high = has.members x node ∙ lt-leb x chain high
 
 -- All of a list
 

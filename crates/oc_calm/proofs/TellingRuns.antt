@@ -1,7 +1,7 @@
 -- What telling is made of, and the order of those who tell.
-use Rattle.std.proofs.Common.{◌≡◌, ℕ, zero, suc, ◌+◌, ◌<◌, ◌≤◌, Bool, true, false, ◌==◌, Option, Some, None, List, [], ◌∷◌, ◌++◌, filter, length, drop, get_or, refl, ap, sym, ◌∙◌, arith, append_assoc, append-nil, ne_eqb}
+use Rattle.std.proofs.Common.{◌≡◌, ℕ, zero, suc, ◌+◌, Bool, true, false, ◌==◌, Option, Some, None, List, [], ◌∷◌, ◌++◌, filter, length, refl, ap, sym, ◌∙◌, arith, append_assoc, append-nil, ne_eqb}
 use Rattle.std.specs.List.{AllByRecursion}
-use Rattle.std.proofs.lemmas.List.{length-map, drop_more, drop_all}
+use Rattle.std.proofs.lemmas.List.{length-map}
 use Rattle.oc_base.specs.declared.cert.Cert.{Cert}
 use Rattle.oc_model.specs.Adopting.{is_number}
 use Rattle.oc_model.specs.Chains.{chain_from}
@@ -116,25 +116,3 @@ level_none ls xs k out all none so_far =
     sym (append-nil out) ∙ (ap (λ (ys : List ℕ). out ++ ys) (sym here) ∙ so_far)
 
 -- Filtering in a loop
-
--- the next of a list passes the test
-pub filter_takes : (test : ℕ → Bool) (xs : List ℕ) (i x : ℕ) (out all : List ℕ) → i < length xs → x ≡ get_or xs i x → test x ≡ true → out ++ filter test (drop i xs) ≡ all
-    → (out ++ x ∷ []) ++ filter test (drop (i + 1) xs) ≡ all
-filter_takes test xs i x out all within is passes so_far =
-    let here : drop i xs ≡ x ∷ drop (i + 1) xs = drop_more xs i x within ∙ ap (λ (y : ℕ). y ∷ drop (i + 1) xs) (sym is) in
-    let next : filter test (drop i xs) ≡ x ∷ filter test (drop (i + 1) xs) = rw (here, passes) refl in
-    append_assoc out (x ∷ []) (filter test (drop (i + 1) xs)) ∙ (ap (λ (ys : List ℕ). out ++ ys) (sym next) ∙ so_far)
-
--- or fails it
-pub filter_passes : (test : ℕ → Bool) (xs : List ℕ) (i x : ℕ) (out all : List ℕ) → i < length xs → x ≡ get_or xs i x → test x ≡ false → out ++ filter test (drop i xs) ≡ all
-    → out ++ filter test (drop (i + 1) xs) ≡ all
-filter_passes test xs i x out all within is fails so_far =
-    let here : drop i xs ≡ x ∷ drop (i + 1) xs = drop_more xs i x within ∙ ap (λ (y : ℕ). y ∷ drop (i + 1) xs) (sym is) in
-    let next : filter test (drop i xs) ≡ filter test (drop (i + 1) xs) = rw (here, fails) refl in
-    ap (λ (ys : List ℕ). out ++ ys) (sym next) ∙ so_far
-
--- and after the last nothing is left
-pub filter_done : (test : ℕ → Bool) (xs : List ℕ) (i : ℕ) (out all : List ℕ) → length xs ≤ i → out ++ filter test (drop i xs) ≡ all → out ≡ all
-filter_done test xs i out all past so_far =
-    let none : filter test (drop i xs) ≡ [] = ap (filter test) (drop_all i xs past) in
-    sym (append-nil out) ∙ (ap (λ (ys : List ℕ). out ++ ys) (sym none) ∙ so_far)

@@ -4,10 +4,7 @@ use Rattle.std.specs.Prelude.{nat_lt}
 use Rattle.std.specs.Str.Lines.{lines}
 use Rattle.oc_base.specs.declared.limits.TheConstants.{MAX_SCHEDULE_BYTES}
 use Rattle.oc_model.specs.Lawful.{IsHeader}
-use Rattle.oc_model.specs.Node.{Header}
 use Rattle.oc_model.specs.World.{World}
-use Rattle.oc_model.specs.declared.event.Event.{Event}
-use Rattle.oc_model.specs.declared.word.Word.{Word}
 use Rattle.oc_io.specs.Faults.{Rose}
 use Rattle.oc_replay.specs.Ends.{IfLimit, IfText, OnDone, OnMemory, OnRefusal, OnSink, OnSource}
 use Rattle.oc_replay.specs.Replay.{IsInput, PassesLimit, output_text, world_at}
@@ -33,39 +30,36 @@ lawful bytes s is = by_length (nat_lt MAX_SCHEDULE_BYTES (length bytes)) is wher
 
 module _ {S K T : Type 0} (gives fails : S → List ℕ → S → Type 0) (ended : S → Type 0) (faulty : S → ℕ)
     (takes breaks : K → List ℕ → K → Type 0) (count : K → ℕ)
-    (first : Header → World) (after : World → Event → World) (word : World → Event → Word) (world : T → World)
+    (world : T → World)
     (headline : (s : Script) → IsHeader s.header → HeadlineHolds s) (source came : S) (sink gone : K) (stage left : T) (summary : Bool) where
   abbrev text : Script → List ℕ
-  text s = output_text first after summary word s
+  text s = output_text summary s
 
   -- what the call says of how it ended
   pub record Replays (end : ReplayEnd) : Type 0 where
-    pub done : OnDone end ((s : Script) × IsInput gives ended source came (Ok s) × IsSchedule s × takes sink (text s) gone × (world left ≡ world_at first after s s.events))
+    pub done : OnDone end ((s : Script) × IsInput gives ended source came (Ok s) × IsSchedule s × takes sink (text s) gone × (world left ≡ world_at s s.events))
     pub text_is : IfText end (λ line why. IsInput gives ended source came (Err (faults.Line line why)))
     pub limit : IfLimit end (λ what. PassesLimit gives ended source came what)
-    pub failed : OnSource end ((bytes : List ℕ) × fails source bytes came)
-    pub cause : OnSource end (Rose (faulty source) (faulty came))
-    pub unwritten : OnRefusal end (takes sink [] gone)
-    pub unplayed : OnRefusal end (left ≡ stage)
-    pub cut : OnSink end ((s : Script) × IsInput gives ended source came (Ok s) × SomeFront (text s) (λ front. breaks sink front gone) × SomeFront s.events (λ played. world left ≡ world_at first after s played))
-    pub cut_cause : OnSink end (Rose (count sink) (count gone))
+    pub failed : OnSource end (((bytes : List ℕ) × fails source bytes came) × Rose (faulty source) (faulty came))
+    pub refused : OnRefusal end (takes sink [] gone × (left ≡ stage))
+    pub cut : OnSink end ((s : Script) × IsInput gives ended source came (Ok s) × SomeFront (text s) (λ front. breaks sink front gone) × SomeFront s.events (λ played. world left ≡ world_at s played) × Rose (count sink) (count gone))
     pub memory : OnMemory end ((((bytes : List ℕ) × gives source bytes came) × takes sink [] gone × (left ≡ stage))
         ⊎ ((s : Script) × IsInput gives ended source came (Ok s) × SomeFront (text s) (λ front. takes sink front gone)))
 
   -- so it had happened
   pub happened : (end : ReplayEnd) → Replays end
-      → HappenedAtReplay (at_source gives fails ended faulty source came) (at_sink takes breaks count sink gone) (at_stage first after word world stage left) summary end
+      → HappenedAtReplay (at_source gives fails ended faulty source came) (at_sink takes breaks count sink gone) (at_stage world stage left) summary end
   happened replays.Done r = let (s, says, is, written, played) = r.done in (s, says, is, written, played, headline s is.header)
-  happened (replays.Text line why) r = (r.text_is, r.unwritten, r.unplayed)
-  happened (replays.Limit what) r = (r.limit, r.unwritten, r.unplayed)
-  happened replays.Source r = ((r.failed, r.cause), r.unwritten, r.unplayed)
+  happened (replays.Text line why) r = (r.text_is, r.refused.0, r.refused.1)
+  happened (replays.Limit what) r = (r.limit, r.refused.0, r.refused.1)
+  happened replays.Source r = (r.failed, r.refused.0, r.refused.1)
   happened replays.Sink r =
-      let (s, says, cut, played) = r.cut in
+      let (s, says, cut, played, cause) = r.cut in
       let is = lawful says.bytes s says.read in
-      (s, says, is, (cut.0, (cut.1, r.cut_cause)), played, headline s is.header)
+      (s, says, is, (cut.0, (cut.1, cause)), played, headline s is.header)
   happened replays.Memory r = by_memory r.memory where
     by_memory : (((bytes : List ℕ) × gives source bytes came) × takes sink [] gone × (left ≡ stage))
         ⊎ ((s : Script) × IsInput gives ended source came (Ok s) × SomeFront (text s) (λ front. takes sink front gone))
-        → HappenedAtReplay (at_source gives fails ended faulty source came) (at_sink takes breaks count sink gone) (at_stage first after word world stage left) summary replays.Memory
+        → HappenedAtReplay (at_source gives fails ended faulty source came) (at_sink takes breaks count sink gone) (at_stage world stage left) summary replays.Memory
     by_memory (inl m) = inl m
     by_memory (inr (s, says, front)) = let is = lawful says.bytes s says.read in inr (s, says, is, front, headline s is.header)

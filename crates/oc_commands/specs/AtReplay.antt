@@ -1,9 +1,6 @@
 -- What had happened at each end of a replay, and which status has to come.
 use Rattle.std.specs.Prelude.{◌≡◌, ℕ, ◌<◌, ◌⊎◌, Bool, [], Result, Ok, Err, List, length}
 use Rattle.oc_base.specs.declared.limits.TheConstants.{MAX_SCHEDULE_BYTES}
-use Rattle.oc_model.specs.NextWorld.{next_world, word_of}
-use Rattle.oc_model.specs.World.{new_world}
-use Rattle.oc_replay.specs.Replay.{brief_text, told_text}
 use Rattle.oc_replay.specs.Pieces.{SomeFront}
 use Rattle.oc_replay.specs.declared.end.ReplayEnd.{ReplayEnd}
 use Rattle.oc_replay.specs.declared.end.ReplayEnd.TheVariants.{Done, Text, Limit, Source, Sink, Memory}
@@ -40,13 +37,3 @@ pub record HasStatus {S : Type 0} (gives : S → List ℕ → S → Type 0) (end
   pub came : gives old bytes new
   pub whole : ended new ⊎ (MAX_SCHEDULE_BYTES < length bytes)
   pub status_is : status ≡ status_for (schedule_of bytes)
-
--- ---- over a world in memory
-
--- the report of a schedule: what the model's own functions tell
-abbrev pub report_of : Script → List ℕ
-report_of s = told_text new_world next_world word_of s
-
--- and its summary
-abbrev pub summary_of : Script → List ℕ
-summary_of s = brief_text new_world next_world s

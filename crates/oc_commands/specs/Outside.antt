@@ -13,7 +13,6 @@ use Rattle.oc_keep.specs.declared.errors.KeepLoad.{KeepLoad}
 use Rattle.oc_model.specs.Node.{Header}
 use Rattle.oc_model.specs.World.{World}
 use Rattle.oc_model.specs.declared.event.Event.{Event}
-use Rattle.oc_model.specs.declared.word.Word.{Word}
 use Rattle.oc_io.specs.DiskView.{DiskView}
 use Rattle.oc_io.specs.Faults.{Rose}
 use Rattle.oc_link.specs.LinkCalls.{LinkFaults, Told}
@@ -132,11 +131,11 @@ module _ {K : Type 0} (takes fails : K → List ℕ → K → Type 0) (faults : 
     cut_off = λ text. fails old text new × Rose (faults old) (faults new);
   }
 
-module _ {T : Type 0} (first : Header → World) (after : World → Event → World) (word : World → Event → Word) (world : T → World) where
+module _ {T : Type 0} (world : T → World) where
   abbrev pub at_stage : T → T → OnStage
   at_stage old new = record {
-    text = λ summary. output_text first after summary word;
-    played = λ s events. world new ≡ world_at first after s events;
+    text = output_text;
+    played = λ s events. world new ≡ world_at s events;
     unplayed = new ≡ old;
   }
 

@@ -19,7 +19,7 @@ pub fn replay_input<S: Source, K: Sink, T: Stage>(
     ensures happened { HappenedAtReplay
         (at_source S.gives S.fails S.ended S.faults input.old input.new)
         (at_sink K.takes K.fails K.faults out.old out.new)
-        (at_stage T.first T.after T.word T.world stage.old stage.new) summary result }
+        (at_stage T.world stage.old stage.new) summary result }
     ensures input_count { NoFall (S.faults input.old) (S.faults input.new) }
     ensures output_count { NoFall (K.faults out.old) (K.faults out.new) }
 {

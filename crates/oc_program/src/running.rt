@@ -55,7 +55,7 @@ pub fn run<S: Source, K: Sink, E: Sink, T: Stage, D: Disk, L: Link, C: Clock>(
           asked = asked (texts_of words.now);
           input = at_source S.gives S.fails S.ended S.faults input.old input.new;
           output = at_sink K.takes K.fails K.faults out.old out.new;
-          stage = at_stage T.first T.after T.word T.world stage.old stage.new;
+          stage = at_stage T.world stage.old stage.new;
           files = at_files D.view (disks control_a.old control_b.old content.old) (disks control_a.new control_b.new content.new);
           link = at_link L.story L.faults link.old link.new;
           clock = at_clock clock.old clock.new;
@@ -147,7 +147,7 @@ fn perform<S: Source, K: Sink, T: Stage, D: Disk, L: Link, C: Clock>(
       asked = asked (texts_of words.now);
       input = at_source S.gives S.fails S.ended S.faults input.old input.new;
       output = at_sink K.takes K.fails K.faults out.old out.new;
-      stage = at_stage T.first T.after T.word T.world stage.old stage.new;
+      stage = at_stage T.world stage.old stage.new;
       files = at_files D.view (disks control_a.old control_b.old content.old) (disks control_a.new control_b.new content.new);
       link = at_link L.story L.faults link.old link.new;
       clock = at_clock clock.old clock.new;

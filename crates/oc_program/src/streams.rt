@@ -57,7 +57,7 @@ pub fn run_in_memory<T: Stage, D: Disk, L: Link, C: Clock>(
           asked = asked (texts_of words.now);
           input = at_bytes input.now result.read;
           output = at_text result.output.items;
-          stage = at_stage T.first T.after T.word T.world stage.old stage.new;
+          stage = at_stage T.world stage.old stage.new;
           files = at_files D.view (disks control_a.old control_b.old content.old) (disks control_a.new control_b.new content.new);
           link = at_link L.story L.faults link.old link.new;
           clock = at_clock clock.old clock.new;
@@ -132,7 +132,7 @@ pub fn run_on_streams<T: Stage, D: Disk, L: Link, C: Clock>(
           asked = asked (texts_of words.now);
           input = at_input result.input;
           output = at_output result.output;
-          stage = at_stage T.first T.after T.word T.world stage.old stage.new;
+          stage = at_stage T.world stage.old stage.new;
           files = at_files D.view (disks control_a.old control_b.old content.old) (disks control_a.new control_b.new content.new);
           link = at_link L.story L.faults link.old link.new;
           clock = at_clock clock.old clock.new;

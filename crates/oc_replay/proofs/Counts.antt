@@ -23,10 +23,6 @@ from_to i n within =
 pub sum_step : (f : ℕ → ℕ) (i n : ℕ) → i ≤ n → sum_by f (range_with_len i (n + 1 - i)) ≡ f i + sum_by f (range_with_len (i + 1) (n + 1 - (i + 1)))
 sum_step f i n within = ap (sum_by f) (from_to i n within) ∙ sum_by-cons f i (range_with_len (i + 1) (n + 1 - (i + 1)))
 
--- over none
-pub sum_end : (f : ℕ → ℕ) (i n : ℕ) → n + 1 ≤ i → sum_by f (range_with_len i (n + 1 - i)) ≡ 0
-sum_end f i n past = let none : n + 1 - i ≡ 0 = omega arith in ap (λ k. sum_by f (range_with_len i k)) none
-
 -- of n numbers, each at most b
 pub sum_at_most : (f : ℕ → ℕ) (b : ℕ) → ((x : ℕ) → f x ≤ b) → (i n : ℕ) → sum_by f (range_with_len i n) ≤ n * b
 sum_at_most f b each i zero = omega arith
@@ -68,15 +64,6 @@ IsCounted w i n t = plus t (tally_over w (left i n)) ≡ tally_over w (range_wit
 abbrev none : Tally
 none = record { up = 0; joined = 0; acting = 0; bytes = 0 }
 
--- it begins with none
-pub counted_none : (w : World) (n : ℕ) → IsCounted w 1 n none
-counted_none w n =
-    let all : n + 1 - 1 ≡ n = omega arith in
-    let nothing : (k : ℕ) → 0 + k ≡ k = λ k. omega arith in
-    let whole : Tally = tally_over w (range_with_len 1 n) in
-    let same : plus none whole ≡ whole = λ k. record { up = nothing whole.up k; joined = nothing whole.joined k; acting = nothing whole.acting k; bytes = nothing whole.bytes k } in
-    ap (λ m. plus none (tally_over w (range_with_len 1 m))) all ∙ same
-
 -- the next node apart
 tally_step : (w : World) (i n : ℕ) → i ≤ n → tally_over w (left i n) ≡ plus (tally_at w i) (tally_over w (left (i + 1) n))
 tally_step w i n within = λ k. record {
@@ -98,14 +85,6 @@ counted_more w i n t one within is counted =
     ∙ plus_assoc t (tally_at w i) (tally_over w (left (i + 1) n))
     ∙ ap (plus t) (sym (tally_step w i n within))
     ∙ counted
-
--- and it ends with all
-pub counted_all : (w : World) (i n : ℕ) (t : Tally) → n + 1 ≤ i → IsCounted w i n t → t ≡ tally_over w (range_with_len 1 n)
-counted_all w i n t past counted =
-    let nothing : (k : ℕ) → k ≡ k + 0 = λ k. omega arith in
-    let none_left : n + 1 - i ≡ 0 = omega arith in
-    let same : t ≡ plus t none = λ k. record { up = nothing t.up k; joined = nothing t.joined k; acting = nothing t.acting k; bytes = nothing t.bytes k } in
-    same ∙ sym (ap (λ m. plus t (tally_over w (range_with_len i m))) none_left) ∙ counted
 
 -- part of a sum over all nodes
 part_fits : (f : ℕ → ℕ) (b i n t : ℕ) → ((x : ℕ) → f x ≤ b) → i ≤ n → t + sum_by f (left i n) ≡ sum_by f (range_with_len 1 n) → t + f i ≤ n * b

@@ -1,37 +1,43 @@
 -- The world that a schedule opens.
-use Rattle.std.proofs.Common.{◌≡◌, List, [], ◌∷◌, length, sym, ap, ◌∙◌, subst, arith}
+use Rattle.std.proofs.Common.{◌≡◌, ℕ, ◌≤◌, List, [], ◌∷◌, length, map, sym, ap, ◌∙◌, subst, arith}
 use Rattle.std.specs.List.{range_with_len, AllByRecursion}
 use Rattle.std.proofs.lemmas.List.FromFn.{length-range_with_len}
+use Rattle.oc_base.specs.declared.limits.TheConstants.{MAX_TIME}
 use Rattle.oc_model.specs.declared.event.Event.{Event}
-use Rattle.oc_model.specs.Lawful.{IsEvent, IsHeader}
-use Rattle.oc_model.specs.Node.{Header}
-use Rattle.oc_model.specs.World.{World, Process, ids}
-use Rattle.oc_model.specs.WorldBounds.{AreWithinLimits}
+use Rattle.oc_model.specs.Lawful.{IsEvent}
+use Rattle.oc_model.specs.Node.{Header, new_node}
+use Rattle.oc_model.specs.World.{World, Process, down, ids, new_world}
+use Rattle.oc_model.specs.WorldBounds.{AreBefore, AreWithinLimits}
+use Rattle.oc_model.proofs.GoesOn.{ids-always}
+use Rattle.oc_model.proofs.Processes.{process_in-new}
 use Rattle.oc_schedule.specs.Schedule.{IsSchedule}
 use Rattle.oc_schedule.specs.Script.{Script}
-use Rattle.oc_replay.specs.Stage.{HoldsNothing, IsBlank}
 use Rattle.oc_replay.specs.Opening.{IsOpening}
 
--- nodes that hold nothing are within the limits
-nothing_within : (ps : List Process) → AllByRecursion HoldsNothing ps → AllByRecursion (λ p. AreWithinLimits p.node.groups) ps
-nothing_within [] all = tt
-nothing_within (p ∷ ps) all = (subst AreWithinLimits (sym all.0) (tt, omega arith, tt), nothing_within ps all.1)
+-- new nodes hold nothing, which is within the limits
+new_within : (h : Header) (xs : List ℕ) → AllByRecursion (λ p. AreWithinLimits p.node.groups) (map (λ x. down (new_node h x)) xs)
+new_within h [] = tt
+new_within h (x ∷ xs) = ((tt, omega arith, tt), new_within h xs)
+
+-- nor has any clock run
+no_clock : (h : Header) → AreBefore MAX_TIME (new_world h)
+no_clock h x =
+    let new = process_in-new h (range_with_len 1 h.nodes) x in
+    subst (λ (p : Process). p.node.control.soft.clock ≤ MAX_TIME) (sym new.1) (omega arith)
 
 -- the world of a header has its nodes
-pub opened-nodes : (first : Header → World) → ((h : Header) → IsHeader h → IsBlank h (first h)) → (s : Script) (h : Header) (w : World) → h ≡ s.header → w ≡ first h → IsSchedule s → length (ids w) ≡ h.nodes
-opened-nodes first opens s h w header opened schedule =
-    ap (λ (v : World). length (ids v)) opened ∙ ap length (opens h (subst IsHeader (sym header) schedule.header)).ids ∙ length-range_with_len 1 h.nodes
+pub opened-nodes : (h : Header) (w : World) → w ≡ new_world h → length (ids w) ≡ h.nodes
+opened-nodes h w opened = ap (λ (v : World). length (ids v)) opened ∙ ap length (ids-always h []) ∙ length-range_with_len 1 h.nodes
 
 -- and the events of the schedule can begin with it
-pub opened-opening : (first : Header → World) → ((h : Header) → IsHeader h → IsBlank h (first h)) → (s : Script) (h : Header) (w : World) (es : List Event) → h ≡ s.header → es ≡ s.events → w ≡ first h → IsSchedule s → IsOpening w es
-opened-opening first opens s h w es header events opened schedule =
-    let blank : IsBlank h w = subst (IsBlank h) (sym opened) (opens h (subst IsHeader (sym header) schedule.header)) in
-    let count : length (ids w) ≡ h.nodes = opened-nodes first opens s h w header opened schedule in
+pub opened-opening : (s : Script) (h : Header) (w : World) (es : List Event) → h ≡ s.header → es ≡ s.events → w ≡ new_world h → IsSchedule s → IsOpening w es
+opened-opening s h w es header events opened schedule =
+    let count : length (ids w) ≡ h.nodes = opened-nodes h w opened in
     record {
-      numbered = blank.ids ∙ ap (range_with_len 1) (sym count);
-      net = blank.net;
-      clocks = blank.clocks;
-      limits = nothing_within w.processes blank.groups;
+      numbered = ap ids opened ∙ ids-always h [] ∙ ap (range_with_len 1) (sym count);
+      net = ap (λ (v : World). v.net) opened;
+      clocks = subst (AreBefore MAX_TIME) (sym opened) (no_clock h);
+      limits = subst (λ (v : World). AllByRecursion (λ p. AreWithinLimits p.node.groups) v.processes) (sym opened) (new_within h (range_with_len 1 h.nodes));
       lawful = rw (count, events) (subst (λ (k : Header). AllByRecursion (IsEvent k.nodes) s.events) (sym header) schedule.events);
       few = rw events schedule.few;
     }

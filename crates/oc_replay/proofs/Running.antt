@@ -1,17 +1,18 @@
 -- A stage's world while a run is under way.
-use Rattle.std.proofs.Common.{◌≡◌, ℕ, ◌+◌, ◌*◌, ◌<◌, ◌≤◌, List, length, take, drop, get_or, fold, refl, sym, ap, ◌∙◌, subst, arith}
+use Rattle.std.proofs.Common.{◌≡◌, ℕ, ◌+◌, ◌*◌, ◌<◌, ◌≤◌, List, [], ◌∷◌, length, take, drop, get_or, fold, refl, sym, ap, ◌∙◌, subst, arith}
 use Rattle.std.specs.List.{AllByRecursion}
 use Rattle.std.proofs.lemmas.List.{drop_more, take_all}
 use Rattle.std.proofs.lemmas.List.Sums.{fold_more}
 use Rattle.oc_base.specs.declared.limits.TheConstants.{MAX_SCHEDULE_LINES, MAX_TIME}
 use Rattle.oc_model.specs.declared.event.Event.{Event}
 use Rattle.oc_model.specs.declared.event.Event.TheVariants as events
-use Rattle.oc_model.specs.declared.word.Word.{Word}
 use Rattle.oc_model.specs.Lawful.{IsEvent}
+use Rattle.oc_model.specs.NextWorld.{next_world, world_after}
 use Rattle.oc_model.specs.World.{World, ids}
 use Rattle.oc_model.specs.WorldBounds.{IsDistinct, AreBefore, IsWithinLimits}
-use Rattle.oc_model.proofs.Clocks.{range_distinct}
-use Rattle.oc_replay.specs.Stage.{HasTimeFor, KeepsTime, KeepsLimits}
+use Rattle.oc_model.proofs.Clocks.{clocks-next_world, range_distinct}
+use Rattle.oc_model.proofs.GoesOn.{ids-next_world, limits-next_world}
+use Rattle.oc_replay.specs.Stage.{HasTimeFor}
 use Rattle.oc_replay.specs.Opening.{IsOpening}
 
 -- what holds of the rest holds of its first item, and of the rest after it
@@ -20,23 +21,29 @@ All-drop P xs i x within read all =
     let both : P (get_or xs i x) × AllByRecursion P (drop (i + 1) xs) = subst (AllByRecursion P) (drop_more xs i x within) all in
     (subst P (sym read) both.0, both.1)
 
+-- the world after events, as a fold
+after_fold : (w : World) (es : List Event) → world_after w es ≡ fold next_world w es
+after_fold w [] = refl
+after_fold w (e ∷ es) = after_fold (next_world w e) es
+
 -- the world after one event more
-pub fold-take : (after : World → Event → World) (i : ℕ) (first w new : World) (es : List Event) (e : Event) → i < length es → e ≡ get_or es i e → new ≡ after w e → w ≡ fold after first (take i es) → new ≡ fold after first (take (i + 1) es)
-fold-take after i first w new es e within read next so_far =
-    next ∙ ap (λ (v : World). after v e) so_far ∙ ap (after (fold after first (take i es))) read ∙ sym (fold_more after first es i e within)
+pub after-take : (i : ℕ) (first w new : World) (es : List Event) (e : Event) → i < length es → e ≡ get_or es i e → new ≡ next_world w e → w ≡ world_after first (take i es) → new ≡ world_after first (take (i + 1) es)
+after-take i first w new es e within read next so_far =
+    let folded : w ≡ fold next_world first (take i es) = so_far ∙ after_fold first (take i es) in
+    next ∙ ap (λ (v : World). next_world v e) folded ∙ ap (next_world (fold next_world first (take i es))) read ∙ sym (fold_more next_world first es i e within) ∙ sym (after_fold first (take (i + 1) es))
 
 -- the world after the first i of these events, from the one that was opened: the rest are within their ranges, and no clock is
 -- further past the greatest time than that many events take it
-pub record IsOnTheWay (after : World → Event → World) (opened w : World) (es : List Event) (i : ℕ) : Type 0 where
-  pub played : w ≡ fold after opened (take i es)
+pub record IsOnTheWay (opened w : World) (es : List Event) (i : ℕ) : Type 0 where
+  pub played : w ≡ world_after opened (take i es)
   pub lawful : AllByRecursion (IsEvent (length (ids w))) (drop i es)
   pub ids : ids w ≡ ids opened
   pub clocks : AreBefore (MAX_TIME + 60 * i) w
   pub limits : IsWithinLimits w
 
 -- with all events played, the world is the last one
-pub whole_run : (after : World → Event → World) (opened w : World) (es : List Event) (i : ℕ) → length es ≤ i → IsOnTheWay after opened w es i → w ≡ fold after opened es
-whole_run after opened w es i past way = way.played ∙ ap (fold after opened) (take_all i es past)
+pub whole_run : (opened w : World) (es : List Event) (i : ℕ) → length es ≤ i → IsOnTheWay opened w es i → w ≡ world_after opened es
+whole_run opened w es i past way = way.played ∙ ap (world_after opened) (take_all i es past)
 
 -- what may be given to a stage that shows this world
 pub record MayBeGiven (w : World) (e : Event) : Type 0 where
@@ -49,9 +56,9 @@ early_enough w events.Settle i few before = λ x up. omega (arith, few, before x
 early_enough w events.Heal i few before = λ x up. omega (arith, few, before x)
 early_enough w e i few before = tt
 
-module _ (after : World → Event → World) (opened : World) (es : List Event) (opening : IsOpening opened es) where
+module _ (opened : World) (es : List Event) (opening : IsOpening opened es) where
   -- it begins
-  pub begins : IsOnTheWay after opened opened es 0
+  pub begins : IsOnTheWay opened opened es 0
   begins = record {
     played = refl;
     lawful = opening.lawful;
@@ -61,28 +68,24 @@ module _ (after : World → Event → World) (opened : World) (es : List Event) 
   }
 
   -- the next event may be given
-  pub next_given : (w : World) (e : Event) (i : ℕ) → i < length es → e ≡ get_or es i e → IsOnTheWay after opened w es i → MayBeGiven w e
+  pub next_given : (w : World) (e : Event) (i : ℕ) → i < length es → e ≡ get_or es i e → IsOnTheWay opened w es i → MayBeGiven w e
   next_given w e i within read way = record {
     event = (All-drop (IsEvent (length (ids w))) es i e within read way.lawful).0;
     time = early_enough w e i (omega (arith, within, opening.few)) way.clocks;
   }
 
   -- and it goes on
-  pub goes_on : (word : World → Event → Word)
-      → ((v : World) (f : Event) → IsEvent (length (ids v)) f → ids (after v f) ≡ ids v)
-      → ((v : World) (f : Event) → IsDistinct (ids v) → IsEvent (length (ids v)) f → KeepsTime v (after v f))
-      → ((v : World) (f : Event) → IsEvent (length (ids v)) f → KeepsLimits v (after v f))
-      → (w new : World) (e : Event) (i : ℕ) → i < length es → e ≡ get_or es i e → new ≡ after w e
-      → IsOnTheWay after opened w es i → IsOnTheWay after opened new es (i + 1)
-  goes_on word keeps_ids keeps_time keeps_limits w new e i within read next way =
+  pub goes_on : (w new : World) (e : Event) (i : ℕ) → i < length es → e ≡ get_or es i e → new ≡ next_world w e → IsOnTheWay opened w es i → IsOnTheWay opened new es (i + 1)
+  goes_on w new e i within read next way =
       let both = All-drop (IsEvent (length (ids w))) es i e within read way.lawful in
-      let same : ids new ≡ ids w = ap ids next ∙ keeps_ids w e both.0 in
+      let same : ids new ≡ ids w = ap ids next ∙ ids-next_world w e in
       let apart : IsDistinct (ids w) = subst IsDistinct (sym (way.ids ∙ opening.numbered)) (range_distinct 1 (length (ids opened))) in
-      let later : AreBefore (MAX_TIME + 60 * i + 60) new = subst (AreBefore (MAX_TIME + 60 * i + 60)) (sym next) (keeps_time w e apart both.0 (MAX_TIME + 60 * i) (omega arith) way.clocks) in
+      let later : AreBefore (MAX_TIME + 60 * i + 60) new =
+      subst (AreBefore (MAX_TIME + 60 * i + 60)) (sym next) (clocks-next_world w e (length (ids w)) (MAX_TIME + 60 * i) apart both.0 (omega arith) way.clocks) in
       record {
-        played = fold-take after i opened w new es e within read next way.played;
+        played = after-take i opened w new es e within read next way.played;
         lawful = subst (λ (xs : List ℕ). AllByRecursion (IsEvent (length xs)) (drop (i + 1) es)) (sym same) both.1;
         ids = same ∙ way.ids;
         clocks = λ x. omega (arith, later x);
-        limits = subst IsWithinLimits (sym next) (keeps_limits w e both.0 way.limits);
+        limits = subst IsWithinLimits (sym next) (limits-next_world w e way.limits);
       }

@@ -3,6 +3,7 @@ use Rattle.std.proofs.Common.{◌≡◌, ℕ, ◌+◌, ◌<◌, ◌≤◌, List,
 use Rattle.std.proofs.lemmas.List.{at_drop_more, at_drop_all}
 use Rattle.oc_model.specs.declared.event.Event.{Event}
 use Rattle.oc_model.specs.declared.word.Word.{Word}
+use Rattle.oc_model.specs.NextWorld.{next_world, word_of}
 use Rattle.oc_model.specs.World.{World}
 use Rattle.oc_replay.specs.Lines.{end_line, event_line}
 use Rattle.oc_replay.specs.Report.{block_text, event_text, sent_text, told_from}
@@ -18,25 +19,24 @@ event_told a b c d i said word first old new e words firsts line sent block =
     let sent_put : c ≡ a ++ (x ++ y) = sent ∙ ap (λ k. b ++ sent_text k new e) firsts ∙ ap (λ l. l ++ y) line_put ∙ append_assoc a x y in
     block ∙ ap (λ l. l ++ z) sent_put ∙ append_assoc a (x ++ y) z
 
-module _ (after : World → Event → World) (word : World → Event → Word) where
-  -- the next event is told, and then the events after it
-  pub told_from-drop : (i : ℕ) (w new : World) (es : List Event) (e : Event) → i < length es → e ≡ get_or es i e → new ≡ after w e → told_from after word i w (drop i es) ≡ event_text (i + 1) (word w e) w new e ++ told_from after word (i + 1) new (drop (i + 1) es)
-  told_from-drop i w new es e within read next =
-      at_drop_more (told_from after word i w) es i e within
-      ∙ ap (λ (x : Event). told_from after word i w (x ∷ drop (i + 1) es)) (sym read)
-      ∙ ap (λ (v : World). event_text (i + 1) (word w e) w v e ++ told_from after word (i + 1) v (drop (i + 1) es)) (sym next)
+-- the next event is told, and then the events after it
+pub told_from-drop : (i : ℕ) (w new : World) (es : List Event) (e : Event) → i < length es → e ≡ get_or es i e → new ≡ next_world w e → told_from i w (drop i es) ≡ event_text (i + 1) (word_of w e) w new e ++ told_from (i + 1) new (drop (i + 1) es)
+told_from-drop i w new es e within read next =
+    at_drop_more (told_from i w) es i e within
+    ∙ ap (λ (x : Event). told_from i w (x ∷ drop (i + 1) es)) (sym read)
+    ∙ ap (λ (v : World). event_text (i + 1) (word_of w e) w v e ++ told_from (i + 1) v (drop (i + 1) es)) (sym next)
 
-  -- with one event more gathered, the events after it are left
-  pub written-next : {K : Type 0} (takes : K → List ℕ → K → Type 0) (old mid : K) (gathered put text : List ℕ) (i : ℕ) (w new : World) (es : List Event) (e : Event) → i < length es → e ≡ get_or es i e → new ≡ after w e → put ≡ gathered ++ event_text (i + 1) (word w e) w new e → IsWritten takes old mid gathered (told_from after word i w (drop i es)) text → IsWritten takes old mid put (told_from after word (i + 1) new (drop (i + 1) es)) text
-  written-next takes old mid gathered put text i w new es e within read next told written =
-      let more = event_text (i + 1) (word w e) w new e in
-      let rest = told_from after word (i + 1) new (drop (i + 1) es) in
-      gathers takes old mid gathered more put rest text told (subst (λ left. IsWritten takes old mid gathered left text) (told_from-drop i w new es e within read next) written)
+-- with one event more gathered, the events after it are left
+pub written-next : {K : Type 0} (takes : K → List ℕ → K → Type 0) (old mid : K) (gathered put text : List ℕ) (i : ℕ) (w new : World) (es : List Event) (e : Event) → i < length es → e ≡ get_or es i e → new ≡ next_world w e → put ≡ gathered ++ event_text (i + 1) (word_of w e) w new e → IsWritten takes old mid gathered (told_from i w (drop i es)) text → IsWritten takes old mid put (told_from (i + 1) new (drop (i + 1) es)) text
+written-next takes old mid gathered put text i w new es e within read next told written =
+    let more = event_text (i + 1) (word_of w e) w new e in
+    let rest = told_from (i + 1) new (drop (i + 1) es) in
+    gathers takes old mid gathered more put rest text told (subst (λ left. IsWritten takes old mid gathered left text) (told_from-drop i w new es e within read next) written)
 
-  -- after the last event comes the end
-  pub written-end : {K : Type 0} (takes : K → List ℕ → K → Type 0) (old mid : K) (gathered put text : List ℕ) (i sent : ℕ) (w : World) (es : List Event) → length es ≤ i → i ≤ length es → sent ≡ length w.net → put ≡ gathered ++ end_line (length es) sent → IsWritten takes old mid gathered (told_from after word i w (drop i es)) text → IsWritten takes old mid put [] text
-  written-end takes old mid gathered put text i sent w es past within count told written =
-      let last : i ≡ length es = omega arith in
-      let rest : told_from after word i w (drop i es) ≡ end_line (length es) sent =
-      at_drop_all (told_from after word i w) es i past ∙ ap (λ n. end_line n (length w.net)) last ∙ ap (end_line (length es)) (sym count) in
-      gathers_all takes old mid gathered (end_line (length es) sent) put text told (subst (λ left. IsWritten takes old mid gathered left text) rest written)
+-- after the last event comes the end
+pub written-end : {K : Type 0} (takes : K → List ℕ → K → Type 0) (old mid : K) (gathered put text : List ℕ) (i sent : ℕ) (w : World) (es : List Event) → length es ≤ i → i ≤ length es → sent ≡ length w.net → put ≡ gathered ++ end_line (length es) sent → IsWritten takes old mid gathered (told_from i w (drop i es)) text → IsWritten takes old mid put [] text
+written-end takes old mid gathered put text i sent w es past within count told written =
+    let last : i ≡ length es = omega arith in
+    let rest : told_from i w (drop i es) ≡ end_line (length es) sent =
+    at_drop_all (told_from i w) es i past ∙ ap (λ n. end_line n (length w.net)) last ∙ ap (end_line (length es)) (sym count) in
+    gathers_all takes old mid gathered (end_line (length es) sent) put text told (subst (λ left. IsWritten takes old mid gathered left text) rest written)

@@ -1,20 +1,18 @@
 use Rattle.std.specs.Prelude.{◌≡◌, ℕ, Result, Ok, List, codes}
-use Rattle.oc_model.specs.NextWorld.{next_world, word_of}
-use Rattle.oc_model.specs.World.{new_world}
 use Rattle.oc_schedule.specs.declared.fault.ScheduleFault.{ScheduleFault}
 use Rattle.oc_base.specs.Steps.{◌>>=◌}
 use Rattle.oc_schedule.specs.Schedule.{schedule_of}
-use Rattle.oc_replay.specs.Replay.{brief_text, told_text}
+use Rattle.oc_replay.specs.Replay.{report_of, summary_of}
 
 -- The worked examples, from the text of a schedule to that of its report.
 
 -- what the model reports of the schedule that a text is
 abbrev told : List ℕ → Result (List ℕ) ScheduleFault
-told text = schedule_of text >>= λ s. Ok (told_text new_world next_world word_of s)
+told text = schedule_of text >>= λ s. Ok (report_of s)
 
 -- and what it sums up of it
 abbrev summed : List ℕ → Result (List ℕ) ScheduleFault
-summed text = schedule_of text >>= λ s. Ok (brief_text new_world next_world s)
+summed text = schedule_of text >>= λ s. Ok (summary_of s)
 
 pub record AreTold : Type 0 where
   pub empty_schedule : told (codes "overcast 1 nodes 2 chain 1\n") ≡ Ok (codes "end 0 0\n")

@@ -1,8 +1,7 @@
-use Rattle.std.specs.Prelude.{◌≡◌, ℕ, ◌<◌, Bool, true, false, Result, Err, List, length, fold}
+use Rattle.std.specs.Prelude.{◌≡◌, ℕ, ◌<◌, Bool, true, false, Result, Err, List, length}
 use Rattle.oc_model.specs.declared.event.Event.{Event}
-use Rattle.oc_model.specs.declared.word.Word.{Word}
-use Rattle.oc_model.specs.Node.{Header}
-use Rattle.oc_model.specs.World.{World}
+use Rattle.oc_model.specs.NextWorld.{world_after}
+use Rattle.oc_model.specs.World.{World, new_world}
 use Rattle.oc_schedule.specs.declared.fault.ScheduleFault.{ScheduleFault}
 use Rattle.oc_schedule.specs.declared.fault.ScheduleFault.TheVariants.{Limit}
 use Rattle.oc_schedule.specs.declared.fault.What.{What}
@@ -28,24 +27,22 @@ PassesLimit gives ended old new Bytes = (bytes : List ℕ) × gives old bytes ne
 PassesLimit gives ended old new what = IsInput gives ended old new (Err (Limit what))
 
 -- what is written of a run: its summary where that is asked for, and else its report
-abbrev pub run_output : Bool → (World → Event → World) → (World → Event → Word) → World → List Event → List ℕ
-run_output true after word w es = run_summary after w es
-run_output false after word w es = run_text after word w es
+abbrev pub run_output : Bool → World → List Event → List ℕ
+run_output true w es = run_summary w es
+run_output false w es = run_text w es
 
--- a stage says which world a header opens, which world an event leads to, and with which word
-module _ (first : Header → World) (after : World → Event → World) where
-  -- the report of a schedule
-  abbrev pub told_text : (World → Event → Word) → Script → List ℕ
-  told_text word s = run_text after word (first s.header) s.events
+-- what a replay writes of a schedule
+abbrev pub output_text : Bool → Script → List ℕ
+output_text summary s = run_output summary (new_world s.header) s.events
 
-  -- the world after these events of a schedule
-  abbrev pub world_at : Script → List Event → World
-  world_at s played = fold after (first s.header) played
+-- the report of a schedule
+abbrev pub report_of : Script → List ℕ
+report_of s = output_text false s
 
-  -- the summary of a schedule, over the last of its worlds
-  abbrev pub brief_text : Script → List ℕ
-  brief_text s = run_summary after (first s.header) s.events
+-- the summary of a schedule, over the last of its worlds
+abbrev pub summary_of : Script → List ℕ
+summary_of s = output_text true s
 
-  -- what a replay writes
-  abbrev pub output_text : Bool → (World → Event → Word) → Script → List ℕ
-  output_text summary word s = run_output summary after word (first s.header) s.events
+-- the world after these events of a schedule
+abbrev pub world_at : Script → List Event → World
+world_at s played = world_after (new_world s.header) played

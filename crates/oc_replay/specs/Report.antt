@@ -4,6 +4,7 @@ use Rattle.oc_model.specs.declared.event.Event.TheVariants.{Held, Show, Settle, 
 use Rattle.oc_model.specs.declared.message.Message.{Message}
 use Rattle.oc_model.specs.declared.word.Word.{Word}
 use Rattle.oc_base.specs.Groups.{shelf}
+use Rattle.oc_model.specs.NextWorld.{next_world, word_of}
 use Rattle.oc_model.specs.World.{World, node}
 use Rattle.oc_model.specs.Status.{status_in}
 use Rattle.oc_replay.specs.Lines.{event_line, message_line, messages_text, held_text, end_line}
@@ -37,13 +38,11 @@ abbrev pub event_text : ℕ → Word → World → World → Event → List ℕ
 event_text i word old new e =
     event_line i word ++ sent_text (length old.net + 1) new e ++ block_text new e
 
--- a stage says which world an event leads to, and with which word
-module _ (after : World → Event → World) (word : World → Event → Word) where
-  -- the events from the world after the first i of them on, and the end
-  abbrev pub told_from : ℕ → World → List Event → List ℕ
-  told_from i w [] = end_line i (length w.net)
-  told_from i w (e ∷ es) = event_text (i + 1) (word w e) w (after w e) e ++ told_from (i + 1) (after w e) es
+-- the events from the world after the first i of them on, and the end
+abbrev pub told_from : ℕ → World → List Event → List ℕ
+told_from i w [] = end_line i (length w.net)
+told_from i w (e ∷ es) = event_text (i + 1) (word_of w e) w (next_world w e) e ++ told_from (i + 1) (next_world w e) es
 
-  -- the report of a run that opens with this world
-  abbrev pub run_text : World → List Event → List ℕ
-  run_text w es = told_from 0 w es
+-- the report of a run that opens with this world
+abbrev pub run_text : World → List Event → List ℕ
+run_text w es = told_from 0 w es

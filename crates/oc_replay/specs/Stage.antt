@@ -1,13 +1,11 @@
-use Rattle.std.specs.Prelude.{◌≡◌, ℕ, ◌+◌, ◌-◌, ◌<◌, ◌≤◌, [], length}
-use Rattle.std.specs.List.{range_with_len, AllByRecursion}
-use Rattle.oc_base.specs.declared.limits.TheConstants.{MAX_TIME, LAST_SECOND}
+use Rattle.std.specs.Prelude.{◌≡◌, ℕ, ◌+◌, ◌-◌, ◌<◌, ◌≤◌, length}
+use Rattle.oc_base.specs.declared.limits.TheConstants.{LAST_SECOND}
 use Rattle.oc_model.specs.declared.event.Event.{Event}
 use Rattle.oc_model.specs.declared.event.Event.TheVariants.{Settle, Heal}
 use Rattle.oc_model.specs.declared.word.Word.{Word}
 use Rattle.oc_model.specs.Chains.{IsUp}
-use Rattle.oc_model.specs.Node.{Header}
-use Rattle.oc_model.specs.World.{World, Process, ids}
-use Rattle.oc_model.specs.WorldBounds.{IsWithinLimits, AreBefore, clock_of}
+use Rattle.oc_model.specs.World.{World}
+use Rattle.oc_model.specs.WorldBounds.{clock_of}
 use Rattle.oc_replay.specs.declared.stage.Said.{Said}
 
 -- the seconds that heal takes, which is longer than settle
@@ -30,22 +28,3 @@ pub record IsSaid (told : Word) (old new : World) (said : Said) : Type 0 where
   pub first : said.first ≡ length old.net + 1
   pub count : length new.net ≡ length old.net + said.count
   pub few : length new.net < 9223372036854775808
-
--- it holds no group
-abbrev pub HoldsNothing : Process → Type 0
-HoldsNothing p = p.node.groups ≡ []
-
--- the ids are those of the header, nothing was sent, no group is held, and no clock is past the greatest time
-pub record IsBlank (h : Header) (w : World) : Type 0 where
-  pub ids : ids w ≡ range_with_len 1 h.nodes
-  pub net : w.net ≡ []
-  pub groups : AllByRecursion HoldsNothing w.processes
-  pub clocks : AreBefore MAX_TIME w
-
--- an event takes no clock past the latest one, or past the greatest time, by more than a heal takes
-abbrev pub KeepsTime : World → World → Type 0
-KeepsTime old new = (t : ℕ) → MAX_TIME ≤ t → AreBefore t old → AreBefore (t + HEAL_SECONDS) new
-
--- an event takes no node past the limits
-abbrev pub KeepsLimits : World → World → Type 0
-KeepsLimits old new = IsWithinLimits old → IsWithinLimits new

@@ -1,9 +1,10 @@
-use Rattle.std.specs.Prelude.{ℕ, ◌+◌, ◌^◌, ◌<◌, Bool, ◌&&◌, if◌then◌else◌, List, ◌++◌, length, fold, codes, decimal}
+use Rattle.std.specs.Prelude.{ℕ, ◌+◌, ◌^◌, ◌<◌, Bool, ◌&&◌, if◌then◌else◌, List, ◌++◌, length, codes, decimal}
 use Rattle.std.specs.List.{sum_by}
 use Rattle.oc_base.specs.declared.shelf.Shelf.{Shelf}
 use Rattle.oc_base.specs.Groups.{shelf}
 use Rattle.oc_model.specs.declared.event.Event.{Event}
 use Rattle.oc_model.specs.Adopting.{is_acting}
+use Rattle.oc_model.specs.NextWorld.{world_after}
 use Rattle.oc_model.specs.Records.{is_joined}
 use Rattle.oc_model.specs.World.{World, ids, is_up, mode_of, node}
 use Rattle.oc_replay.specs.declared.summing.Tally.{Tally}
@@ -54,8 +55,8 @@ abbrev pub summary_text : ℕ → World → List ℕ
 summary_text events w = summary_of_tally events (length w.net) (tally_over w (ids w))
 
 -- the summary of a run that opens with this world
-abbrev pub run_summary : (World → Event → World) → World → List Event → List ℕ
-run_summary after w es = summary_text (length es) (fold after w es)
+abbrev pub run_summary : World → List Event → List ℕ
+run_summary w es = summary_text (length es) (world_after w es)
 
 -- what is counted of these and of others
 abbrev pub plus : Tally → Tally → Tally

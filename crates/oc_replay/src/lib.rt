@@ -52,7 +52,6 @@ mod replaying;
 mod reporting;
 mod show;
 mod stage;
-mod stage_law;
 mod summing;
 mod texts;
 
@@ -67,4 +66,3 @@ pub use playing::{play, play_one};
 pub use replaying::replay;
 pub use show::{put_show, show_text};
 pub use stage::{Said, Stage};
-pub use stage_law::model_keeps_the_laws;

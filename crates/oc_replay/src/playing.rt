@@ -1,7 +1,8 @@
 //! Events that are given to a stage.
 
-ghost use Rattle.std.specs.Prelude.{◌≡◌, ◌++◌, length, fold, OnOk, IfOk};
+ghost use Rattle.std.specs.Prelude.{◌≡◌, ◌++◌, length, OnOk, IfOk};
 ghost use Rattle.oc_model.specs.Lawful.{IsEvent};
+ghost use Rattle.oc_model.specs.NextWorld.{next_world, word_of, world_after};
 ghost use Rattle.oc_model.specs.World.{ids};
 ghost use Rattle.oc_model.specs.WorldBounds.{IsWithinLimits};
 ghost use Rattle.oc_replay.specs.Opening.{IsOpening};
@@ -21,9 +22,9 @@ pub fn play_one<T: Stage>(
 ) -> Result<Said, Memory>
     requires event { IsEvent (length (ids (T.world stage.old))) event.now }
     requires time { HasTimeFor (T.world stage.old) event.now }
-    ensures line { OnOk result (out.new.items ≡ out.old.items ++ event_line number (T.word (T.world stage.old) event.now)) }
-    ensures world { OnOk result (T.world stage.new ≡ T.after (T.world stage.old) event.now) }
-    ensures said { IfOk result (λ said. IsSaid (T.word (T.world stage.old) event.now) (T.world stage.old) (T.world stage.new) said) }
+    ensures line { OnOk result (out.new.items ≡ out.old.items ++ event_line number (word_of (T.world stage.old) event.now)) }
+    ensures world { OnOk result (T.world stage.new ≡ next_world (T.world stage.old) event.now) }
+    ensures said { IfOk result (λ said. IsSaid (word_of (T.world stage.old) event.now) (T.world stage.old) (T.world stage.new) said) }
 {
     let said = stage.event(event)?;
     put_event(out, number, &said.word)?;
@@ -33,7 +34,7 @@ pub fn play_one<T: Stage>(
 /// Gives the stage each event once, in order, and answers how many messages were sent.
 pub fn play<T: Stage>(stage: &mut T, events: &[Event]) -> Result<u64, Memory>
     requires { IsOpening (T.world stage.old) events.now }
-    ensures played { OnOk result (T.world stage.new ≡ fold T.after (T.world stage.old) events.now) }
+    ensures played { OnOk result (T.world stage.new ≡ world_after (T.world stage.old) events.now) }
     ensures ids { OnOk result (ids (T.world stage.new) ≡ ids (T.world stage.old)) }
     ensures limits { OnOk result (IsWithinLimits (T.world stage.new)) }
     ensures sent { IfOk result (λ sent. sent ≡ length (T.world stage.new).net) }

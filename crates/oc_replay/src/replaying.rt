@@ -1,7 +1,8 @@
 //! A replay, from the bytes of a schedule to the text of a report or of a summary.
 
-ghost use Rattle.std.specs.Prelude.{◌≡◌, ℕ, ◌≤◌, Ok, Err, List, [], ◌⊎◌, length, fold, OnOk, IfOk, IfErr, IsErrOf};
+ghost use Rattle.std.specs.Prelude.{◌≡◌, ℕ, ◌≤◌, Ok, Err, List, [], ◌⊎◌, length, OnOk, IfOk, IfErr, IsErrOf};
 ghost use Rattle.oc_base.specs.declared.limits.TheConstants.{MAX_NODES};
+ghost use Rattle.oc_model.specs.NextWorld.{world_after};
 ghost use Rattle.oc_model.specs.World.{ids};
 ghost use Rattle.oc_io.specs.Faults.{NoFall, Rose};
 ghost use Rattle.oc_schedule.specs.Schedule.{IsSchedule};
@@ -33,8 +34,8 @@ pub fn replay<S: Source, K: Sink, T: Stage>(
     ensures done { OnDone result ((s : Script)
         × IsInput S.gives S.ended source.old source.new (Ok s)
         × IsSchedule s
-        × K.takes sink.old (output_text T.first T.after summary T.word s) sink.new
-        × (T.world stage.new ≡ world_at T.first T.after s s.events)) }
+        × K.takes sink.old (output_text summary s) sink.new
+        × (T.world stage.new ≡ world_at s s.events)) }
 
     // All input came, and this is its first fault.
     ensures text { IfText result (λ line why.
@@ -43,20 +44,19 @@ pub fn replay<S: Source, K: Sink, T: Stage>(
         PassesLimit S.gives S.ended source.old source.new what) }
 
     // Some input came, and then a call on the source failed.
-    ensures source { OnSource result ((bytes : List ℕ) × S.fails source.old bytes source.new) }
-    ensures source_cause { OnSource result (Rose (S.faults source.old) (S.faults source.new)) }
+    ensures source { OnSource result (((bytes : List ℕ) × S.fails source.old bytes source.new)
+        × Rose (S.faults source.old) (S.faults source.new)) }
 
     // Where there is no schedule to play, nothing is written, and the stage is as it was.
-    ensures unwritten { OnRefusal result (K.takes sink.old [] sink.new) }
-    ensures unplayed { OnRefusal result (stage.new ≡ stage.old) }
+    ensures refused { OnRefusal result (K.takes sink.old [] sink.new × (stage.new ≡ stage.old)) }
 
     // All input came and is a schedule, a prefix of its text had been taken when a call on the sink
     // failed, and the stage is at a world on the way.
     ensures sink { OnSink result ((s : Script)
         × IsInput S.gives S.ended source.old source.new (Ok s)
-        × SomeFront (output_text T.first T.after summary T.word s) (λ front. K.fails sink.old front sink.new)
-        × SomeFront s.events (λ played. T.world stage.new ≡ world_at T.first T.after s played)) }
-    ensures sink_cause { OnSink result (Rose (K.faults sink.old) (K.faults sink.new)) }
+        × SomeFront (output_text summary s) (λ front. K.fails sink.old front sink.new)
+        × SomeFront s.events (λ played. T.world stage.new ≡ world_at s played)
+        × Rose (K.faults sink.old) (K.faults sink.new)) }
 
     // Some input came, nothing is written, and the stage is as it was; or all input came and is a
     // schedule, and a prefix of its text was taken.
@@ -64,7 +64,7 @@ pub fn replay<S: Source, K: Sink, T: Stage>(
         (((bytes : List ℕ) × S.gives source.old bytes source.new) × K.takes sink.old [] sink.new × (stage.new ≡ stage.old))
         ⊎ ((s : Script)
         × IsInput S.gives S.ended source.old source.new (Ok s)
-        × SomeFront (output_text T.first T.after summary T.word s) (λ front. K.takes sink.old front sink.new))) }
+        × SomeFront (output_text summary s) (λ front. K.takes sink.old front sink.new))) }
 
     ensures source_count { NoFall (S.faults source.old) (S.faults source.new) }
     ensures sink_count { NoFall (K.faults sink.old) (K.faults sink.new) }
@@ -88,8 +88,8 @@ fn schedule_in<S: Source>(alloc: Global, source: &mut S) -> Result<Schedule, Rep
         IsInput S.gives S.ended source.old source.new (Err (Line line why)))) }
     ensures limit { IfErr result (λ end. IfLimit end (λ what.
         PassesLimit S.gives S.ended source.old source.new what)) }
-    ensures source { IfErr result (λ end. OnSource end ((bytes : List ℕ) × S.fails source.old bytes source.new)) }
-    ensures cause { IfErr result (λ end. OnSource end (Rose (S.faults source.old) (S.faults source.new))) }
+    ensures source { IfErr result (λ end. OnSource end (((bytes : List ℕ) × S.fails source.old bytes source.new)
+        × Rose (S.faults source.old) (S.faults source.new))) }
     ensures memory { IfErr result (λ end. OnMemory end ((bytes : List ℕ) × S.gives source.old bytes source.new)) }
     ensures not_done { IfErr result (λ end. OnDone end ⊥) }
     ensures not_sink { IfErr result (λ end. OnSink end ⊥) }
@@ -110,15 +110,15 @@ fn play<K: Sink, T: Stage>(
 ) -> Result<(), ReportFault>
     requires { IsSchedule schedule.now }
     ensures told { OnOk result
-        (K.takes sink.old (output_text T.first T.after summary T.word schedule.now) sink.new) }
+        (K.takes sink.old (output_text summary schedule.now) sink.new) }
     ensures played { OnOk result
-        (T.world stage.new ≡ world_at T.first T.after schedule.now schedule.now.events) }
+        (T.world stage.new ≡ world_at schedule.now schedule.now.events) }
     ensures failed { IsErrOf result ReportFault.Sink
-        → SomeFront (output_text T.first T.after summary T.word schedule.now) (λ front. K.fails sink.old front sink.new) }
+        → SomeFront (output_text summary schedule.now) (λ front. K.fails sink.old front sink.new) }
     ensures stopped { IsErrOf result ReportFault.Sink
-        → SomeFront schedule.now.events (λ played. T.world stage.new ≡ world_at T.first T.after schedule.now played) }
+        → SomeFront schedule.now.events (λ played. T.world stage.new ≡ world_at schedule.now played) }
     ensures memory { IsErrOf result ReportFault.Memory
-        → SomeFront (output_text T.first T.after summary T.word schedule.now) (λ front. K.takes sink.old front sink.new) }
+        → SomeFront (output_text summary schedule.now) (λ front. K.takes sink.old front sink.new) }
     ensures count { NoFall (K.faults sink.old) (K.faults sink.new) }
     ensures cause { IsErrOf result ReportFault.Sink → Rose (K.faults sink.old) (K.faults sink.new) }
 {
@@ -147,14 +147,14 @@ fn tell<K: Sink, T: Stage>(
     requires nodes { length (ids (T.world stage.old)) ≡ nodes }
     requires few { nodes ≤ MAX_NODES }
     ensures told { OnOk result
-        (K.takes sink.old (run_output summary T.after T.word (T.world stage.old) events.now) sink.new) }
-    ensures played { OnOk result (T.world stage.new ≡ fold T.after (T.world stage.old) events.now) }
+        (K.takes sink.old (run_output summary (T.world stage.old) events.now) sink.new) }
+    ensures played { OnOk result (T.world stage.new ≡ world_after (T.world stage.old) events.now) }
     ensures failed { IsErrOf result ReportFault.Sink
-        → SomeFront (run_output summary T.after T.word (T.world stage.old) events.now) (λ front. K.fails sink.old front sink.new) }
+        → SomeFront (run_output summary (T.world stage.old) events.now) (λ front. K.fails sink.old front sink.new) }
     ensures stopped { IsErrOf result ReportFault.Sink
-        → SomeFront events.now (λ played. T.world stage.new ≡ fold T.after (T.world stage.old) played) }
+        → SomeFront events.now (λ played. T.world stage.new ≡ world_after (T.world stage.old) played) }
     ensures memory { IsErrOf result ReportFault.Memory
-        → SomeFront (run_output summary T.after T.word (T.world stage.old) events.now) (λ front. K.takes sink.old front sink.new) }
+        → SomeFront (run_output summary (T.world stage.old) events.now) (λ front. K.takes sink.old front sink.new) }
     ensures count { NoFall (K.faults sink.old) (K.faults sink.new) }
     ensures cause { IsErrOf result ReportFault.Sink → Rose (K.faults sink.old) (K.faults sink.new) }
 {

@@ -1,7 +1,8 @@
 //! A run of events on a stage, reported while it happens.
 
-ghost use Rattle.std.specs.Prelude.{◌≡◌, ◌+◌, ◌-◌, ◌^◌, ◌<◌, ◌++◌, length, fold, OnOk, IfOk, IsErrOf};
+ghost use Rattle.std.specs.Prelude.{◌≡◌, ◌+◌, ◌-◌, ◌^◌, ◌<◌, ◌++◌, length, OnOk, IfOk, IsErrOf};
 ghost use Rattle.oc_model.specs.Lawful.{IsEvent};
+ghost use Rattle.oc_model.specs.NextWorld.{next_world, word_of, world_after};
 ghost use Rattle.oc_model.specs.World.{ids, message_at};
 ghost use Rattle.oc_io.specs.Faults.{NoFall, Rose};
 ghost use Rattle.oc_replay.specs.Opening.{IsOpening};
@@ -29,20 +30,20 @@ pub(crate) fn report<K: Sink, T: Stage>(
 
     // The whole report was taken, and the stage is at the last world.
     ensures told { OnOk result
-        (K.takes sink.old (run_text T.after T.word (T.world stage.old) events.now) sink.new) }
+        (K.takes sink.old (run_text (T.world stage.old) events.now) sink.new) }
     ensures played { OnOk result
-        (T.world stage.new ≡ fold T.after (T.world stage.old) events.now) }
+        (T.world stage.new ≡ world_after (T.world stage.old) events.now) }
 
     // A prefix of it had been taken when a call failed, and the stage is at a world on the way.
     ensures failed { IsErrOf result ReportFault.Sink
-        → SomeFront (run_text T.after T.word (T.world stage.old) events.now)
+        → SomeFront (run_text (T.world stage.old) events.now)
         (λ front. K.fails sink.old front sink.new) }
     ensures stopped { IsErrOf result ReportFault.Sink
-        → SomeFront events.now (λ played. T.world stage.new ≡ fold T.after (T.world stage.old) played) }
+        → SomeFront events.now (λ played. T.world stage.new ≡ world_after (T.world stage.old) played) }
 
     // A prefix of it had been taken when memory ran out.
     ensures memory { IsErrOf result ReportFault.Memory
-        → SomeFront (run_text T.after T.word (T.world stage.old) events.now)
+        → SomeFront (run_text (T.world stage.old) events.now)
         (λ front. K.takes sink.old front sink.new) }
 
     ensures count { NoFall (K.faults sink.old) (K.faults sink.new) }
@@ -68,8 +69,8 @@ fn tell<T: Stage>(
     requires event { IsEvent (length (ids (T.world stage.old))) event.now }
     requires time { HasTimeFor (T.world stage.old) event.now }
     ensures text { OnOk result (out.new.items ≡ out.old.items
-        ++ event_text number (T.word (T.world stage.old) event.now) (T.world stage.old) (T.world stage.new) event.now) }
-    ensures world { OnOk result (T.world stage.new ≡ T.after (T.world stage.old) event.now) }
+        ++ event_text number (word_of (T.world stage.old) event.now) (T.world stage.old) (T.world stage.new) event.now) }
+    ensures world { OnOk result (T.world stage.new ≡ next_world (T.world stage.old) event.now) }
     ensures sent { IfOk result (λ sent. sent ≡ length (T.world stage.new).net) }
 {
     let said = play_one(out, stage, number, event)?;

@@ -1,11 +1,12 @@
 //! A run of events on a stage, reported by a summary of its last world.
 
-ghost use Rattle.std.specs.Prelude.{◌≡◌, ◌+◌, ◌^◌, ◌<◌, ◌≤◌, [], ◌++◌, length, fold, OnOk, IfOk, IsErrOf};
+ghost use Rattle.std.specs.Prelude.{◌≡◌, ◌+◌, ◌^◌, ◌<◌, ◌≤◌, [], ◌++◌, length, OnOk, IfOk, IsErrOf};
 ghost use Rattle.std.specs.List.{range_with_len};
 ghost use Rattle.oc_base.specs.Lawful.{IsNode};
 ghost use Rattle.oc_base.specs.declared.limits.TheConstants.{MAX_NODES};
 ghost use Rattle.oc_model.specs.Adopting.{is_acting};
 ghost use Rattle.oc_model.specs.Records.{is_joined};
+ghost use Rattle.oc_model.specs.NextWorld.{world_after};
 ghost use Rattle.oc_model.specs.World.{ids};
 ghost use Rattle.oc_model.specs.WorldBounds.{IsWithinLimits};
 ghost use Rattle.oc_io.specs.Faults.{NoFall, Rose};
@@ -67,14 +68,14 @@ pub(crate) fn summarize<K: Sink, T: Stage>(
 
     // The whole summary was taken, and the stage is at the last world.
     ensures told { OnOk result
-        (K.takes sink.old (run_summary T.after (T.world stage.old) events.now) sink.new) }
-    ensures played { OnOk result (T.world stage.new ≡ fold T.after (T.world stage.old) events.now) }
+        (K.takes sink.old (run_summary (T.world stage.old) events.now) sink.new) }
+    ensures played { OnOk result (T.world stage.new ≡ world_after (T.world stage.old) events.now) }
 
     // A prefix of it had been taken when a call failed, and the stage is at the last world.
     ensures failed { IsErrOf result ReportFault.Sink
-        → SomeFront (run_summary T.after (T.world stage.old) events.now)
+        → SomeFront (run_summary (T.world stage.old) events.now)
         (λ front. K.fails sink.old front sink.new) }
-    ensures stopped { IsErrOf result ReportFault.Sink → T.world stage.new ≡ fold T.after (T.world stage.old) events.now }
+    ensures stopped { IsErrOf result ReportFault.Sink → T.world stage.new ≡ world_after (T.world stage.old) events.now }
 
     // Nothing was written when memory ran out.
     ensures memory { IsErrOf result ReportFault.Memory → K.takes sink.old [] sink.new }
@@ -97,7 +98,7 @@ fn play_and_sum<T: Stage>(
     requires opened { IsOpening (T.world stage.old) events.now }
     requires nodes { length (ids (T.world stage.old)) ≡ nodes }
     requires few { nodes ≤ MAX_NODES }
-    ensures played { OnOk result (T.world stage.new ≡ fold T.after (T.world stage.old) events.now) }
+    ensures played { OnOk result (T.world stage.new ≡ world_after (T.world stage.old) events.now) }
     ensures text { IfOk result (λ text. text.items ≡ summary_text (length events.now) (T.world stage.new)) }
 {
     let sent = play(stage, events)?;

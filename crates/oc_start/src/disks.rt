@@ -4,8 +4,7 @@ ghost use Rattle.std.specs.Prelude.{◌≡◌, ◌↔◌, ℕ, List, [], length,
 ghost use Rattle.oc_base.specs.Lawful.{IsNode};
 ghost use Rattle.oc_keep.specs.Files.{Survives, disks};
 ghost use Rattle.oc_keep.specs.KeptView.{header_of};
-ghost use Rattle.oc_model.specs.NextWorld.{next_world, word_of};
-ghost use Rattle.oc_model.specs.World.{ids, new_world, node as node_in};
+ghost use Rattle.oc_model.specs.World.{ids, node as node_in};
 ghost use Rattle.oc_io.specs.MemDiskView.{view_of};
 ghost use Rattle.oc_commands.specs.Ends.{status_of};
 ghost use Rattle.oc_commands.specs.Lines.{line_of};
@@ -49,7 +48,7 @@ pub fn run_to_disks<S: Source, K: Sink, E: Sink, D: Disk, L: Link, C: Clock>(
           asked = asked (texts_of words.now);
           input = at_source S.gives S.fails S.ended S.faults input.old input.new;
           output = at_sink K.takes K.fails K.faults out.old out.new;
-          stage = at_stage new_world next_world word_of (λ (w : WorldView). w.world)
+          stage = at_stage (λ (w : WorldView). w.world)
               (record { world = record { processes = []; net = []; source = [] }; kept = [] }) last;
           files = at_files D.view (disks control_a.old control_b.old content.old) (disks control_a.new control_b.new content.new);
           link = at_link L.story L.faults link.old link.new;

@@ -6,11 +6,9 @@
 #![tactic(auto)]
 
 mod disks;
-mod law;
 mod starting;
 mod words;
 
 pub use disks::run_to_disks;
-pub use law::world_reports_as_the_model;
 pub use starting::start;
 pub use words::given_words;

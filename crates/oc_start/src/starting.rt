@@ -7,7 +7,6 @@ ghost use Rattle.oc_words.specs.Status.{number_of};
 ghost use Rattle.oc_program.specs.Streams.{IsCountOfLineOrFront};
 ghost use Rattle.oc_commands.specs.declared.ending.End.{End};
 
-use crate::law::world_reports_as_the_model;
 use oc_program::{StreamsRun, run_on_streams};
 use oc_system::{FileDisk, SocketLink, SystemClock};
 use oc_world::World;
@@ -33,7 +32,6 @@ pub fn start(rt: &HostRuntime, words: &[String]) -> StreamsRun
         × IsCountOfLineOrFront result.error (line_of end usage) }
 {
     let alloc = rt.alloc();
-    world_reports_as_the_model();
     let mut link = SocketLink::new(rt, alloc);
     let ran = run_on_streams(
         alloc,

@@ -21,8 +21,8 @@ use Rattle.oc_io.specs.declared.failures.Stop.{Stop}
 use Rattle.oc_store.specs.ControlFiles.{at_side}
 use Rattle.oc_store.specs.declared.errors.Side.{Side}
 use Rattle.oc_store.specs.declared.errors.Side.TheVariants.{First, Second}
-use Rattle.oc_world.specs.declared.standing.Files.{Files}
-use Rattle.oc_world.specs.Standing.{IsLeft, IsOpen, disks_in}
+use Rattle.oc_world.specs.declared.process_state.Files.{Files}
+use Rattle.oc_world.specs.ProcessState.{IsLeft, IsOpen, disks_in}
 use Rattle.oc_world.proofs.Left.{left_of}
 
 -- where no call fails none is listed

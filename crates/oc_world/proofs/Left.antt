@@ -1,17 +1,16 @@
 -- What the files of a node that stopped recover.
-use Rattle.std.proofs.Common.{◌≡◌, ℕ, List, [], refl, sym, ap, subst, ◌∙◌, arith}
+use Rattle.std.proofs.Common.{◌≡◌, ℕ, List, refl, sym, ap, subst, ◌∙◌}
 use Rattle.oc_base.specs.declared.group.Group.{Group}
 use Rattle.oc_content.specs.ContentFile.{groups_in}
-use Rattle.oc_journal.specs.JournalFile.{IsNoJournal, frames_of}
+use Rattle.oc_journal.specs.JournalFile.{frames_of}
 use Rattle.oc_keep.specs.Files.{Disks, MayLeave, SameDurable, Survives, recovered}
 use Rattle.oc_keep.specs.KeptView.{KeptView, NodeSurvives, disks_of, header_of, node_of}
-use Rattle.oc_keep.specs.Promises.{AreFiles, IsContentFile, LeavesFiles}
+use Rattle.oc_keep.specs.Promises.{AreFiles, LeavesFiles}
 use Rattle.oc_model.specs.Node.{Control, Durable, Header, Node, restarted, started_with}
 use Rattle.oc_io.specs.DiskPast.{MayLeave as LeavesBytes}
 use Rattle.oc_io.specs.MemDiskView.{MemDiskView, disk_of, may_leave_seen, view_of}
-use Rattle.oc_store.specs.ControlFiles.{IsGood}
-use Rattle.oc_world.specs.declared.standing.Files.{Files}
-use Rattle.oc_world.specs.Standing.{IsLeft, IsStopped, disks_in, left_in}
+use Rattle.oc_world.specs.declared.process_state.Files.{Files}
+use Rattle.oc_world.specs.ProcessState.{IsLeft, IsStopped, disks_in, left_in}
 
 -- what a read gives is one of the images
 seen_images : (d : Disks MemDiskView) → MayLeave view_of d d.control.bytes d.alternate.bytes d.content.bytes
@@ -49,26 +48,6 @@ left_of c n f survives files header me =
 -- what a read of files gives is the files of a node
 pub seen_files : (h : Header) (x : ℕ) (f : Files MemDiskView) → IsStopped h x f → AreFiles h.nodes f.control.bytes f.alternate.bytes f.content.bytes
 seen_files h x f is = is.files f.control.bytes f.alternate.bytes f.content.bytes (seen_images (disks_in f))
-
--- no bytes are no journal that is broken
-empty_journal : ¬ IsNoJournal []
-empty_journal bad = omega (arith, bad.0)
-
--- empty files are those of a new node
-pub empty_stopped : (h : Header) (x : ℕ) (f : Files MemDiskView) → f.control ≡ disk_of [] → f.alternate ≡ disk_of [] → f.content ≡ disk_of [] → IsStopped h x f
-empty_stopped h x f first second third = subst (IsStopped h x) (λ i. record { control = sym first i; alternate = sym second i; content = sym third i }) (record {
-  survives = record {
-    each = λ a b c left. record {
-      kept = ap (λ (file : List ℕ). (recovered h x file b c).control.kept) left.control ∙ ap (λ (file : List ℕ). (recovered h x [] file c).control.kept) left.alternate;
-      groups = ap (λ (file : List ℕ). (recovered h x a b file).groups) left.content;
-    };
-  };
-  files = λ a b c left. record {
-    control = subst (IsGood h.nodes) (sym left.control) (empty_journal, refl);
-    alternate = subst (IsGood h.nodes) (sym left.alternate) (empty_journal, refl);
-    content = subst IsContentFile (sym left.content) (empty_journal, refl);
-  };
-})
 
 -- a disk that crashed
 pub record IsCrashed (old new : MemDiskView) : Type 0 where

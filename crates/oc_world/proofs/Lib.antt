@@ -5,7 +5,7 @@ pub mod Leases
 pub mod Open
 pub mod Left
 pub mod Loaded
-pub mod Stands
+pub mod States
 pub mod Cuts
 mod ReadBack
 mod NetLists

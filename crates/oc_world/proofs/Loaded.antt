@@ -1,5 +1,5 @@
 -- A node that was loaded from copies of its files.
-use Rattle.std.proofs.Common.{◌≡◌, ℕ, refl, sym, ap, subst}
+use Rattle.std.proofs.Common.{◌≡◌, ℕ, sym, subst}
 use Rattle.oc_keep.specs.Files.{AreHonest, AreReliable, Disks, Survives, disks}
 use Rattle.oc_keep.proofs.Stays.{all_honest}
 use Rattle.oc_io.specs.DiskView.{DiskView}
@@ -7,8 +7,8 @@ use Rattle.oc_keep.specs.KeptView.{KeptView, disks_of, header_of, node_of}
 use Rattle.oc_keep.specs.Promises.{HoldFiles, IsNodeOf, LoadsSafely}
 use Rattle.oc_model.specs.Node.{Header}
 use Rattle.oc_io.specs.MemDiskView.{MemDiskView, disk_of, view_of}
-use Rattle.oc_world.specs.declared.standing.Files.{Files}
-use Rattle.oc_world.specs.Standing.{IsRunning, IsStopped, disks_in, left_in, seen_in}
+use Rattle.oc_world.specs.declared.process_state.Files.{Files}
+use Rattle.oc_world.specs.ProcessState.{IsRunning, IsStopped, disks_in}
 use Rattle.oc_world.proofs.Left.{seen_files}
 use Rattle.oc_world.proofs.Open.{reliable_on}
 
@@ -24,22 +24,6 @@ fresh_disks f = disks (disk_of f.control.bytes) (disk_of f.alternate.bytes) (dis
 
 copied : (f g : Files MemDiskView) → AreCopies f g → disks_in g ≡ fresh_disks f
 copied f g same = λ i. disks (same.control i) (same.alternate i) (same.content i)
-
-fresh_reliable : (f : Files MemDiskView) → AreReliable view_of (fresh_disks f)
-fresh_reliable f = record { control = refl; alternate = refl; content = refl }
-
--- the copies are reliable
-pub copies_reliable : (f g : Files MemDiskView) → AreCopies f g → AreReliable view_of (disks_in g)
-copies_reliable f g same = subst (AreReliable view_of) (sym (copied f g same)) (fresh_reliable f)
-
--- and honest, as each disk in memory is
-pub files_honest : (f : Files MemDiskView) → AreHonest view_of (disks_in f)
-files_honest f = record { control = refl; alternate = refl; content = refl }
-
--- the copies recover what the files do
-pub copies_recover : (h : Header) (x : ℕ) (f g : Files MemDiskView) → AreCopies f g → seen_in view_of h x g ≡ left_in h x f
-copies_recover h x f g same =
-    ap (λ (d : Disks MemDiskView). left_in h x (record { control = d.control; alternate = d.alternate; content = d.content })) (copied f g same)
 
 -- the copies hold the files of a node
 pub copies_hold : (h : Header) (x : ℕ) (f g : Files MemDiskView) → AreCopies f g → IsStopped h x f → HoldFiles view_of h.nodes (disks_in g)

@@ -20,10 +20,6 @@ pub ends_joined : (nodes : ℕ) (b : Bool) (xs ys : List (List ℕ)) → ends_wi
 ends_joined nodes b [] ys = refl
 ends_joined nodes b (x ∷ xs) ys = ends_joined nodes (is_ack_body (message_in nodes x).body) xs ys
 
--- the last of some messages says the same whatever was before
-pub ends_some : (b : Bool) (m : Message) (ms : List Message) → ends_with_ack false (m ∷ ms) ≡ ends_with_ack b (m ∷ ms)
-ends_some b m ms = refl
-
 -- of a list that is not empty
 pub ends_anew : (b : Bool) (ms : List Message) → (length ms ≡ 0 → ⊥) → ends_with_ack false ms ≡ ends_with_ack b ms
 ends_anew b [] some = absurd (some refl)

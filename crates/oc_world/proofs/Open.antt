@@ -1,12 +1,10 @@
 -- Nodes that run on disks that do not fail.
-use Rattle.std.proofs.Common.{◌≡◌, false, IsTrue, sym, ap, subst, ◌∙◌}
+use Rattle.std.proofs.Common.{◌≡◌, false, IsTrue, sym, subst, ◌∙◌}
 use Rattle.oc_keep.specs.Files.{AllGoOn, AreReliable, Disks}
-use Rattle.oc_keep.specs.KeptView.{IsHonest, KeptView, NodeSurvives, disks_of, header_of, node_of}
-use Rattle.oc_keep.specs.Promises.{IsSameNode}
+use Rattle.oc_keep.specs.KeptView.{IsHonest, KeptView, NodeSurvives, disks_of, node_of}
 use Rattle.oc_keep.proofs.Stays.{all_honest}
-use Rattle.oc_model.specs.Node.{Control}
 use Rattle.oc_io.specs.DiskView.{DiskView}
-use Rattle.oc_world.specs.Standing.{IsOpen}
+use Rattle.oc_world.specs.ProcessState.{IsOpen}
 
 -- disks that go on are as reliable as before
 pub reliable_on : {D : Type 0} (view : D → DiskView) (d e : Disks D) → AllGoOn view d e → AreReliable view d → AreReliable view e
@@ -32,7 +30,3 @@ open_on view k l was same on survives =
 -- the same control state and content make the same node
 pub same_node : {D : Type 0} (k l : KeptView D) → l.node.control ≡ k.node.control → l.content ≡ k.content → node_of l ≡ node_of k
 same_node k l control content = cc
-
--- the same node is the same
-pub same_control : (n m : Control) → m ≡ n → IsSameNode n m
-same_control n m e = record { me = ap (λ c. c.me) e; header = ap header_of e }

@@ -17,11 +17,11 @@ use Rattle.oc_model.specs.Lawful.{IsInput}
 use Rattle.oc_model.specs.NextWorld.{crashed, cut_off, keeps_write, started, stopped, stopped_at, word_of, word_of_act, word_of_stop}
 use Rattle.oc_model.specs.Node.{Header, new_node, restarted}
 use Rattle.oc_model.specs.Step.{step}
-use Rattle.oc_model.specs.World.{Process, World, acted, down, ids, new_world, process_in, source_after, stepped, with_process}
+use Rattle.oc_model.specs.World.{Process, World, acted, down, ids, process_in, source_after, stepped, with_process}
 use Rattle.oc_model.specs.WorldBounds.{AreWithinLimits, IsLater}
 use Rattle.oc_model.proofs.Outcomes.{step_leaves}
 use Rattle.oc_model.proofs.Places.{ids_in, ids-new, ids-with_process, process_in-place, with_process-place}
-use Rattle.oc_model.proofs.Processes.{at_put, process_in-me, process_in-new, process_in-with_other, process_in-with_up}
+use Rattle.oc_model.proofs.Processes.{at_put, process_in-me, process_in-with_other, process_in-with_up}
 use Rattle.oc_base.specs.declared.limits.TheConstants.{MAX_NODES}
 use Rattle.oc_keep.specs.Promises.{IsSameNode}
 use Rattle.oc_world.specs.World.{IsAmong, IsNetwork, IsNumbered, world_of}
@@ -185,12 +185,6 @@ new_network h ps few is =
       each = subst (AllByRecursion (IsAmong h.nodes h.chain)) (sym is) (each_new h (range_with_len 1 h.nodes));
     }
 
--- and its source is empty
-pub new_source : (h : Header) → world_of (map (new_process h) (range_with_len 1 h.nodes)) [] ≡ new_world h
-new_source h =
-    let first = process_in-new h (range_with_len 1 h.nodes) 1 in
-    ap (λ (s : List Group). record { processes = map (new_process h) (range_with_len 1 h.nodes); net = []; source = s }) (ap (λ (p : Process). p.node.groups) first.1)
-
 -- Networks
 
 -- a network with one process written at its place
@@ -233,10 +227,6 @@ has_chain chain nodes ps net is = record {
       let within : IsNode (length ps) x = subst (λ (n : ℕ). IsNode n x) (count_ids ps net) node in
       ap (λ (y : ℕ). nat_le y (process_in ps x).node.control.chain) (process_in-me ps x) ∙ ap (nat_le x) (among_by_id chain nodes ps x is within).members;
 }
-
--- ids of a network
-pub numbered_ids : (chain nodes : ℕ) (ps : List Process) (net : List Message) → IsNetwork chain ps nodes → ids (world_of ps net) ≡ range_with_len 1 (length ps)
-numbered_ids chain nodes ps net is = is.numbered
 
 -- a node of the world has a place
 pub within_of : (ps : List Process) (net : List Message) (x : ℕ) → IsNode (length (ids (world_of ps net))) x → IsNode (length ps) x

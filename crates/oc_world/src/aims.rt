@@ -1,9 +1,9 @@
 //! To which node an act brings which input.
 
-ghost use Rattle.std.specs.Prelude.{◌≡◌, ◌↔◌, ◌+◌, ◌<◌, ◌≤◌, ◌⊎◌, option_map, IfNone, IfOk, IfSome, IsTrue};
+ghost use Rattle.std.specs.Prelude.{◌≡◌, ◌+◌, ◌<◌, ◌⊎◌, option_map, IfNone, IfOk, IfSome};
 ghost use Rattle.oc_calm.specs.Cluster.{IsStep};
 ghost use Rattle.oc_model.specs.World.{World as WorldState, aimed, delivery, message_at};
-ghost use Rattle.oc_world.specs.Aims.{IsLawfulAim, IsLawfulIfAny, aimed_of};
+ghost use Rattle.oc_world.specs.Aims.{IsLawfulIfAny, aimed_of};
 
 use crate::Net;
 use oc_base::{Memory, NodeId};
@@ -89,16 +89,9 @@ pub fn message_place(number: u64, sent: usize) -> Option<usize>
     ensures some { IfSome result (λ at. (at + 1 ≡ number) × (at < sent)) }
 {
     let before = number.checked_sub(1)?;
-    if is_sent(number, sent) {
+    if number <= sent as u64 {
         Some(before as usize)
     } else {
         None
     }
-}
-
-/// Whether this number is at most `sent`, which counts the messages that were ever sent.
-fn is_sent(number: u64, sent: usize) -> bool
-    ensures { IsTrue result ↔ (number ≤ sent) }
-{
-    number <= sent as u64
 }

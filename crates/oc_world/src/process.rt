@@ -17,10 +17,10 @@ ghost use Rattle.oc_model.specs.World.{down};
 ghost use Rattle.oc_io.specs.MemDiskView.{view_of};
 ghost use Rattle.oc_model.specs.Status.{status_of};
 ghost use Rattle.oc_world.specs.ProcessView.{CanCommitTo, Renews, generation_of, resting};
-ghost use Rattle.oc_world.specs.Standing.{IsOpen, IsRunning};
+ghost use Rattle.oc_world.specs.ProcessState.{IsOpen, IsRunning};
 
+use crate::process_state::{Files, ProcessState};
 use crate::process_status::{groups_of, groups_recovered, lawful_node};
-use crate::standing::{Files, Standing};
 use crate::{process_acts, starting, stopping};
 use oc_base::{Memory, NodeId, Shelf};
 use oc_io::MemDisk;
@@ -41,7 +41,7 @@ pub struct Process {
     chain: u32,
     /// The area of each node, by its number.
     areas: Vec<u8>,
-    standing: Standing<MemDisk>,
+    state: ProcessState<MemDisk>,
 }
 
 impl Model for Process {
@@ -49,14 +49,14 @@ impl Model for Process {
     ghost use Rattle.oc_keep.specs.KeptView.{header};
     ghost use Rattle.oc_model.specs.Lawful.{IsHeader};
     ghost use Rattle.oc_world.specs.ProcessView.{ProcessView};
-    ghost use Rattle.oc_world.specs.Standing.{Stands, process_of};
+    ghost use Rattle.oc_world.specs.ProcessState.{IsStateOf, process_of};
 
     ghost Value = { ProcessView };
 
-    ghost view = { λ p. process_of (header p.nodes p.chain p.areas.items) p.id p.standing };
+    ghost view = { λ p. process_of (header p.nodes p.chain p.areas.items) p.id p.state };
 
     ghost invariant = { λ p. IsHeader (header p.nodes p.chain p.areas.items) × IsNode p.nodes p.id
-        × Stands (header p.nodes p.chain p.areas.items) p.id p.standing };
+        × IsStateOf (header p.nodes p.chain p.areas.items) p.id p.state };
 }
 
 impl Process {
@@ -79,7 +79,7 @@ impl Process {
             nodes,
             chain,
             areas,
-            standing: Standing::Stopped(Files::empty(alloc)),
+            state: ProcessState::Stopped(Files::empty(alloc)),
         })
     }
 
@@ -88,7 +88,7 @@ impl Process {
         ensures up { result ≡ self.now.process.up }
         ensures kept { result ≡ is_some self.now.kept }
     {
-        matches!(self.standing, Standing::Running(_))
+        matches!(self.state, ProcessState::Running(_))
     }
 
     /// The node on its files, where it is up.
@@ -97,9 +97,9 @@ impl Process {
         ensures node { node_of result.now ≡ self.now.process.node }
         ensures open { IsOpen view_of result.now }
     {
-        match &self.standing {
-            Standing::Running(kept) => kept,
-            Standing::Stopped(_) => unreachable!(),
+        match &self.state {
+            ProcessState::Running(kept) => kept,
+            ProcessState::Stopped(_) => unreachable!(),
         }
     }
 
@@ -119,7 +119,7 @@ impl Process {
         ensures err { OnErr result (self.new ≡ self.old) }
     {
         let kept = self.load()?;
-        self.standing.set(Standing::Running(kept));
+        self.state.set(ProcessState::Running(kept));
         Ok(())
     }
 
@@ -131,9 +131,9 @@ impl Process {
             IsRunning view_of (header_of self.now.process.node.control) self.now.process.node.control.me kept) }
         ensures node { IfOk result (λ kept. node_of kept ≡ self.now.process.node) }
     {
-        match &self.standing {
-            Standing::Running(_) => unreachable!(),
-            Standing::Stopped(files) => {
+        match &self.state {
+            ProcessState::Running(_) => unreachable!(),
+            ProcessState::Stopped(files) => {
                 let copy = files.copy()?;
                 starting::load(
                     self.alloc,
@@ -152,9 +152,9 @@ impl Process {
         requires { self.old.process.up ≡ true }
         ensures { self.new.process ≡ stopped self.old.process.node }
     {
-        let kept = self.standing.take_running(Files::empty(self.alloc));
+        let kept = self.state.take_running(Files::empty(self.alloc));
         let files = stopping::crash(kept);
-        self.standing.set(Standing::Stopped(files));
+        self.state.set(ProcessState::Stopped(files));
     }
 
     /// Makes an input ready at a node that is up, whose control files are first turned over where they are
@@ -169,9 +169,9 @@ impl Process {
         ensures lawful { IfOk result (λ ready. AllByRecursion (IsMessage self.old.process.node.control.nodes) ready.plan.sends) }
         ensures renews { OnOk result (Renews self.old.kept self.new.kept) }
     {
-        match &mut self.standing {
-            Standing::Running(kept) => process_acts::ready(kept, input),
-            Standing::Stopped(_) => unreachable!(),
+        match &mut self.state {
+            ProcessState::Running(kept) => process_acts::ready(kept, input),
+            ProcessState::Stopped(_) => unreachable!(),
         }
     }
 
@@ -183,9 +183,9 @@ impl Process {
         ensures same { IsSameNode self.old.process.node.control self.new.process.node.control }
         ensures generation { generation_of self.new.kept ≡ generation_of self.old.kept }
     {
-        match &mut self.standing {
-            Standing::Running(kept) => process_acts::commit(kept, ready),
-            Standing::Stopped(_) => unreachable!(),
+        match &mut self.state {
+            ProcessState::Running(kept) => process_acts::commit(kept, ready),
+            ProcessState::Stopped(_) => unreachable!(),
         }
     }
 
@@ -204,9 +204,9 @@ impl Process {
     {
         let ready = self.ready(input)?;
         let kept_new = ready.writes() && is_kept_new(calls, image);
-        let kept = self.standing.take_running(Files::empty(self.alloc));
+        let kept = self.state.take_running(Files::empty(self.alloc));
         let files = stopping::stop(kept, ready, calls, image);
-        self.standing.set(Standing::Stopped(files));
+        self.state.set(ProcessState::Stopped(files));
         Ok(kept_new)
     }
 
@@ -222,11 +222,11 @@ impl Process {
             nodes: _,
             chain: _,
             areas: _,
-            standing,
+            state,
         } = self;
-        match standing {
-            Standing::Running(kept) => kept.into_disks(),
-            Standing::Stopped(files) => {
+        match state {
+            ProcessState::Running(kept) => kept.into_disks(),
+            ProcessState::Stopped(files) => {
                 let Files {
                     control,
                     alternate,

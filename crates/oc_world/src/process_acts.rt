@@ -9,7 +9,7 @@ ghost use Rattle.oc_keep.specs.ReadyView.{CanCommit, is_written, outcome_of, tol
 ghost use Rattle.oc_model.specs.Lawful.{IsInput, IsMessage};
 ghost use Rattle.oc_model.specs.NextWorld.{writes};
 ghost use Rattle.oc_model.specs.Step.{step};
-ghost use Rattle.oc_world.specs.Standing.{IsOpen};
+ghost use Rattle.oc_world.specs.ProcessState.{IsOpen};
 
 use oc_base::Memory;
 use oc_io::Disk;

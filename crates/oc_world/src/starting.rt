@@ -5,10 +5,11 @@ ghost use Rattle.oc_base.specs.Lawful.{IsNode};
 ghost use Rattle.oc_keep.specs.Files.{AreHonest, AreReliable};
 ghost use Rattle.oc_keep.specs.KeptView.{header, node_of};
 ghost use Rattle.oc_keep.specs.Promises.{HoldFiles};
+ghost use Rattle.oc_keep.specs.Trials.{first_node};
 ghost use Rattle.oc_model.specs.Lawful.{IsHeader};
-ghost use Rattle.oc_world.specs.Standing.{IsRunning, disks_in, seen_in};
+ghost use Rattle.oc_world.specs.ProcessState.{IsRunning, disks_in};
 
-use crate::standing::Files;
+use crate::process_state::Files;
 use oc_base::{Memory, NodeId};
 use oc_io::Disk;
 use oc_keep::{KeepLoad, Kept};
@@ -30,7 +31,7 @@ pub(crate) fn load<D: Disk + Drop>(
     requires reliable { AreReliable D.view (disks_in files) }
     requires files { HoldFiles D.view nodes (disks_in files) }
     ensures running { IfOk result (λ kept. IsRunning D.view (header nodes chain areas.now) id kept) }
-    ensures node { IfOk result (λ kept. node_of kept ≡ seen_in D.view (header nodes chain areas.now) id files) }
+    ensures node { IfOk result (λ kept. node_of kept ≡ first_node D.view (header nodes chain areas.now) id (disks_in files)) }
 {
     let areas = copy_of(alloc, areas)?;
     let Files {

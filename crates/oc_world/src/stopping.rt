@@ -1,13 +1,13 @@
 //! How a node comes to stop, and what its files hold then.
 
-ghost use Rattle.std.specs.Prelude.{◌≡◌, ◌&&◌, ◌≤◌, if◌then◌else◌};
+ghost use Rattle.std.specs.Prelude.{◌&&◌, ◌≤◌, if◌then◌else◌};
 ghost use Rattle.oc_base.specs.Stops.{is_kept_new};
 ghost use Rattle.oc_keep.specs.KeptView.{node_of};
 ghost use Rattle.oc_keep.specs.ReadyView.{CanCommit, is_written, outcome_of};
 ghost use Rattle.oc_io.specs.MemDiskView.{view_of};
-ghost use Rattle.oc_world.specs.Standing.{IsLeft, IsOpen};
+ghost use Rattle.oc_world.specs.ProcessState.{IsLeft, IsOpen};
 
-use crate::standing::Files;
+use crate::process_state::Files;
 use oc_io::MemDisk;
 use oc_keep::{Kept, Ready};
 

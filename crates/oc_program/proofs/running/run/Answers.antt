@@ -45,7 +45,7 @@ returns-clause-only_misused g c = λ is.
       asked = asked (texts_of c.args.words.now);
       input = at_source g.S.Source.gives g.S.Source.fails g.S.Source.ended g.S.Source.faults c.args.input.now c.perform-end.new.input;
       output = at_sink g.K.Sink.takes g.K.Sink.fails g.K.Sink.faults c.args.out.now c.perform-end.new.out;
-      stage = at_stage g.T.Stage.first g.T.Stage.after g.T.Stage.word g.T.Stage.world c.args.stage.now c.perform-end.new.stage;
+      stage = at_stage g.T.Stage.world c.args.stage.now c.perform-end.new.stage;
       files = at_files g.D.Disk.view (disks c.args.control_a.now c.args.control_b.now c.args.content.now) (disks c.perform-end.new.control_a c.perform-end.new.control_b c.perform-end.new.content);
       link = at_link g.L.Link.story g.L.Link.faults c.args.link.now c.perform-end.new.link;
       clock = at_clock c.args.clock.now c.perform-end.new.clock;
@@ -59,7 +59,7 @@ returns-clause-plain g c = λ plain is.
       asked = asked (texts_of c.args.words.now);
       input = at_source g.S.Source.gives g.S.Source.fails g.S.Source.ended g.S.Source.faults c.args.input.now c.perform-end.new.input;
       output = at_sink g.K.Sink.takes g.K.Sink.fails g.K.Sink.faults c.args.out.now c.perform-end.new.out;
-      stage = at_stage g.T.Stage.first g.T.Stage.after g.T.Stage.word g.T.Stage.world c.args.stage.now c.perform-end.new.stage;
+      stage = at_stage g.T.Stage.world c.args.stage.now c.perform-end.new.stage;
       files = at_files g.D.Disk.view (disks c.args.control_a.now c.args.control_b.now c.args.content.now) (disks c.perform-end.new.control_a c.perform-end.new.control_b c.perform-end.new.content);
       link = at_link g.L.Link.story g.L.Link.faults c.args.link.now c.perform-end.new.link;
       clock = at_clock c.args.clock.now c.perform-end.new.clock;
@@ -87,7 +87,7 @@ returns-clause-helped g c = λ asks sound.
       asked = asked (texts_of c.args.words.now);
       input = at_source g.S.Source.gives g.S.Source.fails g.S.Source.ended g.S.Source.faults c.args.input.now c.perform-end.new.input;
       output = at_sink g.K.Sink.takes g.K.Sink.fails g.K.Sink.faults c.args.out.now c.perform-end.new.out;
-      stage = at_stage g.T.Stage.first g.T.Stage.after g.T.Stage.word g.T.Stage.world c.args.stage.now c.perform-end.new.stage;
+      stage = at_stage g.T.Stage.world c.args.stage.now c.perform-end.new.stage;
       files = at_files g.D.Disk.view (disks c.args.control_a.now c.args.control_b.now c.args.content.now) (disks c.perform-end.new.control_a c.perform-end.new.control_b c.perform-end.new.content);
       link = at_link g.L.Link.story g.L.Link.faults c.args.link.now c.perform-end.new.link;
       clock = at_clock c.args.clock.now c.perform-end.new.clock;
@@ -99,7 +99,7 @@ returns-clause-replayed g c = λ summary asks unfailed sound.
     subst (λ n. HasStatus g.S.Source.gives g.S.Source.ended c.args.input.now c.perform-end.new.input n ⊎ (n ≡ 4)) (sym (c.number.ensures ∙ ap number_of c.status.ensures))
     (replayed g.S.Source.gives g.S.Source.fails g.S.Source.ended g.S.Source.faults c.args.input.now c.perform-end.new.input
     (at_sink g.K.Sink.takes g.K.Sink.fails g.K.Sink.faults c.args.out.now c.perform-end.new.out)
-    (at_stage g.T.Stage.first g.T.Stage.after g.T.Stage.word g.T.Stage.world c.args.stage.now c.perform-end.new.stage) unfailed (λ text cut. sound cut.1)
+    (at_stage g.T.Stage.world c.args.stage.now c.perform-end.new.stage) unfailed (λ text cut. sound cut.1)
     (asked (texts_of c.args.words.now)) _ _ _ _ summary c.perform-end.result asks c.perform-end.ensures.happened)
 
 pub returns-clause-listed : goal.returns-clause-listed
@@ -107,7 +107,7 @@ returns-clause-listed g c = λ asks unfailed sound.
     subst (λ n. HasConfigStatus g.S.Source.gives g.S.Source.ended c.args.input.now c.perform-end.new.input n ⊎ (n ≡ 4)) (sym (c.number.ensures ∙ ap number_of c.status.ensures))
     (listed g.S.Source.gives g.S.Source.fails g.S.Source.ended g.S.Source.faults c.args.input.now c.perform-end.new.input
     (at_sink g.K.Sink.takes g.K.Sink.fails g.K.Sink.faults c.args.out.now c.perform-end.new.out)
-    (at_stage g.T.Stage.first g.T.Stage.after g.T.Stage.word g.T.Stage.world c.args.stage.now c.perform-end.new.stage) unfailed (λ text cut. sound cut.1)
+    (at_stage g.T.Stage.world c.args.stage.now c.perform-end.new.stage) unfailed (λ text cut. sound cut.1)
     (asked (texts_of c.args.words.now)) _ _ _ _ c.perform-end.result asks c.perform-end.ensures.happened)
 
 pub returns-clause-served : goal.returns-clause-served

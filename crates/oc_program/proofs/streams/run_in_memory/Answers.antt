@@ -13,7 +13,7 @@ pub returns : goal.returns
 returns g c =
     let (end, usage, is, line, happened) = c.run-status.ensures.ended in
     let words = asked (texts_of c.args.words.now) in
-    let stage = at_stage g.T.Stage.first g.T.Stage.after g.T.Stage.word g.T.Stage.world c.args.stage.now c.run-status.new.stage in
+    let stage = at_stage g.T.Stage.world c.args.stage.now c.run-status.new.stage in
     let files = at_files g.D.Disk.view (disks c.args.control_a.now c.args.control_b.now c.args.content.now) (disks c.run-status.new.control_a c.run-status.new.control_b c.run-status.new.content) in
     let link = at_link g.L.Link.story g.L.Link.faults c.args.link.now c.run-status.new.link in
     let clock = at_clock c.args.clock.now c.run-status.new.clock in

@@ -7,6 +7,6 @@ pub loop-event-preserved : goal.loop-event-preserved
 loop-event-preserved g c =
     let stage = g.T.Stage in
     record {
-      way = goes_on stage.after (stage.world c.args.stage.now) c.args.events.now c.requires stage.word g.met.T.Stage.keeps_ids g.met.T.Stage.keeps_time g.met.T.Stage.keeps_limits (stage.world c.loop-event.stage) (stage.world c.event.new.self) c.event-item.result c.loop-event.event-index (omega arith) c.event-item.is c.in_ok-told.ensures.world c.loop-event.invariant.way;
+      way = goes_on (stage.world c.args.stage.now) c.args.events.now c.requires (stage.world c.loop-event.stage) (stage.world c.event.new.self) c.event-item.result c.loop-event.event-index (omega arith) c.event-item.is c.in_ok-told.ensures.world c.loop-event.invariant.way;
       sent = omega (arith, c.in_ok-told.ensures.said.first, c.in_ok-told.ensures.said.count);
     }

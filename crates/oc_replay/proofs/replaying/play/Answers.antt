@@ -9,7 +9,7 @@ pub tell-requires-clause-opened : goal.tell-requires-clause-opened
 tell-requires-clause-opened g c =
     let inside = c.schedule.inside in
     let opened = λ (areas : List ℕ). let h : Header = record { nodes = inside.nodes; chain = inside.chain; areas = areas } in h in
-    opened-opening g.T.Stage.first g.met.T.Stage.opens c.args.schedule.now (opened c.deref.result.now) (g.T.Stage.world c.open.new.self) c.deref-2.result.now
+    opened-opening c.args.schedule.now (opened c.deref.result.now) (g.T.Stage.world c.open.new.self) c.deref-2.result.now
     (ap opened c.deref.ensures.value ∙ ap (λ (s : Script). s.header) c.schedule.view_is)
     (c.deref-2.ensures.value ∙ ap (λ (s : Script). s.events) c.schedule.view_is)
     c.in_ok-open.ensures c.requires
@@ -18,9 +18,7 @@ pub tell-requires-clause-nodes : goal.tell-requires-clause-nodes
 tell-requires-clause-nodes g c =
     let inside = c.schedule.inside in
     let opened = λ (areas : List ℕ). let h : Header = record { nodes = inside.nodes; chain = inside.chain; areas = areas } in h in
-    opened-nodes g.T.Stage.first g.met.T.Stage.opens c.args.schedule.now (opened c.deref.result.now) (g.T.Stage.world c.open.new.self)
-    (ap opened c.deref.ensures.value ∙ ap (λ (s : Script). s.header) c.schedule.view_is)
-    c.in_ok-open.ensures c.requires
+    opened-nodes (opened c.deref.result.now) (g.T.Stage.world c.open.new.self) c.in_ok-open.ensures
 
 pub tell-requires-clause-few : goal.tell-requires-clause-few
 tell-requires-clause-few g c =

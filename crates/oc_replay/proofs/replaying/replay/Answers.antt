@@ -49,24 +49,14 @@ returns-clause-limit g c = if_limit _ c.in-Err-play.fault c.from.result c.from.e
 pub returns-clause-source : goal.returns-clause-source
 returns-clause-source g c = on_source _ c.in-Err-play.fault c.from.result c.from.ensures
 
-pub returns-clause-source_cause : goal.returns-clause-source_cause
-returns-clause-source_cause g c = on_source _ c.in-Err-play.fault c.from.result c.from.ensures
-
-pub returns-clause-unwritten : goal.returns-clause-unwritten
-returns-clause-unwritten g c = on_refusal _ c.in-Err-play.fault c.from.result c.from.ensures
-
-pub returns-clause-unplayed : goal.returns-clause-unplayed
-returns-clause-unplayed g c = on_refusal _ c.in-Err-play.fault c.from.result c.from.ensures
+pub returns-clause-refused : goal.returns-clause-refused
+returns-clause-refused g c = on_refusal _ c.in-Err-play.fault c.from.result c.from.ensures
 
 -- the sink had taken a prefix, and the stage is on the way
 pub returns-clause-sink : goal.returns-clause-sink
 returns-clause-sink g c =
     on_sink c.in-Err-play.fault c.from.result c.from.ensures
-    (λ is. let failed = c.in-Err-play.is ∙ ap (λ (fault : ReportFault). Err fault) is in (_, c.in-Ok.ensures.input, c.play.ensures.failed failed, c.play.ensures.stopped failed))
-
-pub returns-clause-sink_cause : goal.returns-clause-sink_cause
-returns-clause-sink_cause g c =
-    on_sink c.in-Err-play.fault c.from.result c.from.ensures (λ is. c.play.ensures.cause (c.in-Err-play.is ∙ ap (λ (fault : ReportFault). Err fault) is))
+    (λ is. let failed = c.in-Err-play.is ∙ ap (λ (fault : ReportFault). Err fault) is in (_, c.in-Ok.ensures.input, c.play.ensures.failed failed, c.play.ensures.stopped failed, c.play.ensures.cause failed))
 
 -- and the same where memory ran out
 pub returns-clause-memory : goal.returns-clause-memory

@@ -1,5 +1,6 @@
-use Rattle.std.proofs.Common.{◌≡◌, List, length, fold, sym, subst}
+use Rattle.std.proofs.Common.{◌≡◌, List, length, sym, subst}
 use Rattle.std.proofs.Math.Seq.{take-length}
+use Rattle.oc_model.specs.NextWorld.{world_after}
 use Rattle.oc_model.specs.declared.event.Event.{Event}
 use Rattle.oc_replay.proofs.replaying.tell.Goals as goal
 
@@ -13,7 +14,7 @@ returns-then-summary-clause-failed g c = rw c.if-summary.true c.summarize.ensure
 pub returns-then-summary-clause-stopped : goal.returns-then-summary-clause-stopped
 returns-then-summary-clause-stopped g c = λ failed.
     let events = c.args.events.now in
-    (length events, subst (λ (played : List Event). g.T.Stage.world c.summarize.new.stage ≡ fold g.T.Stage.after (g.T.Stage.world c.args.stage.now) played) (sym (take-length events)) (c.summarize.ensures.stopped failed))
+    (length events, subst (λ (played : List Event). g.T.Stage.world c.summarize.new.stage ≡ world_after (g.T.Stage.world c.args.stage.now) played) (sym (take-length events)) (c.summarize.ensures.stopped failed))
 
 -- nothing was written
 pub returns-then-summary-clause-memory : goal.returns-then-summary-clause-memory

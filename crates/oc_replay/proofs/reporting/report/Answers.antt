@@ -4,7 +4,7 @@ use Rattle.oc_io.proofs.Counts.{Rose-after}
 use Rattle.oc_replay.specs.Lines.{end_line}
 use Rattle.oc_replay.specs.Pieces.{SomeFront}
 use Rattle.oc_replay.specs.Report.{told_from, run_text}
-use Rattle.oc_replay.proofs.Running.{begins, fold-take, goes_on, next_given, whole_run}
+use Rattle.oc_replay.proofs.Running.{begins, after-take, goes_on, next_given, whole_run}
 use Rattle.oc_replay.proofs.Runs.{written-next, written-end}
 use Rattle.oc_replay.proofs.Written.{written_none, passes, ends, stops, fails_on}
 use Rattle.oc_replay.proofs.reporting.report.Goals as goal
@@ -16,8 +16,8 @@ loop-place-init g c =
     let events = c.args.events.now in
     let opened = stage.world c.args.stage.now in
     record {
-      written = written_none g.K.Sink.takes c.args.sink.now (g.met.K.Sink.takes_nothing c.args.sink.now) c.new-out.result.items c.new-out.ensures.items (run_text stage.after stage.word opened events);
-      way = begins stage.after opened events c.requires;
+      written = written_none g.K.Sink.takes c.args.sink.now (g.met.K.Sink.takes_nothing c.args.sink.now) c.new-out.result.items c.new-out.ensures.items (run_text opened events);
+      way = begins opened events c.requires;
       sent = sym (ap length c.requires.net);
       count = omega arith;
     }
@@ -26,12 +26,12 @@ loop-place-init g c =
 pub tell-requires-clause-event : goal.tell-requires-clause-event
 tell-requires-clause-event g c =
     let stage = g.T.Stage in
-    (next_given stage.after (stage.world c.args.stage.now) c.args.events.now c.requires (stage.world c.loop-place.stage) c.index-events-place.result c.loop-place.place (omega arith) c.index-events-place.is c.loop-place.invariant.way).event
+    (next_given (stage.world c.args.stage.now) c.args.events.now c.requires (stage.world c.loop-place.stage) c.index-events-place.result c.loop-place.place (omega arith) c.index-events-place.is c.loop-place.invariant.way).event
 
 pub tell-requires-clause-time : goal.tell-requires-clause-time
 tell-requires-clause-time g c =
     let stage = g.T.Stage in
-    (next_given stage.after (stage.world c.args.stage.now) c.args.events.now c.requires (stage.world c.loop-place.stage) c.index-events-place.result c.loop-place.place (omega arith) c.index-events-place.is c.loop-place.invariant.way).time
+    (next_given (stage.world c.args.stage.now) c.args.events.now c.requires (stage.world c.loop-place.stage) c.index-events-place.result c.loop-place.place (omega arith) c.index-events-place.is c.loop-place.invariant.way).time
 
 -- one event more is gathered, and a prefix of what is gathered is passed on
 pub loop-place-preserved : goal.loop-place-preserved
@@ -44,11 +44,11 @@ loop-place-preserved g c =
     let opened = stage.world c.args.stage.now in
     let world = stage.world c.loop-place.stage in
     let next = stage.world c.tell.new.stage in
-    let text = run_text stage.after stage.word opened events in
-    let written = written-next stage.after stage.word takes c.args.sink.now c.loop-place.sink c.loop-place.out.items c.tell.new.out.items text place world next events event (omega arith) c.index-events-place.is c.in_ok-sent.ensures.world c.in_ok-sent.ensures.text c.loop-place.invariant.written in
+    let text = run_text opened events in
+    let written = written-next takes c.args.sink.now c.loop-place.sink c.loop-place.out.items c.tell.new.out.items text place world next events event (omega arith) c.index-events-place.is c.in_ok-sent.ensures.world c.in_ok-sent.ensures.text c.loop-place.invariant.written in
     record {
-      written = passes takes g.met.K.Sink.takes_then c.args.sink.now c.loop-place.sink c.pass_on.new.sink c.tell.new.out.items c.pass_on.new.out.items (told_from stage.after stage.word (place + 1) next (drop (place + 1) events)) text c.in_ok-pass_on.ensures.passed written;
-      way = goes_on stage.after opened events c.requires stage.word g.met.T.Stage.keeps_ids g.met.T.Stage.keeps_time g.met.T.Stage.keeps_limits world next event place (omega arith) c.index-events-place.is c.in_ok-sent.ensures.world c.loop-place.invariant.way;
+      written = passes takes g.met.K.Sink.takes_then c.args.sink.now c.loop-place.sink c.pass_on.new.sink c.tell.new.out.items c.pass_on.new.out.items (told_from (place + 1) next (drop (place + 1) events)) text c.in_ok-pass_on.ensures.passed written;
+      way = goes_on opened events c.requires world next event place (omega arith) c.index-events-place.is c.in_ok-sent.ensures.world c.loop-place.invariant.way;
       sent = c.in_ok-sent.ensures.sent;
       count = omega (arith, c.in_ok-pass_on.ensures.count);
     }
@@ -66,15 +66,15 @@ returns-in_err-pass_on-clause-failed g c = λ _.
     let event = c.index-events-place.result in
     let place = c.loop-place.place in
     let next = stage.world c.tell.new.stage in
-    let text = run_text stage.after stage.word (stage.world c.args.stage.now) events in
-    let written = written-next stage.after stage.word takes c.args.sink.now c.loop-place.sink c.loop-place.out.items c.tell.new.out.items text place (stage.world c.loop-place.stage) next events event (omega arith) c.index-events-place.is c.in_ok-sent.ensures.world c.in_ok-sent.ensures.text c.loop-place.invariant.written in
-    fails_on takes g.K.Sink.fails g.met.K.Sink.takes_fails c.args.sink.now c.loop-place.sink c.pass_on.new.sink c.tell.new.out.items (told_from stage.after stage.word (place + 1) next (drop (place + 1) events)) text written c.in_err-pass_on.ensures.failed
+    let text = run_text (stage.world c.args.stage.now) events in
+    let written = written-next takes c.args.sink.now c.loop-place.sink c.loop-place.out.items c.tell.new.out.items text place (stage.world c.loop-place.stage) next events event (omega arith) c.index-events-place.is c.in_ok-sent.ensures.world c.in_ok-sent.ensures.text c.loop-place.invariant.written in
+    fails_on takes g.K.Sink.fails g.met.K.Sink.takes_fails c.args.sink.now c.loop-place.sink c.pass_on.new.sink c.tell.new.out.items (told_from (place + 1) next (drop (place + 1) events)) text written c.in_err-pass_on.ensures.failed
 
 pub returns-in_err-pass_on-clause-stopped : goal.returns-in_err-pass_on-clause-stopped
 returns-in_err-pass_on-clause-stopped g c = λ _.
     let stage = g.T.Stage in
     let events = c.args.events.now in
-    (c.loop-place.place + 1, fold-take stage.after c.loop-place.place (stage.world c.args.stage.now) (stage.world c.loop-place.stage) (stage.world c.tell.new.stage) events c.index-events-place.result (omega arith) c.index-events-place.is c.in_ok-sent.ensures.world c.loop-place.invariant.way.played)
+    (c.loop-place.place + 1, after-take c.loop-place.place (stage.world c.args.stage.now) (stage.world c.loop-place.stage) (stage.world c.tell.new.stage) events c.index-events-place.result (omega arith) c.index-events-place.is c.in_ok-sent.ensures.world c.loop-place.invariant.way.played)
 
 -- the same in the last part, with which all is written
 pub returns-clause-failed : goal.returns-clause-failed
@@ -82,16 +82,16 @@ returns-clause-failed g c = λ failed.
     let stage = g.T.Stage in
     let takes = g.K.Sink.takes in
     let events = c.args.events.now in
-    let text = run_text stage.after stage.word (stage.world c.args.stage.now) events in
+    let text = run_text (stage.world c.args.stage.now) events in
     let out = c.loop-place.out.items ++ end_line (length events) c.loop-place.sent in
-    let written = written-end stage.after stage.word takes c.args.sink.now c.loop-place.sink c.loop-place.out.items out text c.loop-place.place c.loop-place.sent (stage.world c.loop-place.stage) events (omega arith) (omega arith) c.loop-place.invariant.sent refl c.loop-place.invariant.written in
+    let written = written-end takes c.args.sink.now c.loop-place.sink c.loop-place.out.items out text c.loop-place.place c.loop-place.sent (stage.world c.loop-place.stage) events (omega arith) (omega arith) c.loop-place.invariant.sent refl c.loop-place.invariant.written in
     fails_on takes g.K.Sink.fails g.met.K.Sink.takes_fails c.args.sink.now c.loop-place.sink c.write_last.new.sink out [] text written (c.write_last.ensures.failed failed)
 
 pub returns-clause-memory : goal.returns-clause-memory
 returns-clause-memory g c = λ failed.
     let stage = g.T.Stage in
     let takes = g.K.Sink.takes in
-    let text = run_text stage.after stage.word (stage.world c.args.stage.now) c.args.events.now in
+    let text = run_text (stage.world c.args.stage.now) c.args.events.now in
     subst (λ sink. SomeFront text (λ front. takes c.args.sink.now front sink)) (sym (c.write_last.ensures.memory failed))
     (stops takes c.args.sink.now c.loop-place.sink c.loop-place.out.items _ _ c.loop-place.invariant.written)
 
@@ -108,9 +108,9 @@ returns-clause-told g c =
     let stage = g.T.Stage in
     let takes = g.K.Sink.takes in
     let events = c.args.events.now in
-    let text = run_text stage.after stage.word (stage.world c.args.stage.now) events in
+    let text = run_text (stage.world c.args.stage.now) events in
     let out = c.loop-place.out.items ++ end_line (length events) c.loop-place.sent in
-    let written = written-end stage.after stage.word takes c.args.sink.now c.loop-place.sink c.loop-place.out.items out text c.loop-place.place c.loop-place.sent (stage.world c.loop-place.stage) events (omega arith) (omega arith) c.loop-place.invariant.sent refl c.loop-place.invariant.written in
+    let written = written-end takes c.args.sink.now c.loop-place.sink c.loop-place.out.items out text c.loop-place.place c.loop-place.sent (stage.world c.loop-place.stage) events (omega arith) (omega arith) c.loop-place.invariant.sent refl c.loop-place.invariant.written in
     on_ok_weaker c.write_last.result (ends takes g.met.K.Sink.takes_then c.args.sink.now c.loop-place.sink c.write_last.new.sink out text written) c.write_last.ensures.written
 
 -- and the stage is at the last world
@@ -118,5 +118,5 @@ pub returns-clause-played : goal.returns-clause-played
 returns-clause-played g c =
     let stage = g.T.Stage in
     on_ok_weaker c.write_last.result
-    (λ _. whole_run stage.after (stage.world c.args.stage.now) (stage.world c.loop-place.stage) c.args.events.now c.loop-place.place (omega arith) c.loop-place.invariant.way)
+    (λ _. whole_run (stage.world c.args.stage.now) (stage.world c.loop-place.stage) c.args.events.now c.loop-place.place (omega arith) c.loop-place.invariant.way)
     c.write_last.ensures.written

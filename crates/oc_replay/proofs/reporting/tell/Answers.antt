@@ -1,6 +1,8 @@
 use Rattle.std.proofs.Common.{◌≡◌, ◌∙◌, ℕ, List, length, refl, sym, ap, subst, arith, rules}
 use Rattle.oc_model.specs.Lawful.{IsEvent}
+use Rattle.oc_model.specs.NextWorld.{word_of}
 use Rattle.oc_model.specs.World.{ids}
+use Rattle.oc_model.proofs.GoesOn.{ids-next_world}
 use Rattle.oc_replay.proofs.Runs.{event_told}
 use Rattle.oc_replay.proofs.reporting.tell.Goals as goal
 
@@ -14,7 +16,7 @@ put_block-requires g c =
     let stage = g.T.Stage in
     let event = c.args.event.now in
     let same : ids (stage.world c.play_one.new.stage) ≡ ids (stage.world c.args.stage.now) =
-    ap ids c.in_ok-said.ensures.world ∙ g.met.T.Stage.keeps_ids (stage.world c.args.stage.now) event c.requires.event in
+    ap ids c.in_ok-said.ensures.world ∙ ids-next_world (stage.world c.args.stage.now) event in
     subst (λ (xs : List ℕ). IsEvent (length xs) event) (sym same) c.requires.event
 
 -- the line, the messages and the block, one after the other
@@ -23,7 +25,7 @@ returns-clause-text g c =
     let stage = g.T.Stage in
     let old = stage.world c.args.stage.now in
     let said = c.in_ok-said.said in
-    event_told c.args.out.now.items c.play_one.new.out.items c.put_told.new.out.items c.put_block.new.out.items c.args.number (stage.word old c.args.event.now) (stage.word old c.args.event.now) said.first old (stage.world c.play_one.new.stage) c.args.event.now
+    event_told c.args.out.now.items c.play_one.new.out.items c.put_told.new.out.items c.put_block.new.out.items c.args.number (word_of old c.args.event.now) (word_of old c.args.event.now) said.first old (stage.world c.play_one.new.stage) c.args.event.now
     refl c.in_ok-said.ensures.said.first c.in_ok-said.ensures.line c.in_ok-put_told.ensures c.in_ok-put_block.ensures
 
 -- the stage is at the world after the event

@@ -1,7 +1,7 @@
 use Rattle.std.proofs.Common.{List, ℕ, ap, subst, ◌∙◌}
 use Rattle.oc_keep.specs.Files.{disks, recovered}
 use Rattle.oc_keep.specs.KeptView.{header}
-use Rattle.oc_world.specs.Standing.{IsRunning}
+use Rattle.oc_world.specs.ProcessState.{IsRunning}
 use Rattle.oc_world.proofs.Loaded.{loaded_runs}
 use Rattle.oc_world.proofs.starting.load.Goals as goal
 

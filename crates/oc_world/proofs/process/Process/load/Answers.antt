@@ -1,6 +1,6 @@
 use Rattle.oc_keep.specs.KeptView.{header}
 use Rattle.oc_world.proofs.Loaded.{copies_hold}
-use Rattle.oc_world.proofs.Stands.{stopped_is}
+use Rattle.oc_world.proofs.States.{stopped_is}
 use Rattle.oc_world.proofs.process.Process.load.Goals as goal
 
 pub load-requires-clause-files : goal.load-requires-clause-files
@@ -9,4 +9,4 @@ load-requires-clause-files c =
     let h = header s.nodes s.chain s.areas.items in
     let files = c.in-Stopped.files in
     let copied = c.in_ok-copy-in-Stopped.ensures in
-    copies_hold h s.id files c.in_ok-copy-in-Stopped.copy (record { control = copied.control; alternate = copied.alternate; content = copied.content }) (stopped_is h s.id s.standing files c.in-Stopped.is c.self.invariant.2)
+    copies_hold h s.id files c.in_ok-copy-in-Stopped.copy (record { control = copied.control; alternate = copied.alternate; content = copied.content }) (stopped_is h s.id s.state files c.in-Stopped.is c.self.invariant.2)

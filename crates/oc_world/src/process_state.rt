@@ -2,7 +2,7 @@
 
 ghost use Rattle.std.specs.Prelude.{◌≡◌, [], true, IfOk};
 ghost use Rattle.oc_io.specs.MemDiskView.{disk_of};
-ghost use Rattle.oc_world.specs.Standing.{is_running};
+ghost use Rattle.oc_world.specs.ProcessState.{is_running};
 
 use oc_base::Memory;
 use oc_io::{Disk, MemDisk};
@@ -21,14 +21,14 @@ pub(crate) struct Files<D: Disk> {
 /// A node that runs on its files, or the files of one that is down. A node that is down has no state in
 /// memory.
 #[derive(Drop)]
-pub(crate) enum Standing<D: Disk> {
+pub(crate) enum ProcessState<D: Disk> {
     Running(Kept<D>),
     Stopped(Files<D>),
 }
 
-impl<D: Disk + Drop> Standing<D> {
+impl<D: Disk + Drop> ProcessState<D> {
     /// Has this state from now on.
-    pub(crate) fn set(&mut self, next: Standing<D>)
+    pub(crate) fn set(&mut self, next: ProcessState<D>)
         ensures { self.new ≡ next }
     {
         *self = next;
@@ -37,11 +37,11 @@ impl<D: Disk + Drop> Standing<D> {
     /// Takes out the node that runs, and leaves these files.
     pub(crate) fn take_running(&mut self, left: Files<D>) -> Kept<D>
         requires { is_running self.old ≡ true }
-        ensures { self.old ≡ Standing.Running result }
+        ensures { self.old ≡ ProcessState.Running result }
     {
-        match mem::replace(self, Standing::Stopped(left)) {
-            Standing::Running(kept) => kept,
-            Standing::Stopped(_) => unreachable!(),
+        match mem::replace(self, ProcessState::Stopped(left)) {
+            ProcessState::Running(kept) => kept,
+            ProcessState::Stopped(_) => unreachable!(),
         }
     }
 }

@@ -7,29 +7,25 @@ use Rattle.oc_model.specs.Node.{Control, Header, Node, restarted}
 use Rattle.oc_model.specs.World.{down}
 use Rattle.oc_io.specs.DiskView.{DiskView}
 use Rattle.oc_io.specs.MemDiskView.{MemDiskView, view_of}
-use Rattle.oc_world.specs.declared.standing.Files.{Files}
-use Rattle.oc_world.specs.declared.standing.Standing.{Standing}
-use Rattle.oc_world.specs.declared.standing.Standing.TheVariants.{Running, Stopped}
+use Rattle.oc_world.specs.declared.process_state.Files.{Files}
+use Rattle.oc_world.specs.declared.process_state.ProcessState.{ProcessState}
+use Rattle.oc_world.specs.declared.process_state.ProcessState.TheVariants.{Running, Stopped}
 use Rattle.oc_world.specs.ProcessView.{ProcessView, resting}
 
 -- the disks of files
 abbrev pub disks_in : {D : Type 0} → Files D → Disks D
 disks_in f = disks f.control f.alternate f.content
 
--- the node that files recover, as they read
-abbrev pub seen_in : {D : Type 0} → (D → DiskView) → Header → ℕ → Files D → Node
-seen_in view h x f = recovered h x (view f.control).seen (view f.alternate).seen (view f.content).seen
-
--- the same for files in memory
+-- the node that files in memory recover
 abbrev pub left_in : Header → ℕ → Files MemDiskView → Node
 left_in h x f = recovered h x f.control.bytes f.alternate.bytes f.content.bytes
 
-abbrev pub is_running : {D : Type 0} → Standing D → Bool
+abbrev pub is_running : {D : Type 0} → ProcessState D → Bool
 is_running (Running k) = true
 is_running (Stopped f) = false
 
 -- the process of x: a node that runs is up; one that does not is what its files recover
-abbrev pub process_of : Header → ℕ → Standing MemDiskView → ProcessView
+abbrev pub process_of : Header → ℕ → ProcessState MemDiskView → ProcessView
 process_of h x (Running k) = record { process = record { node = node_of k; up = true }; kept = Some k }
 process_of h x (Stopped f) = resting (down (left_in h x f))
 
@@ -56,6 +52,6 @@ pub record IsLeft (c : Control) (n : Node) (f : Files MemDiskView) : Type 0 wher
   pub stopped : IsStopped (header_of c) c.me f
   pub node : left_in (header_of c) c.me f ≡ restarted n
 
-abbrev pub Stands : Header → ℕ → Standing MemDiskView → Type 0
-Stands h x (Running k) = IsRunning view_of h x k
-Stands h x (Stopped f) = IsStopped h x f
+abbrev pub IsStateOf : Header → ℕ → ProcessState MemDiskView → Type 0
+IsStateOf h x (Running k) = IsRunning view_of h x k
+IsStateOf h x (Stopped f) = IsStopped h x f

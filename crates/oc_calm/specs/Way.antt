@@ -17,7 +17,7 @@ pub record IsOnTheWay (all : List Act) (w v : World) : Type 0 where
   pub whole : all ≡ done ++ rest
   pub reached : v ≡ after_acts w done
 
--- a prefix of the acts of a run was played
+-- a prefix of the acts of a run was played. Nothing is said of their count: whoever meets this gives up, and no word tells it
 pub record Begins (run : World → Run) (w v : World) : Type 0 where
   pub way : IsOnTheWay (run w).acts w v
 

@@ -2,6 +2,7 @@
 use Rattle.std.specs.Prelude.{◌≡◌, ℕ, ◌<◌, ◌⊎◌, Bool, [], Result, Ok, Err, List, length}
 use Rattle.oc_base.specs.declared.limits.TheConstants.{MAX_SCHEDULE_BYTES}
 use Rattle.oc_replay.specs.Pieces.{SomeFront}
+use Rattle.oc_replay.specs.Replay.{output_text}
 use Rattle.oc_replay.specs.declared.end.ReplayEnd.{ReplayEnd}
 use Rattle.oc_replay.specs.declared.end.ReplayEnd.TheVariants.{Done, Text, Limit, Source, Sink, Memory}
 use Rattle.oc_schedule.specs.Schedule.{IsSchedule, schedule_of}
@@ -13,13 +14,13 @@ use Rattle.oc_commands.specs.Outside.{Input, Output, OnStage}
 
 -- what had happened, where the summary was asked for or the report
 abbrev pub HappenedAtReplay : Input → Output → OnStage → Bool → ReplayEnd → Type 0
-HappenedAtReplay input output stage summary Done = (s : Script) × input.says (Ok s) × IsSchedule s × output.written (stage.text summary s) × stage.played s s.events × HeadlineHolds s
+HappenedAtReplay input output stage summary Done = (s : Script) × input.says (Ok s) × IsSchedule s × output.written (output_text summary s) × stage.played s s.events × HeadlineHolds s
 HappenedAtReplay input output stage summary (Text line why) = input.says (Err (faults.Line line why)) × output.written [] × stage.unplayed
 HappenedAtReplay input output stage summary (Limit what) = input.passes what × output.written [] × stage.unplayed
 HappenedAtReplay input output stage summary Source = input.failed × output.written [] × stage.unplayed
-HappenedAtReplay input output stage summary Sink = (s : Script) × input.says (Ok s) × IsSchedule s × SomeFront (stage.text summary s) output.cut_off × SomeFront s.events (stage.played s) × HeadlineHolds s
+HappenedAtReplay input output stage summary Sink = (s : Script) × input.says (Ok s) × IsSchedule s × SomeFront (output_text summary s) output.cut_off × SomeFront s.events (stage.played s) × HeadlineHolds s
 HappenedAtReplay input output stage summary Memory = (input.came × output.written [] × stage.unplayed)
-    ⊎ ((s : Script) × input.says (Ok s) × IsSchedule s × SomeFront (stage.text summary s) output.written × HeadlineHolds s)
+    ⊎ ((s : Script) × input.says (Ok s) × IsSchedule s × SomeFront (output_text summary s) output.written × HeadlineHolds s)
 
 -- ---- which status has to come
 

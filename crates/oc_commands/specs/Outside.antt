@@ -17,7 +17,7 @@ use Rattle.oc_io.specs.DiskView.{DiskView}
 use Rattle.oc_io.specs.Faults.{Rose}
 use Rattle.oc_link.specs.LinkCalls.{LinkFaults, Told}
 use Rattle.oc_link.specs.Story.{Story}
-use Rattle.oc_replay.specs.Replay.{IsInput, PassesLimit, output_text, world_at}
+use Rattle.oc_replay.specs.Replay.{IsInput, PassesLimit, world_at}
 use Rattle.oc_schedule.specs.Script.{Script}
 use Rattle.oc_schedule.specs.declared.fault.ScheduleFault.{ScheduleFault}
 use Rattle.oc_schedule.specs.declared.fault.What.{What}
@@ -55,8 +55,6 @@ pub record Output : Type 1 where
 
 -- of the stage
 pub record OnStage : Type 1 where
-  -- what is written of a schedule over it: the summary where it is asked for, and else the report
-  pub text : Bool → Script → List ℕ
   -- it is where these events of a schedule lead
   pub played : Script → List Event → Type 0
   -- it is as it was
@@ -134,7 +132,6 @@ module _ {K : Type 0} (takes fails : K → List ℕ → K → Type 0) (faults : 
 module _ {T : Type 0} (world : T → World) where
   abbrev pub at_stage : T → T → OnStage
   at_stage old new = record {
-    text = output_text;
     played = λ s events. world new ≡ world_at s events;
     unplayed = new ≡ old;
   }

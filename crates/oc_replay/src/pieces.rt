@@ -7,7 +7,7 @@ ghost use Rattle.oc_replay.specs.Pieces.{PassesOn, SomeFront};
 ghost use Rattle.oc_replay.specs.declared.pieces.TheConstants.{PIECE as ENOUGH};
 
 use crate::fault::ReportFault;
-use crate::put_end;
+use crate::lines::put_end;
 use oc_io::{Failed, Sink, write_all};
 
 /// How many bytes are gathered before they are written.

@@ -9,7 +9,8 @@ ghost use Rattle.oc_replay.specs.Opening.{IsOpening};
 ghost use Rattle.oc_replay.specs.Lines.{event_line};
 ghost use Rattle.oc_replay.specs.Stage.{HasTimeFor, IsSaid};
 
-use crate::{Said, Stage, put_event};
+use crate::lines::put_event;
+use crate::{Said, Stage};
 use oc_base::Memory;
 use oc_model::Event;
 

@@ -13,9 +13,10 @@ ghost use Rattle.oc_replay.specs.Opening.{IsOpening};
 ghost use Rattle.oc_replay.specs.Replay.{IsInput, PassesLimit, output_text, run_output, world_at};
 ghost use Rattle.oc_replay.specs.Pieces.{SomeFront};
 
+use crate::fault::ReportFault;
 use crate::reporting::report;
 use crate::summing::summarize;
-use crate::{ReplayEnd, ReportFault, Stage};
+use crate::{ReplayEnd, Stage};
 use oc_io::{Sink, Source, read_all};
 use oc_model::Event;
 use oc_schedule::{Schedule, What, read};

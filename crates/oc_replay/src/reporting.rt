@@ -10,9 +10,12 @@ ghost use Rattle.oc_replay.specs.Pieces.{SomeFront};
 ghost use Rattle.oc_replay.specs.Report.{block_text, event_text, message_text, run_text, sent_from, sent_text};
 ghost use Rattle.oc_replay.specs.Stage.{HasTimeFor};
 
-use crate::{
-    ReportFault, Said, Stage, pass_on, play_one, put_held, put_message, put_show, write_last,
-};
+use crate::fault::ReportFault;
+use crate::lines::{put_held, put_message};
+use crate::pieces::{pass_on, write_last};
+use crate::playing::play_one;
+use crate::show::put_show;
+use crate::{Said, Stage};
 use oc_base::Memory;
 use oc_io::Sink;
 use oc_model::Event;

@@ -14,7 +14,9 @@ ghost use Rattle.oc_replay.specs.Opening.{IsOpening};
 ghost use Rattle.oc_replay.specs.Pieces.{SomeFront};
 ghost use Rattle.oc_replay.specs.Summary.{FitsWith, bytes_in, count_line, one_if, plus, run_summary, summary_of_tally, summary_text, tally_at, tally_over};
 
-use crate::{ReportFault, Stage, play};
+use crate::Stage;
+use crate::fault::ReportFault;
+use crate::playing::play;
 use oc_base::{Memory, NodeId, Shelf, put, put_with_number};
 use oc_io::{Sink, write_all};
 use oc_model::{Event, Mode};

@@ -141,7 +141,7 @@ fn deliver(fields: &[u8]) -> Result<Act, LineFault>
 
 /// The act that a line of this word and these fields says, in a run of `nodes` nodes, or the first
 /// cause for which it says none.
-pub fn act(alloc: Global, nodes: u32, word: &[u8], fields: &[u8]) -> Result<Act, LineFault>
+pub(crate) fn act(alloc: Global, nodes: u32, word: &[u8], fields: &[u8]) -> Result<Act, LineFault>
     ensures { GivesLine result (act_in nodes word.now (words fields.now)) }
 {
     if is(word, "tick") {
@@ -170,7 +170,7 @@ pub fn act(alloc: Global, nodes: u32, word: &[u8], fields: &[u8]) -> Result<Act,
 }
 
 /// Puts the words of an act line, with a space between each two.
-pub fn put_act(out: &mut Vec<u8>, act: &Act) -> Result<(), Memory>
+pub(crate) fn put_act(out: &mut Vec<u8>, act: &Act) -> Result<(), Memory>
     ensures { OnOk result (out.new.items ≡ out.old.items ++ spaced (act_words act.now)) }
 {
     put(out, word_of(act).as_bytes())?;

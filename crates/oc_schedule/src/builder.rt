@@ -7,8 +7,10 @@ ghost use Rattle.oc_schedule.specs.Schedule.{first_script, read_statement, with_
 ghost use Rattle.oc_schedule.specs.Acts.{bytes_of_act};
 ghost use Rattle.oc_schedule.specs.Script.{published_by, published_in, settles_by, settles_in};
 
+use crate::fault::LineFault;
+use crate::fields::is;
 use crate::lines::{area, event, opening};
-use crate::{LineFault, Schedule, ScheduleFault, What, is};
+use crate::{Schedule, ScheduleFault, What};
 use oc_base::{MAX_SCHEDULE_PUBLISHED, MAX_SCHEDULE_SETTLES, NodeId, Why};
 use oc_model::{Act, Event};
 use std::alloc::Global;

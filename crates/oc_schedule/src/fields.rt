@@ -10,7 +10,7 @@ use std::alloc::Global;
 
 /// Whether a word is this text. Most words differ from a text in their length, so that is looked at first.
 #[tactic(auto, using(crate::proofs::Alike::of_other_length))]
-pub fn is(word: &[u8], text: &str) -> bool
+pub(crate) fn is(word: &[u8], text: &str) -> bool
     ensures { result ≡ bytes_eq word.now text.now }
 {
     let text = text.as_bytes();

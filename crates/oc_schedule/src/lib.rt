@@ -1,22 +1,19 @@
-//! Schedules: the text of a run, and the header and the events that it says.
+//! The text of a run: a header and the events that follow it, read, printed and generated.
 //!
-//! [`read`] is what the layer above uses. It gives exactly what `schedule_of` makes of the bytes, the
-//! schedule or the first fault, unless memory runs out. `specs/Schedule` says how the lines follow
-//! one another and where the limits come, and `specs/Lines` what each kind of line says. Acts, the
-//! fields of lines and the faults are those of `oc_schedule`, words and numbers those of `oc_base`.
-//! What is read is within the ranges and the limits (`IsSchedule`), so that each event may be given
-//! to a stage.
+//! A schedule is text, one line for each thing: a header `overcast 1 nodes N chain C`, areas, and then
+//! events. [`read`] is what the layer above uses. It gives exactly what `schedule_of` makes of any bytes, the
+//! [`Schedule`] or its first fault, unless memory runs out. What is read is within the ranges and the limits
+//! (`IsSchedule`), so each event may be given to a stage. [`print`] writes a schedule, which reads back as the
+//! same, and [`generate`] makes the one of a seed.
 //!
-//! A new kind of line needs one definition in `specs/Lines`, one reader in `lines`, and a branch of
-//! `event_in` and `event`.
+//! A running node prints each input that it takes in the words of a schedule, by [`put_act_line`] and
+//! [`put_recv_line`].
 //!
-//! The acts of a schedule, one line of text each, and the faults of such a text.
-//!
-//! [`act`] reads the words of an act line and [`put_act`] writes them; a running node prints each input
-//! that it takes by [`put_act_line`] and [`put_recv_line`]. `oc_schedule`, above, has the other lines of a
-//! schedule and their order. `specs/Acts` says what each kind of act line says, `specs/Fields` what one
-//! word says that is no number, `specs/Texts` how words become a line, and `specs/Reading` how a reader
-//! meets its definition; words and numbers are those of `oc_base`.
+//! `specs/Schedule` says how the lines follow one another and where the limits come, `specs/Lines` and
+//! `specs/Acts` what each kind of line says, `specs/Fields` what one word says that is no number, and
+//! `specs/Printing` the text. Words and numbers are those of `oc_base`. A new kind of line needs a
+//! definition in `specs/Lines`, one reader in `lines`, and a branch of `event_in`, `event` and `put_event`;
+//! a new kind of input the same in `specs/Acts` and `acts`.
 #![tactic(auto)]
 
 mod act_lines;
@@ -33,14 +30,10 @@ mod schedule;
 mod texts;
 
 pub use act_lines::{put_act_line, put_recv_line};
-pub use acts::{act, put_act};
-pub use fault::{LineFault, ScheduleFault, What};
-pub use fields::is;
+pub use fault::{ScheduleFault, What};
 pub use generating::{MAX_GENERATED_EVENTS, generate};
 pub use law::{examples_are_read, generated_schedules_are_lawful};
-pub use oc_base::Why;
-pub use oc_model::{Act, Event};
 pub use printing::print;
 pub use reading::read;
 pub use schedule::Schedule;
-pub use texts::{put_bytes, put_number_field};
+pub use texts::put_bytes;

@@ -12,7 +12,10 @@ ghost use Rattle.oc_schedule.specs.Acts.{most_byte};
 ghost use Rattle.oc_schedule.specs.Texts.{spaced};
 ghost use Rattle.oc_schedule.specs.Reading.{GivesLine};
 
-use crate::{LineFault, act, is, put_act, put_number_field};
+use crate::acts::{act, put_act};
+use crate::fault::LineFault;
+use crate::fields::is;
+use crate::texts::put_number_field;
 use oc_base::words::{first_word, node, number, one_field, six_fields, two_fields};
 use oc_base::{MAX_CHAIN, MAX_NODES, Memory, NodeId, Why, put};
 use oc_model::Event;

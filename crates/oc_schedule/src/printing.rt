@@ -6,8 +6,9 @@ ghost use Rattle.oc_schedule.specs.Texts.{line_text};
 ghost use Rattle.oc_schedule.specs.Printing.{IsPrintable, area_text, areas_text, events_text, script_text};
 ghost use Rattle.oc_schedule.specs.Schedule.{schedule_of};
 
+use crate::Schedule;
 use crate::lines::put_event;
-use crate::{Schedule, put_number_field};
+use crate::texts::put_number_field;
 use oc_base::{Memory, put};
 use oc_model::Event;
 use std::alloc::Global;

@@ -15,7 +15,7 @@ pub(crate) fn put_field(out: &mut Vec<u8>, word: &[u8]) -> Result<(), Memory>
 }
 
 /// Puts a space and a number.
-pub fn put_number_field(out: &mut Vec<u8>, number: u64) -> Result<(), Memory>
+pub(crate) fn put_number_field(out: &mut Vec<u8>, number: u64) -> Result<(), Memory>
     ensures { OnOk result (out.new.items ≡ out.old.items ++ (codes " " ++ decimal number)) }
 {
     put_with_number(out, b" ", number)

@@ -7,7 +7,8 @@ ghost use Rattle.oc_model.specs.Lawful.{IsInput};
 ghost use Rattle.oc_model.specs.Step.{step};
 ghost use Rattle.oc_world.specs.ProcessView.{Renews};
 
-use crate::{Net, Process};
+use crate::net::Net;
+use crate::process::Process;
 use oc_base::Memory;
 use oc_model::{Answer, Input};
 use std::alloc::Global;
@@ -31,8 +32,7 @@ pub(crate) fn act(
 
     // Control files that are ripe are turned over.
     ensures renews { OnOk result (Renews process.old.kept process.new.kept) }
-    ensures process_err { OnErr result (process.new.process ≡ process.old.process) }
-    ensures messages_err { OnErr result (net.new.messages ≡ net.old.messages) }
+    ensures err { OnErr result ((process.new.process ≡ process.old.process) × (net.new.messages ≡ net.old.messages)) }
 {
     let ready = process.ready(input)?;
     let sent = Net::of(alloc, net.nodes(), ready.sends())?;

@@ -5,19 +5,19 @@ ghost use Rattle.oc_calm.specs.Cluster.{IsStep};
 ghost use Rattle.oc_model.specs.World.{World as WorldState, aimed, delivery, message_at};
 ghost use Rattle.oc_world.specs.Aims.{IsLawfulIfAny, aimed_of};
 
-use crate::Net;
+use crate::net::Net;
 use oc_base::{Memory, NodeId};
 use oc_model::{Act, Input};
 
 /// An input, and the node that it goes to.
 #[derive(Drop)]
-pub struct Aim {
-    pub node: NodeId,
-    pub input: Input,
+pub(crate) struct Aim {
+    pub(crate) node: NodeId,
+    pub(crate) input: Input,
 }
 
 /// The input of an act, and the node that it goes to; none where no message has the number of a delivery.
-pub fn aim_of(net: &Net, act: &Act) -> Result<Option<Aim>, Memory>
+pub(crate) fn aim_of(net: &Net, act: &Act) -> Result<Option<Aim>, Memory>
     requires { IsStep net.now.nodes act.now }
     ensures aimed { IfOk result (λ found. (w : WorldState) → w.net ≡ net.now.messages → option_map aimed_of found ≡ aimed w act.now) }
     ensures lawful { IfOk result (λ found. IsLawfulIfAny net.now.nodes found) }
@@ -84,7 +84,7 @@ fn delivery(net: &Net, number: u64) -> Result<Option<Aim>, Memory>
 }
 
 /// The index of a message by its number, which is counted from 1.
-pub fn message_place(number: u64, sent: usize) -> Option<usize>
+pub(crate) fn message_place(number: u64, sent: usize) -> Option<usize>
     ensures none { IfNone result ((number ≡ 0) ⊎ (sent < number)) }
     ensures some { IfSome result (λ at. (at + 1 ≡ number) × (at < sent)) }
 {

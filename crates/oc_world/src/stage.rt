@@ -4,9 +4,10 @@ ghost use Rattle.std.specs.Prelude.{◌≡◌, OnOk, OnErr};
 ghost use Rattle.oc_model.specs.Lawful.{IsHeader};
 ghost use Rattle.oc_model.specs.World.{new_world};
 
-use crate::{NodeStatus, Said, Stage, World};
+use crate::World;
 use oc_base::{Memory, NodeId, Shelf};
-use oc_model::{Event, Message};
+use oc_model::{Event, Message, NodeStatus};
+use oc_replay::{Said, Stage};
 
 impl Stage for World {
     ghost world = { λ w. w.world };

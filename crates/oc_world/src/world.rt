@@ -23,13 +23,16 @@ ghost use Rattle.oc_world.specs.Net.{IsTextOf};
 ghost use Rattle.oc_world.specs.World.{RenewsAt, RenewsBy, processes_of};
 
 use crate::acting::act;
-use crate::{Aim, Net, NodeStatus, Process, Said, aim_of, message_place};
+use crate::aims::{Aim, aim_of, message_place};
+use crate::net::Net;
+use crate::process::Process;
 use oc_base::{Memory, NodeId, Shelf};
 use oc_calm::{heal, is_settled, settle};
 use oc_io::MemDisk;
 use oc_keep::Node;
 use oc_laws_world::tests_decide;
-use oc_model::{Act, Answer, Event, Input, Message, Word};
+use oc_model::{Act, Answer, Event, Input, Message, NodeStatus, Word};
+use oc_replay::Said;
 use std::alloc::Global;
 use std::marker::Model;
 
@@ -84,12 +87,12 @@ impl World {
         })
     }
 
-    /// Does what an event does. Settle and heal are given only where no clock of a node that is up is
-    /// past the second 2^41 - 60.
+    /// Does what an event does, one within its ranges, and says its word and which messages it sent.
+    /// Settle and heal are given only where no clock of a node that is up is past the second 2^41 - 60.
     ///
-    /// If memory runs out, the world stays as it was, or for settle and heal as it was before one of
-    /// the acts that they are made of; the files of a node may have been turned over. It answers `Memory`
-    /// also where more than 2^63 - 2 messages would have been sent.
+    /// It answers `Memory` where memory ran out, or where more than 2^63 - 2 messages would have been sent.
+    /// Then the world is as it was; for settle and heal it is the world after some of the first acts that they
+    /// are made of. The control files of nodes may have been turned over, which changes no node.
     pub fn event(&mut self, event: &Event) -> Result<Said, Memory>
         requires event { IsEvent (length (ids self.old.world)) event.now }
         requires time { HasTimeFor self.old.world event.now }

@@ -179,7 +179,7 @@ invariant_of-self c =
     let i = c.index-at.result in
     let failed = c.in_err-answer.ensures in
     subst (λ (n : ℕ). IsNetwork s.chain (processes_of (slice_set sites i c.act.new.process)) n) (sym failed.nodes)
-    (subst (λ (l : List Process). IsNetwork s.chain l s.net.nodes) (sym (unchanged sites i c.index_mut-process.result.now c.act.new.process c.index_mut-process.ensures.value failed.process_err)) c.self.invariant)
+    (subst (λ (l : List Process). IsNetwork s.chain l s.net.nodes) (sym (unchanged sites i c.index_mut-process.result.now c.act.new.process c.index_mut-process.ensures.value failed.err.0)) c.self.invariant)
 
 pub returns-in_err-answer-clause-err : goal.returns-in_err-answer-clause-err
 returns-in_err-answer-clause-err c =
@@ -188,6 +188,6 @@ returns-in_err-answer-clause-err c =
     let i = c.index-at.result in
     let failed = c.in_err-answer.ensures in
     let same : world_of (processes_of (slice_set sites i c.act.new.process)) c.act.new.net.messages ≡ c.args.self.now.world =
-    ap (λ (l : List Process). world_of l c.act.new.net.messages) (unchanged sites i c.index_mut-process.result.now c.act.new.process c.index_mut-process.ensures.value failed.process_err)
-    ∙ (ap (λ (ms : List Message). world_of (processes_of sites) ms) failed.messages_err ∙ ap (λ (v : WorldView). v.world) c.self.view_is) in
+    ap (λ (l : List Process). world_of l c.act.new.net.messages) (unchanged sites i c.index_mut-process.result.now c.act.new.process c.index_mut-process.ensures.value failed.err.0)
+    ∙ (ap (λ (ms : List Message). world_of (processes_of sites) ms) failed.err.1 ∙ ap (λ (v : WorldView). v.world) c.self.view_is) in
     on_err c.from_residual.result (world_of (processes_of (slice_set sites i c.act.new.process)) c.act.new.net.messages ≡ c.args.self.now.world) same

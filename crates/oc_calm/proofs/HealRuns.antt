@@ -2,6 +2,7 @@
 use Rattle.std.proofs.Common.{◌≡◌, ℕ, zero, suc, ◌*◌, Bool, true, false, ◌==◌, ◌&&◌, Option, Some, None, is_some, List, refl, ap, sym, subst, ◌∙◌, eq-eqb, ne_eqb}
 use Rattle.std.specs.List.{list_all}
 use Rattle.oc_model.specs.declared.event.Act.TheVariants as acts
+use Rattle.oc_model.specs.declared.input.Input.TheVariants as inputs
 use Rattle.oc_model.specs.declared.mode.Mode.{Mode}
 use Rattle.oc_model.specs.declared.mode.Mode.TheVariants.{Idle, Asking, Joined, Acting}
 use Rattle.oc_model.specs.Adopting.{is_acting}
@@ -42,17 +43,17 @@ rise_rests (suc n) m w acts =
     ap (λ (f : Mode). and_then (rises f m w) (rises_in n m)) mode ∙ rise_rests n m w acts
 
 -- where it is idle it checks
-pub idle_rises : (m : ℕ) (w : World) → mode_of w m ≡ Idle → act_run (acts.Check m) w ≡ rise_once_run m w
+pub idle_rises : (m : ℕ) (w : World) → mode_of w m ≡ Idle → act_run (acts.At m inputs.CheckNow) w ≡ rise_once_run m w
 unfolding act_run rise_once_run
 idle_rises m w e = ap (λ (f : Mode). rises f m w) (sym e)
 
 -- where it asks, its peer is unreachable
-pub asking_rises : (m p : ℕ) (w : World) → mode_of w m ≡ Asking p → act_run (acts.Fail m p) w ≡ rise_once_run m w
+pub asking_rises : (m p : ℕ) (w : World) → mode_of w m ≡ Asking p → act_run (acts.At m (inputs.Unreachable p)) w ≡ rise_once_run m w
 unfolding act_run rise_once_run
 asking_rises m p w e = ap (λ (f : Mode). rises f m w) (sym e)
 
 -- and so where it is joined
-pub joined_rises : (m p : ℕ) (w : World) → mode_of w m ≡ Joined p → act_run (acts.Fail m p) w ≡ rise_once_run m w
+pub joined_rises : (m p : ℕ) (w : World) → mode_of w m ≡ Joined p → act_run (acts.At m (inputs.Unreachable p)) w ≡ rise_once_run m w
 unfolding act_run rise_once_run
 joined_rises m p w e = ap (λ (f : Mode). rises f m w) (sym e)
 

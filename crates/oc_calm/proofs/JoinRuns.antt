@@ -1,12 +1,13 @@
 -- What the runs by which a node joins another are made of.
 use Rattle.std.proofs.Common.{◌≡◌, ℕ, List, refl, ap}
 use Rattle.oc_model.specs.declared.event.Act.TheVariants as acts
+use Rattle.oc_model.specs.declared.input.Input.TheVariants as inputs
 use Rattle.oc_model.specs.Runs.{Run, and_then, for_each}
 use Rattle.oc_model.specs.World.{World}
 use Rattle.oc_calm.specs.Played.{act_run, ask_run, check_in_run, delivery_run, join_by_run, join_run, nodes_below, rank_run}
 
 -- an ask
-pub ask_is : (p x : ℕ) (w : World) → and_then (act_run (acts.Move x p) w) delivery_run ≡ ask_run p x w
+pub ask_is : (p x : ℕ) (w : World) → and_then (act_run (acts.At x (inputs.Relocate p)) w) delivery_run ≡ ask_run p x w
 unfolding act_run delivery_run ask_run
 ask_is p x w = refl
 
@@ -25,7 +26,7 @@ unfolding down_run
 down_is m p v xs e = ap (λ (ys : List ℕ). for_each ys check_in_run v) e
 
 -- the leader checks first
-pub rank_is : (m p : ℕ) (w : World) → and_then (act_run (acts.Check m) w) (down_run m p) ≡ rank_run m p w
+pub rank_is : (m p : ℕ) (w : World) → and_then (act_run (acts.At m inputs.CheckNow) w) (down_run m p) ≡ rank_run m p w
 unfolding act_run down_run nodes_below check_in_run rank_run
 rank_is m p w = refl
 

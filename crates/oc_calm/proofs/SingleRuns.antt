@@ -1,6 +1,7 @@
 -- What the runs that single calls play are made of.
 use Rattle.std.proofs.Common.{◌≡◌, ℕ, ◌+◌, true, false, Option, Some, None, length, refl, ap, sym}
 use Rattle.oc_model.specs.declared.event.Act.TheVariants as acts
+use Rattle.oc_model.specs.declared.input.Input.TheVariants as inputs
 use Rattle.oc_model.specs.declared.message.Body.{Body}
 use Rattle.oc_model.specs.declared.message.Body.TheVariants as bodies
 use Rattle.oc_model.specs.declared.mode.Mode.{Mode}
@@ -13,9 +14,9 @@ use Rattle.oc_calm.specs.Cluster.{is_ack}
 use Rattle.oc_calm.specs.Played.{act_run, ack_run, check_in_run, delivery_run, joined_run, tick_run}
 
 -- a tick
-pub tick_is : (more x t : ℕ) (w : World) → t ≡ clock_of w x + more → act_run (acts.Tick x t) w ≡ tick_run more x w
+pub tick_is : (more x t : ℕ) (w : World) → t ≡ clock_of w x + more → act_run (acts.At x (inputs.Tick t)) w ≡ tick_run more x w
 unfolding act_run tick_run
-tick_is more x t w e = ap (λ (u : ℕ). does (acts.Tick x u) w) e
+tick_is more x t w e = ap (λ (u : ℕ). does (acts.At x (inputs.Tick u)) w) e
 
 -- a delivery
 pub delivery_is : (k : ℕ) (w : World) → k ≡ length w.net → act_run (acts.Deliver k) w ≡ delivery_run w
@@ -50,7 +51,7 @@ unfolding ack_run
 no_ack_is w e = nothing_taken (last_body w) w e
 
 -- a check-in
-pub check_in_is : (x : ℕ) (w : World) → and_then (and_then (act_run (acts.Check x) w) delivery_run) ack_run ≡ check_in_run x w
+pub check_in_is : (x : ℕ) (w : World) → and_then (and_then (act_run (acts.At x inputs.CheckNow) w) delivery_run) ack_run ≡ check_in_run x w
 unfolding act_run delivery_run ack_run check_in_run
 check_in_is x w = refl
 

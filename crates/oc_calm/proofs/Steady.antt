@@ -5,7 +5,7 @@ use Rattle.oc_model.specs.declared.event.Act.{Act}
 use Rattle.oc_model.specs.declared.input.Input.{Input}
 use Rattle.oc_model.specs.Runs.{after_acts}
 use Rattle.oc_model.specs.Step.{step}
-use Rattle.oc_model.specs.World.{World, Process, Aimed, node, process, process_in, with_process, ids, is_up, up_ids, stepped, aimed, acted, after_act}
+use Rattle.oc_model.specs.World.{World, Process, Arrival, node, process, process_in, with_process, ids, is_up, up_ids, stepped, arrival, acted, after_act}
 use Rattle.oc_model.proofs.GoesOn.{ids-after_acts}
 use Rattle.oc_model.proofs.Outcomes.{step_leaves}
 use Rattle.oc_model.proofs.Processes.{process_in-me, process_in-with_other, process_in-with_up}
@@ -30,7 +30,7 @@ up_stepped w x y i up = ⊎_elim here there (cases_eq q.node.control.me y) where
   there other = ap (λ (p : Process). p.up) (process_in-with_other w.processes q y other)
 
 -- so does an act
-up_acted : (w : World) (a : Option Aimed) (y : ℕ) → is_up (acted w a) y ≡ is_up w y
+up_acted : (w : World) (a : Option Arrival) (y : ℕ) → is_up (acted w a) y ≡ is_up w y
 up_acted w None y = refl
 up_acted w (Some a) y =
     cond_both (process w a.at).up (stepped w a.input (step (node w a.at) a.input)) w (λ v. is_up v y ≡ is_up w y) (λ up. up_stepped w a.at y a.input up) (λ _. refl)
@@ -38,7 +38,7 @@ up_acted w (Some a) y =
 -- and so do acts one after another
 pub up_stays : (w : World) (done : List Act) (y : ℕ) → is_up (after_acts w done) y ≡ is_up w y
 up_stays w [] y = refl
-up_stays w (a ∷ rest) y = up_stays (after_act w a) rest y ∙ up_acted w (aimed w a) y
+up_stays w (a ∷ rest) y = up_stays (after_act w a) rest y ∙ up_acted w (arrival w a) y
 
 -- two tests that agree leave the same of a list
 pub same_filter : (f g : ℕ → Bool) → ((x : ℕ) → f x ≡ g x) → (xs : List ℕ) → filter f xs ≡ filter g xs

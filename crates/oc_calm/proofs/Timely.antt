@@ -12,7 +12,7 @@ use Rattle.oc_model.specs.Heal.{heals}
 use Rattle.oc_model.specs.Runs.{Run, for_each}
 use Rattle.oc_model.specs.Settle.{ticks, settles}
 use Rattle.oc_model.specs.Step.{step}
-use Rattle.oc_model.specs.World.{World, Aimed, node, process, ids, is_up, up_ids, message_at, stepped, delivery, aimed, acted}
+use Rattle.oc_model.specs.World.{World, Arrival, node, process, ids, is_up, up_ids, message_at, stepped, delivery, arrival, acted}
 use Rattle.oc_model.specs.WorldBounds.{IsOneOf, IsDistinct, clock_of}
 use Rattle.oc_model.proofs.Clocks.{range_distinct}
 use Rattle.oc_model.proofs.GoesOn.{ids-after_acts}
@@ -34,7 +34,7 @@ clock_stepped w x y t i new old =
     (λ e. subst (λ (c : ℕ). c ≤ t) (sym (step_leaves (node w x) i).clock) (new (sym (me_after w x i) ∙ e))) old
 
 -- an input that is no tick
-abbrev TellsNoTime : Option Aimed → Type 0
+abbrev TellsNoTime : Option Arrival → Type 0
 TellsNoTime None = Unit {0}
 TellsNoTime (Some a) = (c : ℕ) → clock_by a.input c ≡ c
 
@@ -42,20 +42,14 @@ delivery_quiet : (m : Option Message) → TellsNoTime (delivery m)
 delivery_quiet None = tt
 delivery_quiet (Some m) = λ c. refl
 
-act_quiet : (w : World) (a : Act) → IsNoTick a → TellsNoTime (aimed w a)
-act_quiet w (acts.Tick x t) no_tick = absurd no_tick
-act_quiet w (acts.Check x) no_tick = λ c. refl
-act_quiet w (acts.Move x p) no_tick = λ c. refl
-act_quiet w (acts.Fail x p) no_tick = λ c. refl
-act_quiet w (acts.Pull x p) no_tick = λ c. refl
-act_quiet w (acts.Measure x p rate hops) no_tick = λ c. refl
-act_quiet w (acts.Publish x g bytes) no_tick = λ c. refl
-act_quiet w (acts.Seal x g) no_tick = λ c. refl
-act_quiet w (acts.Client x area start g) no_tick = λ c. refl
+act_quiet : (w : World) (a : Act) → IsNoTick a → TellsNoTime (arrival w a)
+act_quiet w (acts.At x (inputs.Tick t)) no_tick = absurd no_tick
+act_quiet w (acts.At x (inputs.Delivered m)) no_tick = tt
+act_quiet w (acts.At x i) no_tick = λ c. refl
 act_quiet w (acts.Deliver k) no_tick = delivery_quiet (message_at w.net k)
 
 -- leaves each clock before a second
-clock_quiet : (w : World) (a : Option Aimed) (y t : ℕ) → TellsNoTime a → clock_of w y ≤ t → clock_of (acted w a) y ≤ t
+clock_quiet : (w : World) (a : Option Arrival) (y t : ℕ) → TellsNoTime a → clock_of w y ≤ t → clock_of (acted w a) y ≤ t
 clock_quiet w None y t quiet before = before
 clock_quiet w (Some a) y t quiet before =
     cond_both (process w a.at).up (stepped w a.input (step (node w a.at) a.input)) w (λ v. clock_of v y ≤ t)
@@ -91,7 +85,7 @@ ticks_timely more t (x ∷ xs) w late distinct early before =
     let here : clock_of w x ≤ t = early x (inl refl) in
     let rest = ticks_timely more t xs (ticks more x w).world late distinct.1
     (λ y one. tick_other w x more y t (λ e. distinct.0 (subst (λ z. IsOneOf z xs) e one)) (early y (inr one)))
-    (λ y up. tick_before w x more y t here (before y (sym (up_stays w (acts.Tick x (clock_of w x + more) ∷ []) y) ∙ up))) in
+    (λ y up. tick_before w x more y t here (before y (sym (up_stays w (acts.At x (inputs.Tick (clock_of w x + more)) ∷ []) y) ∙ up))) in
     let now : clock_of w x + more ≤ LAST_SECOND = omega (arith, here, late) in
     ((now, rest.0), rest.1)
 
@@ -104,12 +98,13 @@ record IsInTime (k : ℕ) (w : World) (r : Run) : Type 0 where
 
 ticks_same : (more : ℕ) (xs : List ℕ) (w : World) → ids (for_each xs (ticks more) w).world ≡ ids w
 ticks_same more [] w = refl
-ticks_same more (x ∷ xs) w = ticks_same more xs (ticks more x w).world ∙ ids-after_acts w (acts.Tick x (clock_of w x + more) ∷ [])
+ticks_same more (x ∷ xs) w = ticks_same more xs (ticks more x w).world ∙ ids-after_acts w (acts.At x (inputs.Tick (clock_of w x + more)) ∷ [])
 
 -- an act that is no tick is timely
 act_timely : (a : Act) → IsNoTick a → IsTimely a
-act_timely (acts.Tick x t) no_tick = absurd no_tick
-act_timely a no_tick = tt
+act_timely (acts.At x (inputs.Tick t)) no_tick = absurd no_tick
+act_timely (acts.At x i) no_tick = tt
+act_timely (acts.Deliver k) no_tick = tt
 
 in_time : IsCourse IsInTime
 in_time = record {
@@ -118,7 +113,7 @@ in_time = record {
     same = ids-after_acts w (a ∷ []);
     timely = λ distinct t late before. (
       (act_timely a no_tick, tt),
-      λ y up. clock_quiet w (aimed w a) y (t + 0) (act_quiet w a no_tick) (omega (arith, before y (sym (up_stays w (a ∷ []) y) ∙ up))),
+      λ y up. clock_quiet w (arrival w a) y (t + 0) (act_quiet w a no_tick) (omega (arith, before y (sym (up_stays w (a ∷ []) y) ∙ up))),
     );
   };
   follows = λ j k w r f first second. record {

@@ -5,12 +5,13 @@ use Rattle.oc_base.specs.Lawful.{IsNode, IsLong}
 use Rattle.oc_base.specs.declared.limits.TheConstants.{LAST_SECOND}
 use Rattle.oc_model.specs.declared.event.Act.{Act}
 use Rattle.oc_model.specs.declared.event.Act.TheVariants as acts
+use Rattle.oc_model.specs.declared.input.Input.TheVariants as inputs
 use Rattle.oc_model.specs.declared.message.Body.{Body}
 use Rattle.oc_model.specs.declared.message.Body.TheVariants.{CheckAck}
 use Rattle.oc_model.specs.declared.mode.Mode.{Mode}
 use Rattle.oc_model.specs.declared.mode.Mode.TheVariants.{Asking, Joined}
 use Rattle.oc_model.specs.Chains.{IsUp}
-use Rattle.oc_model.specs.Lawful.{IsAct}
+use Rattle.oc_model.specs.Lawful.{IsInput}
 use Rattle.oc_model.specs.Plan.{is_member}
 use Rattle.oc_model.specs.Table.{leased_by}
 use Rattle.oc_model.specs.World.{World, node, ids, up_ids}
@@ -24,12 +25,10 @@ IsNodeOf w x = IsNode (length (ids w)) x
 abbrev pub IsUpNode : World → ℕ → Type 0
 IsUpNode w x = IsNodeOf w x × IsUp w x
 
--- an act that a cluster of `nodes` nodes takes: a tick up to the last second of a clock, a delivery of any number, and any other
--- act within the ranges of a schedule
+-- an act that a cluster of `nodes` nodes takes: any input of a node, or a delivery of any number
 abbrev pub IsStep : ℕ → Act → Type 0
-IsStep nodes (acts.Tick x t) = IsNode nodes x × (t ≤ LAST_SECOND)
+IsStep nodes (acts.At x i) = IsNode nodes x × IsInput nodes x i
 IsStep nodes (acts.Deliver k) = IsLong k
-IsStep nodes a = IsAct nodes a
 
 abbrev pub IsStepOf : World → Act → Type 0
 IsStepOf w a = IsStep (length (ids w)) a

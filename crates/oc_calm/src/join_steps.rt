@@ -10,7 +10,7 @@ use crate::playing::{ask, join, play};
 use crate::rounds::each_checks_in;
 use crate::tree::below;
 use oc_base::{Memory, NodeId};
-use oc_model::Act;
+use oc_model::{Act, Input};
 use std::alloc::Global;
 
 /// A node joins another by way of the leader, whose rank its ask may raise: it asks the leader, which tells
@@ -48,7 +48,14 @@ fn tell_rank<C: Cluster>(
     ensures ok { OnOk result (Plays (rank_run leader node) (C.world cluster.old) (C.world cluster.new) acts.old acts.new) }
     ensures err { OnErr result (Begins (rank_run leader node) (C.world cluster.old) (C.world cluster.new)) }
 {
-    play(cluster, &Act::Check { node: leader }, acts)?;
+    play(
+        cluster,
+        &Act::At {
+            node: leader,
+            input: Input::CheckNow,
+        },
+        acts,
+    )?;
     let nodes = below(alloc, cluster, leader, node)?;
     each_checks_in(cluster, &nodes, acts)
 }

@@ -12,9 +12,8 @@ use crate::Cluster;
 use crate::join_steps::join_by;
 use crate::placing::{forget, is_placed, none_known};
 use crate::playing::{join, play};
-use crate::tree::is_acting;
 use oc_base::{Memory, NodeId};
-use oc_model::{Act, Mode};
+use oc_model::{Act, Input, Mode};
 use std::alloc::Global;
 
 /// The leader comes to act as root. It asks each earlier chain member twice at most.
@@ -28,7 +27,7 @@ pub(crate) fn rise<C: Cluster>(
     ensures err { OnErr result (Begins (rise_run leader) (C.world cluster.old) (C.world cluster.new)) }
 {
     'rising: for _ in 0..2 * u64::from(leader.0) {
-        if is_acting(cluster.mode(leader)) {
+        if cluster.mode(leader).is_acting() {
             return Ok(());
         }
         rise_once(cluster, leader, acts)?;
@@ -43,9 +42,30 @@ fn rise_once<C: Cluster>(cluster: &mut C, leader: NodeId, acts: &mut u64) -> Res
     ensures err { OnErr result (Begins (rise_once_run leader) (C.world cluster.old) (C.world cluster.new)) }
 {
     match cluster.mode(leader) {
-        Mode::Idle => play(cluster, &Act::Check { node: leader }, acts),
-        Mode::Asking(peer) => play(cluster, &Act::Fail { node: leader, peer }, acts),
-        Mode::Joined(peer) => play(cluster, &Act::Fail { node: leader, peer }, acts),
+        Mode::Idle => play(
+            cluster,
+            &Act::At {
+                node: leader,
+                input: Input::CheckNow,
+            },
+            acts,
+        ),
+        Mode::Asking(peer) => play(
+            cluster,
+            &Act::At {
+                node: leader,
+                input: Input::Unreachable(peer),
+            },
+            acts,
+        ),
+        Mode::Joined(peer) => play(
+            cluster,
+            &Act::At {
+                node: leader,
+                input: Input::Unreachable(peer),
+            },
+            acts,
+        ),
         Mode::Acting => Ok(()),
     }
 }

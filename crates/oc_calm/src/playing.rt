@@ -9,7 +9,7 @@ ghost use Rattle.oc_calm.specs.Way.{Begins, Plays};
 
 use crate::Cluster;
 use oc_base::{Memory, NodeId};
-use oc_model::{Act, Mode};
+use oc_model::{Act, Input, Mode};
 
 /// Plays one act. It answers `Memory` also where the count cannot grow any more.
 pub fn play<C: Cluster>(cluster: &mut C, act: &Act, acts: &mut u64) -> Result<(), Memory>
@@ -43,7 +43,14 @@ pub(crate) fn tick<C: Cluster>(
     ensures err { OnErr result (Begins (tick_run more node) (C.world cluster.old) (C.world cluster.new)) }
 {
     let now = cluster.clock(node) + more;
-    play(cluster, &Act::Tick { node, now }, acts)
+    play(
+        cluster,
+        &Act::At {
+            node,
+            input: Input::Tick(now),
+        },
+        acts,
+    )
 }
 
 /// The message that was sent last is delivered.
@@ -72,7 +79,14 @@ pub fn check_in<C: Cluster>(cluster: &mut C, node: NodeId, acts: &mut u64) -> Re
     ensures ok { OnOk result (Plays (check_in_run node) (C.world cluster.old) (C.world cluster.new) acts.old acts.new) }
     ensures err { OnErr result (Begins (check_in_run node) (C.world cluster.old) (C.world cluster.new)) }
 {
-    play(cluster, &Act::Check { node }, acts)?;
+    play(
+        cluster,
+        &Act::At {
+            node,
+            input: Input::CheckNow,
+        },
+        acts,
+    )?;
     deliver_last(cluster, acts)?;
     deliver_ack(cluster, acts)
 }
@@ -105,7 +119,14 @@ pub fn ask<C: Cluster>(
     ensures ok { OnOk result (Plays (ask_run peer node) (C.world cluster.old) (C.world cluster.new) acts.old acts.new) }
     ensures err { OnErr result (Begins (ask_run peer node) (C.world cluster.old) (C.world cluster.new)) }
 {
-    play(cluster, &Act::Move { node, peer }, acts)?;
+    play(
+        cluster,
+        &Act::At {
+            node,
+            input: Input::Relocate(peer),
+        },
+        acts,
+    )?;
     deliver_last(cluster, acts)
 }
 

@@ -8,7 +8,7 @@ ghost use Rattle.oc_model.specs.Ready.{is_root, is_ready};
 ghost use Rattle.oc_model.specs.World.{ids};
 
 use crate::Cluster;
-use crate::tree::{has_way, is_acting, is_linked, is_root};
+use crate::tree::{has_way, is_linked, is_root};
 use oc_base::NodeId;
 
 /// The first node that is up and acts as root.
@@ -61,7 +61,7 @@ fn fits_under<C: Cluster>(
 {
     !cluster.is_up(node)
         || node == root
-        || (!is_acting(cluster.mode(node))
+        || (!cluster.mode(node).is_acting()
             && has_chain(cluster, lengths, node)
             && is_linked(cluster, node))
 }

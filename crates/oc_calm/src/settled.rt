@@ -3,7 +3,6 @@
 ghost use Rattle.std.specs.Prelude.{◌≡◌};
 ghost use Rattle.std.specs.List.{list_all};
 ghost use Rattle.oc_calm.specs.Cluster.{HasNoStranger, IsNodeOf, IsUpNode};
-ghost use Rattle.oc_model.specs.Checking.{is_joined_to};
 ghost use Rattle.oc_model.specs.Ready.{has_told, holds_current, is_calm, is_current, is_settled};
 ghost use Rattle.oc_model.specs.Table.{leased_by};
 ghost use Rattle.oc_model.specs.World.{ids, node as node_in};
@@ -77,19 +76,9 @@ fn is_current<C: Cluster>(cluster: &C, parent: NodeId, child: NodeId) -> bool
     match cluster.lease(parent, child) {
         Some(seq) => {
             cluster.is_up(child)
-                && is_joined_to(cluster.mode(child), parent)
+                && cluster.mode(child).is_joined_to(parent)
                 && cluster.seq(child) == seq
         }
         None => true,
-    }
-}
-
-/// Whether this is the mode of a node that is joined to the parent.
-fn is_joined_to(mode: Mode, parent: NodeId) -> bool
-    ensures { result ≡ is_joined_to mode parent }
-{
-    match mode {
-        Mode::Joined(peer) => peer == parent,
-        _ => false,
     }
 }

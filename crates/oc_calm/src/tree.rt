@@ -5,7 +5,7 @@ ghost use Rattle.std.specs.List.{AllByRecursion};
 ghost use Rattle.oc_calm.specs.Cluster.{IsNodeOf, IsUpNode};
 ghost use Rattle.oc_calm.specs.Played.{nodes_below};
 ghost use Rattle.oc_calm.specs.Tree.{chain_length, is_positive, parent_of as parent_in, is_linked};
-ghost use Rattle.oc_model.specs.Adopting.{is_acting, is_number};
+ghost use Rattle.oc_model.specs.Adopting.{is_number};
 ghost use Rattle.oc_model.specs.Ready.{is_root};
 
 use crate::Cluster;
@@ -34,14 +34,7 @@ pub fn is_root<C: Cluster>(cluster: &C, node: NodeId) -> bool
     requires { IsNodeOf (C.world cluster.now) node }
     ensures { result ≡ is_root (C.world cluster.now) node }
 {
-    cluster.is_up(node) && is_acting(cluster.mode(node))
-}
-
-/// Whether this is the mode of a root.
-pub fn is_acting(mode: Mode) -> bool
-    ensures { result ≡ is_acting mode }
-{
-    matches!(mode, Mode::Acting)
+    cluster.is_up(node) && cluster.mode(node).is_acting()
 }
 
 /// Whether this is the number that was found.

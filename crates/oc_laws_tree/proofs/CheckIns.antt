@@ -112,17 +112,17 @@ last_at w m (ms, is) = ap (λ (net : List Message). message_at net (length net))
 pub last_body_is : (w : World) (m : Message) → IsLast w m → last_body w ≡ Some m.body
 last_body_is w m last = ap body_in (last_at w m last)
 
-last_aimed : (w : World) (m : Message) → IsLast w m → (delivers_last w).world ≡ acted w (Some (record { at = m.to; input = inputs.Delivered m }))
-last_aimed w m last = ap (λ (found : Option Message). acted w (delivery found)) (last_at w m last)
+last_arrival : (w : World) (m : Message) → IsLast w m → (delivers_last w).world ≡ acted w (Some (record { at = m.to; input = inputs.Delivered m }))
+last_arrival w m last = ap (λ (found : Option Message). acted w (delivery found)) (last_at w m last)
 
 -- its delivery
 pub last_goes : (w : World) (m : Message) → IsLast w m → IsUp w m.to
     → Goes w m.to (step (node w m.to) (inputs.Delivered m)).node.control (step (node w m.to) (inputs.Delivered m)).sends (delivers_last w).world
 last_goes w m last up =
-    subst (λ (v : World). Goes w m.to (step (node w m.to) (inputs.Delivered m)).node.control (step (node w m.to) (inputs.Delivered m)).sends v) (sym (last_aimed w m last)) (act_goes w m.to (inputs.Delivered m) up)
+    subst (λ (v : World). Goes w m.to (step (node w m.to) (inputs.Delivered m)).node.control (step (node w m.to) (inputs.Delivered m)).sends v) (sym (last_arrival w m last)) (act_goes w m.to (inputs.Delivered m) up)
 
 pub last_rests : (w : World) (m : Message) → IsLast w m → is_up w m.to ≡ false → (delivers_last w).world ≡ w
-last_rests w m last down = last_aimed w m last ∙ act_rests w m.to (inputs.Delivered m) down
+last_rests w m last down = last_arrival w m last ∙ act_rests w m.to (inputs.Delivered m) down
 
 -- what goes and sends one message has it as the last
 pub goes_last : (w : World) (x : ℕ) (n : Control) (ms : List Message) (m : Message) (v : World) → Goes w x n ms v → ms ≡ m ∷ [] → IsLast v m
@@ -145,10 +145,10 @@ pub record ChecksAt (w : World) (x p : ℕ) (v : World) : Type 0 where
   pub rate : ℕ
   pub last : IsLast v (from_to x p (CheckIn (seq_of w x) (place_after (log_of w x)) rate (control_of v x).kept.number (control_of v x).kept.clients (next_certs (log_of w x))))
 
-pub checks_at : (w : World) (x p : ℕ) → IsUp w x → IsJoined w x p → ChecksAt w x p (after_act w (acts.Check x))
+pub checks_at : (w : World) (x p : ℕ) → IsUp w x → IsJoined w x p → ChecksAt w x p (after_act w (acts.At x inputs.CheckNow))
 checks_at w x p up joins =
     let n : Control = control_of w x in
-    let v : World = after_act w (acts.Check x) in
+    let v : World = after_act w (acts.At x inputs.CheckNow) in
     let o : Plan = plan n (shelf (node w x).groups) inputs.CheckNow in
     let goes : Goes w x o.node (step (node w x) inputs.CheckNow).sends v = act_goes w x inputs.CheckNow up in
     let sends : SendsCheckIn n p o = check_sends n p joins in
@@ -254,7 +254,7 @@ counted_joined k = cond_both (has_uncounted k) (with_count k) k (λ (j : Core). 
 
 pub checks_in_once : (w : World) (x p : ℕ) → (x ≡ p → ⊥) → IsUp w x → IsJoined w x p → IsUp w p → HoldsLease w p x (seq_of w x) → ChecksIn w x p (checks_in x w)
 checks_in_once w x p apart up joins parent_up leased =
-    let w1 : World = after_act w (acts.Check x) in
+    let w1 : World = after_act w (acts.At x inputs.CheckNow) in
     let first : ChecksAt w x p w1 = checks_at w x p up joins in
     let parent1 : control_of w1 p ≡ control_of w p = first.others p apart in
     let w2 : World = (delivers_last w1).world in
@@ -274,7 +274,7 @@ checks_in_once w x p apart up joins parent_up leased =
     let third : AckedAt w2 x p (place_after (log_of w x)) told xs w3 =
     acked_at w2 x p (place_after (log_of w x)) told xs (subst (λ (s : ℕ). IsLast w2 (from_to p x (CheckAck s (place_after (log_of w x)) told xs))) (sym seq2) second.last) (second.up x ∙ (first.up x ∙ up)) joins2 in
     let answered : last_body w2 ≡ Some (CheckAck (seq_of w x) (place_after (log_of w x)) told xs) = last_body_is w2 _ second.last in
-    let whole : checks_in x w ≡ and_then (and_then (does (acts.Check x) w) delivers_last) delivers_last = ap (λ (b : Option Body). and_then (and_then (does (acts.Check x) w) delivers_last) (λ v. takes_ack b w2)) answered in
+    let whole : checks_in x w ≡ and_then (and_then (does (acts.At x inputs.CheckNow) w) delivers_last) delivers_last = ap (λ (b : Option Body). and_then (and_then (does (acts.At x inputs.CheckNow) w) delivers_last) (λ v. takes_ack b w2)) answered in
     let parent3 : control_of w3 p ≡ control_of w2 p = third.others p apart in
     let count3 : (control_of w3 x).kept.number ≡ number = ap (λ (k : Core). k.number) third.core ∙ ap (λ (k : Control). k.kept.number) child2 in
     let clients3 : (control_of w3 x).kept.clients ≡ clients = ap (λ (k : Core). k.clients) third.core ∙ ap (λ (k : Control). k.kept.clients) child2 in

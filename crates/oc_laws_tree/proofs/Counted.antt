@@ -1,6 +1,7 @@
 -- How many acts the first five steps of settle take.
 use Rattle.std.proofs.Common.{◌≡◌, ℕ, ◌+◌, ◌*◌, ◌≤◌, Bool, true, false, if◌then◌else◌, Option, Some, None, List, [], ◌∷◌, inl, inr, filter, length, refl, ap, sym, ◌∙◌, arith, length-append}
 use Rattle.oc_model.specs.declared.event.Act.TheVariants as acts
+use Rattle.oc_model.specs.declared.input.Input.TheVariants as inputs
 use Rattle.oc_model.specs.declared.message.Body.{Body}
 use Rattle.oc_model.specs.declared.message.Body.TheVariants as bodies
 use Rattle.oc_model.specs.declared.mode.Mode.{Mode}
@@ -33,7 +34,7 @@ takes_most (Some b) w = omega arith
 
 checks_in_most : (x : ℕ) (w : World) → length (checks_in x w).acts ≤ 3
 checks_in_most x w =
-    let told : Run = and_then (does (acts.Check x) w) delivers_last in
+    let told : Run = and_then (does (acts.At x inputs.CheckNow) w) delivers_last in
     omega (arith, takes_most (last_body told.world) told.world, length-append told.acts (takes_any_ack told.world).acts)
 
 checks_if_most : (m : Mode) (x : ℕ) (w : World) → length (checks_in_if m x w).acts ≤ 3

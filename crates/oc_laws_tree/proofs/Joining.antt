@@ -55,10 +55,10 @@ pub record CanMove (w : World) (x q : ℕ) : Type 0 where
   pub earlier : is_member (control_of w x) ≡ true → q ≤ x
   pub more : seq_of w x < number_end
 
-moves_at : (w : World) (x q : ℕ) → CanMove w x q → MovesAt w x q (after_act w (acts.Move x q))
+moves_at : (w : World) (x q : ℕ) → CanMove w x q → MovesAt w x q (after_act w (acts.At x (inputs.Relocate q)))
 moves_at w x q can =
     let n : Control = control_of w x in
-    let v : World = after_act w (acts.Move x q) in
+    let v : World = after_act w (acts.At x (inputs.Relocate q)) in
     let o : Plan = plan n (shelf (node w x).groups) (inputs.Relocate q) in
     let goes : Goes w x o.node (step (node w x) (inputs.Relocate q)).sends v = act_goes w x (inputs.Relocate q) can.up in
     let sends : SendsAsk n q o = move_sends n q (λ e. can.other (sym (e ∙ me_is w x))) (λ e. can.first (sym (me_is w x) ∙ e))
@@ -179,7 +179,7 @@ pub comes_beneath : (h : Header) (w : World) (x q : ℕ) (o : Plan) → Reached 
     → ComesBeneath h w x q o (joins q x w)
 comes_beneath h w x q o reached can up raised has may =
     let s : ℕ = seq_of w x + 1 in
-    let w1 : World = after_act w (acts.Move x q) in
+    let w1 : World = after_act w (acts.At x (inputs.Relocate q)) in
     let first : MovesAt w x q w1 = moves_at w x q can in
     let host1 : control_of w1 q ≡ control_of w q = first.others q can.other in
     let new : IsNew (control_of w1 q) q x s = subst (λ (k : Control). IsNew k q x s) (sym host1) (is_new h w q x s reached (omega arith)) in
@@ -198,7 +198,7 @@ comes_beneath h w x q o reached can up raised has may =
     let host3 : control_of w3 q ≡ control_of w2 q = third.others q can.other in
     record {
       acts = refl;
-      reached = reached_delivers h w2 (reached_delivers h w1 (reached_act h w (acts.Move x q) reached));
+      reached = reached_delivers h w2 (reached_delivers h w1 (reached_act h w (acts.At x (inputs.Relocate q)) reached));
       up = λ y. third.up y ∙ (second.up y ∙ first.up y);
       others = λ y not_x not_q. third.others y not_x ∙ (second.others y not_q ∙ first.others y not_x);
       child = third.core ∙ ap₂ (λ (k : Core) (m : Control). record k { mode = Joined q; rank = Some (beneath_of told); ancestors = ancestors_by q m.kept.ancestors }) core2 host1;
@@ -222,7 +222,7 @@ pub asks_in_vain : (h : Header) (w : World) (x q : ℕ) (o : Plan) → Reached h
     → AsksInVain h w x q o (asks q x w)
 asks_in_vain h w x q o reached can up raised has refuses =
     let s : ℕ = seq_of w x + 1 in
-    let w1 : World = after_act w (acts.Move x q) in
+    let w1 : World = after_act w (acts.At x (inputs.Relocate q)) in
     let first : MovesAt w x q w1 = moves_at w x q can in
     let host1 : control_of w1 q ≡ control_of w q = first.others q can.other in
     let w2 : World = (delivers_last w1).world in
@@ -230,7 +230,7 @@ asks_in_vain h w x q o reached can up raised has refuses =
     let child2 : control_of w2 x ≡ control_of w1 x = second.others x (λ e. can.other (sym e)) in
     record {
       acts = refl;
-      reached = reached_delivers h w1 (reached_act h w (acts.Move x q) reached);
+      reached = reached_delivers h w1 (reached_act h w (acts.At x (inputs.Relocate q)) reached);
       up = λ y. second.up y ∙ first.up y;
       others = λ y not_x not_q. second.others y not_q ∙ first.others y not_x;
       child = ap core_of child2 ∙ first.core;

@@ -20,7 +20,7 @@ use Rattle.oc_model.specs.Numbers.{number_end}
 use Rattle.oc_model.specs.Plan.{Plan, begun, write, answers, with_soft, searching, is_member}
 use Rattle.oc_model.specs.Runs.{Run, rests, does, and_then}
 use Rattle.oc_model.specs.Step.{step}
-use Rattle.oc_model.specs.World.{World, node, is_up, mode_of, aimed, acted, after_act}
+use Rattle.oc_model.specs.World.{World, node, is_up, mode_of, arrival, acted, after_act}
 use Rattle.oc_laws_world.specs.Ranks.{own_rank}
 use Rattle.oc_laws_world.proofs.Lifts.{control_of}
 use Rattle.oc_laws_tree.proofs.CheckIns.{Goes, act_goes, me_is}
@@ -152,10 +152,10 @@ record RisesOnce (h : Header) (w : World) (m : ℕ) (r : Run) : Type 0 where
   to : HasRisenTo h w m 1 r.world
   few : left_of (control_of r.world m) ≤ left_of (control_of w m) - 1
 
-goes_once : (h : Header) (w : World) (m : ℕ) (i : Input) (a : Act) → aimed w a ≡ Some (record { at = m; input = i }) → Reached h w → IsUp w m → HasRisen (control_of w m) (left_of (control_of w m) - 1) (step (node w m) i).node.control → RisesOnce h w m (does a w)
-goes_once h w m i a aims reached up risen =
+goes_once : (h : Header) (w : World) (m : ℕ) (i : Input) (a : Act) → arrival w a ≡ Some (record { at = m; input = i }) → Reached h w → IsUp w m → HasRisen (control_of w m) (left_of (control_of w m) - 1) (step (node w m) i).node.control → RisesOnce h w m (does a w)
+goes_once h w m i a comes reached up risen =
     let v : World = after_act w a in
-    let goes : Goes w m (step (node w m) i).node.control (step (node w m) i).sends v = subst (λ (u : World). Goes w m (step (node w m) i).node.control (step (node w m) i).sends u) (sym (ap (acted w) aims)) (act_goes w m i up) in
+    let goes : Goes w m (step (node w m) i).node.control (step (node w m) i).sends v = subst (λ (u : World). Goes w m (step (node w m) i).node.control (step (node w m) i).sends u) (sym (ap (acted w) comes)) (act_goes w m i up) in
     record {
       acts = refl;
       to = record {
@@ -177,9 +177,9 @@ rises_once h w m reached up some member below other = by_mode (mode_of w m) refl
   more = ne_eqb (seq_of w m) number_end (λ e. omega (arith, e, below))
 
   by_mode : (k : Mode) → mode_of w m ≡ k → RisesOnce h w m (rises k m w)
-  by_mode modes.Idle e = goes_once h w m inputs.CheckNow (acts.Check m) refl reached up (risen_check (control_of w m) first member more e)
-  by_mode (modes.Asking p) e = goes_once h w m (inputs.Unreachable p) (acts.Fail m p) refl reached up (risen_asking (control_of w m) first member more p e)
-  by_mode (modes.Joined p) e = goes_once h w m (inputs.Unreachable p) (acts.Fail m p) refl reached up (risen_joined (control_of w m) first member more p e)
+  by_mode modes.Idle e = goes_once h w m inputs.CheckNow (acts.At m inputs.CheckNow) refl reached up (risen_check (control_of w m) first member more e)
+  by_mode (modes.Asking p) e = goes_once h w m (inputs.Unreachable p) (acts.At m (inputs.Unreachable p)) refl reached up (risen_asking (control_of w m) first member more p e)
+  by_mode (modes.Joined p) e = goes_once h w m (inputs.Unreachable p) (acts.At m (inputs.Unreachable p)) refl reached up (risen_joined (control_of w m) first member more p e)
   by_mode modes.Acting e = absurd (other e)
 
 -- All of them

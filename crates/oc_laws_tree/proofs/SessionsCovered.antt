@@ -9,7 +9,7 @@ use Rattle.oc_model.specs.NextWorld.{stopped, cut_off, keeps_write, stopped_at}
 use Rattle.oc_model.specs.Node.{Node}
 use Rattle.oc_model.specs.Numbers.{IsAmong}
 use Rattle.oc_model.specs.Step.{step}
-use Rattle.oc_model.specs.World.{World, Process, Aimed, process, process_in, node, with_process, stepped, aimed, acted}
+use Rattle.oc_model.specs.World.{World, Process, Arrival, process, process_in, node, with_process, stepped, arrival, acted}
 use Rattle.oc_model.proofs.Outcomes.{step_leaves}
 use Rattle.oc_model.proofs.Processes.{process_in-me, at_put, at_put_up, anew, again}
 use Rattle.oc_laws_world.specs.Numbers.{IsAnywhere}
@@ -79,7 +79,7 @@ log_cut true w x y i up = inr (log_put w x y (stopped (step (node w x) i).node) 
   me : (step (node w x) i).node.control.me ≡ x
   me = (step_leaves (node w x) i).me ∙ process_in-me w.processes x
 
-log_stopped : (w : World) (calls image y : ℕ) (a : Option Aimed) → (log_of (stopped_at w calls image a) y ≡ log_of w y) ⊎ (log_of (stopped_at w calls image a) y ≡ log_of (acted w a) y)
+log_stopped : (w : World) (calls image y : ℕ) (a : Option Arrival) → (log_of (stopped_at w calls image a) y ≡ log_of w y) ⊎ (log_of (stopped_at w calls image a) y ≡ log_of (acted w a) y)
 log_stopped w calls image y None = inl refl
 log_stopped w calls image y (Some a) = by_up (process w a.at).up refl where
   kept : Bool
@@ -94,5 +94,5 @@ pub restarts_keep : (w : World) → RestartsKeepLogs w
 restarts_keep w = record {
   starts = λ z x. cond_both (process w z).up w (again w z true) (λ (v : World). log_of v x ≡ log_of w x) (λ _. refl) (λ _. log_again w z x true);
   crashes = λ z x. cond_both (process w z).up (again w z false) w (λ (v : World). log_of v x ≡ log_of w x) (λ _. log_again w z x false) (λ _. refl);
-  stops = λ calls image x a. log_stopped w calls image x (aimed w a);
+  stops = λ calls image x a. log_stopped w calls image x (arrival w a);
 }

@@ -72,7 +72,7 @@ tick_keeps h more w x reached up =
     let ticked : HasTicked (control_of w x) t (control_of v x) =
     subst (λ (k : Control). HasTicked (control_of w x) t k) (sym goes.here) (subst (λ (s : ℕ). HasTicked (control_of w x) s (step (node w x) (inputs.Tick t)).node.control) now (has_ticked (control_of w x) (shelf (node w x).groups) t)) in
     record {
-      reached = reached_act h w (acts.Tick x t) reached;
+      reached = reached_act h w (acts.At x (inputs.Tick t)) reached;
       steady = λ y. ⊎_elim
           (λ (same : x ≡ y). subst (Stays w v) same (stays_checked w v x (goes.up x) core))
           (λ apart. stays_core w v y (goes.up y) (ap core_of (goes.others y apart))) (cases_eq x y);

@@ -71,9 +71,9 @@ reached_takes h w b reached = reached
 
 pub reached_checks_in : (h : Header) (w : World) (x : ℕ) → Reached h w → Reached h (checks_in x w).world
 reached_checks_in h w x reached =
-    let w1 : World = after_act w (acts.Check x) in
+    let w1 : World = after_act w (acts.At x inputs.CheckNow) in
     let w2 : World = (delivers_last w1).world in
-    reached_takes h w2 (last_body w2) (reached_delivers h w1 (reached_act h w (acts.Check x) reached))
+    reached_takes h w2 (last_body w2) (reached_delivers h w1 (reached_act h w (acts.At x inputs.CheckNow) reached))
 
 -- nobody is its own parent
 pub parent_apart : (h : Header) (w : World) → Reached h w → (x p : ℕ) → IsJoined w x p → x ≡ p → ⊥
@@ -129,7 +129,7 @@ vain_parent w x p seq upto rate number clients certs last none = by_up (is_up w 
 
 checks_in_vain : (w : World) (x p : ℕ) → (x ≡ p → ⊥) → IsUp w x → IsJoined w x p → (IsUp w p → HoldsLease w p x (seq_of w x) → ⊥) → InVain w x (checks_in x w).world
 checks_in_vain w x p apart up joins none =
-    let w1 : World = after_act w (acts.Check x) in
+    let w1 : World = after_act w (acts.At x inputs.CheckNow) in
     let w2 : World = (delivers_last w1).world in
     let first : ChecksAt w x p w1 = checks_at w x p up joins in
     let second = vain_parent w1 x p (seq_of w x) (place_after (log_of w x)) first.rate (control_of w1 x).kept.number (control_of w1 x).kept.clients (next_certs (log_of w x)) first.last

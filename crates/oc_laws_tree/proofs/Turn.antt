@@ -44,17 +44,17 @@ pub record RaisesAt (h : Header) (w : World) (m epoch : ℕ) (v : World) : Type 
   pub others : (y : ℕ) → (m ≡ y → ⊥) → control_of v y ≡ control_of w y
   pub up : (y : ℕ) → is_up v y ≡ is_up w y
 
-pub raises_at : (h : Header) (w : World) (m epoch : ℕ) → Reached h w → IsRoot w m → own_rank w m ≡ Some (record { epoch = epoch; depth = 0 }) → epoch < number_end → RaisesAt h w m epoch (after_act w (acts.Check m))
+pub raises_at : (h : Header) (w : World) (m epoch : ℕ) → Reached h w → IsRoot w m → own_rank w m ≡ Some (record { epoch = epoch; depth = 0 }) → epoch < number_end → RaisesAt h w m epoch (after_act w (acts.At m inputs.CheckNow))
 raises_at h w m epoch reached root rank room =
     let n : Control = control_of w m in
     let o : Plan = with_soft (begun n) (record n.soft { due = Some (next_check n) }) in
-    let goes : Goes w m (step (node w m) inputs.CheckNow).node.control (step (node w m) inputs.CheckNow).sends (after_act w (acts.Check m)) = act_goes w m inputs.CheckNow root.0 in
+    let goes : Goes w m (step (node w m) inputs.CheckNow).node.control (step (node w m) inputs.CheckNow).sends (after_act w (acts.At m inputs.CheckNow)) = act_goes w m inputs.CheckNow root.0 in
     let next : raise (rank_or_last n.kept.rank).epoch ≡ Some (epoch + 1) =
     ap (λ (r : Option Rank). raise (rank_or_last r).epoch) rank ∙ ap (λ b. if b then None else Some (epoch + 1)) (ne_eqb epoch number_end (λ e. omega (arith, e, room))) in
     let is : checks (begun n) ≡ raises o (Some (epoch + 1)) = ap (λ (k : Mode). checks_as k o) root.1 ∙ ap (raises o) next in
-    let here : control_of (after_act w (acts.Check m)) m ≡ (raises o (Some (epoch + 1))).node = goes.here ∙ ap (λ (q : Plan). q.node) is in
+    let here : control_of (after_act w (acts.At m inputs.CheckNow)) m ≡ (raises o (Some (epoch + 1))).node = goes.here ∙ ap (λ (q : Plan). q.node) is in
     record {
-      reached = reached_act h w (acts.Check m) reached;
+      reached = reached_act h w (acts.At m inputs.CheckNow) reached;
       core = ap core_of here;
       rest = subst (λ (k : Control). HasSameRest n k) (sym here) record { table = refl; leases = refl; clock = refl };
       others = goes.others;

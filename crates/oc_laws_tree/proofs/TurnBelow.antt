@@ -5,6 +5,7 @@ use Rattle.std.proofs.lemmas.Bool.{cases_eq, or_left, or_cases, and_parts, false
 use Rattle.oc_base.specs.declared.rank.Rank.{Rank}
 use Rattle.oc_base.specs.declared.limits.TheConstants.{MAX_DEPTH}
 use Rattle.oc_model.specs.declared.event.Act.TheVariants as acts
+use Rattle.oc_model.specs.declared.input.Input.TheVariants as inputs
 use Rattle.oc_model.specs.declared.mode.Mode.TheVariants.{Asking, Joined}
 use Rattle.oc_model.specs.Adopting.{is_acting, in_tree}
 use Rattle.oc_model.specs.Adoption.{rank_or_last, precedes_any}
@@ -82,7 +83,7 @@ module _ (h : Header) (m : ℕ) (w : World) (x p most : ℕ) (can : CanPut h m w
 
   -- then the root checks, and its epoch is past that of x
   abbrev u2 : World
-  u2 = after_act u1 (acts.Check m)
+  u2 = after_act u1 (acts.At m inputs.CheckNow)
 
   abbrev epoch : ℕ
   epoch = (risen h m w x p most can).top.0.epoch

@@ -1,8 +1,9 @@
 use Rattle.std.specs.Prelude.{◌≡◌, ℕ, ◌<◌, Some, List, [], ◌∷◌, ◌++◌, codes}
 use Rattle.oc_base.specs.declared.cert.Cert.{Cert}
-use Rattle.oc_model.specs.declared.event.Act.TheVariants.{Tick, Check, Pull, Publish, Client, Fail, Deliver}
+use Rattle.oc_model.specs.declared.event.Act.TheVariants.{At, Deliver}
 use Rattle.oc_model.specs.declared.event.Event.{Event}
 use Rattle.oc_model.specs.declared.event.Event.TheVariants.{Up, Crash, Do}
+use Rattle.oc_model.specs.declared.input.Input.TheVariants.{Tick, CheckNow, Pull, Publish, Client, Unreachable}
 use Rattle.oc_model.specs.Chains.{IsRoot, true_line}
 use Rattle.oc_model.specs.ClaimsTree.{table_of, HasMissingCause, HasWrongCause}
 use Rattle.oc_model.specs.ExampleRuns.{header, join}
@@ -16,8 +17,8 @@ use Rattle.oc_model.specs.World.{World, new_world, node}
 
 abbrev failing : List Event
 failing =
-    (Up 1 ∷ Up 2 ∷ Up 3 ∷ Up 4 ∷ Up 5 ∷ Do (Tick 1 0) ∷ []) ++ join 2 1 1 ++ join 3 2 3 ++ join 4 2 5 ++ join 5 2 7
-    ++ (Crash 2 ∷ Do (Fail 3 2) ∷ Do (Fail 4 2) ∷ Do (Fail 5 2) ∷ Do (Deliver 9) ∷ Do (Deliver 10) ∷ Do (Deliver 11) ∷ Do (Deliver 12) ∷ Do (Deliver 13) ∷ Do (Deliver 14) ∷ [])
+    (Up 1 ∷ Up 2 ∷ Up 3 ∷ Up 4 ∷ Up 5 ∷ Do (At 1 (Tick 0)) ∷ []) ++ join 2 1 1 ++ join 3 2 3 ++ join 4 2 5 ++ join 5 2 7
+    ++ (Crash 2 ∷ Do (At 3 (Unreachable 2)) ∷ Do (At 4 (Unreachable 2)) ∷ Do (At 5 (Unreachable 2)) ∷ Do (Deliver 9) ∷ Do (Deliver 10) ∷ Do (Deliver 11) ∷ Do (Deliver 12) ∷ Do (Deliver 13) ∷ Do (Deliver 14) ∷ [])
 
 abbrev failed : World
 failed = world_after (new_world (header 5 1 (0 ∷ 0 ∷ 0 ∷ 0 ∷ 0 ∷ []))) failing
@@ -30,9 +31,9 @@ WrongCauseOccurs = (table_line (table_of failed 1) 1 2 ≡ Some 1) × HasWrongCa
 
 abbrev serving : List Event
 serving =
-    (Up 1 ∷ Up 2 ∷ Up 3 ∷ Do (Tick 1 0) ∷ []) ++ join 2 1 1 ++ join 3 2 3
-    ++ (Do (Check 2) ∷ Do (Deliver 5) ∷ Do (Deliver 6) ∷ Do (Publish 1 (codes "/a") []) ∷ Do (Pull 3 1) ∷ Do (Deliver 7) ∷ Do (Deliver 8) ∷ Do (Client 3 0 0 (codes "/a"))
-    ∷ Do (Check 3) ∷ [])
+    (Up 1 ∷ Up 2 ∷ Up 3 ∷ Do (At 1 (Tick 0)) ∷ []) ++ join 2 1 1 ++ join 3 2 3
+    ++ (Do (At 2 CheckNow) ∷ Do (Deliver 5) ∷ Do (Deliver 6) ∷ Do (At 1 (Publish (codes "/a") [])) ∷ Do (At 3 (Pull 1)) ∷ Do (Deliver 7) ∷ Do (Deliver 8) ∷ Do (At 3 (Client 0 0 (codes "/a")))
+    ∷ Do (At 3 CheckNow) ∷ [])
 
 -- it has counted the client
 abbrev counted : World

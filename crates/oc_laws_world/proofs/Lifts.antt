@@ -5,6 +5,7 @@ use Rattle.std.proofs.lemmas.Bool.{cond_both, cases_eq}
 use Rattle.std.specs.Prelude.{slice_get}
 use Rattle.oc_model.specs.declared.event.Act.{Act}
 use Rattle.oc_model.specs.declared.event.Act.TheVariants as acts
+use Rattle.oc_model.specs.declared.input.Input.TheVariants as inputs
 use Rattle.oc_model.specs.declared.event.Event.{Event}
 use Rattle.oc_model.specs.declared.event.Event.TheVariants.{Up, Crash, Stop, Do, Held, Show, Settle, Heal}
 use Rattle.oc_model.specs.declared.message.Body.{Body}
@@ -14,7 +15,7 @@ use Rattle.oc_model.specs.Node.{Control, Outcome}
 use Rattle.oc_model.specs.Numbers.{IsAmong}
 use Rattle.oc_model.specs.Runs.{after_acts}
 use Rattle.oc_model.specs.Step.{step}
-use Rattle.oc_model.specs.World.{World, Process, Aimed, absent, node, process, process_in, with_process, message_at, source_after, stepped, delivery, aimed, acted, after_act}
+use Rattle.oc_model.specs.World.{World, Process, Arrival, absent, node, process, process_in, with_process, message_at, source_after, stepped, delivery, arrival, acted, after_act}
 use Rattle.oc_model.proofs.Outcomes.{step_leaves}
 use Rattle.oc_model.proofs.Processes.{IsPutOrAbsent, process_in-me, process_in-with_up, process_in-with_other, process_in-with_same, anew, again}
 use Rattle.oc_laws_step.specs.Sound.{IsTable}
@@ -96,38 +97,39 @@ found_among (a ∷ rest) zero m e = inl cc
 found_among (a ∷ rest) (suc k) m e = inr (found_among rest k m e)
 
 -- the input of an act has come where it is a message
-abbrev pub IsTrueAim : World → Option Aimed → Type 0
-IsTrueAim w None = Unit {0}
-IsTrueAim w (Some a) = HasCome (HasSent w a.at) a.input
+abbrev pub IsTrueArrival : World → Option Arrival → Type 0
+IsTrueArrival w None = Unit {0}
+IsTrueArrival w (Some a) = HasCome (HasSent w a.at) a.input
 
-delivery_came : (w : World) (k : ℕ) → IsTrueAim w (delivery (message_at w.net k))
+delivery_came : (w : World) (k : ℕ) → IsTrueArrival w (delivery (message_at w.net k))
 delivery_came w zero = tt
 delivery_came w (suc k) = by_found (message_at w.net (suc k)) refl where
-  by_found : (found : Option Message) → message_at w.net (suc k) ≡ found → IsTrueAim w (delivery found)
+  by_found : (found : Option Message) → message_at w.net (suc k) ≡ found → IsTrueArrival w (delivery found)
   by_found None e = tt
   by_found (Some m) e = found_among w.net k m e
 
-pub aim_came : (w : World) (a : Act) → IsTrueAim w (aimed w a)
-aim_came w (acts.Deliver k) = delivery_came w k
-aim_came w a = tt
+pub arrival_came : (w : World) (a : Act) → IsTrueArrival w (arrival w a)
+arrival_came w (acts.At x (inputs.Delivered m)) = tt
+arrival_came w (acts.At x i) = tt
+arrival_came w (acts.Deliver k) = delivery_came w k
 
 -- Laws of inputs
 
 -- where G holds, each true input at a node that is up keeps J, with what it sends and where a stop cuts that off; so do starts and stops
 pub record IsActLaw (G J : World → Type 0) : Type 0 where
   pub starts : (w : World) (x : ℕ) (up : Bool) → J w → J (again w x up)
-  pub takes : (w : World) (a : Aimed) → IsTrueAim w (Some a) → (process w a.at).up ≡ true → G w → J w → J (stepped w a.input (step (node w a.at) a.input))
-  pub stops : (w : World) (a : Aimed) → IsTrueAim w (Some a) → (process w a.at).up ≡ true → G w → J w → J (cut_off true w (node w a.at) a.input (step (node w a.at) a.input))
+  pub takes : (w : World) (a : Arrival) → IsTrueArrival w (Some a) → (process w a.at).up ≡ true → G w → J w → J (stepped w a.input (step (node w a.at) a.input))
+  pub stops : (w : World) (a : Arrival) → IsTrueArrival w (Some a) → (process w a.at).up ≡ true → G w → J w → J (cut_off true w (node w a.at) a.input (step (node w a.at) a.input))
 
 module _ (G J : World → Type 0) (law : IsActLaw G J) (goes_on : (w : World) (a : Act) → G w → G (after_act w a)) where
-  act_acted : (w : World) (a : Option Aimed) → IsTrueAim w a → G w → J w → J (acted w a)
+  act_acted : (w : World) (a : Option Arrival) → IsTrueArrival w a → G w → J w → J (acted w a)
   act_acted w None truth beside holds = holds
   act_acted w (Some a) truth beside holds =
       cond_both (process w a.at).up (stepped w a.input (step (node w a.at) a.input)) w J (λ up. law.takes w a truth up beside holds) (λ _. holds)
 
   -- each act keeps the law
   pub act_lift : (w : World) (a : Act) → G w → J w → J (after_act w a)
-  act_lift w a beside holds = act_acted w (aimed w a) (aim_came w a) beside holds
+  act_lift w a beside holds = act_acted w (arrival w a) (arrival_came w a) beside holds
 
   act_acts : (w : World) (done : List Act) → G w → J w → J (after_acts w done)
   act_acts w [] beside holds = holds
@@ -137,11 +139,11 @@ module _ (G J : World → Type 0) (law : IsActLaw G J) (goes_on : (w : World) (a
   act_any w None beside holds = holds
   act_any w (Some done) beside holds = act_acts w done beside holds
 
-  act_cut : (b : Bool) (w : World) (a : Aimed) → IsTrueAim w (Some a) → (process w a.at).up ≡ true → G w → J w → J (cut_off b w (node w a.at) a.input (step (node w a.at) a.input))
+  act_cut : (b : Bool) (w : World) (a : Arrival) → IsTrueArrival w (Some a) → (process w a.at).up ≡ true → G w → J w → J (cut_off b w (node w a.at) a.input (step (node w a.at) a.input))
   act_cut true w a truth up beside holds = law.stops w a truth up beside holds
   act_cut false w a truth up beside holds = law.starts w a.at false holds
 
-  act_stop : (w : World) (calls image : ℕ) (a : Option Aimed) → IsTrueAim w a → G w → J w → J (stopped_at w calls image a)
+  act_stop : (w : World) (calls image : ℕ) (a : Option Arrival) → IsTrueArrival w a → G w → J w → J (stopped_at w calls image a)
   act_stop w calls image None truth beside holds = holds
   act_stop w calls image (Some a) truth beside holds =
       let kept : Bool = keeps_write calls image (node w a.at) a.input in
@@ -151,7 +153,7 @@ module _ (G J : World → Type 0) (law : IsActLaw G J) (goes_on : (w : World) (a
   pub act_event : (w : World) (e : Event) → G w → J w → J (next_world w e)
   act_event w (Up x) beside holds = cond_both (process w x).up w (again w x true) J (λ _. holds) (λ _. law.starts w x true holds)
   act_event w (Crash x) beside holds = cond_both (process w x).up (again w x false) w J (λ _. law.starts w x false holds) (λ _. holds)
-  act_event w (Stop calls image a) beside holds = act_stop w calls image (aimed w a) (aim_came w a) beside holds
+  act_event w (Stop calls image a) beside holds = act_stop w calls image (arrival w a) (arrival_came w a) beside holds
   act_event w (Do a) beside holds = act_lift w a beside holds
   act_event w (Held x) beside holds = holds
   act_event w (Show x) beside holds = holds
@@ -162,10 +164,10 @@ module _ (G J : World → Type 0) (law : IsActLaw G J) (goes_on : (w : World) (a
 
 module _ (J : World → Type 0) (P : World → ℕ → Control → List Message → Type 0) (law : IsLaw J P) (tables : (w : World) → J w → AreTables w) where
   -- what a step at x leaves has the law's part
-  lift_step : (w : World) (a : Aimed) → IsTrueAim w (Some a) → J w → P w a.at (step (node w a.at) a.input).node.control (step (node w a.at) a.input).sends
+  lift_step : (w : World) (a : Arrival) → IsTrueArrival w (Some a) → J w → P w a.at (step (node w a.at) a.input).node.control (step (node w a.at) a.input).sends
   lift_step w a truth holds = walks_step (HasSent w a.at) (P w a.at) (law.keeps w a.at holds) (node w a.at) a.input (tables w holds a.at) truth (law.begins w a.at holds)
 
-  step_me : (w : World) (a : Aimed) → (step (node w a.at) a.input).node.control.me ≡ a.at
+  step_me : (w : World) (a : Arrival) → (step (node w a.at) a.input).node.control.me ≡ a.at
   step_me w a = (step_leaves (node w a.at) a.input).me ∙ process_in-me w.processes a.at
 
   -- so each input keeps the law, with no other beside it; of one in which the node stops, what it kept is there, and what it sent is lost

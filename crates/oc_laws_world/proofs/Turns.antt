@@ -4,6 +4,7 @@ use Rattle.std.specs.List.{AllByRecursion, range_with_len}
 use Rattle.std.proofs.lemmas.Bool.{cond_both}
 use Rattle.oc_model.specs.declared.event.Act.{Act}
 use Rattle.oc_model.specs.declared.event.Act.TheVariants as acts
+use Rattle.oc_model.specs.declared.input.Input.TheVariants as inputs
 use Rattle.oc_model.specs.declared.event.Event.{Event}
 use Rattle.oc_model.specs.declared.event.Event.TheVariants.{Up, Crash, Stop, Do, Held, Show, Settle, Heal}
 use Rattle.oc_base.specs.declared.group.Group.{Group}
@@ -12,7 +13,7 @@ use Rattle.oc_model.specs.NextWorld.{stopped, cut_off, keeps_write, stopped_at, 
 use Rattle.oc_model.specs.Node.{Header, Node, Outcome, new_node, restarted}
 use Rattle.oc_model.specs.Runs.{after_acts}
 use Rattle.oc_model.specs.Step.{step}
-use Rattle.oc_model.specs.World.{World, Process, Aimed, node, process, process_in, with_process, new_world, message_at, source_after, stepped, delivery, aimed, acted, after_act}
+use Rattle.oc_model.specs.World.{World, Process, Arrival, node, process, process_in, with_process, new_world, message_at, source_after, stepped, delivery, arrival, acted, after_act}
 use Rattle.oc_model.proofs.Lists.{all_weaker, all_append, all_get}
 use Rattle.oc_model.proofs.Processes.{IsNew, process_in-me, process_in-with_up, process_in-new, at_put, at_put_up, anew, again}
 use Rattle.oc_laws_world.proofs.Fair.{Ready, MaySend}
@@ -149,25 +150,26 @@ lost_turn w x s q h = record { sound = record { ready = step_ready w x s q h; ne
 -- An event
 
 -- the input of an act is true
-abbrev IsTrueAim : List Group → Option Aimed → Type 0
-IsTrueAim s None = Unit {0}
-IsTrueAim s (Some a) = IsTrueInput s a.input
+abbrev IsTrueArrival : List Group → Option Arrival → Type 0
+IsTrueArrival s None = Unit {0}
+IsTrueArrival s (Some a) = IsTrueInput s a.input
 
 -- what is delivered is true, since it was sent
-delivery_true : (w : World) → Sound w → (k : ℕ) → IsTrueAim w.source (delivery (message_at w.net k))
+delivery_true : (w : World) → Sound w → (k : ℕ) → IsTrueArrival w.source (delivery (message_at w.net k))
 delivery_true w sound zero = tt
 delivery_true w sound (suc k) = by_found (message_at w.net (suc k)) refl where
-  by_found : (found : Option Message) → message_at w.net (suc k) ≡ found → IsTrueAim w.source (delivery found)
+  by_found : (found : Option Message) → message_at w.net (suc k) ≡ found → IsTrueArrival w.source (delivery found)
   by_found None e = tt
   by_found (Some m) e = let said = all_get (IsTrueIn w) w.net k m sound.net e in said.source
 
 -- the input of an act is true
-aim_true : (w : World) → Sound w → (a : Act) → IsTrueAim w.source (aimed w a)
-aim_true w sound (acts.Deliver k) = delivery_true w sound k
-aim_true w sound a = tt
+arrival_true : (w : World) → Sound w → (a : Act) → IsTrueArrival w.source (arrival w a)
+arrival_true w sound (acts.At x (inputs.Delivered m)) = tt
+arrival_true w sound (acts.At x i) = tt
+arrival_true w sound (acts.Deliver k) = delivery_true w sound k
 
 -- what the step of an input at a node that is up leads to, where its process goes on as it is or started anew
-step_of : (w : World) → Sound w → (a : Aimed) → IsTrueInput w.source a.input → (process w a.at).up ≡ true
+step_of : (w : World) → Sound w → (a : Arrival) → IsTrueInput w.source a.input → (process w a.at).up ≡ true
     → (q : Process) → q.node.control.me ≡ (step (node w a.at) a.input).node.control.me → q.node.groups ≡ (step (node w a.at) a.input).node.groups
     → Ready (source_after w.source a.input (step (node w a.at) a.input).answer) q.node
     → Step w a.at (source_after w.source a.input (step (node w a.at) a.input).answer) q
@@ -184,7 +186,7 @@ step_of w sound a truth up q me groups ready =
     }
 
 -- an act is a turn
-acted_turn : (w : World) → Sound w → (a : Option Aimed) → IsTrueAim w.source a → Turn w (acted w a)
+acted_turn : (w : World) → Sound w → (a : Option Arrival) → IsTrueArrival w.source a → Turn w (acted w a)
 acted_turn w sound None truth = turn_itself w sound
 acted_turn w sound (Some a) truth =
     let o : Outcome = step (node w a.at) a.input in
@@ -195,7 +197,7 @@ acted_turn w sound (Some a) truth =
     (λ _. turn_itself w sound)
 
 pub act_turn : (w : World) → Sound w → (a : Act) → Turn w (after_act w a)
-act_turn w sound a = acted_turn w sound (aimed w a) (aim_true w sound a)
+act_turn w sound a = acted_turn w sound (arrival w a) (arrival_true w sound a)
 
 -- and so are acts, one after another
 pub acts_turn : (w : World) → Sound w → (done : List Act) → Turn w (after_acts w done)
@@ -209,7 +211,7 @@ any_turn w sound None = turn_itself w sound
 any_turn w sound (Some done) = acts_turn w sound done
 
 -- a stop is a turn, whether its write is kept or not
-stop_turn : (w : World) → Sound w → (calls image : ℕ) (a : Option Aimed) → IsTrueAim w.source a → Turn w (stopped_at w calls image a)
+stop_turn : (w : World) → Sound w → (calls image : ℕ) (a : Option Arrival) → IsTrueArrival w.source a → Turn w (stopped_at w calls image a)
 stop_turn w sound calls image None truth = turn_itself w sound
 stop_turn w sound calls image (Some a) truth =
     let o : Outcome = step (node w a.at) a.input in
@@ -228,7 +230,7 @@ stop_turn w sound calls image (Some a) truth =
 pub event_turn : (w : World) → Sound w → (e : Event) → Turn w (next_world w e)
 event_turn w sound (Up x) = cond_both (process w x).up w (again w x true) (Turn w) (λ _. turn_itself w sound) (λ _. again_turn w x true sound)
 event_turn w sound (Crash x) = cond_both (process w x).up (again w x false) w (Turn w) (λ _. again_turn w x false sound) (λ _. turn_itself w sound)
-event_turn w sound (Stop calls image a) = stop_turn w sound calls image (aimed w a) (aim_true w sound a)
+event_turn w sound (Stop calls image a) = stop_turn w sound calls image (arrival w a) (arrival_true w sound a)
 event_turn w sound (Do a) = act_turn w sound a
 event_turn w sound (Held x) = turn_itself w sound
 event_turn w sound (Show x) = turn_itself w sound

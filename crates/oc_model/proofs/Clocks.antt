@@ -17,7 +17,7 @@ use Rattle.oc_model.specs.Ready.{is_ready}
 use Rattle.oc_model.specs.Runs.{after_acts, Run, for_each}
 use Rattle.oc_model.specs.Settle.{ticks, settles}
 use Rattle.oc_model.specs.Step.{step}
-use Rattle.oc_model.specs.World.{World, Process, Aimed, node, process, process_in, with_process, ids, is_up, up_ids, message_at, stepped, delivery, aimed, acted}
+use Rattle.oc_model.specs.World.{World, Process, Arrival, node, process, process_in, with_process, ids, is_up, up_ids, message_at, stepped, delivery, arrival, acted}
 use Rattle.oc_model.proofs.GoesOn.{ids-after_acts}
 use Rattle.oc_model.specs.WorldBounds.{IsOneOf, IsDistinct, clock_of, AreBefore}
 use Rattle.oc_model.proofs.Members.{of_filter}
@@ -46,32 +46,32 @@ acted_before w x t i early before =
     put_before w (record { node = (step (node w x) i).node; up = true }) t before
     (subst (λ c. c ≤ t) (sym (step_leaves (node w x) i).clock) (clock_early t (clock_of w x) i early (before x)))
 
-abbrev IsEarlyAim : ℕ → Option Aimed → Type 0
-IsEarlyAim t None = Unit {0}
-IsEarlyAim t (Some a) = IsEarly t a.input
+abbrev IsEarlyArrival : ℕ → Option Arrival → Type 0
+IsEarlyArrival t None = Unit {0}
+IsEarlyArrival t (Some a) = IsEarly t a.input
 
-aimed_before : (w : World) (t : ℕ) (a : Option Aimed) → IsEarlyAim t a → AreBefore t w → AreBefore t (acted w a)
-aimed_before w t None early before = before
-aimed_before w t (Some a) early before =
+arrival_before : (w : World) (t : ℕ) (a : Option Arrival) → IsEarlyArrival t a → AreBefore t w → AreBefore t (acted w a)
+arrival_before w t None early before = before
+arrival_before w t (Some a) early before =
     cond_both (process w a.at).up (stepped w a.input (step (node w a.at) a.input)) w (AreBefore t) (λ _. acted_before w a.at t a.input early before) (λ _. before)
 
 -- a delivery is no tick
-delivery_early : (w : World) (t k : ℕ) → IsEarlyAim t (delivery (message_at w.net k))
+delivery_early : (w : World) (t k : ℕ) → IsEarlyArrival t (delivery (message_at w.net k))
 delivery_early w t k = by_found (message_at w.net k) where
-  by_found : (found : Option _) → IsEarlyAim t (delivery found)
+  by_found : (found : Option _) → IsEarlyArrival t (delivery found)
   by_found None = tt
   by_found (Some m) = tt
 
 -- an act that is no tick is early, and so is a tick within the range
-quiet_early : (w : World) (t : ℕ) (a : Act) → IsNoTick a → IsEarlyAim t (aimed w a)
-quiet_early w t (acts.Tick x u) no_tick = absurd no_tick
+quiet_early : (w : World) (t : ℕ) (a : Act) → IsNoTick a → IsEarlyArrival t (arrival w a)
+quiet_early w t (acts.At x (inputs.Tick u)) no_tick = absurd no_tick
+quiet_early w t (acts.At x i) no_tick = tt
 quiet_early w t (acts.Deliver k) no_tick = delivery_early w t k
-quiet_early w t a no_tick = tt
 
-lawful_early : (w : World) (nodes t : ℕ) (a : Act) → MAX_RATE ≤ t → IsAct nodes a → IsEarlyAim t (aimed w a)
-lawful_early w nodes t (acts.Tick x u) late is = omega (arith, late, is.1)
+lawful_early : (w : World) (nodes t : ℕ) (a : Act) → MAX_RATE ≤ t → IsAct nodes a → IsEarlyArrival t (arrival w a)
+lawful_early w nodes t (acts.At x (inputs.Tick u)) late is = omega (arith, late, is.1)
+lawful_early w nodes t (acts.At x i) late is = tt
 lawful_early w nodes t (acts.Deliver k) late is = delivery_early w t k
-lawful_early w nodes t a late is = tt
 
 -- A round of ticks
 
@@ -98,7 +98,7 @@ ticks_before more t [] w distinct early before = before
 ticks_before more t (x ∷ xs) w distinct early before =
     ticks_before more t xs (ticks more x w).world distinct.1
     (λ y one. subst (λ c. c ≤ t) (sym (tick_other w x more y (λ e. distinct.0 (subst (λ z. IsOneOf z xs) e one)))) (early y (inr one)))
-    (aimed_before w (t + more) (Some (record { at = x; input = inputs.Tick (clock_of w x + more) })) (omega (arith, early x (inl refl))) before)
+    (arrival_before w (t + more) (Some (record { at = x; input = inputs.Tick (clock_of w x + more) })) (omega (arith, early x (inl refl))) before)
 
 -- Runs
 
@@ -109,12 +109,12 @@ record Lasts (k : ℕ) (w : World) (r : Run) : Type 0 where
 
 ticks_same : (more : ℕ) (xs : List ℕ) (w : World) → ids (for_each xs (ticks more) w).world ≡ ids w
 ticks_same more [] w = refl
-ticks_same more (x ∷ xs) w = ticks_same more xs (ticks more x w).world ∙ ids-after_acts w (acts.Tick x (clock_of w x + more) ∷ [])
+ticks_same more (x ∷ xs) w = ticks_same more xs (ticks more x w).world ∙ ids-after_acts w (acts.At x (inputs.Tick (clock_of w x + more)) ∷ [])
 
 lasting : IsCourse Lasts
 lasting = record {
   rests = λ w. record { same = refl; before = λ distinct t before x. omega (arith, before x) };
-  does = λ w a no_tick. record { same = ids-after_acts w (a ∷ []); before = λ distinct t before. aimed_before w (t + 0) (aimed w a) (quiet_early w (t + 0) a no_tick) (λ x. omega (arith, before x)) };
+  does = λ w a no_tick. record { same = ids-after_acts w (a ∷ []); before = λ distinct t before. arrival_before w (t + 0) (arrival w a) (quiet_early w (t + 0) a no_tick) (λ x. omega (arith, before x)) };
   follows = λ j k w r f first second. record {
     same = second.same ∙ first.same;
     before = λ distinct t before x.
@@ -148,7 +148,7 @@ cut_before : (b : Bool) (w : World) (x : ℕ) (i : Input) (t : ℕ) → AreBefor
 cut_before true w x i t before = put_before w (stopped (step (node w x) i).node) t before (omega arith)
 cut_before false w x i t before = start_before w x false t before
 
-stop_before : (w : World) (calls image : ℕ) (a : Option Aimed) (t : ℕ) → AreBefore t w → AreBefore t (stopped_at w calls image a)
+stop_before : (w : World) (calls image : ℕ) (a : Option Arrival) (t : ℕ) → AreBefore t w → AreBefore t (stopped_at w calls image a)
 stop_before w calls image None t before = before
 stop_before w calls image (Some a) t before =
     let kept : Bool = keeps_write calls image (node w a.at) a.input in
@@ -171,8 +171,8 @@ clocks-next_world w (Up x) nodes t distinct is late before =
 clocks-next_world w (Crash x) nodes t distinct is late before =
     cond_both (process w x).up (again w x false) w (AreBefore (t + 60))
     (λ _. λ y. omega (arith, start_before w x false t before y)) (λ _. λ y. omega (arith, before y))
-clocks-next_world w (Stop calls image a) nodes t distinct is late before = λ y. omega (arith, stop_before w calls image (aimed w a) t before y)
-clocks-next_world w (Do a) nodes t distinct is late before = λ y. omega (arith, aimed_before w t (aimed w a) (lawful_early w nodes t a late is) before y)
+clocks-next_world w (Stop calls image a) nodes t distinct is late before = λ y. omega (arith, stop_before w calls image (arrival w a) t before y)
+clocks-next_world w (Do a) nodes t distinct is late before = λ y. omega (arith, arrival_before w t (arrival w a) (lawful_early w nodes t a late is) before y)
 clocks-next_world w (Held x) nodes t distinct is late before = λ y. omega (arith, before y)
 clocks-next_world w (Show x) nodes t distinct is late before = λ y. omega (arith, before y)
 clocks-next_world w Settle nodes t distinct is late before = settle_before w distinct (is_ready w) t before

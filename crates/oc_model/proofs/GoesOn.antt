@@ -10,7 +10,7 @@ use Rattle.oc_model.specs.NextWorld.{stopped, cut_off, keeps_write, stopped_at, 
 use Rattle.oc_model.specs.Node.{Header, Node, restarted}
 use Rattle.oc_model.specs.Runs.{after_acts}
 use Rattle.oc_model.specs.Step.{step}
-use Rattle.oc_model.specs.World.{World, Process, Aimed, absent, node, process, process_in, with_process, ids, new_world, stepped, aimed, acted, after_act}
+use Rattle.oc_model.specs.World.{World, Process, Arrival, absent, node, process, process_in, with_process, ids, new_world, stepped, arrival, acted, after_act}
 use Rattle.oc_model.specs.WorldBounds.{IsLater, AreWithinLimits, IsWithinLimits}
 use Rattle.oc_model.proofs.Outcomes.{step_leaves}
 use Rattle.oc_model.proofs.Places.{ids-with_process, ids-new}
@@ -25,13 +25,13 @@ pub record IsPassage (R : World → World → Type 0) : Type 0 where
   pub stops : (w : World) (x : ℕ) (i : Input) → R w (cut_off true w (node w x) i (step (node w x) i))
 
 module _ (R : World → World → Type 0) (k : IsPassage R) where
-  passage_acted : (w : World) (a : Option Aimed) → R w (acted w a)
+  passage_acted : (w : World) (a : Option Arrival) → R w (acted w a)
   passage_acted w None = k.still w
   passage_acted w (Some a) = cond_both (process w a.at).up (stepped w a.input (step (node w a.at) a.input)) w (R w) (λ _. k.takes w a.at a.input) (λ _. k.still w)
 
   pub passage_acts : (w : World) (done : List Act) → R w (after_acts w done)
   passage_acts w [] = k.still w
-  passage_acts w (a ∷ rest) = k.follows w (after_act w a) (after_acts (after_act w a) rest) (passage_acted w (aimed w a)) (passage_acts (after_act w a) rest)
+  passage_acts w (a ∷ rest) = k.follows w (after_act w a) (after_acts (after_act w a) rest) (passage_acted w (arrival w a)) (passage_acts (after_act w a) rest)
 
   passage_any : (w : World) (done : Option (List Act)) → R w (after_any w done)
   passage_any w None = k.still w
@@ -41,7 +41,7 @@ module _ (R : World → World → Type 0) (k : IsPassage R) where
   passage_cut true w x i = k.stops w x i
   passage_cut false w x i = k.starts w x false
 
-  passage_stop : (w : World) (calls image : ℕ) (a : Option Aimed) → R w (stopped_at w calls image a)
+  passage_stop : (w : World) (calls image : ℕ) (a : Option Arrival) → R w (stopped_at w calls image a)
   passage_stop w calls image None = k.still w
   passage_stop w calls image (Some a) =
       let kept : Bool = keeps_write calls image (node w a.at) a.input in
@@ -51,8 +51,8 @@ module _ (R : World → World → Type 0) (k : IsPassage R) where
   pub passage : (w : World) (e : Event) → R w (next_world w e)
   passage w (Up x) = cond_both (process w x).up w (again w x true) (R w) (λ _. k.still w) (λ _. k.starts w x true)
   passage w (Crash x) = cond_both (process w x).up (again w x false) w (R w) (λ _. k.starts w x false) (λ _. k.still w)
-  passage w (Stop calls image a) = passage_stop w calls image (aimed w a)
-  passage w (Do a) = passage_acted w (aimed w a)
+  passage w (Stop calls image a) = passage_stop w calls image (arrival w a)
+  passage w (Do a) = passage_acted w (arrival w a)
   passage w (Held x) = k.still w
   passage w (Show x) = k.still w
   passage w Settle = passage_any w (settle_acts w)

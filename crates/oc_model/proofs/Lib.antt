@@ -15,3 +15,4 @@ pub mod GoesOn
 pub mod Clocks
 pub mod Settled
 pub mod Walks
+pub mod Given

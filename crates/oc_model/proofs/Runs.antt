@@ -3,6 +3,7 @@ use Rattle.std.proofs.Common.{◌≡◌, ℕ, zero, suc, ◌+◌, ◌*◌, Bool,
 use Rattle.oc_base.specs.declared.cert.Cert.{Cert}
 use Rattle.oc_model.specs.declared.event.Act.{Act}
 use Rattle.oc_model.specs.declared.event.Act.TheVariants as acts
+use Rattle.oc_model.specs.declared.input.Input.TheVariants as inputs
 use Rattle.oc_model.specs.declared.message.Body.{Body}
 use Rattle.oc_model.specs.declared.message.Body.TheVariants as bodies
 use Rattle.oc_model.specs.declared.mode.Mode.{Mode}
@@ -14,7 +15,7 @@ use Rattle.oc_model.specs.World.{World, node, mode_of, up_ids, after_act}
 
 -- an act that is no tick
 abbrev pub IsNoTick : Act → Type 0
-IsNoTick (acts.Tick x t) = ⊥
+IsNoTick (acts.At x (inputs.Tick t)) = ⊥
 IsNoTick a = Unit {0}
 
 -- a run from this world on has it, with this many seconds of ticks
@@ -41,9 +42,9 @@ module _ (R : ℕ → World → Run → Type 0) (k : IsCourse R) where
 
   course_checks_in : (x : ℕ) (w : World) → R 0 w (checks_in x w)
   course_checks_in x w =
-      let first : Run = does (acts.Check x) w in
+      let first : Run = does (acts.At x inputs.CheckNow) w in
       let told : Run = and_then first delivers_last in
-      k.follows 0 0 w told takes_any_ack (k.follows 0 0 w first delivers_last (k.does w (acts.Check x) tt) (course_delivers first.world)) (course_takes_ack (last_body told.world) told.world)
+      k.follows 0 0 w told takes_any_ack (k.follows 0 0 w first delivers_last (k.does w (acts.At x inputs.CheckNow) tt) (course_delivers first.world)) (course_takes_ack (last_body told.world) told.world)
 
   course_checks_in_if : (m : Mode) (x : ℕ) (w : World) → R 0 w (checks_in_if m x w)
   course_checks_in_if (modes.Joined p) x w = course_checks_in x w
@@ -83,9 +84,9 @@ module _ (R : ℕ → World → Run → Type 0) (k : IsCourse R) where
   -- Heal
 
   course_rises : (m : Mode) (x : ℕ) (w : World) → R 0 w (rises m x w)
-  course_rises modes.Idle x w = k.does w (acts.Check x) tt
-  course_rises (modes.Asking p) x w = k.does w (acts.Fail x p) tt
-  course_rises (modes.Joined p) x w = k.does w (acts.Fail x p) tt
+  course_rises modes.Idle x w = k.does w (acts.At x inputs.CheckNow) tt
+  course_rises (modes.Asking p) x w = k.does w (acts.At x (inputs.Unreachable p)) tt
+  course_rises (modes.Joined p) x w = k.does w (acts.At x (inputs.Unreachable p)) tt
   course_rises modes.Acting x w = k.rests w
 
   course_rises_in : (n m : ℕ) (w : World) → R 0 w (rises_in n m w)
@@ -93,15 +94,15 @@ module _ (R : ℕ → World → Run → Type 0) (k : IsCourse R) where
   course_rises_in (suc n) m w = k.follows 0 0 w (rises (mode_of w m) m w) (rises_in n m) (course_rises (mode_of w m) m w) (course_rises_in n m (rises (mode_of w m) m w).world)
 
   course_asks : (p x : ℕ) (w : World) → R 0 w (asks p x w)
-  course_asks p x w = k.follows 0 0 w (does (acts.Move x p) w) delivers_last (k.does w (acts.Move x p) tt) (course_delivers (does (acts.Move x p) w).world)
+  course_asks p x w = k.follows 0 0 w (does (acts.At x (inputs.Relocate p)) w) delivers_last (k.does w (acts.At x (inputs.Relocate p)) tt) (course_delivers (does (acts.At x (inputs.Relocate p)) w).world)
 
   course_joins : (p x : ℕ) (w : World) → R 0 w (joins p x w)
   course_joins p x w = k.follows 0 0 w (asks p x w) delivers_last (course_asks p x w) (course_delivers (asks p x w).world)
 
   course_tells_rank : (m p : ℕ) (w : World) → R 0 w (tells_rank m p w)
   course_tells_rank m p w =
-      let first : Run = does (acts.Check m) w in
-      k.follows 0 0 w first (λ v. for_each (below m p v) checks_in v) (k.does w (acts.Check m) tt) (course_each checks_in course_checks_in (below m p first.world) first.world)
+      let first : Run = does (acts.At m inputs.CheckNow) w in
+      k.follows 0 0 w first (λ v. for_each (below m p v) checks_in v) (k.does w (acts.At m inputs.CheckNow) tt) (course_each checks_in course_checks_in (below m p first.world) first.world)
 
   course_joins_by : (m p x : ℕ) (w : World) → R 0 w (joins_by m p x w)
   course_joins_by m p x w =

@@ -6,6 +6,7 @@ use Rattle.oc_base.specs.declared.shelf.Shelf.{Shelf}
 use Rattle.oc_model.specs.declared.event.Act.TheVariants as acts
 use Rattle.oc_model.specs.declared.event.Event.{Event}
 use Rattle.oc_model.specs.declared.event.Event.TheVariants.{Do}
+use Rattle.oc_model.specs.declared.input.Input.TheVariants as inputs
 use Rattle.oc_model.specs.declared.message.Body.{Body}
 use Rattle.oc_model.specs.declared.message.Message.{Message}
 use Rattle.oc_model.specs.declared.mode.Mode.{Mode}
@@ -99,7 +100,7 @@ header nodes chain areas = record { nodes = nodes; chain = chain; areas = areas 
 
 -- x moves to p, p takes its ask, which is message k, and x takes the answer
 abbrev pub join : ℕ → ℕ → ℕ → List Event
-join x p k = Do (acts.Move x p) ∷ Do (acts.Deliver k) ∷ Do (acts.Deliver (k + 1)) ∷ []
+join x p k = Do (acts.At x (inputs.Relocate p)) ∷ Do (acts.Deliver k) ∷ Do (acts.Deliver (k + 1)) ∷ []
 
 abbrev pub from_to : ℕ → ℕ → Body → Message
 from_to x y b = record { from = x; to = y; body = b }

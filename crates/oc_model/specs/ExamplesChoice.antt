@@ -1,8 +1,9 @@
 use Rattle.std.specs.Prelude.{◌≡◌, ℕ, Bool, true, false, Some, None, List, [], ◌∷◌, ◌++◌}
 use Rattle.oc_base.specs.declared.cert.Cert.{Cert}
-use Rattle.oc_model.specs.declared.event.Act.TheVariants.{Tick, Check, Measure, Deliver}
+use Rattle.oc_model.specs.declared.event.Act.TheVariants.{At, Deliver}
 use Rattle.oc_model.specs.declared.event.Event.{Event}
 use Rattle.oc_model.specs.declared.event.Event.TheVariants.{Up, Do}
+use Rattle.oc_model.specs.declared.input.Input.TheVariants.{Tick, CheckNow, Measured}
 use Rattle.oc_model.specs.declared.message.Body.TheVariants.{Look, LookIs, Ask, Yes}
 use Rattle.oc_model.specs.declared.place.Candidate.{Candidate}
 use Rattle.oc_model.specs.Choice.{chosen}
@@ -13,8 +14,8 @@ use Rattle.oc_model.specs.Table.{is_news, merge, merge_all}
 
 abbrev descending : List Event
 descending =
-    (Up 1 ∷ Up 2 ∷ Up 3 ∷ Do (Tick 1 0) ∷ []) ++ join 2 1 1
-    ++ (Do (Measure 2 1 100 3) ∷ Do (Check 2) ∷ Do (Deliver 3) ∷ Do (Measure 3 1 100 4) ∷ Do (Measure 3 2 90 1) ∷ Do (Tick 3 0)
+    (Up 1 ∷ Up 2 ∷ Up 3 ∷ Do (At 1 (Tick 0)) ∷ []) ++ join 2 1 1
+    ++ (Do (At 2 (Measured 1 100 3)) ∷ Do (At 2 CheckNow) ∷ Do (Deliver 3) ∷ Do (At 3 (Measured 1 100 4)) ∷ Do (At 3 (Measured 2 90 1)) ∷ Do (At 3 (Tick 0))
     ∷ Do (Deliver 5) ∷ Do (Deliver 6) ∷ Do (Deliver 7) ∷ Do (Deliver 8) ∷ Do (Deliver 9) ∷ Do (Deliver 10) ∷ [])
 
 abbrev pub Descent : Type 0

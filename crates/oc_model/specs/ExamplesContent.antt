@@ -1,8 +1,9 @@
 use Rattle.std.specs.Prelude.{◌≡◌, true, false, List, [], ◌∷◌, ◌++◌, codes}
 use Rattle.oc_model.specs.declared.answer.Answer.TheVariants as answers
-use Rattle.oc_model.specs.declared.event.Act.TheVariants.{Tick, Check, Pull, Publish, Seal, Client, Deliver}
+use Rattle.oc_model.specs.declared.event.Act.TheVariants.{At, Deliver}
 use Rattle.oc_model.specs.declared.event.Event.{Event}
 use Rattle.oc_model.specs.declared.event.Event.TheVariants.{Up, Stop, Do, Show, Held}
+use Rattle.oc_model.specs.declared.input.Input.TheVariants.{Tick, CheckNow, Pull, Publish, Seal, Client}
 use Rattle.oc_model.specs.declared.message.Body.TheVariants.{Fetch, Chunk, CheckIn, CheckAck}
 use Rattle.oc_model.specs.declared.word.Word.TheVariants.{Node, Down, NoMessage, StoppedOld, StoppedNew}
 use Rattle.oc_model.specs.declared.word.Word.TheVariants as words
@@ -12,7 +13,7 @@ use Rattle.oc_model.specs.ExampleRuns.{told, held, header, join, from_to, alive,
 
 abbrev first_path : List Event
 first_path =
-    Up 1 ∷ Up 2 ∷ Do (Publish 1 (codes "/a") (codes "hello")) ∷ Do (Pull 2 1) ∷ Do (Deliver 1) ∷ Do (Deliver 2) ∷ Held 2 ∷ []
+    Up 1 ∷ Up 2 ∷ Do (At 1 (Publish (codes "/a") (codes "hello"))) ∷ Do (At 2 (Pull 1)) ∷ Do (Deliver 1) ∷ Do (Deliver 2) ∷ Held 2 ∷ []
 
 abbrev pub FirstPath : Type 0
 FirstPath = told (header 2 1 (0 ∷ 0 ∷ [])) first_path 0 0 [] ≡ record {
@@ -29,8 +30,8 @@ FirstPathHeld = held (header 2 1 (0 ∷ 0 ∷ [])) first_path 2 ≡ record { gro
 
 abbrev sealing : List Event
 sealing =
-    Up 1 ∷ Up 2 ∷ Do (Publish 1 (codes "/a") (codes "hi")) ∷ Do (Seal 1 (codes "/a")) ∷ Do (Publish 1 (codes "/a") (codes "!"))
-    ∷ Do (Pull 2 1) ∷ Do (Deliver 1) ∷ Do (Deliver 2) ∷ Held 2 ∷ Do (Pull 2 1) ∷ Do (Deliver 3) ∷ []
+    Up 1 ∷ Up 2 ∷ Do (At 1 (Publish (codes "/a") (codes "hi"))) ∷ Do (At 1 (Seal (codes "/a"))) ∷ Do (At 1 (Publish (codes "/a") (codes "!")))
+    ∷ Do (At 2 (Pull 1)) ∷ Do (Deliver 1) ∷ Do (Deliver 2) ∷ Held 2 ∷ Do (At 2 (Pull 1)) ∷ Do (Deliver 3) ∷ []
 
 abbrev pub SealedGroup : Type 0
 SealedGroup = told (header 2 1 (0 ∷ 0 ∷ [])) sealing 0 0 [] ≡ record {
@@ -51,9 +52,9 @@ SealedGroupHeld = held (header 2 1 (0 ∷ 0 ∷ [])) sealing 2 ≡ record { grou
 
 abbrev serving : List Event
 serving =
-    (Up 1 ∷ Up 2 ∷ Do (Tick 1 0) ∷ []) ++ join 2 1 1
-    ++ (Do (Publish 1 (codes "/a") []) ∷ Do (Pull 2 1) ∷ Do (Deliver 3) ∷ Do (Deliver 4) ∷ Do (Client 2 0 0 (codes "/a"))
-    ∷ Do (Check 2) ∷ Do (Deliver 6) ∷ Show 1 ∷ [])
+    (Up 1 ∷ Up 2 ∷ Do (At 1 (Tick 0)) ∷ []) ++ join 2 1 1
+    ++ (Do (At 1 (Publish (codes "/a") [])) ∷ Do (At 2 (Pull 1)) ∷ Do (Deliver 3) ∷ Do (Deliver 4) ∷ Do (At 2 (Client 0 0 (codes "/a")))
+    ∷ Do (At 2 CheckNow) ∷ Do (Deliver 6) ∷ Show 1 ∷ [])
 
 abbrev pub ServedCounts : Type 0
 ServedCounts = told (header 2 1 (0 ∷ 0 ∷ [])) serving 9 4 (1 ∷ []) ≡ record {
@@ -71,8 +72,8 @@ ServedCounts = told (header 2 1 (0 ∷ 0 ∷ [])) serving 9 4 (1 ∷ []) ≡ rec
 
 abbrev tearing : List Event
 tearing =
-    Up 1 ∷ Stop 3 1 (Publish 1 (codes "/a") (codes "a")) ∷ Up 1 ∷ Held 1 ∷ Stop 3 0 (Publish 1 (codes "/a") (codes "b")) ∷ Up 1
-    ∷ Held 1 ∷ Stop 3 7 (Publish 1 (codes "/a") (codes "b")) ∷ Up 1 ∷ Held 1 ∷ []
+    Up 1 ∷ Stop 3 1 (At 1 (Publish (codes "/a") (codes "a"))) ∷ Up 1 ∷ Held 1 ∷ Stop 3 0 (At 1 (Publish (codes "/a") (codes "b"))) ∷ Up 1
+    ∷ Held 1 ∷ Stop 3 7 (At 1 (Publish (codes "/a") (codes "b"))) ∷ Up 1 ∷ Held 1 ∷ []
 
 abbrev pub TornGate : Type 0
 TornGate = told (header 1 1 (0 ∷ [])) tearing 0 0 [] ≡ record {
@@ -88,7 +89,7 @@ TornGateHeld = held (header 1 1 (0 ∷ [])) tearing 1 ≡ record { group = codes
 -- A node that is up does not start, one that is down takes nothing, and no message that was not sent comes.
 
 abbrev pub DownAndUnknown : Type 0
-DownAndUnknown = told (header 2 1 (0 ∷ 0 ∷ [])) (Up 1 ∷ Up 1 ∷ Do (Tick 2 0) ∷ Do (Deliver 9) ∷ []) 0 0 [] ≡ record {
+DownAndUnknown = told (header 2 1 (0 ∷ 0 ∷ [])) (Up 1 ∷ Up 1 ∷ Do (At 2 (Tick 0)) ∷ Do (Deliver 9) ∷ []) 0 0 [] ≡ record {
   words = ok ∷ words.Up ∷ Down ∷ NoMessage ∷ [];
   sent = [];
   messages = 0;
@@ -98,7 +99,7 @@ DownAndUnknown = told (header 2 1 (0 ∷ 0 ∷ [])) (Up 1 ∷ Up 1 ∷ Do (Tick 
 -- Only node 1 publishes; a publish of no bytes makes a group.
 
 abbrev elsewhere : List Event
-elsewhere = Up 1 ∷ Up 2 ∷ Do (Publish 1 (codes "/a") []) ∷ Do (Publish 2 (codes "/a") (codes "a")) ∷ Held 1 ∷ []
+elsewhere = Up 1 ∷ Up 2 ∷ Do (At 1 (Publish (codes "/a") [])) ∷ Do (At 2 (Publish (codes "/a") (codes "a"))) ∷ Held 1 ∷ []
 
 abbrev pub PublishElsewhere : Type 0
 PublishElsewhere = told (header 2 1 (0 ∷ 0 ∷ [])) elsewhere 0 0 [] ≡ record {

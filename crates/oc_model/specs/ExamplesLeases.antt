@@ -1,7 +1,8 @@
 use Rattle.std.specs.Prelude.{◌≡◌, true, Some, List, [], ◌∷◌, ◌++◌}
-use Rattle.oc_model.specs.declared.event.Act.TheVariants.{Tick, Check, Fail, Deliver}
+use Rattle.oc_model.specs.declared.event.Act.TheVariants.{At, Deliver}
 use Rattle.oc_model.specs.declared.event.Event.{Event}
 use Rattle.oc_model.specs.declared.event.Event.TheVariants.{Up, Crash, Do, Show, Settle}
+use Rattle.oc_model.specs.declared.input.Input.TheVariants.{Tick, CheckNow, Unreachable}
 use Rattle.oc_model.specs.declared.message.Body.TheVariants.{Ask, Yes, CheckIn, CheckAck, Rejoin}
 use Rattle.oc_model.specs.declared.mode.Mode.TheVariants.{Joined}
 use Rattle.oc_model.specs.declared.word.Word.TheVariants.{Settled}
@@ -11,8 +12,8 @@ use Rattle.oc_model.specs.ExampleRuns.{told, header, join, from_to, alive, dead,
 
 abbrev ending : List Event
 ending =
-    (Up 1 ∷ Up 2 ∷ Do (Tick 1 0) ∷ []) ++ join 2 1 1
-    ++ (Do (Tick 1 30) ∷ Do (Check 2) ∷ Do (Deliver 3) ∷ Do (Deliver 4) ∷ Do (Deliver 5) ∷ Do (Deliver 6) ∷ Show 1 ∷ [])
+    (Up 1 ∷ Up 2 ∷ Do (At 1 (Tick 0)) ∷ []) ++ join 2 1 1
+    ++ (Do (At 1 (Tick 30)) ∷ Do (At 2 CheckNow) ∷ Do (Deliver 3) ∷ Do (Deliver 4) ∷ Do (Deliver 5) ∷ Do (Deliver 6) ∷ Show 1 ∷ [])
 
 abbrev pub FalseDeath : Type 0
 FalseDeath = told (header 2 1 (0 ∷ 0 ∷ [])) ending 6 2 (1 ∷ []) ≡ record {
@@ -31,8 +32,8 @@ FalseDeath = told (header 2 1 (0 ∷ 0 ∷ [])) ending 6 2 (1 ∷ []) ≡ record
 
 abbrev twice : List Event
 twice =
-    (Up 1 ∷ Up 2 ∷ Up 3 ∷ Up 4 ∷ Do (Tick 1 0) ∷ []) ++ join 2 1 1 ++ join 3 2 3 ++ join 4 3 5
-    ++ (Do (Check 3) ∷ Do (Deliver 7) ∷ Do (Deliver 7) ∷ Show 2 ∷ [])
+    (Up 1 ∷ Up 2 ∷ Up 3 ∷ Up 4 ∷ Do (At 1 (Tick 0)) ∷ []) ++ join 2 1 1 ++ join 3 2 3 ++ join 4 3 5
+    ++ (Do (At 3 CheckNow) ∷ Do (Deliver 7) ∷ Do (Deliver 7) ∷ Show 2 ∷ [])
 
 abbrev pub Quash : Type 0
 Quash = told (header 4 1 (0 ∷ 0 ∷ 0 ∷ 0 ∷ [])) twice 14 6 (2 ∷ []) ≡ record {
@@ -60,8 +61,8 @@ Quash = told (header 4 1 (0 ∷ 0 ∷ 0 ∷ 0 ∷ [])) twice 14 6 (2 ∷ []) ≡
 
 abbrev failing : List Event
 failing =
-    (Up 1 ∷ Up 2 ∷ Up 3 ∷ Up 4 ∷ Up 5 ∷ Do (Tick 1 0) ∷ []) ++ join 2 1 1 ++ join 3 2 3 ++ join 4 2 5 ++ join 5 2 7
-    ++ (Crash 2 ∷ Do (Fail 3 2) ∷ Do (Fail 4 2) ∷ Do (Fail 5 2) ∷ Do (Deliver 9) ∷ Do (Deliver 10) ∷ Do (Deliver 11)
+    (Up 1 ∷ Up 2 ∷ Up 3 ∷ Up 4 ∷ Up 5 ∷ Do (At 1 (Tick 0)) ∷ []) ++ join 2 1 1 ++ join 3 2 3 ++ join 4 2 5 ++ join 5 2 7
+    ++ (Crash 2 ∷ Do (At 3 (Unreachable 2)) ∷ Do (At 4 (Unreachable 2)) ∷ Do (At 5 (Unreachable 2)) ∷ Do (Deliver 9) ∷ Do (Deliver 10) ∷ Do (Deliver 11)
     ∷ Do (Deliver 12) ∷ Do (Deliver 13) ∷ Do (Deliver 14) ∷ Settle ∷ Show 1 ∷ [])
 
 abbrev pub FailedParent : Type 0

@@ -1,8 +1,9 @@
 use Rattle.std.specs.Prelude.{◌≡◌, true, false, Some, None, List, [], ◌∷◌, ◌++◌}
 use Rattle.oc_base.specs.declared.refusal.Refusal.TheVariants as refusals
-use Rattle.oc_model.specs.declared.event.Act.TheVariants.{Tick, Check, Move, Deliver}
+use Rattle.oc_model.specs.declared.event.Act.TheVariants.{At, Deliver}
 use Rattle.oc_model.specs.declared.event.Event.{Event}
 use Rattle.oc_model.specs.declared.event.Event.TheVariants.{Up, Do, Settle}
+use Rattle.oc_model.specs.declared.input.Input.TheVariants.{Tick, CheckNow, Relocate}
 use Rattle.oc_model.specs.declared.message.Body.TheVariants.{Ask, Yes, No}
 use Rattle.oc_model.specs.declared.word.Word.TheVariants.{Settled}
 use Rattle.oc_model.specs.Chains.{true_line}
@@ -17,8 +18,8 @@ use Rattle.oc_model.specs.ExampleRuns.{told, header, join, from_to, alive, line,
 
 abbrev crossing : List Event
 crossing =
-    (Up 1 ∷ Up 2 ∷ Up 3 ∷ Do (Tick 1 0) ∷ []) ++ join 2 1 1 ++ join 3 1 3
-    ++ (Do (Move 2 3) ∷ Do (Move 3 2) ∷ Do (Deliver 5) ∷ Do (Deliver 6) ∷ [])
+    (Up 1 ∷ Up 2 ∷ Up 3 ∷ Do (At 1 (Tick 0)) ∷ []) ++ join 2 1 1 ++ join 3 1 3
+    ++ (Do (At 2 (Relocate 3)) ∷ Do (At 3 (Relocate 2)) ∷ Do (Deliver 5) ∷ Do (Deliver 6) ∷ [])
 
 abbrev pub CrossingMoves : Type 0
 CrossingMoves = told (header 3 1 (0 ∷ 0 ∷ 0 ∷ [])) crossing 10 4 [] ≡ record {
@@ -37,13 +38,13 @@ CrossingMoves = told (header 3 1 (0 ∷ 0 ∷ 0 ∷ [])) crossing 10 4 [] ≡ re
 
 abbrev four_in_line : List Event
 four_in_line =
-    (Up 1 ∷ Up 2 ∷ Up 3 ∷ Up 4 ∷ Do (Tick 1 0) ∷ []) ++ join 2 1 1 ++ join 3 1 3 ++ join 4 3 5
-    ++ (Do (Check 1) ∷ Do (Check 2) ∷ Do (Deliver 7) ∷ Do (Deliver 8) ∷ [])
+    (Up 1 ∷ Up 2 ∷ Up 3 ∷ Up 4 ∷ Do (At 1 (Tick 0)) ∷ []) ++ join 2 1 1 ++ join 3 1 3 ++ join 4 3 5
+    ++ (Do (At 1 CheckNow) ∷ Do (At 2 CheckNow) ∷ Do (Deliver 7) ∷ Do (Deliver 8) ∷ [])
 
 abbrev stale : List Event
 stale =
     four_in_line ++ join 3 2 9
-    ++ (Do (Move 2 4) ∷ Do (Deliver 11) ∷ Do (Deliver 12) ∷ Do (Deliver 13) ∷ Do (Deliver 14) ∷ [])
+    ++ (Do (At 2 (Relocate 4)) ∷ Do (Deliver 11) ∷ Do (Deliver 12) ∷ Do (Deliver 13) ∷ Do (Deliver 14) ∷ [])
 
 abbrev stale_world : World
 stale_world = world_after (new_world (header 4 1 (0 ∷ 0 ∷ 0 ∷ 0 ∷ []))) stale
@@ -84,7 +85,7 @@ StaleSettles = (is_settled stale_world ≡ false) × (is_settled (next_world sta
 -- The reverse: 2 asks 3, which is in the tree but does not precede it.
 
 abbrev reverse_moves : List Event
-reverse_moves = four_in_line ++ (Do (Move 2 3) ∷ Do (Deliver 9) ∷ [])
+reverse_moves = four_in_line ++ (Do (At 2 (Relocate 3)) ∷ Do (Deliver 9) ∷ [])
 
 abbrev pub ReverseMove : Type 0
 ReverseMove = told (header 4 1 (0 ∷ 0 ∷ 0 ∷ 0 ∷ [])) reverse_moves 18 8 [] ≡ record {

@@ -1,7 +1,8 @@
 use Rattle.std.specs.Prelude.{◌≡◌, true, Some, None, List, [], ◌∷◌}
-use Rattle.oc_model.specs.declared.event.Act.TheVariants.{Tick, Fail, Deliver}
+use Rattle.oc_model.specs.declared.event.Act.TheVariants.{At, Deliver}
 use Rattle.oc_model.specs.declared.event.Event.{Event}
 use Rattle.oc_model.specs.declared.event.Event.TheVariants.{Up, Crash, Do, Show, Heal}
+use Rattle.oc_model.specs.declared.input.Input.TheVariants.{Tick, Unreachable}
 use Rattle.oc_model.specs.declared.message.Body.TheVariants.{Look, LookIs, Ask, Yes}
 use Rattle.oc_model.specs.declared.mode.Mode.TheVariants.{Joined}
 use Rattle.oc_model.specs.declared.word.Word.TheVariants.{Healed, Unready}
@@ -11,8 +12,8 @@ use Rattle.oc_model.specs.ExampleRuns.{told, header, from_to, alive, line, rank,
 
 abbrev taking_over : List Event
 taking_over =
-    Up 1 ∷ Up 2 ∷ Do (Tick 1 0) ∷ Do (Tick 2 0) ∷ Do (Deliver 1) ∷ Do (Deliver 2) ∷ Crash 1 ∷ Do (Fail 2 1) ∷ Up 1
-    ∷ Do (Tick 2 40) ∷ Do (Deliver 3) ∷ Do (Deliver 4) ∷ Do (Deliver 5) ∷ Do (Deliver 6) ∷ Show 1 ∷ Show 2 ∷ []
+    Up 1 ∷ Up 2 ∷ Do (At 1 (Tick 0)) ∷ Do (At 2 (Tick 0)) ∷ Do (Deliver 1) ∷ Do (Deliver 2) ∷ Crash 1 ∷ Do (At 2 (Unreachable 1)) ∷ Up 1
+    ∷ Do (At 2 (Tick 40)) ∷ Do (Deliver 3) ∷ Do (Deliver 4) ∷ Do (Deliver 5) ∷ Do (Deliver 6) ∷ Show 1 ∷ Show 2 ∷ []
 
 abbrev pub TakeoverAndReturn : Type 0
 TakeoverAndReturn = told (header 2 2 (0 ∷ 0 ∷ [])) taking_over 7 2 (1 ∷ 2 ∷ []) ≡ record {

@@ -2,6 +2,7 @@ use Rattle.std.specs.Prelude.{◌≡◌, ℕ, zero, suc, ◌*◌, ◌-◌, ◌�
 use Rattle.std.specs.List.{list_all}
 use Rattle.oc_base.specs.declared.rank.Rank.{Rank}
 use Rattle.oc_model.specs.declared.event.Act.TheVariants as acts
+use Rattle.oc_model.specs.declared.input.Input.TheVariants as inputs
 use Rattle.oc_model.specs.declared.mode.Mode.{Mode}
 use Rattle.oc_model.specs.declared.mode.Mode.TheVariants.{Idle, Asking, Joined, Acting}
 use Rattle.oc_model.specs.Chains.{IsUp, IsTrueChain, chain_to}
@@ -84,9 +85,9 @@ is_placed w m x = placed_by w (chain_to w m x)
 
 -- while it does not act, it checks where it is idle, and else its peer is unreachable
 abbrev pub rises : Mode → ℕ → World → Run
-rises Idle m w = does (acts.Check m) w
-rises (Asking p) m w = does (acts.Fail m p) w
-rises (Joined p) m w = does (acts.Fail m p) w
+rises Idle m w = does (acts.At m inputs.CheckNow) w
+rises (Asking p) m w = does (acts.At m (inputs.Unreachable p)) w
+rises (Joined p) m w = does (acts.At m (inputs.Unreachable p)) w
 rises Acting m w = rests w
 
 -- n times at most
@@ -102,7 +103,7 @@ comes_to_act m w = rises_in (2 * m) m w
 
 -- it asks p, and p takes the ask
 abbrev pub asks : ℕ → ℕ → World → Run
-asks p x w = and_then (does (acts.Move x p) w) delivers_last
+asks p x w = and_then (does (acts.At x (inputs.Relocate p)) w) delivers_last
 
 -- and it takes the answer
 abbrev pub joins : ℕ → ℕ → World → Run
@@ -118,7 +119,7 @@ below m p w = top_down (chain_to w m p)
 
 -- m tells its new rank down to p
 abbrev pub tells_rank : ℕ → ℕ → World → Run
-tells_rank m p w = and_then (does (acts.Check m) w) (λ v. for_each (below m p v) checks_in v)
+tells_rank m p w = and_then (does (acts.At m inputs.CheckNow) w) (λ v. for_each (below m p v) checks_in v)
 
 -- by way of m, whose rank its ask may raise
 abbrev pub joins_by : ℕ → ℕ → ℕ → World → Run

@@ -84,16 +84,14 @@ pub record IsHeader (h : Header) : Type 0 where
   pub areas : length h.areas ≡ h.nodes
   pub bytes : AllByRecursion (λ a. a ≤ MAX_AREA) h.areas
 
+-- an input that a schedule gives a node: a clock starts before its last second, and a message comes by its number
+abbrev pub IsGiven : ℕ → ℕ → Input → Type 0
+IsGiven nodes x (inputs.Tick t) = t ≤ MAX_TIME
+IsGiven nodes x (inputs.Delivered m) = ⊥
+IsGiven nodes x i = IsInput nodes x i
+
 abbrev pub IsAct : ℕ → Act → Type 0
-IsAct nodes (acts.Tick x t) = IsNode nodes x × (t ≤ MAX_TIME)
-IsAct nodes (acts.Check x) = IsNode nodes x
-IsAct nodes (acts.Move x p) = IsNode nodes x × IsNode nodes p
-IsAct nodes (acts.Fail x p) = IsNode nodes x × IsNode nodes p
-IsAct nodes (acts.Pull x p) = IsNode nodes x × IsNode nodes p
-IsAct nodes (acts.Measure x p rate hops) = IsNode nodes x × IsNode nodes p × IsRate rate × (hops ≤ MAX_HOPS)
-IsAct nodes (acts.Publish x g bytes) = IsNode nodes x × IsGroupName g × (length bytes ≤ MAX_PUBLISH_BYTES)
-IsAct nodes (acts.Seal x g) = IsNode nodes x × IsGroupName g
-IsAct nodes (acts.Client x area start g) = IsNode nodes x × (area ≤ MAX_AREA) × (start ≤ MAX_START) × IsGroupName g
+IsAct nodes (acts.At x i) = IsNode nodes x × IsGiven nodes x i
 IsAct nodes (acts.Deliver k) = IsCount k
 
 abbrev pub IsEvent : ℕ → Event → Type 0

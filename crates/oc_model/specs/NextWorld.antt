@@ -16,7 +16,7 @@ use Rattle.oc_model.specs.Runs.{after_acts}
 use Rattle.oc_model.specs.Settle.{settles}
 use Rattle.oc_model.specs.Plan.{Plan}
 use Rattle.oc_model.specs.Step.{step, plan}
-use Rattle.oc_model.specs.World.{World, Process, Aimed, down, process, node, is_up, with_process, source_after, aimed, after_act}
+use Rattle.oc_model.specs.World.{World, Process, Arrival, down, process, node, is_up, with_process, source_after, arrival, after_act}
 
 -- What one event of a schedule does, and its word.
 
@@ -55,7 +55,7 @@ writes n i = has_change (plan n.control (shelf n.groups) i)
 abbrev pub keeps_write : ℕ → ℕ → Node → Input → Bool
 keeps_write k image n i = writes n i && is_kept_new k image
 
-abbrev pub stopped_at : World → ℕ → ℕ → Option Aimed → World
+abbrev pub stopped_at : World → ℕ → ℕ → Option Arrival → World
 stopped_at w k image None = w
 stopped_at w k image (Some a) =
     if is_up w a.at then cut_off (keeps_write k image (node w a.at) a.input) w (node w a.at) a.input (step (node w a.at) a.input) else w
@@ -85,7 +85,7 @@ after_any w (Some done) = after_acts w done
 abbrev pub next_world : World → Event → World
 next_world w (Up x) = started w (process w x)
 next_world w (Crash x) = crashed w (process w x)
-next_world w (Stop calls image a) = stopped_at w calls image (aimed w a)
+next_world w (Stop calls image a) = stopped_at w calls image (arrival w a)
 next_world w (Do a) = after_act w a
 next_world w (Held x) = w
 next_world w (Show x) = w
@@ -93,12 +93,12 @@ next_world w Settle = after_any w (settle_acts w)
 next_world w Heal = after_any w (heal_acts w)
 
 -- the word of an act
-abbrev pub word_of_act : World → Option Aimed → Word
+abbrev pub word_of_act : World → Option Arrival → Word
 word_of_act w None = words.NoMessage
 word_of_act w (Some a) = if is_up w a.at then words.Node (step (node w a.at) a.input).answer else words.Down
 
 -- that of a stop
-abbrev pub word_of_stop : World → ℕ → ℕ → Option Aimed → Word
+abbrev pub word_of_stop : World → ℕ → ℕ → Option Arrival → Word
 word_of_stop w k image None = words.NoMessage
 word_of_stop w k image (Some a) =
     if is_up w a.at then (if keeps_write k image (node w a.at) a.input then words.StoppedNew else words.StoppedOld) else words.Down
@@ -117,8 +117,8 @@ word_of_heal (Some done) = words.Healed (length done)
 abbrev pub word_of : World → Event → Word
 word_of w (Up x) = if is_up w x then words.Up else words.Node answers.Ok
 word_of w (Crash x) = if is_up w x then words.Node answers.Ok else words.Down
-word_of w (Stop calls image a) = word_of_stop w calls image (aimed w a)
-word_of w (Do a) = word_of_act w (aimed w a)
+word_of w (Stop calls image a) = word_of_stop w calls image (arrival w a)
+word_of w (Do a) = word_of_act w (arrival w a)
 word_of w (Held x) = words.Node answers.Ok
 word_of w (Show x) = words.Node answers.Ok
 word_of w Settle = word_of_settle (settle_acts w)

@@ -1,6 +1,7 @@
 use Rattle.std.specs.Prelude.{ℕ, zero, suc, ◌+◌, ◌==◌, Bool, false, Option, Some, None, List, [], ◌∷◌, ◌++◌, filter, length}
 use Rattle.oc_base.specs.declared.cert.Cert.{Cert}
 use Rattle.oc_model.specs.declared.event.Act.TheVariants as acts
+use Rattle.oc_model.specs.declared.input.Input.TheVariants as inputs
 use Rattle.oc_model.specs.declared.message.Body.{Body}
 use Rattle.oc_model.specs.declared.message.Body.TheVariants.{CheckAck}
 use Rattle.oc_model.specs.declared.mode.Mode.{Mode}
@@ -14,7 +15,7 @@ use Rattle.oc_model.specs.World.{World, node, mode_of, up_ids}
 -- Steps 1, 3 and 5: each node that is up ticks, this many seconds on
 
 abbrev pub ticks : ℕ → ℕ → World → Run
-ticks more x w = does (acts.Tick x ((node w x).control.soft.clock + more)) w
+ticks more x w = does (acts.At x (inputs.Tick ((node w x).control.soft.clock + more))) w
 
 abbrev pub all_tick : ℕ → World → Run
 all_tick more w = for_each (up_ids w) (ticks more) w
@@ -31,7 +32,7 @@ takes_any_ack w = takes_ack (last_body w) w
 
 -- it checks now, its check-in is delivered, and the acknowledgement is
 abbrev pub checks_in : ℕ → World → Run
-checks_in x w = and_then (and_then (does (acts.Check x) w) delivers_last) takes_any_ack
+checks_in x w = and_then (and_then (does (acts.At x inputs.CheckNow) w) delivers_last) takes_any_ack
 
 abbrev pub checks_in_if : Mode → ℕ → World → Run
 checks_in_if (Joined p) x w = checks_in x w

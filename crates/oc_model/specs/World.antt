@@ -88,35 +88,25 @@ stepped w input o = record {
 }
 
 -- to whom an input goes
-pub record Aimed : Type 0 where
+pub record Arrival : Type 0 where
   pub at : ℕ
   pub input : Input
 
-abbrev pub delivery : Option Message → Option Aimed
+abbrev pub delivery : Option Message → Option Arrival
 delivery None = None
 delivery (Some m) = Some (record { at = m.to; input = inputs.Delivered m })
 
-abbrev pub at_node : ℕ → Input → Option Aimed
-at_node x i = Some (record { at = x; input = i })
-
--- the input of an act; none where no message has that number
-abbrev pub aimed : World → Act → Option Aimed
-aimed w (acts.Tick x t) = at_node x (inputs.Tick t)
-aimed w (acts.Check x) = at_node x inputs.CheckNow
-aimed w (acts.Move x p) = at_node x (inputs.Relocate p)
-aimed w (acts.Fail x p) = at_node x (inputs.Unreachable p)
-aimed w (acts.Pull x p) = at_node x (inputs.Pull p)
-aimed w (acts.Measure x p rate hops) = at_node x (inputs.Measured p rate hops)
-aimed w (acts.Publish x g bytes) = at_node x (inputs.Publish g bytes)
-aimed w (acts.Seal x g) = at_node x (inputs.Seal g)
-aimed w (acts.Client x area start g) = at_node x (inputs.Client area start g)
-aimed w (acts.Deliver k) = delivery (message_at w.net k)
+-- the input of an act; none where no message has that number. A message comes by its number alone
+abbrev pub arrival : World → Act → Option Arrival
+arrival w (acts.At x (inputs.Delivered m)) = None
+arrival w (acts.At x i) = Some (record { at = x; input = i })
+arrival w (acts.Deliver k) = delivery (message_at w.net k)
 
 -- what an input does to a world; nothing where its node is down
-abbrev pub acted : World → Option Aimed → World
+abbrev pub acted : World → Option Arrival → World
 acted w None = w
 acted w (Some a) = if is_up w a.at then stepped w a.input (step (node w a.at) a.input) else w
 
 -- what an act does
 abbrev pub after_act : World → Act → World
-after_act w a = acted w (aimed w a)
+after_act w a = acted w (arrival w a)

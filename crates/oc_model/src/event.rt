@@ -1,4 +1,5 @@
-use oc_base::{Bytes, GroupName, NodeId};
+use crate::Input;
+use oc_base::NodeId;
 
 /// One line of a schedule: what happens next in the network.
 #[derive(Clone, Debug, Drop)]
@@ -22,51 +23,11 @@ pub enum Event {
     Heal,
 }
 
-/// An event that is an input of one node.
+/// What an event of a schedule does at one node.
 #[derive(Clone, Debug, Drop)]
 pub enum Act {
-    Tick {
-        node: NodeId,
-        now: u64,
-    },
-    Check {
-        node: NodeId,
-    },
-    Move {
-        node: NodeId,
-        peer: NodeId,
-    },
-    Fail {
-        node: NodeId,
-        peer: NodeId,
-    },
-    Pull {
-        node: NodeId,
-        peer: NodeId,
-    },
-    Measure {
-        node: NodeId,
-        peer: NodeId,
-        rate: u64,
-        hops: u8,
-    },
-    Publish {
-        node: NodeId,
-        group: GroupName,
-        bytes: Bytes,
-    },
-    Seal {
-        node: NodeId,
-        group: GroupName,
-    },
-    Client {
-        node: NodeId,
-        area: u8,
-        start: u64,
-        group: GroupName,
-    },
+    /// This input comes to the node. A message comes by its number alone: `Input::Delivered` does nothing here.
+    At { node: NodeId, input: Input },
     /// The message of this number, counted from 1 over all that were ever sent, arrives at its receiver.
-    Deliver {
-        number: u64,
-    },
+    Deliver { number: u64 },
 }

@@ -4,8 +4,6 @@ ghost use Rattle.std.specs.Prelude.{◌≡◌, ◌+◌, ◌^◌, ◌<◌, ◌≤
 ghost use Rattle.std.specs.List.{range_with_len};
 ghost use Rattle.oc_base.specs.Lawful.{IsNode};
 ghost use Rattle.oc_base.specs.declared.limits.TheConstants.{MAX_NODES};
-ghost use Rattle.oc_model.specs.Adopting.{is_acting};
-ghost use Rattle.oc_model.specs.Records.{is_joined};
 ghost use Rattle.oc_model.specs.NextWorld.{world_after};
 ghost use Rattle.oc_model.specs.World.{ids};
 ghost use Rattle.oc_model.specs.WorldBounds.{IsWithinLimits};
@@ -19,7 +17,7 @@ use crate::fault::ReportFault;
 use crate::playing::play;
 use oc_base::{Memory, NodeId, Shelf, put, put_with_number};
 use oc_io::{Sink, write_all};
-use oc_model::{Event, Mode};
+use oc_model::Event;
 use std::alloc::Global;
 
 /// What is counted of some nodes: those that are up, those of them that are joined and that act as
@@ -134,24 +132,10 @@ fn tally_at<T: Stage>(stage: &T, node: NodeId) -> Result<Tally, Memory>
     let held = stage.held(node)?;
     Ok(Tally {
         up: one_if(status.up),
-        joined: one_if(status.up && is_joined(status.mode)),
-        acting: one_if(status.up && is_acting(status.mode)),
+        joined: one_if(status.up && status.mode.is_joined()),
+        acting: one_if(status.up && status.mode.is_acting()),
         bytes: bytes_in(&held),
     })
-}
-
-/// Whether a node in this mode has a parent.
-fn is_joined(mode: Mode) -> bool
-    ensures { result ≡ is_joined mode }
-{
-    matches!(mode, Mode::Joined(_))
-}
-
-/// Whether a node in this mode acts as root.
-fn is_acting(mode: Mode) -> bool
-    ensures { result ≡ is_acting mode }
-{
-    matches!(mode, Mode::Acting)
 }
 
 /// One where it is so, and else nothing.

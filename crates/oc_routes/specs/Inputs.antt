@@ -1,6 +1,6 @@
 -- Which input results from a request, and the lines of inputs.
 use Rattle.std.specs.Prelude.{◌≡◌, ℕ, ◌==◌, if◌then◌else◌, Option, Some, None, Result, Ok, Err, List, ◌++◌, length, codes, decimal}
-use Rattle.oc_model.specs.declared.event.Act.TheVariants as acts
+use Rattle.oc_model.specs.declared.event.Act.TheVariants.{At}
 use Rattle.oc_model.specs.declared.input.Input.{Input}
 use Rattle.oc_model.specs.declared.input.Input.TheVariants as inputs
 use Rattle.oc_model.specs.declared.message.Message.{Message}
@@ -38,16 +38,8 @@ Gives (Err faults.Memory) said = Unit {0}
 
 -- the line by which the node me prints an input that it takes
 abbrev pub input_line : ℕ → Input → List ℕ
-input_line me (inputs.Tick now) = act_line (acts.Tick me now)
-input_line me inputs.CheckNow = act_line (acts.Check me)
-input_line me (inputs.Relocate peer) = act_line (acts.Move me peer)
-input_line me (inputs.Unreachable peer) = act_line (acts.Fail me peer)
-input_line me (inputs.Pull peer) = act_line (acts.Pull me peer)
-input_line me (inputs.Measured peer rate hops) = act_line (acts.Measure me peer rate hops)
-input_line me (inputs.Publish group bytes) = act_line (acts.Publish me group bytes)
-input_line me (inputs.Seal group) = act_line (acts.Seal me group)
-input_line me (inputs.Client area start group) = act_line (acts.Client me area start group)
 input_line me (inputs.Delivered message) = recv_line me (spelling message)
+input_line me input = act_line (At me input)
 
 -- a message that is printed has a spelling
 abbrev pub HasLine : Input → Type 0

@@ -1,16 +1,15 @@
 //! The lines of a running node.
 
 ghost use Rattle.std.specs.Prelude.{◌≡◌, ◌++◌, OnOk, codes};
-ghost use Rattle.oc_model.specs.declared.event.Act.TheVariants.{Publish as PublishAct};
-ghost use Rattle.oc_schedule.specs.Texts.{act_line, recv_line};
+ghost use Rattle.oc_schedule.specs.Texts.{recv_line};
 ghost use Rattle.oc_wire.specs.Spelling.{spelling, HasSpelling};
 ghost use Rattle.oc_routes.specs.Inputs.{HasLine, failure_text, input_line, probe_line};
 ghost use Rattle.oc_routes.specs.Refusals.{refusal_line, why_text};
 
 use crate::Refused;
-use oc_base::{GroupName, Memory, NodeId, put, put_number, put_with_number};
-use oc_model::{Act, Input, Message};
-use oc_schedule::{put_act_line, put_bytes, put_recv_line};
+use oc_base::{Memory, NodeId, put, put_number, put_with_number};
+use oc_model::{Input, Message};
+use oc_schedule::{put_act_line, put_recv_line};
 use oc_wire::encode;
 use std::alloc::Global;
 
@@ -34,80 +33,9 @@ pub fn put_input_line(
     ensures { OnOk result (out.new.items ≡ out.old.items ++ input_line me input.now) }
 {
     match input {
-        Input::Tick(now) => put_act_line(
-            out,
-            &Act::Tick {
-                node: me,
-                now: *now,
-            },
-        ),
-        Input::CheckNow => put_act_line(out, &Act::Check { node: me }),
-        Input::Relocate(peer) => put_act_line(
-            out,
-            &Act::Move {
-                node: me,
-                peer: *peer,
-            },
-        ),
-        Input::Unreachable(peer) => put_act_line(
-            out,
-            &Act::Fail {
-                node: me,
-                peer: *peer,
-            },
-        ),
-        Input::Pull(peer) => put_act_line(
-            out,
-            &Act::Pull {
-                node: me,
-                peer: *peer,
-            },
-        ),
-        Input::Measured { peer, rate, hops } => put_act_line(
-            out,
-            &Act::Measure {
-                node: me,
-                peer: *peer,
-                rate: *rate,
-                hops: *hops,
-            },
-        ),
-        Input::Publish { group, bytes } => put_publish_line(out, me, group, bytes.items()),
-        Input::Seal { group } => put_act_line(
-            out,
-            &Act::Seal {
-                node: me,
-                group: *group,
-            },
-        ),
-        Input::Client { area, start, group } => put_act_line(
-            out,
-            &Act::Client {
-                node: me,
-                area: *area,
-                start: *start,
-                group: *group,
-            },
-        ),
         Input::Delivered(message) => put_message_line(alloc, out, me, message),
+        _ => put_act_line(out, me, input),
     }
-}
-
-/// Puts the line of a publish, without a copy of its bytes.
-fn put_publish_line(
-    out: &mut Vec<u8>,
-    me: NodeId,
-    group: &GroupName,
-    bytes: &[u8],
-) -> Result<(), Memory>
-    ensures { OnOk result (out.new.items ≡ out.old.items ++ act_line (PublishAct me group.now bytes.now)) }
-{
-    put_with_number(out, b"publish ", u64::from(me.0))?;
-    put(out, b" ")?;
-    put(out, group.bytes())?;
-    put(out, b" ")?;
-    put_bytes(out, bytes)?;
-    put(out, b"\n")
 }
 
 /// Puts the line of a message that came.

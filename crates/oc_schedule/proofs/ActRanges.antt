@@ -9,7 +9,8 @@ use Rattle.oc_base.specs.declared.group_name.NameFault.{NameFault}
 use Rattle.oc_base.specs.declared.why.Why.{Why}
 use Rattle.oc_base.specs.declared.why.Why.TheVariants as causes
 use Rattle.oc_model.specs.declared.event.Act.{Act}
-use Rattle.oc_model.specs.declared.event.Act.TheVariants.{Tick, Check, Move, Fail, Pull, Measure, Publish, Seal, Client, Deliver}
+use Rattle.oc_model.specs.declared.event.Act.TheVariants.{At, Deliver}
+use Rattle.oc_model.specs.declared.input.Input.TheVariants.{Tick, CheckNow, Relocate, Unreachable, Pull, Measured, Publish, Seal, Client}
 use Rattle.oc_model.specs.Numbers.{number_end}
 use Rattle.oc_base.specs.Lawful.{IsNode}
 use Rattle.oc_model.specs.Lawful.{IsAct}
@@ -49,15 +50,15 @@ tick_range nodes fields act h =
     steps (two fields) _ _ h λ f is_two then.
     steps (node_in nodes f.0) _ _ then λ node is_node then.
     steps (number_in 0 MAX_TIME f.1) _ _ then λ now is_now end.
-    let same : Tick node now ≡ act = cc end in
+    let same : At node (Tick now) ≡ act = cc end in
     subst (IsActIfFew nodes) same λ few. (number_range 1 nodes f.0 node is_node, (number_range 0 MAX_TIME f.1 now is_now).1)
 
 check_range : (nodes : ℕ) (fields : List (List ℕ)) (act : Act) → check_in nodes fields ≡ Ok act → IsActIfFew nodes act
 check_range nodes fields act h =
     steps (one fields) _ _ h λ n is_one then.
     steps (node_in nodes n) _ _ then λ node is_node end.
-    let same : Check node ≡ act = cc end in
-    subst (IsActIfFew nodes) same λ few. number_range 1 nodes n node is_node
+    let same : At node CheckNow ≡ act = cc end in
+    subst (IsActIfFew nodes) same λ few. (number_range 1 nodes n node is_node, tt)
 
 -- a node and a peer
 pair_range : (nodes : ℕ) (fields : List (List ℕ)) (pair : ℕ × ℕ) → pair_in nodes fields ≡ Ok pair → IsNode nodes pair.0 × IsNode nodes pair.1
@@ -72,19 +73,19 @@ pair_range nodes fields pair h =
 move_range : (nodes : ℕ) (fields : List (List ℕ)) (act : Act) → move_in nodes fields ≡ Ok act → IsActIfFew nodes act
 move_range nodes fields act h =
     steps (pair_in nodes fields) _ _ h λ pair is_pair end.
-    let same : Move pair.0 pair.1 ≡ act = cc end in
+    let same : At pair.0 (Relocate pair.1) ≡ act = cc end in
     subst (IsActIfFew nodes) same λ few. pair_range nodes fields pair is_pair
 
 fail_range : (nodes : ℕ) (fields : List (List ℕ)) (act : Act) → fail_in nodes fields ≡ Ok act → IsActIfFew nodes act
 fail_range nodes fields act h =
     steps (pair_in nodes fields) _ _ h λ pair is_pair end.
-    let same : Fail pair.0 pair.1 ≡ act = cc end in
+    let same : At pair.0 (Unreachable pair.1) ≡ act = cc end in
     subst (IsActIfFew nodes) same λ few. pair_range nodes fields pair is_pair
 
 pull_range : (nodes : ℕ) (fields : List (List ℕ)) (act : Act) → pull_in nodes fields ≡ Ok act → IsActIfFew nodes act
 pull_range nodes fields act h =
     steps (pair_in nodes fields) _ _ h λ pair is_pair end.
-    let same : Pull pair.0 pair.1 ≡ act = cc end in
+    let same : At pair.0 (Pull pair.1) ≡ act = cc end in
     subst (IsActIfFew nodes) same λ few. pair_range nodes fields pair is_pair
 
 measure_range : (nodes : ℕ) (fields : List (List ℕ)) (act : Act) → measure_in nodes fields ≡ Ok act → IsActIfFew nodes act
@@ -94,9 +95,9 @@ measure_range nodes fields act h =
     steps (node_in nodes f.1) _ _ then λ peer is_peer then.
     steps (number_in 0 MAX_RATE f.2) _ _ then λ rate is_rate then.
     steps (number_in 0 most_byte f.3) _ _ then λ hops is_hops end.
-    let same : Measure node peer rate hops ≡ act = cc end in
+    let same : At node (Measured peer rate hops) ≡ act = cc end in
     subst (IsActIfFew nodes) same λ few.
-    (number_range 1 nodes f.0 node is_node, number_range 1 nodes f.1 peer is_peer, (number_range 0 MAX_RATE f.2 rate is_rate).1, (number_range 0 most_byte f.3 hops is_hops).1)
+    (number_range 1 nodes f.0 node is_node, (number_range 1 nodes f.1 peer is_peer, (number_range 0 MAX_RATE f.2 rate is_rate).1, (number_range 0 most_byte f.3 hops is_hops).1))
 
 publish_range : (nodes : ℕ) (fields : List (List ℕ)) (act : Act) → publish_in nodes fields ≡ Ok act → IsActIfFew nodes act
 publish_range nodes fields act h =
@@ -104,15 +105,15 @@ publish_range nodes fields act h =
     steps (node_in nodes f.0) _ _ then λ node is_node then.
     steps (group_in f.1) _ _ then λ group is_group then.
     steps (bytes_in f.2) _ _ then λ bytes is_bytes end.
-    let same : Publish node group bytes ≡ act = cc end in
-    subst (IsActIfFew nodes) same λ few. (number_range 1 nodes f.0 node is_node, group_range f.1 group is_group, few)
+    let same : At node (Publish group bytes) ≡ act = cc end in
+    subst (IsActIfFew nodes) same λ few. (number_range 1 nodes f.0 node is_node, (group_range f.1 group is_group, few))
 
 seal_range : (nodes : ℕ) (fields : List (List ℕ)) (act : Act) → seal_in nodes fields ≡ Ok act → IsActIfFew nodes act
 seal_range nodes fields act h =
     steps (two fields) _ _ h λ f is_two then.
     steps (node_in nodes f.0) _ _ then λ node is_node then.
     steps (group_in f.1) _ _ then λ group is_group end.
-    let same : Seal node group ≡ act = cc end in
+    let same : At node (Seal group) ≡ act = cc end in
     subst (IsActIfFew nodes) same λ few. (number_range 1 nodes f.0 node is_node, group_range f.1 group is_group)
 
 client_range : (nodes : ℕ) (fields : List (List ℕ)) (act : Act) → client_in nodes fields ≡ Ok act → IsActIfFew nodes act
@@ -122,9 +123,9 @@ client_range nodes fields act h =
     steps (number_in 0 most_byte f.1) _ _ then λ area is_area then.
     steps (number_in 0 MAX_START f.2) _ _ then λ start is_start then.
     steps (group_in f.3) _ _ then λ group is_group end.
-    let same : Client node area start group ≡ act = cc end in
+    let same : At node (Client area start group) ≡ act = cc end in
     subst (IsActIfFew nodes) same λ few.
-    (number_range 1 nodes f.0 node is_node, (number_range 0 most_byte f.1 area is_area).1, (number_range 0 MAX_START f.2 start is_start).1, group_range f.3 group is_group)
+    (number_range 1 nodes f.0 node is_node, ((number_range 0 most_byte f.1 area is_area).1, (number_range 0 MAX_START f.2 start is_start).1, group_range f.3 group is_group))
 
 deliver_range : (nodes : ℕ) (fields : List (List ℕ)) (act : Act) → deliver_in fields ≡ Ok act → IsActIfFew nodes act
 deliver_range nodes fields act h =

@@ -7,26 +7,32 @@ use Rattle.oc_model.specs.declared.event.Act.{Act}
 use Rattle.oc_model.specs.declared.event.Act.TheVariants as acts
 use Rattle.oc_model.specs.declared.event.Event.{Event}
 use Rattle.oc_model.specs.declared.event.Event.TheVariants as events
+use Rattle.oc_model.specs.declared.input.Input.{Input}
+use Rattle.oc_model.specs.declared.input.Input.TheVariants as inputs
 use Rattle.oc_model.specs.Lawful.{IsEvent}
 use Rattle.oc_schedule.proofs.ActsBack.{act_are_words, act_back, node_back, node_word, then}
 use Rattle.oc_schedule.proofs.FieldsBack.{decimal_word, number_back}
 use Rattle.oc_schedule.proofs.LineBack.{AreWords}
-use Rattle.oc_schedule.specs.Acts.{act_fields, act_in, act_word, most_byte}
+use Rattle.oc_schedule.specs.Acts.{act_fields, act_in, act_word, input_fields, input_word, most_byte}
 use Rattle.oc_schedule.specs.Lines.{act_alone_in, event_fields, event_in, event_word, event_words, most_calls}
 use Rattle.oc_schedule.specs.Printing.{IsOfBytes}
 use Rattle.oc_schedule.specs.Schedule.{is_comment}
 
 -- an act line is an event line of its own
+input_alone : (nodes x : ℕ) (i : Input) → event_in nodes (input_word i) (decimal x ∷ input_fields i) ≡ act_alone_in nodes (input_word i) (decimal x ∷ input_fields i)
+input_alone nodes x (inputs.Tick t) = refl
+input_alone nodes x inputs.CheckNow = refl
+input_alone nodes x (inputs.Relocate p) = refl
+input_alone nodes x (inputs.Unreachable p) = refl
+input_alone nodes x (inputs.Pull p) = refl
+input_alone nodes x (inputs.Measured p rate hops) = refl
+input_alone nodes x (inputs.Publish g bs) = refl
+input_alone nodes x (inputs.Seal g) = refl
+input_alone nodes x (inputs.Client area start g) = refl
+input_alone nodes x (inputs.Delivered m) = refl
+
 act_alone : (nodes : ℕ) (act : Act) → event_in nodes (act_word act) (act_fields act) ≡ act_alone_in nodes (act_word act) (act_fields act)
-act_alone nodes (acts.Tick x t) = refl
-act_alone nodes (acts.Check x) = refl
-act_alone nodes (acts.Move x p) = refl
-act_alone nodes (acts.Fail x p) = refl
-act_alone nodes (acts.Pull x p) = refl
-act_alone nodes (acts.Measure x p rate hops) = refl
-act_alone nodes (acts.Publish x g bs) = refl
-act_alone nodes (acts.Seal x g) = refl
-act_alone nodes (acts.Client x area start g) = refl
+act_alone nodes (acts.At x i) = input_alone nodes x i
 act_alone nodes (acts.Deliver k) = refl
 
 pub event_back : (nodes : ℕ) (e : Event) → nodes ≤ MAX_NODES → IsEvent nodes e → IsOfBytes e → event_in nodes (event_word e) (event_fields e) ≡ Ok e
@@ -55,16 +61,20 @@ event_are_words nodes events.Settle few h bytes = (refl, tt)
 event_are_words nodes events.Heal few h bytes = (refl, tt)
 
 -- no act line begins as a comment or an area does
+input_is_no_other : (i : Input) → (is_comment (input_word i) ≡ false) × (bytes_eq (input_word i) (codes "area") ≡ false)
+input_is_no_other (inputs.Tick t) = (refl, refl)
+input_is_no_other inputs.CheckNow = (refl, refl)
+input_is_no_other (inputs.Relocate p) = (refl, refl)
+input_is_no_other (inputs.Unreachable p) = (refl, refl)
+input_is_no_other (inputs.Pull p) = (refl, refl)
+input_is_no_other (inputs.Measured p rate hops) = (refl, refl)
+input_is_no_other (inputs.Publish g bs) = (refl, refl)
+input_is_no_other (inputs.Seal g) = (refl, refl)
+input_is_no_other (inputs.Client area start g) = (refl, refl)
+input_is_no_other (inputs.Delivered m) = (refl, refl)
+
 act_is_no_other : (act : Act) → (is_comment (act_word act) ≡ false) × (bytes_eq (act_word act) (codes "area") ≡ false)
-act_is_no_other (acts.Tick x t) = (refl, refl)
-act_is_no_other (acts.Check x) = (refl, refl)
-act_is_no_other (acts.Move x p) = (refl, refl)
-act_is_no_other (acts.Fail x p) = (refl, refl)
-act_is_no_other (acts.Pull x p) = (refl, refl)
-act_is_no_other (acts.Measure x p rate hops) = (refl, refl)
-act_is_no_other (acts.Publish x g bs) = (refl, refl)
-act_is_no_other (acts.Seal x g) = (refl, refl)
-act_is_no_other (acts.Client x area start g) = (refl, refl)
+act_is_no_other (acts.At x i) = input_is_no_other i
 act_is_no_other (acts.Deliver k) = (refl, refl)
 
 -- nor does an event line

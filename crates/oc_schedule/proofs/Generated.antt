@@ -6,9 +6,10 @@ use Rattle.std.proofs.lemmas.List.Sums.{sum_by-append, sum_by-cons}
 use Rattle.std.proofs.lemmas.Nat.{mod_below}
 use Rattle.oc_base.specs.Lawful.{IsNode}
 use Rattle.oc_base.specs.declared.limits.TheConstants.{MAX_NODES}
-use Rattle.oc_model.specs.declared.event.Act.TheVariants.{Tick, Publish, Deliver}
+use Rattle.oc_model.specs.declared.event.Act.TheVariants.{At, Deliver}
 use Rattle.oc_model.specs.declared.event.Event.{Event}
 use Rattle.oc_model.specs.declared.event.Event.TheVariants.{Up, Crash, Do}
+use Rattle.oc_model.specs.declared.input.Input.TheVariants.{Tick, Publish}
 use Rattle.oc_model.specs.Lawful.{IsEvent}
 use Rattle.oc_schedule.specs.declared.generating.TheConstants.{MAX_GENERATED_EVENTS}
 use Rattle.oc_schedule.specs.Generator.{draw_at, draws_of, events_from, generated, made}
@@ -32,9 +33,9 @@ made_is_drawn nodes i kind node third is few one last =
     let P = IsDrawn nodes in
     let below = mod_below third i (omega (arith, one)) in
     let source : IsNode nodes 1 = (omega arith, omega (arith, is.0, is.1)) in
-    let tick : P (Do (Tick node i)) = record { lawful = (is, omega (arith, last)); published = omega arith; settles = refl } in
+    let tick : P (Do (At node (Tick i))) = record { lawful = (is, omega (arith, last)); published = omega arith; settles = refl } in
     let delivery : P (Do (Deliver (1 + third % i))) = record { lawful = (omega arith, omega (arith, below, last)); published = omega arith; settles = refl } in
-    let publish : P (Do (Publish 1 (codes "/g") (third % 256 ∷ []))) = record { lawful = (source, refl, omega arith); published = omega arith; settles = refl } in
+    let publish : P (Do (At 1 (Publish (codes "/g") (third % 256 ∷ [])))) = record { lawful = (source, (refl, omega arith)); published = omega arith; settles = refl } in
     let crash : P (Crash node) = record { lawful = is; published = omega arith; settles = refl } in
     let up : P (Up node) = record { lawful = is; published = omega arith; settles = refl } in
     either P (nat_le kind 5) _ _ tick (either P (nat_le kind 12) _ _ delivery (either P (kind == 13) _ _ publish (either P (kind == 14) _ _ crash up)))

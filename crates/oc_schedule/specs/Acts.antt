@@ -8,7 +8,9 @@ use Rattle.oc_base.specs.declared.limits.TheConstants.{MAX_RATE, MAX_START, MAX_
 use Rattle.oc_base.specs.declared.why.Why.{Why}
 use Rattle.oc_base.specs.declared.why.Why.TheVariants as causes
 use Rattle.oc_model.specs.declared.event.Act.{Act}
-use Rattle.oc_model.specs.declared.event.Act.TheVariants.{Tick, Check, Move, Fail, Pull, Measure, Publish, Seal, Client, Deliver}
+use Rattle.oc_model.specs.declared.event.Act.TheVariants.{At, Deliver}
+use Rattle.oc_model.specs.declared.input.Input.{Input}
+use Rattle.oc_model.specs.declared.input.Input.TheVariants.{Tick, CheckNow, Relocate, Unreachable, Pull, Measured, Publish, Seal, Client, Delivered}
 use Rattle.oc_model.specs.Numbers.{number_end}
 use Rattle.oc_schedule.specs.Fields.{group_in, bytes_in, bytes_text}
 
@@ -22,14 +24,14 @@ tick_in nodes fields = do
   (n, t) ← two fields
   node ← node_in nodes n
   now ← number_in 0 MAX_TIME t
-  Ok (Tick node now)
+  Ok (At node (Tick now))
 
 -- `check N`
 abbrev pub check_in : ℕ → List (List ℕ) → Result Act Why
 check_in nodes fields = do
   n ← one fields
   node ← node_in nodes n
-  Ok (Check node)
+  Ok (At node CheckNow)
 
 -- `N P`, the fields of three kinds of lines
 abbrev pub pair_in : ℕ → List (List ℕ) → Result (ℕ × ℕ) Why
@@ -43,19 +45,19 @@ pair_in nodes fields = do
 abbrev pub move_in : ℕ → List (List ℕ) → Result Act Why
 move_in nodes fields = do
   (node, peer) ← pair_in nodes fields
-  Ok (Move node peer)
+  Ok (At node (Relocate peer))
 
 -- `fail N P`
 abbrev pub fail_in : ℕ → List (List ℕ) → Result Act Why
 fail_in nodes fields = do
   (node, peer) ← pair_in nodes fields
-  Ok (Fail node peer)
+  Ok (At node (Unreachable peer))
 
 -- `pull N P`
 abbrev pub pull_in : ℕ → List (List ℕ) → Result Act Why
 pull_in nodes fields = do
   (node, peer) ← pair_in nodes fields
-  Ok (Pull node peer)
+  Ok (At node (Pull peer))
 
 -- `measure N P R H`
 abbrev pub measure_in : ℕ → List (List ℕ) → Result Act Why
@@ -65,7 +67,7 @@ measure_in nodes fields = do
   peer ← node_in nodes p
   rate ← number_in 0 MAX_RATE r
   hops ← number_in 0 most_byte h
-  Ok (Measure node peer rate hops)
+  Ok (At node (Measured peer rate hops))
 
 -- `publish N G X`
 abbrev pub publish_in : ℕ → List (List ℕ) → Result Act Why
@@ -74,7 +76,7 @@ publish_in nodes fields = do
   node ← node_in nodes n
   group ← group_in g
   bytes ← bytes_in x
-  Ok (Publish node group bytes)
+  Ok (At node (Publish group bytes))
 
 -- `seal N G`
 abbrev pub seal_in : ℕ → List (List ℕ) → Result Act Why
@@ -82,7 +84,7 @@ seal_in nodes fields = do
   (n, g) ← two fields
   node ← node_in nodes n
   group ← group_in g
-  Ok (Seal node group)
+  Ok (At node (Seal group))
 
 -- `client N A S G`
 abbrev pub client_in : ℕ → List (List ℕ) → Result Act Why
@@ -92,7 +94,7 @@ client_in nodes fields = do
   area ← number_in 0 most_byte a
   start ← number_in 0 MAX_START s
   group ← group_in g
-  Ok (Client node area start group)
+  Ok (At node (Client area start group))
 
 -- `deliver K`
 abbrev pub deliver_in : List (List ℕ) → Result Act Why
@@ -116,30 +118,40 @@ act_in nodes word fields =
     else if bytes_eq word (codes "deliver") then deliver_in fields
     else Err causes.Word
 
+-- the word of an input's line
+abbrev pub input_word : Input → List ℕ
+input_word (Tick now) = codes "tick"
+input_word CheckNow = codes "check"
+input_word (Relocate peer) = codes "move"
+input_word (Unreachable peer) = codes "fail"
+input_word (Pull peer) = codes "pull"
+input_word (Measured peer rate hops) = codes "measure"
+input_word (Publish group bytes) = codes "publish"
+input_word (Seal group) = codes "seal"
+input_word (Client area start group) = codes "client"
+input_word (Delivered message) = codes "recv"
+
+-- its fields behind the node
+abbrev pub input_fields : Input → List (List ℕ)
+input_fields (Tick now) = decimal now ∷ []
+input_fields CheckNow = []
+input_fields (Relocate peer) = decimal peer ∷ []
+input_fields (Unreachable peer) = decimal peer ∷ []
+input_fields (Pull peer) = decimal peer ∷ []
+input_fields (Measured peer rate hops) = decimal peer ∷ decimal rate ∷ decimal hops ∷ []
+input_fields (Publish group bytes) = group ∷ bytes_text bytes ∷ []
+input_fields (Seal group) = group ∷ []
+input_fields (Client area start group) = decimal area ∷ decimal start ∷ group ∷ []
+input_fields (Delivered message) = []
+
 -- the word of an act line
 abbrev pub act_word : Act → List ℕ
-act_word (Tick node now) = codes "tick"
-act_word (Check node) = codes "check"
-act_word (Move node peer) = codes "move"
-act_word (Fail node peer) = codes "fail"
-act_word (Pull node peer) = codes "pull"
-act_word (Measure node peer rate hops) = codes "measure"
-act_word (Publish node group bytes) = codes "publish"
-act_word (Seal node group) = codes "seal"
-act_word (Client node area start group) = codes "client"
+act_word (At node input) = input_word input
 act_word (Deliver number) = codes "deliver"
 
 -- the fields of an act line
 abbrev pub act_fields : Act → List (List ℕ)
-act_fields (Tick node now) = decimal node ∷ decimal now ∷ []
-act_fields (Check node) = decimal node ∷ []
-act_fields (Move node peer) = decimal node ∷ decimal peer ∷ []
-act_fields (Fail node peer) = decimal node ∷ decimal peer ∷ []
-act_fields (Pull node peer) = decimal node ∷ decimal peer ∷ []
-act_fields (Measure node peer rate hops) = decimal node ∷ decimal peer ∷ decimal rate ∷ decimal hops ∷ []
-act_fields (Publish node group bytes) = decimal node ∷ group ∷ bytes_text bytes ∷ []
-act_fields (Seal node group) = decimal node ∷ group ∷ []
-act_fields (Client node area start group) = decimal node ∷ decimal area ∷ decimal start ∷ group ∷ []
+act_fields (At node input) = decimal node ∷ input_fields input
 act_fields (Deliver number) = decimal number ∷ []
 
 -- the words of an act line
@@ -148,10 +160,10 @@ act_words act = act_word act ∷ act_fields act
 
 -- the bytes that an act publishes
 abbrev pub bytes_of_act : Act → ℕ
-bytes_of_act (Publish node group bytes) = length bytes
+bytes_of_act (At node (Publish group bytes)) = length bytes
 bytes_of_act act = 0
 
 -- what an act publishes is bytes
 abbrev pub PublishesBytes : Act → Type 0
-PublishesBytes (Publish node group bytes) = IsBytes bytes
+PublishesBytes (At node (Publish group bytes)) = IsBytes bytes
 PublishesBytes act = Unit {0}

@@ -1,9 +1,10 @@
 use Rattle.std.specs.Prelude.{◌≡◌, ℕ, Ok, Err, List, [], ◌∷◌, ◌++◌, codes}
 use Rattle.oc_base.specs.declared.why.Why.{Why}
 use Rattle.oc_base.specs.declared.why.Why.TheVariants as causes
-use Rattle.oc_model.specs.declared.event.Act.TheVariants.{Pull, Publish, Seal, Deliver}
+use Rattle.oc_model.specs.declared.event.Act.TheVariants.{At, Deliver}
 use Rattle.oc_model.specs.declared.event.Event.{Event}
 use Rattle.oc_model.specs.declared.event.Event.TheVariants.{Up, Do, Held}
+use Rattle.oc_model.specs.declared.input.Input.TheVariants.{Pull, Publish, Seal}
 use Rattle.oc_schedule.specs.declared.fault.ScheduleFault.TheVariants.{Line}
 use Rattle.oc_schedule.specs.Schedule.{schedule_of}
 
@@ -20,19 +21,19 @@ abbrev refuses : List ℕ → ℕ → Why → Type 0
 refuses text line why = schedule_of text ≡ Err (Line line why)
 
 abbrev hello : Event
-hello = Do (Publish 1 (codes "/a") (codes "hello"))
+hello = Do (At 1 (Publish (codes "/a") (codes "hello")))
 
 pub record AreRead : Type 0 where
   pub empty_schedule : says two_nodes []
   pub first_path : says (two_nodes ++ codes "up 1\nup 2\npublish 1 /a 68656c6c6f\npull 2 1\ndeliver 1\ndeliver 2\nheld 2\n")
-      (Up 1 ∷ Up 2 ∷ hello ∷ Do (Pull 2 1) ∷ Do (Deliver 1) ∷ Do (Deliver 2) ∷ Held 2 ∷ [])
+      (Up 1 ∷ Up 2 ∷ hello ∷ Do (At 2 (Pull 1)) ∷ Do (Deliver 1) ∷ Do (Deliver 2) ∷ Held 2 ∷ [])
   pub repeated_delivery : says (two_nodes ++ codes "up 1\nup 2\npublish 1 /a 68656c6c6f\npull 2 1\ndeliver 1\ndeliver 2\ndeliver 2\nheld 2\n")
-      (Up 1 ∷ Up 2 ∷ hello ∷ Do (Pull 2 1) ∷ Do (Deliver 1) ∷ Do (Deliver 2) ∷ Do (Deliver 2) ∷ Held 2 ∷ [])
+      (Up 1 ∷ Up 2 ∷ hello ∷ Do (At 2 (Pull 1)) ∷ Do (Deliver 1) ∷ Do (Deliver 2) ∷ Do (Deliver 2) ∷ Held 2 ∷ [])
   pub publish_elsewhere : says (two_nodes ++ codes "up 1\nup 2\npublish 1 /a -\npublish 2 /a 61\nheld 1\n")
-      (Up 1 ∷ Up 2 ∷ Do (Publish 1 (codes "/a") []) ∷ Do (Publish 2 (codes "/a") (codes "a")) ∷ Held 1 ∷ [])
+      (Up 1 ∷ Up 2 ∷ Do (At 1 (Publish (codes "/a") [])) ∷ Do (At 2 (Publish (codes "/a") (codes "a"))) ∷ Held 1 ∷ [])
   pub sealed_group : says (two_nodes ++ codes "up 1\nup 2\npublish 1 /a 6869\nseal 1 /a\npublish 1 /a 21\npull 2 1\ndeliver 1\ndeliver 2\nheld 2\npull 2 1\ndeliver 3\n")
-      (Up 1 ∷ Up 2 ∷ Do (Publish 1 (codes "/a") (codes "hi")) ∷ Do (Seal 1 (codes "/a")) ∷ Do (Publish 1 (codes "/a") (codes "!"))
-      ∷ Do (Pull 2 1) ∷ Do (Deliver 1) ∷ Do (Deliver 2) ∷ Held 2 ∷ Do (Pull 2 1) ∷ Do (Deliver 3) ∷ [])
+      (Up 1 ∷ Up 2 ∷ Do (At 1 (Publish (codes "/a") (codes "hi"))) ∷ Do (At 1 (Seal (codes "/a"))) ∷ Do (At 1 (Publish (codes "/a") (codes "!")))
+      ∷ Do (At 2 (Pull 1)) ∷ Do (Deliver 1) ∷ Do (Deliver 2) ∷ Held 2 ∷ Do (At 2 (Pull 1)) ∷ Do (Deliver 3) ∷ [])
   pub skipped_lines : says (codes "\n  # a comment\n" ++ two_nodes ++ codes "# another\n\nup 1") (Up 1 ∷ [])
   pub spaces_and_returns : says (codes "  overcast 1  nodes 2 chain 1 \r\nup 1\r\n") (Up 1 ∷ [])
   pub areas : schedule_of (two_nodes ++ codes "area 2 7\narea 1 9\narea 2 255\n")

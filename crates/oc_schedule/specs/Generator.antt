@@ -1,9 +1,10 @@
 -- The generator: a schedule that follows from a seed.
 use Rattle.std.specs.Prelude.{ℕ, zero, suc, ◌+◌, ◌*◌, ◌/◌, ◌%◌, ◌^◌, ◌==◌, nat_le, min, if◌then◌else◌, List, [], ◌∷◌, ◌++◌, map, replicate, codes}
 use Rattle.std.specs.List.{range_with_len}
-use Rattle.oc_model.specs.declared.event.Act.TheVariants.{Tick, Publish, Deliver}
+use Rattle.oc_model.specs.declared.event.Act.TheVariants.{At, Deliver}
 use Rattle.oc_model.specs.declared.event.Event.{Event}
 use Rattle.oc_model.specs.declared.event.Event.TheVariants.{Up, Crash, Do}
+use Rattle.oc_model.specs.declared.input.Input.TheVariants.{Tick, Publish}
 use Rattle.oc_schedule.specs.Script.{Script}
 
 -- Draws
@@ -26,9 +27,9 @@ draw_at seed i = state_after seed (suc i) / 2 ^ 33
 -- event number i, made of a kind below 16, a node, and the draw after them
 abbrev pub made : ℕ → ℕ → ℕ → ℕ → Event
 made i kind node third =
-    if nat_le kind 5 then Do (Tick node i)
+    if nat_le kind 5 then Do (At node (Tick i))
     else if nat_le kind 12 then Do (Deliver (1 + third % i))
-    else if kind == 13 then Do (Publish 1 (codes "/g") (third % 256 ∷ []))
+    else if kind == 13 then Do (At 1 (Publish (codes "/g") (third % 256 ∷ [])))
     else if kind == 14 then Crash node
     else Up node
 

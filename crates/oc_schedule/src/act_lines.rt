@@ -1,18 +1,19 @@
 //! The lines of inputs, as a running node prints each that it takes.
 
 ghost use Rattle.std.specs.Prelude.{◌≡◌, ◌++◌, OnOk};
+ghost use Rattle.oc_model.specs.declared.event.Act.TheVariants.{At};
 ghost use Rattle.oc_schedule.specs.Texts.{act_line, recv_line};
 
-use crate::acts::put_act;
+use crate::acts::put_input;
 use crate::texts::{put_hex, put_number_field};
 use oc_base::{Memory, NodeId, put};
-use oc_model::Act;
+use oc_model::Input;
 
-/// Puts the line of an act.
-pub fn put_act_line(out: &mut Vec<u8>, act: &Act) -> Result<(), Memory>
-    ensures { OnOk result (out.new.items ≡ out.old.items ++ act_line act.now) }
+/// Puts the line of an input at a node, but what a message says, which is at [`put_recv_line`].
+pub fn put_act_line(out: &mut Vec<u8>, node: NodeId, input: &Input) -> Result<(), Memory>
+    ensures { OnOk result (out.new.items ≡ out.old.items ++ act_line (At node input.now)) }
 {
-    put_act(out, act)?;
+    put_input(out, node, input)?;
     put(out, b"\n")
 }
 

@@ -5,7 +5,8 @@
 
 ghost use Rattle.std.specs.Prelude.{◌≡◌, [], ◌∷◌, ◌++◌, OnOk, decimal};
 ghost use Rattle.oc_base.specs.Words.{words};
-ghost use Rattle.oc_schedule.specs.Acts.{tick_in, check_in, pair_in, move_in, fail_in, pull_in, measure_in, publish_in, seal_in, client_in, deliver_in, act_in, act_words, act_word, act_fields};
+ghost use Rattle.oc_model.specs.declared.event.Act.TheVariants.{At};
+ghost use Rattle.oc_schedule.specs.Acts.{tick_in, check_in, pair_in, move_in, fail_in, pull_in, measure_in, publish_in, seal_in, client_in, deliver_in, act_in, act_words, input_fields, input_word};
 ghost use Rattle.oc_schedule.specs.Fields.{bytes_text};
 ghost use Rattle.oc_schedule.specs.Texts.{fields_text, spaced};
 ghost use Rattle.oc_schedule.specs.Reading.{GivesLine};
@@ -15,7 +16,7 @@ use crate::fields::{bytes, group, is};
 use crate::texts::{put_bytes, put_field, put_number_field};
 use oc_base::words::{four_fields, node, number, one_field, three_fields, two_fields};
 use oc_base::{MAX_RATE, MAX_START, MAX_TIME, Memory, NodeId, Why, put};
-use oc_model::Act;
+use oc_model::{Act, Input};
 use std::alloc::Global;
 
 /// `tick N T`
@@ -23,9 +24,9 @@ fn tick(nodes: u32, fields: &[u8]) -> Result<Act, LineFault>
     ensures { GivesLine result (tick_in nodes (words fields.now)) }
 {
     let (n, t) = two_fields(fields)?;
-    Ok(Act::Tick {
+    Ok(Act::At {
         node: node(n, nodes)?,
-        now: number(t, 0, MAX_TIME)?,
+        input: Input::Tick(number(t, 0, MAX_TIME)?),
     })
 }
 
@@ -34,8 +35,9 @@ fn check(nodes: u32, fields: &[u8]) -> Result<Act, LineFault>
     ensures { GivesLine result (check_in nodes (words fields.now)) }
 {
     let n = one_field(fields)?;
-    Ok(Act::Check {
+    Ok(Act::At {
         node: node(n, nodes)?,
+        input: Input::CheckNow,
     })
 }
 
@@ -54,7 +56,10 @@ fn move_of(nodes: u32, fields: &[u8]) -> Result<Act, LineFault>
     ensures { GivesLine result (move_in nodes (words fields.now)) }
 {
     let (node, peer) = pair(nodes, fields)?;
-    Ok(Act::Move { node, peer })
+    Ok(Act::At {
+        node,
+        input: Input::Relocate(peer),
+    })
 }
 
 /// `fail N P`
@@ -62,7 +67,10 @@ fn fail(nodes: u32, fields: &[u8]) -> Result<Act, LineFault>
     ensures { GivesLine result (fail_in nodes (words fields.now)) }
 {
     let (node, peer) = pair(nodes, fields)?;
-    Ok(Act::Fail { node, peer })
+    Ok(Act::At {
+        node,
+        input: Input::Unreachable(peer),
+    })
 }
 
 /// `pull N P`
@@ -70,7 +78,10 @@ fn pull(nodes: u32, fields: &[u8]) -> Result<Act, LineFault>
     ensures { GivesLine result (pull_in nodes (words fields.now)) }
 {
     let (node, peer) = pair(nodes, fields)?;
-    Ok(Act::Pull { node, peer })
+    Ok(Act::At {
+        node,
+        input: Input::Pull(peer),
+    })
 }
 
 /// `measure N P R H`
@@ -82,11 +93,13 @@ fn measure(nodes: u32, fields: &[u8]) -> Result<Act, LineFault>
     let peer = node(p, nodes)?;
     let rate = number(r, 0, MAX_RATE)?;
     let hops = number(h, 0, u64::from(u8::MAX))?;
-    Ok(Act::Measure {
+    Ok(Act::At {
         node: node_id,
-        peer,
-        rate,
-        hops: hops as u8,
+        input: Input::Measured {
+            peer,
+            rate,
+            hops: hops as u8,
+        },
     })
 }
 
@@ -95,10 +108,12 @@ fn publish(alloc: Global, nodes: u32, fields: &[u8]) -> Result<Act, LineFault>
     ensures { GivesLine result (publish_in nodes (words fields.now)) }
 {
     let (n, g, x) = three_fields(fields)?;
-    Ok(Act::Publish {
+    Ok(Act::At {
         node: node(n, nodes)?,
-        group: group(g)?,
-        bytes: bytes(alloc, x)?,
+        input: Input::Publish {
+            group: group(g)?,
+            bytes: bytes(alloc, x)?,
+        },
     })
 }
 
@@ -107,9 +122,9 @@ fn seal(nodes: u32, fields: &[u8]) -> Result<Act, LineFault>
     ensures { GivesLine result (seal_in nodes (words fields.now)) }
 {
     let (n, g) = two_fields(fields)?;
-    Ok(Act::Seal {
+    Ok(Act::At {
         node: node(n, nodes)?,
-        group: group(g)?,
+        input: Input::Seal { group: group(g)? },
     })
 }
 
@@ -121,11 +136,13 @@ fn client(nodes: u32, fields: &[u8]) -> Result<Act, LineFault>
     let node_id = node(n, nodes)?;
     let area = number(a, 0, u64::from(u8::MAX))?;
     let start = number(s, 0, MAX_START)?;
-    Ok(Act::Client {
+    Ok(Act::At {
         node: node_id,
-        area: area as u8,
-        start,
-        group: group(g)?,
+        input: Input::Client {
+            area: area as u8,
+            start,
+            group: group(g)?,
+        },
     })
 }
 
@@ -173,110 +190,82 @@ pub(crate) fn act(alloc: Global, nodes: u32, word: &[u8], fields: &[u8]) -> Resu
 pub(crate) fn put_act(out: &mut Vec<u8>, act: &Act) -> Result<(), Memory>
     ensures { OnOk result (out.new.items ≡ out.old.items ++ spaced (act_words act.now)) }
 {
-    put(out, word_of(act).as_bytes())?;
-    put_fields(out, act)
-}
-
-/// Puts the fields of an act line.
-fn put_fields(out: &mut Vec<u8>, act: &Act) -> Result<(), Memory>
-    ensures { OnOk result (out.new.items ≡ out.old.items ++ fields_text (act_fields act.now)) }
-{
     match act {
-        Act::Tick { node, now } => put_two(out, u64::from(node.0), *now),
-        Act::Check { node } => put_number_field(out, u64::from(node.0)),
-        Act::Move { node, peer } | Act::Fail { node, peer } | Act::Pull { node, peer } => {
-            put_two(out, u64::from(node.0), u64::from(peer.0))
+        Act::At { node, input } => put_input(out, *node, input),
+        Act::Deliver { number } => {
+            put(out, b"deliver")?;
+            put_number_field(out, *number)
         }
-        Act::Measure {
-            node,
-            peer,
-            rate,
-            hops,
-        } => put_measured(out, *node, *peer, *rate, *hops),
-        Act::Publish { node, group, bytes } => put_published(
-            out,
-            *node,
-            group.bytes(),
-            bytes.items(),
-        ),
-        Act::Seal { node, group } => put_named(out, u64::from(node.0), group.bytes()),
-        Act::Client {
-            node,
-            area,
-            start,
-            group,
-        } => put_asked(out, *node, *area, *start, group.bytes()),
-        Act::Deliver { number } => put_number_field(out, *number),
     }
 }
 
-/// Puts the fields of `measure N P R H`.
-fn put_measured(
-    out: &mut Vec<u8>,
-    node: NodeId,
-    peer: NodeId,
-    rate: u64,
-    hops: u8,
-) -> Result<(), Memory>
-    ensures { OnOk result (out.new.items ≡ out.old.items ++ fields_text (decimal node ∷ decimal peer ∷ decimal rate ∷ decimal hops ∷ [])) }
+/// Puts the words of the line of an input at a node.
+pub(crate) fn put_input(out: &mut Vec<u8>, node: NodeId, input: &Input) -> Result<(), Memory>
+    ensures { OnOk result (out.new.items ≡ out.old.items ++ spaced (act_words (At node input.now))) }
 {
-    put_two(out, u64::from(node.0), u64::from(peer.0))?;
-    put_two(out, rate, u64::from(hops))
+    put(out, word_of(input).as_bytes())?;
+    put_number_field(out, u64::from(node.0))?;
+    put_fields(out, input)
 }
 
-/// Puts the fields of `publish N G X`.
-fn put_published(out: &mut Vec<u8>, node: NodeId, group: &[u8], bytes: &[u8]) -> Result<(), Memory>
-    ensures { OnOk result (out.new.items ≡ out.old.items ++ fields_text (decimal node ∷ group.now ∷ bytes_text bytes.now ∷ [])) }
+/// Puts the fields of the line of an input, but the node.
+fn put_fields(out: &mut Vec<u8>, input: &Input) -> Result<(), Memory>
+    ensures { OnOk result (out.new.items ≡ out.old.items ++ fields_text (input_fields input.now)) }
 {
-    put_named(out, u64::from(node.0), group)?;
+    match input {
+        Input::Tick(now) => put_number_field(out, *now),
+        Input::CheckNow | Input::Delivered(_) => Ok(()),
+        Input::Relocate(peer) | Input::Unreachable(peer) | Input::Pull(peer) => {
+            put_number_field(out, u64::from(peer.0))
+        }
+        Input::Measured { peer, rate, hops } => put_measured(out, *peer, *rate, *hops),
+        Input::Publish { group, bytes } => put_published(out, group.bytes(), bytes.items()),
+        Input::Seal { group } => put_field(out, group.bytes()),
+        Input::Client { area, start, group } => put_asked(out, *area, *start, group.bytes()),
+    }
+}
+
+/// Puts the fields `P R H` of `measure N P R H`.
+fn put_measured(out: &mut Vec<u8>, peer: NodeId, rate: u64, hops: u8) -> Result<(), Memory>
+    ensures { OnOk result (out.new.items ≡ out.old.items ++ fields_text (decimal peer ∷ decimal rate ∷ decimal hops ∷ [])) }
+{
+    put_number_field(out, u64::from(peer.0))?;
+    put_number_field(out, rate)?;
+    put_number_field(out, u64::from(hops))
+}
+
+/// Puts the fields `G X` of `publish N G X`.
+fn put_published(out: &mut Vec<u8>, group: &[u8], bytes: &[u8]) -> Result<(), Memory>
+    ensures { OnOk result (out.new.items ≡ out.old.items ++ fields_text (group.now ∷ bytes_text bytes.now ∷ [])) }
+{
+    put_field(out, group)?;
     put(out, b" ")?;
     put_bytes(out, bytes)
 }
 
-/// Puts the fields of `client N A S G`.
-fn put_asked(
-    out: &mut Vec<u8>,
-    node: NodeId,
-    area: u8,
-    start: u64,
-    group: &[u8],
-) -> Result<(), Memory>
-    ensures { OnOk result (out.new.items ≡ out.old.items ++ fields_text (decimal node ∷ decimal area ∷ decimal start ∷ group.now ∷ [])) }
+/// Puts the fields `A S G` of `client N A S G`.
+fn put_asked(out: &mut Vec<u8>, area: u8, start: u64, group: &[u8]) -> Result<(), Memory>
+    ensures { OnOk result (out.new.items ≡ out.old.items ++ fields_text (decimal area ∷ decimal start ∷ group.now ∷ [])) }
 {
-    put_two(out, u64::from(node.0), u64::from(area))?;
-    put_named(out, start, group)
+    put_number_field(out, u64::from(area))?;
+    put_number_field(out, start)?;
+    put_field(out, group)
 }
 
-/// The word of an act line.
-fn word_of(act: &Act) -> &'static str
-    ensures { result.now ≡ act_word act.now }
+/// The word of the line of an input.
+fn word_of(input: &Input) -> &'static str
+    ensures { result.now ≡ input_word input.now }
 {
-    match act {
-        Act::Tick { .. } => "tick",
-        Act::Check { .. } => "check",
-        Act::Move { .. } => "move",
-        Act::Fail { .. } => "fail",
-        Act::Pull { .. } => "pull",
-        Act::Measure { .. } => "measure",
-        Act::Publish { .. } => "publish",
-        Act::Seal { .. } => "seal",
-        Act::Client { .. } => "client",
-        Act::Deliver { .. } => "deliver",
+    match input {
+        Input::Tick(_) => "tick",
+        Input::CheckNow => "check",
+        Input::Relocate(_) => "move",
+        Input::Unreachable(_) => "fail",
+        Input::Pull(_) => "pull",
+        Input::Measured { .. } => "measure",
+        Input::Publish { .. } => "publish",
+        Input::Seal { .. } => "seal",
+        Input::Client { .. } => "client",
+        Input::Delivered(_) => "recv",
     }
-}
-
-/// Puts two numbers, a space before each.
-fn put_two(out: &mut Vec<u8>, a: u64, b: u64) -> Result<(), Memory>
-    ensures { OnOk result (out.new.items ≡ out.old.items ++ fields_text (decimal a ∷ decimal b ∷ [])) }
-{
-    put_number_field(out, a)?;
-    put_number_field(out, b)
-}
-
-/// Puts a number and a name, a space before each.
-fn put_named(out: &mut Vec<u8>, number: u64, name: &[u8]) -> Result<(), Memory>
-    ensures { OnOk result (out.new.items ≡ out.old.items ++ fields_text (decimal number ∷ name.now ∷ [])) }
-{
-    put_number_field(out, number)?;
-    put_field(out, name)
 }

@@ -12,7 +12,7 @@ use crate::fields::is;
 use crate::lines::{area, event, opening};
 use crate::{Schedule, ScheduleFault, What};
 use oc_base::{MAX_SCHEDULE_PUBLISHED, MAX_SCHEDULE_SETTLES, NodeId, Why};
-use oc_model::{Act, Event};
+use oc_model::{Act, Event, Input};
 use std::alloc::Global;
 
 /// The schedule of the lines so far, from the header on.
@@ -145,7 +145,10 @@ fn bytes_of(act: &Act) -> usize
     ensures { result ≡ bytes_of_act act.now }
 {
     match act {
-        Act::Publish { bytes, .. } => bytes.items().len(),
+        Act::At {
+            input: Input::Publish { bytes, .. },
+            ..
+        } => bytes.items().len(),
         _ => 0,
     }
 }

@@ -3,14 +3,15 @@
 ghost use Rattle.std.specs.Prelude.{◌≡◌, ◌+◌, ◌-◌, ◌/◌, ◌%◌, ◌^◌, ◌≤◌, ◌<◌, ◌++◌, [], ◌∷◌, OnOk, IfOk, map, codes};
 ghost use Rattle.std.specs.List.{range_with_len};
 ghost use Rattle.oc_base.specs.declared.limits.TheConstants.{MAX_NODES};
-ghost use Rattle.oc_model.specs.declared.event.Act.TheVariants.{Publish};
+ghost use Rattle.oc_model.specs.declared.event.Act.TheVariants.{At};
 ghost use Rattle.oc_model.specs.declared.event.Event.TheVariants.{Up};
+ghost use Rattle.oc_model.specs.declared.input.Input.TheVariants.{Publish};
 ghost use Rattle.oc_schedule.specs.declared.generating.TheConstants.{MAX_GENERATED_EVENTS};
 ghost use Rattle.oc_schedule.specs.Generator.{draw_at, draws_of, events_from, generated, made, next_state, state_after};
 
 use crate::Schedule;
 use oc_base::{Bytes, GroupName, Memory, NodeId};
-use oc_model::{Act, Event};
+use oc_model::{Act, Event, Input};
 use std::alloc::Global;
 
 /// The greatest number of events of a schedule that is generated.
@@ -103,9 +104,9 @@ impl Draws {
         let kind = self.next() % 16;
         let node = NodeId((1 + self.next() % u64::from(nodes)) as u32);
         match kind {
-            0..=5 => Ok(Event::Do(Act::Tick {
+            0..=5 => Ok(Event::Do(Act::At {
                 node,
-                now: u64::from(number),
+                input: Input::Tick(u64::from(number)),
             })),
             6..=12 => Ok(Event::Do(Act::Deliver {
                 number: 1 + self.next() % u64::from(number),
@@ -119,14 +120,16 @@ impl Draws {
 
 /// One byte is published in the group `/g`.
 fn publish(alloc: Global, byte: u8) -> Result<Act, Memory>
-    ensures { IfOk result (λ act. act ≡ Publish 1 (codes "/g") (byte ∷ [])) }
+    ensures { IfOk result (λ act. act ≡ At 1 (Publish (codes "/g") (byte ∷ []))) }
 {
     let Ok(group) = GroupName::parse(b"/g") else {
         unreachable!()
     };
-    Ok(Act::Publish {
+    Ok(Act::At {
         node: NodeId(1),
-        group,
-        bytes: Bytes::of(vec![in alloc; byte; 1]?),
+        input: Input::Publish {
+            group,
+            bytes: Bytes::of(vec![in alloc; byte; 1]?),
+        },
     })
 }

@@ -1,3 +1,4 @@
+pub mod Arrivals
 pub mod Source
 pub mod Turns
 pub mod Sites

@@ -7,7 +7,7 @@ use Rattle.oc_keep.specs.KeptView.{KeptView}
 use Rattle.oc_model.specs.declared.event.Event.{Event}
 use Rattle.oc_model.specs.declared.event.Event.TheVariants.{Do}
 use Rattle.oc_model.specs.declared.message.Message.{Message}
-use Rattle.oc_model.specs.World.{Aimed, Process, World, aimed, process_in}
+use Rattle.oc_model.specs.World.{Arrival, Process, World, arrival, process_in}
 use Rattle.oc_model.specs.WorldBounds.{AreWithinLimits}
 use Rattle.oc_world.specs.ProcessView.{ProcessView, Renews}
 
@@ -23,13 +23,13 @@ kept_at w x = get_or w.kept (x - 1) None
 -- Turning over
 
 -- an input to a node that is up leaves its control files with a greater generation, where they were ripe
-abbrev pub RenewsAt : Option Aimed → WorldView → WorldView → Type 0
+abbrev pub RenewsAt : Option Arrival → WorldView → WorldView → Type 0
 RenewsAt None old new = Unit {0}
 RenewsAt (Some a) old new = Renews (kept_at old a.at) (kept_at new a.at)
 
 -- an act without a stop does so
 abbrev pub RenewsBy : Event → WorldView → WorldView → Type 0
-RenewsBy (Do act) old new = RenewsAt (aimed old.world act) old new
+RenewsBy (Do act) old new = RenewsAt (arrival old.world act) old new
 RenewsBy e old new = Unit {0}
 
 -- The parts of a world

@@ -14,7 +14,7 @@
 #![tactic(auto)]
 
 mod acting;
-mod aims;
+mod arrivals;
 mod cluster;
 mod net;
 mod process;

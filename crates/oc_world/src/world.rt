@@ -13,7 +13,7 @@ ghost use Rattle.oc_model.specs.Lawful.{IsEvent, IsHeader, IsInput};
 ghost use Rattle.oc_model.specs.NextWorld.{crashed, next_world, started, stopped_at, word_of, word_of_act, word_of_stop};
 ghost use Rattle.oc_model.specs.Ready.{IsSettled};
 ghost use Rattle.oc_model.specs.Runs.{last_body};
-ghost use Rattle.oc_model.specs.World.{acted, after_act, aimed, ids, is_up, message_at, new_world, node as node_in, process};
+ghost use Rattle.oc_model.specs.World.{acted, after_act, arrival as arrival_in, ids, is_up, message_at, new_world, node as node_in, process};
 ghost use Rattle.oc_model.specs.declared.event.Event.TheVariants.{Crash, Do, Stop, Up};
 ghost use Rattle.oc_io.specs.MemDiskView.{view_of};
 ghost use Rattle.oc_model.specs.Status.{status_in};
@@ -23,7 +23,7 @@ ghost use Rattle.oc_world.specs.Net.{IsTextOf};
 ghost use Rattle.oc_world.specs.World.{RenewsAt, RenewsBy, processes_of};
 
 use crate::acting::act;
-use crate::aims::{Aim, aim_of, message_place};
+use crate::arrivals::{arrival, message_place};
 use crate::net::Net;
 use crate::process::Process;
 use oc_base::{Memory, NodeId, Shelf};
@@ -167,13 +167,13 @@ impl World {
     pub(crate) fn take(&mut self, act: &Act) -> Result<Word, Memory>
         requires { IsStepOf self.old.world act.now }
         ensures world { OnOk result (self.new.world ≡ after_act self.old.world act.now) }
-        ensures word { IfOk result (λ word. word ≡ word_of_act self.old.world (aimed self.old.world act.now)) }
-        ensures renews { OnOk result (RenewsAt (aimed self.old.world act.now) self.old self.new) }
+        ensures word { IfOk result (λ word. word ≡ word_of_act self.old.world (arrival_in self.old.world act.now)) }
+        ensures renews { OnOk result (RenewsAt (arrival_in self.old.world act.now) self.old self.new) }
         ensures err { OnErr result (self.new.world ≡ self.old.world) }
     {
-        match aim_of(&self.net, act)? {
+        match arrival(&self.net, act)? {
             None => Ok(Word::NoMessage),
-            Some(Aim { node, input }) => self.act_at(node, input),
+            Some((node, input)) => self.act_at(node, input),
         }
     }
 
@@ -181,7 +181,7 @@ impl World {
     pub(crate) fn play(&mut self, act: &Act) -> Result<(), Memory>
         requires { IsStepOf self.old.world act.now }
         ensures world { OnOk result (self.new.world ≡ after_act self.old.world act.now) }
-        ensures renews { OnOk result (RenewsAt (aimed self.old.world act.now) self.old self.new) }
+        ensures renews { OnOk result (RenewsAt (arrival_in self.old.world act.now) self.old self.new) }
         ensures err { OnErr result (self.new.world ≡ self.old.world) }
     {
         match self.take(act) {
@@ -212,13 +212,13 @@ impl World {
     fn stop(&mut self, act: &Act, calls: u8, image: u8) -> Result<Word, Memory>
         requires act { IsStepOf self.old.world act.now }
         requires calls { calls ≤ 4 }
-        ensures world { OnOk result (self.new.world ≡ stopped_at self.old.world calls image (aimed self.old.world act.now)) }
-        ensures word { IfOk result (λ word. word ≡ word_of_stop self.old.world calls image (aimed self.old.world act.now)) }
+        ensures world { OnOk result (self.new.world ≡ stopped_at self.old.world calls image (arrival_in self.old.world act.now)) }
+        ensures word { IfOk result (λ word. word ≡ word_of_stop self.old.world calls image (arrival_in self.old.world act.now)) }
         ensures err { OnErr result (self.new.world ≡ self.old.world) }
     {
-        match aim_of(&self.net, act)? {
+        match arrival(&self.net, act)? {
             None => Ok(Word::NoMessage),
-            Some(Aim { node, input }) => self.stop_at(node, input, calls, image),
+            Some((node, input)) => self.stop_at(node, input, calls, image),
         }
     }
 

@@ -53,37 +53,8 @@ fn input_of<const NODES: u32>(act: &Act) -> Result<Input, Fault>
     requires { IsAct NODES act.now }
     ensures { (me : ℕ) → IfOk result (λ input. IsInput NODES me input) }
 {
-    Ok(match act {
-        Act::Tick { now, .. } => Input::Tick(*now),
-        Act::Check { .. } => Input::CheckNow,
-        Act::Move { peer, .. } => Input::Relocate(*peer),
-        Act::Fail { peer, .. } => Input::Unreachable(*peer),
-        Act::Pull { peer, .. } => Input::Pull(*peer),
-        Act::Measure {
-            peer,
-            rate,
-            hops,
-            ..
-        } => Input::Measured {
-            peer: *peer,
-            rate: *rate,
-            hops: *hops,
-        },
-        Act::Publish { group, bytes, .. } => Input::Publish {
-            group: *group,
-            bytes: bytes.clone()?,
-        },
-        Act::Seal { group, .. } => Input::Seal { group: *group },
-        Act::Client {
-            area,
-            start,
-            group,
-            ..
-        } => Input::Client {
-            area: *area,
-            start: *start,
-            group: *group,
-        },
-        Act::Deliver { .. } => return Err(Fault::Field),
-    })
+    match act {
+        Act::At { input, .. } => Ok(input.clone()?),
+        Act::Deliver { .. } => Err(Fault::Field),
+    }
 }

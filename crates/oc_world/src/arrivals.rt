@@ -1,0 +1,64 @@
+//! Which input an act brings to which node.
+
+ghost use Rattle.std.specs.Prelude.{◌≡◌, ℕ, ◌+◌, ◌<◌, ◌⊎◌, option_map, IfNone, IfOk, IfSome};
+ghost use Rattle.oc_base.specs.Lawful.{IsNode};
+ghost use Rattle.oc_calm.specs.Cluster.{IsStep};
+ghost use Rattle.oc_model.specs.Lawful.{IsInput};
+ghost use Rattle.oc_model.specs.World.{World as WorldState, arrival as arrival_in, delivery, message_at};
+ghost use Rattle.oc_model.specs.declared.event.Act.TheVariants.{At};
+ghost use Rattle.oc_world.specs.Arrivals.{IsLawfulArrival, arrival_at};
+
+use crate::net::Net;
+use oc_base::{Memory, NodeId};
+use oc_model::{Act, Input};
+
+/// The input of an act, and the node that it comes to; none where no message has the number of a delivery.
+pub(crate) fn arrival(net: &Net, act: &Act) -> Result<Option<(NodeId, Input)>, Memory>
+    requires { IsStep net.now.nodes act.now }
+    ensures arrival { IfOk result (λ found. (w : WorldState) → w.net ≡ net.now.messages → option_map arrival_at found ≡ arrival_in w act.now) }
+    ensures lawful { IfOk result (λ found. IsLawfulArrival net.now.nodes found) }
+{
+    match act {
+        Act::At { node, input } => given(*node, input),
+        Act::Deliver { number } => delivery(net, *number),
+    }
+}
+
+/// This input, at this node. A message comes by its number alone.
+fn given(node: NodeId, input: &Input) -> Result<Option<(NodeId, Input)>, Memory>
+    ensures arrival { IfOk result (λ found. (w : WorldState) → option_map arrival_at found ≡ arrival_in w (At node input.now)) }
+    ensures lawful { IfOk result (λ found. (nodes : ℕ) → IsNode nodes node → IsInput nodes node input.now → IsLawfulArrival nodes found) }
+{
+    match input {
+        Input::Delivered(_) => Ok(None),
+        _ => {
+            let input = input.clone()?;
+            Ok(Some((node, input)))
+        }
+    }
+}
+
+/// The delivery of the message of a number to its receiver.
+fn delivery(net: &Net, number: u64) -> Result<Option<(NodeId, Input)>, Memory>
+    ensures arrival { IfOk result (λ found. option_map arrival_at found ≡ delivery (message_at net.now.messages number)) }
+    ensures lawful { IfOk result (λ found. IsLawfulArrival net.now.nodes found) }
+{
+    let Some(at) = message_place(number, net.len()) else {
+        return Ok(None);
+    };
+    let message = net.message(at)?;
+    Ok(Some((message.to, Input::Delivered(message))))
+}
+
+/// The index of a message by its number, which is counted from 1.
+pub(crate) fn message_place(number: u64, sent: usize) -> Option<usize>
+    ensures none { IfNone result ((number ≡ 0) ⊎ (sent < number)) }
+    ensures some { IfSome result (λ at. (at + 1 ≡ number) × (at < sent)) }
+{
+    let before = number.checked_sub(1)?;
+    if number <= sent as u64 {
+        Some(before as usize)
+    } else {
+        None
+    }
+}

@@ -1,14 +1,14 @@
 ghost use Rattle.std.specs.Prelude.{◌≡◌};
 ghost use Rattle.oc_model.specs.Node.{Durable};
 ghost use Rattle.oc_model.specs.Records.{fold_one, is_joined};
-ghost use Rattle.oc_state.specs.Standing.{standing_of, new_standing};
+ghost use Rattle.oc_state.specs.Position.{position_of, new_position};
 
 use oc_base::Rank;
 use oc_model::{Mode, Record};
 
 /// The position of a node in the tree, and what it counted: the small parts of what is durable.
 #[derive(Clone, Copy)]
-pub struct Standing {
+pub struct Position {
     /// The number of its last ask.
     pub seq: u64,
     pub mode: Mode,
@@ -18,12 +18,12 @@ pub struct Standing {
     pub clients: u64,
 }
 
-impl Standing {
+impl Position {
     /// That of a new node.
-    pub fn new() -> Standing
-        ensures { result ≡ new_standing }
+    pub fn new() -> Position
+        ensures { result ≡ new_position }
     {
-        Standing {
+        Position {
             seq: 0,
             mode: Mode::Idle,
             rank: None,
@@ -40,45 +40,45 @@ impl Standing {
     }
 
     /// What a record makes of it.
-    pub fn after(self, change: &Record) -> Standing
-        ensures { (d : Durable) → standing_of d ≡ self → result ≡ standing_of (fold_one d change.now) }
+    pub fn after(self, change: &Record) -> Position
+        ensures { (d : Durable) → position_of d ≡ self → result ≡ position_of (fold_one d change.now) }
     {
         match change {
-            Record::Ask { seq, peer } => Standing {
+            Record::Ask { seq, peer } => Position {
                 seq: *seq,
                 mode: Mode::Asking(*peer),
                 ..self
             },
-            Record::Joined { peer, rank } if self.seq != 0 => Standing {
+            Record::Joined { peer, rank } if self.seq != 0 => Position {
                 mode: Mode::Joined(*peer),
                 rank: Some(*rank),
                 ..self
             },
-            Record::Lost => Standing {
+            Record::Lost => Position {
                 mode: Mode::Idle,
                 ..self
             },
-            Record::Acting => Standing {
+            Record::Acting => Position {
                 mode: Mode::Acting,
                 ..self
             },
-            Record::Ranked { rank } => Standing {
+            Record::Ranked { rank } => Position {
                 rank: Some(*rank),
                 ..self
             },
-            Record::Epoch { epoch } => Standing {
+            Record::Epoch { epoch } => Position {
                 rank: Some(Rank {
                     epoch: *epoch,
                     depth: 0,
                 }),
                 ..self
             },
-            Record::Info { number, clients } => Standing {
+            Record::Info { number, clients } => Position {
                 number: *number,
                 clients: *clients,
                 ..self
             },
-            Record::Snapshot { .. } => Standing::new(),
+            Record::Snapshot { .. } => Position::new(),
             _ => self,
         }
     }

@@ -1,5 +1,5 @@
 use Rattle.std.proofs.Common.{rules, tests}
-use Rattle.oc_state.proofs.touch.touch_one.Goals as goal
+use Rattle.oc_state.proofs.list_update.update_one.Goals as goal
 
 pub returns-in-Renew-clause-leases : goal.returns-in-Renew-clause-leases
 returns-in-Renew-clause-leases c = search (tests, rules)

@@ -179,7 +179,7 @@ made_plain n lines i p made = ap (λ (o : Plan). begun_generation o.records) mad
 pub made_commits : {D : Type 0} (view : D → DiskView) (v : NodeView) (s : StoreView D) (c c2 : ContentView D) (lines : List Shelf) (p q : PlanView) (of : Piece) (w : Write)
     → CanApply v p → begun_generation p.records ≡ 0 → q ≡ record p { sends = q.sends; room = q.room } → PutsNothing view c c2 → IsWriteOf view s lines c p of w → CanCommit view (kept_of v s c2 false) (record { plan = q; write = w })
 made_commits view v s c c2 lines p q of w applies plain rest same is = record {
-  applies = subst (CanApply v) (sym rest) (record { reached = applies.reached; records = applies.records; touches = applies.touches; room = applies.room });
+  applies = subst (CanApply v) (sym rest) (record { reached = applies.reached; records = applies.records; updates = applies.updates; room = applies.room });
   plain = ap begun_generation records ∙ plain;
   writes = by_write w is;
 }

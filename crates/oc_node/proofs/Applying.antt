@@ -4,7 +4,7 @@ use Rattle.oc_model.specs.declared.soft.Soft.{Soft}
 use Rattle.oc_model.specs.Node.{Control, Durable}
 use Rattle.oc_model.specs.Records.{folded}
 use Rattle.oc_state.specs.declared.volatile.Volatile.{Volatile}
-use Rattle.oc_state.specs.Touched.{leases_after, rates_after, counts_after}
+use Rattle.oc_state.specs.ListUpdates.{leases_after, rates_after, counts_after}
 use Rattle.oc_state.specs.Volatile.{soft_of}
 use Rattle.oc_step.specs.NodeView.{control_of}
 use Rattle.oc_step.specs.Planned.{PlanView, control_after, soft_after}
@@ -14,5 +14,5 @@ pub soft_applied : (s : Soft) (p : PlanView) (v : Volatile) (set : Option (List 
 soft_applied s p v set taken tries e f g h = rw (h, e, f, g)
 
 -- the control state of the parts is that after the plan
-pub control_applied : (me nodes chain : ℕ) (areas : List ℕ) (kept after : Durable) (s t : Soft) (leases ends : List (Option ℕ)) (rates told counts sent : List ℕ) (n : Control) (p : PlanView) → control_of me nodes chain areas kept s leases rates counts ≡ n → after ≡ folded kept p.records → t ≡ soft_after s p → ends ≡ leases_after kept.table me leases p.touches → told ≡ rates_after rates p.touches → sent ≡ counts_after counts p.touches → control_of me nodes chain areas after t ends told sent ≡ control_after n p
+pub control_applied : (me nodes chain : ℕ) (areas : List ℕ) (kept after : Durable) (s t : Soft) (leases ends : List (Option ℕ)) (rates told counts sent : List ℕ) (n : Control) (p : PlanView) → control_of me nodes chain areas kept s leases rates counts ≡ n → after ≡ folded kept p.records → t ≡ soft_after s p → ends ≡ leases_after kept.table me leases p.updates → told ≡ rates_after rates p.updates → sent ≡ counts_after counts p.updates → control_of me nodes chain areas after t ends told sent ≡ control_after n p
 control_applied me nodes chain areas kept after s t leases ends rates told counts sent n p same k soft l r c = rw (k, soft, l, r, c) (ap (λ (m : Control). control_after m p) same)

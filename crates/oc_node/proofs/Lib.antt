@@ -13,4 +13,4 @@ pub mod Looks
 pub mod MergeAll
 pub mod SameIds
 pub mod ByMode
-pub mod Drafts
+pub mod Steps

@@ -26,7 +26,7 @@ use Rattle.oc_step.specs.Applying.{CanApply}
 use Rattle.oc_state.specs.declared.volatile.Volatile.{Volatile}
 use Rattle.oc_step.specs.NodeView.{NodeView, IsReached, control_of}
 use Rattle.oc_step.specs.Planned.{PlanView, control_after, planned}
-use Rattle.oc_state.specs.Touched.{IsTouch}
+use Rattle.oc_state.specs.ListUpdates.{IsListUpdate}
 use Rattle.oc_state.specs.Volatile.{soft_of, new_volatile}
 
 -- a new node
@@ -102,11 +102,11 @@ pub plan_folds : (n : Control) (lines : List Shelf) (i : Input) (p : PlanView) �
 plan_folds n lines i p made = sym (ap (λ (o : Plan). o.node.kept) made)
 
 -- a plan of a step can be applied, where there is room for all nodes and all its records
-pub plan_applies : (v w : NodeView) (lines : List Shelf) (i : Input) (p : PlanView) → IsReached v.control → IsShelf lines → IsInput v.control.nodes v.control.me i → planned v.control p ≡ plan v.control lines i → AllByRecursion (IsTouch v.control.nodes) p.touches → FitsFrame p.records → v.control.kept.log.length ≤ MAX_LOG_LENGTH → w.control ≡ v.control → length w.control.kept.log.waiting + (v.control.nodes + length p.records) ≤ w.room → CanApply w p
-plan_applies v w lines i p reached fair input made touches fits short same room = rw same (record {
+pub plan_applies : (v w : NodeView) (lines : List Shelf) (i : Input) (p : PlanView) → IsReached v.control → IsShelf lines → IsInput v.control.nodes v.control.me i → planned v.control p ≡ plan v.control lines i → AllByRecursion (IsListUpdate v.control.nodes) p.updates → FitsFrame p.records → v.control.kept.log.length ≤ MAX_LOG_LENGTH → w.control ≡ v.control → length w.control.kept.log.waiting + (v.control.nodes + length p.records) ≤ w.room → CanApply w p
+plan_applies v w lines i p reached fair input made updates fits short same room = rw same (record {
   reached = reached_step v.control lines i p reached fair input short made;
   records = records_lawful v.control lines i p reached fair input short fits.records made;
-  touches = touches;
+  updates = updates;
   room = record {
     waiting = omega (arith, rw same at room);
     rows = omega (arith, rw same at room);

@@ -1,4 +1,5 @@
 pub mod OutcomeView
+pub mod Planning
 pub use Rattle.oc_state.specs.DurableView
 pub use Rattle.oc_step.specs.NodeView
 pub use Rattle.oc_step.specs.Planned

@@ -4,15 +4,15 @@ ghost use Rattle.oc_model.specs.Adopting.{raises, raises_over, host, birth, has_
 ghost use Rattle.oc_model.specs.Adoption.{adoption_refusal};
 ghost use Rattle.oc_model.specs.Leases.{renew};
 ghost use Rattle.oc_model.specs.Plan.{with_leases};
-ghost use Rattle.oc_step.specs.DraftView.{goes};
+ghost use Rattle.oc_step.specs.StepView.{goes};
 
 use oc_base::{Cert, Memory, NodeId, Rank, Refusal};
 use oc_model::{Body, Record};
-use oc_place::{Host, epoch_above, may_adopt};
-use oc_state::Touch;
+use oc_place::{Host, may_adopt, raise};
+use oc_state::ListUpdate;
 use oc_state::modes::{in_tree, is_acting};
 use oc_state::ranks::rank_or_last;
-use oc_step::Draft;
+use oc_step::Step;
 
 // The rule Answer an ask.
 
@@ -31,73 +31,73 @@ fn birth(child: NodeId, seq: u64, parent: NodeId) -> Cert
 }
 
 /// The epoch becomes this one, if there is one.
-pub fn set_epoch(draft: &mut Draft, epoch: Option<u64>) -> Result<(), Memory>
-    ensures { OnOk result (draft.new ≡ goes draft.old (raises draft.old.step epoch)) }
+pub fn set_epoch(step: &mut Step, epoch: Option<u64>) -> Result<(), Memory>
+    ensures { OnOk result (step.new ≡ goes step.old (raises step.old.plan epoch)) }
 {
     match epoch {
-        Some(epoch) => draft.write(Record::Epoch { epoch }),
+        Some(epoch) => step.write(Record::Epoch { epoch }),
         None => Ok(()),
     }
 }
 
 /// A root whose rank does not precede that of another asker takes the epoch above the asker's.
-fn raise_over(draft: &mut Draft, asker: NodeId, rank: Rank) -> Result<(), Memory>
-    ensures { OnOk result (draft.new ≡ goes draft.old (raises_over draft.old.step asker rank)) }
+fn raise_over(step: &mut Step, asker: NodeId, rank: Rank) -> Result<(), Memory>
+    ensures { OnOk result (step.new ≡ goes step.old (raises_over step.old.plan asker rank)) }
 {
-    let standing = draft.standing();
-    let own = rank_or_last(standing.rank);
-    if is_acting(standing.mode) && !own.precedes(rank) && asker != draft.id() {
-        set_epoch(draft, epoch_above(rank))
+    let position = step.position();
+    let own = rank_or_last(position.rank);
+    if is_acting(position.mode) && !own.precedes(rank) && asker != step.id() {
+        set_epoch(step, raise(rank.epoch))
     } else {
         Ok(())
     }
 }
 
 /// Why the node does not become the parent of this asker, if it does not.
-fn refusal(draft: &Draft, asker: NodeId, rank: Option<Rank>) -> Option<Refusal>
-    requires { draft.now.step.node.kept.table ≡ draft.now.base.kept.table }
-    ensures { result ≡ adoption_refusal (host draft.now.step.node asker) asker rank }
+fn refusal(step: &Step, asker: NodeId, rank: Option<Rank>) -> Option<Refusal>
+    requires { step.now.plan.node.kept.table ≡ step.now.base.kept.table }
+    ensures { result ≡ adoption_refusal (host step.now.plan.node asker) asker rank }
 {
-    let standing = draft.standing();
+    let position = step.position();
     let host = Host {
-        id: draft.id(),
-        in_tree: in_tree(standing.mode),
-        rank: rank_or_last(standing.rank),
-        ancestors: draft.ancestors(),
-        chain: draft.chain(),
-        chain_child: draft.chain_child(asker),
+        id: step.id(),
+        in_tree: in_tree(position.mode),
+        rank: rank_or_last(position.rank),
+        ancestors: step.ancestors(),
+        chain: step.chain(),
+        chain_child: step.chain_child(asker),
     };
     may_adopt(&host, asker, rank).err()
 }
 
 /// Whether a node has a lease of this one at that number of an ask.
-pub fn has_lease(draft: &Draft, child: NodeId, seq: u64) -> bool
-    ensures { result ≡ has_lease draft.now.step.node child seq }
+pub fn has_lease(step: &Step, child: NodeId, seq: u64) -> bool
+    ensures { result ≡ has_lease step.now.plan.node child seq }
 {
-    match draft.entry(child) {
-        Some(cert) => !cert.dead && cert.parent == draft.id() && cert.seq == seq,
+    match step.entry(child) {
+        Some(cert) => !cert.dead && cert.parent == step.id() && cert.seq == seq,
         None => false,
     }
 }
 
 /// The lease of a child begins anew.
-fn renew(draft: &mut Draft, child: NodeId) -> Result<(), Memory>
-    requires { IsNode draft.old.base.nodes child }
-    ensures { OnOk result (draft.new ≡ goes draft.old (with_leases draft.old.step (renew draft.old.step.node.leases child draft.old.step.node.soft.clock))) }
+fn renew(step: &mut Step, child: NodeId) -> Result<(), Memory>
+    requires { IsNode step.old.base.nodes child }
+    ensures { OnOk result (step.new ≡ goes step.old (with_leases step.old.plan (renew step.old.plan.node.leases child step.old.plan.node.soft.clock))) }
 {
-    let now = draft.volatile().clock;
-    draft.touch(Touch::Renew { child, now })
+    let now = step.volatile().clock;
+    step.update(ListUpdate::Renew { child, now })
 }
 
 /// A node is a child: its lease begins anew.
-fn grant(draft: &mut Draft, child: NodeId, seq: u64) -> Result<(), Memory>
-    requires { IsNode draft.old.base.nodes child }
-    ensures { OnOk result (draft.new ≡ goes draft.old (grants draft.old.step child seq)) }
+fn grant(step: &mut Step, child: NodeId, seq: u64) -> Result<(), Memory>
+    requires { IsNode step.old.base.nodes child }
+    ensures { OnOk result (step.new ≡ goes step.old (grants step.old.plan child seq)) }
 {
-    renew(draft, child)?;
-    let rank = rank_or_last(draft.standing().rank);
-    let ancestors = draft.ancestor_list()?;
-    draft.send(
+    renew(step, child)?;
+    let rank = rank_or_last(step.position().rank);
+    let ancestors = step.ancestor_list()?;
+    step.send(
         child,
         Body::Yes {
             seq,
@@ -108,46 +108,46 @@ fn grant(draft: &mut Draft, child: NodeId, seq: u64) -> Result<(), Memory>
 }
 
 /// There is no lease at that number of an ask.
-pub fn send_rejoin(draft: &mut Draft, child: NodeId, seq: u64) -> Result<(), Memory>
-    ensures { OnOk result (draft.new ≡ goes draft.old (sends_rejoin draft.old.step child seq)) }
+pub fn send_rejoin(step: &mut Step, child: NodeId, seq: u64) -> Result<(), Memory>
+    ensures { OnOk result (step.new ≡ goes step.old (sends_rejoin step.old.plan child seq)) }
 {
-    draft.send(child, Body::Rejoin { seq })
+    step.send(child, Body::Rejoin { seq })
 }
 
 /// A node is a child, unless the table has a later word on it.
-fn adopt(draft: &mut Draft, child: NodeId, seq: u64) -> Result<(), Memory>
-    requires { IsNode draft.old.base.nodes child }
-    ensures { OnOk result (draft.new ≡ goes draft.old (adopts draft.old.step child seq)) }
+fn adopt(step: &mut Step, child: NodeId, seq: u64) -> Result<(), Memory>
+    requires { IsNode step.old.base.nodes child }
+    ensures { OnOk result (step.new ≡ goes step.old (adopts step.old.plan child seq)) }
 {
-    let cert = birth(child, seq, draft.id());
-    if has_lease(draft, child, seq) {
-        grant(draft, child, seq)
-    } else if draft.is_news(&cert) {
-        draft.write(Record::Entry { cert })?;
-        grant(draft, child, seq)
+    let cert = birth(child, seq, step.id());
+    if has_lease(step, child, seq) {
+        grant(step, child, seq)
+    } else if step.is_news(&cert) {
+        step.write(Record::Entry { cert })?;
+        grant(step, child, seq)
     } else {
-        send_rejoin(draft, child, seq)
+        send_rejoin(step, child, seq)
     }
 }
 
-fn asked_at(draft: &mut Draft, asker: NodeId, seq: u64, rank: Option<Rank>) -> Result<(), Memory>
-    requires asker { IsNode draft.old.base.nodes asker }
-    requires table { draft.old.step.node.kept.table ≡ draft.old.base.kept.table }
-    ensures { OnOk result (draft.new ≡ goes draft.old (asked_at draft.old.step asker seq rank)) }
+fn asked_at(step: &mut Step, asker: NodeId, seq: u64, rank: Option<Rank>) -> Result<(), Memory>
+    requires asker { IsNode step.old.base.nodes asker }
+    requires table { step.old.plan.node.kept.table ≡ step.old.base.kept.table }
+    ensures { OnOk result (step.new ≡ goes step.old (asked_at step.old.plan asker seq rank)) }
 {
-    match refusal(draft, asker, rank) {
-        Some(why) => draft.send(asker, Body::No { seq, why }),
-        None => adopt(draft, asker, seq),
+    match refusal(step, asker, rank) {
+        Some(why) => step.send(asker, Body::No { seq, why }),
+        None => adopt(step, asker, seq),
     }
 }
 
 /// An ask came, of a node with this rank.
 #[tactic(auto, using(crate::proofs::Leaving::raised_table))]
-pub fn asked(draft: &mut Draft, asker: NodeId, seq: u64, rank: Option<Rank>) -> Result<(), Memory>
-    requires asker { IsNode draft.old.base.nodes asker }
-    requires table { draft.old.step.node.kept.table ≡ draft.old.base.kept.table }
-    ensures { OnOk result (draft.new ≡ goes draft.old (asked draft.old.step asker seq rank)) }
+pub fn asked(step: &mut Step, asker: NodeId, seq: u64, rank: Option<Rank>) -> Result<(), Memory>
+    requires asker { IsNode step.old.base.nodes asker }
+    requires table { step.old.plan.node.kept.table ≡ step.old.base.kept.table }
+    ensures { OnOk result (step.new ≡ goes step.old (asked step.old.plan asker seq rank)) }
 {
-    raise_over(draft, asker, rank_or_last(rank))?;
-    asked_at(draft, asker, seq, rank)
+    raise_over(step, asker, rank_or_last(rank))?;
+    asked_at(step, asker, seq, rank)
 }

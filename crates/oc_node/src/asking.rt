@@ -1,14 +1,13 @@
 ghost use Rattle.std.specs.Prelude.{◌≡◌, ◌<◌, OnOk};
 ghost use Rattle.oc_model.specs.Asking.{lost, send_ask, ask, next_epoch, act, descend, try_at, try_first, next_try, round, ask_before, joins, took_yes, refused, took_no, not_seen, unreachable, relocate};
-ghost use Rattle.oc_step.specs.DraftView.{goes};
+ghost use Rattle.oc_step.specs.StepView.{goes};
 
 use oc_base::{MAX_DEPTH, Memory, NodeId, Rank, Refusal};
 use oc_model::{Answer, Body, Mode, Record, Search};
-use oc_place::next_number;
 use oc_state::Volatile;
 use oc_state::modes::{is_asking, is_descending, is_joined_to};
 use oc_state::ranks::{ancestors_by, next_epoch, precedes_any, rank_or_last};
-use oc_step::Draft;
+use oc_step::Step;
 
 // How a node comes by a parent, and becomes a root: the rules Ask, Next try, Round, Become acting, Take
 // a yes, Take a no, Unreachable and Relocate.
@@ -16,42 +15,42 @@ use oc_step::Draft;
 // The rule Ask
 
 /// The node has no parent, nor asks for one.
-pub fn lose(draft: &mut Draft) -> Result<(), Memory>
-    ensures { OnOk result (draft.new ≡ goes draft.old (lost draft.old.step)) }
+pub fn lose(step: &mut Step) -> Result<(), Memory>
+    ensures { OnOk result (step.new ≡ goes step.old (lost step.old.plan)) }
 {
-    match draft.standing().mode {
+    match step.position().mode {
         Mode::Idle => Ok(()),
-        _ => draft.write(Record::Lost),
+        _ => step.write(Record::Lost),
     }
 }
 
 /// The current ask goes to `peer`.
-pub fn send_ask(draft: &mut Draft, peer: NodeId) -> Result<(), Memory>
-    ensures { OnOk result (draft.new ≡ goes draft.old (send_ask draft.old.step peer)) }
+pub fn send_ask(step: &mut Step, peer: NodeId) -> Result<(), Memory>
+    ensures { OnOk result (step.new ≡ goes step.old (send_ask step.old.plan peer)) }
 {
-    let standing = draft.standing();
-    draft.send(
+    let position = step.position();
+    step.send(
         peer,
         Body::Ask {
-            seq: standing.seq,
-            rank: standing.rank,
+            seq: position.seq,
+            rank: position.rank,
         },
     )
 }
 
 /// A peer is asked to be the parent, by the next number if there is one.
-pub fn ask(draft: &mut Draft, peer: NodeId) -> Result<(), Memory>
-    ensures { OnOk result (draft.new ≡ goes draft.old (ask draft.old.step peer)) }
+pub fn ask(step: &mut Step, peer: NodeId) -> Result<(), Memory>
+    ensures { OnOk result (step.new ≡ goes step.old (ask step.old.plan peer)) }
 {
-    match next_number(draft.standing().seq) {
+    match step.position().seq.checked_add(1) {
         Some(seq) => {
-            draft.write(Record::Ask { seq, peer })?;
-            draft.search(None);
-            send_ask(draft, peer)
+            step.write(Record::Ask { seq, peer })?;
+            step.search(None);
+            send_ask(step, peer)
         }
         None => {
-            lose(draft)?;
-            draft.answer(Answer::Spent)
+            lose(step)?;
+            step.answer(Answer::Spent)
         }
     }
 }
@@ -59,90 +58,90 @@ pub fn ask(draft: &mut Draft, peer: NodeId) -> Result<(), Memory>
 // The rule Become acting
 
 /// The node is a root, of the epoch after its own.
-pub fn act(draft: &mut Draft) -> Result<(), Memory>
-    ensures { OnOk result (draft.new ≡ goes draft.old (act draft.old.step)) }
+pub fn act(step: &mut Step) -> Result<(), Memory>
+    ensures { OnOk result (step.new ≡ goes step.old (act step.old.plan)) }
 {
-    let epoch = next_epoch(rank_or_last(draft.standing().rank));
-    draft.write(Record::Acting)?;
-    draft.write(Record::Epoch { epoch })
+    let epoch = next_epoch(rank_or_last(step.position().rank));
+    step.write(Record::Acting)?;
+    step.write(Record::Epoch { epoch })
 }
 
 // The rule Next try
 
 /// A node is asked for its position, on the way down to a place.
-pub fn descend(draft: &mut Draft, peer: NodeId) -> Result<(), Memory>
-    ensures { OnOk result (draft.new ≡ goes draft.old (descend draft.old.step peer)) }
+pub fn descend(step: &mut Step, peer: NodeId) -> Result<(), Memory>
+    ensures { OnOk result (step.new ≡ goes step.old (descend step.old.plan peer)) }
 {
-    draft.search(Some(Search::Descend(peer)));
-    draft.send(peer, Body::Look)
+    step.search(Some(Search::Descend(peer)));
+    step.send(peer, Body::Look)
 }
 
 /// A node is tried: one that has been in no place yet looks for a good one, the others ask.
-fn try_at(draft: &mut Draft, peer: NodeId) -> Result<(), Memory>
-    ensures { OnOk result (draft.new ≡ goes draft.old (try_at draft.old.step peer)) }
+fn try_at(step: &mut Step, peer: NodeId) -> Result<(), Memory>
+    ensures { OnOk result (step.new ≡ goes step.old (try_at step.old.plan peer)) }
 {
-    if !draft.is_member() && draft.ancestors().is_empty() {
-        descend(draft, peer)
+    if !step.is_member() && step.ancestors().is_empty() {
+        descend(step, peer)
     } else {
-        ask(draft, peer)
+        ask(step, peer)
     }
 }
 
 /// The first of the tries is taken off. With none, a chain member that is silent is a root.
-fn try_first(draft: &mut Draft) -> Result<(), Memory>
-    ensures { OnOk result (draft.new ≡ goes draft.old (try_first draft.old.step.node.soft.tries draft.old.step)) }
+fn try_first(step: &mut Step) -> Result<(), Memory>
+    ensures { OnOk result (step.new ≡ goes step.old (try_first step.old.plan.node.soft.tries step.old.plan)) }
 {
-    match draft.take_try() {
-        Some(peer) => try_at(draft, peer),
-        None if draft.is_member() && draft.volatile().silent => act(draft),
-        None => draft.answer(Answer::Waiting),
+    match step.take_try() {
+        Some(peer) => try_at(step, peer),
+        None if step.is_member() && step.volatile().silent => act(step),
+        None => step.answer(Answer::Waiting),
     }
 }
 
-pub fn next_try(draft: &mut Draft) -> Result<(), Memory>
-    ensures { OnOk result (draft.new ≡ goes draft.old (next_try draft.old.step)) }
+pub fn next_try(step: &mut Step) -> Result<(), Memory>
+    ensures { OnOk result (step.new ≡ goes step.old (next_try step.old.plan)) }
 {
-    if draft.id().0 == 1 {
-        act(draft)
+    if step.id().0 == 1 {
+        act(step)
     } else {
-        try_first(draft)
+        try_first(step)
     }
 }
 
 // The rule Round
 
 /// A fresh attempt to find a parent, leaving out one node.
-pub fn round(draft: &mut Draft, without: Option<NodeId>) -> Result<(), Memory>
-    ensures { OnOk result (draft.new ≡ goes draft.old (round draft.old.step without)) }
+pub fn round(step: &mut Step, without: Option<NodeId>) -> Result<(), Memory>
+    ensures { OnOk result (step.new ≡ goes step.old (round step.old.plan without)) }
 {
-    draft.set_tries(without)?;
-    next_try(draft)
+    step.set_tries(without)?;
+    next_try(step)
 }
 
 /// A node is asked, and after it all others.
-pub fn ask_before(draft: &mut Draft, peer: NodeId) -> Result<(), Memory>
-    ensures { OnOk result (draft.new ≡ goes draft.old (ask_before draft.old.step peer)) }
+pub fn ask_before(step: &mut Step, peer: NodeId) -> Result<(), Memory>
+    ensures { OnOk result (step.new ≡ goes step.old (ask_before step.old.plan peer)) }
 {
-    draft.set_tries(Some(peer))?;
-    ask(draft, peer)
+    step.set_tries(Some(peer))?;
+    ask(step, peer)
 }
 
 // The rule Take a yes
 
 /// A node is the parent.
-fn join(draft: &mut Draft, parent: NodeId, rank: Rank, above: &[NodeId]) -> Result<(), Memory>
+fn join(step: &mut Step, parent: NodeId, rank: Rank, above: &[NodeId]) -> Result<(), Memory>
     requires { rank.depth < MAX_DEPTH }
-    ensures { OnOk result (draft.new ≡ goes draft.old (joins draft.old.step parent rank above.now)) }
+    ensures { OnOk result (step.new ≡ goes step.old (joins step.old.plan parent rank above.now)) }
 {
-    let ids = ancestors_by(draft.alloc(), parent, above)?;
-    draft.write(Record::Joined {
+    let ids = ancestors_by(step.alloc(), parent, above)?;
+    step.write(Record::Joined {
         peer: parent,
         rank: rank.beneath(),
     })?;
-    draft.write(Record::Ancestors { ids })?;
-    draft.clear_tries();
-    let volatile = draft.volatile();
-    draft.set_volatile(Volatile {
+    step.write(Record::Ancestors { ids })?;
+    step.clear_tries();
+    let volatile = step.volatile();
+    step.set_volatile(Volatile {
         due: None,
         search: None,
         ..volatile
@@ -151,23 +150,23 @@ fn join(draft: &mut Draft, parent: NodeId, rank: Rank, above: &[NodeId]) -> Resu
 }
 
 pub fn took_yes(
-    draft: &mut Draft,
+    step: &mut Step,
     from: NodeId,
     seq: u64,
     rank: Rank,
     above: &[NodeId],
 ) -> Result<(), Memory>
-    ensures { OnOk result (draft.new ≡ goes draft.old (took_yes draft.old.step from seq rank above.now)) }
+    ensures { OnOk result (step.new ≡ goes step.old (took_yes step.old.plan from seq rank above.now)) }
 {
-    let standing = draft.standing();
-    if is_asking(standing.mode, from)
-        && seq == standing.seq
+    let position = step.position();
+    if is_asking(position.mode, from)
+        && seq == position.seq
         && rank.depth < MAX_DEPTH
-        && precedes_any(rank, standing.rank)
+        && precedes_any(rank, position.rank)
     {
-        join(draft, from, rank, above)
+        join(step, from, rank, above)
     } else {
-        draft.ignore()
+        step.ignore()
     }
 }
 
@@ -175,36 +174,36 @@ pub fn took_yes(
 
 /// What results from a refusal: one that names a chain member beneath leads a node from outside the
 /// chain there.
-fn refused(draft: &mut Draft, why: Refusal) -> Result<(), Memory>
-    ensures { OnOk result (draft.new ≡ goes draft.old (refused draft.old.step why)) }
+fn refused(step: &mut Step, why: Refusal) -> Result<(), Memory>
+    ensures { OnOk result (step.new ≡ goes step.old (refused step.old.plan why)) }
 {
     match why {
         Refusal::Chain(member) => {
-            if draft.is_member() || member == draft.id() {
-                next_try(draft)
+            if step.is_member() || member == step.id() {
+                next_try(step)
             } else {
-                descend(draft, member)
+                descend(step, member)
             }
         }
-        _ => next_try(draft),
+        _ => next_try(step),
     }
 }
 
 #[tactic(auto, using(crate::proofs::Leaving::lost_soft))]
-pub fn took_no(draft: &mut Draft, from: NodeId, seq: u64, why: Refusal) -> Result<(), Memory>
-    ensures { OnOk result (draft.new ≡ goes draft.old (took_no draft.old.step from seq why)) }
+pub fn took_no(step: &mut Step, from: NodeId, seq: u64, why: Refusal) -> Result<(), Memory>
+    ensures { OnOk result (step.new ≡ goes step.old (took_no step.old.plan from seq why)) }
 {
-    let standing = draft.standing();
-    if is_asking(standing.mode, from) && seq == standing.seq {
-        let volatile = draft.volatile();
-        lose(draft)?;
-        draft.set_volatile(Volatile {
+    let position = step.position();
+    if is_asking(position.mode, from) && seq == position.seq {
+        let volatile = step.volatile();
+        lose(step)?;
+        step.set_volatile(Volatile {
             silent: false,
             ..volatile
         });
-        refused(draft, why)
+        refused(step, why)
     } else {
-        draft.ignore()
+        step.ignore()
     }
 }
 
@@ -212,43 +211,43 @@ pub fn took_no(draft: &mut Draft, from: NodeId, seq: u64, why: Refusal) -> Resul
 
 /// A node that is no parent does not tell its position.
 #[tactic(auto, using(crate::proofs::AskByMode::not_seen_is))]
-fn not_seen(draft: &mut Draft, peer: NodeId) -> Result<(), Memory>
-    ensures { OnOk result (draft.new ≡ goes draft.old (not_seen draft.old.step.node.soft.search draft.old.step peer)) }
+fn not_seen(step: &mut Step, peer: NodeId) -> Result<(), Memory>
+    ensures { OnOk result (step.new ≡ goes step.old (not_seen step.old.plan.node.soft.search step.old.plan peer)) }
 {
-    if is_descending(&draft.volatile().search, peer) {
-        draft.search(None);
-        next_try(draft)
+    if is_descending(&step.volatile().search, peer) {
+        step.search(None);
+        next_try(step)
     } else {
-        draft.ignore()
+        step.ignore()
     }
 }
 
 #[tactic(auto, using(crate::proofs::AskByMode::unreachable_is))]
-pub fn unreachable(draft: &mut Draft, peer: NodeId) -> Result<(), Memory>
-    ensures { OnOk result (draft.new ≡ goes draft.old (unreachable draft.old.step peer)) }
+pub fn unreachable(step: &mut Step, peer: NodeId) -> Result<(), Memory>
+    ensures { OnOk result (step.new ≡ goes step.old (unreachable step.old.plan peer)) }
 {
-    if is_joined_to(draft.standing().mode, peer) {
-        lose(draft)?;
-        round(draft, Some(peer))
-    } else if is_asking(draft.standing().mode, peer) {
-        lose(draft)?;
-        next_try(draft)
+    if is_joined_to(step.position().mode, peer) {
+        lose(step)?;
+        round(step, Some(peer))
+    } else if is_asking(step.position().mode, peer) {
+        lose(step)?;
+        next_try(step)
     } else {
-        not_seen(draft, peer)
+        not_seen(step, peer)
     }
 }
 
 // The rule Relocate
 
-pub fn relocate(draft: &mut Draft, peer: NodeId) -> Result<(), Memory>
-    ensures { OnOk result (draft.new ≡ goes draft.old (relocate draft.old.step peer)) }
+pub fn relocate(step: &mut Step, peer: NodeId) -> Result<(), Memory>
+    ensures { OnOk result (step.new ≡ goes step.old (relocate step.old.plan peer)) }
 {
-    let id = draft.id();
+    let id = step.id();
     if peer == id {
-        draft.answer(Answer::Own)
-    } else if id.0 == 1 || (draft.is_member() && id.0 < peer.0) {
-        draft.answer(Answer::Fixed)
+        step.answer(Answer::Own)
+    } else if id.0 == 1 || (step.is_member() && id.0 < peer.0) {
+        step.answer(Answer::Fixed)
     } else {
-        ask_before(draft, peer)
+        ask_before(step, peer)
     }
 }

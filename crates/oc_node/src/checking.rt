@@ -7,19 +7,20 @@ ghost use Rattle.oc_model.specs.Leases.{start_all};
 ghost use Rattle.oc_model.specs.Plan.{begun};
 ghost use Rattle.oc_model.specs.Records.{is_joined};
 ghost use Rattle.oc_model.specs.Table.{newest};
-ghost use Rattle.oc_step.specs.DraftView.{goes};
+ghost use Rattle.oc_step.specs.StepView.{goes};
 ghost use Rattle.oc_step.specs.NodeView.{IsReached};
 ghost use Rattle.oc_step.specs.Since.{AreTold};
 
 use crate::adopting::{has_lease, send_rejoin, set_epoch};
 use crate::asking::{ask_before, round, send_ask};
+use crate::check_in::CheckIn;
 use oc_base::{Cert, CertList, IdList, Memory, NodeId, Rank, Shelf, ShelfList};
 use oc_model::{Body, Mode, Record, Search};
-use oc_place::epoch_above;
+use oc_place::raise;
 use oc_state::modes::{is_joined_to, is_peer};
 use oc_state::ranks::{ancestors_by, better_rank, rank_or_last};
-use oc_state::{Touch, Volatile};
-use oc_step::Draft;
+use oc_state::{ListUpdate, Volatile};
+use oc_step::Step;
 use oc_updown::LEASE_TIME;
 
 // How leases are kept up and changes are told: the rules Check now, Tick and Check-ins.
@@ -27,19 +28,19 @@ use oc_updown::LEASE_TIME;
 // The rule Check now
 
 /// The clients that were served are added to the node's own count, by its next number if there is one.
-fn count_clients(draft: &mut Draft) -> Result<(), Memory>
-    ensures { OnOk result (draft.new ≡ goes draft.old (counts_clients draft.old.step)) }
+fn count_clients(step: &mut Step) -> Result<(), Memory>
+    ensures { OnOk result (step.new ≡ goes step.old (counts_clients step.old.plan)) }
 {
-    let standing = draft.standing();
-    let volatile = draft.volatile();
-    if volatile.served == 0 || standing.number == u64::MAX {
+    let position = step.position();
+    let volatile = step.volatile();
+    if volatile.served == 0 || position.number == u64::MAX {
         return Ok(());
     }
-    draft.write(Record::Info {
-        number: standing.number + 1,
-        clients: standing.clients.saturating_add(volatile.served),
+    step.write(Record::Info {
+        number: position.number + 1,
+        clients: position.clients.saturating_add(volatile.served),
     })?;
-    draft.set_volatile(Volatile {
+    step.set_volatile(Volatile {
         served: 0,
         ..volatile
     });
@@ -47,173 +48,173 @@ fn count_clients(draft: &mut Draft) -> Result<(), Memory>
 }
 
 /// The parent is told what is new.
-fn check_in(draft: &mut Draft, parent: NodeId) -> Result<(), Memory>
-    requires told { AreTold draft.old.step.records }
-    requires joined { is_joined draft.old.step.node.kept.mode ≡ true }
-    ensures { OnOk result (draft.new ≡ goes draft.old (checks_in draft.old.step parent)) }
+fn check_in(step: &mut Step, parent: NodeId) -> Result<(), Memory>
+    requires told { AreTold step.old.plan.records }
+    requires joined { is_joined step.old.plan.node.kept.mode ≡ true }
+    ensures { OnOk result (step.new ≡ goes step.old (checks_in step.old.plan parent)) }
 {
-    let standing = draft.standing();
-    let rate = draft.rate_to(parent);
-    let certs = draft.next_certs()?;
-    let upto = draft.acked() + certs.len() as u64;
-    draft.send(
+    let position = step.position();
+    let rate = step.rate_to(parent);
+    let certs = step.next_certs()?;
+    let upto = step.acked() + certs.len() as u64;
+    step.send(
         parent,
         Body::CheckIn {
-            seq: standing.seq,
+            seq: position.seq,
             upto,
             rate,
-            number: standing.number,
-            clients: standing.clients,
+            number: position.number,
+            clients: position.clients,
             certs: CertList::of(certs),
         },
     )
 }
 
-fn check_as(draft: &mut Draft, mode: Mode) -> Result<(), Memory>
-    requires told { AreTold draft.old.step.records }
-    requires mode { mode ≡ draft.old.step.node.kept.mode }
-    ensures { OnOk result (draft.new ≡ goes draft.old (checks_as mode draft.old.step)) }
+fn check_as(step: &mut Step, mode: Mode) -> Result<(), Memory>
+    requires told { AreTold step.old.plan.records }
+    requires mode { mode ≡ step.old.plan.node.kept.mode }
+    ensures { OnOk result (step.new ≡ goes step.old (checks_as mode step.old.plan)) }
 {
     match mode {
         Mode::Joined(parent) => {
-            count_clients(draft)?;
-            check_in(draft, parent)
+            count_clients(step)?;
+            check_in(step, parent)
         }
         Mode::Acting => {
-            let rank = rank_or_last(draft.standing().rank);
-            set_epoch(draft, epoch_above(rank))
+            let rank = rank_or_last(step.position().rank);
+            set_epoch(step, raise(rank.epoch))
         }
-        Mode::Idle => round(draft, None),
-        Mode::Asking(peer) => send_ask(draft, peer),
+        Mode::Idle => round(step, None),
+        Mode::Asking(peer) => send_ask(step, peer),
     }
 }
 
 /// The second of the next check, which is not the same at all nodes.
-fn next_check(draft: &Draft) -> u64
-    ensures { result ≡ next_check draft.now.step.node }
+fn next_check(step: &Step) -> u64
+    ensures { result ≡ next_check step.now.plan.node }
 {
-    draft.volatile().clock + LEASE_TIME - (1 + u64::from(draft.id().0 % 3))
+    step.volatile().clock + LEASE_TIME - (1 + u64::from(step.id().0 % 3))
 }
 
-pub fn check(draft: &mut Draft) -> Result<(), Memory>
-    requires { AreTold draft.old.step.records }
-    ensures { OnOk result (draft.new ≡ goes draft.old (checks draft.old.step)) }
+pub fn check(step: &mut Step) -> Result<(), Memory>
+    requires { AreTold step.old.plan.records }
+    ensures { OnOk result (step.new ≡ goes step.old (checks step.old.plan)) }
 {
-    let due = Some(next_check(draft));
-    let volatile = draft.volatile();
-    draft.set_volatile(Volatile { due, ..volatile });
-    let mode = draft.standing().mode;
-    check_as(draft, mode)
+    let due = Some(next_check(step));
+    let volatile = step.volatile();
+    step.set_volatile(Volatile { due, ..volatile });
+    let mode = step.position().mode;
+    check_as(step, mode)
 }
 
 // The rule Tick
 
 /// A certificate is merged, and written where it changes the table.
-fn merge(draft: &mut Draft, cert: &Cert) -> Result<(), Memory>
-    ensures { OnOk result (draft.new ≡ goes draft.old (merges draft.old.step cert.now)) }
+fn merge(step: &mut Step, cert: &Cert) -> Result<(), Memory>
+    ensures { OnOk result (step.new ≡ goes step.old (merges step.old.plan cert.now)) }
 {
-    if draft.is_news(cert) {
-        draft.write(Record::Entry { cert: *cert })
+    if step.is_news(cert) {
+        step.write(Record::Entry { cert: *cert })
     } else {
         Ok(())
     }
 }
 
-fn merge_all(draft: &mut Draft, certs: &[Cert]) -> Result<(), Memory>
-    ensures { OnOk result (draft.new ≡ goes draft.old (merges_all certs.now draft.old.step)) }
+fn merge_all(step: &mut Step, certs: &[Cert]) -> Result<(), Memory>
+    ensures { OnOk result (step.new ≡ goes step.old (merges_all certs.now step.old.plan)) }
 {
     for cert in certs {
-        merge(draft, cert)?;
+        merge(step, cert)?;
     }
     Ok(())
 }
 
 /// The clock never goes back.
-fn set_time(draft: &mut Draft, time: u64)
+fn set_time(step: &mut Step, time: u64)
     requires { time ≤ LAST_SECOND }
-    ensures { draft.new ≡ goes draft.old (at_time draft.old.step time) }
+    ensures { step.new ≡ goes step.old (at_time step.old.plan time) }
 {
-    let volatile = draft.volatile();
+    let volatile = step.volatile();
     let clock = volatile.clock.max(time);
-    draft.set_volatile(Volatile { clock, ..volatile });
+    step.set_volatile(Volatile { clock, ..volatile });
 }
 
 /// Each leased child without a lease end gets one.
-fn start_leases(draft: &mut Draft) -> Result<(), Memory>
-    requires table { draft.old.step.node.kept.table ≡ draft.old.base.kept.table }
-    requires id { draft.old.step.node.me ≡ draft.old.base.me }
-    ensures { OnOk result (draft.new ≡ goes draft.old (starts_leases draft.old.step)) }
+fn start_leases(step: &mut Step) -> Result<(), Memory>
+    requires table { step.old.plan.node.kept.table ≡ step.old.base.kept.table }
+    requires id { step.old.plan.node.me ≡ step.old.base.me }
+    ensures { OnOk result (step.new ≡ goes step.old (starts_leases step.old.plan)) }
 {
-    let now = draft.volatile().clock;
-    draft.touch(Touch::Start { now })
+    let now = step.volatile().clock;
+    step.update(ListUpdate::Start { now })
 }
 
 /// A child is dead, by its entry.
 #[tactic(auto, using(crate::proofs::ByMode::dies_by, crate::proofs::ByMode::dies_not))]
-fn end_lease(draft: &mut Draft, child: NodeId) -> Result<(), Memory>
-    ensures { OnOk result (draft.new ≡ goes draft.old (dies (newest draft.old.step.node.kept.table child) draft.old.step)) }
+fn end_lease(step: &mut Step, child: NodeId) -> Result<(), Memory>
+    ensures { OnOk result (step.new ≡ goes step.old (dies (newest step.old.plan.node.kept.table child) step.old.plan)) }
 {
-    match draft.entry(child) {
-        Some(cert) => merge(draft, &Cert { dead: true, ..cert }),
+    match step.entry(child) {
+        Some(cert) => merge(step, &Cert { dead: true, ..cert }),
         None => Ok(()),
     }
 }
 
 /// Each leased child whose lease has ended is dead.
-fn end_leases(draft: &mut Draft) -> Result<(), Memory>
-    requires reached { IsReached draft.old.base }
-    requires table { draft.old.step.node.kept.table ≡ draft.old.base.kept.table }
-    requires id { draft.old.step.node.me ≡ draft.old.base.me }
-    requires leases { draft.old.step.node.leases ≡ start_all draft.old.base.kept.table draft.old.base.me draft.old.base.leases draft.old.step.node.soft.clock }
-    ensures { OnOk result (draft.new ≡ goes draft.old (ends_leases draft.old.step)) }
+fn end_leases(step: &mut Step) -> Result<(), Memory>
+    requires reached { IsReached step.old.base }
+    requires table { step.old.plan.node.kept.table ≡ step.old.base.kept.table }
+    requires id { step.old.plan.node.me ≡ step.old.base.me }
+    requires leases { step.old.plan.node.leases ≡ start_all step.old.base.kept.table step.old.base.me step.old.base.leases step.old.plan.node.soft.clock }
+    ensures { OnOk result (step.new ≡ goes step.old (ends_leases step.old.plan)) }
 {
-    let now = draft.volatile().clock;
+    let now = step.volatile().clock;
     let mut after = 0;
-    while let Some(child) = draft.next_ended(after, now) {
-        end_lease(draft, child)?;
+    while let Some(child) = step.next_ended(after, now) {
+        end_lease(step, child)?;
         after = child.0;
     }
     Ok(())
 }
 
 /// An earlier member is asked for its position, if it is nearer than another.
-fn look_past(draft: &mut Draft, other: u32, earlier: u32) -> Result<(), Memory>
-    ensures { OnOk result (draft.new ≡ goes draft.old (looks_at_each (filter (λ x. nat_lt other x) (earlier ∷ [])) draft.old.step)) }
+fn look_past(step: &mut Step, other: u32, earlier: u32) -> Result<(), Memory>
+    ensures { OnOk result (step.new ≡ goes step.old (looks_at_each (filter (λ x. nat_lt other x) (earlier ∷ [])) step.old.plan)) }
 {
     if other < earlier {
-        draft.send(NodeId(earlier), Body::Look)
+        step.send(NodeId(earlier), Body::Look)
     } else {
         Ok(())
     }
 }
 
 /// The earlier members nearer than another are asked for their positions, the nearest first.
-fn look_at_earlier(draft: &mut Draft, other: u32) -> Result<(), Memory>
-    ensures { OnOk result (draft.new ≡ goes draft.old (looks_at_each (filter (λ x. nat_lt other x) (below draft.old.step.node.me)) draft.old.step)) }
+fn look_at_earlier(step: &mut Step, other: u32) -> Result<(), Memory>
+    ensures { OnOk result (step.new ≡ goes step.old (looks_at_each (filter (λ x. nat_lt other x) (below step.old.plan.node.me)) step.old.plan)) }
 {
-    for earlier in (1..draft.id().0).rev() {
-        look_past(draft, other, earlier)?;
+    for earlier in (1..step.id().0).rev() {
+        look_past(step, other, earlier)?;
     }
     Ok(())
 }
 
 /// After its check a node in the tree looks for a better place; a chain member looks among the earlier
 /// members that are nearer than its parent.
-fn look_round(draft: &mut Draft, mode: Mode) -> Result<(), Memory>
-    ensures { OnOk result (draft.new ≡ goes draft.old (looks_round mode draft.old.step)) }
+fn look_round(step: &mut Step, mode: Mode) -> Result<(), Memory>
+    ensures { OnOk result (step.new ≡ goes step.old (looks_round mode step.old.plan)) }
 {
     match mode {
         Mode::Joined(parent) => {
-            if draft.is_member() {
-                look_at_earlier(draft, parent.0)
+            if step.is_member() {
+                look_at_earlier(step, parent.0)
             } else {
-                draft.search(Some(Search::Review));
-                draft.send(parent, Body::Look)
+                step.search(Some(Search::Review));
+                step.send(parent, Body::Look)
             }
         }
         Mode::Acting => {
-            if draft.is_member() {
-                look_at_earlier(draft, 0)
+            if step.is_member() {
+                look_at_earlier(step, 0)
             } else {
                 Ok(())
             }
@@ -222,75 +223,69 @@ fn look_round(draft: &mut Draft, mode: Mode) -> Result<(), Memory>
     }
 }
 
-fn check_if_due(draft: &mut Draft) -> Result<(), Memory>
-    requires { AreTold draft.old.step.records }
-    ensures { OnOk result (draft.new ≡ goes draft.old (checks_if_due draft.old.step)) }
+fn check_if_due(step: &mut Step) -> Result<(), Memory>
+    requires { AreTold step.old.plan.records }
+    ensures { OnOk result (step.new ≡ goes step.old (checks_if_due step.old.plan)) }
 {
-    if is_due(draft) {
-        let mode = draft.standing().mode;
-        check(draft)?;
-        look_round(draft, mode)
+    if is_due(step) {
+        let mode = step.position().mode;
+        check(step)?;
+        look_round(step, mode)
     } else {
         Ok(())
     }
 }
 
-fn is_due(draft: &Draft) -> bool
-    ensures { result ≡ is_due draft.now.step.node.soft.due draft.now.step.node.soft.clock }
+fn is_due(step: &Step) -> bool
+    ensures { result ≡ is_due step.now.plan.node.soft.due step.now.plan.node.soft.clock }
 {
-    match draft.volatile().due {
-        Some(due) => due <= draft.volatile().clock,
+    match step.volatile().due {
+        Some(due) => due <= step.volatile().clock,
         None => true,
     }
 }
 
 /// A joined node asks its parent for more of every group.
-fn fetch_as(draft: &mut Draft, mode: Mode, shelf: &[Shelf]) -> Result<(), Memory>
-    ensures { OnOk result (draft.new ≡ goes draft.old (fetches_as mode draft.old.step shelf.now)) }
+fn fetch_as(step: &mut Step, mode: Mode, shelf: &[Shelf]) -> Result<(), Memory>
+    ensures { OnOk result (step.new ≡ goes step.old (fetches_as mode step.old.plan shelf.now)) }
 {
     match mode {
         Mode::Joined(parent) => {
-            let have = ShelfList::of(shelf.to_vec(draft.alloc())?);
-            draft.send(parent, Body::Fetch { have })
+            let have = ShelfList::of(shelf.to_vec(step.alloc())?);
+            step.send(parent, Body::Fetch { have })
         }
         _ => Ok(()),
     }
 }
 
 #[tactic(auto, using(crate::proofs::Ticks::ends_told, crate::proofs::Ticks::ends_soft))]
-pub fn tick(draft: &mut Draft, shelf: &[Shelf], time: u64) -> Result<(), Memory>
-    requires reached { IsReached draft.old.base }
-    requires begun { draft.old.step ≡ begun draft.old.base }
+pub fn tick(step: &mut Step, shelf: &[Shelf], time: u64) -> Result<(), Memory>
+    requires reached { IsReached step.old.base }
+    requires begun { step.old.plan ≡ begun step.old.base }
     requires time { time ≤ LAST_SECOND }
-    ensures { OnOk result (draft.new ≡ goes draft.old (tick draft.old.step shelf.now time)) }
+    ensures { OnOk result (step.new ≡ goes step.old (tick step.old.plan shelf.now time)) }
 {
-    set_time(draft, time);
-    start_leases(draft)?;
-    end_leases(draft)?;
-    check_if_due(draft)?;
-    let mode = draft.standing().mode;
-    fetch_as(draft, mode, shelf)
+    set_time(step, time);
+    start_leases(step)?;
+    end_leases(step)?;
+    check_if_due(step)?;
+    let mode = step.position().mode;
+    fetch_as(step, mode, shelf)
 }
 
 // The rule Check-ins
 
 /// A check-in of a child is acknowledged.
-fn acknowledge(
-    draft: &mut Draft,
-    child: NodeId,
-    seq: u64,
-    upto: u64,
-    rate: u64,
-) -> Result<(), Memory>
-    requires { IsNode draft.old.base.nodes child }
-    ensures { OnOk result (draft.new ≡ goes draft.old (acknowledges draft.old.step child seq upto rate)) }
+fn acknowledge(step: &mut Step, child: NodeId, seq: u64, upto: u64, rate: u64) -> Result<(), Memory>
+    requires { IsNode step.old.base.nodes child }
+    ensures { OnOk result (step.new ≡ goes step.old (acknowledges step.old.plan child seq upto rate)) }
 {
-    let now = draft.volatile().clock;
-    draft.touch(Touch::Renew { child, now })?;
-    draft.touch(Touch::Tell { child, rate })?;
-    let rank = rank_or_last(draft.standing().rank);
-    let ancestors = draft.ancestor_list()?;
-    draft.send(
+    let now = step.volatile().clock;
+    step.update(ListUpdate::Renew { child, now })?;
+    step.update(ListUpdate::Tell { child, rate })?;
+    let rank = rank_or_last(step.position().rank);
+    let ancestors = step.ancestor_list()?;
+    step.send(
         child,
         Body::CheckAck {
             seq,
@@ -302,99 +297,91 @@ fn acknowledge(
 }
 
 /// A check-in came: what it tells is merged, where the child has a lease at that number.
-pub fn checked_in(
-    draft: &mut Draft,
-    child: NodeId,
-    seq: u64,
-    upto: u64,
-    rate: u64,
-    number: u64,
-    clients: u64,
-    certs: &[Cert],
-) -> Result<(), Memory>
-    requires { IsNode draft.old.base.nodes child }
-    ensures { OnOk result (draft.new ≡ goes draft.old (checked_in draft.old.step child seq upto rate number clients certs.now)) }
+pub fn checked_in(step: &mut Step, child: NodeId, told: &CheckIn) -> Result<(), Memory>
+    requires { IsNode step.old.base.nodes child }
+    ensures { OnOk result (step.new ≡ goes step.old (checked_in step.old.plan child told.now.seq told.now.upto
+        told.now.rate told.now.number told.now.clients told.now.certs.now)) }
 {
-    if has_lease(draft, child, seq) {
+    if has_lease(step, child, told.seq) {
         let life = Cert {
             subject: child,
-            seq,
-            parent: draft.id(),
+            seq: told.seq,
+            parent: step.id(),
             dead: false,
-            number,
-            clients,
+            number: told.number,
+            clients: told.clients,
         };
-        merge(draft, &life)?;
-        merge_all(draft, certs)?;
-        acknowledge(draft, child, seq, upto, rate)
+        merge(step, &life)?;
+        merge_all(step, told.certs)?;
+        acknowledge(step, child, told.seq, told.upto, told.rate)
     } else {
-        send_rejoin(draft, child, seq)
+        send_rejoin(step, child, told.seq)
     }
 }
 
-fn take_place(draft: &mut Draft, upto: u64) -> Result<(), Memory>
-    requires { draft.old.step.node.kept.log ≡ draft.old.base.kept.log }
-    ensures { OnOk result (draft.new ≡ goes draft.old (takes_place draft.old.step upto)) }
+fn take_place(step: &mut Step, upto: u64) -> Result<(), Memory>
+    requires { step.old.plan.node.kept.log ≡ step.old.base.kept.log }
+    ensures { OnOk result (step.new ≡ goes step.old (takes_place step.old.plan upto)) }
 {
-    if draft.is_ahead(upto) {
-        draft.write(Record::Acked { upto })
+    if step.is_ahead(upto) {
+        step.write(Record::Acked { upto })
     } else {
         Ok(())
     }
 }
 
 #[tactic(auto, using(crate::proofs::ByMode::rank_taken, crate::proofs::ByMode::rank_left))]
-fn take_rank(draft: &mut Draft, told: Rank) -> Result<(), Memory>
-    ensures { OnOk result (draft.new ≡ goes draft.old (takes_rank draft.old.step told)) }
+fn take_rank(step: &mut Step, told: Rank) -> Result<(), Memory>
+    ensures { OnOk result (step.new ≡ goes step.old (takes_rank step.old.plan told)) }
 {
-    match better_rank(draft.standing().rank, told) {
-        Some(rank) => draft.write(Record::Ranked { rank }),
+    match better_rank(step.position().rank, told) {
+        Some(rank) => step.write(Record::Ranked { rank }),
         None => Ok(()),
     }
 }
 
 #[tactic(auto, using(crate::proofs::SameIds::same_ids_is))]
-fn take_ancestors(draft: &mut Draft, ids: IdList) -> Result<(), Memory>
-    ensures { OnOk result (draft.new ≡ goes draft.old (takes_ancestors draft.old.step ids)) }
+fn take_ancestors(step: &mut Step, ids: IdList) -> Result<(), Memory>
+    ensures { OnOk result (step.new ≡ goes step.old (takes_ancestors step.old.plan ids)) }
 {
-    if ids.items() == draft.ancestors() {
+    if ids.items() == step.ancestors() {
         Ok(())
     } else {
-        draft.write(Record::Ancestors { ids })
+        step.write(Record::Ancestors { ids })
     }
 }
 
 /// An acknowledgement came.
 pub fn took_ack(
-    draft: &mut Draft,
+    step: &mut Step,
     from: NodeId,
     seq: u64,
     upto: u64,
     told: Rank,
     above: &[NodeId],
 ) -> Result<(), Memory>
-    requires { draft.old.step.node.kept.log ≡ draft.old.base.kept.log }
-    ensures { OnOk result (draft.new ≡ goes draft.old (took_ack draft.old.step from seq upto told above.now)) }
+    requires { step.old.plan.node.kept.log ≡ step.old.base.kept.log }
+    ensures { OnOk result (step.new ≡ goes step.old (took_ack step.old.plan from seq upto told above.now)) }
 {
-    let standing = draft.standing();
-    if is_joined_to(standing.mode, from) && seq == standing.seq {
-        take_place(draft, upto)?;
-        take_rank(draft, told)?;
-        let ids = ancestors_by(draft.alloc(), from, above)?;
-        take_ancestors(draft, ids)
+    let position = step.position();
+    if is_joined_to(position.mode, from) && seq == position.seq {
+        take_place(step, upto)?;
+        take_rank(step, told)?;
+        let ids = ancestors_by(step.alloc(), from, above)?;
+        take_ancestors(step, ids)
     } else {
-        draft.ignore()
+        step.ignore()
     }
 }
 
 /// A node has no lease at that number.
-pub fn took_rejoin(draft: &mut Draft, from: NodeId, seq: u64) -> Result<(), Memory>
-    ensures { OnOk result (draft.new ≡ goes draft.old (took_rejoin draft.old.step from seq)) }
+pub fn took_rejoin(step: &mut Step, from: NodeId, seq: u64) -> Result<(), Memory>
+    ensures { OnOk result (step.new ≡ goes step.old (took_rejoin step.old.plan from seq)) }
 {
-    let standing = draft.standing();
-    if is_peer(standing.mode, from) && seq == standing.seq {
-        ask_before(draft, from)
+    let position = step.position();
+    if is_peer(position.mode, from) && seq == position.seq {
+        ask_before(step, from)
     } else {
-        draft.ignore()
+        step.ignore()
     }
 }

@@ -3,12 +3,13 @@ ghost use Rattle.oc_base.specs.Shelves.{IsShelf};
 ghost use Rattle.oc_base.specs.declared.limits.TheConstants.{MAX_GROUP_BYTES, MAX_PUBLISH_BYTES};
 ghost use Rattle.oc_model.specs.Content.{grows, publish_to, published, sealed_at, pulled, count_from, wanted, sends_chunk, fetched, adds_seal, adds, grown_line, asks_on, keeps_chunk, chunk_to, took_chunk};
 ghost use Rattle.oc_model.specs.Shelves.{with_line};
-ghost use Rattle.oc_step.specs.DraftView.{goes};
+ghost use Rattle.oc_step.specs.StepView.{goes};
 
+use crate::chunk::Chunk;
 use oc_base::{Bytes, GroupName, MAX_CHUNK_BYTES, Memory, NodeId, Shelf, ShelfList};
 use oc_model::{Answer, Body, Mode, Want};
 use oc_state::shelves::{first_behind, limit, line_at, line_of, with_line};
-use oc_step::Draft;
+use oc_step::Step;
 
 // The rule Content: how bytes come to be held, and how they spread.
 
@@ -22,19 +23,19 @@ fn grows(shelf: &[Shelf], group: &GroupName, count: u64) -> bool
 }
 
 /// A publish of this many bytes to a group.
-fn publish_to(draft: &mut Draft, shelf: &[Shelf], line: &Shelf, count: u64) -> Result<(), Memory>
+fn publish_to(step: &mut Step, shelf: &[Shelf], line: &Shelf, count: u64) -> Result<(), Memory>
     requires held { line.now.held ≤ MAX_GROUP_BYTES }
     requires count { count ≤ MAX_PUBLISH_BYTES }
-    ensures { OnOk result (draft.new ≡ goes draft.old (publish_to draft.old.step shelf.now line.now count)) }
+    ensures { OnOk result (step.new ≡ goes step.old (publish_to step.old.plan shelf.now line.now count)) }
 {
     if line.sealed {
-        return draft.answer(Answer::Sealed);
+        return step.answer(Answer::Sealed);
     }
     match limit(shelf, &line.group, line.held + count) {
-        Some(answer) => draft.answer(answer),
+        Some(answer) => step.answer(answer),
         None => {
             if grows(shelf, &line.group, count) {
-                draft.keep(line.held, false)
+                step.keep(line.held, false)
             } else {
                 Ok(())
             }
@@ -45,38 +46,38 @@ fn publish_to(draft: &mut Draft, shelf: &[Shelf], line: &Shelf, count: u64) -> R
 /// A publish: at the source alone, at the group's end.
 #[tactic(auto, using(oc_state::proofs::ShelfLines::held_bound))]
 pub fn published(
-    draft: &mut Draft,
+    step: &mut Step,
     shelf: &[Shelf],
     group: &GroupName,
     bytes: &[u8],
 ) -> Result<(), Memory>
     requires shelf { IsShelf shelf.now }
     requires bytes { length bytes.now ≤ MAX_PUBLISH_BYTES }
-    ensures { OnOk result (draft.new ≡ goes draft.old (published draft.old.step shelf.now group.now bytes.now)) }
+    ensures { OnOk result (step.new ≡ goes step.old (published step.old.plan shelf.now group.now bytes.now)) }
 {
-    if draft.id().0 == 1 {
-        publish_to(draft, shelf, &line_at(shelf, group), bytes.len() as u64)
+    if step.id().0 == 1 {
+        publish_to(step, shelf, &line_at(shelf, group), bytes.len() as u64)
     } else {
-        draft.answer(Answer::NotSource)
+        step.answer(Answer::NotSource)
     }
 }
 
 /// A seal: at the source alone, of a group that is held.
-pub fn sealed_at(draft: &mut Draft, shelf: &[Shelf], group: &GroupName) -> Result<(), Memory>
-    ensures { OnOk result (draft.new ≡ goes draft.old (sealed_at draft.old.step shelf.now group.now)) }
+pub fn sealed_at(step: &mut Step, shelf: &[Shelf], group: &GroupName) -> Result<(), Memory>
+    ensures { OnOk result (step.new ≡ goes step.old (sealed_at step.old.plan shelf.now group.now)) }
 {
-    if draft.id().0 != 1 {
-        return draft.answer(Answer::NotSource);
+    if step.id().0 != 1 {
+        return step.answer(Answer::NotSource);
     }
     match line_of(shelf, group) {
         Some(line) => {
             if line.sealed {
-                draft.ignore()
+                step.ignore()
             } else {
-                draft.keep(line.held, true)
+                step.keep(line.held, true)
             }
         }
-        None => draft.answer(Answer::NoGroup),
+        None => step.answer(Answer::NoGroup),
     }
 }
 
@@ -104,30 +105,30 @@ fn wanted(line: &Shelf, start: u64, count: u64) -> Option<Want>
     }
 }
 
-pub fn pulled(draft: &mut Draft, shelf: &[Shelf], peer: NodeId) -> Result<(), Memory>
-    ensures { OnOk result (draft.new ≡ goes draft.old (pulled draft.old.step shelf.now peer)) }
+pub fn pulled(step: &mut Step, shelf: &[Shelf], peer: NodeId) -> Result<(), Memory>
+    ensures { OnOk result (step.new ≡ goes step.old (pulled step.old.plan shelf.now peer)) }
 {
-    if peer == draft.id() {
-        return draft.answer(Answer::Own);
+    if peer == step.id() {
+        return step.answer(Answer::Own);
     }
-    let have = ShelfList::of(shelf.to_vec(draft.alloc())?);
-    draft.send(peer, Body::Fetch { have })
+    let have = ShelfList::of(shelf.to_vec(step.alloc())?);
+    step.send(peer, Body::Fetch { have })
 }
 
 /// A chunk of a group goes to a node, with this many bytes from a place on. It is last where they
 /// end a sealed group.
 fn send_chunk(
-    draft: &mut Draft,
+    step: &mut Step,
     to: NodeId,
     line: &Shelf,
     start: u64,
     count: u64,
 ) -> Result<(), Memory>
     requires { start + count < 2 ^ 64 }
-    ensures { OnOk result (draft.new ≡ goes draft.old (sends_chunk draft.old.step to line.now start count)) }
+    ensures { OnOk result (step.new ≡ goes step.old (sends_chunk step.old.plan to line.now start count)) }
 {
-    let bytes = Bytes::of(Vec::new(draft.alloc()));
-    draft.send(
+    let bytes = Bytes::of(Vec::new(step.alloc()));
+    step.send(
         to,
         Body::Chunk {
             group: line.group,
@@ -136,24 +137,19 @@ fn send_chunk(
             last: line.sealed && start + count == line.held,
         },
     )?;
-    draft.want(wanted(line, start, count))
+    step.want(wanted(line, start, count))
 }
 
 /// A fetch came, which names what the sender has.
 #[tactic(auto, using(oc_state::proofs::ShelfLines::held_bound))]
-pub fn fetched(
-    draft: &mut Draft,
-    shelf: &[Shelf],
-    from: NodeId,
-    have: &[Shelf],
-) -> Result<(), Memory>
+pub fn fetched(step: &mut Step, shelf: &[Shelf], from: NodeId, have: &[Shelf]) -> Result<(), Memory>
     requires have { IsShelf have.now }
-    ensures { OnOk result (draft.new ≡ goes draft.old (fetched draft.old.step shelf.now from have.now)) }
+    ensures { OnOk result (step.new ≡ goes step.old (fetched step.old.plan shelf.now from have.now)) }
 {
     match first_behind(have, shelf) {
         Some(line) => {
             let start = line_at(have, &line.group).held;
-            send_chunk(draft, from, &line, start, count_from(&line, start))
+            send_chunk(step, from, &line, start, count_from(&line, start))
         }
         None => Ok(()),
     }
@@ -161,10 +157,10 @@ pub fn fetched(
 
 // Chunks
 
-/// A chunk that came, except for its bytes: the line of its group here, the places where it begins and ends,
+/// Where a chunk lies in its group: the line of the group here, the places where the chunk begins and ends,
 /// and whether it is the last.
 #[derive(Drop)]
-struct Chunk {
+struct Span {
     line: Shelf,
     start: u64,
     end: u64,
@@ -173,46 +169,46 @@ struct Chunk {
 
 /// Whether a chunk closes the group: it is last, the group is open, and the chunk does not end before
 /// what is held.
-fn adds_seal(chunk: &Chunk) -> bool
-    ensures { result ≡ adds_seal chunk.now.line chunk.now.end chunk.now.last }
+fn adds_seal(span: &Span) -> bool
+    ensures { result ≡ adds_seal span.now.line span.now.end span.now.last }
 {
-    chunk.last && !chunk.line.sealed && chunk.line.held <= chunk.end
+    span.last && !span.line.sealed && span.line.held <= span.end
 }
 
 /// Whether there is anything to keep of a chunk: a new group, a byte or a seal.
-fn adds(shelf: &[Shelf], chunk: &Chunk) -> bool
-    ensures { result ≡ adds shelf.now chunk.now.line chunk.now.end chunk.now.last }
+fn adds(shelf: &[Shelf], span: &Span) -> bool
+    ensures { result ≡ adds shelf.now span.now.line span.now.end span.now.last }
 {
-    line_of(shelf, &chunk.line.group).is_none() || chunk.line.held < chunk.end || adds_seal(chunk)
+    line_of(shelf, &span.line.group).is_none() || span.line.held < span.end || adds_seal(span)
 }
 
 /// The line of the group once what is new in a chunk was kept.
-fn grown_line(chunk: &Chunk) -> Shelf
-    ensures { result ≡ grown_line chunk.now.line chunk.now.end chunk.now.last }
+fn grown_line(span: &Span) -> Shelf
+    ensures { result ≡ grown_line span.now.line span.now.end span.now.last }
 {
     Shelf {
-        group: chunk.line.group,
-        held: chunk.line.held.max(chunk.end),
-        sealed: chunk.line.sealed || adds_seal(chunk),
+        group: span.line.group,
+        held: span.line.held.max(span.end),
+        sealed: span.line.sealed || adds_seal(span),
     }
 }
 
 /// If the node is joined to the sender, a fetch that names the shelf with this line goes to it.
 fn ask_on(
-    draft: &mut Draft,
+    step: &mut Step,
     mode: Mode,
     from: NodeId,
     shelf: &[Shelf],
     line: &Shelf,
 ) -> Result<(), Memory>
     requires { IsShelf shelf.now }
-    ensures { OnOk result (draft.new ≡ goes draft.old (asks_on mode from (with_line line.now shelf.now) draft.old.step)) }
+    ensures { OnOk result (step.new ≡ goes step.old (asks_on mode from (with_line line.now shelf.now) step.old.plan)) }
 {
     match mode {
         Mode::Joined(parent) => {
             if parent == from {
-                let have = ShelfList::of(with_line(draft.alloc(), shelf, line)?);
-                draft.send(from, Body::Fetch { have })
+                let have = ShelfList::of(with_line(step.alloc(), shelf, line)?);
+                step.send(from, Body::Fetch { have })
             } else {
                 Ok(())
             }
@@ -222,59 +218,57 @@ fn ask_on(
 }
 
 /// What is new in a chunk is kept, if anything is.
-fn keep_chunk(draft: &mut Draft, shelf: &[Shelf], from: NodeId, chunk: &Chunk) -> Result<(), Memory>
+fn keep_chunk(step: &mut Step, shelf: &[Shelf], from: NodeId, span: &Span) -> Result<(), Memory>
     requires { IsShelf shelf.now }
-    ensures { OnOk result (draft.new ≡ goes draft.old (keeps_chunk draft.old.step shelf.now from chunk.now.line chunk.now.start chunk.now.end chunk.now.last)) }
+    ensures { OnOk result (step.new ≡ goes step.old (keeps_chunk step.old.plan shelf.now from span.now.line span.now.start span.now.end span.now.last)) }
 {
-    if adds(shelf, chunk) {
-        draft.keep(chunk.start, adds_seal(chunk))?;
-        let mode = draft.standing().mode;
-        ask_on(draft, mode, from, shelf, &grown_line(chunk))
+    if adds(shelf, span) {
+        step.keep(span.start, adds_seal(span))?;
+        let mode = step.position().mode;
+        ask_on(step, mode, from, shelf, &grown_line(span))
     } else {
-        draft.ignore()
+        step.ignore()
     }
 }
 
 /// A chunk came for this group.
-fn chunk_to(draft: &mut Draft, shelf: &[Shelf], from: NodeId, chunk: &Chunk) -> Result<(), Memory>
+fn chunk_to(step: &mut Step, shelf: &[Shelf], from: NodeId, span: &Span) -> Result<(), Memory>
     requires { IsShelf shelf.now }
-    ensures { OnOk result (draft.new ≡ goes draft.old (chunk_to draft.old.step shelf.now from chunk.now.line chunk.now.start chunk.now.end chunk.now.last)) }
+    ensures { OnOk result (step.new ≡ goes step.old (chunk_to step.old.plan shelf.now from span.now.line span.now.start span.now.end span.now.last)) }
 {
-    let line = &chunk.line;
-    if line.held < chunk.start {
-        draft.answer(Answer::Gap)
-    } else if line.sealed && line.held < chunk.end {
-        draft.answer(Answer::Sealed)
+    let line = &span.line;
+    if line.held < span.start {
+        step.answer(Answer::Gap)
+    } else if line.sealed && line.held < span.end {
+        step.answer(Answer::Sealed)
     } else {
-        match limit(shelf, &line.group, chunk.end) {
-            Some(answer) => draft.answer(answer),
-            None => keep_chunk(draft, shelf, from, chunk),
+        match limit(shelf, &line.group, span.end) {
+            Some(answer) => step.answer(answer),
+            None => keep_chunk(step, shelf, from, span),
         }
     }
 }
 
 /// A chunk came.
 pub fn took_chunk(
-    draft: &mut Draft,
+    step: &mut Step,
     shelf: &[Shelf],
     from: NodeId,
-    group: &GroupName,
-    start: u64,
-    bytes: &[u8],
-    last: bool,
+    chunk: &Chunk,
 ) -> Result<(), Memory>
     requires shelf { IsShelf shelf.now }
-    requires end { start + length bytes.now < 2 ^ 64 }
-    ensures { OnOk result (draft.new ≡ goes draft.old (took_chunk draft.old.step shelf.now from group.now start bytes.now last)) }
+    requires end { chunk.now.start + length chunk.now.bytes.now < 2 ^ 64 }
+    ensures { OnOk result (step.new ≡ goes step.old (took_chunk step.old.plan shelf.now from chunk.now.group.now
+        chunk.now.start chunk.now.bytes.now chunk.now.last)) }
 {
-    if draft.id().0 == 1 {
-        return draft.ignore();
+    if step.id().0 == 1 {
+        return step.ignore();
     }
-    let chunk = Chunk {
-        line: line_at(shelf, group),
-        start,
-        end: start + bytes.len() as u64,
-        last,
+    let span = Span {
+        line: line_at(shelf, chunk.group),
+        start: chunk.start,
+        end: chunk.start + chunk.bytes.len() as u64,
+        last: chunk.last,
     };
-    chunk_to(draft, shelf, from, &chunk)
+    chunk_to(step, shelf, from, &span)
 }

@@ -8,23 +8,24 @@ ghost use Rattle.oc_model.specs.Lawful.{AreRecords, IsHeader, IsInput};
 ghost use Rattle.oc_model.specs.Records.{folded};
 ghost use Rattle.oc_model.specs.Snapshot.{snapshot};
 ghost use Rattle.oc_model.specs.Step.{plan, step};
-ghost use Rattle.oc_step.specs.Applying.{CanApply, HasParts, IsPlanOf, IsStepOf};
+ghost use Rattle.oc_node.specs.Planning.{IsPlanFor};
+ghost use Rattle.oc_step.specs.Applying.{CanApply, IsStepOf};
 ghost use Rattle.oc_step.specs.Planned.{IsWanting, control_after, planned};
-ghost use Rattle.oc_state.specs.Touched.{IsTouch};
+ghost use Rattle.oc_state.specs.ListUpdates.{IsListUpdate};
 ghost use Rattle.oc_base.specs.Lawful.{IsCount, IsNode};
 ghost use Rattle.oc_base.specs.declared.limits.TheConstants.{MAX_BASE_ACKED, MAX_LOG_LENGTH};
 ghost use Rattle.oc_model.specs.Node.{new_control, new_durable, Durable as State, Node as Whole};
 ghost use Rattle.oc_model.specs.Looking.{parent_of};
 ghost use Rattle.oc_step.specs.NodeView.{IsReached};
-ghost use Rattle.oc_state.specs.Standing.{standing_of};
+ghost use Rattle.oc_state.specs.Position.{position_of};
 
 use crate::outcome::Outcome;
 use crate::step::take;
 use oc_base::{Memory, NodeId, Rank, Shelf, Slots};
 use oc_model::{Input, Mode, Record};
 use oc_state::modes::parent_of;
-use oc_state::{Durable, Standing, Tries, Volatile, touch_all};
-use oc_step::{Before, Changes, Draft, Plan};
+use oc_state::{Durable, Position, Tries, Volatile, update_all};
+use oc_step::{Before, Changes, Plan, Step};
 use oc_updown::{ChangeLog, Leases, Measures, Table};
 use std::alloc::Global;
 use std::marker::Model;
@@ -124,33 +125,26 @@ impl Node {
         requires input { IsInput self.old.control.nodes self.old.control.me input.now }
         requires shelf { IsShelf shelf.now }
         requires log { self.old.control.kept.log.length ≤ MAX_LOG_LENGTH }
-        ensures plan { IfOk result (λ made. planned self.old.control made ≡ plan self.old.control shelf.now input.now) }
-        ensures applies { IfOk result (λ made. CanApply self.new made) }
-        ensures folds { IfOk result (λ made. (plan self.old.control shelf.now input.now).node.kept ≡ folded self.old.control.kept made.records) }
-        ensures frame { IfOk result (λ made. FitsFrame made.records) }
-        ensures one_file { IfOk result (λ made. (made.keeps ≡ None) ⊎ (made.records ≡ [])) }
-        ensures wants { IfOk result (λ made. (w : Want) → made.wants ≡ Some w → IsWanting made w.count) }
-        ensures whole { IfOk result (λ made. (n : Whole) → HasParts n self.old.control shelf.now → IsPlanOf n input.now made) }
-        ensures step { IfOk result (λ made. (n : Whole) → HasParts n self.old.control shelf.now → made.wants ≡ None → IsStepOf n input.now made) }
+        ensures made { IfOk result (λ made. IsPlanFor self.old self.new shelf.now input.now made) }
         ensures node { self.new.control ≡ self.old.control }
     {
-        let plan = self.draft(input, shelf)?;
+        let plan = self.make_plan(input, shelf)?;
         let more = self.nodes as usize + plan.records().len();
         self.durable.reserve(more)?;
         Ok(plan)
     }
 
     /// The plan, before there is room for it.
-    fn draft(&self, input: &Input, shelf: &[Shelf]) -> Result<Plan, Memory>
+    fn make_plan(&self, input: &Input, shelf: &[Shelf]) -> Result<Plan, Memory>
         requires input { IsInput self.now.control.nodes self.now.control.me input.now }
         requires shelf { IsShelf shelf.now }
         ensures plan { IfOk result (λ made. planned self.now.control made ≡ plan self.now.control shelf.now input.now) }
-        ensures touches { IfOk result (λ made. AllByRecursion (IsTouch self.now.control.nodes) made.touches) }
+        ensures updates { IfOk result (λ made. AllByRecursion (IsListUpdate self.now.control.nodes) made.updates) }
         ensures room { IfOk result (λ made. IfSome made.wants (λ w. w.count ≤ made.room)) }
     {
-        let mut draft = Draft::of(self.lend());
-        take(&mut draft, shelf, input)?;
-        Ok(draft.done())
+        let mut step = Step::of(self.lend());
+        take(&mut step, shelf, input)?;
+        Ok(step.done())
     }
 
     /// The node as it is, for a step to look at.
@@ -185,12 +179,12 @@ impl Node {
             volatile,
             tries,
             taken,
-            touches,
+            updates,
             sends,
             answer,
         } = plan.into_changes();
-        touch_all(
-            &touches,
+        update_all(
+            &updates,
             self.durable.table(),
             self.id,
             &mut self.leases,
@@ -253,35 +247,35 @@ impl Node {
     pub fn mode(&self) -> Mode
         ensures { result ≡ self.now.control.kept.mode }
     {
-        self.standing().mode
+        self.position().mode
     }
 
     /// The number of the last ask, 0 where there was none.
     pub fn seq(&self) -> u64
         ensures { result ≡ self.now.control.kept.seq }
     {
-        self.standing().seq
+        self.position().seq
     }
 
     /// The node's rank, if it was in the tree yet.
     pub fn rank(&self) -> Option<Rank>
         ensures { result ≡ self.now.control.kept.rank }
     {
-        self.standing().rank
+        self.position().rank
     }
 
     /// The node's own number.
     pub fn number(&self) -> u64
         ensures { result ≡ self.now.control.kept.number }
     {
-        self.standing().number
+        self.position().number
     }
 
     /// The clients in the node's own count.
     pub fn clients(&self) -> u64
         ensures { result ≡ self.now.control.kept.clients }
     {
-        self.standing().clients
+        self.position().clients
     }
 
     /// The newest certificate of each node below, as far as the node knows.
@@ -314,9 +308,9 @@ impl Node {
         self.volatile.clock
     }
 
-    fn standing(&self) -> Standing
-        ensures { result ≡ standing_of self.now.control.kept }
+    fn position(&self) -> Position
+        ensures { result ≡ position_of self.now.control.kept }
     {
-        self.durable.standing()
+        self.durable.position()
     }
 }

@@ -8,7 +8,7 @@ abbrev pub IsOnce : List ℕ → Type 0
 IsOnce [] = Unit {0}
 IsOnce (x ∷ xs) = (¬ IsAmong x xs) × IsOnce xs
 
--- x is a member of the chain before this one; or an ancestor of this one, which is no member, or any member
+-- whom a node may ask: a member of the chain asks the members before it, and any other node its ancestors and all members
 abbrev pub MayBeAsked : ℕ → ℕ → List ℕ → ℕ → Type 0
 MayBeAsked me chain ancestors x =
     ((me ≤ chain) × (1 ≤ x) × (x < me))

@@ -1,8 +1,8 @@
 ghost use Rattle.std.specs.Prelude.{◌≡◌, Option, Some, None, IfErr, OnOk};
 ghost use Rattle.oc_model.specs.Adoption.{adoption_refusal, chain_refusal, rank_refusal};
-ghost use Rattle.oc_model.specs.Numbers.{has};
 
 use crate::Host;
+use crate::membership::is_among;
 use oc_base::{MAX_DEPTH, NodeId, Rank, Refusal};
 
 /// Whether the host becomes the parent of the asker, which has this rank or none: Ok, or the first
@@ -56,11 +56,4 @@ fn by_rank(own: Rank, rank: Option<Rank>) -> Option<Refusal>
         Some(rank) if !own.precedes(rank) => Some(Refusal::Rank),
         _ => None,
     }
-}
-
-/// Whether the id is one of these.
-fn is_among(id: NodeId, ids: &[NodeId]) -> bool
-    ensures { result ≡ has ids.now id }
-{
-    ids.contains(&id)
 }

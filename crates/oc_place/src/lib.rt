@@ -18,8 +18,7 @@
 //! nearest first, and any other node its ancestors and then the chain. [`ask_order`] is the model's list, in which each
 //! node occurs once and neither the asker nor the one left out occurs ([`each_is_asked_once`]).
 //!
-//! Its asks have numbers and its rank an epoch, and each goes up one by one: [`next_number`], [`raise`] and
-//! [`epoch_above`] give the next one, and none exactly at the last number.
+//! The epoch of a rank goes up one by one: [`raise`] gives the next one, and none exactly at the last number.
 //!
 //! Only [`ask_order`] takes memory.
 #![tactic(auto)]
@@ -29,6 +28,7 @@ mod choosing;
 mod host;
 mod law;
 mod left_out;
+mod membership;
 mod numbers;
 mod order;
 mod reviewing;
@@ -39,7 +39,7 @@ pub use adopt::may_adopt;
 pub use choosing::choose;
 pub use host::Host;
 pub use law::{each_is_asked_once, the_first_cause_refuses, the_nearest_suitable_is_chosen};
-pub use numbers::{epoch_above, next_number, raise};
+pub use numbers::raise;
 pub use oc_base::Refusal;
 pub use oc_model::{Candidate, Review};
 pub use order::ask_order;

@@ -1,11 +1,11 @@
 ghost use Rattle.std.specs.Prelude.{◌≡◌, ◌+◌, ◌<◌, ◌≤◌, length, vec_len, vec_capacity, OnOk, OnErr};
 ghost use Rattle.std.specs.List.{range_with_len};
 ghost use Rattle.oc_model.specs.Choice.{ask_order as asked, below};
-ghost use Rattle.oc_model.specs.Numbers.{has};
 ghost use Rattle.oc_place.specs.LeftOut.{out_of};
 ghost use Rattle.oc_place.specs.Once.{put_new, with_once};
 
 use crate::left_out::LeftOut;
+use crate::membership::is_among;
 use oc_base::{Memory, NodeId};
 
 /// Puts into `into`, in the place of what was there, the nodes that are asked for a place, in their
@@ -78,11 +78,4 @@ fn put(left_out: &LeftOut, id: NodeId, into: &mut Vec<NodeId>)
     if !left_out.contains(id) && !is_among(id, into) {
         let _ = into.push(id);
     }
-}
-
-/// Whether the id is one of these.
-fn is_among(id: NodeId, ids: &[NodeId]) -> bool
-    ensures { result ≡ has ids.now id }
-{
-    ids.contains(&id)
 }

@@ -5,5 +5,5 @@ pub mod Lists
 pub mod ChildRows
 pub mod Better
 pub mod ShelfLines
-pub mod Touching
+pub mod Updating
 pub mod Waiting

@@ -6,7 +6,7 @@ use Rattle.oc_model.specs.declared.reading.Reading.{Reading}
 use Rattle.oc_model.specs.Node.{Durable, Log}
 use Rattle.oc_laws_step.specs.LawfulNode.{IsLawfulDurable}
 use Rattle.oc_laws_step.specs.Sound.{IsSoundDurable}
-use Rattle.oc_state.specs.declared.standing.Standing.{Standing}
+use Rattle.oc_state.specs.declared.position.Position.{Position}
 
 -- the number of nodes, the durable state, and how many certificates there is room for among those that wait
 pub record DurableView : Type 0 where
@@ -15,7 +15,7 @@ pub record DurableView : Type 0 where
   pub room : ℕ
 
 -- the durable state of these parts
-abbrev pub durable_of : Standing → List Cert → Log → List ℕ → List Reading → Durable
+abbrev pub durable_of : Position → List Cert → Log → List ℕ → List Reading → Durable
 durable_of s table log ancestors measures = record {
   seq = s.seq;
   mode = s.mode;

@@ -1,8 +1,8 @@
 pub mod DurableView
 pub mod Snapshots
-pub mod Standing
+pub mod Position
 pub mod Volatile
 pub mod Tries
 pub mod Modes
 pub mod Children
-pub mod Touched
+pub mod ListUpdates

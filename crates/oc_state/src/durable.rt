@@ -4,9 +4,10 @@ ghost use Rattle.oc_model.specs.Lawful.{AreRecords, IsRecord};
 ghost use Rattle.oc_model.specs.Node.{new_durable};
 ghost use Rattle.oc_model.specs.Records.{fold_one, folded};
 ghost use Rattle.oc_state.specs.DurableView.{DurableView, HasRoom, IsKept};
-ghost use Rattle.oc_state.specs.Standing.{standing_of};
+ghost use Rattle.oc_state.specs.Position.{position_of};
 
-use crate::{Standing, enter, leave_parent};
+use crate::Position;
+use crate::log::enter;
 use oc_base::{Cert, IdList, Memory, NodeId};
 use oc_model::Record;
 use oc_updown::{ChangeLog, Measures, Table};
@@ -18,7 +19,7 @@ use std::marker::Model;
 #[derive(Drop)]
 pub struct Durable {
     nodes: u32,
-    standing: Standing,
+    position: Position,
     table: Table,
     log: ChangeLog,
     /// For how many certificates room was made in the log. A recovery that runs out of memory leaves it as it was,
@@ -38,7 +39,7 @@ impl Model for Durable {
 
     ghost view = { λ d. record {
       nodes = d.nodes;
-      kept = durable_of d.standing d.table.entries d.log.log d.ancestors d.measures;
+      kept = durable_of d.position d.table.entries d.log.log d.ancestors d.measures;
       room = d.room;
     } };
 
@@ -55,7 +56,7 @@ impl Durable {
     {
         Ok(Durable {
             nodes,
-            standing: Standing::new(),
+            position: Position::new(),
             table: Table::new(alloc, nodes)?,
             log: ChangeLog::new(alloc, nodes)?,
             room: 0,
@@ -72,10 +73,10 @@ impl Durable {
         self.nodes
     }
 
-    pub fn standing(&self) -> Standing
-        ensures { result ≡ standing_of self.now.kept }
+    pub fn position(&self) -> Position
+        ensures { result ≡ position_of self.now.kept }
     {
-        self.standing
+        self.position
     }
 
     pub fn table(&self) -> &Table
@@ -142,7 +143,7 @@ impl Durable {
     fn clear(&mut self)
         ensures { self.new ≡ record self.old { kept = new_durable (length self.old.kept.measures) } }
     {
-        self.standing = Standing::new();
+        self.position = Position::new();
         self.table.clear();
         self.log.clear();
         self.ancestors = IdList::of(Vec::new(self.alloc));
@@ -203,12 +204,12 @@ impl Durable {
         requires room { HasRoom self.old 1 }
         ensures { self.new ≡ record self.old { kept = fold_one self.old.kept change } }
     {
-        let mode = self.standing.mode;
-        let has_asked = self.standing.seq != 0;
-        let is_joined = self.standing.is_joined();
-        self.standing = self.standing.after(&change);
+        let mode = self.position.mode;
+        let has_asked = self.position.seq != 0;
+        let is_joined = self.position.is_joined();
+        self.position = self.position.after(&change);
         match change {
-            Record::Ask { .. } | Record::Lost => leave_parent(&mut self.log),
+            Record::Ask { .. } | Record::Lost => self.log.clear(),
             Record::Joined { .. } if has_asked => self.log.begin(&self.table),
             Record::Acting => {
                 self.log.clear();

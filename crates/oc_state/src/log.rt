@@ -1,6 +1,5 @@
 ghost use Rattle.std.specs.Prelude.{◌≡◌, ◌+◌, ◌<◌, ◌^◌, length, IfOk};
 ghost use Rattle.oc_base.specs.Lawful.{IsCert};
-ghost use Rattle.oc_model.specs.Node.{empty_log};
 ghost use Rattle.oc_model.specs.Records.{noted};
 ghost use Rattle.oc_model.specs.Table.{merge};
 
@@ -9,18 +8,10 @@ use oc_model::Mode;
 use oc_updown::{ChangeLog, Table};
 use std::alloc::Global;
 
-/// A node that asks anew, or lost its parent, has nothing to tell that one. Takes no memory.
-pub fn leave_parent(log: &mut ChangeLog)
-    ensures log { log.new.log ≡ empty_log }
-    ensures nodes { log.new.nodes ≡ log.old.nodes }
-    ensures room { log.new.room ≡ log.old.room }
-{
-    log.clear();
-}
-
-/// Merges a certificate into the table of a node in this mode. Where the node is joined, the log takes the
-/// certificate too, and has room for it. Takes no memory.
-pub fn enter(table: &mut Table, log: &mut ChangeLog, mode: Mode, cert: &Cert)
+/// Merges a certificate into the table of a node in this mode; where the node is joined, puts it at the end
+/// of the log too. Takes no memory: the log has room for one more, which is asked in every mode, so that
+/// callers need not look at it.
+pub(crate) fn enter(table: &mut Table, log: &mut ChangeLog, mode: Mode, cert: &Cert)
     requires cert { IsCert table.old.nodes cert.now }
     requires nodes { log.old.nodes ≡ table.old.nodes }
     requires room { length log.old.log.waiting < log.old.room }
@@ -39,7 +30,7 @@ pub fn enter(table: &mut Table, log: &mut ChangeLog, mode: Mode, cert: &Cert)
 
 /// All certificates that wait in the log, in their order.
 #[tactic(auto, using(crate::proofs::Waiting::all_are_taken))]
-pub fn all_waiting(alloc: Global, log: &ChangeLog) -> Result<Vec<Cert>, Memory>
+pub(crate) fn all_waiting(alloc: Global, log: &ChangeLog) -> Result<Vec<Cert>, Memory>
     ensures { IfOk result (λ certs. certs.items ≡ log.now.log.waiting) }
 {
     let mut certs = Vec::new(alloc);

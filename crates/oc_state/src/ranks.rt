@@ -4,7 +4,7 @@ ghost use Rattle.oc_model.specs.Asking.{next_epoch, ancestors_by};
 ghost use Rattle.oc_state.specs.Modes.{better_rank};
 
 use oc_base::{IdList, MAX_ANCESTORS, MAX_DEPTH, Memory, NodeId, Rank};
-use oc_place::{epoch_above, take_rank};
+use oc_place::{raise, take_rank};
 use std::alloc::Global;
 
 /// A rank, or the last of all where there is none.
@@ -24,7 +24,7 @@ pub fn rank_or_last(rank: Option<Rank>) -> Rank
 pub fn next_epoch(rank: Rank) -> u64
     ensures { result ≡ next_epoch rank }
 {
-    epoch_above(rank).unwrap_or(rank.epoch)
+    raise(rank.epoch).unwrap_or(rank.epoch)
 }
 
 /// Whether a rank precedes that of a node, or the node has none.

@@ -5,9 +5,10 @@ ghost use Rattle.oc_model.specs.Snapshot.{snapshot, entries, own_pair, last_ask,
 ghost use Rattle.oc_updown.specs.TableView.{AreTableRows, entries_of};
 ghost use Rattle.oc_state.specs.Snapshots.{rate_record};
 
+use crate::Position;
 use crate::durable::Durable;
+use crate::log::all_waiting;
 use crate::ranks::rank_or_last;
-use crate::{Standing, all_waiting};
 use oc_base::{Cert, IdList, Memory, NodeId, Rank, Slots};
 use oc_model::{Mode, Record};
 use oc_updown::Measures;
@@ -91,8 +92,8 @@ impl Durable {
         push_rows(&mut list, self.table().rows())?;
         self.push_pair(&mut list)?;
         self.push_ask(&mut list)?;
-        self.push_mode(alloc, &mut list, self.standing().mode)?;
-        self.push_rank(&mut list, self.standing().mode)?;
+        self.push_mode(alloc, &mut list, self.position().mode)?;
+        self.push_rank(&mut list, self.position().mode)?;
         self.push_ancestors(alloc, &mut list)?;
         push_rates(&mut list, self.measures(), self.nodes())?;
         Ok(list)
@@ -102,11 +103,11 @@ impl Durable {
     fn push_pair(&self, list: &mut Vec<Record>) -> Result<(), Memory>
         ensures { OnOk result (list.new.items ≡ list.old.items ++ own_pair self.now.kept) }
     {
-        let Standing {
+        let Position {
             number,
             clients,
             ..
-        } = self.standing();
+        } = self.position();
         if number != 0 {
             list.push(Record::Info { number, clients })?;
         }
@@ -117,8 +118,8 @@ impl Durable {
     fn push_ask(&self, list: &mut Vec<Record>) -> Result<(), Memory>
         ensures { OnOk result (list.new.items ≡ list.old.items ++ last_ask self.now.kept) }
     {
-        let seq = self.standing().seq;
-        let peer = peer_or_first(self.standing().mode);
+        let seq = self.position().seq;
+        let peer = peer_or_first(self.position().mode);
         if seq != 0 {
             list.push(Record::Ask { seq, peer })?;
         }
@@ -133,7 +134,7 @@ impl Durable {
             Mode::Idle => self.push_lost(list),
             Mode::Asking(_) => Ok(()),
             Mode::Joined(peer) => {
-                let rank = rank_or_last(self.standing().rank);
+                let rank = rank_or_last(self.position().rank);
                 list.push(Record::Joined { peer, rank })?;
                 self.push_log(alloc, list)
             }
@@ -148,7 +149,7 @@ impl Durable {
     fn push_lost(&self, list: &mut Vec<Record>) -> Result<(), Memory>
         ensures { OnOk result (list.new.items ≡ list.old.items ++ mode_records Mode.Idle self.now.kept) }
     {
-        if self.standing().seq != 0 {
+        if self.position().seq != 0 {
             list.push(Record::Lost)?;
         }
         Ok(())
@@ -170,7 +171,7 @@ impl Durable {
     {
         match mode {
             Mode::Joined(_) => Ok(()),
-            _ => push_ranked(list, self.standing().rank),
+            _ => push_ranked(list, self.position().rank),
         }
     }
 

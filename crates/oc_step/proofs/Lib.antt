@@ -1,5 +1,5 @@
 pub mod Told
 pub mod NextCerts
-pub mod Drafts
+pub mod Steps
 pub mod Rooms
 pub mod Servers

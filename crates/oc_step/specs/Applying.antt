@@ -10,7 +10,7 @@ use Rattle.oc_model.specs.Step.{plan, step}
 use Rattle.oc_state.specs.DurableView.{DurableView, HasRoom}
 use Rattle.oc_step.specs.NodeView.{NodeView, IsReached}
 use Rattle.oc_step.specs.Planned.{PlanView, control_after, planned}
-use Rattle.oc_state.specs.Touched.{IsTouch}
+use Rattle.oc_state.specs.ListUpdates.{IsListUpdate}
 
 -- the durable parts of a node
 abbrev pub durable_in : NodeView → DurableView
@@ -20,7 +20,7 @@ durable_in v = record { nodes = v.control.nodes; kept = v.control.kept; room = v
 pub record CanApply (v : NodeView) (p : PlanView) : Type 0 where
   pub reached : IsReached (control_after v.control p)
   pub records : AreRecords v.control.nodes p.records
-  pub touches : AllByRecursion (IsTouch v.control.nodes) p.touches
+  pub updates : AllByRecursion (IsListUpdate v.control.nodes) p.updates
   pub room : HasRoom (durable_in v) (length p.records)
 
 -- the node has this control state, and holds groups of this shelf

@@ -1,5 +1,5 @@
 pub mod NodeView
 pub mod Planned
 pub mod Applying
-pub mod DraftView
+pub mod StepView
 pub mod Since

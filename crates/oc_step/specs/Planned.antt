@@ -10,20 +10,20 @@ use Rattle.oc_model.specs.Node.{Control}
 use Rattle.oc_model.specs.Plan.{Plan}
 use Rattle.oc_model.specs.Records.{folded}
 use Rattle.oc_model.specs.Step.{fill}
-use Rattle.oc_state.specs.declared.touch.Touch.{Touch}
+use Rattle.oc_state.specs.declared.list_update.ListUpdate.{ListUpdate}
 use Rattle.oc_state.specs.declared.volatile.Volatile.{Volatile}
-use Rattle.oc_state.specs.Touched.{leases_after, rates_after, counts_after}
+use Rattle.oc_state.specs.ListUpdates.{leases_after, rates_after, counts_after}
 use Rattle.oc_state.specs.Volatile.{soft_of}
 
 -- what a plan changes of a node: the durable changes; the small parts of what a start clears; the nodes still to be asked, if they are
--- set anew, and how many of them are taken off; what it touches of the lists by number. And what it sends, answers, wants and keeps;
+-- set anew, and how many of them are taken off; what it updates of the lists by number. And what it sends, answers, wants and keeps;
 -- `room` is how many bytes can be filled into its chunk
 pub record PlanView : Type 0 where
   pub records : List Record
   pub volatile : Volatile
   pub tries : Option (List ℕ)
   pub taken : ℕ
-  pub touches : List Touch
+  pub updates : List ListUpdate
   pub sends : List Message
   pub answer : Answer
   pub wants : Option Want
@@ -38,7 +38,7 @@ empty_plan v = record {
   volatile = v;
   tries = None;
   taken = 0;
-  touches = [];
+  updates = [];
   sends = [];
   answer = words.Ok;
   wants = None;
@@ -56,9 +56,9 @@ abbrev pub control_after : Control → PlanView → Control
 control_after n p = record n {
   kept = folded n.kept p.records;
   soft = soft_after n.soft p;
-  leases = leases_after n.kept.table n.me n.leases p.touches;
-  rates = rates_after n.rates p.touches;
-  counts = counts_after n.counts p.touches;
+  leases = leases_after n.kept.table n.me n.leases p.updates;
+  rates = rates_after n.rates p.updates;
+  counts = counts_after n.counts p.updates;
 }
 
 -- the step under way that the plan is, at this node

@@ -5,12 +5,12 @@ ghost use Rattle.oc_model.specs.Leases.{next_ended};
 ghost use Rattle.oc_model.specs.Looking.{children};
 ghost use Rattle.oc_model.specs.Selected.{selected};
 ghost use Rattle.oc_step.specs.NodeView.{IsReached};
-ghost use Rattle.oc_state.specs.Standing.{standing_of};
+ghost use Rattle.oc_state.specs.Position.{position_of};
 ghost use Rattle.oc_state.specs.Volatile.{volatile_of};
 
 use oc_base::{Child, Memory, NodeId, Slots};
 use oc_state::children::children;
-use oc_state::{Durable, Standing, Tries, Volatile};
+use oc_state::{Durable, Position, Tries, Volatile};
 use oc_updown::{ChangeLog, Leases, Measures, Table, select};
 use std::alloc::Global;
 use std::marker::Model;
@@ -66,11 +66,11 @@ impl Before<'_> {
         self.alloc
     }
 
-    pub(crate) fn standing(&self) -> Standing
-        ensures standing { result ≡ standing_of self.now.kept }
+    pub(crate) fn position(&self) -> Position
+        ensures position { result ≡ position_of self.now.kept }
         ensures reached { IsReached self.now }
     {
-        self.durable.standing()
+        self.durable.position()
     }
 
     pub(crate) fn volatile(&self) -> Volatile

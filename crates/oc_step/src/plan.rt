@@ -9,7 +9,7 @@ ghost use Rattle.oc_state.specs.Tries.{first_of};
 
 use oc_base::{Bytes, IdList, Memory, NodeId};
 use oc_model::{Answer, Body, Message, Record, Want};
-use oc_state::{Touch, Tries, Volatile};
+use oc_state::{ListUpdate, Tries, Volatile};
 use std::alloc::Global;
 use std::marker::Model;
 use std::mem;
@@ -25,7 +25,7 @@ pub struct Plan {
     tries: Option<Tries>,
     /// How many of the nodes still to be asked are taken off.
     taken: usize,
-    touches: Vec<Touch>,
+    updates: Vec<ListUpdate>,
     sends: Vec<Message>,
     answer: Answer,
     wants: Option<Want>,
@@ -46,7 +46,7 @@ impl Model for Plan {
       volatile = p.volatile;
       tries = p.tries;
       taken = p.taken;
-      touches = p.touches.items;
+      updates = p.updates.items;
       sends = p.sends.items;
       answer = p.answer;
       wants = p.wants;
@@ -68,7 +68,7 @@ impl Plan {
             volatile,
             tries: None,
             taken: 0,
-            touches: Vec::new(alloc),
+            updates: Vec::new(alloc),
             sends: Vec::new(alloc),
             answer: Answer::Ok,
             wants: None,
@@ -145,12 +145,12 @@ impl Plan {
         Ok(())
     }
 
-    /// One more touch.
-    pub(crate) fn touch(&mut self, touch: Touch) -> Result<(), Memory>
-        ensures ok { OnOk result (self.new ≡ record self.old { touches = self.old.touches ++ touch ∷ [] }) }
+    /// One more change of the lists that have an item for each node.
+    pub(crate) fn update(&mut self, update: ListUpdate) -> Result<(), Memory>
+        ensures ok { OnOk result (self.new ≡ record self.old { updates = self.old.updates ++ update ∷ [] }) }
         ensures err { OnErr result (self.new ≡ self.old) }
     {
-        self.touches.push(touch)?;
+        self.updates.push(update)?;
         Ok(())
     }
 
@@ -225,7 +225,7 @@ impl Plan {
         ensures volatile { result.volatile ≡ self.volatile }
         ensures tries { result.tries ≡ self.tries }
         ensures taken { result.taken ≡ self.taken }
-        ensures touches { result.touches.items ≡ self.touches }
+        ensures updates { result.updates.items ≡ self.updates }
         ensures sends { result.sends.items ≡ self.sends }
         ensures answer { result.answer ≡ self.answer }
     {
@@ -234,7 +234,7 @@ impl Plan {
             volatile: self.volatile,
             tries: self.tries,
             taken: self.taken,
-            touches: self.touches,
+            updates: self.updates,
             sends: self.sends,
             answer: self.answer,
         }
@@ -250,7 +250,7 @@ pub struct Changes {
     pub tries: Option<Tries>,
     /// How many of the nodes still to be asked are taken off.
     pub taken: usize,
-    pub touches: Vec<Touch>,
+    pub updates: Vec<ListUpdate>,
     pub sends: Vec<Message>,
     pub answer: Answer,
 }

@@ -7,7 +7,7 @@ pub mod Entries
 pub mod Climbs
 pub mod Lines
 pub mod Better
-pub mod Freest
+pub mod FreestServer
 pub mod Lists
 pub mod RedirectRows
 pub mod Server

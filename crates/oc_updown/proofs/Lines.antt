@@ -6,7 +6,8 @@ use Rattle.oc_model.proofs.Walks.{walk_ends}
 use Rattle.std.specs.List.{filter_map}
 use Rattle.oc_base.specs.declared.cert.Cert.{Cert}
 use Rattle.oc_base.specs.declared.cert.Line.{Line}
-use Rattle.oc_updown.specs.Listing.{subjects, line_in, lines_in, lines_of_row}
+use Rattle.oc_model.specs.Status.{listing}
+use Rattle.oc_updown.specs.Listing.{subjects, line_in, lines_of_row}
 use Rattle.oc_updown.specs.TableView.{AreRowsFrom, entries_of}
 use Rattle.oc_base.specs.Lawful.{IsNode}
 
@@ -65,5 +66,5 @@ lines_nodes_of t r (x ∷ xs) = by_test (lines_nodes_of t r xs) (is_listed t r x
   by_test rest true e (Some y) h = rw (e, h) (ap (λ (zs : List ℕ). x ∷ zs) rest)
   by_test rest false e p h = rw e rest
 
-pub lines_nodes : (t : List Cert) (r : ℕ) → map (λ (l : Line). l.node) (lines_in t r) ≡ listed_in t r
+pub lines_nodes : (t : List Cert) (r : ℕ) → map (λ (l : Line). l.node) (listing t r) ≡ listed_in t r
 lines_nodes t r = lines_nodes_of t r (subjects t)

@@ -11,7 +11,7 @@ use Rattle.oc_model.proofs.Walks.{is_listed-exact}
 use Rattle.oc_updown.specs.Better.{is_near, is_better}
 use Rattle.oc_updown.specs.Server.{IsServer, IsFreer, IsBestServer}
 use Rattle.oc_updown.proofs.Better.{IsBestOf, best_is, best_none}
-use Rattle.oc_updown.proofs.Freest.{freest_best, alike, inside}
+use Rattle.oc_updown.proofs.FreestServer.{freest_best, alike, inside}
 use Rattle.oc_updown.proofs.Lists.{among_filtered, filtered_among}
 
 -- who has a row is among the subjects

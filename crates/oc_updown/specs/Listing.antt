@@ -1,27 +1,18 @@
 -- The lines of those who are listed, and what is known of it on the way.
 use Rattle.std.specs.Prelude.{◌≡◌, ℕ, ◌+◌, Bool, Option, None, Some, List, [], ◌∷◌, length, map}
-use Rattle.std.specs.List.{filter_map}
 use Rattle.std.specs.Option.{option_to_list}
 use Rattle.oc_base.specs.declared.cert.Cert.{Cert}
 use Rattle.oc_base.specs.declared.cert.Line.{Line}
+use Rattle.oc_model.specs.Status.{line_beneath}
 use Rattle.oc_model.specs.Table.{parent_in, reaches, table_line}
 
 -- the nodes of which the table has a certificate, ascending
 abbrev pub subjects : List Cert → List ℕ
 subjects t = map (λ k. k.subject) t
 
--- the line of x beneath this parent
-abbrev pub line_beneath : ℕ → Option ℕ → Option Line
-line_beneath x None = None
-line_beneath x (Some y) = Some (record { node = x; parent = y })
-
 -- the line of x, where it is listed beneath r
 abbrev pub line_in : List Cert → ℕ → ℕ → Option Line
 line_in t r x = line_beneath x (table_line t r x)
-
--- the lines of all who are listed beneath r, ascending
-abbrev pub lines_in : List Cert → ℕ → List Line
-lines_in t r = filter_map (line_in t r) (subjects t)
 
 -- what the row of a node gives of them
 abbrev pub lines_of_row : List Cert → ℕ → Option Cert → List Line

@@ -1,4 +1,4 @@
-ghost use Rattle.std.specs.Prelude.{◌≡◌, ◌+◌, ◌-◌, ◌^◌, ◌<◌, ◌≤◌, ◌↔◌, ◌++◌, [], ◌∷◌, IsTrue, Option, length, nat_le, take, max, IfOk, OnOk, OnErr, IfSome};
+ghost use Rattle.std.specs.Prelude.{◌≡◌, ◌+◌, ◌-◌, ◌^◌, ◌<◌, ◌≤◌, ◌↔◌, ◌++◌, [], ◌∷◌, IsTrue, Option, length, take, max, IfOk, OnOk, OnErr, IfSome};
 ghost use Rattle.oc_base.specs.declared.limits.TheConstants.{MAX_BASE_ACKED};
 ghost use Rattle.oc_model.specs.Node.{empty_log};
 ghost use Rattle.oc_model.specs.ChangeLog.{begun_with, note, ack, acked_whole, IsWaiting};
@@ -142,13 +142,6 @@ impl ChangeLog {
         Ok(self.acked + count as u64)
     }
 
-    /// Whether a place lies within the log, or at its end.
-    fn has(&self, place: u64) -> bool
-        ensures { result ≡ nat_le place self.now.log.length }
-    {
-        place <= self.length()
-    }
-
     /// Acknowledges up to a place, and gives up what is acknowledged. It changes nothing where the place
     /// passes the end, or is acknowledged already. Takes no memory.
     #[tactic(auto, using(crate::proofs::Lengths::length_of_acknowledged))]
@@ -161,7 +154,7 @@ impl ChangeLog {
         ensures room { self.new.room ≡ self.old.room }
         ensures nodes { self.new.nodes ≡ self.old.nodes }
     {
-        if self.acked < upto && self.has(upto) {
+        if self.acked < upto && upto <= self.length() {
             self.waiting.give_up((upto - self.acked) as usize);
             self.acked = upto;
         }

@@ -1,7 +1,8 @@
 ghost use Rattle.std.specs.Prelude.{◌≡◌, ◌-◌, ◌≤◌, ◌++◌, None, length, IfOk, IfSome, OnOk};
 ghost use Rattle.std.specs.Option.{option_to_list};
 ghost use Rattle.oc_model.specs.Numbers.{at};
-ghost use Rattle.oc_updown.specs.Listing.{line_in, lines_in, lines_of_row, is_beneath, AreKnown};
+ghost use Rattle.oc_model.specs.Status.{listing};
+ghost use Rattle.oc_updown.specs.Listing.{line_in, lines_of_row, is_beneath, AreKnown};
 ghost use Rattle.oc_updown.specs.TableView.{AreRows, AreTableRows, entries_of};
 ghost use Rattle.oc_base.specs.Lawful.{IsNode};
 
@@ -139,7 +140,7 @@ fn push_lines(
     requires rows { AreTableRows rows.now }
     requires places { length known.old ≡ length rows.now.items }
     requires known { AreKnown (entries_of rows.now.items) root known.old }
-    ensures { OnOk result (lines.new.items ≡ lines.old.items ++ lines_in (entries_of rows.now.items) root) }
+    ensures { OnOk result (lines.new.items ≡ lines.old.items ++ listing (entries_of rows.now.items) root) }
 {
     for place in 0..rows.used() {
         let row = rows.get_or(place, None);
@@ -156,7 +157,7 @@ pub(crate) fn lines_of(
     root: NodeId,
 ) -> Result<Vec<Line>, Memory>
     requires { AreTableRows rows.now }
-    ensures { IfOk result (λ lines. lines.items ≡ lines_in (entries_of rows.now.items) root) }
+    ensures { IfOk result (λ lines. lines.items ≡ listing (entries_of rows.now.items) root) }
 {
     let mut known = vec![in alloc; None; rows.len()]?;
     let mut lines = Vec::new(alloc);

@@ -1,7 +1,7 @@
 ghost use Rattle.std.specs.Prelude.{◌≡◌, ◌≢◌, ◌≤◌, ◌↔◌, IsTrue, true, false, Some, [], length, map, IfOk, IfSome};
 ghost use Rattle.oc_base.specs.declared.limits.TheConstants.{MAX_NODES};
+ghost use Rattle.oc_model.specs.Status.{listing};
 ghost use Rattle.oc_model.specs.Table.{newest, is_news, merge, leased_by, is_listed, IsListed, listed_in};
-ghost use Rattle.oc_updown.specs.Listing.{lines_in};
 ghost use Rattle.oc_updown.specs.TableView.{AreTableRows, entries_of};
 ghost use Rattle.oc_base.specs.Lawful.{IsCert};
 
@@ -110,7 +110,7 @@ impl Table {
     /// each time, and all walks together look at each row a few times.
     #[tactic(auto, using(crate::proofs::Lines::lines_nodes))]
     pub fn listed(&self, root: NodeId) -> Result<Vec<Line>, Memory>
-        ensures lines { IfOk result (λ lines. lines.items ≡ lines_in self.now.entries root) }
+        ensures lines { IfOk result (λ lines. lines.items ≡ listing self.now.entries root) }
         ensures nodes { IfOk result (λ lines. map (λ line. line.node) lines.items ≡ listed_in self.now.entries root) }
     {
         lines_of(self.alloc, &self.rows, root)

@@ -13,7 +13,7 @@ use Rattle.oc_keep.proofs.readying.make_ready.Goals as goal
 pub writing-requires-clause-keeps : goal.writing-requires-clause-keeps
 writing-requires-clause-keeps g c =
     let n = c.args.node.now.control in
-    let made = rw c.groups.ensures.lines at c.in_ok-plan.ensures.plan in
+    let made = rw c.groups.ensures.lines at c.in_ok-plan.ensures.made.control in
     plan_keeps n c.in_ok-plan.plan _ c.args.content.now.shelves _ made (c.prepare_refuses_nothing_that_is_kept.ensures.keeps n.nodes n c.args.content.now.shelves c.args.input.now c.requires.input c.groups.ensures.shelf)
 
 pub returns-in-Err-fetch-clause-content : goal.returns-in-Err-fetch-clause-content
@@ -21,7 +21,7 @@ returns-in-Err-fetch-clause-content g c = puts_then g.D.Disk.view c.args.content
 
 pub returns-in-Err-fetch-clause-full_first : goal.returns-in-Err-fetch-clause-full_first
 returns-in-Err-fetch-clause-full_first g c = λ disk full.
-    let made = rw c.groups.ensures.lines at c.in_ok-plan.ensures.plan in
+    let made = rw c.groups.ensures.lines at c.in_ok-plan.ensures.made.control in
     wanting_fits (kept_of c.args.node.now c.args.store.now c.args.content.now false) c.args.input.now c.in_ok-plan.plan made c.in-Err-fetch.ensures.wanting full
 
 pub returns-in-Ok-fetch-clause-step : goal.returns-in-Ok-fetch-clause-step
@@ -31,7 +31,7 @@ returns-in-Ok-fetch-clause-step g c = λ honest.
     let old = c.args.content.now in
     let new = c.writing.new.content in
     let p = c.in_ok-plan.plan in
-    let made = rw c.groups.ensures.lines at c.in_ok-plan.ensures.plan in
+    let made = rw c.groups.ensures.lines at c.in_ok-plan.ensures.made.control in
     let keeps = plan_keeps n p _ old.shelves _ made (c.prepare_refuses_nothing_that_is_kept.ensures.keeps n.nodes n old.shelves c.args.input.now c.requires.input c.groups.ensures.shelf) in
     let bytes = c.in-Ok-fetch.ensures.fetched (still_honest (view old.journal.disk) (view new.journal.disk) c.writing.ensures.content.journal.disk.goes_on honest) in
     ap (λ (q : PlanView). outcome_of (record { control = n; groups = groups_in old.journal.frames }) (record { plan = q; write = c.in-Ok.write }))
@@ -40,18 +40,18 @@ returns-in-Ok-fetch-clause-step g c = λ honest.
 
 pub returns-in-Ok-fetch-clause-commits : goal.returns-in-Ok-fetch-clause-commits
 returns-in-Ok-fetch-clause-commits g c =
-    let made = rw c.groups.ensures.lines at c.in_ok-plan.ensures.plan in
+    let made = rw c.groups.ensures.lines at c.in_ok-plan.ensures.made.control in
     made_commits g.D.Disk.view c.plan.new.self c.writing.new.store c.writing.new.content c.fetch.new.content c.args.content.now.shelves c.in_ok-plan.plan c.fetch.new.plan _ c.in-Ok.write
-    c.in_ok-plan.ensures.applies (made_plain c.args.node.now.control c.args.content.now.shelves c.args.input.now c.in_ok-plan.plan made) c.fetch.ensures.rest c.fetch.ensures.content c.in-Ok.ensures.write
+    c.in_ok-plan.ensures.made.applies (made_plain c.args.node.now.control c.args.content.now.shelves c.args.input.now c.in_ok-plan.plan made) c.fetch.ensures.rest c.fetch.ensures.content c.in-Ok.ensures.write
 
 pub returns-in-Ok-fetch-clause-writes : goal.returns-in-Ok-fetch-clause-writes
 returns-in-Ok-fetch-clause-writes g c =
-    let made = rw c.groups.ensures.lines at c.in_ok-plan.ensures.plan in
+    let made = rw c.groups.ensures.lines at c.in_ok-plan.ensures.made.control in
     made_writes g.D.Disk.view c.writing.new.store c.writing.new.content c.args.node.now.control c.args.content.now.shelves c.args.input.now c.in_ok-plan.plan c.in-Ok.write made c.in-Ok.ensures.write
 
 pub returns-in-Ok-fetch-clause-full : goal.returns-in-Ok-fetch-clause-full
 returns-in-Ok-fetch-clause-full g c =
-    let made = rw c.groups.ensures.lines at c.in_ok-plan.ensures.plan in
+    let made = rw c.groups.ensures.lines at c.in_ok-plan.ensures.made.control in
     made_full g.D.Disk.view c.args.node.now c.plan.new.self c.args.store.now c.writing.new.store c.args.content.now c.writing.new.content c.fetch.new.content c.args.input.now c.in_ok-plan.plan c.in-Ok.write
     made c.writing.ensures.store (c.fetch.ensures.content.journal.end ∙ c.writing.ensures.content.journal.end) c.in-Ok.ensures.write
 
@@ -68,26 +68,26 @@ pub plan-requires-clause-shelf : goal.plan-requires-clause-shelf
 plan-requires-clause-shelf g c = rw c.groups.ensures.lines c.groups.ensures.shelf
 
 pub writing-requires-clause-spelled : goal.writing-requires-clause-spelled
-writing-requires-clause-spelled g c = c.spellings_are_read.ensures.spelled _ c.in_ok-plan.plan.records c.in_ok-plan.ensures.applies.records
+writing-requires-clause-spelled g c = c.spellings_are_read.ensures.spelled _ c.in_ok-plan.plan.records c.in_ok-plan.ensures.made.applies.records
 
 pub writing-requires-clause-fits : goal.writing-requires-clause-fits
-writing-requires-clause-fits g c = c.in_ok-plan.ensures.frame
+writing-requires-clause-fits g c = c.in_ok-plan.ensures.made.frame
 
 pub writing-requires-clause-one_file : goal.writing-requires-clause-one_file
-writing-requires-clause-one_file g c = c.in_ok-plan.ensures.one_file
+writing-requires-clause-one_file g c = c.in_ok-plan.ensures.made.one_file
 
 pub fetch-requires-clause-held : goal.fetch-requires-clause-held
 fetch-requires-clause-held g c =
     let n = c.args.node.now.control in
     let old = c.args.content.now in
-    let made = rw c.groups.ensures.lines at c.in_ok-plan.ensures.plan in
+    let made = rw c.groups.ensures.lines at c.in_ok-plan.ensures.made.control in
     rw c.writing.ensures.content.shelves (plan_wants n c.in_ok-plan.plan _ old.shelves made (c.prepare_refuses_nothing_that_is_kept.ensures.wants n old.shelves c.args.input.now c.groups.ensures.shelf))
 
 pub fetch-requires-clause-shelved : goal.fetch-requires-clause-shelved
 fetch-requires-clause-shelved g c = still_shelved g.D.Disk.view c.args.content.now c.writing.new.content c.writing.ensures.content c.groups.ensures.content
 
 pub fetch-requires-clause-wanting : goal.fetch-requires-clause-wanting
-fetch-requires-clause-wanting g c = c.in_ok-plan.ensures.wants
+fetch-requires-clause-wanting g c = c.in_ok-plan.ensures.made.wants
 
 pub returns-in_err-plan-clause-node : goal.returns-in_err-plan-clause-node
 returns-in_err-plan-clause-node g c = c.plan.ensures.node

@@ -4,7 +4,7 @@ use Rattle.oc_node.proofs.Ending.{ended_past}
 use Rattle.oc_node.proofs.checking.end_leases.Given as goal
 
 abbrev pub invariant-loop-child : goal.invariant-loop-child
-invariant-loop-child l = (l.draft.base ≡ l.initial.draft.base) × (ends_each (ended_past l.draft.base l.now l.after) l.draft.step ≡ ends_leases l.initial.draft.step)
+invariant-loop-child l = (l.step.base ≡ l.initial.step.base) × (ends_each (ended_past l.step.base l.now l.after) l.step.plan ≡ ends_leases l.initial.step.plan)
 
 abbrev pub decreases-loop-child : goal.decreases-loop-child
-decreases-loop-child l = length (ended_past l.draft.base l.now l.after)
+decreases-loop-child l = length (ended_past l.step.base l.now l.after)

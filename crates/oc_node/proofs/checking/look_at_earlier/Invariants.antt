@@ -6,5 +6,5 @@ use Rattle.oc_node.proofs.checking.look_at_earlier.Given as goal
 
 abbrev pub invariant-loop-earlier : goal.invariant-loop-earlier
 invariant-loop-earlier l =
-    (l.draft.base ≡ l.initial.draft.base)
-    × (looks_at_each (filter (λ x. nat_lt l.other x) (below l.earlier)) l.draft.step ≡ looks_at_each (filter (λ x. nat_lt l.other x) (below l.initial.draft.step.node.me)) l.initial.draft.step)
+    (l.step.base ≡ l.initial.step.base)
+    × (looks_at_each (filter (λ x. nat_lt l.other x) (below l.earlier)) l.step.plan ≡ looks_at_each (filter (λ x. nat_lt l.other x) (below l.initial.step.plan.node.me)) l.initial.step.plan)

@@ -6,7 +6,7 @@ use Rattle.oc_updown.specs.TableView.{entries_of}
 use Rattle.oc_model.specs.Table.{is_listed}
 use Rattle.oc_model.specs.Selected.{servers}
 use Rattle.oc_updown.specs.Better.{is_better, best_of, with_rest}
-use Rattle.oc_updown.proofs.Freest.{freest_best}
+use Rattle.oc_updown.proofs.FreestServer.{freest_best}
 use Rattle.oc_updown.proofs.RedirectRows.{servers_are}
 use Rattle.oc_updown.proofs.Steps.{state, after_better, after_failed, after_worse, next_node, no_node, rest_none, behind_more}
 use Rattle.oc_updown.proofs.selecting.select.Goals as goal

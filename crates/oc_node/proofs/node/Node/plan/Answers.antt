@@ -23,44 +23,31 @@ invariant_of-self-2 c =
       subst (λ (d : Durable). IsReached (control_of n.id n.nodes n.chain n.areas.items d (soft_of n.volatile n.tries) n.leases.ends n.rates.items n.counts.items)) (sym c.reserve.ensures.kept) c.self.invariant.1,
     )
 
-pub returns-clause-plan : goal.returns-clause-plan
-returns-clause-plan c = c.in_ok-plan.ensures.plan
-
 pub returns-clause-node : goal.returns-clause-node
 returns-clause-node c =
     let n = c.self.inside in
     ap (λ (d : Durable). control_of n.id n.nodes n.chain n.areas.items d (soft_of n.volatile n.tries) n.leases.ends n.rates.items n.counts.items) c.reserve.ensures.kept ∙ ap (λ (v : NodeView). v.control) c.self.view_is
 
-pub returns-clause-folds : goal.returns-clause-folds
-returns-clause-folds c = plan_folds c.args.self.now.control c.args.shelf.now c.args.input.now c.in_ok-plan.plan c.in_ok-plan.ensures.plan
-
-pub returns-clause-frame : goal.returns-clause-frame
-returns-clause-frame c =
-    let reached : IsReached c.args.self.now.control = subst (λ (v : NodeView). IsReached v.control) c.self.view_is c.self.invariant.1 in
-    frame_fits c.args.self.now.control c.args.shelf.now c.args.input.now c.in_ok-plan.plan reached c.requires.shelf c.requires.input c.in_ok-plan.ensures.plan
-
-pub returns-clause-one_file : goal.returns-clause-one_file
-returns-clause-one_file c = one_file c.args.self.now.control c.args.shelf.now c.args.input.now c.in_ok-plan.plan c.in_ok-plan.ensures.plan
-
-pub returns-clause-whole : goal.returns-clause-whole
-returns-clause-whole c = λ n. plan_of_whole n c.args.self.now.control c.args.shelf.now c.args.input.now c.in_ok-plan.plan c.in_ok-plan.ensures.plan
-
-pub returns-clause-step : goal.returns-clause-step
-returns-clause-step c = λ n parts. step_of_none n c.args.input.now c.in_ok-plan.plan (plan_of_whole n c.args.self.now.control c.args.shelf.now c.args.input.now c.in_ok-plan.plan c.in_ok-plan.ensures.plan parts)
-
-pub returns-clause-wants : goal.returns-clause-wants
-returns-clause-wants c = plan_wants c.args.self.now.control c.args.shelf.now c.args.input.now c.in_ok-plan.plan c.in_ok-plan.ensures.plan c.in_ok-plan.ensures.room
-
-pub returns-clause-applies : goal.returns-clause-applies
-returns-clause-applies c =
-    let n = c.self.inside in
-    let p = c.in_ok-plan.plan in
-    let kept = c.reserve.new.self.kept in
-    let reached : IsReached c.args.self.now.control = subst (λ (v : NodeView). IsReached v.control) c.self.view_is c.self.invariant.1 in
-    let fits : FitsFrame p.records = frame_fits c.args.self.now.control c.args.shelf.now c.args.input.now p reached c.requires.shelf c.requires.input c.in_ok-plan.ensures.plan in
-    let same : control_of n.id n.nodes n.chain n.areas.items kept (soft_of n.volatile n.tries) n.leases.ends n.rates.items n.counts.items ≡ c.args.self.now.control =
-    ap (λ (d : Durable). control_of n.id n.nodes n.chain n.areas.items d (soft_of n.volatile n.tries) n.leases.ends n.rates.items n.counts.items) c.reserve.ensures.kept ∙ ap (λ (v : NodeView). v.control) c.self.view_is in
-    let nodes : n.nodes ≡ c.args.self.now.control.nodes = ap (λ (v : NodeView). v.control.nodes) c.self.view_is in
-    let room : length kept.log.waiting + (n.nodes + length p.records) ≤ c.reserve.new.self.room = subst (λ (rs : List Record). length kept.log.waiting + (n.nodes + length rs) ≤ c.reserve.new.self.room) c.records.ensures c.in_ok-reserve.ensures.room in
-    plan_applies c.args.self.now _ c.args.shelf.now c.args.input.now p reached c.requires.shelf c.requires.input c.in_ok-plan.ensures.plan c.in_ok-plan.ensures.touches fits c.requires.log same
-    (subst (λ (k : ℕ). length kept.log.waiting + (k + length p.records) ≤ c.reserve.new.self.room) nodes room)
+-- each promise of the plan that was made
+pub returns-clause-made : goal.returns-clause-made
+returns-clause-made c = record {
+  control = c.in_ok-plan.ensures.plan;
+  applies = let n = c.self.inside in
+      let p = c.in_ok-plan.plan in
+      let kept = c.reserve.new.self.kept in
+      let reached : IsReached c.args.self.now.control = subst (λ (v : NodeView). IsReached v.control) c.self.view_is c.self.invariant.1 in
+      let fits : FitsFrame p.records = frame_fits c.args.self.now.control c.args.shelf.now c.args.input.now p reached c.requires.shelf c.requires.input c.in_ok-plan.ensures.plan in
+      let same : control_of n.id n.nodes n.chain n.areas.items kept (soft_of n.volatile n.tries) n.leases.ends n.rates.items n.counts.items ≡ c.args.self.now.control =
+      ap (λ (d : Durable). control_of n.id n.nodes n.chain n.areas.items d (soft_of n.volatile n.tries) n.leases.ends n.rates.items n.counts.items) c.reserve.ensures.kept ∙ ap (λ (v : NodeView). v.control) c.self.view_is in
+      let nodes : n.nodes ≡ c.args.self.now.control.nodes = ap (λ (v : NodeView). v.control.nodes) c.self.view_is in
+      let room : length kept.log.waiting + (n.nodes + length p.records) ≤ c.reserve.new.self.room = subst (λ (rs : List Record). length kept.log.waiting + (n.nodes + length rs) ≤ c.reserve.new.self.room) c.records.ensures c.in_ok-reserve.ensures.room in
+      plan_applies c.args.self.now _ c.args.shelf.now c.args.input.now p reached c.requires.shelf c.requires.input c.in_ok-plan.ensures.plan c.in_ok-plan.ensures.updates fits c.requires.log same
+      (subst (λ (k : ℕ). length kept.log.waiting + (k + length p.records) ≤ c.reserve.new.self.room) nodes room);
+  folds = plan_folds c.args.self.now.control c.args.shelf.now c.args.input.now c.in_ok-plan.plan c.in_ok-plan.ensures.plan;
+  frame = let reached : IsReached c.args.self.now.control = subst (λ (v : NodeView). IsReached v.control) c.self.view_is c.self.invariant.1 in
+      frame_fits c.args.self.now.control c.args.shelf.now c.args.input.now c.in_ok-plan.plan reached c.requires.shelf c.requires.input c.in_ok-plan.ensures.plan;
+  one_file = one_file c.args.self.now.control c.args.shelf.now c.args.input.now c.in_ok-plan.plan c.in_ok-plan.ensures.plan;
+  wants = plan_wants c.args.self.now.control c.args.shelf.now c.args.input.now c.in_ok-plan.plan c.in_ok-plan.ensures.plan c.in_ok-plan.ensures.room;
+  whole = λ n. plan_of_whole n c.args.self.now.control c.args.shelf.now c.args.input.now c.in_ok-plan.plan c.in_ok-plan.ensures.plan;
+  step = λ n parts. step_of_none n c.args.input.now c.in_ok-plan.plan (plan_of_whole n c.args.self.now.control c.args.shelf.now c.args.input.now c.in_ok-plan.plan c.in_ok-plan.ensures.plan parts);
+}

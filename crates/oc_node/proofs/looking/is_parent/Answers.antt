@@ -1,5 +1,0 @@
-use Rattle.std.proofs.Common.{rules, tests}
-use Rattle.oc_node.proofs.looking.is_parent.Goals as goal
-
-pub returns : goal.returns
-returns c = search (tests, rules)

@@ -1,5 +1,0 @@
-use Rattle.std.proofs.Common.{rules, tests}
-use Rattle.oc_place.proofs.numbers.epoch_above.Goals as goal
-
-pub returns : goal.returns
-returns c = search (tests, rules)

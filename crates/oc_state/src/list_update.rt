@@ -1,0 +1,81 @@
+ghost use Rattle.std.specs.Prelude.{◌≡◌, ◌+◌, length};
+ghost use Rattle.std.specs.List.{AllByRecursion};
+ghost use Rattle.oc_base.specs.Lawful.{IsNode};
+ghost use Rattle.oc_model.specs.Numbers.{at, capped, put_at};
+ghost use Rattle.oc_state.specs.ListUpdates.{IsListUpdate, leases_by, rates_by, counts_by, leases_after, rates_after, counts_after};
+
+use oc_base::{NodeId, Slots};
+use oc_updown::{Leases, Table};
+
+/// One change of the lists that have an item for each node: lease ends, the rates of children, and
+/// redirection counts.
+#[derive(Clone, Copy)]
+pub enum ListUpdate {
+    /// Each leased child without a lease end gets one, a lease's time from now.
+    Start { now: u64 },
+    /// The lease of a child begins anew.
+    Renew { child: NodeId, now: u64 },
+    /// A child told this rate.
+    Tell { child: NodeId, rate: u64 },
+    /// A client is sent to this node.
+    Redirect { node: NodeId },
+}
+
+/// Makes these changes, one after another, of the lists of the node `me`, which has this table.
+pub fn update_all(
+    updates: &[ListUpdate],
+    table: &Table,
+    me: NodeId,
+    leases: &mut Leases,
+    rates: &mut Slots<u64>,
+    counts: &mut Slots<u64>,
+)
+    requires updates { AllByRecursion (IsListUpdate table.now.nodes) updates.now }
+    requires leases { length leases.old.ends ≡ table.now.nodes }
+    requires rates { length rates.old.items ≡ table.now.nodes }
+    requires counts { length counts.old.items ≡ table.now.nodes }
+    ensures leases { leases.new.ends ≡ leases_after table.now.entries me leases.old.ends updates.now }
+    ensures rates { rates.new.items ≡ rates_after rates.old.items updates.now }
+    ensures counts { counts.new.items ≡ counts_after counts.old.items updates.now }
+{
+    for update in updates {
+        update_one(update, table, me, leases, rates, counts);
+    }
+}
+
+fn update_one(
+    update: &ListUpdate,
+    table: &Table,
+    me: NodeId,
+    leases: &mut Leases,
+    rates: &mut Slots<u64>,
+    counts: &mut Slots<u64>,
+)
+    requires update { IsListUpdate table.now.nodes update.now }
+    requires leases { length leases.old.ends ≡ table.now.nodes }
+    requires rates { length rates.old.items ≡ table.now.nodes }
+    requires counts { length counts.old.items ≡ table.now.nodes }
+    ensures leases { leases.new.ends ≡ leases_by table.now.entries me leases.old.ends update.now }
+    ensures length { length leases.new.ends ≡ length leases.old.ends }
+    ensures rates { rates.new.items ≡ rates_by rates.old.items update.now }
+    ensures rates_length { length rates.new.items ≡ length rates.old.items }
+    ensures counts { counts.new.items ≡ counts_by counts.old.items update.now }
+    ensures counts_length { length counts.new.items ≡ length counts.old.items }
+{
+    match update {
+        ListUpdate::Start { now } => leases.start_all(table, me, *now),
+        ListUpdate::Renew { child, now } => leases.renew(*child, *now),
+        ListUpdate::Tell { child, rate } => rates.put(child.index(), *rate),
+        ListUpdate::Redirect { node } => count(counts, *node),
+    }
+}
+
+/// One client more was sent to this node.
+fn count(counts: &mut Slots<u64>, node: NodeId)
+    requires { IsNode (length counts.old.items) node }
+    ensures counts { counts.new.items ≡ put_at counts.old.items node (capped (at counts.old.items node 0 + 1)) }
+    ensures length { length counts.new.items ≡ length counts.old.items }
+{
+    let index = node.index();
+    counts.put(index, counts.get_or(index, 0).saturating_add(1));
+}

@@ -1,6 +1,7 @@
 ghost use Rattle.std.specs.Prelude.{◌≡◌, ◌<◌, [], length, IsTrue, IfOk, IsErrOf, OnOk};
 ghost use Rattle.oc_journal.specs.Promises.{OnlyReads, NoneFailed, ClosesByRead};
 ghost use Rattle.oc_store.specs.ControlFiles.{generation_in, generation_of};
+ghost use Rattle.oc_store.specs.Turning.{is_below};
 
 use oc_base::{take_u8, take_u64};
 use oc_io::Disk;
@@ -27,6 +28,18 @@ pub fn generation_in_frame(frame: &Frame) -> u64
 {
     let bytes = frame.bytes();
     generation_in(&bytes[4..bytes.len() - 1])
+}
+
+/// Whether a file of generation `second` is current beside one of generation `first`: only where its
+/// generation is the greater one. A file without frames has none, which is below each.
+pub fn is_below(first: Option<u64>, second: Option<u64>) -> bool
+    ensures { result ≡ is_below first second }
+{
+    match (first, second) {
+        (_, None) => false,
+        (None, Some(_)) => true,
+        (Some(first), Some(second)) => first < second,
+    }
 }
 
 /// The generation of a control file, or none where it has no frame.

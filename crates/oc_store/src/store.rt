@@ -12,9 +12,9 @@ ghost use Rattle.oc_store.specs.StoreView.{first_disk, second_disk, AreHonest, H
 
 use crate::errors::{Side, StoreError};
 use crate::framing::framed;
-use crate::generation::{generation_in_frame, generation_with};
+use crate::generation::{generation_in_frame, generation_with, is_below};
 use crate::loading::{ControlFile, load_file};
-use crate::{is_below, turn_over};
+use crate::turning::turn_over;
 use oc_base::{DUE_BYTES, MAX_FRAME_BYTES, Memory};
 use oc_io::{Disk, MemDisk};
 use oc_journal::{AppendError, Frame, Journal, RestartError};

@@ -1,7 +1,5 @@
-ghost use Rattle.std.specs.Prelude.{◌≡◌, ◌+◌, ◌<◌, [], ◌∷◌, length, false, IsTrue, OnOk, OnErr};
-ghost use Rattle.oc_io.specs.DiskView.{Takes, Fails, HasNoFault, LeavesOnly};
-ghost use Rattle.oc_journal.specs.JournalView.{HasFrames};
-ghost use Rattle.oc_store.specs.Turning.{IsReplaced};
+ghost use Rattle.std.specs.Prelude.{◌≡◌, ◌<◌, ◌≤◌, length, false, OnOk, OnErr};
+ghost use Rattle.oc_store.specs.Turning.{HoldsOnly, ReplacesSafely, FailsToReplace};
 
 use oc_base::MAX_FRAME_BYTES;
 use oc_io::{Disk, Failed};
@@ -18,28 +16,13 @@ pub fn turn_over<D: Disk>(
     requires spare { 0 < other.old.spare }
     requires open { other.old.closed ≡ false }
     ensures turned { OnOk result (other.new ≡ current.old) }
-    ensures frames { OnOk result (IsTrue (D.view other.old.disk).honest
-        → current.new.frames ≡ snapshot.now ∷ []) }
-    ensures kept { OnOk result (IsTrue (D.view other.old.disk).honest
-        → HasFrames (D.view current.new.disk) current.new.frames) }
-    ensures open { OnOk result (current.new.closed ≡ false) }
-    ensures end { OnOk result (current.new.end ≡ 13 + length snapshot.now) }
-    ensures spare { OnOk result
-        (current.new.spare + 1 ≡ other.old.spare + length other.old.frames) }
-    ensures any_moment { OnOk result (IsTrue (D.view other.old.disk).honest
-        → LeavesOnly (D.view other.old.disk) (D.view current.new.disk) (IsReplaced other.old.frames snapshot.now)) }
-    ensures takes { OnOk result
-        (Takes (length snapshot.now + 7) 6 (D.view other.old.disk) (D.view current.new.disk)) }
-    ensures no_fault { OnOk result (HasNoFault (D.view other.old.disk) (D.view current.new.disk)) }
+    ensures replaces { OnOk result (HoldsOnly D.view snapshot.now other.old current.new) }
+    ensures safely { OnOk result (ReplacesSafely D.view snapshot.now other.old current.new) }
 
-    // Where a call fails, the current one is as it was.
+    // Where a call fails, the current one is as it was, and the other one is closed.
     ensures stays { OnErr result (current.new ≡ current.old) }
-    ensures any_moment_err { OnErr result (IsTrue (D.view other.old.disk).honest
-        → LeavesOnly (D.view other.old.disk) (D.view other.new.disk) (IsReplaced other.old.frames snapshot.now)) }
-    ensures takes_err { OnErr result
-        (Takes (length snapshot.now + 7) 6 (D.view other.old.disk) (D.view other.new.disk)) }
-    ensures fails { OnErr result
-        (Fails (length snapshot.now + 7) 6 (D.view other.old.disk) (D.view other.new.disk)) }
+    ensures safely_err { OnErr result (ReplacesSafely D.view snapshot.now other.old other.new) }
+    ensures fails { OnErr result (FailsToReplace D.view snapshot.now other.old other.new) }
 {
     put_in_place(other, snapshot)?;
     mem::swap(current, other);
@@ -50,18 +33,9 @@ pub fn turn_over<D: Disk>(
 fn put_in_place<D: Disk>(journal: &mut Journal<D>, frame: &Frame) -> Result<(), Failed>
     requires spare { 0 < journal.old.spare }
     requires open { journal.old.closed ≡ false }
-    ensures frames { OnOk result (IsTrue (D.view journal.old.disk).honest → journal.new.frames ≡ frame.now ∷ []) }
-    ensures kept { OnOk result (IsTrue (D.view journal.old.disk).honest
-        → HasFrames (D.view journal.new.disk) journal.new.frames) }
-    ensures open { OnOk result (journal.new.closed ≡ false) }
-    ensures end { OnOk result (journal.new.end ≡ 13 + length frame.now) }
-    ensures any_moment { IsTrue (D.view journal.old.disk).honest
-        → LeavesOnly (D.view journal.old.disk) (D.view journal.new.disk) (IsReplaced journal.old.frames frame.now) }
-    ensures spare { OnOk result (journal.new.spare + 1 ≡ journal.old.spare + length journal.old.frames) }
-    ensures takes { Takes (length frame.now + 7) 6 (D.view journal.old.disk) (D.view journal.new.disk) }
-    ensures no_fault { OnOk result (HasNoFault (D.view journal.old.disk) (D.view journal.new.disk)) }
-    ensures fails { OnErr result
-        (Fails (length frame.now + 7) 6 (D.view journal.old.disk) (D.view journal.new.disk)) }
+    ensures replaces { OnOk result (HoldsOnly D.view frame.now journal.old journal.new) }
+    ensures safely { ReplacesSafely D.view frame.now journal.old journal.new }
+    ensures fails { OnErr result (FailsToReplace D.view frame.now journal.old journal.new) }
 {
     let Ok(()) = journal.restart() else {
         return Err(Failed);

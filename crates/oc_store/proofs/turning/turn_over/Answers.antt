@@ -8,15 +8,10 @@ returns-in_err-put_in_place-clause-stays g c =
     let p = err_from_is_err_and c.from_residual.result c.from_residual.ensures.1 in
     rw p.1 refl
 
-pub returns-in_err-put_in_place-clause-any_moment_err : goal.returns-in_err-put_in_place-clause-any_moment_err
-returns-in_err-put_in_place-clause-any_moment_err g c =
+pub returns-in_err-put_in_place-clause-safely_err : goal.returns-in_err-put_in_place-clause-safely_err
+returns-in_err-put_in_place-clause-safely_err g c =
     let p = err_from_is_err_and c.from_residual.result c.from_residual.ensures.1 in
-    rw p.1 c.put_in_place.ensures.any_moment
-
-pub returns-in_err-put_in_place-clause-takes_err : goal.returns-in_err-put_in_place-clause-takes_err
-returns-in_err-put_in_place-clause-takes_err g c =
-    let p = err_from_is_err_and c.from_residual.result c.from_residual.ensures.1 in
-    rw p.1 c.put_in_place.ensures.takes
+    rw p.1 c.put_in_place.ensures.safely
 
 pub returns-in_err-put_in_place-clause-fails : goal.returns-in_err-put_in_place-clause-fails
 returns-in_err-put_in_place-clause-fails g c =

@@ -12,7 +12,7 @@ returns-in_default-clause-any_moment g c =
     let number : s.generation ≡ c.args.self.now.generation = rw (← c.self.view_is) refl in
     rw (← c.self.view_is, c.in_default.ensures.stays) (λ is_open honest.
     let above : number_of (generation_of s.current.frames) < generation_in c.args.snapshot.now = omega (arith, number, i.numbered is_open honest.0, c.requires.above) in
-    failed_moments g.D.Disk.view s.side s.current.disk s.other.disk c.turn_over.new.other.disk s.current.frames s.other.frames c.args.snapshot.now (g.met.D.Disk.consistent s.current.disk honest.0) (i.kept_current is_open honest.0) (i.ordered is_open honest.0 honest.1) above (c.in_default.ensures.any_moment_err honest.1))
+    failed_moments g.D.Disk.view s.side s.current.disk s.other.disk c.turn_over.new.other.disk s.current.frames s.other.frames c.args.snapshot.now (g.met.D.Disk.consistent s.current.disk honest.0) (i.kept_current is_open honest.0) (i.ordered is_open honest.0 honest.1) above (c.in_default.ensures.safely_err.any_moment honest.1))
 
 pub returns-clause-turns : goal.returns-clause-turns
 returns-clause-turns g c =
@@ -23,11 +23,11 @@ returns-clause-turns g c =
       frames = search rules;
       kept = λ honest.
           let above : number_of (generation_of s.current.frames) < generation_in c.args.snapshot.now = omega (arith, number, i.numbered c.if-self.false honest.0, c.requires.above) in
-          let kept = subst (HasFrames (g.D.Disk.view c.turn_over.new.current.disk)) (c.in-Ok.ensures.frames honest.1) (c.in-Ok.ensures.kept honest.1) in
+          let kept = subst (HasFrames (g.D.Disk.view c.turn_over.new.current.disk)) (c.in-Ok.ensures.replaces.frames honest.1) (c.in-Ok.ensures.replaces.kept honest.1) in
           kept_recovers g.D.Disk.view (opposite s.side) c.turn_over.new.current.disk s.current.disk (c.args.snapshot.now ∷ []) s.current.frames kept (i.kept_current c.if-self.false honest.0) (current_other s.side s.current.frames c.args.snapshot.now above);
       end = search rules;
       spare = search rules;
-      later = λ honest. (c.in-Ok.ensures.any_moment honest).later;
+      later = λ honest. (c.in-Ok.ensures.safely.any_moment honest).later;
       takes = search rules;
       no_fault = search rules;
       other = search rules;
@@ -44,4 +44,4 @@ returns-clause-any_moment g c =
     let number : s.generation ≡ c.args.self.now.generation = rw (← c.self.view_is) refl in
     rw (← c.self.view_is, c.in-Ok.ensures.turned, c.opposite-self-inside.ensures) (λ is_open honest.
     let above : number_of (generation_of s.current.frames) < generation_in c.args.snapshot.now = omega (arith, number, i.numbered is_open honest.0, c.requires.above) in
-    turn_moments g.D.Disk.view s.side s.current.disk s.other.disk c.turn_over.new.current.disk s.current.frames s.other.frames c.args.snapshot.now (g.met.D.Disk.consistent s.current.disk honest.0) (i.kept_current is_open honest.0) (i.ordered is_open honest.0 honest.1) above (c.in-Ok.ensures.any_moment honest.1))
+    turn_moments g.D.Disk.view s.side s.current.disk s.other.disk c.turn_over.new.current.disk s.current.frames s.other.frames c.args.snapshot.now (g.met.D.Disk.consistent s.current.disk honest.0) (i.kept_current is_open honest.0) (i.ordered is_open honest.0 honest.1) above (c.in-Ok.ensures.safely.any_moment honest.1))

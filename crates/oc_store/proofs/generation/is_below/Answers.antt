@@ -1,5 +1,5 @@
 use Rattle.std.proofs.Common.{refl}
-use Rattle.oc_store.proofs.generations.is_below.Goals as goal
+use Rattle.oc_store.proofs.generation.is_below.Goals as goal
 
 pub returns-in-Some-Some : goal.returns-in-Some-Some
 returns-in-Some-Some c = rw (c.in-Some-Some.is-0, c.in-Some-Some.is-1) refl

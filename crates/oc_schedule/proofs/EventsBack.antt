@@ -1,5 +1,5 @@
 -- Lines of events are read as these events.
-use Rattle.std.proofs.Common.{◌≡◌, ℕ, ◌≤◌, false, Ok, refl, ◌∙◌, arith, codes, decimal}
+use Rattle.std.proofs.Common.{◌≡◌, ℕ, ◌≤◌, false, Ok, ◌∷◌, refl, ◌∙◌, arith, codes, decimal}
 use Rattle.std.specs.Str.{bytes_eq}
 use Rattle.oc_base.specs.Words.{node_in, number_in}
 use Rattle.oc_base.specs.declared.limits.TheConstants.{MAX_NODES}

@@ -1,4 +1,4 @@
-pub mod Arrivals
+pub mod GivenInputs
 pub mod Source
 pub mod Turns
 pub mod Sites

@@ -8,7 +8,7 @@ use Rattle.oc_base.specs.declared.limits.TheConstants.{MAX_BODY_BYTES, MAX_FIELD
 use Rattle.oc_http.specs.Fields.{Named, named, is_present, is_unusable, length_of, lengths, hosts, codings}
 use Rattle.oc_http.specs.Lengths.{fault_or}
 use Rattle.oc_http.specs.Fields.{has_host_fault}
-use Rattle.oc_http.specs.Requests.{head_of, is_post, read_request_parts, verb_of}
+use Rattle.oc_http.specs.Requests.{head_of, is_post, read_request_parts, method_of}
 use Rattle.std.specs.Prelude.{unwrap_or, ◌&&◌, not}
 use Rattle.oc_http.specs.Taking.{Took, SaysRequest, RefusesBody, RefusesRequest}
 use Rattle.oc_http.specs.declared.fault.HttpFault.{HttpFault}
@@ -166,7 +166,7 @@ fits false false false false false x y z u v n told head is says = short (nat_lt
 
 parts_fit : (method target : List ℕ) (minor : ℕ) (fields : List Named) (head : Head) → read_request_parts method target minor fields ≡ Ok head → head.length ≤ MAX_BODY_BYTES
 parts_fit method target minor fields head =
-    fits (nat_lt MAX_FIELDS (length fields)) (has_host_fault minor (hosts fields)) (is_present (codings fields)) (is_unusable (lengths fields)) (is_post (verb_of method) && not (is_present (lengths fields)))
+    fits (nat_lt MAX_FIELDS (length fields)) (has_host_fault minor (hosts fields)) (is_present (codings fields)) (is_unusable (lengths fields)) (is_post (method_of method) && not (is_present (lengths fields)))
     http.Fields http.Host (http.Coding (is_present (lengths fields))) (http.Length false) (http.Length true) (unwrap_or (length_of (lengths fields)) 0) (head_of method target minor fields) head refl
 
 pub body_fits : (bytes : List ℕ) (head : Head) → SaysRequest bytes head → head.length ≤ MAX_BODY_BYTES

@@ -10,7 +10,7 @@ use Rattle.oc_fetch.specs.declared.client_state.ClientState.{ClientState}
 use Rattle.oc_fetch.proofs.Spoken.{told_so, heard, heard_speaks, broken_speaks}
 use Rattle.oc_link.specs.Exchange.{Hears, HearsThenBreaks}
 use Rattle.oc_link.specs.LinkCalls.{Told, IfTold, OnOutgoing}
-use Rattle.oc_link.specs.LinkLoan.{LoanView, Dials, Told-same, Told-then}
+use Rattle.oc_link.specs.LinkBorrow.{BorrowView, ChangesOutgoing, Told-same, Told-then}
 use Rattle.oc_link.specs.Story.{Story, IsHeardOut}
 
 -- What a loan of the outgoing connection says of the link
@@ -21,7 +21,7 @@ told_at R a b x y p q t = subst (λ (o : Option Story). Told R o b) (sym p) (sub
 if_told_at : (b y : Option Story) → b ≡ y → IfTold y IsHeardOut → IfTold b IsHeardOut
 if_told_at b y q t = subst (λ (o : Option Story). IfTold o IsHeardOut) (sym q) t
 
-pub outgoing_heard : {S K L : Type 0} (view : S → LoanView) (story : L → Option Story) (takes : K → List ℕ → K → Type 0) (So : List ℕ → Bool → List ℕ → Type 0) (old new : S) (a b : L) (p q : K) → story a ≡ (view old).story → story b ≡ (view new).story → IsHeard (λ o given n. Dials (Hears given) (view o) (view n)) (λ o. IfTold (view o).story IsHeardOut) takes So old new p q → IsHeard (λ o given n. Told (OnOutgoing (Hears given)) (story o) (story n)) (λ l. IfTold (story l) IsHeardOut) takes So a b p q
+pub outgoing_heard : {S K L : Type 0} (view : S → BorrowView) (story : L → Option Story) (takes : K → List ℕ → K → Type 0) (So : List ℕ → Bool → List ℕ → Type 0) (old new : S) (a b : L) (p q : K) → story a ≡ (view old).story → story b ≡ (view new).story → IsHeard (λ o given n. ChangesOutgoing (Hears given) (view o) (view n)) (λ o. IfTold (view o).story IsHeardOut) takes So old new p q → IsHeard (λ o given n. Told (OnOutgoing (Hears given)) (story o) (story n)) (λ l. IfTold (story l) IsHeardOut) takes So a b p q
 outgoing_heard view story takes So old new a b p q first last h = record {
   reply = h.reply;
   over = h.over;
@@ -32,7 +32,7 @@ outgoing_heard view story takes So old new a b p q first last h = record {
   so = h.so;
 }
 
-outgoing_came : {S L : Type 0} (view : S → LoanView) (story : L → Option Story) (old new : S) (a b : L) (bytes : List ℕ) (end : GetEnd) → story a ≡ (view old).story → story b ≡ (view new).story → Came (λ o given n. Dials (Hears given) (view o) (view n)) (λ o given n. Dials (HearsThenBreaks given) (view o) (view n)) old bytes new end → Came (λ o given n. Told (OnOutgoing (Hears given)) (story o) (story n)) (λ o given n. Told (OnOutgoing (HearsThenBreaks given)) (story o) (story n)) a bytes b end
+outgoing_came : {S L : Type 0} (view : S → BorrowView) (story : L → Option Story) (old new : S) (a b : L) (bytes : List ℕ) (end : GetEnd) → story a ≡ (view old).story → story b ≡ (view new).story → Came (λ o given n. ChangesOutgoing (Hears given) (view o) (view n)) (λ o given n. ChangesOutgoing (HearsThenBreaks given) (view o) (view n)) old bytes new end → Came (λ o given n. Told (OnOutgoing (Hears given)) (story o) (story n)) (λ o given n. Told (OnOutgoing (HearsThenBreaks given)) (story o) (story n)) a bytes b end
 outgoing_came view story old new a b bytes ends.Link first last came = told_at (OnOutgoing (HearsThenBreaks bytes)) (story a) (story b) (view old).story (view new).story first last came.story
 outgoing_came view story old new a b bytes ends.Done first last came = told_at (OnOutgoing (Hears bytes)) (story a) (story b) (view old).story (view new).story first last came.story
 outgoing_came view story old new a b bytes ends.BadUrl first last came = told_at (OnOutgoing (Hears bytes)) (story a) (story b) (view old).story (view new).story first last came.story
@@ -42,7 +42,7 @@ outgoing_came view story old new a b bytes ends.Reply first last came = told_at 
 outgoing_came view story old new a b bytes ends.Sink first last came = told_at (OnOutgoing (Hears bytes)) (story a) (story b) (view old).story (view new).story first last came.story
 outgoing_came view story old new a b bytes ends.Memory first last came = told_at (OnOutgoing (Hears bytes)) (story a) (story b) (view old).story (view new).story first last came.story
 
-pub outgoing_last : {S K L : Type 0} (view : S → LoanView) (story : L → Option Story) (takes breaks : K → List ℕ → K → Type 0) (So : List ℕ → Bool → List ℕ → GetEnd → Type 0) (old new : S) (a b : L) (p q : K) (end : GetEnd) → story a ≡ (view old).story → story b ≡ (view new).story → IsLastHeard (λ o given n. Dials (Hears given) (view o) (view n)) (λ o given n. Dials (HearsThenBreaks given) (view o) (view n)) (λ o. IfTold (view o).story IsHeardOut) takes breaks So old new p q end → IsLastHeard (λ o given n. Told (OnOutgoing (Hears given)) (story o) (story n)) (λ o given n. Told (OnOutgoing (HearsThenBreaks given)) (story o) (story n)) (λ l. IfTold (story l) IsHeardOut) takes breaks So a b p q end
+pub outgoing_last : {S K L : Type 0} (view : S → BorrowView) (story : L → Option Story) (takes breaks : K → List ℕ → K → Type 0) (So : List ℕ → Bool → List ℕ → GetEnd → Type 0) (old new : S) (a b : L) (p q : K) (end : GetEnd) → story a ≡ (view old).story → story b ≡ (view new).story → IsLastHeard (λ o given n. ChangesOutgoing (Hears given) (view o) (view n)) (λ o given n. ChangesOutgoing (HearsThenBreaks given) (view o) (view n)) (λ o. IfTold (view o).story IsHeardOut) takes breaks So old new p q end → IsLastHeard (λ o given n. Told (OnOutgoing (Hears given)) (story o) (story n)) (λ o given n. Told (OnOutgoing (HearsThenBreaks given)) (story o) (story n)) (λ l. IfTold (story l) IsHeardOut) takes breaks So a b p q end
 outgoing_last view story takes breaks So old new a b p q end first last h = record {
   reply = h.reply;
   over = h.over;

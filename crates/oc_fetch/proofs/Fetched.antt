@@ -19,7 +19,7 @@ use Rattle.oc_fetch.proofs.Dialling.{all_dial, fronts_made}
 use Rattle.oc_fetch.proofs.OneHead.{OneAnswer}
 use Rattle.oc_fetch.proofs.Spoken.{told_so}
 use Rattle.oc_link.specs.LinkCalls.{Told}
-use Rattle.oc_link.specs.LinkLoan.{Told-same}
+use Rattle.oc_link.specs.LinkBorrow.{Told-same}
 use Rattle.oc_link.specs.Story.{Story, dials}
 use Rattle.url.specs.Parts.{Parts}
 

@@ -12,7 +12,7 @@ use Rattle.oc_fetch.proofs.Made.{Shows, IsReady, shows_then, shows_makes, behind
 use Rattle.oc_fetch.proofs.Moving.{Then, sent_then}
 use Rattle.oc_fetch.proofs.Spoken.{told_so, some_is}
 use Rattle.oc_link.specs.LinkCalls.{Told}
-use Rattle.oc_link.specs.LinkLoan.{Told-same, Told-then}
+use Rattle.oc_link.specs.LinkBorrow.{Told-same, Told-then}
 use Rattle.oc_link.specs.Story.{Story, hung_up}
 
 -- turns went by and led to this state

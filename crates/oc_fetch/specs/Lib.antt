@@ -11,4 +11,3 @@ pub mod Conversations
 pub mod Downloads
 pub mod Completeness
 pub mod Redirections
-pub mod Meanings

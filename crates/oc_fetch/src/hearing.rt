@@ -11,7 +11,6 @@ use crate::client_state::ClientState;
 use crate::content::pass_content;
 use crate::end::GetEnd;
 use crate::extent::Extent;
-use crate::meaning::{Meaning, meaning_of};
 use crate::redirection::redirect;
 use crate::room::Room;
 use crate::wish::Wish;
@@ -40,10 +39,10 @@ pub(crate) fn hear<S: Source, K: Sink>(
     ensures sink_cause { IsErrOf result GetEnd.Sink → Rose (K.faults sink.old) (K.faults sink.new) }
 {
     let head = room.heads.read_response_head(source)?;
-    match meaning_of(head.status) {
-        Meaning::Content => take_content(alloc, wish, &head, state, room, source, sink),
-        Meaning::Redirection => redirect(alloc, state, head.location),
-        Meaning::Refusal => Err(GetEnd::Refused(head.status)),
+    match head.status {
+        200 => take_content(alloc, wish, &head, state, room, source, sink),
+        302 => redirect(alloc, state, head.location),
+        status => Err(GetEnd::Refused(status)),
     }
 }
 

@@ -27,7 +27,6 @@ mod end;
 mod exchange;
 mod extent;
 mod hearing;
-mod meaning;
 mod query;
 mod redirection;
 mod room;

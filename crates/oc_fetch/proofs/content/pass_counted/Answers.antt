@@ -13,19 +13,19 @@ returns-in_err-moved-clause-stopped g c =
     let fits : (c.args.count - c.pieces.left) + most ≤ c.args.count = omega (arith, length-take c.min-most.result c.pieces.buffer, c.min-most.ensures, c.pieces.invariant.within) in
     rw (p.1, p.2) (counted_halted g.S.Source.gives g.S.Source.fails g.S.Source.ended g.K.Sink.takes g.K.Sink.fails c.args.count c.args.source.now c.move_piece.new.source c.args.sink.now c.move_piece.new.sink _ (halted_within g.S.Source.gives g.S.Source.fails g.K.Sink.takes g.K.Sink.fails _ c.args.count _ _ _ _ _ fits halted))
 
-pub returns-in_default-clause-stopped : goal.returns-in_default-clause-stopped
-returns-in_default-clause-stopped g c =
+pub returns-then-moved-eq0-clause-stopped : goal.returns-then-moved-eq0-clause-stopped
+returns-then-moved-eq0-clause-stopped g c =
     let moved = moved_then g.S.Source.gives g.K.Sink.takes g.met.S.Source.gives_then g.met.K.Sink.takes_then c.args.source.now c.pieces.source c.move_piece.new.source c.args.sink.now c.pieces.sink c.move_piece.new.sink (c.args.count - c.pieces.left) c.in_ok-moved.moved c.pieces.invariant.moved c.in_ok-moved.ensures.moved in
-    counted_ended g.S.Source.gives g.S.Source.fails g.S.Source.ended g.K.Sink.takes g.K.Sink.fails c.args.count c.args.source.now c.move_piece.new.source c.args.sink.now c.move_piece.new.sink _ moved (omega (arith, c.in_default.ensures.over)) (c.in_ok-moved.ensures.end c.in_default.ensures.over)
+    counted_ended g.S.Source.gives g.S.Source.fails g.S.Source.ended g.K.Sink.takes g.K.Sink.fails c.args.count c.args.source.now c.move_piece.new.source c.args.sink.now c.move_piece.new.sink _ moved (omega (arith, c.if-moved-eq0.true)) (c.in_ok-moved.ensures.end c.if-moved-eq0.true)
 
 pub pieces-preserved : goal.pieces-preserved
 pieces-preserved g c =
     let moved = moved_then g.S.Source.gives g.K.Sink.takes g.met.S.Source.gives_then g.met.K.Sink.takes_then c.args.source.now c.pieces.source c.move_piece.new.source c.args.sink.now c.pieces.sink c.move_piece.new.sink (c.args.count - c.pieces.left) c.in_ok-moved.moved c.pieces.invariant.moved c.in_ok-moved.ensures.moved in
     let within : c.in_ok-moved.moved ≤ c.pieces.left = omega (arith, length-take c.min-most.result c.pieces.buffer, c.min-most.ensures, c.in_ok-moved.ensures.within) in
-    let counts : (c.args.count - c.pieces.left) + c.in_ok-moved.moved ≡ c.args.count - c.in-Some.rest = omega (arith, within, c.pieces.invariant.within, c.in-Some.ensures.left.1) in
+    let counts : (c.args.count - c.pieces.left) + c.in_ok-moved.moved ≡ c.args.count - (c.pieces.left - c.in_ok-moved.moved) = omega (arith, within, c.pieces.invariant.within) in
     record {
       moved = subst (λ n. IsMoved g.S.Source.gives g.K.Sink.takes c.args.source.now c.move_piece.new.source c.args.sink.now c.move_piece.new.sink n) counts moved;
-      within = omega (arith, c.pieces.invariant.within, c.in-Some.ensures.left.1);
+      within = omega (arith, c.pieces.invariant.within);
       source_count = omega arith;
       sink_count = omega arith;
     }

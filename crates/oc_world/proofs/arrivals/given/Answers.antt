@@ -9,7 +9,7 @@ use Rattle.oc_world.proofs.arrivals.given.Goals as goal
 -- the copy is this input, which is no message
 pub returns-in_ok-input-in_default : goal.returns-in_ok-input-in_default
 returns-in_ok-input-in_default c =
-    let copied : c.in_ok-input-in_default.input ≡ c.args.input.now = c.in_ok-input-in_default.ensures.cases in
+    let copied : c.in_ok-input-in_default.input ≡ c.args.input.now = c.in_ok-input-in_default.ensures in
     record {
       arrival = λ w. ap (λ (i : Input). option_map arrival_at (Some (c.args.node, i))) copied ∙ given_arrives w c.args.node c.args.input.now (λ m e. c.in_default.not-Delivered m e);
       lawful = λ nodes node is. (node, subst (IsInput nodes c.args.node) (sym copied) is);

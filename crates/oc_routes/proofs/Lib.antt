@@ -1,2 +1,3 @@
 pub mod StepAnswers
 pub mod Names
+pub mod InputLines

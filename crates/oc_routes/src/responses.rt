@@ -13,7 +13,7 @@ use crate::refusals::bare_reply;
 use crate::response::{Content, Response};
 use crate::{Asks, Manner};
 use oc_base::{Bytes, GroupName, Memory, NodeId, Text};
-use oc_http::{Persistence, Framing, Reply, write_reply_head, write_response};
+use oc_http::{Framing, Persistence, Reply, write_reply_head, write_response};
 use oc_model::{Answer, Message};
 use oc_probe::PROBE_BYTES;
 use oc_updown::{follow_location, location};

@@ -32,10 +32,17 @@ fn given(node: NodeId, input: &Input) -> Result<Option<(NodeId, Input)>, Memory>
     match input {
         Input::Delivered(_) => Ok(None),
         _ => {
-            let input = input.clone()?;
+            let input = copy_of(input)?;
             Ok(Some((node, input)))
         }
     }
+}
+
+/// A copy of an input.
+fn copy_of(input: &Input) -> Result<Input, Memory>
+    ensures { IfOk result (λ copy. copy ≡ input.now) }
+{
+    Ok(input.clone()?)
 }
 
 /// The delivery of the message of a number to its receiver.

@@ -1,8 +1,6 @@
-//! The limits and codes as the protocol's pages give them, so that no constant of the code can change unseen:
-//! every contract cites the constants, and this law says which numbers they are.
-#![tactic(auto)]
+//! Which numbers the limits are.
 
-ghost use Rattle.std.specs.Prelude.{◌≡◌, ◌^◌, codes};
+ghost use Rattle.std.specs.Prelude.{◌≡◌, ◌^◌};
 ghost use Rattle.oc_base.specs.declared.limits.TheConstants.{
   MAX_NODES,
   MAX_CHAIN,
@@ -41,7 +39,8 @@ ghost use Rattle.oc_probe.specs.declared.recent.TheConstants.{KEPT as KEPT_RATES
 ghost use Rattle.oc_routes.specs.declared.connections.TheConstants.{MAX_REQUESTS};
 ghost use Rattle.oc_updown.specs.declared.leases.TheConstants.{LEASE_TIME};
 
-/// Which numbers the limits are.
+/// The limits, as the protocol's pages give them: every contract cites the constants, and this law says which numbers they
+/// are, so that none of them can change unseen.
 pub fn limits_are_as_published()
     ensures network { (MAX_NODES ≡ 1024) × (MAX_CHAIN ≡ 16) × (MAX_AREA ≡ 255) × (MAX_DEPTH ≡ 1000) × (MAX_ANCESTORS ≡ 1000) }
     ensures measures { (MAX_RATE ≡ 2 ^ 40) × (MAX_HOPS ≡ 255) × (MAX_TIME ≡ 2 ^ 40) × (LEASE_TIME ≡ 30) }

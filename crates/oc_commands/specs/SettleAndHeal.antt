@@ -15,18 +15,18 @@ use Rattle.oc_model.specs.declared.word.Word.TheVariants.{Healed, Settled, Unrea
 
 -- the world is settled, parents know their children's last numbers, and the root lists exactly the live tree, with each node's own
 -- number and client count
-pub record IsCalm (w : World) : Type 0 where
+pub record IsSettledAndListed (w : World) : Type 0 where
   pub settled : IsSettled w
   pub told : IsTold w
   pub lists : ListsExactly w
   pub counts : CountsExactly w
 
--- settle is refused exactly where the world is not ready, and then nothing changes; after `settled n` the world is calm, and n is the
--- stated number of acts
+-- settle is refused exactly where the world is not ready, and then nothing changes; after `settled n` the world is settled and listed,
+-- and n is the stated number of acts
 pub record SettleHolds (w : World) : Type 0 where
   pub refused : (word_of w Settle ≡ Unready) ↔ (IsReady w → ⊥)
   pub unchanged : word_of w Settle ≡ Unready → next_world w Settle ≡ w
-  pub calm : (n : ℕ) → word_of w Settle ≡ Settled n → IsCalm (next_world w Settle)
+  pub exact : (n : ℕ) → word_of w Settle ≡ Settled n → IsSettledAndListed (next_world w Settle)
   pub number : (n : ℕ) → word_of w Settle ≡ Settled n → n ≡ acts_to_settle w
 
 -- heal is refused exactly where the world is not able, and then nothing changes; after `healed n` the world is settled, parents know
@@ -39,10 +39,10 @@ pub record HealHolds (w : World) : Type 0 where
   pub number : (n : ℕ) → word_of w Heal ≡ Healed n → (m : ℕ) × (leader w ≡ Some m) × (n ≡ acts_to_heal w m)
 
 -- what is so where an event comes in this world
-abbrev pub CalmHolds : World → Event → Type 0
-CalmHolds w Settle = SettleHolds w
-CalmHolds w Heal = HealHolds w
-CalmHolds w e = Unit {0}
+abbrev pub SettleAndHealHold : World → Event → Type 0
+SettleAndHealHold w Settle = SettleHolds w
+SettleAndHealHold w Heal = HealHolds w
+SettleAndHealHold w e = Unit {0}
 
 -- this is so at each of these events, in the world to which those before it lead
 abbrev pub AtEach : (World → Event → Type 0) → World → List Event → Type 0

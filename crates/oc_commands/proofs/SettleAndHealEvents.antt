@@ -9,7 +9,7 @@ use Rattle.oc_model.specs.World.{World}
 use Rattle.oc_model.specs.declared.event.Event.{Event}
 use Rattle.oc_model.specs.declared.event.Event.TheVariants.{Up, Crash, Stop, Do, Held, Show, Settle, Heal}
 use Rattle.oc_model.specs.declared.word.Word.TheVariants.{Healed, Settled, Unready}
-use Rattle.oc_commands.specs.Calm.{AtEach, CalmHolds, HealHolds, SettleHolds}
+use Rattle.oc_commands.specs.SettleAndHeal.{AtEach, SettleAndHealHold, HealHolds, SettleHolds}
 
 -- what is so of any event after any others is so at each
 pub at_each : (P : World → Event → Type 0) (w : World) → ((front : List Event) (e : Event) → P (world_after w front) e) → (es : List Event) → AtEach P w es
@@ -52,7 +52,7 @@ settle_holds : (w : World) → SettleLaws w → SettleHolds w
 settle_holds w laws = record {
   refused = laws.refused;
   unchanged = λ unready. laws.unchanged (laws.refused.0 unready);
-  calm = λ n told.
+  exact = λ n told.
       let ready = ready_where_settled w laws.tested n told in
       record { settled = laws.settles ready; told = laws.tells ready; lists = (laws.lists ready).0; counts = (laws.lists ready).1 };
   number = λ n told. same_settled w n _ told (laws.takes (ready_where_settled w laws.tested n told));
@@ -80,12 +80,12 @@ heal_holds w laws = record {
 }
 
 -- so at each event
-pub calm_holds : (w : World) → SettleLaws w → HealLaws w → (e : Event) → CalmHolds w e
-calm_holds w settle heal Settle = settle_holds w settle
-calm_holds w settle heal Heal = heal_holds w heal
-calm_holds w settle heal (Up x) = tt
-calm_holds w settle heal (Crash x) = tt
-calm_holds w settle heal (Stop calls image a) = tt
-calm_holds w settle heal (Do a) = tt
-calm_holds w settle heal (Held x) = tt
-calm_holds w settle heal (Show x) = tt
+pub settle_and_heal_hold : (w : World) → SettleLaws w → HealLaws w → (e : Event) → SettleAndHealHold w e
+settle_and_heal_hold w settle heal Settle = settle_holds w settle
+settle_and_heal_hold w settle heal Heal = heal_holds w heal
+settle_and_heal_hold w settle heal (Up x) = tt
+settle_and_heal_hold w settle heal (Crash x) = tt
+settle_and_heal_hold w settle heal (Stop calls image a) = tt
+settle_and_heal_hold w settle heal (Do a) = tt
+settle_and_heal_hold w settle heal (Held x) = tt
+settle_and_heal_hold w settle heal (Show x) = tt

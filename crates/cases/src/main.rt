@@ -23,12 +23,12 @@ fn main(rt: HostRuntime) -> io::Result<ExitCode> {
 
 /// Plays all tables.
 fn play(rt: &HostRuntime) -> io::Result<()> {
-    node_cases::disk::play(rt)?;
-    node_cases::part::play(rt)?;
+    node_cases::storage::play(rt)?;
+    node_cases::decisions::play(rt)?;
     wire_cases::wire::play(rt)?;
-    serve_cases::edge::play(rt)?;
-    wire_cases::text::play(rt)?;
-    node_cases::keep::play(rt)?;
+    serve_cases::connections::play(rt)?;
+    wire_cases::service::play(rt)?;
+    node_cases::node::play(rt)?;
     serve_cases::serve::play(rt)?;
     process_tools::play(rt)
 }

@@ -1,22 +1,15 @@
-//! Plays tables of worked cases over what a node keeps on disks, and prints a line for each case: its name and
-//! `ok`, or what came in place of what has to come.
+//! Worked cases of one node: what it stores, what it decides, and what it does with its files.
 //!
-//! Each table is a file in `crates/cases/data/disk`, whose first lines say how its rows are written, and a module
-//! that puts the words of a row.
+//! Each module plays the tables of one folder of `crates/cases/data`, and prints a line for each row: the names of its table
+//! and of itself and `ok`, or what came in place of what has to come. The first lines of a table say how its rows are
+//! written.
 //!
-//! Plays tables of worked cases over what a node decides and remembers, and prints a line for each case: its name
-//! and `ok`, or what came in place of what has to come.
-//!
-//! Each table is a file in `crates/cases/data/part`, whose first lines say how its rows are written, and a module
-//! that puts the words of a row.
-//!
-//! Plays tables of worked cases over a node, alone and on its three files, and prints a line for each case: its
-//! name and `ok`, or what came in place of what has to come.
-//!
-//! Each table is a file in `crates/cases/data/keep`, whose first lines say how its rows are written, and a module
-//! that puts the words of a row.
+//! - `storage`: journals, control records, the two control files, and the content log, on disks that fail and crash.
+//! - `decisions`: certificate tables, change logs, leases, adoptions, places in the tree, roots, measures and redirection.
+//! - `node`: a node alone, step by step; and one on its three files, with every crash.
 #![tactic(auto)]
 
-pub mod disk;
-pub mod keep;
-pub mod part;
+mod acting;
+pub mod decisions;
+pub mod node;
+pub mod storage;

@@ -1,6 +1,6 @@
 mod Parts
 pub mod Told
-mod CalmEvents
+mod SettleAndHealEvents
 pub mod Statuses
 mod Replayed
 pub mod Completes

@@ -5,17 +5,13 @@ use Rattle.std.proofs.lemmas.List.{take_more, take-append-le, take-append-drop, 
 use Rattle.std.proofs.Math.Seq.{drop-cons, take-append-add}
 use Rattle.std.specs.Prelude.{Result, Ok, Err, OnOk, OnErr}
 use Rattle.oc_io.specs.Faults.{Rose}
-use Rattle.oc_commands.specs.Run.{joined, IsWrittenOrCut}
+use Rattle.oc_http.specs.Parts.{joined}
+use Rattle.oc_commands.specs.Run.{IsWrittenOrCut}
 
+-- parts behind parts
 joined-append : (xs ys : List (Bor (List ℕ))) → joined (xs ++ ys) ≡ joined xs ++ joined ys
 joined-append [] ys = refl
 joined-append (x ∷ xs) ys = ap (λ (l : List ℕ). x.now ++ l) (joined-append xs ys) ∙ sym (append_assoc x.now (joined xs) (joined ys))
-
--- one part more
-pub joined_more : (parts : List (Bor (List ℕ))) (i : ℕ) (d : Bor (List ℕ)) → i < length parts → joined (take i parts) ++ (get_or parts i d).now ≡ joined (take (i + 1) parts)
-joined_more parts i d inside =
-    ap (λ (l : List ℕ). joined (take i parts) ++ l) (sym (append-nil (get_or parts i d).now))
-    ∙ (sym (joined-append (take i parts) (get_or parts i d ∷ [])) ∙ ap joined (sym (take_more parts i d inside)))
 
 -- the parts so far and a prefix of the next are a prefix of all
 pub joined_front : (parts : List (Bor (List ℕ))) (i n : ℕ) (d : Bor (List ℕ)) → i < length parts → n < length (get_or parts i d).now →

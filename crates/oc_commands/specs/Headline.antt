@@ -7,7 +7,7 @@ use Rattle.oc_model.specs.Claims.{HoldPrefixes, HoldAcknowledged, SealedAreWhole
 use Rattle.oc_model.specs.ClaimsTree.{IsExplained, IsInformed}
 use Rattle.oc_model.specs.World.{new_world}
 use Rattle.oc_schedule.specs.Script.{Script}
-use Rattle.oc_commands.specs.Calm.{AtEach, CalmHolds}
+use Rattle.oc_commands.specs.SettleAndHeal.{AtEach, SettleAndHealHold}
 
 -- of the new world of its header, of each world to which its events lead, one after another, and of those inside settle and heal;
 -- and what settle and heal do, at each such event
@@ -20,4 +20,4 @@ pub record HeadlineHolds (s : Script) : Type 0 where
   pub explained : Throughout IsExplained (new_world s.header) s.events
   pub informed : Throughout IsInformed (new_world s.header) s.events
   pub settled : Throughout SettledListsExactly (new_world s.header) s.events
-  pub calm : AtEach CalmHolds (new_world s.header) s.events
+  pub settle_and_heal : AtEach SettleAndHealHold (new_world s.header) s.events

@@ -1,5 +1,5 @@
 pub mod Outside
-pub mod Calm
+pub mod SettleAndHeal
 pub mod Headline
 pub mod AtReplay
 pub mod AtGen

@@ -28,14 +28,14 @@ use Rattle.oc_commands.specs.declared.ending.End.{End}
 use Rattle.oc_commands.specs.declared.ending.End.TheVariants.{Helped, HelpFailed, Misused, NoMemory, Replayed, Generated, Listed, Checked, Got, Served}
 use Rattle.oc_commands.specs.declared.generating.GenEnd.{GenEnd}
 use Rattle.oc_commands.specs.declared.generating.GenEnd.TheVariants as gens
-use Rattle.oc_commands.specs.declared.lines.Line.{Line}
+use Rattle.oc_commands.specs.declared.lines.ErrorLine.{ErrorLine}
 use Rattle.oc_commands.specs.declared.listing.RulesEnd.{RulesEnd}
 use Rattle.oc_commands.specs.declared.listing.RulesEnd.TheVariants as lists
 use Rattle.oc_commands.specs.declared.serving.ServiceEnd.{ServiceEnd}
 use Rattle.oc_commands.specs.declared.serving.ServiceEnd.TheVariants as services
 
 -- the text of a line in parts
-abbrev pub text_of : Line → List ℕ
+abbrev pub text_of : ErrorLine → List ℕ
 text_of l = l.first.now ++ (l.second.now ++ (l.third.now ++ (l.fourth.now ++ (l.end.now ++ []))))
 
 -- these parts, and the end of a line

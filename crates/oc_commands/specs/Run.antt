@@ -1,6 +1,5 @@
 -- What had happened outside at each end of a run.
 use Rattle.std.specs.Prelude.{◌≡◌, ℕ, ◌<◌, ◌⊎◌, Bool, List, [], ◌∷◌, ◌++◌, length, Option, Some, None, ⊤}
-use Rattle.std.specs.Borrow.{Bor}
 use Rattle.oc_io.specs.Faults.{Rose}
 use Rattle.oc_replay.specs.Pieces.{SomeFront}
 use Rattle.oc_words.specs.declared.request.Download.{Download}
@@ -18,11 +17,6 @@ use Rattle.oc_commands.specs.AtRules.{HappenedAtRules}
 use Rattle.oc_commands.specs.Outside.{Outside}
 use Rattle.oc_commands.specs.declared.ending.End.{End}
 use Rattle.oc_commands.specs.declared.ending.End.TheVariants.{Helped, HelpFailed, Misused, NoMemory, Replayed, Generated, Listed, Checked, Got, Served}
-
--- parts of a text, one after the other
-abbrev pub joined : List (Bor (List ℕ)) → List ℕ
-joined [] = []
-joined (part ∷ parts) = part.now ++ joined parts
 
 -- the text was taken, or a prefix of it and then a call failed
 abbrev pub IsWrittenOrCut : {E : Type 0} → (E → List ℕ → E → Type 0) → (E → List ℕ → E → Type 0) → (E → ℕ) → E → E → List ℕ → Type 0

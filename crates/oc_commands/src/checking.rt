@@ -30,13 +30,13 @@ pub fn check_files<K: Sink, D: Disk>(
     alloc: Global,
     member: Member,
     out: &mut K,
-    control_a: &mut D,
-    control_b: &mut D,
+    control: &mut D,
+    alternate: &mut D,
     content: &mut D,
 ) -> CheckEnd
     requires { IsMember member }
     ensures happened { HappenedAtCheck
-        (at_files D.view (disks control_a.old control_b.old content.old) (disks control_a.new control_b.new content.new))
+        (at_files D.view (disks control.old alternate.old content.old) (disks control.new alternate.new content.new))
         (at_sink K.takes K.fails K.faults out.old out.new) member result }
     ensures count { NoFall (K.faults out.old) (K.faults out.new) }
 {
@@ -46,8 +46,8 @@ pub fn check_files<K: Sink, D: Disk>(
         id,
         member.nodes,
         member.chain,
-        control_a,
-        control_b,
+        control,
+        alternate,
         content,
     ) {
         Ok(text) => match write_all(out, &text) {

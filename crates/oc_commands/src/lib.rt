@@ -6,7 +6,8 @@
 //! their contracts speak of, and `Happened` says for each end what then holds.
 //!
 //! Where a replay is done, [`headline_holds`] is part of that: what holds of every world of the schedule,
-//! also inside settle and heal, and what settle and heal leave and report.
+//! also inside settle and heal, and what settle and heal leave and report. [`limits_are_as_published`] says which numbers the
+//! limits are that all these contracts cite.
 #![tactic(auto)]
 
 mod checking;
@@ -17,6 +18,7 @@ mod generating;
 mod getting;
 mod headline;
 mod helping;
+mod limits;
 mod lines;
 mod listing;
 mod replaying;
@@ -31,6 +33,7 @@ pub use generating::{GenEnd, write_sample};
 pub use getting::download;
 pub use headline::headline_holds;
 pub use helping::write_help;
+pub use limits::limits_are_as_published;
 pub use listing::{RulesEnd, list_rules};
 pub use oc_words::Status;
 pub use replaying::replay_input;

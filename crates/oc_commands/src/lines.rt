@@ -23,7 +23,7 @@ use oc_service::{NodeEnd, TurnEnd};
 
 /// A line in parts, some of which are empty.
 #[derive(Clone, Copy)]
-pub(crate) struct Line<'a> {
+pub(crate) struct ErrorLine<'a> {
     pub(crate) first: &'a str,
     pub(crate) second: &'a str,
     pub(crate) third: &'a str,
@@ -33,10 +33,10 @@ pub(crate) struct Line<'a> {
 }
 
 /// No line.
-pub(crate) fn no_line<'a>() -> Line<'a>
+pub(crate) fn no_line<'a>() -> ErrorLine<'a>
     ensures { text_of result ≡ [] }
 {
-    Line {
+    ErrorLine {
         first: "",
         second: "",
         third: "",
@@ -46,10 +46,10 @@ pub(crate) fn no_line<'a>() -> Line<'a>
 }
 
 /// The line of this text.
-pub(crate) fn short_line(text: &str) -> Line<'_>
+pub(crate) fn short_line(text: &str) -> ErrorLine<'_>
     ensures { text_of result ≡ short_line text.entry.now }
 {
-    Line {
+    ErrorLine {
         first: text,
         second: "",
         third: "",
@@ -59,12 +59,12 @@ pub(crate) fn short_line(text: &str) -> Line<'_>
 }
 
 /// The line of an end of a replay.
-pub(crate) fn line_of_replay(end: ReplayEnd, digits: &mut Buffer) -> Line<'_>
+pub(crate) fn line_of_replay(end: ReplayEnd, digits: &mut Buffer) -> ErrorLine<'_>
     ensures { text_of result ≡ line_of_replay end }
 {
     match end {
         ReplayEnd::Done => no_line(),
-        ReplayEnd::Text { line, why } => Line {
+        ReplayEnd::Text { line, why } => ErrorLine {
             first: "overcast: line ",
             second: digits.format(line),
             third: ": ",
@@ -79,10 +79,10 @@ pub(crate) fn line_of_replay(end: ReplayEnd, digits: &mut Buffer) -> Line<'_>
 }
 
 /// The line of a limit that was passed.
-fn limit_line(what: What, digits: &mut Buffer) -> Line<'_>
+fn limit_line(what: What, digits: &mut Buffer) -> ErrorLine<'_>
     ensures { text_of result ≡ limit_line what }
 {
-    Line {
+    ErrorLine {
         first: "overcast: limit ",
         second: what.word(),
         third: " ",
@@ -92,7 +92,7 @@ fn limit_line(what: What, digits: &mut Buffer) -> Line<'_>
 }
 
 /// The line of an end of `gen`.
-pub(crate) fn line_of_gen<'a>(end: GenEnd) -> Line<'a>
+pub(crate) fn line_of_gen<'a>(end: GenEnd) -> ErrorLine<'a>
     ensures { text_of result ≡ line_of_gen end }
 {
     match end {
@@ -103,7 +103,7 @@ pub(crate) fn line_of_gen<'a>(end: GenEnd) -> Line<'a>
 }
 
 /// The line of an end of `rules`.
-pub(crate) fn line_of_rules(end: RulesEnd, digits: &mut Buffer) -> Line<'_>
+pub(crate) fn line_of_rules(end: RulesEnd, digits: &mut Buffer) -> ErrorLine<'_>
     ensures { text_of result ≡ line_of_rules end }
 {
     match end {
@@ -115,7 +115,7 @@ pub(crate) fn line_of_rules(end: RulesEnd, digits: &mut Buffer) -> Line<'_>
 }
 
 /// The line where there is no configuration.
-pub(crate) fn line_of_config(end: ConfigEnd, digits: &mut Buffer) -> Line<'_>
+pub(crate) fn line_of_config(end: ConfigEnd, digits: &mut Buffer) -> ErrorLine<'_>
     ensures { text_of result ≡ line_of_config end }
 {
     match end {
@@ -126,7 +126,7 @@ pub(crate) fn line_of_config(end: ConfigEnd, digits: &mut Buffer) -> Line<'_>
 }
 
 /// The line of a fault of a configuration.
-fn line_of_fault(fault: ConfigFault, digits: &mut Buffer) -> Line<'_>
+fn line_of_fault(fault: ConfigFault, digits: &mut Buffer) -> ErrorLine<'_>
     ensures { text_of result ≡ line_of_fault fault }
 {
     match fault {
@@ -140,10 +140,10 @@ fn line_of_fault(fault: ConfigFault, digits: &mut Buffer) -> Line<'_>
 }
 
 /// The line of a text and a key after it.
-fn key_line(text: &str, key: Key) -> Line<'_>
+fn key_line(text: &str, key: Key) -> ErrorLine<'_>
     ensures { text_of result ≡ line text.entry.now (key_text key) [] [] }
 {
-    Line {
+    ErrorLine {
         first: text,
         second: key.word(),
         third: "",
@@ -153,17 +153,17 @@ fn key_line(text: &str, key: Key) -> Line<'_>
 }
 
 /// The line of an id that two nodes have.
-fn repeat_line(id: u32, digits: &mut Buffer) -> Line<'_>
+fn repeat_line(id: u32, digits: &mut Buffer) -> ErrorLine<'_>
     ensures { text_of result ≡ line_of_fault (ConfigFault.Repeat id) }
 {
     with_word("overcast: config: repeat ", digits.format(id))
 }
 
 /// The line of a bad line of the measures.
-fn measure_line(line: u32, why: Why, digits: &mut Buffer) -> Line<'_>
+fn measure_line(line: u32, why: Why, digits: &mut Buffer) -> ErrorLine<'_>
     ensures { text_of result ≡ line_of_fault (ConfigFault.Measure line why) }
 {
-    Line {
+    ErrorLine {
         first: "overcast: config: measure ",
         second: digits.format(line),
         third: ": ",
@@ -173,10 +173,10 @@ fn measure_line(line: u32, why: Why, digits: &mut Buffer) -> Line<'_>
 }
 
 /// The line of a text and a word after it.
-fn with_word<'a>(text: &'a str, word: &'a str) -> Line<'a>
+fn with_word<'a>(text: &'a str, word: &'a str) -> ErrorLine<'a>
     ensures { text_of result ≡ line text.entry.now word.entry.now [] [] }
 {
-    Line {
+    ErrorLine {
         first: text,
         second: word,
         third: "",
@@ -186,7 +186,7 @@ fn with_word<'a>(text: &'a str, word: &'a str) -> Line<'a>
 }
 
 /// The line of an end of `check`.
-pub(crate) fn line_of_check(end: CheckEnd, digits: &mut Buffer) -> Line<'_>
+pub(crate) fn line_of_check(end: CheckEnd, digits: &mut Buffer) -> ErrorLine<'_>
     ensures { text_of result ≡ line_of_check end }
 {
     match end {
@@ -197,19 +197,19 @@ pub(crate) fn line_of_check(end: CheckEnd, digits: &mut Buffer) -> Line<'_>
 }
 
 /// The line where a node was not loaded.
-pub(crate) fn line_of_load(error: KeepLoad, digits: &mut Buffer) -> Line<'_>
+pub(crate) fn line_of_load(error: KeepLoad, digits: &mut Buffer) -> ErrorLine<'_>
     ensures { text_of result ≡ line_of_load error }
 {
     match error {
         KeepLoad::Disk => short_line("overcast: disk failed"),
-        KeepLoad::NotJournal(which) => Line {
+        KeepLoad::NotJournal(which) => ErrorLine {
             first: "overcast: ",
             second: file_word(which),
             third: ": not a journal",
             fourth: "",
             end: "\n",
         },
-        KeepLoad::BadFrame(which, number) => Line {
+        KeepLoad::BadFrame(which, number) => ErrorLine {
             first: "overcast: ",
             second: file_word(which),
             third: ": frame ",
@@ -232,7 +232,7 @@ fn file_word(which: Which) -> &'static str
 }
 
 /// The line of an end of `get`.
-pub(crate) fn line_of_get(end: GetEnd, digits: &mut Buffer) -> Line<'_>
+pub(crate) fn line_of_get(end: GetEnd, digits: &mut Buffer) -> ErrorLine<'_>
     ensures { text_of result ≡ line_of_get end }
 {
     match end {
@@ -248,7 +248,7 @@ pub(crate) fn line_of_get(end: GetEnd, digits: &mut Buffer) -> Line<'_>
 }
 
 /// The line of an end of `node`.
-pub(crate) fn line_of_service(end: ServiceEnd, digits: &mut Buffer) -> Line<'_>
+pub(crate) fn line_of_service(end: ServiceEnd, digits: &mut Buffer) -> ErrorLine<'_>
     ensures { text_of result ≡ line_of_service end }
 {
     match end {
@@ -259,7 +259,7 @@ pub(crate) fn line_of_service(end: ServiceEnd, digits: &mut Buffer) -> Line<'_>
 }
 
 /// The line of the run of a node.
-fn line_of_run(end: NodeEnd, digits: &mut Buffer) -> Line<'_>
+fn line_of_run(end: NodeEnd, digits: &mut Buffer) -> ErrorLine<'_>
     ensures { text_of result ≡ line_of_run end }
 {
     match end {
@@ -269,7 +269,7 @@ fn line_of_run(end: NodeEnd, digits: &mut Buffer) -> Line<'_>
 }
 
 /// The line of the end of a node's turns.
-fn line_of_turns<'a>(end: TurnEnd) -> Line<'a>
+fn line_of_turns<'a>(end: TurnEnd) -> ErrorLine<'a>
     ensures { text_of result ≡ line_of_turns end }
 {
     match end {

@@ -35,20 +35,20 @@ pub fn run_service<S: Source, K: Sink, D: Disk, L: Link, C: Clock>(
     service: Service,
     input: &mut S,
     out: &mut K,
-    control_a: &mut D,
-    control_b: &mut D,
+    control: &mut D,
+    alternate: &mut D,
     content: &mut D,
     link: &mut L,
     clock: &mut C,
 ) -> ServiceEnd
     ensures happened { HappenedAtNode
         (at_source S.gives S.fails S.ended S.faults input.old input.new)
-        (at_files D.view (disks control_a.old control_b.old content.old) (disks control_a.new control_b.new content.new))
-        (at_node D.view (disks control_a.old control_b.old content.old) (disks control_a.new control_b.new content.new)
+        (at_files D.view (disks control.old alternate.old content.old) (disks control.new alternate.new content.new))
+        (at_node D.view (disks control.old alternate.old content.old) (disks control.new alternate.new content.new)
         (seen L.story L.faults C.seconds C.milliseconds link.old clock.old)
         (seen L.story L.faults C.seconds C.milliseconds link.new clock.new))
         (at_sink K.takes K.fails K.faults out.old out.new) service result }
-    ensures files { UnlessRan result (disks control_a.new control_b.new content.new ≡ disks control_a.old control_b.old content.old) }
+    ensures files { UnlessRan result (disks control.new alternate.new content.new ≡ disks control.old alternate.old content.old) }
     ensures link { UnlessRan result (link.new ≡ link.old) }
     ensures clock { UnlessRan result (clock.new ≡ clock.old) }
     ensures input_count { NoFall (S.faults input.old) (S.faults input.new) }
@@ -56,7 +56,7 @@ pub fn run_service<S: Source, K: Sink, D: Disk, L: Link, C: Clock>(
 {
     match read_config(alloc, input) {
         Ok(config) => serve_config(
-            alloc, service, &config, out, control_a, control_b, content, link, clock,
+            alloc, service, &config, out, control, alternate, content, link, clock,
         ),
         Err(end) => ServiceEnd::Config(end),
     }
@@ -69,20 +69,20 @@ fn serve_config<K: Sink, D: Disk, L: Link, C: Clock>(
     service: Service,
     config: &Config,
     out: &mut K,
-    control_a: &mut D,
-    control_b: &mut D,
+    control: &mut D,
+    alternate: &mut D,
     content: &mut D,
     link: &mut L,
     clock: &mut C,
 ) -> ServiceEnd
     requires { IsConfig config.now }
     ensures happened { RunsService
-        (at_files D.view (disks control_a.old control_b.old content.old) (disks control_a.new control_b.new content.new))
-        (at_node D.view (disks control_a.old control_b.old content.old) (disks control_a.new control_b.new content.new)
+        (at_files D.view (disks control.old alternate.old content.old) (disks control.new alternate.new content.new))
+        (at_node D.view (disks control.old alternate.old content.old) (disks control.new alternate.new content.new)
         (seen L.story L.faults C.seconds C.milliseconds link.old clock.old)
         (seen L.story L.faults C.seconds C.milliseconds link.new clock.new))
         (at_sink K.takes K.fails K.faults out.old out.new) config.now service result }
-    ensures files { UnlessRan result (disks control_a.new control_b.new content.new ≡ disks control_a.old control_b.old content.old) }
+    ensures files { UnlessRan result (disks control.new alternate.new content.new ≡ disks control.old alternate.old content.old) }
     ensures link { UnlessRan result (link.new ≡ link.old) }
     ensures clock { UnlessRan result (clock.new ≡ clock.old) }
     ensures done_count { number_of (status_of_service result) ≡ 0 → NoFall (K.faults out.old) (K.faults out.new) }
@@ -94,8 +94,8 @@ fn serve_config<K: Sink, D: Disk, L: Link, C: Clock>(
             me,
             service.turns,
             service.probes,
-            control_a,
-            control_b,
+            control,
+            alternate,
             content,
             link,
             clock,

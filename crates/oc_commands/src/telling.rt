@@ -3,12 +3,13 @@
 ghost use Rattle.std.specs.Prelude.{◌≡◌, ℕ, List, OnOk};
 ghost use Rattle.oc_io.specs.Faults.{NoFall};
 ghost use Rattle.oc_commands.specs.Lines.{line_of, text_of};
-ghost use Rattle.oc_commands.specs.Run.{IsWrittenOrCut, joined};
+ghost use Rattle.oc_commands.specs.Run.{IsWrittenOrCut};
+ghost use Rattle.oc_http.specs.Parts.{joined};
 
 use crate::ending::End;
 use crate::lines::{
-    Line, line_of_check, line_of_gen, line_of_get, line_of_replay, line_of_rules, line_of_service,
-    no_line, short_line,
+    ErrorLine, line_of_check, line_of_gen, line_of_get, line_of_replay, line_of_rules,
+    line_of_service, no_line, short_line,
 };
 use crate::texts::usage;
 use itoa::Buffer;
@@ -37,7 +38,7 @@ pub fn tell<E: Sink>(err: &mut E, end: End)
 }
 
 /// Writes a line, or a prefix of it where the output fails.
-fn write_line<E: Sink>(err: &mut E, line: Line<'_>)
+fn write_line<E: Sink>(err: &mut E, line: ErrorLine<'_>)
     ensures told { IsWrittenOrCut E.takes E.fails E.faults err.old err.new (text_of line.entry) }
     ensures count { NoFall (E.faults err.old) (E.faults err.new) }
 {
@@ -54,13 +55,13 @@ fn write_line<E: Sink>(err: &mut E, line: Line<'_>)
 }
 
 /// The line of an end.
-fn line_of(end: End, digits: &mut Buffer) -> Line<'_>
+fn line_of(end: End, digits: &mut Buffer) -> ErrorLine<'_>
     ensures { (usage : List ℕ) × (text_of result ≡ line_of end usage) }
 {
     match end {
         End::Helped => no_line(),
         End::HelpFailed => short_line("overcast: output failed"),
-        End::Misused => Line {
+        End::Misused => ErrorLine {
             first: "overcast: usage\n",
             second: usage(),
             third: "",

@@ -29,7 +29,7 @@ use oc_words::{Request, WordsFault, read_words};
 use std::alloc::Global;
 
 /// Runs the program: what the words ask for, from the input to the output, over the stage, the three files
-/// of a node, a link and a clock. `control_a` and `control_b` are the control files.
+/// of a node, a link and a clock. `control` and `alternate` are the control files.
 ///
 /// The status is that of [`Status`](crate::Status); with each status other than 0 a line on the error output
 /// says why. What the words have no use for stays as it was.
@@ -41,8 +41,8 @@ pub fn run<S: Source, K: Sink, E: Sink, T: Stage, D: Disk, L: Link, C: Clock>(
     out: &mut K,
     err: &mut E,
     stage: &mut T,
-    control_a: &mut D,
-    control_b: &mut D,
+    control: &mut D,
+    alternate: &mut D,
     content: &mut D,
     link: &mut L,
     clock: &mut C,
@@ -56,10 +56,10 @@ pub fn run<S: Source, K: Sink, E: Sink, T: Stage, D: Disk, L: Link, C: Clock>(
           input = at_source S.gives S.fails S.ended S.faults input.old input.new;
           output = at_sink K.takes K.fails K.faults out.old out.new;
           stage = at_stage T.world stage.old stage.new;
-          files = at_files D.view (disks control_a.old control_b.old content.old) (disks control_a.new control_b.new content.new);
+          files = at_files D.view (disks control.old alternate.old content.old) (disks control.new alternate.new content.new);
           link = at_link L.story L.faults link.old link.new;
           clock = at_clock clock.old clock.new;
-          node = at_node D.view (disks control_a.old control_b.old content.old) (disks control_a.new control_b.new content.new)
+          node = at_node D.view (disks control.old alternate.old content.old) (disks control.new alternate.new content.new)
               (seen L.story L.faults C.seconds C.milliseconds link.old clock.old)
               (seen L.story L.faults C.seconds C.milliseconds link.new clock.new);
         }) end }
@@ -91,9 +91,9 @@ pub fn run<S: Source, K: Sink, E: Sink, T: Stage, D: Disk, L: Link, C: Clock>(
     // Where neither the output nor a disk fails, the files of a node on honest disks are shown by `check`, and
     // where no dial fails, a URL that is served whole is downloaded by `get`; or memory runs out.
     ensures checked { (member : Member) → asked (texts_of words.now) ≡ Some (Request.Check member)
-        → AreHonest D.view (disks control_a.old control_b.old content.old)
-        → HoldFiles D.view member.nodes (disks control_a.old control_b.old content.old)
-        → (OneRose D.view (disks control_a.old control_b.old content.old) (disks control_a.new control_b.new content.new) → ⊥)
+        → AreHonest D.view (disks control.old alternate.old content.old)
+        → HoldFiles D.view member.nodes (disks control.old alternate.old content.old)
+        → (OneRose D.view (disks control.old alternate.old content.old) (disks control.new alternate.new content.new) → ⊥)
         → (Rose (K.faults out.old) (K.faults out.new) → ⊥)
         → IsDoneOrMemory result }
     ensures fetched { (address : List ℕ) → asked (texts_of words.now) ≡ Some (Request.Get (once address))
@@ -106,12 +106,12 @@ pub fn run<S: Source, K: Sink, E: Sink, T: Stage, D: Disk, L: Link, C: Clock>(
     // what its configuration says, and over the files of a node it is done, or a file is full, or memory
     // runs out.
     ensures served { (service : Service) → asked (texts_of words.now) ≡ Some (Request.Node service)
-        → AreHonest D.view (disks control_a.old control_b.old content.old)
-        → (OneRose D.view (disks control_a.old control_b.old content.old) (disks control_a.new control_b.new content.new) → ⊥)
+        → AreHonest D.view (disks control.old alternate.old content.old)
+        → (OneRose D.view (disks control.old alternate.old content.old) (disks control.new alternate.new content.new) → ⊥)
         → (Rose (L.faults link.old).listening (L.faults link.new).listening → ⊥)
         → (Rose (S.faults input.old) (S.faults input.new) → ⊥)
         → (Rose (K.faults out.old) (K.faults out.new) → ⊥)
-        → HasServiceStatus S.gives S.ended D.view (disks control_a.old control_b.old content.old) service input.old input.new result
+        → HasServiceStatus S.gives S.ended D.view (disks control.old alternate.old content.old) service input.old input.new result
         ⊎ (result ≡ 4) }
 
     ensures input_count { NoFall (S.faults input.old) (S.faults input.new) }
@@ -123,7 +123,7 @@ pub fn run<S: Source, K: Sink, E: Sink, T: Stage, D: Disk, L: Link, C: Clock>(
     ensures done_count { result ≡ 0 → NoFall (K.faults out.old) (K.faults out.new) }
 {
     let end = perform(
-        alloc, words, input, out, stage, control_a, control_b, content, link, clock,
+        alloc, words, input, out, stage, control, alternate, content, link, clock,
     );
     tell(err, end);
     end.status().number()
@@ -137,8 +137,8 @@ fn perform<S: Source, K: Sink, T: Stage, D: Disk, L: Link, C: Clock>(
     input: &mut S,
     out: &mut K,
     stage: &mut T,
-    control_a: &mut D,
-    control_b: &mut D,
+    control: &mut D,
+    alternate: &mut D,
     content: &mut D,
     link: &mut L,
     clock: &mut C,
@@ -148,10 +148,10 @@ fn perform<S: Source, K: Sink, T: Stage, D: Disk, L: Link, C: Clock>(
       input = at_source S.gives S.fails S.ended S.faults input.old input.new;
       output = at_sink K.takes K.fails K.faults out.old out.new;
       stage = at_stage T.world stage.old stage.new;
-      files = at_files D.view (disks control_a.old control_b.old content.old) (disks control_a.new control_b.new content.new);
+      files = at_files D.view (disks control.old alternate.old content.old) (disks control.new alternate.new content.new);
       link = at_link L.story L.faults link.old link.new;
       clock = at_clock clock.old clock.new;
-      node = at_node D.view (disks control_a.old control_b.old content.old) (disks control_a.new control_b.new content.new)
+      node = at_node D.view (disks control.old alternate.old content.old) (disks control.new alternate.new content.new)
           (seen L.story L.faults C.seconds C.milliseconds link.old clock.old)
           (seen L.story L.faults C.seconds C.milliseconds link.new clock.new);
     }) result }
@@ -167,11 +167,11 @@ fn perform<S: Source, K: Sink, T: Stage, D: Disk, L: Link, C: Clock>(
         Ok(Request::Gen(sample)) => End::Generated(write_sample(alloc, sample, out)),
         Ok(Request::Rules) => End::Listed(list_rules(alloc, input, out)),
         Ok(Request::Check(member)) => End::Checked(check_files(
-            alloc, member, out, control_a, control_b, content,
+            alloc, member, out, control, alternate, content,
         )),
         Ok(Request::Get(wanted)) => End::Got(download(alloc, &wanted, out, link)),
         Ok(Request::Node(service)) => End::Served(run_service(
-            alloc, service, input, out, control_a, control_b, content, link, clock,
+            alloc, service, input, out, control, alternate, content, link, clock,
         )),
         Ok(Request::Help) => write_help(words, out),
         Err(WordsFault::Usage) => End::Misused,

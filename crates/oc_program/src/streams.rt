@@ -44,8 +44,8 @@ pub fn run_in_memory<T: Stage, D: Disk, L: Link, C: Clock>(
     words: &[String],
     input: &[u8],
     stage: &mut T,
-    control_a: &mut D,
-    control_b: &mut D,
+    control: &mut D,
+    alternate: &mut D,
     content: &mut D,
     link: &mut L,
     clock: &mut C,
@@ -58,10 +58,10 @@ pub fn run_in_memory<T: Stage, D: Disk, L: Link, C: Clock>(
           input = at_bytes input.now result.read;
           output = at_text result.output.items;
           stage = at_stage T.world stage.old stage.new;
-          files = at_files D.view (disks control_a.old control_b.old content.old) (disks control_a.new control_b.new content.new);
+          files = at_files D.view (disks control.old alternate.old content.old) (disks control.new alternate.new content.new);
           link = at_link L.story L.faults link.old link.new;
           clock = at_clock clock.old clock.new;
-          node = at_node D.view (disks control_a.old control_b.old content.old) (disks control_a.new control_b.new content.new)
+          node = at_node D.view (disks control.old alternate.old content.old) (disks control.new alternate.new content.new)
               (seen L.story L.faults C.seconds C.milliseconds link.old clock.old)
               (seen L.story L.faults C.seconds C.milliseconds link.new clock.new);
         }) end }
@@ -80,8 +80,8 @@ pub fn run_in_memory<T: Stage, D: Disk, L: Link, C: Clock>(
         &mut out,
         &mut err,
         stage,
-        control_a,
-        control_b,
+        control,
+        alternate,
         content,
         link,
         clock,
@@ -119,8 +119,8 @@ pub fn run_on_streams<T: Stage, D: Disk, L: Link, C: Clock>(
     output: Stdout,
     error: Stderr,
     stage: &mut T,
-    control_a: &mut D,
-    control_b: &mut D,
+    control: &mut D,
+    alternate: &mut D,
     content: &mut D,
     link: &mut L,
     clock: &mut C,
@@ -133,10 +133,10 @@ pub fn run_on_streams<T: Stage, D: Disk, L: Link, C: Clock>(
           input = at_input result.input;
           output = at_output result.output;
           stage = at_stage T.world stage.old stage.new;
-          files = at_files D.view (disks control_a.old control_b.old content.old) (disks control_a.new control_b.new content.new);
+          files = at_files D.view (disks control.old alternate.old content.old) (disks control.new alternate.new content.new);
           link = at_link L.story L.faults link.old link.new;
           clock = at_clock clock.old clock.new;
-          node = at_node D.view (disks control_a.old control_b.old content.old) (disks control_a.new control_b.new content.new)
+          node = at_node D.view (disks control.old alternate.old content.old) (disks control.new alternate.new content.new)
               (seen L.story L.faults C.seconds C.milliseconds link.old clock.old)
               (seen L.story L.faults C.seconds C.milliseconds link.new clock.new);
         }) end }
@@ -151,8 +151,8 @@ pub fn run_on_streams<T: Stage, D: Disk, L: Link, C: Clock>(
         &mut stdout,
         &mut stderr,
         stage,
-        control_a,
-        control_b,
+        control,
+        alternate,
         content,
         link,
         clock,

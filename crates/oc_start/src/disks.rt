@@ -34,8 +34,8 @@ pub fn run_to_disks<S: Source, K: Sink, E: Sink, D: Disk, L: Link, C: Clock>(
     input: &mut S,
     out: &mut K,
     err: &mut E,
-    control_a: &mut D,
-    control_b: &mut D,
+    control: &mut D,
+    alternate: &mut D,
     content: &mut D,
     link: &mut L,
     clock: &mut C,
@@ -50,10 +50,10 @@ pub fn run_to_disks<S: Source, K: Sink, E: Sink, D: Disk, L: Link, C: Clock>(
           output = at_sink K.takes K.fails K.faults out.old out.new;
           stage = at_stage (λ (w : WorldView). w.world)
               (record { world = record { processes = []; net = []; source = [] }; kept = [] }) last;
-          files = at_files D.view (disks control_a.old control_b.old content.old) (disks control_a.new control_b.new content.new);
+          files = at_files D.view (disks control.old alternate.old content.old) (disks control.new alternate.new content.new);
           link = at_link L.story L.faults link.old link.new;
           clock = at_clock clock.old clock.new;
-          node = at_node D.view (disks control_a.old control_b.old content.old) (disks control_a.new control_b.new content.new)
+          node = at_node D.view (disks control.old alternate.old content.old) (disks control.new alternate.new content.new)
               (seen L.story L.faults C.seconds C.milliseconds link.old clock.old)
               (seen L.story L.faults C.seconds C.milliseconds link.new clock.new);
         }) end
@@ -63,7 +63,7 @@ pub fn run_to_disks<S: Source, K: Sink, E: Sink, D: Disk, L: Link, C: Clock>(
 {
     let mut world = World::empty(alloc);
     let status = run(
-        alloc, words, input, out, err, &mut world, control_a, control_b, content, link, clock,
+        alloc, words, input, out, err, &mut world, control, alternate, content, link, clock,
     );
     (status, world.into_disks(node))
 }

@@ -1,4 +1,4 @@
-//! The program, started anew.
+//! The program, started again.
 
 use std::process::Command;
 use std::{env, io};

@@ -1,16 +1,13 @@
-//! Plays tables of worked cases over the turns of a running node, and prints a line for each case: its name and
-//! `ok`, or what came in place of what has to come.
+//! Worked cases of links and of running nodes, in memory.
 //!
-//! Each table is a file in `crates/cases/data/serve`, whose first lines say how its rows are written, and a module
-//! that gives the words of a row. A row has a setting, which is a row of `settings.txt`, and a scene: a node, and
-//! what comes to it in its turns.
+//! Each module plays the tables of one folder of `crates/cases/data`, and prints a line for each row: the names of its table
+//! and of itself and `ok`, or what came in place of what has to come. The first lines of a table say how its rows are
+//! written.
 //!
-//! Plays tables of worked cases over links, clocks and probes, and over conversations of the client with servers in
-//! memory, and prints a line for each case: its name and `ok`, or what came in place of what has to come.
-//!
-//! Each table is a file in `crates/cases/data/edge`, whose first lines say how its rows are written, and a module
-//! that puts the words of a row.
+//! - `connections`: links, clocks, rates and probes, and conversations of the client with servers.
+//! - `serve`: the turns of a running node. A row names a setting, which is a row of `settings.txt`, and has a scene: what
+//!   comes to the node in its turns.
 #![tactic(auto)]
 
-pub mod edge;
+pub mod connections;
 pub mod serve;

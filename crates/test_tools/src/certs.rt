@@ -1,5 +1,5 @@
 use crate::fault::Fault;
-use crate::fields::Fields;
+use crate::fields::RowFields;
 use oc_base::Cert;
 
 /// The certificate of a text such as `4/1/2+`, `4/1/2-` or `4/1/2+1:3`: its subject, the number of the ask,
@@ -16,7 +16,7 @@ pub fn cert_in(text: &str) -> Result<Cert, Fault> {
 }
 
 fn cert_of(link: &str, dead: bool, count: &str) -> Result<Cert, Fault> {
-    let mut link = Fields::of(link, '/');
+    let mut link = RowFields::of(link, '/');
     let (number, clients) = count_in(count)?;
     Ok(Cert {
         subject: link.node()?,
@@ -33,7 +33,7 @@ fn count_in(text: &str) -> Result<(u64, u64), Fault> {
     if text.is_empty() {
         return Ok((0, 0));
     }
-    let mut count = Fields::of(text, ':');
+    let mut count = RowFields::of(text, ':');
     Ok((count.number()?, count.number()?))
 }
 

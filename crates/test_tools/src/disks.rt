@@ -1,6 +1,6 @@
 use crate::fault::Fault;
-use crate::fields::Fields;
-use crate::step::Step;
+use crate::fields::RowFields;
+use crate::step::RowStep;
 use crate::texts::put_hex;
 use oc_io::{Disk, MemDisk};
 use oc_journal::{Frame, Journal};
@@ -55,13 +55,13 @@ fn append<D: Disk>(alloc: Global, journal: &mut Journal<D>, body: &[u8]) -> Resu
 /// first `CALLS`, where a crash leaves this byte wherever something was not synced.
 pub fn disk_in(alloc: Global, text: &str) -> Result<MemDisk, Fault> {
     let (held, failing) = text.split_once('/').unwrap_or((text, ""));
-    let mut disk = held_in(alloc, Step::of(held))?;
-    have_fail(alloc, &mut disk, Step::of(failing))?;
+    let mut disk = held_in(alloc, RowStep::of(held))?;
+    have_fail(alloc, &mut disk, RowStep::of(failing))?;
     Ok(disk)
 }
 
 /// Has calls of a disk fail as this says.
-fn have_fail(alloc: Global, disk: &mut MemDisk, step: Step<'_>) -> Result<(), Fault> {
+fn have_fail(alloc: Global, disk: &mut MemDisk, step: RowStep<'_>) -> Result<(), Fault> {
     let mut fields = step.fields;
     match step.word {
         "" => Ok(()),
@@ -80,7 +80,7 @@ fn have_fail(alloc: Global, disk: &mut MemDisk, step: Step<'_>) -> Result<(), Fa
 }
 
 /// The disk that holds this.
-fn held_in(alloc: Global, mut step: Step<'_>) -> Result<MemDisk, Fault> {
+fn held_in(alloc: Global, mut step: RowStep<'_>) -> Result<MemDisk, Fault> {
     match step.word {
         "bytes" => bytes_disk(alloc, step.fields),
         "frames" => disk_with(alloc, &step.fields.all_bytes(alloc)?),
@@ -89,12 +89,12 @@ fn held_in(alloc: Global, mut step: Step<'_>) -> Result<MemDisk, Fault> {
     }
 }
 
-fn bytes_disk(alloc: Global, mut fields: Fields<'_>) -> Result<MemDisk, Fault> {
+fn bytes_disk(alloc: Global, mut fields: RowFields<'_>) -> Result<MemDisk, Fault> {
     Ok(MemDisk::new(fields.bytes(alloc)?))
 }
 
 /// The one body that begins so, goes on with bytes 3, and whose frame ends at this place.
-fn long_body(alloc: Global, mut fields: Fields<'_>) -> Result<Vec<Vec<u8>>, Fault> {
+fn long_body(alloc: Global, mut fields: RowFields<'_>) -> Result<Vec<Vec<u8>>, Fault> {
     let mut body = fields.bytes(alloc)?;
     let end = fields.small()? as usize;
     body.resize(end.saturating_sub(13), 3)?;

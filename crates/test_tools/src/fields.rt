@@ -7,15 +7,15 @@ const MOST_FIELDS: u32 = 10_000;
 
 /// The fields of a text, with one character between each two.
 #[derive(Clone, Copy)]
-pub struct Fields<'a> {
+pub struct RowFields<'a> {
     left: &'a str,
     between: char,
 }
 
-impl<'a> Fields<'a> {
+impl<'a> RowFields<'a> {
     /// The fields of a text, where this character comes between each two.
-    pub fn of(text: &'a str, between: char) -> Fields<'a> {
-        Fields {
+    pub fn of(text: &'a str, between: char) -> RowFields<'a> {
+        RowFields {
             left: text,
             between,
         }
@@ -66,13 +66,13 @@ impl<'a> Fields<'a> {
     pub fn some_node(&mut self) -> Result<Option<NodeId>, Fault> {
         match self.text() {
             "-" => Ok(None),
-            text => Ok(Some(Fields::of(text, ' ').node()?)),
+            text => Ok(Some(RowFields::of(text, ' ').node()?)),
         }
     }
 
     /// The next field, a rank such as `7.2`, its epoch and its depth.
     pub fn rank(&mut self) -> Result<Rank, Fault> {
-        let mut parts = Fields::of(self.text(), '.');
+        let mut parts = RowFields::of(self.text(), '.');
         Ok(Rank {
             epoch: parts.number()?,
             depth: parts.small()?,
@@ -83,7 +83,7 @@ impl<'a> Fields<'a> {
     pub fn some_rank(&mut self) -> Result<Option<Rank>, Fault> {
         match self.text() {
             "-" => Ok(None),
-            text => Ok(Some(Fields::of(text, ' ').rank()?)),
+            text => Ok(Some(RowFields::of(text, ' ').rank()?)),
         }
     }
 
@@ -114,10 +114,10 @@ impl<'a> Fields<'a> {
     }
 
     /// The parts of the next field, which has commas between them; none where it is `-`.
-    pub fn list(&mut self) -> Fields<'a> {
+    pub fn list(&mut self) -> RowFields<'a> {
         match self.text() {
-            "-" => Fields::of("", ','),
-            text => Fields::of(text, ','),
+            "-" => RowFields::of("", ','),
+            text => RowFields::of(text, ','),
         }
     }
 

@@ -2,7 +2,7 @@ ghost use Rattle.std.specs.Prelude.{IfOk};
 ghost use Rattle.oc_base.specs.Names.{IsGroupName};
 
 use crate::fault::Fault;
-use oc_base::GroupName;
+use oc_base::{GroupName, Shelf};
 
 /// The group of a name.
 pub fn group_in(text: &str) -> Result<GroupName, Fault>
@@ -12,4 +12,13 @@ pub fn group_in(text: &str) -> Result<GroupName, Fault>
         Ok(group) => Ok(group),
         Err(_) => Err(Fault::Field),
     }
+}
+
+/// Puts each group with its length, and `!` where it is sealed.
+pub fn put_shelf(out: &mut String, lines: &[Shelf]) -> Result<(), Fault> {
+    for line in lines {
+        let mark = if line.sealed { "!" } else { "" };
+        write!(out, "{}@{}{mark} ", line.group, line.held)?;
+    }
+    Ok(())
 }

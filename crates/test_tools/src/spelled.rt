@@ -24,7 +24,7 @@ enum State {
 
 /// Bytes that are being read from a spelled text.
 #[derive(Drop)]
-struct Reading {
+struct Spelled {
     bytes: Vec<u8>,
     state: State,
     /// Where the bytes that come several times begin, and how often they come.
@@ -33,7 +33,7 @@ struct Reading {
 
 /// The bytes that a text spells.
 pub fn spelled_in(alloc: Global, text: &str) -> Result<Vec<u8>, Fault> {
-    let mut reading = Reading {
+    let mut reading = Spelled {
         bytes: Vec::new(alloc),
         state: State::Plain,
         repeated: None,
@@ -45,7 +45,7 @@ pub fn spelled_in(alloc: Global, text: &str) -> Result<Vec<u8>, Fault> {
 }
 
 /// Takes the next byte of the text.
-fn take(alloc: Global, reading: &mut Reading, byte: u8) -> Result<(), Fault> {
+fn take(alloc: Global, reading: &mut Spelled, byte: u8) -> Result<(), Fault> {
     match reading.state {
         State::Plain => take_plain(alloc, reading, byte),
         State::Escape => take_escape(reading, byte),
@@ -59,14 +59,14 @@ fn take(alloc: Global, reading: &mut Reading, byte: u8) -> Result<(), Fault> {
 }
 
 /// Takes the second digit of a byte.
-fn take_low(reading: &mut Reading, high: u8, byte: u8) -> Result<(), Fault> {
+fn take_low(reading: &mut Spelled, high: u8, byte: u8) -> Result<(), Fault> {
     let low = digit_in(byte)?;
     reading.state = State::Plain;
     Ok(reading.bytes.push(high.wrapping_mul(16) | low)?)
 }
 
 /// Takes a digit of how often bytes come, or the colon after them.
-fn take_count(reading: &mut Reading, count: usize, byte: u8) -> Result<(), Fault> {
+fn take_count(reading: &mut Spelled, count: usize, byte: u8) -> Result<(), Fault> {
     if byte == b':' {
         reading.repeated = Some((reading.bytes.len(), count));
         reading.state = State::Plain;
@@ -77,7 +77,7 @@ fn take_count(reading: &mut Reading, count: usize, byte: u8) -> Result<(), Fault
     Ok(())
 }
 
-fn take_plain(alloc: Global, reading: &mut Reading, byte: u8) -> Result<(), Fault> {
+fn take_plain(alloc: Global, reading: &mut Spelled, byte: u8) -> Result<(), Fault> {
     match (byte, reading.repeated) {
         (b'\\', _) => reading.state = State::Escape,
         (b'}', Some((start, count))) => {
@@ -89,7 +89,7 @@ fn take_plain(alloc: Global, reading: &mut Reading, byte: u8) -> Result<(), Faul
     Ok(())
 }
 
-fn take_escape(reading: &mut Reading, byte: u8) -> Result<(), Fault> {
+fn take_escape(reading: &mut Spelled, byte: u8) -> Result<(), Fault> {
     reading.state = match byte {
         b'x' => State::High,
         b'{' => State::Count(0),

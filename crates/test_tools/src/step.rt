@@ -1,19 +1,19 @@
-use crate::fields::Fields;
+use crate::fields::RowFields;
 
 /// A step such as `put:/a,0,616263`: its word, and the fields after the `:`.
 #[derive(Clone, Copy)]
-pub struct Step<'a> {
+pub struct RowStep<'a> {
     pub word: &'a str,
-    pub fields: Fields<'a>,
+    pub fields: RowFields<'a>,
 }
 
-impl<'a> Step<'a> {
+impl<'a> RowStep<'a> {
     /// The step of a text.
-    pub fn of(text: &'a str) -> Step<'a> {
+    pub fn of(text: &'a str) -> RowStep<'a> {
         let (word, fields) = text.split_once(':').unwrap_or((text, ""));
-        Step {
+        RowStep {
             word,
-            fields: Fields::of(fields, ','),
+            fields: RowFields::of(fields, ','),
         }
     }
 }

@@ -1,16 +1,12 @@
-//! Plays tables of worked cases over the messages of nodes and over HTTP, and prints a line for each case: its name
-//! and `ok`, or what came in place of what has to come.
+//! Worked cases of bytes and texts: messages between nodes, HTTP, and the texts that a node and a client read and write.
 //!
-//! Each table is a file in `crates/cases/data/wire`, whose first lines say how its rows are written, and a module
-//! that puts the words of a row.
+//! Each module plays the tables of one folder of `crates/cases/data`, and prints a line for each row: the names of its table
+//! and of itself and `ok`, or what came in place of what has to come. The first lines of a table say how its rows are
+//! written.
 //!
-//! Plays tables of worked cases over the texts that a node and a client read and write, over what requests ask of a
-//! node and over what they are answered, and prints a line for each case: its name and `ok`, or what came in place
-//! of what has to come.
-//!
-//! Each table is a file in `crates/cases/data/text`, whose first lines say how its rows are written, and a module
-//! that puts the words of a row.
+//! - `wire`: messages as bytes and as requests, and heads and bodies of HTTP messages.
+//! - `service`: configurations, access rules, measures, chunked coding, and what requests ask and are answered.
 #![tactic(auto)]
 
-pub mod text;
+pub mod service;
 pub mod wire;

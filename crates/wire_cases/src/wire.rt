@@ -1,8 +1,4 @@
-//! Plays tables of worked cases over the messages of nodes and over HTTP, and prints a line for each case: its name
-//! and `ok`, or what came in place of what has to come.
-//!
-//! Each table is a file in `crates/cases/data/wire`, whose first lines say how its rows are written, and a module
-//! that puts the words of a row.
+//! The messages of nodes, and HTTP.
 
 mod heads;
 mod messages;
@@ -16,9 +12,9 @@ use std::io;
 use test_tools::{Cases, Fault};
 
 /// The words of the rows, by table.
-struct Rows;
+struct WireTables;
 
-impl Cases for Rows {
+impl Cases for WireTables {
     fn put_words(alloc: Global, table: &str, given: &str, said: &mut String) -> Result<(), Fault> {
         match table {
             "messages" => messages::put_words(alloc, given, said),
@@ -32,5 +28,5 @@ impl Cases for Rows {
 
 /// Plays the tables, one after another.
 pub fn play(rt: &HostRuntime) -> io::Result<()> {
-    test_tools::play::<Rows, _>(rt, "wire", &["messages", "requests", "texts", "heads"])
+    test_tools::play::<WireTables, _>(rt, "wire", &["messages", "requests", "texts", "heads"])
 }

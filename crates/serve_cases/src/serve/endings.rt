@@ -10,9 +10,9 @@ use test_tools::{Fault, spelled_in};
 
 /// The words of a row: after how many numbers of bytes, from none to all, one after another, the connection
 /// comes to the same lines and replies, and to which.
-pub struct Rows;
+pub struct EndingScenes;
 
-impl Scenes for Rows {
+impl Scenes for EndingScenes {
     fn answer(alloc: Global, setting: &Setting, text: &str) -> Result<String, Fault> {
         let bytes = spelled_in(alloc, text)?;
         let mut runs = Runs::new(alloc);

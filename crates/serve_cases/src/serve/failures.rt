@@ -5,12 +5,12 @@ use crate::serve::runs::Runs;
 use crate::serve::settings::Setting;
 use crate::serve::table::Scenes;
 use std::alloc::Global;
-use test_tools::{Fault, Fields};
+use test_tools::{Fault, RowFields};
 
 /// The words of a row: how often, one after another, it comes to the same end and lines, and to which.
-pub struct Rows;
+pub struct FailureScenes;
 
-impl Scenes for Rows {
+impl Scenes for FailureScenes {
     fn answer(alloc: Global, setting: &Setting, given: &str) -> Result<String, Fault> {
         let mut runs = Runs::new(alloc);
         put_all(alloc, setting, given, &mut runs)?;
@@ -22,7 +22,7 @@ impl Scenes for Rows {
 fn put_all(alloc: Global, setting: &Setting, given: &str, runs: &mut Runs) -> Result<(), Fault> {
     let (object, rest) = given.split_once(' ').unwrap_or((given, ""));
     let (calls, scene) = rest.split_once(' ').unwrap_or((rest, ""));
-    let calls = Fields::of(calls, ' ').small()?;
+    let calls = RowFields::of(calls, ' ').small()?;
     for call in 1..calls.saturating_add(1) {
         let scene = format!(in alloc; "{object}:{call} ^ {scene}")?;
         let parts = [Part::End(": "), Part::Lines];

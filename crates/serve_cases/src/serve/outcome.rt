@@ -1,4 +1,4 @@
-//! The outcome of a scene.
+//! What a scene leads to.
 
 use crate::serve::objects::{clock_in, fail_in, link_in, new_disk, sink_in};
 use crate::serve::running::run;
@@ -8,30 +8,22 @@ use oc_io::{MemDisk, MemSink};
 use oc_link::MemLink;
 use oc_service::NodeEnd;
 use std::alloc::Global;
-use test_tools::{Fault, put_spelled};
+use test_tools::{Fault, NodeDisks, put_spelled};
 
 /// More connections or dials than a scene has.
 const MOST_CONNECTIONS: u64 = 100;
 
 /// What a scene led to: how the run of the node ended, its lines, and what was written on the link.
 #[derive(Drop)]
-struct Outcome {
+struct SceneEnd {
     end: NodeEnd,
     sink: MemSink,
     link: MemLink,
 }
 
-/// The disks of a node's three files.
-#[derive(Drop)]
-struct Files {
-    control: MemDisk,
-    alternate: MemDisk,
-    content: MemDisk,
-}
-
 /// The outcome of a scene in a setting.
-fn outcome_of(alloc: Global, setting: &Setting, scene: &str) -> Result<Outcome, Fault> {
-    let mut files = Files {
+fn outcome_of(alloc: Global, setting: &Setting, scene: &str) -> Result<SceneEnd, Fault> {
+    let mut files = NodeDisks {
         control: new_disk(alloc),
         alternate: new_disk(alloc),
         content: new_disk(alloc),
@@ -44,8 +36,8 @@ fn outcome_on(
     alloc: Global,
     setting: &Setting,
     scene: &str,
-    files: &mut Files,
-) -> Result<Outcome, Fault> {
+    files: &mut NodeDisks<MemDisk>,
+) -> Result<SceneEnd, Fault> {
     let before = setting.before.as_str();
     if !before.is_empty() {
         live(alloc, setting, before, files)?;
@@ -58,12 +50,12 @@ fn live(
     alloc: Global,
     setting: &Setting,
     scene: &str,
-    files: &mut Files,
-) -> Result<Outcome, Fault> {
+    files: &mut NodeDisks<MemDisk>,
+) -> Result<SceneEnd, Fault> {
     let mut sink = sink_in(alloc, scene)?;
     let mut link = link_in(alloc, scene)?;
     let end = live_over(alloc, setting, scene, files, &mut link, &mut sink)?;
-    Ok(Outcome { end, sink, link })
+    Ok(SceneEnd { end, sink, link })
 }
 
 /// The same, over the link and the output of the scene: `turns:N` turns, 1 where that step is absent, with probes
@@ -72,7 +64,7 @@ fn live_over(
     alloc: Global,
     setting: &Setting,
     scene: &str,
-    files: &mut Files,
+    files: &mut NodeDisks<MemDisk>,
     link: &mut MemLink,
     sink: &mut MemSink,
 ) -> Result<NodeEnd, Fault> {
@@ -122,7 +114,7 @@ pub fn words_of(
     words_in(alloc, &outcome, parts)
 }
 
-fn words_in(alloc: Global, outcome: &Outcome, parts: &[Part<'_>]) -> Result<String, Fault> {
+fn words_in(alloc: Global, outcome: &SceneEnd, parts: &[Part<'_>]) -> Result<String, Fault> {
     let mut said = String::new(alloc);
     for part in parts {
         put_part(&mut said, outcome, *part)?;
@@ -130,7 +122,7 @@ fn words_in(alloc: Global, outcome: &Outcome, parts: &[Part<'_>]) -> Result<Stri
     Ok(said)
 }
 
-fn put_part(said: &mut String, outcome: &Outcome, part: Part<'_>) -> Result<(), Fault> {
+fn put_part(said: &mut String, outcome: &SceneEnd, part: Part<'_>) -> Result<(), Fault> {
     match part {
         Part::End(behind) => {
             put_end(said, outcome)?;
@@ -143,7 +135,7 @@ fn put_part(said: &mut String, outcome: &Outcome, part: Part<'_>) -> Result<(), 
 }
 
 /// Puts how the run of the node ended.
-fn put_end(said: &mut String, outcome: &Outcome) -> Result<(), Fault> {
+fn put_end(said: &mut String, outcome: &SceneEnd) -> Result<(), Fault> {
     match outcome.end {
         NodeEnd::Load(error) => Ok(write!(said, "load {error:?}")?),
         NodeEnd::Turned(end) => Ok(write!(said, "{end:?}")?),
@@ -151,7 +143,7 @@ fn put_end(said: &mut String, outcome: &Outcome) -> Result<(), Fault> {
 }
 
 /// Puts what was written on each connection, with a `>` before it.
-fn put_written(said: &mut String, outcome: &Outcome) -> Result<(), Fault> {
+fn put_written(said: &mut String, outcome: &SceneEnd) -> Result<(), Fault> {
     for at in 0..MOST_CONNECTIONS {
         let Some(text) = written(outcome, at) else {
             break;
@@ -163,7 +155,7 @@ fn put_written(said: &mut String, outcome: &Outcome) -> Result<(), Fault> {
 }
 
 /// Puts what was written on each dial, with a `@` before it.
-fn put_dialled(said: &mut String, outcome: &Outcome) -> Result<(), Fault> {
+fn put_dialled(said: &mut String, outcome: &SceneEnd) -> Result<(), Fault> {
     for at in 0..MOST_CONNECTIONS {
         let Some(text) = dialled(outcome, at) else {
             break;
@@ -175,11 +167,11 @@ fn put_dialled(said: &mut String, outcome: &Outcome) -> Result<(), Fault> {
 }
 
 /// What was written on the connection at this place, counted from 0.
-fn written(outcome: &Outcome, at: u64) -> Option<&[u8]> {
+fn written(outcome: &SceneEnd, at: u64) -> Option<&[u8]> {
     outcome.link.written(at)
 }
 
 /// What was written on the dial at this place, counted from 0.
-fn dialled(outcome: &Outcome, at: u64) -> Option<&[u8]> {
+fn dialled(outcome: &SceneEnd, at: u64) -> Option<&[u8]> {
     outcome.link.dialled(at)
 }

@@ -16,9 +16,9 @@ pub const PARTS: [Part<'static>; 2] = [Part::Lines, Part::Written];
 /// gives the bytes of the connection one by one, two by two and so on, those.
 ///
 /// A head is read byte by byte however it comes, so what is cut is what follows the first head.
-pub struct Rows;
+pub struct RequestScenes;
 
-impl Scenes for Rows {
+impl Scenes for RequestScenes {
     fn answer(alloc: Global, setting: &Setting, text: &str) -> Result<String, Fault> {
         let scene = format!(in alloc; "come:{text}")?;
         let whole = words_of(alloc, setting, scene.as_str(), &PARTS)?;

@@ -2,7 +2,7 @@
 
 use oc_base::NodeId;
 use std::alloc::Global;
-use test_tools::{Fault, Fields, Row, spelled_in};
+use test_tools::{Fault, Row, RowFields, spelled_in};
 
 /// A node of a configuration, and what it lived through before.
 #[derive(Drop)]
@@ -31,7 +31,7 @@ impl Setting {
     fn read(alloc: Global, given: &str, before: &str) -> Result<Setting, Fault> {
         let (node, config) = given.split_once(' ').unwrap_or((given, ""));
         Ok(Setting {
-            node: Fields::of(node, ' ').node()?,
+            node: RowFields::of(node, ' ').node()?,
             config: spelled_in(alloc, config)?,
             before: format!(in alloc; "{before}")?,
         })

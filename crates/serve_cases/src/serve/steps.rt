@@ -2,14 +2,14 @@
 //! `:` what it says.
 
 use std::alloc::Global;
-use test_tools::{Fault, Fields, spelled_in};
+use test_tools::{Fault, RowFields, spelled_in};
 
 /// More steps than a scene has.
 const MOST_STEPS: u32 = 200;
 
 /// What the first of the steps with this word says, or nothing.
 pub fn said_by<'a>(scene: &'a str, word: &str) -> Option<&'a str> {
-    let mut steps = Fields::of(scene, '^');
+    let mut steps = RowFields::of(scene, '^');
     for _ in 0..MOST_STEPS {
         if steps.is_empty() {
             break;
@@ -29,7 +29,7 @@ fn said_in<'a>(step: &'a str, word: &str) -> Option<&'a str> {
 
 /// The bytes that each of the steps with this word spells.
 pub fn texts_in(alloc: Global, scene: &str, word: &str) -> Result<Vec<Vec<u8>>, Fault> {
-    let mut steps = Fields::of(scene, '^');
+    let mut steps = RowFields::of(scene, '^');
     let mut texts = Vec::new(alloc);
     for _ in 0..MOST_STEPS {
         if steps.is_empty() {
@@ -50,13 +50,13 @@ fn take_text(alloc: Global, step: &str, word: &str, texts: &mut Vec<Vec<u8>>) ->
 
 /// The numbers of the step with this word, with commas between them.
 pub fn numbers_in(alloc: Global, scene: &str, word: &str) -> Result<Vec<u64>, Fault> {
-    Fields::of(said_by(scene, word).unwrap_or(""), ' ').numbers(alloc)
+    RowFields::of(said_by(scene, word).unwrap_or(""), ' ').numbers(alloc)
 }
 
 /// The number of the step with this word, or this one where there is no such step.
 pub fn number_in(scene: &str, word: &str, otherwise: u32) -> Result<u32, Fault> {
     match said_by(scene, word) {
-        Some(said) => Fields::of(said, ',').small(),
+        Some(said) => RowFields::of(said, ',').small(),
         None => Ok(otherwise),
     }
 }

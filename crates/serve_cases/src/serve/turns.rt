@@ -8,9 +8,9 @@ use test_tools::Fault;
 
 /// The words of a row: how the run ended, the lines, what was written on each connection, and what on each
 /// dial.
-pub struct Rows;
+pub struct TurnScenes;
 
-impl Scenes for Rows {
+impl Scenes for TurnScenes {
     fn answer(alloc: Global, setting: &Setting, scene: &str) -> Result<String, Fault> {
         let parts = [Part::End(" > "), Part::Lines, Part::Written, Part::Dialled];
         words_of(alloc, setting, scene, &parts)

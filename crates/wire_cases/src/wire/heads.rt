@@ -4,12 +4,12 @@ use crate::wire::pieces::Pieces;
 use crate::wire::words::{put, put_value};
 use oc_base::Text;
 use oc_http::{
-    Head, HttpFault, Reply, ReplyHead, Method, read_body, read_head, read_response,
+    Head, HttpFault, Method, Reply, ReplyHead, read_body, read_head, read_response,
     read_response_head,
 };
 use oc_io::{MemSource, Source, read_all};
 use std::alloc::Global;
-use test_tools::{Fault, Fields, put_spelled, spelled_in};
+use test_tools::{Fault, RowFields, put_spelled, spelled_in};
 
 /// A longer source is cut at its first and its last places alone.
 const MOST_PLACES: usize = 1000;
@@ -63,7 +63,7 @@ fn reader_of(word: &str) -> Result<Reader, Fault> {
     let (form, failing) = word.split_once('/').unwrap_or((word, "0"));
     Ok(Reader {
         form: form_of(form)?,
-        failing: Fields::of(failing, ' ').number()?,
+        failing: RowFields::of(failing, ' ').number()?,
     })
 }
 

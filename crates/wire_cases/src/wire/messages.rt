@@ -6,12 +6,12 @@ use crate::wire::requests::put_fault;
 use crate::wire::words::{put, put_message, put_wire_fault};
 use oc_wire::{Message, decode, encode, from_http, to_http};
 use std::alloc::Global;
-use test_tools::{Fault, Fields, put_hex};
+use test_tools::{Fault, RowFields, put_hex};
 
 /// Puts the words of a row: the message of the bytes, or their fault. Where it is written as other bytes, these
 /// follow, and where its request brings another message, that.
 pub fn put_words(alloc: Global, given: &str, said: &mut String) -> Result<(), Fault> {
-    let mut fields = Fields::of(given, ' ');
+    let mut fields = RowFields::of(given, ' ');
     let nodes = fields.small()?;
     let bytes = fields.bytes(alloc)?;
     match decode(alloc, &bytes, nodes) {

@@ -5,20 +5,20 @@ ghost use Rattle.oc_wire.specs.Spelling.{HasSpelling};
 use crate::wire::words::{put, put_message, put_text, put_wire_fault};
 use oc_wire::{HttpWireFault, Message, decode, from_http, to_http};
 use std::alloc::Global;
-use test_tools::{Fault, Fields, spelled_in};
+use test_tools::{Fault, RowFields, spelled_in};
 
 /// Puts the words of a row: what a request brings, or the request of a message.
 pub fn put_words(alloc: Global, given: &str, said: &mut String) -> Result<(), Fault> {
     let (word, rest) = given.split_once(' ').unwrap_or((given, ""));
     match word {
-        "to" => put_written(alloc, Fields::of(rest, ' '), said),
+        "to" => put_written(alloc, RowFields::of(rest, ' '), said),
         "from" => put_read(alloc, rest, said),
         _ => Err(Fault::Field),
     }
 }
 
 /// Puts the request to a host that brings the message of these bytes.
-fn put_written(alloc: Global, mut fields: Fields<'_>, said: &mut String) -> Result<(), Fault> {
+fn put_written(alloc: Global, mut fields: RowFields<'_>, said: &mut String) -> Result<(), Fault> {
     let host = fields.text();
     let bytes = fields.bytes(alloc)?;
     match decode(alloc, &bytes, 1024) {
@@ -40,7 +40,7 @@ fn put_request(alloc: Global, message: &Message, host: &str, said: &mut String) 
 /// Puts what the request of a text brings to some nodes.
 fn put_read(alloc: Global, given: &str, said: &mut String) -> Result<(), Fault> {
     let (nodes, text) = given.split_once(' ').unwrap_or((given, ""));
-    let nodes = Fields::of(nodes, ' ').small()?;
+    let nodes = RowFields::of(nodes, ' ').small()?;
     let bytes = spelled_in(alloc, text)?;
     match from_http(alloc, &bytes, nodes) {
         Ok(message) => put_message(said, &message),

@@ -6,15 +6,15 @@ ghost use Rattle.oc_http.specs.Writing.{HasPhrase};
 use crate::wire::words::put_text;
 use oc_base::{Bytes, Text};
 use oc_http::{
-    Persistence, Framing, Reply, write_follow, write_get, write_probe, write_reply_head,
+    Framing, Persistence, Reply, write_follow, write_get, write_probe, write_reply_head,
     write_request, write_response, write_response_head,
 };
 use std::alloc::Global;
-use test_tools::{Fault, Fields, spelled_in};
+use test_tools::{Fault, RowFields, spelled_in};
 
 /// Puts the words of a row: the text that is written.
 pub fn put_words(alloc: Global, given: &str, said: &mut String) -> Result<(), Fault> {
-    let mut fields = Fields::of(given, ' ');
+    let mut fields = RowFields::of(given, ' ');
     match fields.text() {
         "request" => put_request(alloc, fields, said),
         "get" => put_get(alloc, fields, said),
@@ -27,7 +27,7 @@ pub fn put_words(alloc: Global, given: &str, said: &mut String) -> Result<(), Fa
     }
 }
 
-fn put_request(alloc: Global, mut fields: Fields<'_>, said: &mut String) -> Result<(), Fault> {
+fn put_request(alloc: Global, mut fields: RowFields<'_>, said: &mut String) -> Result<(), Fault> {
     if fields.text() != "node2" {
         return Err(Fault::Field);
     }
@@ -35,31 +35,31 @@ fn put_request(alloc: Global, mut fields: Fields<'_>, said: &mut String) -> Resu
     put_text(said, write_request(alloc, "node2", &body))
 }
 
-fn put_get(alloc: Global, mut fields: Fields<'_>, said: &mut String) -> Result<(), Fault> {
+fn put_get(alloc: Global, mut fields: RowFields<'_>, said: &mut String) -> Result<(), Fault> {
     let path = fields.text();
     let query = some_text(fields.text());
     put_text(said, write_get(alloc, path, query, fields.text()))
 }
 
-fn put_follow(alloc: Global, mut fields: Fields<'_>, said: &mut String) -> Result<(), Fault> {
+fn put_follow(alloc: Global, mut fields: RowFields<'_>, said: &mut String) -> Result<(), Fault> {
     let path = fields.text();
     let start = fields.number()?;
     let area = some_text(fields.text());
     put_text(said, write_follow(alloc, path, start, area, fields.text()))
 }
 
-fn put_reply(alloc: Global, fields: Fields<'_>, said: &mut String) -> Result<(), Fault> {
+fn put_reply(alloc: Global, fields: RowFields<'_>, said: &mut String) -> Result<(), Fault> {
     let reply = reply_in(alloc, fields)?;
     put_text(said, write_response(alloc, &reply))
 }
 
-fn put_head(alloc: Global, mut fields: Fields<'_>, said: &mut String) -> Result<(), Fault> {
+fn put_head(alloc: Global, mut fields: RowFields<'_>, said: &mut String) -> Result<(), Fault> {
     let length = fields.number()?;
     let reply = reply_in(alloc, fields)?;
     put_text(said, write_response_head(alloc, &reply, length))
 }
 
-fn put_stream(alloc: Global, mut fields: Fields<'_>, said: &mut String) -> Result<(), Fault> {
+fn put_stream(alloc: Global, mut fields: RowFields<'_>, said: &mut String) -> Result<(), Fault> {
     let framing = framing_in(fields.text())?;
     let connection = connection_in(fields.text())?;
     let reply = reply_in(alloc, fields)?;
@@ -69,7 +69,7 @@ fn put_stream(alloc: Global, mut fields: Fields<'_>, said: &mut String) -> Resul
 fn framing_in(text: &str) -> Result<Framing, Fault> {
     match text {
         "chunked" => Ok(Framing::Chunked),
-        length => Ok(Framing::Length(Fields::of(length, ' ').number()?)),
+        length => Ok(Framing::Length(RowFields::of(length, ' ').number()?)),
     }
 }
 
@@ -83,7 +83,7 @@ fn connection_in(text: &str) -> Result<Persistence, Fault> {
 
 /// The reply of the next fields: its status, its location, whether it has a content type, the rule, and the
 /// body.
-fn reply_in(alloc: Global, mut fields: Fields<'_>) -> Result<Reply, Fault>
+fn reply_in(alloc: Global, mut fields: RowFields<'_>) -> Result<Reply, Fault>
     ensures { IfOk result (λ reply. HasPhrase reply.status) }
 {
     let status = status_in(fields.small()?)?;
@@ -119,7 +119,7 @@ fn location_in(alloc: Global, text: &str) -> Result<Option<Text>, Fault> {
 
 fn rule_in(text: &str) -> Result<Option<u32>, Fault> {
     match some_text(text) {
-        Some(text) => Ok(Some(Fields::of(text, ' ').small()?)),
+        Some(text) => Ok(Some(RowFields::of(text, ' ').small()?)),
         None => Ok(None),
     }
 }

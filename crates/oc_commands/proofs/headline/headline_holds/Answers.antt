@@ -2,8 +2,8 @@ use Rattle.std.proofs.Common.{List}
 use Rattle.oc_model.specs.NextWorld.{world_after}
 use Rattle.oc_model.specs.World.{new_world}
 use Rattle.oc_model.specs.declared.event.Event.{Event}
-use Rattle.oc_commands.specs.Calm.{CalmHolds}
-use Rattle.oc_commands.proofs.CalmEvents.{HealLaws, SettleLaws, at_each, calm_holds}
+use Rattle.oc_commands.specs.SettleAndHeal.{SettleAndHealHold}
+use Rattle.oc_commands.proofs.SettleAndHealEvents.{HealLaws, SettleLaws, at_each, settle_and_heal_hold}
 use Rattle.oc_commands.proofs.headline.headline_holds.Goals as goal
 
 pub returns : goal.returns
@@ -34,5 +34,5 @@ returns c = λ s lawful.
       explained = (c.every_line_is_explained.ensures s.header s.events).0;
       informed = (c.every_count_is_informed.ensures s.header s.events).0;
       settled = (c.settled_trees_are_listed_exactly.ensures s.header s.events).0;
-      calm = at_each CalmHolds (new_world s.header) (λ front e. calm_holds (world_after (new_world s.header) front) (settle front) (heal front) e) s.events;
+      settle_and_heal = at_each SettleAndHealHold (new_world s.header) (λ front e. settle_and_heal_hold (world_after (new_world s.header) front) (settle front) (heal front) e) s.events;
     }

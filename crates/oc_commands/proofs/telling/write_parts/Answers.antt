@@ -1,8 +1,9 @@
 use Rattle.std.proofs.Common.{List, ℕ, [], ◌+◌, length, take, get_or, subst, inr, arith}
 use Rattle.std.specs.Borrow.{Bor}
 use Rattle.oc_io.proofs.Counts.{Rose-after}
-use Rattle.oc_commands.specs.Run.{joined}
-use Rattle.oc_commands.proofs.Parts.{joined_more, joined_front}
+use Rattle.oc_http.specs.Parts.{joined}
+use Rattle.oc_http.proofs.Parts.{joined_more}
+use Rattle.oc_commands.proofs.Parts.{joined_front}
 use Rattle.oc_commands.proofs.telling.write_parts.Goals as goal
 
 -- what follows the last part

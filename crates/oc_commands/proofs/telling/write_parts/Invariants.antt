@@ -1,6 +1,6 @@
 use Rattle.std.proofs.Common.{take}
 use Rattle.oc_io.specs.Faults.{NoFall}
-use Rattle.oc_commands.specs.Run.{joined}
+use Rattle.oc_http.specs.Parts.{joined}
 use Rattle.oc_commands.proofs.telling.write_parts.Given as goal
 
 -- the parts so far were taken

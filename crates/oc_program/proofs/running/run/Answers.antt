@@ -46,10 +46,10 @@ returns-clause-only_misused g c = λ is.
       input = at_source g.S.Source.gives g.S.Source.fails g.S.Source.ended g.S.Source.faults c.args.input.now c.perform-end.new.input;
       output = at_sink g.K.Sink.takes g.K.Sink.fails g.K.Sink.faults c.args.out.now c.perform-end.new.out;
       stage = at_stage g.T.Stage.world c.args.stage.now c.perform-end.new.stage;
-      files = at_files g.D.Disk.view (disks c.args.control_a.now c.args.control_b.now c.args.content.now) (disks c.perform-end.new.control_a c.perform-end.new.control_b c.perform-end.new.content);
+      files = at_files g.D.Disk.view (disks c.args.control.now c.args.alternate.now c.args.content.now) (disks c.perform-end.new.control c.perform-end.new.alternate c.perform-end.new.content);
       link = at_link g.L.Link.story g.L.Link.faults c.args.link.now c.perform-end.new.link;
       clock = at_clock c.args.clock.now c.perform-end.new.clock;
-      node = at_node g.D.Disk.view (disks c.args.control_a.now c.args.control_b.now c.args.content.now) (disks c.perform-end.new.control_a c.perform-end.new.control_b c.perform-end.new.content) (seen g.L.Link.story g.L.Link.faults g.C.Clock.seconds g.C.Clock.milliseconds c.args.link.now c.args.clock.now) (seen g.L.Link.story g.L.Link.faults g.C.Clock.seconds g.C.Clock.milliseconds c.perform-end.new.link c.perform-end.new.clock);
+      node = at_node g.D.Disk.view (disks c.args.control.now c.args.alternate.now c.args.content.now) (disks c.perform-end.new.control c.perform-end.new.alternate c.perform-end.new.content) (seen g.L.Link.story g.L.Link.faults g.C.Clock.seconds g.C.Clock.milliseconds c.args.link.now c.args.clock.now) (seen g.L.Link.story g.L.Link.faults g.C.Clock.seconds g.C.Clock.milliseconds c.perform-end.new.link c.perform-end.new.clock);
     }) c.perform-end.result (sym (c.number.ensures ∙ ap number_of c.status.ensures) ∙ is) c.perform-end.ensures.happened
 
 pub returns-clause-plain : goal.returns-clause-plain
@@ -60,16 +60,16 @@ returns-clause-plain g c = λ plain is.
       input = at_source g.S.Source.gives g.S.Source.fails g.S.Source.ended g.S.Source.faults c.args.input.now c.perform-end.new.input;
       output = at_sink g.K.Sink.takes g.K.Sink.fails g.K.Sink.faults c.args.out.now c.perform-end.new.out;
       stage = at_stage g.T.Stage.world c.args.stage.now c.perform-end.new.stage;
-      files = at_files g.D.Disk.view (disks c.args.control_a.now c.args.control_b.now c.args.content.now) (disks c.perform-end.new.control_a c.perform-end.new.control_b c.perform-end.new.content);
+      files = at_files g.D.Disk.view (disks c.args.control.now c.args.alternate.now c.args.content.now) (disks c.perform-end.new.control c.perform-end.new.alternate c.perform-end.new.content);
       link = at_link g.L.Link.story g.L.Link.faults c.args.link.now c.perform-end.new.link;
       clock = at_clock c.args.clock.now c.perform-end.new.clock;
-      node = at_node g.D.Disk.view (disks c.args.control_a.now c.args.control_b.now c.args.content.now) (disks c.perform-end.new.control_a c.perform-end.new.control_b c.perform-end.new.content) (seen g.L.Link.story g.L.Link.faults g.C.Clock.seconds g.C.Clock.milliseconds c.args.link.now c.args.clock.now) (seen g.L.Link.story g.L.Link.faults g.C.Clock.seconds g.C.Clock.milliseconds c.perform-end.new.link c.perform-end.new.clock);
+      node = at_node g.D.Disk.view (disks c.args.control.now c.args.alternate.now c.args.content.now) (disks c.perform-end.new.control c.perform-end.new.alternate c.perform-end.new.content) (seen g.L.Link.story g.L.Link.faults g.C.Clock.seconds g.C.Clock.milliseconds c.args.link.now c.args.clock.now) (seen g.L.Link.story g.L.Link.faults g.C.Clock.seconds g.C.Clock.milliseconds c.perform-end.new.link c.perform-end.new.clock);
     }) c.perform-end.result (sym (c.number.ensures ∙ ap number_of c.status.ensures) ∙ is) c.perform-end.ensures.happened)
 
 pub returns-clause-checked : goal.returns-clause-checked
 returns-clause-checked g c = λ member asks honest files unfailed sound.
     subst IsDoneOrMemory (sym (c.number.ensures ∙ ap number_of c.status.ensures))
-    (checked g.D.Disk.view (disks c.args.control_a.now c.args.control_b.now c.args.content.now) (disks c.perform-end.new.control_a c.perform-end.new.control_b c.perform-end.new.content)
+    (checked g.D.Disk.view (disks c.args.control.now c.args.alternate.now c.args.content.now) (disks c.perform-end.new.control c.perform-end.new.alternate c.perform-end.new.content)
     (at_sink g.K.Sink.takes g.K.Sink.fails g.K.Sink.faults c.args.out.now c.perform-end.new.out) (λ text cut. sound cut.1) honest unfailed
     _ _ _ _ _ (asked (texts_of c.args.words.now)) member c.perform-end.result asks files c.perform-end.ensures.happened)
 
@@ -88,10 +88,10 @@ returns-clause-helped g c = λ asks sound.
       input = at_source g.S.Source.gives g.S.Source.fails g.S.Source.ended g.S.Source.faults c.args.input.now c.perform-end.new.input;
       output = at_sink g.K.Sink.takes g.K.Sink.fails g.K.Sink.faults c.args.out.now c.perform-end.new.out;
       stage = at_stage g.T.Stage.world c.args.stage.now c.perform-end.new.stage;
-      files = at_files g.D.Disk.view (disks c.args.control_a.now c.args.control_b.now c.args.content.now) (disks c.perform-end.new.control_a c.perform-end.new.control_b c.perform-end.new.content);
+      files = at_files g.D.Disk.view (disks c.args.control.now c.args.alternate.now c.args.content.now) (disks c.perform-end.new.control c.perform-end.new.alternate c.perform-end.new.content);
       link = at_link g.L.Link.story g.L.Link.faults c.args.link.now c.perform-end.new.link;
       clock = at_clock c.args.clock.now c.perform-end.new.clock;
-      node = at_node g.D.Disk.view (disks c.args.control_a.now c.args.control_b.now c.args.content.now) (disks c.perform-end.new.control_a c.perform-end.new.control_b c.perform-end.new.content) (seen g.L.Link.story g.L.Link.faults g.C.Clock.seconds g.C.Clock.milliseconds c.args.link.now c.args.clock.now) (seen g.L.Link.story g.L.Link.faults g.C.Clock.seconds g.C.Clock.milliseconds c.perform-end.new.link c.perform-end.new.clock);
+      node = at_node g.D.Disk.view (disks c.args.control.now c.args.alternate.now c.args.content.now) (disks c.perform-end.new.control c.perform-end.new.alternate c.perform-end.new.content) (seen g.L.Link.story g.L.Link.faults g.C.Clock.seconds g.C.Clock.milliseconds c.args.link.now c.args.clock.now) (seen g.L.Link.story g.L.Link.faults g.C.Clock.seconds g.C.Clock.milliseconds c.perform-end.new.link c.perform-end.new.clock);
     }) (λ text cut. sound cut.1) c.perform-end.result asks c.perform-end.ensures.happened)
 
 pub returns-clause-replayed : goal.returns-clause-replayed
@@ -112,9 +112,9 @@ returns-clause-listed g c = λ asks unfailed sound.
 
 pub returns-clause-served : goal.returns-clause-served
 returns-clause-served g c = λ service asks honest unfailed waiting sourced sound.
-    subst (λ n. HasServiceStatus g.S.Source.gives g.S.Source.ended g.D.Disk.view (disks c.args.control_a.now c.args.control_b.now c.args.content.now) service c.args.input.now c.perform-end.new.input n ⊎ (n ≡ 4)) (sym (c.number.ensures ∙ ap number_of c.status.ensures))
+    subst (λ n. HasServiceStatus g.S.Source.gives g.S.Source.ended g.D.Disk.view (disks c.args.control.now c.args.alternate.now c.args.content.now) service c.args.input.now c.perform-end.new.input n ⊎ (n ≡ 4)) (sym (c.number.ensures ∙ ap number_of c.status.ensures))
     (served g.S.Source.gives g.S.Source.fails g.S.Source.ended g.S.Source.faults c.args.input.now c.perform-end.new.input
-    g.D.Disk.view (disks c.args.control_a.now c.args.control_b.now c.args.content.now) (disks c.perform-end.new.control_a c.perform-end.new.control_b c.perform-end.new.content)
+    g.D.Disk.view (disks c.args.control.now c.args.alternate.now c.args.content.now) (disks c.perform-end.new.control c.perform-end.new.alternate c.perform-end.new.content)
     (seen g.L.Link.story g.L.Link.faults g.C.Clock.seconds g.C.Clock.milliseconds c.args.link.now c.args.clock.now) (seen g.L.Link.story g.L.Link.faults g.C.Clock.seconds g.C.Clock.milliseconds c.perform-end.new.link c.perform-end.new.clock)
     (at_sink g.K.Sink.takes g.K.Sink.fails g.K.Sink.faults c.args.out.now c.perform-end.new.out) honest unfailed waiting sourced (λ text cut. sound cut.1)
     _ _ _ (asked (texts_of c.args.words.now)) service c.perform-end.result asks c.perform-end.ensures.happened)

@@ -1,0 +1,24 @@
+//! The inputs of steps.
+
+ghost use Rattle.std.specs.Prelude.{IfOk};
+ghost use Rattle.oc_model.specs.Lawful.{IsInput};
+
+use crate::node::acts::{act_in, delivery_in};
+use oc_base::NodeId;
+use oc_model::Input;
+use std::alloc::Global;
+use test_tools::{Fault, RowStep};
+
+/// How many nodes there are.
+pub const NODES: u32 = 3;
+
+/// The input of a step such as `move:1`, to this node: an act, or `recv:HEX`, a message in its bytes.
+pub fn input_in(alloc: Global, mut step: RowStep<'_>, me: NodeId) -> Result<Input, Fault>
+    ensures { IfOk result (λ input. IsInput 3 me input) }
+{
+    if step.word == "recv" {
+        delivery_in::<NODES>(alloc, &step.fields.bytes(alloc)?, me)
+    } else {
+        act_in::<NODES>(alloc, step, me)
+    }
+}

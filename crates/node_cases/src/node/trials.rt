@@ -1,0 +1,79 @@
+//! Trials: a node is loaded, and takes inputs up to the first that is refused.
+
+ghost use Rattle.std.specs.Prelude.{IfOk};
+ghost use Rattle.std.specs.List.{AllByRecursion};
+ghost use Rattle.oc_model.specs.Lawful.{IsInput};
+
+use crate::node::files::show;
+use crate::node::given::Given;
+use crate::node::inputs::{NODES, input_in};
+use oc_base::NodeId;
+use oc_io::Disk;
+use oc_keep::{Trial, trial};
+use oc_model::Input;
+use std::alloc::Global;
+use test_tools::{Fault, NodeDisks, RowDisk, RowFields, RowStep};
+
+/// More inputs than a row has.
+const MOST_INPUTS: u32 = 100;
+
+/// Puts the words of a row: how many inputs were taken, why the trial ended, and then what the disks hold after a
+/// crash.
+pub fn put_words<D: RowDisk>(alloc: Global, given: &str, said: &mut String) -> Result<(), Fault> {
+    let given = Given::of(given);
+    let me = given.id()?;
+    let files = given.files::<D>(alloc)?;
+    let (files, trial) = tried(alloc, me, given.steps, files)?;
+    put_trial(&trial, said)?;
+    show(alloc, given.shown, me, files, said)
+}
+
+fn put_trial(trial: &Trial, said: &mut String) -> Result<(), Fault> {
+    Ok(write!(said, "{} {:?} ", trial.done, trial.end)?)
+}
+
+/// The files after a trial of the inputs of these steps, and how it ended.
+fn tried<D: Disk + Drop>(
+    alloc: Global,
+    me: NodeId,
+    steps: RowFields<'_>,
+    files: NodeDisks<D>,
+) -> Result<(NodeDisks<D>, Trial), Fault> {
+    if me.0 < 1 || me.0 > NODES {
+        return Err(Fault::Field);
+    }
+    let inputs = inputs_in(alloc, steps, me)?;
+    let areas = vec![in alloc; 0, 0, 0]?;
+    let NodeDisks {
+        control,
+        alternate,
+        content,
+    } = files;
+    let (control, alternate, content, trial) = trial(
+        alloc, control, alternate, content, me, NODES, 1, areas, inputs,
+    );
+    Ok((
+        NodeDisks {
+            control,
+            alternate,
+            content,
+        },
+        trial,
+    ))
+}
+
+/// The inputs of steps.
+#[tactic(auto, using(crate::proofs::Lists::inputs_push))]
+fn inputs_in(alloc: Global, mut steps: RowFields<'_>, me: NodeId) -> Result<Vec<Input>, Fault>
+    ensures { IfOk result (λ inputs. AllByRecursion (IsInput 3 me) inputs.items) }
+{
+    let mut inputs = Vec::new(alloc);
+    for _ in 0..MOST_INPUTS {
+        if steps.is_empty() {
+            break;
+        }
+        let input = input_in(alloc, RowStep::of(steps.text()), me)?;
+        inputs.push(input)?;
+    }
+    Ok(inputs)
+}

@@ -1,0 +1,82 @@
+//! Downloads over a link and onto a sink in memory.
+
+use crate::connections::texts::{put_text, text_in, texts_in};
+use oc_fetch::{GetEnd, follow, get};
+use oc_io::{MemSink, Sink};
+use oc_link::{Link, MemLink};
+use std::alloc::Global;
+use std::str;
+use test_tools::{Fault, RowFields, RowStep};
+
+/// The room of a link and of a sink.
+const ROOM: usize = 1_000_000;
+
+/// More dials than a row makes.
+const MOST_DIALS: u64 = 20;
+
+/// Puts the words of a row: how the download ended, what was written, and what each dial was sent.
+pub fn put_words(alloc: Global, given: &str, said: &mut String) -> Result<(), Fault> {
+    let mut fields = RowFields::of(given, ' ');
+    let call = RowStep::of(fields.text());
+    let address = text_in(alloc, fields.text())?;
+    put_conversation(alloc, call, &address, fields, said)
+}
+
+/// Puts the words of a call for this address, where the fields have the link and the sink.
+fn put_conversation(
+    alloc: Global,
+    call: RowStep<'_>,
+    address: &[u8],
+    mut fields: RowFields<'_>,
+    said: &mut String,
+) -> Result<(), Fault> {
+    let cut = fields.small()?;
+    let link_fails = fields.text();
+    let mut sink = MemSink::new(alloc, ROOM, fields.numbers(alloc)?)?;
+    let mut link = link_in(alloc, fields.list(), cut, link_fails)?;
+    let end = download(alloc, call, address, &mut link, &mut sink)?;
+    tell(end, &link, &sink, said)
+}
+
+/// A link with these replies, of which one read gives at most `cut` bytes, and whose calls of these numbers fail.
+fn link_in(alloc: Global, replies: RowFields<'_>, cut: u32, fails: &str) -> Result<MemLink, Fault> {
+    let cut = cut as usize;
+    if cut < 1 {
+        return Err(Fault::Field);
+    }
+    let replies = texts_in(alloc, replies)?;
+    let fails = RowFields::of(fails, ' ').numbers(alloc)?;
+    Ok(MemLink::new(alloc, Vec::new(alloc), replies, ROOM, cut, fails)?)
+}
+
+/// Makes the call of a row.
+fn download<L: Link, S: Sink>(
+    alloc: Global,
+    mut call: RowStep<'_>,
+    address: &[u8],
+    link: &mut L,
+    sink: &mut S,
+) -> Result<GetEnd, Fault> {
+    let Ok(address) = str::from_utf8(address) else {
+        return Err(Fault::Field);
+    };
+    match call.word {
+        "get" => Ok(get(alloc, address, link, sink)),
+        "follow" => Ok(follow(alloc, address, call.fields.number()?, link, sink)),
+        _ => Err(Fault::Field),
+    }
+}
+
+/// Tells how a download ended, what was written, and what each dial was sent.
+fn tell(end: GetEnd, link: &MemLink, sink: &MemSink, said: &mut String) -> Result<(), Fault> {
+    write!(said, "{end:?} ")?;
+    put_text(said, sink.text())?;
+    for at in 0..MOST_DIALS {
+        let Some(request) = link.dialled(at) else {
+            break;
+        };
+        said.push_str(" ")?;
+        put_text(said, request)?;
+    }
+    Ok(())
+}

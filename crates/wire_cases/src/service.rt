@@ -1,0 +1,56 @@
+//! The texts that a node and a client read and write, what requests ask of a node, and what they are answered.
+
+mod asking;
+mod chunked;
+mod configurations;
+mod lines;
+mod locations;
+mod measure_lines;
+mod replies;
+mod requests;
+mod responses;
+mod rules;
+mod texts;
+mod verdicts;
+
+use std::alloc::Global;
+use std::io;
+use test_tools::{Cases, Fault};
+
+/// The tables, in their order.
+const TABLES: [&str; 9] = [
+    "configurations",
+    "verdicts",
+    "chunked",
+    "measure_lines",
+    "locations",
+    "requests",
+    "responses",
+    "replies",
+    "lines",
+];
+
+/// The words of the rows, by table.
+struct ServiceTables;
+
+impl Cases for ServiceTables {
+    fn put_words(alloc: Global, table: &str, given: &str, said: &mut String) -> Result<(), Fault> {
+        match table {
+            "configurations" => configurations::put_words(alloc, given, said),
+            "verdicts" => verdicts::put_words(alloc, given, said),
+            "chunked" => chunked::put_words(alloc, given, said),
+            "measure_lines" => measure_lines::put_words(alloc, given, said),
+            "locations" => locations::put_words(alloc, given, said),
+            "requests" => requests::put_words(alloc, given, said),
+            "responses" => responses::put_words(alloc, given, said),
+            "replies" => replies::put_words(alloc, given, said),
+            "lines" => lines::put_words(alloc, given, said),
+            _ => Err(Fault::Field),
+        }
+    }
+}
+
+/// Plays the tables, one after another.
+pub fn play(rt: &HostRuntime) -> io::Result<()> {
+    test_tools::play::<ServiceTables, _>(rt, "service", &TABLES)
+}

@@ -1,0 +1,159 @@
+//! What a request is answered for the answer of its step.
+
+ghost use Rattle.std.specs.Prelude.{option_map};
+ghost use Rattle.std.specs.Option.{ForSome};
+ghost use Rattle.oc_routes.specs.Lawful.{IsAsked};
+ghost use Rattle.oc_wire.specs.Spelling.{HasSpelling};
+
+use crate::service::asking::{ReadRequest, request_in};
+use oc_base::NodeId;
+use oc_model::{Answer, Message};
+use oc_routes::{Persistence, Response, is_last, respond};
+use oc_wire::decode;
+use std::alloc::Global;
+use test_tools::{Fault, RowFields, put_spelled, spelled_in};
+
+/// Puts the words of a row: what becomes of the connection, the content that is sent, and the text.
+pub fn put_words(alloc: Global, given: &str, said: &mut String) -> Result<(), Fault> {
+    let (turn, rest) = given.split_once(' ').unwrap_or((given, ""));
+    let (reply, text) = rest.split_once(' ').unwrap_or((rest, ""));
+    // A match, since a check does not find the type of the answer in a `?` that is an argument.
+    match turn_in(RowFields::of(turn, ',')) {
+        Ok(turn) => put_answered(alloc, turn, reply, text, said),
+        Err(fault) => Err(fault),
+    }
+}
+
+/// What comes to a request besides its bytes.
+#[derive(Clone, Copy)]
+struct Turn {
+    /// The number of the request on its connection.
+    number: u64,
+    answer: Answer,
+    sealed: bool,
+}
+
+/// Puts the words of the row of this turn.
+fn put_answered(
+    alloc: Global,
+    turn: Turn,
+    reply: &str,
+    text: &str,
+    said: &mut String,
+) -> Result<(), Fault> {
+    let reply = RowFields::of(reply, ' ').bytes(alloc)?;
+    match request_in(alloc, spelled_in(alloc, text)?, &[]) {
+        Ok(request) => put_response(said, &response_of(alloc, &request, turn, &reply)?),
+        Err(_) => Err(Fault::Unready),
+    }
+}
+
+/// The turn of a text such as `1,serve:3,open`.
+fn turn_in(mut fields: RowFields<'_>) -> Result<Turn, Fault> {
+    let number = fields.number()?;
+    let answer = answer_in(RowFields::of(fields.text(), ':'))?;
+    let sealed = match fields.text() {
+        "sealed" => true,
+        "open" => false,
+        _ => return Err(Fault::Field),
+    };
+    Ok(Turn {
+        number,
+        answer,
+        sealed,
+    })
+}
+
+fn answer_in(mut fields: RowFields<'_>) -> Result<Answer, Fault> {
+    match fields.text() {
+        "ok" => Ok(Answer::Ok),
+        "ignored" => Ok(Answer::Ignored),
+        "notsource" => Ok(Answer::NotSource),
+        "nogroup" => Ok(Answer::NoGroup),
+        "groups" => Ok(Answer::Groups),
+        "toolong" => Ok(Answer::TooLong),
+        "sealed" => Ok(Answer::Sealed),
+        "redirect" => Ok(Answer::Redirect(NodeId(fields.small()?))),
+        "serve" => Ok(Answer::Serve(fields.number()?)),
+        _ => Err(Fault::Field),
+    }
+}
+
+/// The response, where the message of these bytes goes back to the sender, if there are any.
+fn response_of(
+    alloc: Global,
+    request: &ReadRequest,
+    turn: Turn,
+    reply: &[u8],
+) -> Result<Response, Fault>
+    requires { IsAsked request.now.asks }
+{
+    if reply.is_empty() {
+        return respond_with(alloc, request, turn, None);
+    }
+    match decode(alloc, reply, 3) {
+        Ok(message) => respond_with(alloc, request, turn, Some(&message)),
+        Err(_) => Err(Fault::Field),
+    }
+}
+
+fn respond_with(
+    alloc: Global,
+    request: &ReadRequest,
+    turn: Turn,
+    reply: Option<&Message>,
+) -> Result<Response, Fault>
+    requires asks { IsAsked request.now.asks }
+    requires reply { ForSome (option_map (λ m. m.now) reply) (λ m. HasSpelling m.body) }
+{
+    let addresses = addresses(alloc)?;
+    let last = is_last(&request.head, turn.number);
+    Ok(respond(
+        alloc,
+        &request.asks,
+        turn.answer,
+        reply,
+        turn.sealed,
+        &addresses,
+        last,
+    )?)
+}
+
+fn addresses(alloc: Global) -> Result<Vec<String>, Fault> {
+    let mut addresses = Vec::new(alloc);
+    addresses.push(format!(in alloc; "127.0.0.1:7001")?)?;
+    addresses.push(format!(in alloc; "127.0.0.1:7002")?)?;
+    addresses.push(format!(in alloc; "node.example:80")?)?;
+    Ok(addresses)
+}
+
+fn put_response(said: &mut String, response: &Response) -> Result<(), Fault> {
+    said.push_str(match response.connection {
+        Persistence::Close => "close ",
+        Persistence::Keep => "keep ",
+    })?;
+    if let Some(content) = response.content {
+        let start = content.start;
+        let count = content.count;
+        let coding = if content.chunked { "chunked" } else { "plain" };
+        write!(said, "{start}+{count} {coding} ")?;
+    }
+    put_text(said, response.text.items())
+}
+
+/// Puts a text, with the number of the bytes `x` at its end in their place.
+fn put_text(said: &mut String, text: &[u8]) -> Result<(), Fault> {
+    let mut front = text;
+    for _ in 0..text.len() {
+        let [before @ .., b'x'] = front else {
+            break;
+        };
+        front = before;
+    }
+    put_spelled(said, front)?;
+    let count = text.len().saturating_sub(front.len());
+    if count > 0 {
+        write!(said, " x*{count}")?;
+    }
+    Ok(())
+}

@@ -21,7 +21,7 @@ use crate::replying::{say, send_response};
 use crate::requests::{Request, read_request};
 use oc_base::{GroupName, NodeId, Shelf};
 use oc_config::Config;
-use oc_http::{Persistence, HeadReader};
+use oc_http::{HeadReader, Persistence};
 use oc_io::{Disk, Sink};
 use oc_keep::Kept;
 use oc_link::Link;

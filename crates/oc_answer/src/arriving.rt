@@ -12,7 +12,7 @@ ghost use Rattle.oc_turn.specs.Scenes.{Did, EndsStill, scene};
 
 use crate::answering::serve_request;
 use oc_config::Config;
-use oc_http::{Persistence, HeadReader};
+use oc_http::{HeadReader, Persistence};
 use oc_io::{Disk, Sink};
 use oc_keep::Kept;
 use oc_link::Link;

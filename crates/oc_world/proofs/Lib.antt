@@ -1,4 +1,3 @@
-pub mod GivenInputs
 pub mod Source
 pub mod Turns
 pub mod Sites

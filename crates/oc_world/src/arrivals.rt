@@ -1,48 +1,89 @@
 //! Which input an act brings to which node.
 
-ghost use Rattle.std.specs.Prelude.{◌≡◌, ℕ, ◌+◌, ◌<◌, ◌⊎◌, option_map, IfNone, IfOk, IfSome};
-ghost use Rattle.oc_base.specs.Lawful.{IsNode};
+ghost use Rattle.std.specs.Prelude.{◌≡◌, ◌+◌, ◌<◌, ◌⊎◌, option_map, IfNone, IfOk, IfSome};
 ghost use Rattle.oc_calm.specs.Cluster.{IsStep};
-ghost use Rattle.oc_model.specs.Lawful.{IsInput};
 ghost use Rattle.oc_model.specs.World.{World as WorldState, arrival as arrival_in, delivery, message_at};
-ghost use Rattle.oc_model.specs.declared.event.Act.TheVariants.{At};
 ghost use Rattle.oc_world.specs.Arrivals.{IsLawfulArrival, arrival_at};
 
 use crate::net::Net;
 use oc_base::{Memory, NodeId};
 use oc_model::{Act, Input};
 
-/// The input of an act, and the node that it comes to; none where no message has the number of a delivery.
+/// A copy of the input of an act, and the node that it comes to; none where no message has the number of a
+/// delivery. A message comes by its number alone.
 pub(crate) fn arrival(net: &Net, act: &Act) -> Result<Option<(NodeId, Input)>, Memory>
     requires { IsStep net.now.nodes act.now }
     ensures arrival { IfOk result (λ found. (w : WorldState) → w.net ≡ net.now.messages → option_map arrival_at found ≡ arrival_in w act.now) }
     ensures lawful { IfOk result (λ found. IsLawfulArrival net.now.nodes found) }
 {
     match act {
-        Act::At { node, input } => given(*node, input),
+        Act::At {
+            node,
+            input: Input::Tick(now),
+        } => at_node(*node, Input::Tick(*now)),
+        Act::At {
+            node,
+            input: Input::CheckNow,
+        } => at_node(*node, Input::CheckNow),
+        Act::At {
+            node,
+            input: Input::Relocate(peer),
+        } => at_node(*node, Input::Relocate(*peer)),
+        Act::At {
+            node,
+            input: Input::Unreachable(peer),
+        } => at_node(*node, Input::Unreachable(*peer)),
+        Act::At {
+            node,
+            input: Input::Pull(peer),
+        } => at_node(*node, Input::Pull(*peer)),
+        Act::At {
+            node,
+            input: Input::Measured { peer, rate, hops },
+        } => at_node(
+            *node,
+            Input::Measured {
+                peer: *peer,
+                rate: *rate,
+                hops: *hops,
+            },
+        ),
+        Act::At {
+            node,
+            input: Input::Publish { group, bytes },
+        } => {
+            let bytes = bytes.clone()?;
+            let group = *group;
+            at_node(*node, Input::Publish { group, bytes })
+        }
+        Act::At {
+            node,
+            input: Input::Seal { group },
+        } => at_node(*node, Input::Seal { group: *group }),
+        Act::At {
+            node,
+            input: Input::Client { area, start, group },
+        } => at_node(
+            *node,
+            Input::Client {
+                area: *area,
+                start: *start,
+                group: *group,
+            },
+        ),
+        Act::At {
+            input: Input::Delivered(_),
+            ..
+        } => Ok(None),
         Act::Deliver { number } => delivery(net, *number),
     }
 }
 
-/// This input, at this node. A message comes by its number alone.
-fn given(node: NodeId, input: &Input) -> Result<Option<(NodeId, Input)>, Memory>
-    ensures arrival { IfOk result (λ found. (w : WorldState) → option_map arrival_at found ≡ arrival_in w (At node input.now)) }
-    ensures lawful { IfOk result (λ found. (nodes : ℕ) → IsNode nodes node → IsInput nodes node input.now → IsLawfulArrival nodes found) }
+/// This input, at this node.
+fn at_node(node: NodeId, input: Input) -> Result<Option<(NodeId, Input)>, Memory>
+    ensures { result ≡ Ok (Some (node, input)) }
 {
-    match input {
-        Input::Delivered(_) => Ok(None),
-        _ => {
-            let input = copy_of(input)?;
-            Ok(Some((node, input)))
-        }
-    }
-}
-
-/// A copy of an input.
-fn copy_of(input: &Input) -> Result<Input, Memory>
-    ensures { IfOk result (λ copy. copy ≡ input.now) }
-{
-    Ok(input.clone()?)
+    Ok(Some((node, input)))
 }
 
 /// The delivery of the message of a number to its receiver.

@@ -3,7 +3,7 @@ use Rattle.oc_model.specs.Node.{Node, Outcome}
 use Rattle.oc_model.specs.Step.{step}
 use Rattle.oc_keep.specs.Errors.{of_commit, of_ready}
 use Rattle.oc_keep.specs.KeptView.{IsHonest, disks_of, node_of}
-use Rattle.oc_keep.specs.ReadyView.{outcome_of, told_of}
+use Rattle.oc_keep.specs.ReadyView.{IsFullToWrite, outcome_of, told_of}
 use Rattle.oc_keep.proofs.Ends.{done, shut_open}
 use Rattle.oc_keep.proofs.Runs.{all_reliable}
 use Rattle.oc_keep.proofs.Stays.{all_honest, ready_moments, unready_moments}
@@ -70,7 +70,7 @@ returns-in_err-commit-clause-refused g c =
     let e = c.in_err-commit.field-0.0 in
     let is = err_is _ (of_commit e) c.from_residual-in_err-commit.ensures.1 in
     let made = c.in_ok-ready.ensures.made in
-    rw is (uncommitted g.D.Disk.view e c.args.input c.args.self.now c.ready.new.self c.commit.new.self c.ready.ensures.same made.still _ made.full c.in_err-commit.ensures.full c.in_err-commit.ensures.refused)
+    rw is (uncommitted g.D.Disk.view e c.args.input c.args.self.now c.ready.new.self c.commit.new.self c.ready.ensures.same made.still (IsFullToWrite c.ready.new.self c.in_ok-ready.ready.write) made.full c.in_err-commit.ensures.full c.in_err-commit.ensures.refused)
 
 pub returns-in_err-commit-clause-closed : goal.returns-in_err-commit-clause-closed
 returns-in_err-commit-clause-closed g c =

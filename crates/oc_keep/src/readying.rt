@@ -6,6 +6,7 @@ ghost use Rattle.oc_content.specs.ContentFile.{IsShelved, groups_in};
 ghost use Rattle.oc_content.specs.Promises.{PutsNothing};
 ghost use Rattle.oc_journal.specs.Promises.{ClosesByRead, NoneFailed};
 ghost use Rattle.oc_keep.specs.KeptView.{IsFullAt, kept_of, node_of};
+ghost use Rattle.oc_keep.specs.Promises.{ChangesNothing};
 ghost use Rattle.oc_keep.specs.Puts.{CanWant};
 ghost use Rattle.oc_keep.specs.ReadyView.{CanCommit, IsFullToWrite, is_written, outcome_of};
 ghost use Rattle.oc_keep.specs.Writing.{KeepsStore, fetched};

@@ -17,7 +17,7 @@ pub invariant_of-self : goal.invariant_of-self
 invariant_of-self g c =
     let s = c.self.inside in
     let m = c.make_ready-made in
-    nothing_kept g.D.Disk.view (kept_of s.node s.store s.content s.closed) (kept_of m.new.node m.new.store m.new.content c.making_failed-self-inside.result) c.self.invariant m.ensures.nothing
+    nothing_kept g.D.Disk.view (kept_of s.node s.store s.content s.closed) (kept_of m.new.node m.new.store m.new.content c.making_failed-self-inside.result) c.self.invariant (record { control = m.ensures.nothing.control; store = m.ensures.nothing.store; content = m.ensures.nothing.content })
     (λ is_open. (c.if-self.false, ⊎_elim (λ failed. absurd (shut_open c.making_failed-self-inside.result (c.making_failed-self-inside.ensures.1 failed) is_open)) (λ none. none.closed) m.ensures.none_failed))
 
 pub returns-clause-made : goal.returns-clause-made
@@ -55,7 +55,7 @@ returns-clause-same g c =
     let m = c.make_ready-made in
     let k = kept_of s.node s.store s.content s.closed in
     let k2 = kept_of m.new.node m.new.store m.new.content c.making_failed-self-inside.result in
-    rw (← c.self.view_is) (nothing_same g.D.Disk.view k k2 (λ x h. g.met.D.Disk.consistent x h) c.self.invariant m.ensures.nothing)
+    rw (← c.self.view_is) (nothing_same g.D.Disk.view k k2 (λ x h. g.met.D.Disk.consistent x h) c.self.invariant (record { control = m.ensures.nothing.control; store = m.ensures.nothing.store; content = m.ensures.nothing.content }))
 
 pub returns-clause-closed : goal.returns-clause-closed
 returns-clause-closed g c =

@@ -1,4 +1,4 @@
-use Rattle.std.proofs.Common.{false, refl, sym, ap, subst, ◌∙◌}
+use Rattle.std.proofs.Common.{false, refl, ap, ◌∙◌}
 use Rattle.oc_model.specs.Node.{Node, Outcome}
 use Rattle.oc_model.specs.Step.{step}
 use Rattle.oc_keep.specs.Errors.{of_commit, of_ready}

@@ -1,7 +1,7 @@
-use Rattle.std.proofs.Common.{◌+◌, Bool, IsTrue, false, inl, inr, refl, sym, ap, ◌∙◌, ⊎_elim}
+use Rattle.std.proofs.Common.{◌+◌, Bool, IsTrue, false, inl, inr, refl, ⊎_elim}
 use Rattle.std.proofs.lemmas.Result.{IfOk-weaker}
 use Rattle.oc_model.specs.Snapshot.{snapshot}
-use Rattle.oc_keep.specs.KeptView.{KeptView, kept_of}
+use Rattle.oc_keep.specs.KeptView.{kept_of}
 use Rattle.oc_keep.specs.Promises.{IsTurnedOver}
 use Rattle.oc_keep.specs.Turning.{IsShort, Replaces}
 use Rattle.oc_keep.proofs.Ends.{done, shut_open, still_open}

@@ -59,7 +59,7 @@ pub(crate) fn serve_request<D: Disk, L: Link, K: Sink>(
         (L.story link.old) (L.story link.new))) }
     ensures count { CountsTalking (L.faults link.old) (L.faults link.new) }
 {
-    // While no disk failed, the node is what the files recover.
+    kept.recovers();
     let node = kept.node();
     let (me, nodes) = (node.id(), node.nodes());
     match read_request(alloc, reader, me, nodes, &config.rules, link, number) {
@@ -127,8 +127,7 @@ fn answer<D: Disk, L: Link, K: Sink>(
         (L.story link.old) (L.story link.new))) }
     ensures count { CountsTalking (L.faults link.old) (L.faults link.new) }
 {
-    // While no disk failed, the node is what the files recover.
-    let _node = kept.node();
+    kept.recovers();
     let Request { asks, entry, last } = request;
     match entry {
         Some(entry) => answer_input(alloc, kept, outbox, config, link, sink, &asks, entry, last),
@@ -229,8 +228,7 @@ fn reply_to<D: Disk, L: Link, K: Sink>(
     ensures stops { IfErr result (λ end. ReplyStops D.view K.takes K.fails K.faults end kept.old kept.new sink.old sink.new) }
     ensures talked { Talked (L.story link.old) (L.story link.new) (L.faults link.old) (L.faults link.new) }
 {
-    // While no disk failed, the node is what the files recover.
-    let _before = kept.node();
+    kept.recovers();
     let sealed = is_sealed(kept.shelf(), asks);
     let response = respond(
         alloc,
@@ -245,8 +243,7 @@ fn reply_to<D: Disk, L: Link, K: Sink>(
     if whole {
         return Ok(response.connection);
     }
-    // While no disk failed, the node is what the files recover.
-    let _node = kept.node();
+    kept.recovers();
     write_failed_line(sink)?;
     Ok(Persistence::Close)
 }

@@ -49,8 +49,7 @@ pub(crate) fn send_response<D: Disk, L: Link>(
     ensures cut { OnErr result (IsHonest D.view kept.old → Fits asks.now response.now.content (node_of kept.old).groups
         → WritesFront (whole_text asks.now response.now (node_of kept.old).groups) (L.story link.old) (L.story link.new)) }
 {
-    // While no disk failed, the node is what the files recover.
-    let _node = kept.node();
+    kept.recovers();
     if !say(link, response.text.items()) {
         return Ok(false);
     }
@@ -101,8 +100,7 @@ fn send_content<D: Disk, L: Link>(
     ensures cut { OnErr result (IsHonest D.view kept.old → FitsIn group.now content.now (node_of kept.old).groups
         → WritesFront (coded content.now.chunked (part_of group.now content.now.start content.now.count (node_of kept.old).groups)) (L.story link.old) (L.story link.new)) }
 {
-    // While no disk failed, the node is what the files recover.
-    let _node = kept.node();
+    kept.recovers();
     let mut buffer = zeros(alloc, PIECE_BYTES as usize)?;
     if !send_pieces(alloc, kept, link, group, content, &mut buffer)? {
         return Ok(false);
@@ -138,8 +136,7 @@ fn send_pieces<D: Disk, L: Link>(
     'pieces: while left > 0 {
         let wanted = left.min(PIECE_BYTES) as usize;
         let count = read_piece(kept, group, at, &mut buffer[..wanted])?;
-        // While no disk failed, the node is what the files recover.
-        let _node = kept.node();
+        kept.recovers();
         if count == 0 {
             return Ok(false);
         }

@@ -15,7 +15,7 @@ ghost use Rattle.oc_model.specs.Status.{status_of};
 use crate::showing::show;
 use oc_base::{Memory, NodeId};
 use oc_io::Disk;
-use oc_keep::{KeepLoad, Kept};
+use oc_keep::{Files, KeepLoad, Kept, Seat};
 use std::alloc::Global;
 
 /// What the files of a node showed, and the disks.
@@ -60,7 +60,18 @@ pub(crate) fn load_and_show<D: Disk>(
             };
         }
     };
-    match Kept::load(alloc, control, alternate, content, id, nodes, chain, areas) {
+    let files = Files {
+        control,
+        alternate,
+        content,
+    };
+    let seat = Seat {
+        id,
+        nodes,
+        chain,
+        areas,
+    };
+    match Kept::load(alloc, files, seat) {
         Ok(kept) => {
             let text = text_of(alloc, &kept, id);
             let (control, alternate, content) = kept.into_disks();
@@ -71,12 +82,19 @@ pub(crate) fn load_and_show<D: Disk>(
                 text,
             }
         }
-        Err((control, alternate, content, error)) => Shown {
-            control,
-            alternate,
-            content,
-            text: Err(error),
-        },
+        Err((files, error)) => {
+            let Files {
+                control,
+                alternate,
+                content,
+            } = files;
+            Shown {
+                control,
+                alternate,
+                content,
+                text: Err(error),
+            }
+        }
     }
 }
 

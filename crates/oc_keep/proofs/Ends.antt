@@ -26,9 +26,6 @@ still_open r e closed not is_open = (λ wrong. absurd (not wrong), λ shut. absu
 pub done : {T E : Type 0} (x : T) (e : E) → IsErrOf (Ok x) e → ⊥
 done x e wrong = absurd cc
 
-pub not_failed : {T E : Type 0} (r : Result T E) (x : T) (e : E) → r ≡ Ok x → IsErrOf r e → ⊥
-not_failed r x e is wrong = absurd cc
-
 pub commit_unfull : {T : Type 0} (e : CommitError) → e ≡ commits.Disk → IsErrOf {T = T} (Err e) commits.Full → ⊥
 commit_unfull e disk wrong = absurd cc
 
@@ -44,12 +41,6 @@ ended_all ended = absurd cc
 
 pub ended_load : (e : KeepLoad) → ends.Load e ≡ ends.Take keeps.Full → ⊥
 ended_load e ended = absurd cc
-
-pub full_unfailed : (e : KeepError) → e ≡ keeps.Full → e ≡ keeps.Disk → ⊥
-full_unfailed e full disk = absurd cc
-
-pub full_no_disk : {T : Type 0} (e : KeepError) → e ≡ keeps.Full → IsErrOf {T = T} (Err e) keeps.Disk → ⊥
-full_no_disk e full wrong = absurd cc
 
 -- a read that failed is not one of a closed node
 pub kept_none : {T : Type 0} → IsErrOf {T = T} (Err kepts.NoGroup) kepts.Closed → ⊥

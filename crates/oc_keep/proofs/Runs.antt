@@ -10,6 +10,7 @@ use Rattle.oc_model.specs.Step.{plan, step}
 use Rattle.oc_io.specs.DiskView.{DiskView}
 use Rattle.oc_io.proofs.Counts.{Rose-after}
 use Rattle.oc_io.proofs.DiskMoments.{GoesOn-then, still_reliable}
+use Rattle.oc_keep.specs.Calls.{DoesNothing, RefusesInput}
 use Rattle.oc_keep.specs.declared.ended.Trial.{Trial}
 use Rattle.oc_keep.specs.declared.ended.TrialEnd.{TrialEnd}
 use Rattle.oc_keep.specs.declared.ended.TrialEnd.TheVariants.{All, Load, Take}
@@ -180,17 +181,17 @@ module _ {D : Type 0} (view : D → DiskView) (law : Law view) (first : KeptView
   refused_count now i rest done so = omega (arith, so.count, ap length so.split, length-append so.taken (i ∷ rest))
 
   pub refused_cause : (now new : KeptView D) (i : Input) (rest : List Input) (done : ℕ) (error : KeepError) → IsSoFar view first now all (i ∷ rest) done
-      → (error ≡ keeps.Closed → IsTrue now.closed) → (error ≡ keeps.Disk → Closes view now new) → HasTakeCause view (disks_of first) (disks_of new) error
-  refused_cause now new i rest done keeps.Closed so closed disk = let no : now.closed ≡ true = closed refl in let yes = so.is_open in absurd cc
-  refused_cause now new i rest done keeps.Memory so closed disk = tt
-  refused_cause now new i rest done keeps.Full so closed disk = tt
-  refused_cause now new i rest done keeps.Disk so closed disk = one_rose_after view (disks_of first) (disks_of now) (disks_of new) so.on (disk refl).rose
+      → (error ≡ keeps.Closed → IsTrue now.closed) → RefusesInput view error i now new → HasTakeCause view (disks_of first) (disks_of new) error
+  refused_cause now new i rest done keeps.Closed so closed refused = let no : now.closed ≡ true = closed refl in let yes = so.is_open in absurd cc
+  refused_cause now new i rest done keeps.Memory so closed refused = tt
+  refused_cause now new i rest done keeps.Full so closed refused = tt
+  refused_cause now new i rest done keeps.Disk so closed refused = one_rose_after view (disks_of first) (disks_of now) (disks_of new) so.on refused.why.1.rose
 
   pub refused_leaves : (now new : KeptView D) (i : Input) (rest : List Input) (done : ℕ) (error : KeepError) → IsSoFar view first now all (i ∷ rest) done → AllGoOn view (disks_of now) (disks_of new)
-      → ((error ≡ keeps.Disk → ⊥) → ChangesNothing view now new)
+      → RefusesInput view error i now new
       → (IsHonest view now → AtAnyMoment view now new (SameAsEither (node_of now) (step (node_of now) i).node))
       → IsHonest view first → LeavesTaken view (header_of first.node.control) first.node.control.me (node_of first) all (disks_of new) done error
-  refused_leaves now new i rest done error so on unchanged moments honest = by_error error unchanged where
+  refused_leaves now new i rest done error so on refused moments honest = by_error error refused where
     later : IsHonest view now
     later = all_honest view (disks_of first) (disks_of now) so.on honest
 
@@ -224,11 +225,11 @@ module _ {D : Type 0} (view : D → DiskView) (law : Law view) (first : KeptView
         (named (λ h me. Survives view h me (disks_of new) (node_of now))
         (leaves_stays view (header_of now.node.control) now.node.control.me (disks_of now) (disks_of new) (SameDurable (node_of now)) later (nothing_stays view now new nothing) (so.survives honest)))
 
-    by_error : (e : KeepError) → ((e ≡ keeps.Disk → ⊥) → ChangesNothing view now new) → LeavesTaken view (header_of first.node.control) first.node.control.me (node_of first) all (disks_of new) done e
-    by_error keeps.Closed unchanged = kept (unchanged (λ e. absurd cc))
-    by_error keeps.Memory unchanged = kept (unchanged (λ e. absurd cc))
-    by_error keeps.Full unchanged = kept (unchanged (λ e. absurd cc))
-    by_error keeps.Disk unchanged = failed
+    by_error : (e : KeepError) → RefusesInput view e i now new → LeavesTaken view (header_of first.node.control) first.node.control.me (node_of first) all (disks_of new) done e
+    by_error keeps.Closed refused = kept refused.why.nothing
+    by_error keeps.Memory refused = kept refused.why.nothing
+    by_error keeps.Full refused = kept refused.why.1.nothing
+    by_error keeps.Disk refused = failed
 
   -- since its file is full
   pub refused_full : (now new : KeptView D) (i : Input) (rest : List Input) (done : ℕ) → IsSoFar view first now all (i ∷ rest) done → IsFullAt now i → ChangesNothing view now new → new.closed ≡ now.closed → IsHonest view first → EndsFull first all new done
@@ -243,6 +244,13 @@ module _ {D : Type 0} (view : D → DiskView) (law : Law view) (first : KeptView
 
       back : drop done all ≡ i ∷ rest
       back = ap (λ (n : ℕ). drop n all) so.count ∙ ap (drop (length so.taken)) so.split ∙ drop_at so.taken (i ∷ rest) (length so.taken) refl
+
+-- an input that was refused since its file is full
+pub taken_full : {D : Type 0} (view : D → DiskView) (error : KeepError) (i : Input) (old new : KeptView D) → error ≡ keeps.Full → RefusesInput view error i old new → IsFullAt old i × DoesNothing view old new
+taken_full view keeps.Closed i old new is refused = absurd cc
+taken_full view keeps.Memory i old new is refused = absurd cc
+taken_full view keeps.Full i old new is refused = refused.why
+taken_full view keeps.Disk i old new is refused = absurd cc
 
 -- A trial
 

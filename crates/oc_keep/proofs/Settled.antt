@@ -1,7 +1,10 @@
 -- A call that closes the node exactly where its disk failed.
 use Rattle.std.proofs.Common.{◌≡◌, ◌≢◌, ◌⊎◌, inl, inr, ◌↔◌, Bool, true, false, IsTrue, IsErrOf, IfOk, IfErr, Result, Ok, Err, List, refl, sym, ap, subst, ◌∙◌}
 use Rattle.oc_io.specs.DiskView.{DiskView}
+use Rattle.oc_model.specs.declared.input.Input.{Input}
 use Rattle.oc_model.specs.declared.record.Record.{Record}
+use Rattle.oc_model.specs.NextWorld.{writes}
+use Rattle.oc_model.specs.Step.{step}
 use Rattle.oc_node.specs.NodeView.{NodeView}
 use Rattle.oc_content.specs.ContentView.{ContentView}
 use Rattle.oc_store.specs.StoreView.{StoreView}
@@ -9,9 +12,11 @@ use Rattle.oc_keep.specs.declared.errors.ReadyError.{ReadyError}
 use Rattle.oc_keep.specs.declared.errors.ReadyError.TheVariants as readies
 use Rattle.oc_keep.specs.declared.errors.TidyError.{TidyError}
 use Rattle.oc_keep.specs.declared.errors.TidyError.TheVariants as tidies
-use Rattle.oc_keep.specs.KeptView.{kept_of}
-use Rattle.oc_keep.specs.Promises.{ChangesNothing}
-use Rattle.oc_keep.specs.ReadyView.{CanCommit, ReadyView}
+use Rattle.oc_keep.specs.Calls.{FailsToReady, FailsToTidy, IsReadyFor, Tidies}
+use Rattle.oc_keep.specs.Files.{AreReliable}
+use Rattle.oc_keep.specs.KeptView.{IsFullAt, IsHonest, KeptView, disks_of, kept_of, node_of}
+use Rattle.oc_keep.specs.Promises.{Closes, IsTurnedOver}
+use Rattle.oc_keep.specs.ReadyView.{CanCommit, IsFullToWrite, ReadyView, is_written, outcome_of}
 use Rattle.oc_keep.specs.Turning.{ClosesByTurning, Replaces}
 use Rattle.oc_keep.specs.Writing.{KeepsStore}
 use Rattle.oc_keep.proofs.Stays.{keeps_none, puts_none}
@@ -41,6 +46,27 @@ pub ready_commits : {D : Type 0} (view : D → DiskView) (n : NodeView) (s : Sto
 ready_commits view n s c (Err e) b is can = tt
 ready_commits view n s c (Ok ready) b is can = subst (λ (closed : Bool). CanCommit view (kept_of n s c closed) ready) (sym (unfailed b is (λ wrong. absurd cc))) can
 
+-- what a call that made an input ready promises
+pub made_ready : {D : Type 0} (view : D → DiskView) (i : Input) (k k2 : KeptView D) (r : Result ReadyView ReadyError)
+    → IfOk r (λ ready. IsHonest view k → outcome_of (node_of k) ready ≡ step (node_of k) i)
+    → IfOk r (λ ready. IsHonest view k → is_written ready.write ≡ writes (node_of k) i)
+    → IfOk r (λ ready. IsFullToWrite k2 ready.write ↔ IsFullAt k i)
+    → IfOk r (λ ready. CanCommit view k2 ready)
+    → IfOk r (λ ready. AreReliable view (disks_of k2) → ¬ IsFullToWrite k2 ready.write)
+    → ((IsErrOf r readies.Disk → ⊥) → k2.closed ≡ k.closed)
+    → IfOk r (λ ready. IsReadyFor view i ready k k2)
+made_ready view i k k2 (Err e) steps written full can fits still = tt
+made_ready view i k k2 (Ok ready) steps written full can fits still = record { step_is = steps; writes_is = written; full = full; commits = can; fits = fits; still = still (λ wrong. absurd cc) }
+
+-- and of one that did not
+pub unmade_ready : {D : Type 0} (view : D → DiskView) (i : Input) (k k2 : KeptView D) (r : Result ReadyView ReadyError)
+    → ((IsErrOf r readies.Disk → ⊥) → k2.closed ≡ k.closed) → (IsErrOf r readies.Disk → Closes view k k2) → (IsErrOf r readies.Disk → ¬ IsFullAt k i)
+    → IfErr r (λ e. e ≢ readies.Closed) → IfErr r (λ e. FailsToReady view e i k k2)
+unmade_ready view i k k2 (Ok ready) still closes fits other = tt
+unmade_ready view i k k2 (Err readies.Closed) still closes fits other = absurd (other refl)
+unmade_ready view i k k2 (Err readies.Memory) still closes fits other = still (λ wrong. absurd cc)
+unmade_ready view i k k2 (Err readies.Disk) still closes fits other = (fits refl, closes refl)
+
 -- A turning over
 
 -- an open node does not answer that it is closed
@@ -56,23 +82,25 @@ Turned view rs Short s s2 b =
 -- one of these is so, by what the call promises
 pub turned_so : {D : Type 0} (view : D → DiskView) (rs : List Record) (Short : Type 0) (s s2 : StoreView D) (b : Bool) (r : Result Bool TidyError) → (IsTrue b ↔ IsErrOf r tidies.Disk)
     → IfOk r (λ turned. IsTrue turned ↔ Short) → IfOk r (λ turned. IsTrue turned → Replaces view rs s s2) → IfOk r (λ turned. turned ≡ false → s2 ≡ s)
-    → (IsErrOf r tidies.Memory → KeepsStore view s s2) → (IsErrOf r tidies.Disk → ClosesByTurning view rs s s2) → (IsErrOf r tidies.Disk → Short) → IfErr r (λ e. e ≢ tidies.Closed) → Turned view rs Short s s2 b
-turned_so view rs Short s s2 b (Ok true) is short replaces stays memory disk short_err other = inl ((short.0 refl, replaces refl), unfailed b is (λ wrong. absurd cc))
-turned_so view rs Short s s2 b (Ok false) is short replaces stays memory disk short_err other = inr (inl (subst (KeepsStore view s) (sym (stays refl)) (keeps_none view s), unfailed b is (λ wrong. absurd cc)))
-turned_so view rs Short s s2 b (Err tidies.Closed) is short replaces stays memory disk short_err other = absurd (other refl)
-turned_so view rs Short s s2 b (Err tidies.Memory) is short replaces stays memory disk short_err other = inr (inl (memory refl, unfailed b is (λ wrong. absurd cc)))
-turned_so view rs Short s s2 b (Err tidies.Disk) is short replaces stays memory disk short_err other = inr (inr ((short_err refl, disk refl), is.1 refl))
+    → (IsErrOf r tidies.Memory → KeepsStore view s s2) → (IsErrOf r tidies.Disk → ClosesByTurning view rs s s2 × Short) → IfErr r (λ e. e ≢ tidies.Closed) → Turned view rs Short s s2 b
+turned_so view rs Short s s2 b (Ok true) is short replaces stays memory disk other = inl ((short.0 refl, replaces refl), unfailed b is (λ wrong. absurd cc))
+turned_so view rs Short s s2 b (Ok false) is short replaces stays memory disk other = inr (inl (subst (KeepsStore view s) (sym (stays refl)) (keeps_none view s), unfailed b is (λ wrong. absurd cc)))
+turned_so view rs Short s s2 b (Err tidies.Closed) is short replaces stays memory disk other = absurd (other refl)
+turned_so view rs Short s s2 b (Err tidies.Memory) is short replaces stays memory disk other = inr (inl (memory refl, unfailed b is (λ wrong. absurd cc)))
+turned_so view rs Short s s2 b (Err tidies.Disk) is short replaces stays memory disk other = inr (inr (((disk refl).1, (disk refl).0), is.1 refl))
 
--- where it was not turned over all is as it was
-pub unturned : {D : Type 0} (n : NodeView) (s s2 : StoreView D) (c : ContentView D) (b : Bool) (r : Result Bool TidyError) → (IsTrue b ↔ IsErrOf r tidies.Disk) → IfOk r (λ turned. turned ≡ false → s2 ≡ s)
-    → IfOk r (λ turned. turned ≡ false → kept_of n s2 c b ≡ kept_of n s c false)
-unturned n s s2 c b (Err e) is stays = tt
-unturned n s s2 c b (Ok turned) is stays = λ none. ap (λ (x : StoreView _). kept_of n x c b) (stays none) ∙ ap (λ (closed : Bool). kept_of n s c closed) (unfailed b is (λ wrong. absurd cc))
+-- it was turned over, or all is as it was
+pub turned_or_not : {D : Type 0} (view : D → DiskView) (n : NodeView) (s s2 : StoreView D) (c : ContentView D) (b : Bool) (r : Result Bool TidyError) → (IsTrue b ↔ IsErrOf r tidies.Disk) → IfOk r (λ turned. turned ≡ false → s2 ≡ s)
+    → IfOk r (λ turned. IsTrue turned → IsTurnedOver view (kept_of n s c false) (kept_of n s2 c b)) → IfOk r (λ turned. Tidies view turned (kept_of n s c false) (kept_of n s2 c b))
+turned_or_not view n s s2 c b (Err e) is stays turns = tt
+turned_or_not view n s s2 c b (Ok true) is stays turns = (turns refl, unfailed b is (λ wrong. absurd cc))
+turned_or_not view n s s2 c b (Ok false) is stays turns = ap (λ (x : StoreView _). kept_of n x c b) (stays refl) ∙ ap (λ (closed : Bool). kept_of n s c closed) (unfailed b is (λ wrong. absurd cc))
 
--- where memory ran out nothing changed
-pub untidied : {D : Type 0} (view : D → DiskView) (n : NodeView) (s s2 : StoreView D) (c : ContentView D) (was b : Bool) (r : Result Bool TidyError) → (IsErrOf r tidies.Memory → KeepsStore view s s2) → IfErr r (λ e. e ≢ tidies.Closed)
-    → IfErr r (λ e. e ≢ tidies.Disk → ChangesNothing view (kept_of n s c was) (kept_of n s2 c b))
-untidied view n s s2 c was b (Ok turned) memory other = tt
-untidied view n s s2 c was b (Err tidies.Closed) memory other = λ _. absurd (other refl)
-untidied view n s s2 c was b (Err tidies.Memory) memory other = λ _. record { control = refl; store = memory refl; content = puts_none view c }
-untidied view n s s2 c was b (Err tidies.Disk) memory other = λ not. absurd (not refl)
+-- where it was not turned over, memory ran out and nothing changed, or a disk failed
+pub untidied : {D : Type 0} (view : D → DiskView) (n : NodeView) (s s2 : StoreView D) (c : ContentView D) (b : Bool) (r : Result Bool TidyError) → (IsTrue b ↔ IsErrOf r tidies.Disk) → (IsErrOf r tidies.Memory → KeepsStore view s s2)
+    → (IsErrOf r tidies.Disk → Closes view (kept_of n s c false) (kept_of n s2 c b)) → IfErr r (λ e. e ≢ tidies.Closed)
+    → IfErr r (λ e. FailsToTidy view e (kept_of n s c false) (kept_of n s2 c b))
+untidied view n s s2 c b (Ok turned) is memory disk other = tt
+untidied view n s s2 c b (Err tidies.Closed) is memory disk other = absurd (other refl)
+untidied view n s s2 c b (Err tidies.Memory) is memory disk other = record { nothing = record { control = refl; store = memory refl; content = puts_none view c }; still = unfailed b is (λ wrong. absurd cc) }
+untidied view n s s2 c b (Err tidies.Disk) is memory disk other = disk refl

@@ -14,6 +14,7 @@ use Rattle.oc_store.specs.ControlFiles.{at_side, first_bad, records_of}
 use Rattle.oc_store.specs.declared.errors.Side.{Side}
 use Rattle.oc_store.specs.Promises.{ReservesCurrent, ReservesOther}
 use Rattle.oc_store.specs.StoreView.{StoreView, first_disk, second_disk}
+use Rattle.oc_keep.specs.Calls.{KeepsNode, StaysTheSame}
 use Rattle.oc_keep.specs.Files.{Disks, AllGoOn, AlwaysLeaves, AreHonest, HadLeft, Leaves, MayLeave, SameAsEither, SameDurable}
 use Rattle.oc_keep.specs.KeptView.{AtAnyMoment, IsHonest, IsKept, KeptView, NodeSurvives, disks_of, header_of, kept_of, node_of}
 use Rattle.oc_keep.specs.Promises.{ChangesNothing}
@@ -155,6 +156,24 @@ kept_survives view k is is_open honest = record {
 pub nothing_moments : {D : Type 0} (view : D → DiskView) (k k2 : KeptView D) → Law view → IsKept view k → ChangesNothing view k k2 → k.closed ≡ false → IsHonest view k → AtAnyMoment view k k2 (SameDurable (node_of k))
 nothing_moments view k k2 law is same is_open honest =
     always_stays view (header_of k.node.control) k.node.control.me (disks_of k) (disks_of k2) (SameDurable (node_of k)) law honest (nothing_stays view k k2 same) (kept_survives view k is is_open honest)
+
+-- a call that changes nothing leaves the same node, now and at every moment
+pub nothing_same : {D : Type 0} (view : D → DiskView) (k k2 : KeptView D) → Law view → IsKept view k → ChangesNothing view k k2 → StaysTheSame view k k2
+nothing_same view k k2 law is nothing = record {
+  nothing = nothing;
+  node = λ honest. nothing_node view k k2 nothing honest.content;
+  goes_on = all_go_on view (disks_of k) (disks_of k2) (nothing_stays view k k2 nothing);
+  any_moment = nothing_moments view k k2 law is nothing;
+}
+
+-- nor does one that does nothing to it
+pub none_keeps : {D : Type 0} (view : D → DiskView) (k : KeptView D) → Law view → IsKept view k → KeepsNode view k k
+none_keeps view k law is = record {
+  control = refl;
+  content = refl;
+  goes_on = all_go_on view (disks_of k) (disks_of k) (all_stay view (disks_of k));
+  any_moment = nothing_moments view k k law is (record { control = refl; store = keeps_none view k.store; content = puts_none view k.content });
+}
 
 -- the node is still kept, unless it is closed
 pub nothing_kept : {D : Type 0} (view : D → DiskView) (k k2 : KeptView D) → IsKept view k → ChangesNothing view k k2 → (k2.closed ≡ false → (k.closed ≡ false) × (k2.content.journal.closed ≡ k.content.journal.closed)) → IsKept view k2

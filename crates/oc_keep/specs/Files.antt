@@ -7,12 +7,17 @@ use Rattle.oc_model.specs.Records.{folded}
 use Rattle.oc_io.specs.DiskView.{DiskView, GoesOn}
 use Rattle.oc_io.specs.Faults.{Rose}
 use Rattle.oc_store.specs.ControlFiles.{recovered as recovered_records}
+use Rattle.oc_keep.specs.declared.files.Files.{Files}
 
 -- the disks of a node's three files
 pub record Disks (D : Type 0) : Type 0 where
   pub control : D
   pub alternate : D
   pub content : D
+
+-- those of files
+abbrev pub disks_in : {D : Type 0} → Files D → Disks D
+disks_in f = record { control = f.control; alternate = f.alternate; content = f.content }
 
 abbrev pub disks : {D : Type 0} → D → D → D → Disks D
 disks control alternate content = record { control = control; alternate = alternate; content = content }

@@ -6,4 +6,5 @@ pub mod Writing
 pub mod ReadyView
 pub mod Turning
 pub mod Promises
+pub mod Calls
 pub mod Trials

@@ -4,19 +4,23 @@ ghost use Rattle.oc_base.specs.Lawful.{IsNode};
 ghost use Rattle.oc_base.specs.Shelves.{held_of};
 ghost use Rattle.oc_base.specs.Stops.{is_kept_new};
 ghost use Rattle.oc_base.specs.declared.limits.TheConstants.{DUE_BYTES, MAX_LOG_LENGTH};
-ghost use Rattle.oc_keep.specs.Files.{AllGoOn, AreReliable, SameAsEither, SameDurable, Survives, disks};
-ghost use Rattle.oc_keep.specs.KeptView.{AtAnyMoment, IsFullAt, IsFullOn, IsHonest, IsKept, IsRipe, NodeSurvives, disks_of, header, header_of, node_of};
+ghost use Rattle.oc_keep.specs.Files.{AllGoOn, AreReliable, SameAsEither, disks_in, SameDurable, Survives, disks};
+ghost use Rattle.oc_keep.specs.KeptView.{AtAnyMoment, IsFullAt, IsFullOn, IsHonest, IsKept, IsRipe, NodeSurvives, disks_of, header_in, header_of, node_of};
 ghost use Rattle.oc_keep.specs.Promises.{ChangesNothing, Closes, HoldFiles, IsNodeOf, IsSameNode, IsTurnedOver, LeavesFiles, LoadsSafely, RefusesNode};
 ghost use Rattle.oc_keep.specs.ReadyView.{AreLeftAs, CanCommit, CanStopWrite, IsFullToWrite, is_written, outcome_of, told_of};
 ghost use Rattle.oc_laws_step.specs.LawfulNode.{IsLawfulNode};
+ghost use Rattle.oc_node.specs.NodeView.{IsReached};
+ghost use Rattle.oc_keep.specs.Calls.{Commits, FailsToCommit, FailsToReady, FailsToTidy, IsReadyFor, IsSameOnFiles, KeepsNode, RefusesInput, StaysTheSame, TakesInput, Tidies};
 ghost use Rattle.oc_model.specs.Lawful.{IsHeader, IsInput};
 ghost use Rattle.oc_model.specs.NextWorld.{writes};
 ghost use Rattle.oc_model.specs.Step.{step};
 ghost use Rattle.oc_io.specs.MemDiskView.{view_of};
 
 use crate::errors::{CommitError, KeepError, KeepLoad, KeptRead, ReadyError, TidyError};
+use crate::files::Files;
 use crate::ready::{Ready, Write};
 use crate::readying::{make_ready, making_failed};
+use crate::seat::Seat;
 use crate::starting::start;
 use crate::turning::{replace, turning_failed};
 use crate::writing::put;
@@ -55,52 +59,57 @@ impl<D: Disk> Kept<D> {
     /// Loads a node from its three files, and starts it. The files are read in order, each whole before
     /// the next; one of at most 9 bytes is new, and its header is written. On a refusal the disks come
     /// back.
-    #[allow(clippy::too_many_arguments)]
-    pub fn load(
-        alloc: Global,
-        control: D,
-        alternate: D,
-        content: D,
-        me: NodeId,
-        nodes: u32,
-        chain: u32,
-        areas: Vec<u8>,
-    ) -> Result<Kept<D>, (D, D, D, KeepLoad)>
-        requires header { IsHeader (header nodes chain areas.items) }
-        requires me { IsNode nodes me }
+    pub fn load(alloc: Global, files: Files<D>, seat: Seat) -> Result<Kept<D>, (Files<D>, KeepLoad)>
+        requires header { IsHeader (header_in seat) }
+        requires id { IsNode seat.nodes seat.id }
 
         // The node is the one that the files recover, and every crash now leaves it.
-        ensures loaded { IfOk result (λ kept.
-            IsNodeOf D.view (header nodes chain areas.items) me (disks control alternate content) kept) }
+        ensures loaded { IfOk result (λ kept. IsNodeOf D.view (header_in seat) seat.id (disks_in files) kept) }
 
         // At every moment a crash leaves what a crash at the start would have left.
-        ensures safely { IfOk result (λ kept. LoadsSafely D.view (header nodes chain areas.items) me
-            (disks control alternate content) (disks_of kept)) }
-        ensures safely_err { IfErr result (λ refused. LoadsSafely D.view (header nodes chain areas.items) me
-            (disks control alternate content) (disks refused.0 refused.1 refused.2)) }
+        ensures safely { IfOk result (λ kept. LoadsSafely D.view (header_in seat) seat.id (disks_in files) (disks_of kept)) }
+        ensures safely_err { IfErr result (λ refused. LoadsSafely D.view (header_in seat) seat.id (disks_in files) (disks_in refused.0)) }
 
         // When it refuses.
-        ensures refuses { IfErr result (λ refused. RefusesNode D.view nodes
-            (disks control alternate content) (disks refused.0 refused.1 refused.2) refused.3) }
+        ensures refuses { IfErr result (λ refused. RefusesNode D.view seat.nodes (disks_in files) (disks_in refused.0) refused.1) }
 
         // The files of a node on reliable disks are loaded.
-        ensures works { IfErr result (λ refused. AreReliable D.view (disks control alternate content)
-            → HoldFiles D.view nodes (disks control alternate content) → refused.3 ≡ KeepLoad.Memory) }
+        ensures works { IfErr result (λ refused. AreReliable D.view (disks_in files)
+            → HoldFiles D.view seat.nodes (disks_in files) → refused.1 ≡ KeepLoad.Memory) }
     {
-        let (store, list) = match Store::load(alloc, control, alternate, nodes) {
+        let Files {
+            control,
+            alternate,
+            content,
+        } = files;
+        let (store, list) = match Store::load(alloc, control, alternate, seat.nodes) {
             Ok(loaded) => loaded,
             Err((control, alternate, error)) => {
-                return Err((control, alternate, content, KeepLoad::from(error)));
+                return Err((
+                    Files {
+                        control,
+                        alternate,
+                        content,
+                    },
+                    KeepLoad::from(error),
+                ));
             }
         };
         let content = match Content::load(alloc, content) {
             Ok(content) => content,
             Err((content, error)) => {
                 let (control, alternate) = store.into_disks();
-                return Err((control, alternate, content, KeepLoad::from(error)));
+                return Err((
+                    Files {
+                        control,
+                        alternate,
+                        content,
+                    },
+                    KeepLoad::from(error),
+                ));
             }
         };
-        match start(alloc, me, nodes, chain, areas, &list, store.end()) {
+        match start(alloc, seat, &list, store.end()) {
             Ok(node) => Ok(Kept {
                 alloc,
                 node,
@@ -110,7 +119,14 @@ impl<D: Disk> Kept<D> {
             }),
             Err(Memory) => {
                 let (control, alternate) = store.into_disks();
-                Err((control, alternate, content.into_disk(), KeepLoad::Memory))
+                Err((
+                    Files {
+                        control,
+                        alternate,
+                        content: content.into_disk(),
+                    },
+                    KeepLoad::Memory,
+                ))
             }
         }
     }
@@ -120,32 +136,16 @@ impl<D: Disk> Kept<D> {
     pub fn take(&mut self, input: Input) -> Result<Outcome, KeepError>
         requires { IsInput self.old.node.control.nodes self.old.node.control.me input }
 
-        // The outcome and the node are those of the step, and every crash now leaves the node.
-        ensures outcome { IfOk result (λ outcome. IsHonest D.view self.old
-            → outcome ≡ told_of (step (node_of self.old) input)) }
-        ensures node { OnOk result (IsHonest D.view self.old
-            → node_of self.new ≡ (step (node_of self.old) input).node) }
-        ensures survives { OnOk result (IsHonest D.view self.old
-            → NodeSurvives D.view self.new (node_of self.new)) }
+        // The outcome and the node are those of the step; else the node is as it was, for this cause.
+        ensures took { IfOk result (λ outcome. TakesInput D.view input outcome self.old self.new) }
+        ensures refused { IfErr result (λ error. RefusesInput D.view error input self.old self.new) }
+        ensures closed { IsErrOf result KeepError.Closed ↔ IsTrue self.old.closed }
 
         // At every moment a crash leaves the node before the input or after it.
+        ensures same { IsSameOnFiles D.view self.old self.new }
         ensures any_moment { self.old.closed ≡ false → IsHonest D.view self.old
             → AtAnyMoment D.view self.old self.new
             (SameAsEither (node_of self.old) (step (node_of self.old) input).node) }
-
-        // When it refuses, and what it leaves then.
-        ensures closed { IsErrOf result KeepError.Closed ↔ IsTrue self.old.closed }
-        ensures full { IsErrOf result KeepError.Full → IsFullAt self.old input }
-        ensures fits { OnOk result (¬ IsFullAt self.old input) }
-        ensures full_first { IsErrOf result KeepError.Disk → ¬ IsFullAt self.old input }
-        ensures unchanged { IfErr result (λ error. error ≢ KeepError.Disk
-            → ChangesNothing D.view self.old self.new) }
-        ensures node_err { OnErr result (IsHonest D.view self.old → node_of self.new ≡ node_of self.old) }
-        ensures disk { IsErrOf result KeepError.Disk → Closes D.view self.old self.new }
-        ensures stays_open { ¬ IsErrOf result KeepError.Disk → self.new.closed ≡ self.old.closed }
-        ensures same { IsSameNode self.old.node.control self.new.node.control }
-        ensures generation { IsHonest D.view self.old → self.new.store.generation ≡ self.old.store.generation }
-        ensures goes_on { AllGoOn D.view (disks_of self.old) (disks_of self.new) }
 
         // An open node on reliable disks takes it, if there is the memory.
         ensures works { self.old.closed ≡ false → AreReliable D.view (disks_of self.old)
@@ -161,26 +161,12 @@ impl<D: Disk> Kept<D> {
         requires { IsInput self.old.node.control.nodes self.old.node.control.me input }
 
         // What it will do is the step, and it can be committed.
-        ensures step { IfOk result (λ ready. IsHonest D.view self.old
-            → outcome_of (node_of self.old) ready ≡ step (node_of self.old) input) }
-        ensures writes { IfOk result (λ ready. IsHonest D.view self.old
-            → is_written ready.write ≡ writes (node_of self.old) input) }
-        ensures full { IfOk result (λ ready. IsFullToWrite self.new ready.write ↔ IsFullAt self.old input) }
-        ensures commits { IfOk result (λ ready. CanCommit D.view self.new ready) }
-        ensures fits { IfOk result (λ ready. AreReliable D.view (disks_of self.new) → ¬ IsFullToWrite self.new ready.write) }
+        ensures made { IfOk result (λ ready. IsReadyFor D.view input ready self.old self.new) }
+        ensures refused { IfErr result (λ error. FailsToReady D.view error input self.old self.new) }
+        ensures closed { IsErrOf result ReadyError.Closed ↔ IsTrue self.old.closed }
 
         // Nothing changes, and every crash leaves the same node.
-        ensures same { ChangesNothing D.view self.old self.new }
-        ensures node { IsHonest D.view self.old → node_of self.new ≡ node_of self.old }
-        ensures any_moment { self.old.closed ≡ false → IsHonest D.view self.old
-            → AtAnyMoment D.view self.old self.new (SameDurable (node_of self.old)) }
-
-        // When it refuses.
-        ensures closed { IsErrOf result ReadyError.Closed ↔ IsTrue self.old.closed }
-        ensures disk { IsErrOf result ReadyError.Disk → Closes D.view self.old self.new }
-        ensures full_first { IsErrOf result ReadyError.Disk → ¬ IsFullAt self.old input }
-        ensures stays_open { ¬ IsErrOf result ReadyError.Disk → self.new.closed ≡ self.old.closed }
-        ensures goes_on { AllGoOn D.view (disks_of self.old) (disks_of self.new) }
+        ensures same { StaysTheSame D.view self.old self.new }
 
         // On reliable disks it is made ready, if there is the memory.
         ensures works { self.old.closed ≡ false → AreReliable D.view (disks_of self.old)
@@ -211,25 +197,14 @@ impl<D: Disk> Kept<D> {
         requires ready { CanCommit D.view self.old ready }
 
         // What was made ready is done, and every crash now leaves the node.
-        ensures outcome { IfOk result (λ outcome. outcome ≡ told_of (outcome_of (node_of self.old) ready)) }
-        ensures node { OnOk result (IsHonest D.view self.old
-            → node_of self.new ≡ (outcome_of (node_of self.old) ready).node) }
-        ensures survives { OnOk result (IsHonest D.view self.old
-            → NodeSurvives D.view self.new (node_of self.new)) }
+        ensures committed { IfOk result (λ outcome. Commits D.view ready outcome self.old self.new) }
+        ensures refused { IfErr result (λ error. FailsToCommit D.view error self.old self.new) }
+        ensures full { IsErrOf result CommitError.Full ↔ IsFullToWrite self.old ready.write }
 
         // At every moment a crash leaves the node before the input or after it.
+        ensures same { IsSameOnFiles D.view self.old self.new }
         ensures any_moment { IsHonest D.view self.old → AtAnyMoment D.view self.old self.new
             (SameAsEither (node_of self.old) (outcome_of (node_of self.old) ready).node) }
-
-        // When it refuses, and what it leaves then.
-        ensures full { IsErrOf result CommitError.Full ↔ IsFullToWrite self.old ready.write }
-        ensures unchanged { IsErrOf result CommitError.Full → self.new ≡ self.old }
-        ensures node_err { OnErr result (IsHonest D.view self.old → node_of self.new ≡ node_of self.old) }
-        ensures disk { IsErrOf result CommitError.Disk → Closes D.view self.old self.new }
-        ensures stays_open { ¬ IsErrOf result CommitError.Disk → self.new.closed ≡ false }
-        ensures same { IsSameNode self.old.node.control self.new.node.control }
-        ensures generation { IsHonest D.view self.old → self.new.store.generation ≡ self.old.store.generation }
-        ensures goes_on { AllGoOn D.view (disks_of self.old) (disks_of self.new) }
 
         // On reliable disks it is taken.
         ensures works { AreReliable D.view (disks_of self.old) → IsOk result }
@@ -251,21 +226,12 @@ impl<D: Disk> Kept<D> {
     /// closed.
     pub fn tidy(&mut self) -> Result<bool, TidyError>
         ensures ripe { IfOk result (λ turned. IsTrue turned ↔ IsRipe self.old) }
-        ensures turned { IfOk result (λ turned. IsTrue turned → IsTurnedOver D.view self.old self.new) }
+        ensures turned { IfOk result (λ turned. Tidies D.view turned self.old self.new) }
+        ensures refused { IfErr result (λ error. FailsToTidy D.view error self.old self.new) }
+        ensures closed { IsErrOf result TidyError.Closed ↔ IsTrue self.old.closed }
 
         // The node is as it was, and at every moment a crash leaves it.
-        ensures control { self.new.node.control ≡ self.old.node.control }
-        ensures content { self.new.content ≡ self.old.content }
-        ensures any_moment { self.old.closed ≡ false → IsHonest D.view self.old
-            → AtAnyMoment D.view self.old self.new (SameDurable (node_of self.old)) }
-
-        // When it refuses, and what it leaves then.
-        ensures stays { IfOk result (λ turned. turned ≡ false → self.new ≡ self.old) }
-        ensures unchanged { IfErr result (λ error. error ≢ TidyError.Disk → ChangesNothing D.view self.old self.new) }
-        ensures closed { IsErrOf result TidyError.Closed ↔ IsTrue self.old.closed }
-        ensures disk { IsErrOf result TidyError.Disk → Closes D.view self.old self.new }
-        ensures stays_open { ¬ IsErrOf result TidyError.Disk → self.new.closed ≡ self.old.closed }
-        ensures goes_on { AllGoOn D.view (disks_of self.old) (disks_of self.new) }
+        ensures keeps { KeepsNode D.view self.old self.new }
 
         // On reliable disks the files of an open node are turned over, if there is the memory.
         ensures works { self.old.closed ≡ false → AreReliable D.view (disks_of self.old)
@@ -292,9 +258,7 @@ impl<D: Disk> Kept<D> {
             → take n buf.new ≡ take (length buf.old) (drop start (bytes_of group.now (node_of self.old).groups))) }
 
         // Nothing changes, and every crash leaves the same node.
-        ensures same { ChangesNothing D.view self.old self.new }
-        ensures any_moment { self.old.closed ≡ false → IsHonest D.view self.old
-            → AtAnyMoment D.view self.old self.new (SameDurable (node_of self.old)) }
+        ensures same { StaysTheSame D.view self.old self.new }
 
         // When it refuses.
         ensures closed { IsErrOf result KeptRead.Closed ↔ IsTrue self.old.closed }
@@ -302,7 +266,6 @@ impl<D: Disk> Kept<D> {
             ↔ ((self.old.closed ≡ false) × (held_of group.now self.old.content.shelves ≡ None)) }
         ensures disk { IsErrOf result KeptRead.Disk → Closes D.view self.old self.new }
         ensures stays_open { ¬ IsErrOf result KeptRead.Disk → self.new.closed ≡ self.old.closed }
-        ensures goes_on { AllGoOn D.view (disks_of self.old) (disks_of self.new) }
 
         // On reliable disks a group that is held is read.
         ensures works { self.old.closed ≡ false → AreReliable D.view (disks_of self.old)
@@ -342,21 +305,24 @@ impl<D: Disk> Kept<D> {
         self.closed
     }
 
-    /// The node.
+    /// The node. [`Kept::recovers`] says what is known of it.
     pub fn node(&self) -> &Node
-        ensures node { result.now ≡ self.now.node }
+        ensures { result.now ≡ self.now.node }
+    {
+        &self.node
+    }
 
-        // Its numbers are within their ranges, and its change log within its limit.
+    /// What holds between any two calls: the node is as inputs and starts leave it, its change log is within its
+    /// limit, and while no disk failed every crash leaves what is durable of it.
+    pub fn recovers(&self)
+        ensures reached { IsReached self.now.node.control }
         ensures lawful { IsHonest D.view self.now → IsLawfulNode self.now.node.control.nodes (node_of self.now) }
         ensures short { self.now.node.control.kept.log.length ≤ MAX_LOG_LENGTH }
-
-        // While no disk failed, every crash leaves what is durable of it.
         ensures survives { self.now.closed ≡ false → IsHonest D.view self.now
             → NodeSurvives D.view self.now (node_of self.now) }
     {
         // The clause of this call says that the shelf is lawful, and `lawful` rests on it.
         let _shelf = self.content.groups();
-        &self.node
     }
 
     /// The groups that are held, ascending by name, with their lengths and seals.

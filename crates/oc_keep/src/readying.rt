@@ -6,6 +6,7 @@ ghost use Rattle.oc_content.specs.ContentFile.{IsShelved, groups_in};
 ghost use Rattle.oc_content.specs.Promises.{PutsNothing};
 ghost use Rattle.oc_journal.specs.Promises.{ClosesByRead, NoneFailed};
 ghost use Rattle.oc_keep.specs.KeptView.{IsFullAt, kept_of, node_of};
+ghost use Rattle.oc_keep.specs.Promises.{ChangesNothing};
 ghost use Rattle.oc_keep.specs.Puts.{CanWant};
 ghost use Rattle.oc_keep.specs.ReadyView.{CanCommit, IsFullToWrite, is_written, outcome_of};
 ghost use Rattle.oc_keep.specs.Writing.{KeepsStore, fetched};
@@ -45,12 +46,10 @@ pub fn make_ready<D: Disk>(
     ensures writes { IfOk result (λ ready. is_written ready.write ≡ has_change (plan node.old.control content.old.shelves input.now)) }
     ensures full { IfOk result (λ ready. IsFullToWrite (kept_of node.new store.new content.new false) ready.write
         ↔ IsFullAt (kept_of node.old store.old content.old false) input.now) }
-    ensures node { node.new.control ≡ node.old.control }
-    ensures store { KeepsStore D.view store.old store.new }
-    ensures content { PutsNothing D.view content.old content.new }
+    ensures nothing { ChangesNothing D.view (kept_of node.old store.old content.old false) (kept_of node.new store.new content.new false) }
     ensures none_failed { IsErrOf result ReadyError.Disk ⊎ NoneFailed D.view content.old.journal content.new.journal }
-    ensures disk { IsErrOf result ReadyError.Disk → ClosesByRead D.view content.old.journal content.new.journal }
-    ensures full_first { IsErrOf result ReadyError.Disk → ¬ IsFullAt (kept_of node.old store.old content.old false) input.now }
+    ensures disk { IsErrOf result ReadyError.Disk → ClosesByRead D.view content.old.journal content.new.journal
+        × ¬ IsFullAt (kept_of node.old store.old content.old false) input.now }
     ensures open { IfErr result (λ error. error ≢ ReadyError.Closed) }
 {
     prepare_refuses_nothing_that_is_kept();

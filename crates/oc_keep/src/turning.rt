@@ -26,8 +26,8 @@ pub fn replace<D: Disk>(node: &Node, store: &mut Store<D>) -> Result<bool, TidyE
     ensures replaces { IfOk result (λ turned. IsTrue turned → Replaces D.view (snapshot (store.old.generation + 1) node.now.control.kept) store.old store.new) }
     ensures stays { IfOk result (λ turned. turned ≡ false → store.new ≡ store.old) }
     ensures memory { IsErrOf result TidyError.Memory → KeepsStore D.view store.old store.new }
-    ensures disk { IsErrOf result TidyError.Disk → ClosesByTurning D.view (snapshot (store.old.generation + 1) node.now.control.kept) store.old store.new }
-    ensures short_err { IsErrOf result TidyError.Disk → IsShort (store.old.generation + 1) node.now.control.kept }
+    ensures disk { IsErrOf result TidyError.Disk → ClosesByTurning D.view (snapshot (store.old.generation + 1) node.now.control.kept) store.old store.new
+        × IsShort (store.old.generation + 1) node.now.control.kept }
     ensures works { IsTrue (D.view store.old.other.disk).reliable → IfErr result (λ error. error ≡ TidyError.Memory) }
     ensures open { IfErr result (λ error. error ≢ TidyError.Closed) }
 {

@@ -64,8 +64,7 @@ pub(crate) fn probe_next<D: Disk, L: Link, C: Clock, K: Sink>(
             peer,
         ),
         None => {
-            // While no disk failed, the node is what the files recover.
-            let _node = kept.node();
+            kept.recovers();
             Ok(())
         }
     }
@@ -102,7 +101,7 @@ fn probe_peer<D: Disk, L: Link, C: Clock, K: Sink>(
     ensures still { SameConnections (L.story link.old) (L.story link.new) }
     ensures gauge { length gauge.new ≡ length gauge.old }
 {
-    // While no disk failed, the node is what the files recover.
+    kept.recovers();
     let node = kept.node();
     let me = node.id();
     let (_rate, hops) = node.measures().get(peer);

@@ -90,7 +90,7 @@ fn send_one<D: Disk, L: Link, K: Sink>(
         (scene kept.new outbox.new sink.new (outside_of (L.story link.new) (L.faults link.new) seconds millis)))) }
     ensures count { CountsDialling (L.faults link.old) (L.faults link.new) }
 {
-    // While no disk failed, the node is what the files recover.
+    kept.recovers();
     let node = kept.node();
     let (me, nodes) = (node.id(), node.nodes());
     let sent = send_oldest(alloc, reader, me, nodes, outbox, config, link)?;

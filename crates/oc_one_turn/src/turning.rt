@@ -110,8 +110,7 @@ fn reader_in<'a, D: Disk>(
 ) -> Result<&'a mut HeadReader, TurnEnd>
     ensures { IfErr result (λ end. (kept.now.closed ≡ false → LookStops D.view end kept.now kept.now)) }
 {
-    // While no disk failed, the node is what the files recover.
-    let _node = kept.node();
+    kept.recovers();
     if heads.is_none() {
         *heads = Some(HeadReader::new(alloc)?);
     }

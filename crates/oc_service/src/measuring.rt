@@ -51,7 +51,7 @@ fn take_measure<D: Disk, K: Sink>(
     ensures stops { IfErr result (λ end. Stopped D.view K.takes K.fails K.faults ⊥ end
         kept.old kept.new sink.old sink.new) }
 {
-    // While no disk failed, the node is what the files recover.
+    kept.recovers();
     if measure.from != kept.node().id() {
         return Ok(());
     }

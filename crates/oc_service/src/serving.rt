@@ -85,10 +85,8 @@ fn id_of<D: Disk>(kept: &Kept<D>) -> NodeId
     ensures node { IsNode kept.now.node.control.nodes result }
     ensures survives { kept.now.closed ≡ false → IsHonest D.view kept.now → NodeSurvives D.view kept.now (node_of kept.now) }
 {
-    let node = kept.node();
-    // The call that gives the number of nodes says that the id is one of them.
-    let _nodes = node.nodes();
-    node.id()
+    kept.recovers();
+    kept.node().id()
 }
 
 /// The address of a node.
@@ -105,8 +103,7 @@ fn make_outbox<D: Disk>(alloc: Global, kept: &Kept<D>) -> Result<Outbox, TurnEnd
     ensures memory { IfErr result (λ end. end ≡ TurnEnd.Memory) }
     ensures survives { kept.now.closed ≡ false → IsHonest D.view kept.now → NodeSurvives D.view kept.now (node_of kept.now) }
 {
-    // While no disk failed, the node is what the files recover.
-    let _node = kept.node();
+    kept.recovers();
     Ok(Outbox::new(alloc)?)
 }
 
@@ -166,8 +163,7 @@ fn serve_probing<D: Disk, L: Link, C: Clock, K: Sink>(
     let given = Some(&mut probing);
     match serve(alloc, kept, outbox, config, link, clock, sink, given, turns) {
         TurnEnd::Served => {
-            // While no disk failed, the node is what the files recover.
-            let _node = kept.node();
+            kept.recovers();
             Ok(())
         }
         end => Err(end),
@@ -181,6 +177,7 @@ fn probing_for<D: Disk>(alloc: Global, kept: &Kept<D>) -> Result<Probing, TurnEn
     ensures memory { IfErr result (λ end. end ≡ TurnEnd.Memory) }
     ensures survives { kept.now.closed ≡ false → IsHonest D.view kept.now → NodeSurvives D.view kept.now (node_of kept.now) }
 {
+    kept.recovers();
     let node = kept.node();
     Ok(make_probing(alloc, node.id(), node.nodes())?)
 }
@@ -209,8 +206,7 @@ fn serve_plain<D: Disk, L: Link, C: Clock, K: Sink>(
 {
     match serve(alloc, kept, outbox, config, link, clock, sink, None, turns) {
         TurnEnd::Served => {
-            // While no disk failed, the node is what the files recover.
-            let _node = kept.node();
+            kept.recovers();
             Ok(())
         }
         end => Err(end),

@@ -19,7 +19,7 @@ use crate::serving::run_loaded;
 use oc_base::{Memory, NodeId};
 use oc_config::Config;
 use oc_io::{Disk, Sink};
-use oc_keep::{KeepLoad, Kept};
+use oc_keep::{Files, KeepLoad, Kept, Seat};
 use oc_link::{Clock, Link};
 use oc_loans::Loan;
 use oc_turn::TurnEnd;
@@ -155,16 +155,18 @@ fn load_and_run<D: Disk, L: Link, C: Clock, K: Sink>(
         }
     };
     let nodes = nodes_of(config);
-    match Kept::load(
-        alloc,
+    let files = Files {
         control,
         alternate,
         content,
-        me,
+    };
+    let seat = Seat {
+        id: me,
         nodes,
-        config.chain,
+        chain: config.chain,
         areas,
-    ) {
+    };
+    match Kept::load(alloc, files, seat) {
         Ok(mut kept) => {
             let end = run_to_end(alloc, &mut kept, config, turns, probes, link, clock, sink);
             let (control, alternate, content) = kept.into_disks();
@@ -175,12 +177,19 @@ fn load_and_run<D: Disk, L: Link, C: Clock, K: Sink>(
                 end: NodeEnd::Turned(end),
             }
         }
-        Err((control, alternate, content, error)) => Left {
-            control,
-            alternate,
-            content,
-            end: NodeEnd::Load(error),
-        },
+        Err((files, error)) => {
+            let Files {
+                control,
+                alternate,
+                content,
+            } = files;
+            Left {
+                control,
+                alternate,
+                content,
+                end: NodeEnd::Load(error),
+            }
+        }
     }
 }
 

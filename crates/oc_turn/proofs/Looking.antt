@@ -3,7 +3,7 @@ use Rattle.std.proofs.Common.{◌≡◌, ℕ, false, List, ap, subst, ◌∙◌,
 use Rattle.oc_content.specs.ContentFile.{groups_in}
 use Rattle.oc_keep.specs.Files.{AllGoOn, Survives}
 use Rattle.oc_keep.specs.KeptView.{IsHonest, KeptView, NodeSurvives, disks_of, header_of, node_of}
-use Rattle.oc_keep.specs.Promises.{ChangesNothing}
+use Rattle.oc_keep.specs.Calls.{StaysTheSame}
 use Rattle.oc_keep.proofs.Runs.{all_go_on_then, one_rose_after}
 use Rattle.oc_keep.proofs.Stays.{all_honest}
 use Rattle.oc_model.specs.Node.{Control, Node}
@@ -38,16 +38,11 @@ module _ {D : Type 0} (view : D → DiskView) where
   memory_looks k survives = record { goes_on = go_on_none view (disks_of k); leaves = survives; cause = tt }
 
   -- a call that changed nothing
-  nothing_node : (old new : KeptView D) → ChangesNothing view old new → IsHonest view old → node_of new ≡ node_of old
-  nothing_node old new nothing honest =
-      ap (λ (n : Control). record { control = n; groups = groups_in new.content.journal.frames }) nothing.control
-      ∙ ap (λ (frames : List (List ℕ)). record { control = old.node.control; groups = groups_in frames }) (nothing.content.journal.frames honest.content)
-
-  pub looked : (old new : KeptView D) → new.closed ≡ false → ChangesNothing view old new → AllGoOn view (disks_of old) (disks_of new) → LooksOnly view old new
-  looked old new is_open nothing on = record {
+  pub looked : (old new : KeptView D) → new.closed ≡ false → StaysTheSame view old new → LooksOnly view old new
+  looked old new is_open same = record {
     is_open = is_open;
-    same = record { me = ap (λ (n : Control). n.me) nothing.control; header = ap header_of nothing.control };
-    goes_on = on;
-    node = λ honest. nothing_node old new nothing honest;
-    generation = λ honest. omega (arith, nothing.store.generation);
+    same = record { me = ap (λ (n : Control). n.me) same.nothing.control; header = ap header_of same.nothing.control };
+    goes_on = same.goes_on;
+    node = same.node;
+    generation = λ honest. omega (arith, same.nothing.store.generation);
   }

@@ -3,7 +3,8 @@ use Rattle.std.proofs.Common.{◌≡◌, ℕ, zero, suc, take, drop, IsTrue, fal
 use Rattle.std.proofs.lemmas.List.{append-nil}
 use Rattle.oc_keep.specs.Files.{AllGoOn, SameAsEither, Survives}
 use Rattle.oc_keep.specs.KeptView.{AtAnyMoment, IsFullAt, IsFullByPlan, IsHonest, KeptView, NodeSurvives, disks_of, header_of, node_of}
-use Rattle.oc_keep.specs.Promises.{ChangesNothing, Closes, IsSameNode}
+use Rattle.oc_keep.specs.Calls.{IsSameOnFiles, RefusesInput}
+use Rattle.oc_keep.specs.Promises.{ChangesNothing, IsSameNode}
 use Rattle.oc_keep.specs.declared.errors.KeepError.{KeepError}
 use Rattle.oc_keep.specs.declared.errors.KeepError.TheVariants as keeps
 use Rattle.oc_keep.proofs.Stays.{Law, all_honest, leaves_now}
@@ -58,31 +59,29 @@ module _ {D : Type 0} (view : D → DiskView) (law : Law view) (old new : KeptVi
       (subst (λ (end : ℕ). IsFullByPlan new.store.current.end end old.content.shelves i (plan old.node.control old.content.shelves i)) (sym nothing.content.journal.end)
       (subst (λ (end : ℕ). IsFullByPlan end old.content.journal.end old.content.shelves i (plan old.node.control old.content.shelves i)) (sym nothing.store.current.end) full)))
 
-  pub keep_stops : (error : KeepError) → old.closed ≡ false → IsSameNode old.node.control new.node.control → AllGoOn view (disks_of old) (disks_of new)
-      → (error ≡ keeps.Closed → IsTrue old.closed) → (error ≡ keeps.Full → IsFullAt old i) → (error ≡ keeps.Disk → ¬ IsFullAt old i) → ((error ≡ keeps.Disk → ⊥) → ChangesNothing view old new)
-      → (error ≡ keeps.Disk → Closes view old new) → ((error ≡ keeps.Disk → ⊥) → new.closed ≡ old.closed)
+  pub keep_stops : (error : KeepError) → old.closed ≡ false → IsSameOnFiles view old new → (error ≡ keeps.Closed → IsTrue old.closed) → RefusesInput view error i old new
       → (IsHonest view old → AtAnyMoment view old new (SameAsEither (node_of old) (step (node_of old) i).node))
-      → (IsHonest view old → node_of new ≡ node_of old) → (new.closed ≡ false → IsHonest view new → NodeSurvives view new (node_of new))
+      → (new.closed ≡ false → IsHonest view new → NodeSurvives view new (node_of new))
       → KeepStops view (end_of error) i old new
-  keep_stops keeps.Closed is_open same on closed full fits unchanged disk still moments node survives =
+  keep_stops keeps.Closed is_open same closed refused moments survives =
       let yes : old.closed ≡ true = closed refl in let no = is_open in absurd cc
-  keep_stops keeps.Memory is_open same on closed full fits unchanged disk still moments node survives = record {
-    leaves = open_leaves same on node (still (λ e. absurd cc) ∙ is_open) survives;
-    goes_on = on;
+  keep_stops keeps.Memory is_open same closed refused moments survives = record {
+    leaves = open_leaves same.node same.goes_on refused.node (refused.why.still ∙ is_open) survives;
+    goes_on = same.goes_on;
     cause = tt;
     meets = tt;
   }
-  keep_stops keeps.Full is_open same on closed full fits unchanged disk still moments node survives = record {
-    leaves = open_leaves same on node (still (λ e. absurd cc) ∙ is_open) survives;
-    goes_on = on;
-    cause = full_still (unchanged (λ e. absurd cc)) (full refl);
-    meets = (full refl, unchanged (λ e. absurd cc));
+  keep_stops keeps.Full is_open same closed refused moments survives = record {
+    leaves = open_leaves same.node same.goes_on refused.node (refused.why.1.still ∙ is_open) survives;
+    goes_on = same.goes_on;
+    cause = full_still refused.why.1.nothing refused.why.0;
+    meets = (refused.why.0, refused.why.1.nothing);
   }
-  keep_stops keeps.Disk is_open same on closed full fits unchanged disk still moments node survives = record {
-    leaves = λ honest. leaves_now view (header_of old.node.control) old.node.control.me (disks_of old) (disks_of new) (SameAsEither (node_of old) (step (node_of old) i).node) law (all_honest view (disks_of old) (disks_of new) on honest) (moments honest);
-    goes_on = on;
-    cause = (disk refl).rose;
-    meets = fits refl;
+  keep_stops keeps.Disk is_open same closed refused moments survives = record {
+    leaves = λ honest. leaves_now view (header_of old.node.control) old.node.control.me (disks_of old) (disks_of new) (SameAsEither (node_of old) (step (node_of old) i).node) law (all_honest view (disks_of old) (disks_of new) same.goes_on honest) (moments honest);
+    goes_on = same.goes_on;
+    cause = refused.why.1.rose;
+    meets = refused.why.0;
   }
 
 module _ {D K : Type 0} (view : D → DiskView) (takes fails : K → List ℕ → K → Type 0) (count : K → ℕ) where

@@ -3,8 +3,9 @@ use Rattle.std.proofs.Common.{◌≡◌, ℕ, IsTrue, false, true, Bool, refl, a
 use Rattle.oc_content.specs.ContentFile.{groups_in}
 use Rattle.oc_content.specs.ContentView.{ContentView}
 use Rattle.oc_keep.specs.Files.{AllGoOn, SameDurable, Survives}
-use Rattle.oc_keep.specs.KeptView.{AtAnyMoment, IsHonest, KeptView, NodeSurvives, disks_of, header_of, node_of}
-use Rattle.oc_keep.specs.Promises.{Closes, IsSameNode, IsTurnedOver}
+use Rattle.oc_keep.specs.KeptView.{IsHonest, KeptView, NodeSurvives, disks_of, header_of, node_of}
+use Rattle.oc_keep.specs.Calls.{FailsToTidy, KeepsNode, StaysTheSame, Tidies}
+use Rattle.oc_keep.specs.Promises.{Closes, IsSameNode}
 use Rattle.oc_keep.specs.declared.errors.TidyError.{TidyError}
 use Rattle.oc_keep.specs.declared.errors.TidyError.TheVariants as tidies
 use Rattle.oc_keep.proofs.Stays.{Law, all_honest, leaves_now}
@@ -24,13 +25,23 @@ module _ {D : Type 0} (view : D → DiskView) (old new : KeptView D) where
   same_id : new.node.control ≡ old.node.control → IsSameNode old.node.control new.node.control
   same_id control = record { me = ap (λ (n : Control). n.me) control; header = ap header_of control }
 
-  pub tidied : new.closed ≡ false → new.node.control ≡ old.node.control → new.content ≡ old.content → AllGoOn view (disks_of old) (disks_of new) → NoFall old.store.generation new.store.generation → LooksOnly view old new
-  tidied is_open control content on grows = record { is_open = is_open; same = same_id control; goes_on = on; node = λ honest. same_node control content; generation = λ honest. grows }
+  -- files that were tidied were only looked at
+  pub tidied : (turned : Bool) → old.closed ≡ false → KeepsNode view old new → Tidies view turned old new → LooksOnly view old new
+  tidied turned is_open keeps tidies = record {
+    is_open = still turned tidies ∙ is_open;
+    same = same_id keeps.control;
+    goes_on = keeps.goes_on;
+    node = λ honest. same_node keeps.control keeps.content;
+    generation = λ honest. grows turned tidies;
+  }
+    where
+      still : (t : Bool) → Tidies view t old new → new.closed ≡ old.closed
+      still true over = over.1
+      still false same = ap (λ (k : KeptView D). k.closed) same
 
-  -- the generation after files were turned over, or not
-  pub turned_grows : (turned : Bool) → (IsTrue turned → IsTurnedOver view old new) → (turned ≡ false → new ≡ old) → NoFall old.store.generation new.store.generation
-  turned_grows true over same = omega (arith, (over refl).generation)
-  turned_grows false over same = omega (arith, ap (λ (k : KeptView D). k.store.generation) (same refl))
+      grows : (t : Bool) → Tidies view t old new → NoFall old.store.generation new.store.generation
+      grows true over = omega (arith, over.0.generation)
+      grows false same = omega (arith, ap (λ (k : KeptView D). k.store.generation) same)
 
 -- the node at another moment, by its name
 named : (P : Header → ℕ → Type 0) → {D : Type 0} → (old new : KeptView D) → IsSameNode old.node.control new.node.control → P (header_of new.node.control) new.node.control.me → P (header_of old.node.control) old.node.control.me
@@ -44,28 +55,26 @@ module _ {D : Type 0} (view : D → DiskView) (law : Law view) (old new : KeptVi
       (named (λ h me. Survives view h me (disks_of new) (node_of new)) old new (same_id view old new control)
       (survives is_open (all_honest view (disks_of old) (disks_of new) on honest)))
 
-  pub tidy_stops : (error : TidyError) → old.closed ≡ false → new.node.control ≡ old.node.control → new.content ≡ old.content → AllGoOn view (disks_of old) (disks_of new)
-      → (error ≡ tidies.Closed → IsTrue old.closed) → (error ≡ tidies.Disk → Closes view old new) → ((error ≡ tidies.Disk → ⊥) → new.closed ≡ old.closed)
-      → (IsHonest view old → AtAnyMoment view old new (SameDurable (node_of old))) → (new.closed ≡ false → IsHonest view new → NodeSurvives view new (node_of new))
+  pub tidy_stops : (error : TidyError) → old.closed ≡ false → KeepsNode view old new → (error ≡ tidies.Closed → IsTrue old.closed) → FailsToTidy view error old new
+      → (new.closed ≡ false → IsHonest view new → NodeSurvives view new (node_of new))
       → LookStops view (end_of_tidy error) old new
-  tidy_stops tidies.Closed is_open control content on closed disk still moments survives =
+  tidy_stops tidies.Closed is_open keeps closed fails survives =
       let yes : old.closed ≡ true = closed refl in let no = is_open in absurd cc
-  tidy_stops tidies.Memory is_open control content on closed disk still moments survives = record {
-    goes_on = on;
-    leaves = stays control content on (still (λ e. absurd cc) ∙ is_open) survives;
+  tidy_stops tidies.Memory is_open keeps closed fails survives = record {
+    goes_on = keeps.goes_on;
+    leaves = stays keeps.control keeps.content keeps.goes_on (fails.still ∙ is_open) survives;
     cause = tt;
   }
-  tidy_stops tidies.Disk is_open control content on closed disk still moments survives = record {
-    goes_on = on;
-    leaves = λ honest. leaves_now view (header_of old.node.control) old.node.control.me (disks_of old) (disks_of new) (SameDurable (node_of old)) law (all_honest view (disks_of old) (disks_of new) on honest) (moments honest);
-    cause = (disk refl).rose;
+  tidy_stops tidies.Disk is_open keeps closed fails survives = record {
+    goes_on = keeps.goes_on;
+    leaves = λ honest. leaves_now view (header_of old.node.control) old.node.control.me (disks_of old) (disks_of new) (SameDurable (node_of old)) law (all_honest view (disks_of old) (disks_of new) keeps.goes_on honest) (keeps.any_moment is_open honest);
+    cause = fails.rose;
   }
 
   -- the same of a call that read
-  pub read_stops : old.closed ≡ false → AllGoOn view (disks_of old) (disks_of new) → Closes view old new
-      → (IsHonest view old → AtAnyMoment view old new (SameDurable (node_of old))) → LookStops view ends.Disk old new
-  read_stops is_open on closes moments = record {
-    goes_on = on;
-    leaves = λ honest. leaves_now view (header_of old.node.control) old.node.control.me (disks_of old) (disks_of new) (SameDurable (node_of old)) law (all_honest view (disks_of old) (disks_of new) on honest) (moments honest);
+  pub read_stops : old.closed ≡ false → StaysTheSame view old new → Closes view old new → LookStops view ends.Disk old new
+  read_stops is_open same closes = record {
+    goes_on = same.goes_on;
+    leaves = λ honest. leaves_now view (header_of old.node.control) old.node.control.me (disks_of old) (disks_of new) (SameDurable (node_of old)) law (all_honest view (disks_of old) (disks_of new) same.goes_on honest) (same.any_moment is_open honest);
     cause = closes.rose;
   }

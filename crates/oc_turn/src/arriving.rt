@@ -18,8 +18,7 @@ pub fn next_arrival<D: Disk, L: Link>(kept: &Kept<D>, link: &mut L) -> Result<Ar
     ensures count { CountsListening (L.faults link.old) (L.faults link.new) }
     ensures survives { kept.now.closed ≡ false → IsHonest D.view kept.now → NodeSurvives D.view kept.now (node_of kept.now) }
 {
-    // While no disk failed, the node is what the files recover.
-    let _node = kept.node();
+    kept.recovers();
     match link.next() {
         Ok(arrival) => Ok(arrival),
         Err(_) => Err(TurnEnd::Link),

@@ -48,13 +48,12 @@ fn keep<D: Disk>(kept: &mut Kept<D>, input: Input) -> Result<Outcome, TurnEnd>
 {
     lawful_nodes_stay_lawful();
     spellings_are_read();
-    // While no disk failed, the node is what the files recover, and lawful.
+    kept.recovers();
     let nodes = kept.node().nodes();
     match kept.take(input) {
         Ok(outcome) => Ok(sendable(nodes, outcome)),
         Err(error) => {
-            // While no disk failed, the node is what the files recover.
-            let _node = kept.node();
+            kept.recovers();
             Err(end_of(error))
         }
     }

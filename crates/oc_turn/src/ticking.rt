@@ -38,7 +38,7 @@ pub fn tick<D: Disk, C: Clock, K: Sink>(
         (scene kept.new outbox.new sink.new (outside_of story faults (C.seconds clock.new) (C.milliseconds clock.new))))) }
 {
     let now = clock.now().min(MAX_TIME);
-    // While no disk failed, the node is what the files recover.
+    kept.recovers();
     let me = kept.node().id();
     let entry = input_entry(alloc, me, Input::Tick(now))?;
     take_own(kept, outbox, sink, entry)

@@ -20,8 +20,7 @@ pub fn tidy<D: Disk>(kept: &mut Kept<D>) -> Result<(), TurnEnd>
     match kept.tidy() {
         Ok(_) => Ok(()),
         Err(error) => {
-            // While no disk failed, the node is what the files recover.
-            let _node = kept.node();
+            kept.recovers();
             Err(end_of(error))
         }
     }

@@ -26,7 +26,7 @@ fn turn_over<D: Disk>(kept: &mut Kept<D>) -> Result<(), Memory>
     ensures turned { OnOk result (IsRipe kept.old → kept.new.store.generation ≡ kept.old.store.generation + 1) }
 {
     let tidied = kept.tidy();
-    let _node = kept.node();
+    kept.recovers();
     match tidied {
         Ok(_) => Ok(()),
         Err(TidyError::Memory) => Err(Memory),
@@ -47,7 +47,7 @@ fn prepare<D: Disk>(kept: &mut Kept<D>, input: Input) -> Result<Ready, Memory>
     ensures generation { kept.new.store.generation ≡ kept.old.store.generation }
 {
     let made = kept.ready(input);
-    let _node = kept.node();
+    kept.recovers();
     match made {
         Ok(ready) => Ok(ready),
         Err(ReadyError::Memory) => Err(Memory),
@@ -71,7 +71,7 @@ pub(crate) fn ready<D: Disk>(kept: &mut Kept<D>, input: Input) -> Result<Ready, 
     ensures turned { OnOk result (IsRipe kept.old → kept.new.store.generation ≡ kept.old.store.generation + 1) }
 {
     lawful_nodes_stay_lawful();
-    let _node = kept.node();
+    kept.recovers();
     turn_over(kept)?;
     let ready = prepare(kept, input)?;
     Ok(ready)
@@ -89,7 +89,7 @@ pub(crate) fn commit<D: Disk>(kept: &mut Kept<D>, ready: Ready) -> Outcome
     ensures generation { kept.new.store.generation ≡ kept.old.store.generation }
 {
     let taken = kept.commit(ready);
-    let _node = kept.node();
+    kept.recovers();
     match taken {
         Ok(outcome) => outcome,
         Err(_) => unreachable!(),

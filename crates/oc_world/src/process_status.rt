@@ -16,9 +16,8 @@ pub(crate) fn lawful_node<D: Disk>(kept: &Kept<D>) -> &Node
     ensures control { result.now.control ≡ kept.now.node.control }
     ensures lawful { IsLawfulControl kept.now.node.control.nodes kept.now.node.control }
 {
-    let node = kept.node();
-    let _nodes = node.nodes();
-    node
+    kept.recovers();
+    kept.node()
 }
 
 /// The groups of the node on these files with their lengths and seals, ascending by name.

@@ -12,7 +12,7 @@ ghost use Rattle.oc_world.specs.ProcessState.{IsRunning, disks_in};
 use crate::process_state::Files;
 use oc_base::{Memory, NodeId};
 use oc_io::Disk;
-use oc_keep::{KeepLoad, Kept};
+use oc_keep::{KeepLoad, Kept, Seat};
 use std::alloc::Global;
 
 /// The node that these files recover. Files of a node on disks that do not fail are refused only where memory
@@ -39,9 +39,20 @@ pub(crate) fn load<D: Disk + Drop>(
         alternate,
         content,
     } = files;
-    match Kept::load(alloc, control, alternate, content, id, nodes, chain, areas) {
+    let files = oc_keep::Files {
+        control,
+        alternate,
+        content,
+    };
+    let seat = Seat {
+        id,
+        nodes,
+        chain,
+        areas,
+    };
+    match Kept::load(alloc, files, seat) {
         Ok(kept) => Ok(kept),
-        Err((_, _, _, error)) => Err(wanting(error)),
+        Err((_, error)) => Err(wanting(error)),
     }
 }
 

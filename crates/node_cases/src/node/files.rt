@@ -6,7 +6,7 @@
 use crate::node::inputs::NODES;
 use oc_base::NodeId;
 use oc_io::Disk;
-use oc_keep::{KeepLoad, Kept, Node};
+use oc_keep::{Files, KeepLoad, Kept, Node, Seat};
 use std::alloc::Global;
 use test_tools::{Fault, NodeDisks, RowDisk, put_disk, put_shelf};
 
@@ -19,22 +19,39 @@ pub fn load<D: Disk + Drop>(
     if me.0 < 1 || me.0 > NODES {
         return Err(Fault::Field);
     }
-    let areas = vec![in alloc; 0, 0, 0]?;
+    let seat = Seat {
+        id: me,
+        nodes: NODES,
+        chain: 1,
+        areas: vec![in alloc; 0, 0, 0]?,
+    };
     let NodeDisks {
         control,
         alternate,
         content,
     } = files;
-    match Kept::load(alloc, control, alternate, content, me, NODES, 1, areas) {
+    let files = Files {
+        control,
+        alternate,
+        content,
+    };
+    match Kept::load(alloc, files, seat) {
         Ok(kept) => Ok(Ok(kept)),
-        Err((control, alternate, content, error)) => Ok(Err((
-            NodeDisks {
-                control,
-                alternate,
-                content,
-            },
-            error,
-        ))),
+        Err((files, error)) => Ok(Err((handed_back(files), error))),
+    }
+}
+
+/// The disks of files that came back.
+pub fn handed_back<D: Disk>(files: Files<D>) -> NodeDisks<D> {
+    let Files {
+        control,
+        alternate,
+        content,
+    } = files;
+    NodeDisks {
+        control,
+        alternate,
+        content,
     }
 }
 

@@ -4,12 +4,12 @@ ghost use Rattle.std.specs.Prelude.{IfOk};
 ghost use Rattle.std.specs.List.{AllByRecursion};
 ghost use Rattle.oc_model.specs.Lawful.{IsInput};
 
-use crate::node::files::show;
+use crate::node::files::{handed_back, show};
 use crate::node::given::Given;
 use crate::node::inputs::{NODES, input_in};
 use oc_base::NodeId;
 use oc_io::Disk;
-use oc_keep::{Trial, trial};
+use oc_keep::{Files, Seat, Trial, trial};
 use oc_model::Input;
 use std::alloc::Global;
 use test_tools::{Fault, NodeDisks, RowDisk, RowFields, RowStep};
@@ -43,23 +43,24 @@ fn tried<D: Disk + Drop>(
         return Err(Fault::Field);
     }
     let inputs = inputs_in(alloc, steps, me)?;
-    let areas = vec![in alloc; 0, 0, 0]?;
+    let seat = Seat {
+        id: me,
+        nodes: NODES,
+        chain: 1,
+        areas: vec![in alloc; 0, 0, 0]?,
+    };
     let NodeDisks {
         control,
         alternate,
         content,
     } = files;
-    let (control, alternate, content, trial) = trial(
-        alloc, control, alternate, content, me, NODES, 1, areas, inputs,
-    );
-    Ok((
-        NodeDisks {
-            control,
-            alternate,
-            content,
-        },
-        trial,
-    ))
+    let files = Files {
+        control,
+        alternate,
+        content,
+    };
+    let (files, trial) = trial(alloc, files, seat, inputs);
+    Ok((handed_back(files), trial))
 }
 
 /// The inputs of steps.

@@ -58,6 +58,6 @@ returns-in-None-clause-stops g c =
       tt,
       λ addresses seconds millis.
           talk_still g.D.Disk.view g.K.Sink.takes g.K.Sink.fails g.K.Sink.faults addresses g.met.K.Sink.takes_nothing ends.Memory Idle a.kept.now a.kept.now a.outbox.now a.outbox.now a.sink.now a.sink.now (story a.link.now) (story n.link) (faults a.link.now) (faults n.link) seconds millis
-          c.requires.open c.show.ensures.talked (memory_ends g.D.Disk.view g.K.Sink.takes g.K.Sink.fails g.K.Sink.faults [] g.met.K.Sink.takes_nothing a.kept.now a.sink.now (c.node-node.ensures.survives c.requires.open)),
+          c.requires.open c.show.ensures.talked (memory_ends g.D.Disk.view g.K.Sink.takes g.K.Sink.fails g.K.Sink.faults [] g.met.K.Sink.takes_nothing a.kept.now a.sink.now (c.recovers.ensures.survives c.requires.open)),
       λ honest. (both.1, refl),
     )) (err_with _ _ c.show.result c.show.ensures.memory c.show.ensures.silent)

@@ -12,7 +12,7 @@ use Rattle.oc_answer.proofs.answering.reply_to.Goals as goal
 pub returns-in_err-response-clause-stops : goal.returns-in_err-response-clause-stops
 returns-in_err-response-clause-stops g c =
     let p = err_from_is_err_and c.from_residual.result c.from_residual.ensures.1 in
-    rw (p.1, p.2) (memory_reply g.D.Disk.view g.K.Sink.takes g.K.Sink.fails g.K.Sink.faults c.args.kept.now c.args.sink.now (c.node-before.ensures.survives c.requires.open))
+    rw (p.1, p.2) (memory_reply g.D.Disk.view g.K.Sink.takes g.K.Sink.fails g.K.Sink.faults c.args.kept.now c.args.sink.now (c.recovers.ensures.survives c.requires.open))
 
 pub returns-in_err-whole-clause-stops : goal.returns-in_err-whole-clause-stops
 returns-in_err-whole-clause-stops g c =
@@ -42,7 +42,7 @@ returns-clause-replied g c = (
 pub returns-in_err-write_failed_line-clause-stops : goal.returns-in_err-write_failed_line-clause-stops
 returns-in_err-write_failed_line-clause-stops g c =
     let p = err_from_is_err_and c.from_residual-in_err-write_failed_line.result c.from_residual-in_err-write_failed_line.ensures.1 in
-    rw (p.1, p.2) (line_reply g.D.Disk.view g.K.Sink.takes g.K.Sink.fails g.K.Sink.faults c.in_err-write_failed_line.field-0.0 c.args.kept.now c.send_response.new.kept c.args.sink.now c.write_failed_line.new.sink c.in_ok-whole.ensures.looks c.node-node.ensures.survives c.in_err-write_failed_line.ensures.stops)
+    rw (p.1, p.2) (line_reply g.D.Disk.view g.K.Sink.takes g.K.Sink.fails g.K.Sink.faults c.in_err-write_failed_line.field-0.0 c.args.kept.now c.send_response.new.kept c.args.sink.now c.write_failed_line.new.sink c.in_ok-whole.ensures.looks c.recovers-2.ensures.survives c.in_err-write_failed_line.ensures.stops)
 
 pub returns-in_err-response-clause-cut : goal.returns-in_err-response-clause-cut
 returns-in_err-response-clause-cut g c =

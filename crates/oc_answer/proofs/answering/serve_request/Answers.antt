@@ -109,7 +109,7 @@ returns-in-Err-Refused-clause-stops g c =
       λ addresses seconds millis.
           talk_still g.D.Disk.view g.K.Sink.takes g.K.Sink.fails g.K.Sink.faults addresses g.met.K.Sink.takes_nothing end (note_under end (note_line why)) a.kept.now a.kept.now a.outbox.now a.outbox.now a.sink.now n.sink (story a.link.now) (story n.link) (faults a.link.now) (faults n.link) seconds millis
           c.requires.open (talked_then (story a.link.now) (story r.new.link) (story n.link) (faults a.link.now) (faults r.new.link) (faults n.link) r.ensures.talked c.refuse.ensures.talked)
-          (note_ends g.D.Disk.view g.K.Sink.takes g.K.Sink.fails g.K.Sink.faults g.met.K.Sink.takes_nothing end why a.kept.now a.sink.now n.sink (c.node-node.ensures.survives c.requires.open) both.0),
+          (note_ends g.D.Disk.view g.K.Sink.takes g.K.Sink.fails g.K.Sink.faults g.met.K.Sink.takes_nothing end why a.kept.now a.sink.now n.sink (c.recovers.ensures.survives c.requires.open) both.0),
       λ honest. (
         front_still CONTINUE.now (story a.link.now) (story r.new.link) (story n.link) r.ensures.leave both.1,
         refused_at t a.number c.in-Err-Refused.refused g.K.Sink.takes g.K.Sink.fails g.K.Sink.faults end (story a.link.now) (story r.new.link) (story n.link) a.sink.now n.sink both.1 reads both.0,
@@ -132,6 +132,6 @@ returns-in-Err-Memory-clause-stops g c =
       tt,
       λ addresses seconds millis.
           talk_still g.D.Disk.view g.K.Sink.takes g.K.Sink.fails g.K.Sink.faults addresses g.met.K.Sink.takes_nothing ends.Memory Idle a.kept.now a.kept.now a.outbox.now a.outbox.now a.sink.now a.sink.now (story a.link.now) (story r.new.link) (faults a.link.now) (faults r.new.link) seconds millis
-          c.requires.open r.ensures.talked (memory_ends g.D.Disk.view g.K.Sink.takes g.K.Sink.fails g.K.Sink.faults [] g.met.K.Sink.takes_nothing a.kept.now a.sink.now (c.node-node.ensures.survives c.requires.open)),
+          c.requires.open r.ensures.talked (memory_ends g.D.Disk.view g.K.Sink.takes g.K.Sink.fails g.K.Sink.faults [] g.met.K.Sink.takes_nothing a.kept.now a.sink.now (c.recovers.ensures.survives c.requires.open)),
       λ honest. (r.ensures.leave, refl),
     )

@@ -7,7 +7,7 @@ use Rattle.oc_answer.proofs.replying.read_piece.Goals as goal
 pub returns-in-Ok-clause-looks : goal.returns-in-Ok-clause-looks
 returns-in-Ok-clause-looks g c =
     let t = c.in-Ok.ensures in
-    looked g.D.Disk.view c.args.kept.now c.read.new.self (t.stays_open (λ e. absurd cc) ∙ c.requires.open) t.same t.goes_on
+    looked g.D.Disk.view c.args.kept.now c.read.new.self (t.stays_open (λ e. absurd cc) ∙ c.requires.open) t.same
 
 pub returns-in-Err-NoGroup-clause-bytes : goal.returns-in-Err-NoGroup-clause-bytes
 returns-in-Err-NoGroup-clause-bytes g c = λ honest.
@@ -16,4 +16,4 @@ returns-in-Err-NoGroup-clause-bytes g c = λ honest.
 pub returns-in-Err-Disk-clause-stops : goal.returns-in-Err-Disk-clause-stops
 returns-in-Err-Disk-clause-stops g c =
     let t = c.in-Err-Disk.ensures in
-    read_stops g.D.Disk.view (λ x h. g.met.D.Disk.consistent x h) c.args.kept.now c.read.new.self c.requires.open t.goes_on (t.disk (search rules)) (t.any_moment c.requires.open)
+    read_stops g.D.Disk.view (λ x h. g.met.D.Disk.consistent x h) c.args.kept.now c.read.new.self c.requires.open t.same (t.disk (search rules))

@@ -11,7 +11,7 @@ use Rattle.oc_answer.proofs.replying.send_content.Goals as goal
 pub returns-in_err-buffer-clause-stops : goal.returns-in_err-buffer-clause-stops
 returns-in_err-buffer-clause-stops g c =
     let p = err_from_is_err_and c.from_residual.result c.from_residual.ensures.1 in
-    rw (p.1, p.2) (memory_looks g.D.Disk.view c.args.kept.now (c.node-node.ensures.survives c.requires.open))
+    rw (p.1, p.2) (memory_looks g.D.Disk.view c.args.kept.now (c.recovers.ensures.survives c.requires.open))
 
 pub returns-in_err-buffer-clause-talked : goal.returns-in_err-buffer-clause-talked
 returns-in_err-buffer-clause-talked g c = talked_none (g.L.Link.story c.args.link.now) (g.L.Link.faults c.args.link.now)

@@ -32,7 +32,7 @@ pieces-preserved g c =
           let looks = looks_then g.D.Disk.view a.kept.now m.kept c.read_piece.new.kept m.invariant.looks c.in_ok-count.ensures.looks in
           piece_sent a.content.now.chunked a.group.now groups a.content.now.start a.content.now.count m.at m.left _ c.in_ok-count.count _ _ c.read_piece.new.buffer _ c.in_ok-send_piece.field-0 (story a.link.now) (story m.link) (story c.send_piece.new.link)
           (search rules) c.in_ok-count.ensures.within (read_is g.D.Disk.view a.kept.now m.kept a.group.now m.at _ _ m.invariant.looks honest c.in_ok-count.ensures.bytes) (take-append-le c.in_ok-count.count c.read_piece.new.buffer _ (omega (arith, c.in_ok-count.ensures.within, c.read_piece.auto.buffer)))
-          (lines_of g.D.Disk.view a.kept.now c.read_piece.new.kept _ looks honest c.node-node.ensures.lawful) (search rules) (search rules) (search rules) (search rules) (m.invariant.sent honest fits) c.in_ok-send_piece.ensures.said;
+          (lines_of g.D.Disk.view a.kept.now c.read_piece.new.kept _ looks honest c.recovers.ensures.lawful) (search rules) (search rules) (search rules) (search rules) (m.invariant.sent honest fits) c.in_ok-send_piece.ensures.said;
     }
 
 pub returns-in_err-count-clause-stops : goal.returns-in_err-count-clause-stops
@@ -44,7 +44,7 @@ pub returns-in_err-send_piece-clause-stops : goal.returns-in_err-send_piece-clau
 returns-in_err-send_piece-clause-stops g c =
     let p = err_from_is_err_and c.from_residual-in_err-send_piece.result c.from_residual-in_err-send_piece.ensures.1 in
     let looks = looks_then g.D.Disk.view c.args.kept.now c.pieces.kept c.read_piece.new.kept c.pieces.invariant.looks c.in_ok-count.ensures.looks in
-    rw (p.1, p.2) (stops_behind g.D.Disk.view Memory c.args.kept.now c.read_piece.new.kept c.read_piece.new.kept looks (memory_looks g.D.Disk.view c.read_piece.new.kept (c.node-node.ensures.survives looks.is_open)))
+    rw (p.1, p.2) (stops_behind g.D.Disk.view Memory c.args.kept.now c.read_piece.new.kept c.read_piece.new.kept looks (memory_looks g.D.Disk.view c.read_piece.new.kept (c.recovers.ensures.survives looks.is_open)))
 
 pub returns-in_err-send_piece-clause-talked : goal.returns-in_err-send_piece-clause-talked
 returns-in_err-send_piece-clause-talked g c =

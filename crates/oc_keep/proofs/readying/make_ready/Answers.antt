@@ -1,4 +1,4 @@
-use Rattle.std.proofs.Common.{ℕ, inr, false, List, refl, ap, ◌∙◌, ⊎_elim}
+use Rattle.std.proofs.Common.{ℕ, inr, false, rules, List, refl, ap, ◌∙◌, ⊎_elim}
 use Rattle.oc_content.specs.ContentFile.{groups_in}
 use Rattle.oc_node.specs.Planned.{PlanView}
 use Rattle.oc_io.proofs.DiskMoments.{still_honest}
@@ -15,14 +15,6 @@ writing-requires-clause-keeps g c =
     let n = c.args.node.now.control in
     let made = rw c.groups.ensures.lines at c.in_ok-plan.ensures.made.control in
     plan_keeps n c.in_ok-plan.plan _ c.args.content.now.shelves _ made (c.prepare_refuses_nothing_that_is_kept.ensures.keeps n.nodes n c.args.content.now.shelves c.args.input.now c.requires.input c.groups.ensures.shelf)
-
-pub returns-in-Err-fetch-clause-content : goal.returns-in-Err-fetch-clause-content
-returns-in-Err-fetch-clause-content g c = puts_then g.D.Disk.view c.args.content.now c.writing.new.content c.fetch.new.content (λ x h. g.met.D.Disk.consistent x h) c.writing.ensures.content c.fetch.ensures.content
-
-pub returns-in-Err-fetch-clause-full_first : goal.returns-in-Err-fetch-clause-full_first
-returns-in-Err-fetch-clause-full_first g c = λ disk full.
-    let made = rw c.groups.ensures.lines at c.in_ok-plan.ensures.made.control in
-    wanting_fits (kept_of c.args.node.now c.args.store.now c.args.content.now false) c.args.input.now c.in_ok-plan.plan made c.in-Err-fetch.ensures.wanting full
 
 pub returns-in-Ok-fetch-clause-step : goal.returns-in-Ok-fetch-clause-step
 returns-in-Ok-fetch-clause-step g c = λ honest.
@@ -55,9 +47,6 @@ returns-in-Ok-fetch-clause-full g c =
     made_full g.D.Disk.view c.args.node.now c.plan.new.self c.args.store.now c.writing.new.store c.args.content.now c.writing.new.content c.fetch.new.content c.args.input.now c.in_ok-plan.plan c.in-Ok.write
     made c.writing.ensures.store (c.fetch.ensures.content.journal.end ∙ c.writing.ensures.content.journal.end) c.in-Ok.ensures.write
 
-pub returns-in-Ok-fetch-clause-content : goal.returns-in-Ok-fetch-clause-content
-returns-in-Ok-fetch-clause-content g c = puts_then g.D.Disk.view c.args.content.now c.writing.new.content c.fetch.new.content (λ x h. g.met.D.Disk.consistent x h) c.writing.ensures.content c.fetch.ensures.content
-
 pub plan-requires-clause-input : goal.plan-requires-clause-input
 plan-requires-clause-input g c = c.requires.input
 
@@ -89,38 +78,8 @@ fetch-requires-clause-shelved g c = still_shelved g.D.Disk.view c.args.content.n
 pub fetch-requires-clause-wanting : goal.fetch-requires-clause-wanting
 fetch-requires-clause-wanting g c = c.in_ok-plan.ensures.made.wants
 
-pub returns-in_err-plan-clause-node : goal.returns-in_err-plan-clause-node
-returns-in_err-plan-clause-node g c = c.plan.ensures.node
-
-pub returns-in-Err-clause-node : goal.returns-in-Err-clause-node
-returns-in-Err-clause-node g c = c.plan.ensures.node
-
-pub returns-in-Err-fetch-clause-node : goal.returns-in-Err-fetch-clause-node
-returns-in-Err-fetch-clause-node g c = c.plan.ensures.node
-
-pub returns-in-Ok-fetch-clause-node : goal.returns-in-Ok-fetch-clause-node
-returns-in-Ok-fetch-clause-node g c = c.plan.ensures.node
-
-pub returns-in_err-plan-clause-store : goal.returns-in_err-plan-clause-store
-returns-in_err-plan-clause-store g c = keeps_none g.D.Disk.view c.args.store.now
-
-pub returns-in_err-plan-clause-content : goal.returns-in_err-plan-clause-content
-returns-in_err-plan-clause-content g c = puts_none g.D.Disk.view c.args.content.now
-
 pub returns-in_err-plan-clause-none_failed : goal.returns-in_err-plan-clause-none_failed
 returns-in_err-plan-clause-none_failed g c = inr (record { closed = refl; no_fault = refl })
-
-pub returns-in-Err-clause-store : goal.returns-in-Err-clause-store
-returns-in-Err-clause-store g c = c.writing.ensures.store
-
-pub returns-in-Err-fetch-clause-store : goal.returns-in-Err-fetch-clause-store
-returns-in-Err-fetch-clause-store g c = c.writing.ensures.store
-
-pub returns-in-Ok-fetch-clause-store : goal.returns-in-Ok-fetch-clause-store
-returns-in-Ok-fetch-clause-store g c = c.writing.ensures.store
-
-pub returns-in-Err-clause-content : goal.returns-in-Err-clause-content
-returns-in-Err-clause-content g c = c.writing.ensures.content
 
 pub returns-in-Err-clause-none_failed : goal.returns-in-Err-clause-none_failed
 returns-in-Err-clause-none_failed g c = inr c.writing.ensures.none_failed
@@ -132,9 +91,6 @@ returns-in-Ok-fetch-clause-none_failed g c =
 
 pub returns-in-Ok-fetch-clause-disk : goal.returns-in-Ok-fetch-clause-disk
 returns-in-Ok-fetch-clause-disk g c = λ wrong. absurd (done _ _ wrong)
-
-pub returns-in-Ok-fetch-clause-full_first : goal.returns-in-Ok-fetch-clause-full_first
-returns-in-Ok-fetch-clause-full_first g c = λ wrong. absurd (done _ _ wrong)
 
 pub returns-in-Err-clause-step : goal.returns-in-Err-clause-step
 returns-in-Err-clause-step g c = tt
@@ -159,3 +115,20 @@ returns-in-Err-fetch-clause-writes g c = tt
 
 pub returns-in-Err-fetch-clause-full : goal.returns-in-Err-fetch-clause-full
 returns-in-Err-fetch-clause-full g c = tt
+
+pub returns-in_err-plan-clause-nothing : goal.returns-in_err-plan-clause-nothing
+returns-in_err-plan-clause-nothing g c = record { control = c.plan.ensures.node; store = keeps_none g.D.Disk.view c.args.store.now; content = puts_none g.D.Disk.view c.args.content.now }
+
+pub returns-in-Err-clause-nothing : goal.returns-in-Err-clause-nothing
+returns-in-Err-clause-nothing g c = record { control = c.plan.ensures.node; store = c.writing.ensures.store; content = c.writing.ensures.content }
+
+pub returns-in-Err-fetch-clause-nothing : goal.returns-in-Err-fetch-clause-nothing
+returns-in-Err-fetch-clause-nothing g c = record { control = c.plan.ensures.node; store = c.writing.ensures.store; content = puts_then g.D.Disk.view c.args.content.now c.writing.new.content c.fetch.new.content (λ x h. g.met.D.Disk.consistent x h) c.writing.ensures.content c.fetch.ensures.content }
+
+pub returns-in-Ok-fetch-clause-nothing : goal.returns-in-Ok-fetch-clause-nothing
+returns-in-Ok-fetch-clause-nothing g c = record { control = c.plan.ensures.node; store = c.writing.ensures.store; content = puts_then g.D.Disk.view c.args.content.now c.writing.new.content c.fetch.new.content (λ x h. g.met.D.Disk.consistent x h) c.writing.ensures.content c.fetch.ensures.content }
+
+pub returns-in-Err-fetch-clause-disk : goal.returns-in-Err-fetch-clause-disk
+returns-in-Err-fetch-clause-disk g c = λ failed.
+    let made = rw c.groups.ensures.lines at c.in_ok-plan.ensures.made.control in
+    (search rules, λ full. wanting_fits (kept_of c.args.node.now c.args.store.now c.args.content.now false) c.args.input.now c.in_ok-plan.plan made c.in-Err-fetch.ensures.wanting full)

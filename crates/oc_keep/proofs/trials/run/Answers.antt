@@ -3,8 +3,8 @@ use Rattle.std.proofs.lemmas.List.{reverse-reverse}
 use Rattle.oc_model.specs.declared.input.Input.{Input}
 use Rattle.oc_keep.specs.declared.errors.KeepError.{KeepError}
 use Rattle.oc_keep.specs.KeptView.{disks_of}
-use Rattle.oc_keep.proofs.Ends.{done, ended_all, ended_full, full_no_disk, full_unfailed}
-use Rattle.oc_keep.proofs.Runs.{IsSoFar, all_go_on_then, all_reliable, next_lawful, one_fewer, popped, popped_none, refused_cause, refused_count, refused_full, refused_leaves, so_far_all, so_far_none, so_far_on}
+use Rattle.oc_keep.proofs.Ends.{ended_all, ended_full}
+use Rattle.oc_keep.proofs.Runs.{IsSoFar, all_go_on_then, all_reliable, next_lawful, one_fewer, popped, popped_none, refused_cause, refused_count, refused_full, refused_leaves, so_far_all, so_far_none, so_far_on, taken_full}
 use Rattle.oc_keep.proofs.trials.run.Goals as goal
 
 pub returns-in-Err-clause-leaves : goal.returns-in-Err-clause-leaves
@@ -14,7 +14,7 @@ returns-in-Err-clause-leaves g c =
     let now = c.loop-input.kept in
     let rest = c.pop.new.self.items in
     let so = popped g.D.Disk.view (λ x h. g.met.D.Disk.consistent x h) first all now c.loop-input.inputs.items rest c.in-Some.input c.loop-input.done c.in-Some.ensures.items c.loop-input.invariant.far in
-    refused_leaves g.D.Disk.view (λ x h. g.met.D.Disk.consistent x h) first all now c.take.new.self c.in-Some.input (reverse rest) c.loop-input.done c.in-Err.error so c.take.ensures.goes_on (rw c.in-Err.ensures.err at c.take.ensures.unchanged) (c.take.ensures.any_moment so.is_open)
+    refused_leaves g.D.Disk.view (λ x h. g.met.D.Disk.consistent x h) first all now c.take.new.self c.in-Some.input (reverse rest) c.loop-input.done c.in-Err.error so c.take.ensures.same.goes_on c.in-Err.ensures.refused (c.take.ensures.any_moment so.is_open)
 
 pub returns-in-Err-clause-full : goal.returns-in-Err-clause-full
 returns-in-Err-clause-full g c = λ honest ended.
@@ -24,9 +24,8 @@ returns-in-Err-clause-full g c = λ honest ended.
     let now = c.loop-input.kept in
     let rest = c.pop.new.self.items in
     let so = popped g.D.Disk.view (λ x h. g.met.D.Disk.consistent x h) first all now c.loop-input.inputs.items rest c.in-Some.input c.loop-input.done c.in-Some.ensures.items c.loop-input.invariant.far in
-    let err = c.in-Err.ensures.err in
-    let e = c.take.ensures in
-    refused_full g.D.Disk.view (λ x h. g.met.D.Disk.consistent x h) first all now c.take.new.self c.in-Some.input (reverse rest) c.loop-input.done so ((rw err at e.full) (ap (λ (x : KeepError). Err x) is)) ((rw err at e.unchanged) (λ other. absurd (full_unfailed c.in-Err.error is other))) ((rw err at e.stays_open) (λ other. absurd (full_no_disk c.in-Err.error is other))) honest
+    let why = taken_full g.D.Disk.view c.in-Err.error c.in-Some.input now c.take.new.self is c.in-Err.ensures.refused in
+    refused_full g.D.Disk.view (λ x h. g.met.D.Disk.consistent x h) first all now c.take.new.self c.in-Some.input (reverse rest) c.loop-input.done so why.0 why.1.nothing why.1.still honest
 
 pub loop-input-init : goal.loop-input-init
 loop-input-init g c =
@@ -70,18 +69,16 @@ returns-in-Err-clause-cause g c =
     let now = c.loop-input.kept in
     let rest = c.pop.new.self.items in
     let so = popped g.D.Disk.view (λ x h. g.met.D.Disk.consistent x h) first all now c.loop-input.inputs.items rest c.in-Some.input c.loop-input.done c.in-Some.ensures.items c.loop-input.invariant.far in
-    let err = c.in-Err.ensures.err in
-    let e = c.take.ensures in
     refused_cause g.D.Disk.view (λ x h. g.met.D.Disk.consistent x h) first all now c.take.new.self c.in-Some.input (reverse rest) c.loop-input.done c.in-Err.error so
-    (λ is. (rw err at e.closed).0 (ap (λ (x : KeepError). Err x) is)) (λ is. (rw err at e.disk) (ap (λ (x : KeepError). Err x) is))
+    (λ is. c.in-Err.ensures.closed.0 (ap (λ (x : KeepError). Err x) is)) c.in-Err.ensures.refused
 
 pub returns-in-Err-clause-goes_on : goal.returns-in-Err-clause-goes_on
-returns-in-Err-clause-goes_on g c = all_go_on_then g.D.Disk.view (disks_of c.args.kept.now) (disks_of c.loop-input.kept) (disks_of c.take.new.self) c.loop-input.invariant.far.on c.take.ensures.goes_on
+returns-in-Err-clause-goes_on g c = all_go_on_then g.D.Disk.view (disks_of c.args.kept.now) (disks_of c.loop-input.kept) (disks_of c.take.new.self) c.loop-input.invariant.far.on c.take.ensures.same.goes_on
 
 pub returns-in-Err-clause-works : goal.returns-in-Err-clause-works
 returns-in-Err-clause-works g c = λ sure.
     let so = c.loop-input.invariant.far in
-    (rw c.in-Err.ensures.err at c.take.ensures.works) so.is_open (all_reliable g.D.Disk.view (disks_of c.args.kept.now) (disks_of c.loop-input.kept) so.on sure)
+    c.in-Err.ensures.works so.is_open (all_reliable g.D.Disk.view (disks_of c.args.kept.now) (disks_of c.loop-input.kept) so.on sure)
 
 pub loop-input-smaller : goal.loop-input-smaller
 loop-input-smaller g c = one_fewer c.pop.new.self.len c.loop-input.inputs.len c.in-Some.ensures.cases
@@ -93,9 +90,8 @@ loop-input-preserved g c =
     let now = c.loop-input.kept in
     let rest = c.pop.new.self.items in
     let so = popped g.D.Disk.view (λ x h. g.met.D.Disk.consistent x h) first all now c.loop-input.inputs.items rest c.in-Some.input c.loop-input.done c.in-Some.ensures.items c.loop-input.invariant.far in
-    let ok = c.in-Ok.ensures.ok in
-    let e = c.take.ensures in
-    record { far = so_far_on g.D.Disk.view (λ x h. g.met.D.Disk.consistent x h) first all now c.take.new.self c.in-Some.input (reverse rest) c.loop-input.done so ((rw ok.1 at e.stays_open) (λ wrong. absurd (done ok.0 _ wrong))) e.same e.goes_on (rw ok.1 at e.node) (rw ok.1 at e.survives) }
+    let took = c.in-Ok.ensures.took in
+    record { far = so_far_on g.D.Disk.view (λ x h. g.met.D.Disk.consistent x h) first all now c.take.new.self c.in-Some.input (reverse rest) c.loop-input.done so (took.is_open ∙ sym so.is_open) c.take.ensures.same.node c.take.ensures.same.goes_on took.node took.survives }
 
 pub returns-clause-leaves : goal.returns-clause-leaves
 returns-clause-leaves g c =

@@ -40,17 +40,12 @@ returns-in-Err-Disk-clause-disk g c =
     let still_open = c.prepare_snapshot-prepared.ensures.same.closed ∙ c.requires.open in
     let disk = rw c.in-Err-Disk.is at c.in-Err-Disk.field-0-is in
     let failed = c.in-Err-Disk.is ∙ ap (λ (e : RestartError). Err e) disk in
-    λ _. closes_made g.D.Disk.view s m c.turn_over-turned.new.self (snapshot (s.generation + 1) n.kept) frame c.prepare_snapshot-prepared.ensures.same (c.turn_over-turned.ensures.disk failed) (c.turn_over-turned.ensures.any_moment still_open) spells
+    λ _. (closes_made g.D.Disk.view s m c.turn_over-turned.new.self (snapshot (s.generation + 1) n.kept) frame c.prepare_snapshot-prepared.ensures.same (c.turn_over-turned.ensures.disk failed) (c.turn_over-turned.ensures.any_moment still_open) spells, found.1)
 
 pub returns-in-Ok-clause-short : goal.returns-in-Ok-clause-short
 returns-in-Ok-clause-short g c =
     let found = rw (c.in-Some.is, c.generation.ensures.generation) at c.in_ok-list.ensures.found in
     (λ _. found.1, λ _. refl)
-
-pub returns-in-Err-Disk-clause-short_err : goal.returns-in-Err-Disk-clause-short_err
-returns-in-Err-Disk-clause-short_err g c =
-    let found = rw (c.in-Some.is, c.generation.ensures.generation) at c.in_ok-list.ensures.found in
-    λ _. found.1
 
 pub returns-in_err-list-clause-memory : goal.returns-in_err-list-clause-memory
 returns-in_err-list-clause-memory g c = λ _. keeps_none g.D.Disk.view c.args.store.now

@@ -74,7 +74,7 @@ returns-in_err-entry-in-Ok-clause-stops g c =
       Probes a.peer c.get-rate.result.1 (Ok c.in-Ok.rate) ∷ [],
       Idle,
       (c.get-rate.result.1, Ok c.in-Ok.rate, refl, (c.put.result, c.put.ensures.median, inr (refl, refl))),
-      (scene a.kept.now a.outbox.now a.sink.now out, did, breaks_memory g.D.Disk.view g.K.Sink.takes g.K.Sink.fails g.K.Sink.faults a.config.now.addresses g.met.K.Sink.takes_nothing a.kept.now a.outbox.now a.outbox.now a.sink.now out out (c.node-node.ensures.survives c.requires.open) refl),
+      (scene a.kept.now a.outbox.now a.sink.now out, did, breaks_memory g.D.Disk.view g.K.Sink.takes g.K.Sink.fails g.K.Sink.faults a.config.now.addresses g.met.K.Sink.takes_nothing a.kept.now a.outbox.now a.outbox.now a.sink.now out out (c.recovers.ensures.survives c.requires.open) refl),
     )
 
 pub returns-in-Err-Memory-clause-stops : goal.returns-in-Err-Memory-clause-stops
@@ -92,7 +92,7 @@ returns-in-Err-Memory-clause-stops g c =
       Probes a.peer c.get-rate.result.1 (Err probes.Memory) ∷ [],
       Idle,
       (c.get-rate.result.1, Err probes.Memory, refl, (refl, refl)),
-      (scene a.kept.now a.outbox.now a.sink.now out, did, breaks_memory g.D.Disk.view g.K.Sink.takes g.K.Sink.fails g.K.Sink.faults a.config.now.addresses g.met.K.Sink.takes_nothing a.kept.now a.outbox.now a.outbox.now a.sink.now out out (c.node-node.ensures.survives c.requires.open) refl),
+      (scene a.kept.now a.outbox.now a.sink.now out, did, breaks_memory g.D.Disk.view g.K.Sink.takes g.K.Sink.fails g.K.Sink.faults a.config.now.addresses g.met.K.Sink.takes_nothing a.kept.now a.outbox.now a.outbox.now a.sink.now out out (c.recovers.ensures.survives c.requires.open) refl),
     )
 
 pub returns-in-Err-Link-clause-did : goal.returns-in-Err-Link-clause-did
@@ -125,7 +125,7 @@ returns-in-Err-Link-clause-stops g c =
     (search rules) c.requires.open c.address_of.ensures c.in-Err-Link.ensures.link c.in-Err-Link.ensures.time c.in-Err-Link.ensures.cause c.probe.ensures.count c.probe.ensures.seconds) in
     err_then c.tell.result (λ end stops.
     let e = told_breaks g.D.Disk.view g.K.Sink.takes g.K.Sink.fails g.K.Sink.faults a.config.now.addresses g.met.K.Sink.takes_nothing (Probes a.peer c.get-rate.result.1 (Err probes.Link) ∷ []) end a.peer _ (codes "link")
-    (scene a.kept.now a.outbox.now a.sink.now (outside_of (story a.link.now) (faults a.link.now) (seconds a.clock.now) (millis a.clock.now))) a.kept.now a.outbox.now a.sink.now c.tell.new.sink out (search rules) did (c.node-node.ensures.survives c.requires.open) stops in
+    (scene a.kept.now a.outbox.now a.sink.now (outside_of (story a.link.now) (faults a.link.now) (seconds a.clock.now) (millis a.clock.now))) a.kept.now a.outbox.now a.sink.now c.tell.new.sink out (search rules) did (c.recovers.ensures.survives c.requires.open) stops in
     (Probes a.peer c.get-rate.result.1 (Err probes.Link) ∷ [], e.0, (c.get-rate.result.1, Err probes.Link, refl, e.1), e.2)) c.tell.ensures.stops
 
 pub returns-in-Err-Reply-clause-did : goal.returns-in-Err-Reply-clause-did
@@ -158,7 +158,7 @@ returns-in-Err-Reply-clause-stops g c =
     (search rules) c.requires.open c.address_of.ensures c.in-Err-Reply.ensures.link c.in-Err-Reply.ensures.time c.in-Err-Reply.ensures.cause c.probe.ensures.count c.probe.ensures.seconds) in
     err_then c.tell-in-Err-Reply.result (λ end stops.
     let e = told_breaks g.D.Disk.view g.K.Sink.takes g.K.Sink.fails g.K.Sink.faults a.config.now.addresses g.met.K.Sink.takes_nothing (Probes a.peer c.get-rate.result.1 (Err probes.Reply) ∷ []) end a.peer _ (codes "reply")
-    (scene a.kept.now a.outbox.now a.sink.now (outside_of (story a.link.now) (faults a.link.now) (seconds a.clock.now) (millis a.clock.now))) a.kept.now a.outbox.now a.sink.now c.tell-in-Err-Reply.new.sink out (search rules) did (c.node-node.ensures.survives c.requires.open) stops in
+    (scene a.kept.now a.outbox.now a.sink.now (outside_of (story a.link.now) (faults a.link.now) (seconds a.clock.now) (millis a.clock.now))) a.kept.now a.outbox.now a.sink.now c.tell-in-Err-Reply.new.sink out (search rules) did (c.recovers.ensures.survives c.requires.open) stops in
     (Probes a.peer c.get-rate.result.1 (Err probes.Reply) ∷ [], e.0, (c.get-rate.result.1, Err probes.Reply, refl, e.1), e.2)) c.tell-in-Err-Reply.ensures.stops
 
 pub returns-in_ok-entry-in-Ok-clause-still : goal.returns-in_ok-entry-in-Ok-clause-still

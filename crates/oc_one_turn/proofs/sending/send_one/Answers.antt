@@ -22,7 +22,7 @@ returns-in_err-sent-clause-stops g c =
         scene a.kept.now a.outbox.now a.sink.now (outside_of (story a.link.now) (faults a.link.now) seconds millis),
         did_none g.D.Disk.view g.K.Sink.takes g.K.Sink.fails g.K.Sink.faults a.config.now.addresses g.met.K.Sink.takes_nothing (scene a.kept.now a.outbox.now a.sink.now (outside_of (story a.link.now) (faults a.link.now) seconds millis)) c.requires.open,
         breaks_dial g.D.Disk.view g.K.Sink.takes g.K.Sink.fails g.K.Sink.faults a.config.now.addresses g.met.K.Sink.takes_nothing ⊥ a.kept.now a.outbox.now new.outbox a.sink.now (outside_of (story a.link.now) (faults a.link.now) seconds millis) (outside_of (story new.link) (faults new.link) seconds millis)
-            (c.node-node.ensures.survives c.requires.open)
+            (c.recovers.ensures.survives c.requires.open)
             (dials_here a.kept.now a.config.now.addresses c.id-me.result c.nodes-nodes.result a.outbox.now (story a.link.now) (story new.link) (faults a.link.now) (faults new.link) seconds millis (search rules) (search rules) c.in_err-sent.ensures.memory),
       ),
     )

@@ -21,4 +21,4 @@ returns-clause-did g c =
 pub returns-in_err-entry-clause-stops : goal.returns-in_err-entry-clause-stops
 returns-in_err-entry-clause-stops g c =
     let p = err_from_is_err_and c.from_residual.result c.from_residual.ensures.1 in
-    rw (p.1, p.2) (memory_stops g.D.Disk.view g.K.Sink.takes g.K.Sink.fails g.K.Sink.faults [] g.met.K.Sink.takes_nothing _ c.args.kept.now c.args.sink.now (c.node.ensures.survives c.requires.open))
+    rw (p.1, p.2) (memory_stops g.D.Disk.view g.K.Sink.takes g.K.Sink.fails g.K.Sink.faults [] g.met.K.Sink.takes_nothing _ c.args.kept.now c.args.sink.now (c.recovers.ensures.survives c.requires.open))

@@ -8,30 +8,29 @@ use Rattle.oc_turn.proofs.taking.keep.Goals as goal
 
 pub returns-in-Ok-clause-kept : goal.returns-in-Ok-clause-kept
 returns-in-Ok-clause-kept g c =
-    let t = c.in-Ok.ensures in
+    let t = c.in-Ok.ensures.took in
     let n = node_of c.args.kept.now in
     let same : c.nodes-nodes.result ≡ c.args.kept.now.node.control.nodes = search rules in
     record {
-      is_open = t.stays_open (λ e. absurd cc) ∙ c.requires.open;
-      same = t.same;
-      goes_on = t.goes_on;
+      is_open = t.is_open;
+      same = c.take.ensures.same.node;
+      goes_on = c.take.ensures.same.goes_on;
       fits = t.fits;
       outcome_is = λ honest.
-          let lawful = c.node.ensures.lawful honest in
-          let outcome = c.lawful_nodes_stay_lawful.ensures.step c.args.kept.now.node.control.nodes n c.args.input c.requires.input c.node.ensures.short lawful in
+          let lawful = c.recovers.ensures.lawful honest in
+          let outcome = c.lawful_nodes_stay_lawful.ensures.step c.args.kept.now.node.control.nodes n c.args.input c.requires.input c.recovers.ensures.short lawful in
           let can = step_sendable c.args.kept.now.node.control.nodes n c.args.input (λ m is. (c.spellings_are_read.ensures.spelled c.args.kept.now.node.control.nodes m lawful.control.few is).fits) outcome in
-          let told = t.outcome honest in
+          let told = t.outcome_is honest in
           c.sendable.ensures.whole (subst (λ (nodes : ℕ). AreSendable nodes c.in-Ok.outcome.sends) (sym same) (subst (λ (o : OutcomeView). AreSendable c.args.kept.now.node.control.nodes o.sends) (sym told) can)) ∙ told;
       sendable = subst (λ (nodes : ℕ). AreSendable nodes c.sendable.result.sends) same c.sendable.ensures.sendable;
       node = t.node;
       survives = t.survives;
-      generation = t.generation;
+      generation = c.take.ensures.same.generation;
     }
 
 pub returns-in-Err-clause-stops : goal.returns-in-Err-clause-stops
 returns-in-Err-clause-stops g c =
     let t = c.in-Err.ensures in
     rw c.end_of.ensures
-    (keep_stops g.D.Disk.view (λ x h. g.met.D.Disk.consistent x h) c.args.kept.now c.take.new.self c.args.input c.in-Err.error c.requires.open t.same t.goes_on
-    (λ e. t.closed.0 (ap (λ (x : KeepError). Err x) e)) (λ e. t.full (ap (λ (x : KeepError). Err x) e)) (λ e. t.full_first (ap (λ (x : KeepError). Err x) e)) t.unchanged (λ e. t.disk (ap (λ (x : KeepError). Err x) e))
-    (λ no. t.stays_open (λ e. no cc)) (t.any_moment c.requires.open) t.node_err c.node-node.ensures.survives)
+    (keep_stops g.D.Disk.view (λ x h. g.met.D.Disk.consistent x h) c.args.kept.now c.take.new.self c.args.input c.in-Err.error c.requires.open c.take.ensures.same
+    (λ e. t.closed.0 (ap (λ (x : KeepError). Err x) e)) t.refused (c.take.ensures.any_moment c.requires.open) c.recovers-in-Err.ensures.survives)

@@ -36,7 +36,7 @@ pub returns-in_err-entry-clause-stops : goal.returns-in_err-entry-clause-stops
 returns-in_err-entry-clause-stops g c =
     let p = err_from_is_err_and c.from_residual.result c.from_residual.ensures.1 in
     let a = c.args in
-    let e = memory_ends g.D.Disk.view g.K.Sink.takes g.K.Sink.fails g.K.Sink.faults [] g.met.K.Sink.takes_nothing a.kept.now a.sink.now (c.node.ensures.survives c.requires.open) in
+    let e = memory_ends g.D.Disk.view g.K.Sink.takes g.K.Sink.fails g.K.Sink.faults [] g.met.K.Sink.takes_nothing a.kept.now a.sink.now (c.recovers.ensures.survives c.requires.open) in
     rw (p.1, p.2) (
       Reads c.now.result ∷ [],
       Idle,

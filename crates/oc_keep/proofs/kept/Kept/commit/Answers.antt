@@ -18,16 +18,6 @@ invariant_of-self g c =
     let can = rw (← c.self.view_is, ← c.ready.view_is) at c.requires.ready in
     commit_kept g.D.Disk.view c.frames_add_their_records.ensures.read k c.self.invariant was_open c.frames_add_their_records.ensures.good k2 c.ready.inside.plan c.ready.inside.write can.applies can.writes c.in-Ok.ensures.writes c.put.ensures.safely (λ long. absurd (done c.in-Ok.field-0 _ (c.in-Ok.ensures.full.1 long))) c.apply.ensures.control c.in-Ok.ensures.lines
 
-pub returns-in-Ok-clause-survives : goal.returns-in-Ok-clause-survives
-returns-in-Ok-clause-survives g c =
-    let s = c.self.inside in
-    let k = kept_of s.node s.store s.content s.closed in
-    let k2 = kept_of c.apply.new.self c.put.new.store c.put.new.content s.closed in
-    let was_open : s.closed ≡ false = ap (λ (x : KeptView g.row.D.Denot). x.closed) c.self.view_is ∙ c.requires.open in
-    rw (← c.self.view_is) (λ honest.
-    kept_survives g.D.Disk.view k2 (invariant_of-self g c) was_open
-    (all_honest g.D.Disk.view (disks_of k) (disks_of k2) (write_goes_on g.D.Disk.view k k2 c.ready.inside.write c.put.ensures.safely) honest))
-
 pub returns-in-Ok-clause-any_moment : goal.returns-in-Ok-clause-any_moment
 returns-in-Ok-clause-any_moment g c =
     let s = c.self.inside in
@@ -63,16 +53,6 @@ returns-clause-any_moment g c =
     rw (← c.self.view_is, ← c.ready.view_is) (λ honest.
     commit_moments g.D.Disk.view c.frames_add_their_records.ensures.read k c.self.invariant was_open (λ x h. g.met.D.Disk.consistent x h) k2 c.ready.inside.plan c.ready.inside.write can.applies.records can.writes c.put.ensures.safely honest)
 
-pub returns-in-Ok-clause-generation : goal.returns-in-Ok-clause-generation
-returns-in-Ok-clause-generation g c =
-    let s = c.self.inside in
-    let k = kept_of s.node s.store s.content s.closed in
-    let k2 = kept_of c.apply.new.self c.put.new.store c.put.new.content s.closed in
-    let was_open : s.closed ≡ false = ap (λ (x : KeptView g.row.D.Denot). x.closed) c.self.view_is ∙ c.requires.open in
-    let can = rw (← c.self.view_is, ← c.ready.view_is) at c.requires.ready in
-    rw (← c.self.view_is)
-    (commit_generation g.D.Disk.view c.frames_add_their_records.ensures.read k c.self.invariant was_open k2 c.ready.inside.plan c.ready.inside.write can.applies.records can.plain can.writes c.in-Ok.ensures.writes c.put.ensures.safely)
-
 pub invariant_of-self-in-Err-Full : goal.invariant_of-self-in-Err-Full
 invariant_of-self-in-Err-Full g c =
     let same = c.in-Err-Full.ensures.unchanged (ap (λ (e : CommitError). Err e) c.in-Err-Full.field-0-is) in
@@ -101,76 +81,13 @@ apply-requires g c =
     let can = rw (← c.self.view_is, ← c.ready.view_is) at c.requires.ready in
     can.applies
 
-pub returns-in-Ok-clause-outcome : goal.returns-in-Ok-clause-outcome
-returns-in-Ok-clause-outcome g c = rw (← c.ready.view_is) c.apply.ensures.outcome
-
-pub returns-in-Ok-clause-node : goal.returns-in-Ok-clause-node
-returns-in-Ok-clause-node g c =
-    let s = c.self.inside in
-    let k = kept_of s.node s.store s.content s.closed in
-    let k2 = kept_of c.apply.new.self c.put.new.store c.put.new.content s.closed in
-    let was_open : s.closed ≡ false = ap (λ (x : KeptView g.row.D.Denot). x.closed) c.self.view_is ∙ c.requires.open in
-    rw (← c.self.view_is, ← c.ready.view_is) (commit_node g.D.Disk.view c.frames_add_their_records.ensures.read k c.self.invariant was_open k2 c.ready.inside.plan c.ready.inside.write c.in-Ok.ensures.writes c.put.ensures.safely c.apply.ensures.control)
-
 pub returns-in-Ok-clause-full : goal.returns-in-Ok-clause-full
 returns-in-Ok-clause-full g c = rw (← c.self.view_is, ← c.ready.view_is) (λ wrong. absurd (done c.apply.result _ wrong), λ long. absurd (done c.in-Ok.field-0 _ (c.in-Ok.ensures.full.1 long)))
-
-pub returns-in-Ok-clause-stays_open : goal.returns-in-Ok-clause-stays_open
-returns-in-Ok-clause-stays_open g c =
-    let s = c.self.inside in
-    let was_open : s.closed ≡ false = ap (λ (x : KeptView g.row.D.Denot). x.closed) c.self.view_is ∙ c.requires.open in
-    λ _. was_open
-
-pub returns-in-Ok-clause-same : goal.returns-in-Ok-clause-same
-returns-in-Ok-clause-same g c =
-    let control = c.apply.ensures.control in
-    rw (← c.self.view_is) (record { me = ap (λ (n : Control). n.me) control; header = ap header_of control })
-
-pub returns-in-Ok-clause-goes_on : goal.returns-in-Ok-clause-goes_on
-returns-in-Ok-clause-goes_on g c =
-    let s = c.self.inside in
-    let k = kept_of s.node s.store s.content s.closed in
-    let k2 = kept_of c.apply.new.self c.put.new.store c.put.new.content s.closed in
-    rw (← c.self.view_is) (write_goes_on g.D.Disk.view k k2 c.ready.inside.write c.put.ensures.safely)
 
 pub returns-in-Err-Full-clause-full : goal.returns-in-Err-Full-clause-full
 returns-in-Err-Full-clause-full g c =
     let failed = ap (λ (e : CommitError). Err e) c.in-Err-Full.field-0-is in
     rw (← c.self.view_is, ← c.ready.view_is) (λ _. c.in-Err-Full.ensures.full.0 failed, λ _. refl)
-
-pub returns-in-Err-Full-clause-unchanged : goal.returns-in-Err-Full-clause-unchanged
-returns-in-Err-Full-clause-unchanged g c =
-    let failed = ap (λ (e : CommitError). Err e) c.in-Err-Full.field-0-is in
-    let same = c.in-Err-Full.ensures.unchanged failed in
-    λ _. rw (same.0, same.1) c.self.view_is
-
-pub returns-in-Err-Full-clause-node_err : goal.returns-in-Err-Full-clause-node_err
-returns-in-Err-Full-clause-node_err g c =
-    let failed = ap (λ (e : CommitError). Err e) c.in-Err-Full.field-0-is in
-    let same = c.in-Err-Full.ensures.unchanged failed in
-    rw (← c.self.view_is, same.1) (λ honest. refl)
-
-pub returns-in-Err-Full-clause-stays_open : goal.returns-in-Err-Full-clause-stays_open
-returns-in-Err-Full-clause-stays_open g c =
-    let s = c.self.inside in
-    let was_open : s.closed ≡ false = ap (λ (x : KeptView g.row.D.Denot). x.closed) c.self.view_is ∙ c.requires.open in
-    λ _. was_open
-
-pub returns-in-Err-Full-clause-same : goal.returns-in-Err-Full-clause-same
-returns-in-Err-Full-clause-same g c = rw (← c.self.view_is) (record { me = refl; header = refl })
-
-pub returns-in-Err-Full-clause-generation : goal.returns-in-Err-Full-clause-generation
-returns-in-Err-Full-clause-generation g c =
-    let failed = ap (λ (e : CommitError). Err e) c.in-Err-Full.field-0-is in
-    let same = c.in-Err-Full.ensures.unchanged failed in
-    rw (← c.self.view_is, same.0) (λ honest. refl)
-
-pub returns-in-Err-Full-clause-goes_on : goal.returns-in-Err-Full-clause-goes_on
-returns-in-Err-Full-clause-goes_on g c =
-    let s = c.self.inside in
-    let k = kept_of s.node s.store s.content s.closed in
-    let k2 = kept_of s.node c.put.new.store c.put.new.content s.closed in
-    rw (← c.self.view_is) (write_goes_on g.D.Disk.view k k2 c.ready.inside.write c.put.ensures.safely)
 
 pub returns-in-Err-Full-clause-works : goal.returns-in-Err-Full-clause-works
 returns-in-Err-Full-clause-works g c =
@@ -183,43 +100,6 @@ returns-in-Err-Full-clause-works g c =
 pub returns-clause-full : goal.returns-clause-full
 returns-clause-full g c = rw (← c.self.view_is, ← c.ready.view_is) (λ wrong. absurd (commit_unfull Disk refl wrong), λ long. absurd (commit_unfull c.in-Err-Disk.field-0 c.in-Err-Disk.field-0-is (c.in-Err-Disk.ensures.full.1 long)))
 
-pub returns-clause-node_err : goal.returns-clause-node_err
-returns-clause-node_err g c =
-    let s = c.self.inside in
-    let k = kept_of s.node s.store s.content s.closed in
-    let k2 = kept_of s.node c.put.new.store c.put.new.content true in
-    let failed = ap (λ (e : CommitError). Err e) c.in-Err-Disk.field-0-is in
-    rw (← c.self.view_is) (λ honest. ap (λ (ks : List Group). record { control = s.node.control; groups = ks }) (failed_groups g.D.Disk.view k k2 c.ready.inside.write (c.in-Err-Disk.ensures.disk failed) c.put.ensures.safely honest))
-
-pub returns-clause-disk : goal.returns-clause-disk
-returns-clause-disk g c =
-    let s = c.self.inside in
-    let k = kept_of s.node s.store s.content s.closed in
-    let k2 = kept_of s.node c.put.new.store c.put.new.content true in
-    let failed = ap (λ (e : CommitError). Err e) c.in-Err-Disk.field-0-is in
-    rw (← c.self.view_is) (λ _. record { rose = failed_rose g.D.Disk.view k k2 c.ready.inside.write (c.in-Err-Disk.ensures.disk failed) c.put.ensures.safely; closes = refl })
-
-pub returns-clause-stays_open : goal.returns-clause-stays_open
-returns-clause-stays_open g c = λ wrong. absurd (wrong refl)
-
-pub returns-clause-same : goal.returns-clause-same
-returns-clause-same g c = rw (← c.self.view_is) (record { me = refl; header = refl })
-
-pub returns-clause-generation : goal.returns-clause-generation
-returns-clause-generation g c =
-    let s = c.self.inside in
-    let k = kept_of s.node s.store s.content s.closed in
-    let k2 = kept_of s.node c.put.new.store c.put.new.content true in
-    let failed = ap (λ (e : CommitError). Err e) c.in-Err-Disk.field-0-is in
-    rw (← c.self.view_is) (λ honest. failed_generation g.D.Disk.view k k2 c.ready.inside.write (c.in-Err-Disk.ensures.disk failed) c.put.ensures.safely)
-
-pub returns-clause-goes_on : goal.returns-clause-goes_on
-returns-clause-goes_on g c =
-    let s = c.self.inside in
-    let k = kept_of s.node s.store s.content s.closed in
-    let k2 = kept_of s.node c.put.new.store c.put.new.content true in
-    rw (← c.self.view_is) (write_goes_on g.D.Disk.view k k2 c.ready.inside.write c.put.ensures.safely)
-
 pub returns-clause-works : goal.returns-clause-works
 returns-clause-works g c =
     let s = c.self.inside in
@@ -227,23 +107,88 @@ returns-clause-works g c =
     let can = rw (← c.self.view_is, ← c.ready.view_is) at c.requires.ready in
     rw (← c.self.view_is) (λ sure. c.in-Err-Disk.ensures.works (has_room g.D.Disk.view k c.ready.inside.plan c.ready.inside.write can.writes sure))
 
-pub returns-in-Err-Full-clause-outcome : goal.returns-in-Err-Full-clause-outcome
-returns-in-Err-Full-clause-outcome g c = tt
+-- It was committed
 
-pub returns-in-Err-Full-clause-node : goal.returns-in-Err-Full-clause-node
-returns-in-Err-Full-clause-node g c = tt
+pub returns-in-Ok-clause-committed : goal.returns-in-Ok-clause-committed
+returns-in-Ok-clause-committed g c =
+    let s = c.self.inside in
+    let k = kept_of s.node s.store s.content s.closed in
+    let k2 = kept_of c.apply.new.self c.put.new.store c.put.new.content s.closed in
+    let was_open : s.closed ≡ false = ap (λ (x : KeptView g.row.D.Denot). x.closed) c.self.view_is ∙ c.requires.open in
+    rw (← c.self.view_is, ← c.ready.view_is) (record {
+      is_open = was_open;
+      outcome_is = c.apply.ensures.outcome;
+      node = commit_node g.D.Disk.view c.frames_add_their_records.ensures.read k c.self.invariant was_open k2 c.ready.inside.plan c.ready.inside.write c.in-Ok.ensures.writes c.put.ensures.safely c.apply.ensures.control;
+      survives = λ honest.
+          kept_survives g.D.Disk.view k2 (invariant_of-self g c) was_open
+          (all_honest g.D.Disk.view (disks_of k) (disks_of k2) (write_goes_on g.D.Disk.view k k2 c.ready.inside.write c.put.ensures.safely) honest);
+    })
 
-pub returns-in-Err-Full-clause-survives : goal.returns-in-Err-Full-clause-survives
-returns-in-Err-Full-clause-survives g c = tt
+pub returns-in-Ok-clause-refused : goal.returns-in-Ok-clause-refused
+returns-in-Ok-clause-refused g c = tt
 
-pub returns-clause-outcome : goal.returns-clause-outcome
-returns-clause-outcome g c = tt
+pub returns-in-Ok-clause-same : goal.returns-in-Ok-clause-same
+returns-in-Ok-clause-same g c =
+    let s = c.self.inside in
+    let k = kept_of s.node s.store s.content s.closed in
+    let k2 = kept_of c.apply.new.self c.put.new.store c.put.new.content s.closed in
+    let was_open : s.closed ≡ false = ap (λ (x : KeptView g.row.D.Denot). x.closed) c.self.view_is ∙ c.requires.open in
+    let can = rw (← c.self.view_is, ← c.ready.view_is) at c.requires.ready in
+    let control = c.apply.ensures.control in
+    rw (← c.self.view_is) (record {
+      node = record { me = ap (λ (n : Control). n.me) control; header = ap header_of control };
+      goes_on = write_goes_on g.D.Disk.view k k2 c.ready.inside.write c.put.ensures.safely;
+      generation = commit_generation g.D.Disk.view c.frames_add_their_records.ensures.read k c.self.invariant was_open k2 c.ready.inside.plan c.ready.inside.write can.applies.records can.plain can.writes c.in-Ok.ensures.writes c.put.ensures.safely;
+    })
 
-pub returns-clause-node : goal.returns-clause-node
-returns-clause-node g c = tt
+-- Its file is full
 
-pub returns-clause-survives : goal.returns-clause-survives
-returns-clause-survives g c = tt
+pub returns-in-Err-Full-clause-committed : goal.returns-in-Err-Full-clause-committed
+returns-in-Err-Full-clause-committed g c = tt
 
-pub returns-in-Ok-clause-node_err : goal.returns-in-Ok-clause-node_err
-returns-in-Ok-clause-node_err g c = tt
+pub returns-in-Err-Full-clause-refused : goal.returns-in-Err-Full-clause-refused
+returns-in-Err-Full-clause-refused g c =
+    let failed = ap (λ (e : CommitError). Err e) c.in-Err-Full.field-0-is in
+    let same = c.in-Err-Full.ensures.unchanged failed in
+    rw (same.0, same.1) c.self.view_is
+
+pub returns-in-Err-Full-clause-same : goal.returns-in-Err-Full-clause-same
+returns-in-Err-Full-clause-same g c =
+    let s = c.self.inside in
+    let k = kept_of s.node s.store s.content s.closed in
+    let k2 = kept_of s.node c.put.new.store c.put.new.content s.closed in
+    let failed = ap (λ (e : CommitError). Err e) c.in-Err-Full.field-0-is in
+    let same = c.in-Err-Full.ensures.unchanged failed in
+    rw (← c.self.view_is) (record {
+      node = record { me = refl; header = refl };
+      goes_on = write_goes_on g.D.Disk.view k k2 c.ready.inside.write c.put.ensures.safely;
+      generation = rw same.0 (λ honest. refl);
+    })
+
+-- A disk failed
+
+pub returns-clause-committed : goal.returns-clause-committed
+returns-clause-committed g c = tt
+
+pub returns-clause-refused : goal.returns-clause-refused
+returns-clause-refused g c =
+    let s = c.self.inside in
+    let k = kept_of s.node s.store s.content s.closed in
+    let k2 = kept_of s.node c.put.new.store c.put.new.content true in
+    let failed = ap (λ (e : CommitError). Err e) c.in-Err-Disk.field-0-is in
+    rw (← c.self.view_is) (
+      record { rose = failed_rose g.D.Disk.view k k2 c.ready.inside.write (c.in-Err-Disk.ensures.disk failed) c.put.ensures.safely; closes = refl },
+      λ honest. ap (λ (ks : List Group). record { control = s.node.control; groups = ks }) (failed_groups g.D.Disk.view k k2 c.ready.inside.write (c.in-Err-Disk.ensures.disk failed) c.put.ensures.safely honest),
+    )
+
+pub returns-clause-same : goal.returns-clause-same
+returns-clause-same g c =
+    let s = c.self.inside in
+    let k = kept_of s.node s.store s.content s.closed in
+    let k2 = kept_of s.node c.put.new.store c.put.new.content true in
+    let failed = ap (λ (e : CommitError). Err e) c.in-Err-Disk.field-0-is in
+    rw (← c.self.view_is) (record {
+      node = record { me = refl; header = refl };
+      goes_on = write_goes_on g.D.Disk.view k k2 c.ready.inside.write c.put.ensures.safely;
+      generation = λ honest. failed_generation g.D.Disk.view k k2 c.ready.inside.write (c.in-Err-Disk.ensures.disk failed) c.put.ensures.safely;
+    })

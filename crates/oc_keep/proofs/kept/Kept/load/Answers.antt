@@ -2,32 +2,32 @@ use Rattle.std.proofs.Common.{ℕ, ◌+◌, ◌≤◌, refl, ap, subst, ◌∙�
 use Rattle.oc_base.specs.declared.limits.TheConstants.{MAX_BASE_ACKED}
 use Rattle.oc_store.specs.StoreView.{first_disk, second_disk}
 use Rattle.oc_keep.specs.Errors.{of_content, of_store}
-use Rattle.oc_keep.specs.Files.{disks}
-use Rattle.oc_keep.specs.KeptView.{header}
+use Rattle.oc_keep.specs.Files.{disks, disks_in}
+use Rattle.oc_keep.specs.KeptView.{header_in}
 use Rattle.oc_keep.proofs.Loads.{loaded_kept, loaded_node, loads_controls, loads_files, refused_content, refused_control}
 use Rattle.oc_keep.proofs.kept.Kept.load.Goals as goal
 
 pub returns-in-Err-clause-safely_err : goal.returns-in-Err-clause-safely_err
 returns-in-Err-clause-safely_err g c =
     let a = c.args in
-    loads_controls g.D.Disk.view (header a.nodes a.chain a.areas.items) a.me a.control a.alternate a.content c.in-Err.control c.in-Err.alternate (λ x h. g.met.D.Disk.consistent x h) c.in-Err.ensures.safely_err
+    loads_controls g.D.Disk.view (header_in a.seat) a.seat.id a.files.control a.files.alternate a.files.content c.in-Err.control c.in-Err.alternate (λ x h. g.met.D.Disk.consistent x h) c.in-Err.ensures.safely_err
 
 pub returns-in-Err-clause-refuses : goal.returns-in-Err-clause-refuses
 returns-in-Err-clause-refuses g c =
     let a = c.args in
-    rw c.from.ensures (refused_control g.D.Disk.view a.nodes a.control a.alternate a.content c.in-Err.control c.in-Err.alternate c.in-Err.error c.in-Err.ensures.refuses)
+    rw c.from.ensures (refused_control g.D.Disk.view a.seat.nodes a.files.control a.files.alternate a.files.content c.in-Err.control c.in-Err.alternate c.in-Err.error c.in-Err.ensures.refuses)
 
 pub returns-in-Err-load-clause-refuses : goal.returns-in-Err-load-clause-refuses
 returns-in-Err-load-clause-refuses g c =
     let a = c.args in
     let d = c.into_disks-control.result in
-    rw c.from-in-Err-load.ensures (refused_content g.D.Disk.view a.nodes (disks a.control a.alternate a.content) (disks d.0 d.1 c.in-Err-load.content) c.in-Err-load.error c.in-Ok.ensures.loaded.good_first c.in-Ok.ensures.loaded.good_second c.in-Err-load.ensures.refuses)
+    rw c.from-in-Err-load.ensures (refused_content g.D.Disk.view a.seat.nodes (disks_in a.files) (disks d.0 d.1 c.in-Err-load.content) c.in-Err-load.error c.in-Ok.ensures.loaded.good_first c.in-Ok.ensures.loaded.good_second c.in-Err-load.ensures.refuses)
 
 pub returns-in-Err-load-clause-safely_err : goal.returns-in-Err-load-clause-safely_err
 returns-in-Err-load-clause-safely_err g c =
     let a = c.args in
     let d = c.into_disks-control.result in
-    loads_files g.D.Disk.view (header a.nodes a.chain a.areas.items) a.me a.control a.alternate a.content d.0 d.1 c.in-Err-load.content c.in-Ok.loaded.0 c.in-Err-load.content
+    loads_files g.D.Disk.view (header_in a.seat) a.seat.id a.files.control a.files.alternate a.files.content d.0 d.1 c.in-Err-load.content c.in-Ok.loaded.0 c.in-Err-load.content
     c.in-Ok.ensures.safely c.in-Err-load.ensures.safely_err c.into_disks-control.ensures.first c.into_disks-control.ensures.second refl
 
 pub returns-in-Ok-start-clause-safely : goal.returns-in-Ok-start-clause-safely
@@ -35,7 +35,7 @@ returns-in-Ok-start-clause-safely g c =
     let a = c.args in
     let s = c.in-Ok.loaded.0 in
     let l = c.in-Ok-load.content in
-    loads_files g.D.Disk.view (header a.nodes a.chain a.areas.items) a.me a.control a.alternate a.content (first_disk s) (second_disk s) l.journal.disk s l.journal.disk
+    loads_files g.D.Disk.view (header_in a.seat) a.seat.id a.files.control a.files.alternate a.files.content (first_disk s) (second_disk s) l.journal.disk s l.journal.disk
     c.in-Ok.ensures.safely c.in-Ok-load.ensures.safely refl refl refl
 
 pub returns-clause-safely_err : goal.returns-clause-safely_err
@@ -43,7 +43,7 @@ returns-clause-safely_err g c =
     let a = c.args in
     let d = c.into_disks-control-in-Err-start.result in
     let l = c.in-Ok-load.content in
-    loads_files g.D.Disk.view (header a.nodes a.chain a.areas.items) a.me a.control a.alternate a.content d.0 d.1 c.into_disk.result c.in-Ok.loaded.0 l.journal.disk
+    loads_files g.D.Disk.view (header_in a.seat) a.seat.id a.files.control a.files.alternate a.files.content d.0 d.1 c.into_disk.result c.in-Ok.loaded.0 l.journal.disk
     c.in-Ok.ensures.safely c.in-Ok-load.ensures.safely c.into_disks-control-in-Err-start.ensures.first c.into_disks-control-in-Err-start.ensures.second c.into_disk.ensures.disk
 
 pub invariant_of-result : goal.invariant_of-result
@@ -53,7 +53,7 @@ invariant_of-result g c =
     let l = c.in-Ok-load.content in
     let n = c.in-Ok-start.node in
     let started = rw c.deref.ensures.value at c.in-Ok-start.ensures.started in
-    loaded_kept g.D.Disk.view (header a.nodes a.chain a.areas.items) a.me a.control a.alternate a.content n s l c.in-Ok.loaded.1.items
+    loaded_kept g.D.Disk.view (header_in a.seat) a.seat.id a.files.control a.files.alternate a.files.content n s l c.in-Ok.loaded.1.items
     started c.in-Ok.ensures.loaded c.in-Ok.ensures.safely c.in-Ok-load.ensures.loaded c.in-Ok-load.ensures.safely
     c.in-Ok-start.ensures.reached (subst (λ (end : ℕ). n.control.kept.log.length ≤ MAX_BASE_ACKED + end) c.end.ensures c.in-Ok-start.ensures.log) c.in-Ok-start.ensures.short
 
@@ -64,10 +64,10 @@ returns-in-Ok-start-clause-loaded g c =
     let l = c.in-Ok-load.content in
     let n = c.in-Ok-start.node in
     let started = rw c.deref.ensures.value at c.in-Ok-start.ensures.started in
-    let h = header a.nodes a.chain a.areas.items in
-    loaded_node g.D.Disk.view h a.me a.control a.alternate a.content n s l c.in-Ok.loaded.1.items
+    let h = header_in a.seat in
+    loaded_node g.D.Disk.view h a.seat.id a.files.control a.files.alternate a.files.content n s l c.in-Ok.loaded.1.items
     started c.in-Ok.ensures.loaded c.in-Ok.ensures.safely c.in-Ok-load.ensures.loaded c.in-Ok-load.ensures.safely
-    (loaded_kept g.D.Disk.view h a.me a.control a.alternate a.content n s l c.in-Ok.loaded.1.items
+    (loaded_kept g.D.Disk.view h a.seat.id a.files.control a.files.alternate a.files.content n s l c.in-Ok.loaded.1.items
     started c.in-Ok.ensures.loaded c.in-Ok.ensures.safely c.in-Ok-load.ensures.loaded c.in-Ok-load.ensures.safely
     c.in-Ok-start.ensures.reached (subst (λ (end : ℕ). n.control.kept.log.length ≤ MAX_BASE_ACKED + end) c.end.ensures c.in-Ok-start.ensures.log) c.in-Ok-start.ensures.short)
 
@@ -107,8 +107,8 @@ returns-clause-works g c = λ sure files. refl
 pub start-requires-clause-header : goal.start-requires-clause-header
 start-requires-clause-header g c = c.requires.header
 
-pub start-requires-clause-me : goal.start-requires-clause-me
-start-requires-clause-me g c = c.requires.me
+pub start-requires-clause-id : goal.start-requires-clause-id
+start-requires-clause-id g c = c.requires.id
 
 pub returns-in-Err-clause-works : goal.returns-in-Err-clause-works
 returns-in-Err-clause-works g c = λ sure files. c.from.ensures ∙ ap of_store (c.in-Err.ensures.works sure.control sure.alternate files.control files.alternate)

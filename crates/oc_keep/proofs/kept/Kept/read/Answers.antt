@@ -1,8 +1,8 @@
 use Rattle.std.proofs.Common.{true, Err, inr, refl, ap}
 use Rattle.oc_content.specs.declared.errors.ReadError.{ReadError}
-use Rattle.oc_keep.specs.KeptView.{KeptView, disks_of, kept_of}
+use Rattle.oc_keep.specs.KeptView.{KeptView, kept_of}
 use Rattle.oc_keep.proofs.Ends.{done, kept_disk, kept_none, read_unfailed, shut_open, still_open}
-use Rattle.oc_keep.proofs.Stays.{all_go_on, all_stay, keeps_none, nothing_kept, nothing_moments, nothing_stays, only_read, puts_none}
+use Rattle.oc_keep.proofs.Stays.{keeps_none, nothing_kept, nothing_same, only_read, puts_none}
 use Rattle.oc_keep.proofs.kept.Kept.read.Goals as goal
 
 pub invariant_of-self : goal.invariant_of-self
@@ -26,71 +26,29 @@ invariant_of-self-in-Err-Disk g c =
 pub returns-in-Ok-clause-same : goal.returns-in-Ok-clause-same
 returns-in-Ok-clause-same g c =
     let s = c.self.inside in
-    rw (← c.self.view_is) (only_read g.D.Disk.view s.node s.store s.content c.read.new.self s.closed s.closed c.read.ensures.same)
+    rw (← c.self.view_is) (nothing_same g.D.Disk.view (kept_of s.node s.store s.content s.closed) (kept_of s.node s.store c.read.new.self s.closed) (λ x h. g.met.D.Disk.consistent x h) c.self.invariant
+    (only_read g.D.Disk.view s.node s.store s.content c.read.new.self s.closed s.closed c.read.ensures.same))
 
 pub returns-in-Err-NoGroup-clause-same : goal.returns-in-Err-NoGroup-clause-same
 returns-in-Err-NoGroup-clause-same g c =
     let s = c.self.inside in
-    rw (← c.self.view_is) (only_read g.D.Disk.view s.node s.store s.content c.read.new.self s.closed s.closed c.read.ensures.same)
+    rw (← c.self.view_is) (nothing_same g.D.Disk.view (kept_of s.node s.store s.content s.closed) (kept_of s.node s.store c.read.new.self s.closed) (λ x h. g.met.D.Disk.consistent x h) c.self.invariant
+    (only_read g.D.Disk.view s.node s.store s.content c.read.new.self s.closed s.closed c.read.ensures.same))
 
 pub returns-in-Err-Disk-clause-same : goal.returns-in-Err-Disk-clause-same
 returns-in-Err-Disk-clause-same g c =
     let s = c.self.inside in
-    rw (← c.self.view_is) (only_read g.D.Disk.view s.node s.store s.content c.read.new.self s.closed true c.read.ensures.same)
-
-pub returns-in-Ok-clause-any_moment : goal.returns-in-Ok-clause-any_moment
-returns-in-Ok-clause-any_moment g c =
-    let s = c.self.inside in
-    rw (← c.self.view_is) (nothing_moments g.D.Disk.view (kept_of s.node s.store s.content s.closed) (kept_of s.node s.store c.read.new.self s.closed) (λ x h. g.met.D.Disk.consistent x h) c.self.invariant
-    (only_read g.D.Disk.view s.node s.store s.content c.read.new.self s.closed s.closed c.read.ensures.same))
-
-pub returns-in-Err-NoGroup-clause-any_moment : goal.returns-in-Err-NoGroup-clause-any_moment
-returns-in-Err-NoGroup-clause-any_moment g c =
-    let s = c.self.inside in
-    rw (← c.self.view_is) (nothing_moments g.D.Disk.view (kept_of s.node s.store s.content s.closed) (kept_of s.node s.store c.read.new.self s.closed) (λ x h. g.met.D.Disk.consistent x h) c.self.invariant
-    (only_read g.D.Disk.view s.node s.store s.content c.read.new.self s.closed s.closed c.read.ensures.same))
-
-pub returns-in-Err-Disk-clause-any_moment : goal.returns-in-Err-Disk-clause-any_moment
-returns-in-Err-Disk-clause-any_moment g c =
-    let s = c.self.inside in
-    rw (← c.self.view_is) (nothing_moments g.D.Disk.view (kept_of s.node s.store s.content s.closed) (kept_of s.node s.store c.read.new.self true) (λ x h. g.met.D.Disk.consistent x h) c.self.invariant
+    rw (← c.self.view_is) (nothing_same g.D.Disk.view (kept_of s.node s.store s.content s.closed) (kept_of s.node s.store c.read.new.self true) (λ x h. g.met.D.Disk.consistent x h) c.self.invariant
     (only_read g.D.Disk.view s.node s.store s.content c.read.new.self s.closed true c.read.ensures.same))
 
-pub returns-in-Ok-clause-goes_on : goal.returns-in-Ok-clause-goes_on
-returns-in-Ok-clause-goes_on g c =
-    let view = g.D.Disk.view in
-    let s = c.self.inside in
-    let k = kept_of s.node s.store s.content s.closed in
-    let k2 = kept_of s.node s.store c.read.new.self s.closed in
-    rw (← c.self.view_is) (all_go_on view (disks_of k) (disks_of k2) (nothing_stays view k k2 (only_read view s.node s.store s.content c.read.new.self s.closed s.closed c.read.ensures.same)))
-
-pub returns-in-Err-NoGroup-clause-goes_on : goal.returns-in-Err-NoGroup-clause-goes_on
-returns-in-Err-NoGroup-clause-goes_on g c =
-    let view = g.D.Disk.view in
-    let s = c.self.inside in
-    let k = kept_of s.node s.store s.content s.closed in
-    let k2 = kept_of s.node s.store c.read.new.self s.closed in
-    rw (← c.self.view_is) (all_go_on view (disks_of k) (disks_of k2) (nothing_stays view k k2 (only_read view s.node s.store s.content c.read.new.self s.closed s.closed c.read.ensures.same)))
-
-pub returns-in-Err-Disk-clause-goes_on : goal.returns-in-Err-Disk-clause-goes_on
-returns-in-Err-Disk-clause-goes_on g c =
-    let view = g.D.Disk.view in
-    let s = c.self.inside in
-    let k = kept_of s.node s.store s.content s.closed in
-    let k2 = kept_of s.node s.store c.read.new.self true in
-    rw (← c.self.view_is) (all_go_on view (disks_of k) (disks_of k2) (nothing_stays view k k2 (only_read view s.node s.store s.content c.read.new.self s.closed true c.read.ensures.same)))
-
 pub returns-then-self-clause-same : goal.returns-then-self-clause-same
-returns-then-self-clause-same g c = record { control = refl; store = keeps_none g.D.Disk.view c.args.self.now.store; content = puts_none g.D.Disk.view c.args.self.now.content }
-
-pub returns-then-self-clause-any_moment : goal.returns-then-self-clause-any_moment
-returns-then-self-clause-any_moment g c = rw (← c.self.view_is) (λ is_open. absurd (shut_open c.self.inside.closed c.if-self.true is_open))
+returns-then-self-clause-same g c =
+    let s = c.self.inside in
+    let k = kept_of s.node s.store s.content s.closed in
+    rw (← c.self.view_is) (nothing_same g.D.Disk.view k k (λ x h. g.met.D.Disk.consistent x h) c.self.invariant (record { control = refl; store = keeps_none g.D.Disk.view s.store; content = puts_none g.D.Disk.view s.content }))
 
 pub returns-then-self-clause-closed : goal.returns-then-self-clause-closed
 returns-then-self-clause-closed g c = rw (← c.self.view_is) (λ _. c.if-self.true, λ _. refl)
-
-pub returns-then-self-clause-goes_on : goal.returns-then-self-clause-goes_on
-returns-then-self-clause-goes_on g c = all_go_on g.D.Disk.view (disks_of c.args.self.now) (disks_of c.args.self.now) (all_stay g.D.Disk.view (disks_of c.args.self.now))
 
 pub returns-then-self-clause-works : goal.returns-then-self-clause-works
 returns-then-self-clause-works g c = rw (← c.self.view_is) (λ is_open. absurd (shut_open c.self.inside.closed c.if-self.true is_open))

@@ -2,7 +2,7 @@ use Rattle.std.proofs.Common.{List, subst}
 use Rattle.oc_base.specs.Shelves.{IsShelf}
 use Rattle.oc_base.specs.declared.shelf.Shelf.{Shelf}
 use Rattle.oc_keep.proofs.Steps.{lines_are}
-use Rattle.oc_keep.proofs.kept.Kept.node.Goals as goal
+use Rattle.oc_keep.proofs.kept.Kept.recovers.Goals as goal
 
 pub returns-clause-lawful : goal.returns-clause-lawful
 returns-clause-lawful g c =

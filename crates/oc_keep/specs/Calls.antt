@@ -1,0 +1,109 @@
+-- What one call of a node on its files does, and what it leaves where it fails.
+use Rattle.std.specs.Prelude.{◌≡◌, ◌↔◌, Bool, true, false}
+use Rattle.oc_io.specs.DiskView.{DiskView}
+use Rattle.oc_model.specs.declared.input.Input.{Input}
+use Rattle.oc_model.specs.NextWorld.{writes}
+use Rattle.oc_model.specs.Step.{step}
+use Rattle.oc_node.specs.OutcomeView.{OutcomeView}
+use Rattle.oc_keep.specs.declared.errors.CommitError.{CommitError}
+use Rattle.oc_keep.specs.declared.errors.CommitError.TheVariants as commits
+use Rattle.oc_keep.specs.declared.errors.KeepError.{KeepError}
+use Rattle.oc_keep.specs.declared.errors.KeepError.TheVariants as keeps
+use Rattle.oc_keep.specs.declared.errors.ReadyError.{ReadyError}
+use Rattle.oc_keep.specs.declared.errors.ReadyError.TheVariants as readies
+use Rattle.oc_keep.specs.declared.errors.TidyError.{TidyError}
+use Rattle.oc_keep.specs.declared.errors.TidyError.TheVariants as tidies
+use Rattle.oc_keep.specs.Files.{AllGoOn, AreReliable, SameDurable}
+use Rattle.oc_keep.specs.KeptView.{AtAnyMoment, IsFullAt, IsHonest, KeptView, NodeSurvives, disks_of, node_of}
+use Rattle.oc_keep.specs.Promises.{ChangesNothing, Closes, IsSameNode, IsTurnedOver}
+use Rattle.oc_keep.specs.ReadyView.{CanCommit, IsFullToWrite, ReadyView, is_written, outcome_of, told_of}
+
+-- it is the same node on the same disks, in the same generation
+pub record IsSameOnFiles {D : Type 0} (view : D → DiskView) (old new : KeptView D) : Type 0 where
+  pub node : IsSameNode old.node.control new.node.control
+  pub goes_on : AllGoOn view (disks_of old) (disks_of new)
+  pub generation : IsHonest view old → new.store.generation ≡ old.store.generation
+
+-- nothing changed, and at every moment a crash leaves the same node
+pub record StaysTheSame {D : Type 0} (view : D → DiskView) (old new : KeptView D) : Type 0 where
+  pub nothing : ChangesNothing view old new
+  pub node : IsHonest view old → node_of new ≡ node_of old
+  pub goes_on : AllGoOn view (disks_of old) (disks_of new)
+  pub any_moment : old.closed ≡ false → IsHonest view old → AtAnyMoment view old new (SameDurable (node_of old))
+
+-- nothing was done, and no disk failed
+pub record DoesNothing {D : Type 0} (view : D → DiskView) (old new : KeptView D) : Type 0 where
+  pub nothing : ChangesNothing view old new
+  pub still : new.closed ≡ old.closed
+
+-- Taking an input
+
+-- it was taken with this outcome: outcome and node are those of the step, every crash now leaves the node, and no file was full for it
+pub record TakesInput {D : Type 0} (view : D → DiskView) (i : Input) (outcome : OutcomeView) (old new : KeptView D) : Type 0 where
+  pub is_open : new.closed ≡ false
+  pub fits : ¬ IsFullAt old i
+  pub outcome_is : IsHonest view old → outcome ≡ told_of (step (node_of old) i)
+  pub node : IsHonest view old → node_of new ≡ (step (node_of old) i).node
+  pub survives : IsHonest view old → NodeSurvives view new (node_of new)
+
+-- why it was not taken, and what that left
+abbrev pub FailsToTake : {D : Type 0} → (D → DiskView) → KeepError → Input → KeptView D → KeptView D → Type 0
+FailsToTake view keeps.Closed i old new = DoesNothing view old new
+FailsToTake view keeps.Memory i old new = DoesNothing view old new
+FailsToTake view keeps.Full i old new = IsFullAt old i × DoesNothing view old new
+FailsToTake view keeps.Disk i old new = (¬ IsFullAt old i) × Closes view old new
+
+-- it was not taken: the node is as it was
+pub record RefusesInput {D : Type 0} (view : D → DiskView) (error : KeepError) (i : Input) (old new : KeptView D) : Type 0 where
+  pub node : IsHonest view old → node_of new ≡ node_of old
+  pub why : FailsToTake view error i old new
+
+-- Making it ready
+
+-- what was made ready will do the step, and it can be committed
+pub record IsReadyFor {D : Type 0} (view : D → DiskView) (i : Input) (ready : ReadyView) (old new : KeptView D) : Type 0 where
+  pub step_is : IsHonest view old → outcome_of (node_of old) ready ≡ step (node_of old) i
+  pub writes_is : IsHonest view old → is_written ready.write ≡ writes (node_of old) i
+  pub full : IsFullToWrite new ready.write ↔ IsFullAt old i
+  pub commits : CanCommit view new ready
+  pub fits : AreReliable view (disks_of new) → ¬ IsFullToWrite new ready.write
+  pub still : new.closed ≡ old.closed
+
+-- why it was not made ready
+abbrev pub FailsToReady : {D : Type 0} → (D → DiskView) → ReadyError → Input → KeptView D → KeptView D → Type 0
+FailsToReady view readies.Closed i old new = new.closed ≡ old.closed
+FailsToReady view readies.Memory i old new = new.closed ≡ old.closed
+FailsToReady view readies.Disk i old new = (¬ IsFullAt old i) × Closes view old new
+
+-- Committing it
+
+-- what was made ready was done, and every crash now leaves the node
+pub record Commits {D : Type 0} (view : D → DiskView) (ready : ReadyView) (outcome : OutcomeView) (old new : KeptView D) : Type 0 where
+  pub is_open : new.closed ≡ false
+  pub outcome_is : outcome ≡ told_of (outcome_of (node_of old) ready)
+  pub node : IsHonest view old → node_of new ≡ (outcome_of (node_of old) ready).node
+  pub survives : IsHonest view old → NodeSurvives view new (node_of new)
+
+-- it was not: nothing changed, or a disk failed and the node is as it was
+abbrev pub FailsToCommit : {D : Type 0} → (D → DiskView) → CommitError → KeptView D → KeptView D → Type 0
+FailsToCommit view commits.Full old new = new ≡ old
+FailsToCommit view commits.Disk old new = Closes view old new × (IsHonest view old → node_of new ≡ node_of old)
+
+-- Turning the control files over
+
+-- the node is as it was, and at every moment a crash leaves it
+pub record KeepsNode {D : Type 0} (view : D → DiskView) (old new : KeptView D) : Type 0 where
+  pub control : new.node.control ≡ old.node.control
+  pub content : new.content ≡ old.content
+  pub goes_on : AllGoOn view (disks_of old) (disks_of new)
+  pub any_moment : old.closed ≡ false → IsHonest view old → AtAnyMoment view old new (SameDurable (node_of old))
+
+-- they were turned over, or nothing was done
+abbrev pub Tidies : {D : Type 0} → (D → DiskView) → Bool → KeptView D → KeptView D → Type 0
+Tidies view true old new = IsTurnedOver view old new × (new.closed ≡ old.closed)
+Tidies view false old new = new ≡ old
+
+-- why they were not
+abbrev pub FailsToTidy : {D : Type 0} → (D → DiskView) → TidyError → KeptView D → KeptView D → Type 0
+FailsToTidy view tidies.Disk old new = Closes view old new
+FailsToTidy view error old new = DoesNothing view old new

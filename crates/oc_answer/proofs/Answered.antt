@@ -17,10 +17,10 @@ use Rattle.oc_node.specs.OutcomeView.{OutcomeView}
 use Rattle.oc_io.specs.DiskView.{DiskView}
 use Rattle.oc_link.specs.Story.{Story}
 use Rattle.oc_routes.specs.Responses.{client_response, response_to}
-use Rattle.oc_routes.specs.declared.asks.Asks.{Asks}
-use Rattle.oc_routes.specs.declared.asks.Asks.TheVariants as asks
-use Rattle.oc_routes.specs.declared.asks.Manner.{Manner}
-use Rattle.oc_routes.specs.declared.asks.Manner.TheVariants.{HeadAlone, Once, Follow}
+use Rattle.oc_routes.specs.declared.routes.Operation.{Operation}
+use Rattle.oc_routes.specs.declared.routes.Operation.TheVariants as operations
+use Rattle.oc_routes.specs.declared.manner.Manner.{Manner}
+use Rattle.oc_routes.specs.declared.manner.Manner.TheVariants.{HeadAlone, Once, Follow}
 use Rattle.oc_routes.specs.declared.response.Response.{Response}
 use Rattle.oc_turn.specs.Scenes.{KeepsOne, LineStops}
 use Rattle.oc_routes.specs.Replies.{message_at, reply_place}
@@ -39,7 +39,7 @@ use Rattle.oc_answer.proofs.Contents.{serves_held}
 
 -- A response
 
-pub reply_said : (asked : Asks) (response wanted : Response) (whole : Bool) (groups : List Group) (a b : Option Story) → response ≡ wanted → whole ≡ true
+pub reply_said : (asked : Operation) (response wanted : Response) (whole : Bool) (groups : List Group) (a b : Option Story) → response ≡ wanted → whole ≡ true
     → (Fits asked response.content groups → SaysOn whole (whole_text asked response groups) a b) → SaysResponse asked wanted true response.connection groups a b
 reply_said asked response wanted whole groups a b is went said fits =
     let spoke : SaysOn whole (whole_text asked response groups) a b = said (subst (λ (r : Response). Fits asked r.content groups) (sym is) fits) in (
@@ -47,7 +47,7 @@ reply_said asked response wanted whole groups a b is went said fits =
       ap (λ (r : Response). r.connection) is,
     )
 
-pub reply_cut : (asked : Asks) (response wanted : Response) (whole : Bool) (groups : List Group) (a b : Option Story) → response ≡ wanted → whole ≡ false
+pub reply_cut : (asked : Operation) (response wanted : Response) (whole : Bool) (groups : List Group) (a b : Option Story) → response ≡ wanted → whole ≡ false
     → (Fits asked response.content groups → SaysOn whole (whole_text asked response groups) a b) → SaysResponse asked wanted false Close groups a b
 reply_cut asked response wanted whole groups a b is went said fits =
     let spoke : SaysOn whole (whole_text asked response groups) a b = said (subst (λ (r : Response). Fits asked r.content groups) (sym is) fits) in (
@@ -83,7 +83,7 @@ back_is (inputs.Delivered m) sends = refl
 
 client_fits : (answer : Answer) (manner : Manner) (g : List ℕ) (area start : ℕ) (sealed : Bool) (addresses : List (List ℕ)) (last : Bool) (groups : List Group)
     → ((count : ℕ) → answer ≡ answers.Serve count → count ≤ length (bytes_of g groups) - start)
-    → Fits (asks.Client g area start manner) (client_response g start manner answer sealed addresses last).content groups
+    → Fits (operations.Client g area start manner) (client_response g start manner answer sealed addresses last).content groups
 client_fits (answers.Serve count) HeadAlone g area start sealed addresses last groups held = tt
 client_fits (answers.Serve count) Once g area start sealed addresses last groups held = held count refl
 client_fits (answers.Serve count) Follow g area start sealed addresses last groups held = held count refl
@@ -91,17 +91,17 @@ client_fits (answers.Redirect node) manner g area start sealed addresses last gr
 client_fits answer manner g area start sealed addresses last groups held = tt
 
 -- what a client is sent is there
-fits_step : (asked : Asks) (i : Input) (n : Node) (addresses : List (List ℕ)) (last : Bool) → Belongs asked i → Fits asked (response_for addresses asked last i n).content (step n i).node.groups
-fits_step asks.Message i n addresses last belongs = tt
-fits_step (asks.Publish g) i n addresses last belongs = tt
-fits_step (asks.Seal g) i n addresses last belongs = tt
-fits_step (asks.Probe manner) i n addresses last belongs = tt
-fits_step (asks.Client g area start manner) i n addresses last belongs =
-    subst (λ (x : Input). Fits (asks.Client g area start manner) (response_for addresses (asks.Client g area start manner) last x n).content (step n x).node.groups) (sym belongs)
-    (client_fits (step n (inputs.Client area start g)).answer manner g area start (is_sealed (asks.Client g area start manner) (shelf (step n (inputs.Client area start g)).node.groups)) addresses last (step n (inputs.Client area start g)).node.groups
+fits_step : (asked : Operation) (i : Input) (n : Node) (addresses : List (List ℕ)) (last : Bool) → Belongs asked i → Fits asked (response_for addresses asked last i n).content (step n i).node.groups
+fits_step operations.Message i n addresses last belongs = tt
+fits_step (operations.Publish g) i n addresses last belongs = tt
+fits_step (operations.Seal g) i n addresses last belongs = tt
+fits_step (operations.Probe manner) i n addresses last belongs = tt
+fits_step (operations.Client g area start manner) i n addresses last belongs =
+    subst (λ (x : Input). Fits (operations.Client g area start manner) (response_for addresses (operations.Client g area start manner) last x n).content (step n x).node.groups) (sym belongs)
+    (client_fits (step n (inputs.Client area start g)).answer manner g area start (is_sealed (operations.Client g area start manner) (shelf (step n (inputs.Client area start g)).node.groups)) addresses last (step n (inputs.Client area start g)).node.groups
     (λ count is. serves_held n area start count g is))
 
-replied_with : (addresses : List (List ℕ)) (asked : Asks) (last said : Bool) (kept : Persistence) (n : Node) (i : Input) (groups : List Group) (answer : Answer) (reply : Option Message) (a b : Option Story)
+replied_with : (addresses : List (List ℕ)) (asked : Operation) (last said : Bool) (kept : Persistence) (n : Node) (i : Input) (groups : List Group) (answer : Answer) (reply : Option Message) (a b : Option Story)
     → groups ≡ (step n i).node.groups → answer ≡ (step n i).answer → reply ≡ back_to_sender i (step n i).sends → Belongs asked i
     → SaysResponse asked (response_to asked answer reply (is_sealed asked (shelf groups)) addresses last) said kept groups a b
     → RepliesTo addresses asked last i said kept n a b
@@ -114,7 +114,7 @@ replied_with addresses asked last said kept n i groups answer reply a b same ans
     subst (λ (m : Option Message). SaysResponse asked (response_to asked (step n i).answer m (is_sealed asked (shelf (step n i).node.groups)) addresses last) said kept (step n i).node.groups a b) back two in
     three (fits_step asked i n addresses last belongs)
 
-pub replied_to : {D : Type 0} (view : D → DiskView) (k0 k1 : KeptView D) (i : Input) (outcome : OutcomeView) (addresses : List (List ℕ)) (asked : Asks) (last said : Bool) (kept : Persistence) (answer : Answer) (reply : Option Message) (a b : Option Story)
+pub replied_to : {D : Type 0} (view : D → DiskView) (k0 k1 : KeptView D) (i : Input) (outcome : OutcomeView) (addresses : List (List ℕ)) (asked : Operation) (last said : Bool) (kept : Persistence) (answer : Answer) (reply : Option Message) (a b : Option Story)
     → (IsHonest view k1 → Responds addresses asked last answer reply (node_of k1).groups said kept a b)
     → KeepsOne view i outcome k0 k1 → answer ≡ outcome.answer → reply ≡ sent_back (sender_of i) outcome.sends → Belongs asked i → IsHonest view k0
     → RepliesTo addresses asked last i said kept (node_of k0) a b
@@ -129,12 +129,12 @@ replied_to view k0 k1 i outcome addresses asked last said kept answer reply a b 
 -- A reply that was cut
 
 -- a prefix of the response that was made
-pub response_cut : (asked : Asks) (response wanted : Response) (groups : List Group) (end : TurnEnd) (a b : Option Story) → response ≡ wanted → (Fits asked response.content groups → WritesUntil end (whole_text asked response groups) a b)
+pub response_cut : (asked : Operation) (response wanted : Response) (groups : List Group) (end : TurnEnd) (a b : Option Story) → response ≡ wanted → (Fits asked response.content groups → WritesUntil end (whole_text asked response groups) a b)
     → Fits asked wanted.content groups → WritesUntil end (whole_text asked wanted groups) a b
 response_cut asked response wanted groups end a b is wrote fits =
     subst (λ (r : Response). WritesUntil end (whole_text asked r groups) a b) is (wrote (subst (λ (r : Response). Fits asked r.content groups) (sym is) fits))
 
-cut_with : (addresses : List (List ℕ)) (asked : Asks) (last : Bool) (n : Node) (i : Input) (groups : List Group) (answer : Answer) (reply : Option Message) (end : TurnEnd) (a b : Option Story)
+cut_with : (addresses : List (List ℕ)) (asked : Operation) (last : Bool) (n : Node) (i : Input) (groups : List Group) (answer : Answer) (reply : Option Message) (end : TurnEnd) (a b : Option Story)
     → groups ≡ (step n i).node.groups → answer ≡ (step n i).answer → reply ≡ back_to_sender i (step n i).sends → Belongs asked i
     → CutsResponse addresses asked last answer reply groups end a b → WritesUntil end (answer_text addresses asked last i n) a b
 cut_with addresses asked last n i groups answer reply end a b same answered back belongs cut =
@@ -144,7 +144,7 @@ cut_with addresses asked last n i groups answer reply end a b same answered back
     subst (λ (m : Option Message). CutsResponse addresses asked last (step n i).answer m (step n i).node.groups end a b) back two in
     three (fits_step asked i n addresses last belongs)
 
-pub cut_to : {D : Type 0} (view : D → DiskView) (k0 k1 : KeptView D) (i : Input) (outcome : OutcomeView) (addresses : List (List ℕ)) (asked : Asks) (last : Bool) (answer : Answer) (reply : Option Message) (end : TurnEnd) (a b : Option Story)
+pub cut_to : {D : Type 0} (view : D → DiskView) (k0 k1 : KeptView D) (i : Input) (outcome : OutcomeView) (addresses : List (List ℕ)) (asked : Operation) (last : Bool) (answer : Answer) (reply : Option Message) (end : TurnEnd) (a b : Option Story)
     → (IsHonest view k1 → CutsResponse addresses asked last answer reply (node_of k1).groups end a b)
     → KeepsOne view i outcome k0 k1 → answer ≡ outcome.answer → reply ≡ sent_back (sender_of i) outcome.sends → Belongs asked i → IsHonest view k0
     → WritesUntil end (answer_text addresses asked last i (node_of k0)) a b

@@ -20,10 +20,10 @@ use Rattle.oc_model.specs.Plan.{begun}
 use Rattle.oc_model.specs.Serving.{client_of, redirects, server_for}
 use Rattle.oc_model.specs.Step.{finished, step}
 use Rattle.oc_link.specs.Story.{Story}
-use Rattle.oc_routes.specs.declared.asks.Asks.{Asks}
-use Rattle.oc_routes.specs.declared.asks.Asks.TheVariants as asks
-use Rattle.oc_routes.specs.declared.asks.Manner.{Manner}
-use Rattle.oc_routes.specs.declared.response.Content.{Content}
+use Rattle.oc_routes.specs.declared.routes.Operation.{Operation}
+use Rattle.oc_routes.specs.declared.routes.Operation.TheVariants as operations
+use Rattle.oc_routes.specs.declared.manner.Manner.{Manner}
+use Rattle.oc_routes.specs.declared.response.GroupRange.{GroupRange}
 use Rattle.oc_routes.specs.declared.response.Response.{Response}
 use Rattle.oc_chunked.specs.Texts.{chunk_written, chunked_text, chunks_written, end_written}
 use Rattle.oc_keep.specs.KeptView.{IsHonest, KeptView, disks_of, node_of}
@@ -195,40 +195,40 @@ coded_chunks true whole last bytes end a b c is went same said ended =
 coded_chunks false whole last bytes end a b c is went same said ended = cc
 
 -- only what a client asks for has a content
-pub no_content : (asked : Asks) (content : Content) (groups : List Group) (a : Option Story) → ((g : List ℕ) (area start : ℕ) (manner : Manner) → asked ≡ asks.Client g area start manner → ⊥) → SaysOn true (content_text asked (Some content) groups) a a
-no_content (asks.Client g area start manner) content groups a other = absurd (other g area start manner refl)
-no_content asks.Message content groups a other = says_nothing a
-no_content (asks.Publish g) content groups a other = says_nothing a
-no_content (asks.Seal g) content groups a other = says_nothing a
-no_content (asks.Probe manner) content groups a other = says_nothing a
+pub no_content : (asked : Operation) (content : GroupRange) (groups : List Group) (a : Option Story) → ((g : List ℕ) (area start : ℕ) (manner : Manner) → asked ≡ operations.Client g area start manner → ⊥) → SaysOn true (content_text asked (Some content) groups) a a
+no_content (operations.Client g area start manner) content groups a other = absurd (other g area start manner refl)
+no_content operations.Message content groups a other = says_nothing a
+no_content (operations.Publish g) content groups a other = says_nothing a
+no_content (operations.Seal g) content groups a other = says_nothing a
+no_content (operations.Probe manner) content groups a other = says_nothing a
 
 -- a response without a content
-pub said_alone : (asked : Asks) (response : Response) (groups : List Group) (whole : Bool) (text : List ℕ) (a b : Option Story) → response.content ≡ None → whole ≡ true → text ≡ response.text → SaysOn whole text a b
+pub said_alone : (asked : Operation) (response : Response) (groups : List Group) (whole : Bool) (text : List ℕ) (a b : Option Story) → response.content ≡ None → whole ≡ true → text ≡ response.text → SaysOn whole text a b
     → SaysOn true (whole_text asked response groups) a b
 said_alone asked response groups whole text a b none went same said =
     subst (λ (t : List ℕ). SaysOn true t a b)
-    (same ∙ sym (append-nil response.text) ∙ ap (λ (t : List ℕ). response.text ++ t) (sym (nothing asked)) ∙ ap (λ (x : Option Content). response.text ++ content_text asked x groups) (sym none))
+    (same ∙ sym (append-nil response.text) ∙ ap (λ (t : List ℕ). response.text ++ t) (sym (nothing asked)) ∙ ap (λ (x : Option GroupRange). response.text ++ content_text asked x groups) (sym none))
     (subst (λ (x : Bool). SaysOn x text a b) went said)
   where
-    nothing : (x : Asks) → content_text x None groups ≡ []
-    nothing (asks.Client g area start manner) = refl
-    nothing asks.Message = refl
-    nothing (asks.Publish g) = refl
-    nothing (asks.Seal g) = refl
-    nothing (asks.Probe manner) = refl
+    nothing : (x : Operation) → content_text x None groups ≡ []
+    nothing (operations.Client g area start manner) = refl
+    nothing operations.Message = refl
+    nothing (operations.Publish g) = refl
+    nothing (operations.Seal g) = refl
+    nothing (operations.Probe manner) = refl
 
 -- a response whose write failed before its content
-pub said_cut : (asked : Asks) (response : Response) (groups : List Group) (whole : Bool) (text : List ℕ) (a b : Option Story) → whole ≡ false → text ≡ response.text → SaysOn whole text a b → SaysOn false (whole_text asked response groups) a b
+pub said_cut : (asked : Operation) (response : Response) (groups : List Group) (whole : Bool) (text : List ℕ) (a b : Option Story) → whole ≡ false → text ≡ response.text → SaysOn whole text a b → SaysOn false (whole_text asked response groups) a b
 said_cut asked response groups whole text a b went same said =
     says_cut response.text (content_text asked response.content groups) a b (subst (λ (t : List ℕ). SaysOn false t a b) same (subst (λ (x : Bool). SaysOn x text a b) went said))
 
 -- a response with its content
-pub said_with : (asked : Asks) (response : Response) (content : Content) (groups : List Group) (whole last : Bool) (text : List ℕ) (a b c : Option Story) → response.content ≡ Some content → whole ≡ true → text ≡ response.text → SaysOn whole text a b
+pub said_with : (asked : Operation) (response : Response) (content : GroupRange) (groups : List Group) (whole last : Bool) (text : List ℕ) (a b c : Option Story) → response.content ≡ Some content → whole ≡ true → text ≡ response.text → SaysOn whole text a b
     → (Fits asked (Some content) groups → SaysOn last (content_text asked (Some content) groups) b c) → Fits asked response.content groups → SaysOn last (whole_text asked response groups) a c
 said_with asked response content groups whole last text a b c is went same said behind fits =
     let front : SaysOn true response.text a b = subst (λ (t : List ℕ). SaysOn true t a b) same (subst (λ (x : Bool). SaysOn x text a b) went said) in
     let rest : SaysOn last (content_text asked response.content groups) b c =
-    subst (λ (x : Option Content). SaysOn last (content_text asked x groups) b c) (sym is) (behind (subst (λ (x : Option Content). Fits asked x groups) is fits)) in
+    subst (λ (x : Option GroupRange). SaysOn last (content_text asked x groups) b c) (sym is) (behind (subst (λ (x : Option GroupRange). Fits asked x groups) is fits)) in
     says_then last response.text (content_text asked response.content groups) a b c front rest
 
 -- this much of a content was sent
@@ -278,12 +278,12 @@ coded_front true bytes a b wrote = front_longer (pieces true bytes) end_written 
 coded_front false bytes a b wrote = wrote
 
 -- a prefix of a content after the text of its response
-pub text_front : (asked : Asks) (response : Response) (content : Content) (groups : List Group) (whole : Bool) (text : List ℕ) (a b c : Option Story) → response.content ≡ Some content → whole ≡ true → text ≡ response.text → SaysOn whole text a b
+pub text_front : (asked : Operation) (response : Response) (content : GroupRange) (groups : List Group) (whole : Bool) (text : List ℕ) (a b c : Option Story) → response.content ≡ Some content → whole ≡ true → text ≡ response.text → SaysOn whole text a b
     → (Fits asked (Some content) groups → WritesFront (content_text asked (Some content) groups) b c) → Fits asked response.content groups → WritesFront (whole_text asked response groups) a c
 text_front asked response content groups whole text a b c is went same said behind fits =
     text_then response.text (content_text asked response.content groups) a b c
     (subst (λ (t : List ℕ). SaysOn true t a b) same (subst (λ (x : Bool). SaysOn x text a b) went said))
-    (subst (λ (x : Option Content). WritesFront (content_text asked x groups) b c) (sym is) (behind (subst (λ (x : Option Content). Fits asked x groups) is fits)))
+    (subst (λ (x : Option GroupRange). WritesFront (content_text asked x groups) b c) (sym is) (behind (subst (λ (x : Option GroupRange). Fits asked x groups) is fits)))
 
 -- a piece that is read where there is enough is whole
 pub piece_whole : (g : List ℕ) (ks : List Group) (at w count : ℕ) (buffer : List ℕ) → w ≤ length (bytes_of g ks) - at → count ≤ w → take count buffer ≡ part_of g at w ks → count ≡ w

@@ -16,9 +16,9 @@ use Rattle.oc_io.specs.DiskView.{DiskView}
 use Rattle.oc_link.specs.Story.{Story}
 use Rattle.oc_policy.specs.declared.rule.Rule.{Rule}
 use Rattle.oc_routes.specs.Responses.{response_to}
-use Rattle.oc_routes.specs.declared.asks.Asks.{Asks}
-use Rattle.oc_routes.specs.declared.asks.Asks.TheVariants as asks
-use Rattle.oc_routes.specs.declared.asks.Manner.TheVariants.{HeadAlone, Once, Follow}
+use Rattle.oc_routes.specs.declared.routes.Operation.{Operation}
+use Rattle.oc_routes.specs.declared.routes.Operation.TheVariants as operations
+use Rattle.oc_routes.specs.declared.manner.Manner.TheVariants.{HeadAlone, Once, Follow}
 use Rattle.oc_routes.specs.declared.fault.RouteFault.{RouteFault}
 use Rattle.oc_routes.specs.declared.fault.RouteFault.TheVariants as faults
 use Rattle.oc_turn.specs.Deeds.{Deed, Under, IsRequest, Does, DoAll, Outside, Setting, NodeStatus, Talked, TalksOnly, inputs_of, note_line, outside_of, status_of}
@@ -221,19 +221,19 @@ keeps_one t addresses number (e ∷ ds) d n a b c (m, first, rest) one = (
 )
 
 -- the last request of a connection closes it
-response_closes : (asked : Asks) (answer : Answer) (reply : Option Message) (sealed : Bool) (addresses : List (List ℕ)) → (response_to asked answer reply sealed addresses true).connection ≡ Close
-response_closes asks.Message answer None sealed addresses = refl
-response_closes asks.Message answer (Some m) sealed addresses = refl
-response_closes (asks.Publish g) answer reply sealed addresses = refl
-response_closes (asks.Seal g) answer reply sealed addresses = refl
-response_closes (asks.Client g area start HeadAlone) (answers.Serve count) reply sealed addresses = refl
-response_closes (asks.Client g area start Once) (answers.Serve count) reply sealed addresses = refl
-response_closes (asks.Client g area start Follow) (answers.Serve count) reply sealed addresses = refl
-response_closes (asks.Client g area start manner) (answers.Redirect node) reply sealed addresses = refl
-response_closes (asks.Client g area start manner) answer reply sealed addresses = refl
-response_closes (asks.Probe HeadAlone) answer reply sealed addresses = refl
-response_closes (asks.Probe Once) answer reply sealed addresses = refl
-response_closes (asks.Probe Follow) answer reply sealed addresses = refl
+response_closes : (asked : Operation) (answer : Answer) (reply : Option Message) (sealed : Bool) (addresses : List (List ℕ)) → (response_to asked answer reply sealed addresses true).connection ≡ Close
+response_closes operations.Message answer None sealed addresses = refl
+response_closes operations.Message answer (Some m) sealed addresses = refl
+response_closes (operations.Publish g) answer reply sealed addresses = refl
+response_closes (operations.Seal g) answer reply sealed addresses = refl
+response_closes (operations.Client g area start HeadAlone) (answers.Serve count) reply sealed addresses = refl
+response_closes (operations.Client g area start Once) (answers.Serve count) reply sealed addresses = refl
+response_closes (operations.Client g area start Follow) (answers.Serve count) reply sealed addresses = refl
+response_closes (operations.Client g area start manner) (answers.Redirect node) reply sealed addresses = refl
+response_closes (operations.Client g area start manner) answer reply sealed addresses = refl
+response_closes (operations.Probe HeadAlone) answer reply sealed addresses = refl
+response_closes (operations.Probe Once) answer reply sealed addresses = refl
+response_closes (operations.Probe Follow) answer reply sealed addresses = refl
 
 sixteenth : (closes : Bool) (last : Bool) → last ≡ (closes || true) → last ≡ true
 sixteenth true last e = e

@@ -12,7 +12,7 @@ use Rattle.oc_model.specs.Node.{Node}
 use Rattle.oc_model.specs.Step.{step}
 use Rattle.oc_link.specs.LinkCalls.{IsFront, OnCurrent, Told}
 use Rattle.oc_link.specs.Story.{Connection, Story, closed}
-use Rattle.oc_routes.specs.declared.asks.Asks.{Asks}
+use Rattle.oc_routes.specs.declared.routes.Operation.{Operation}
 use Rattle.oc_routes.specs.declared.connections.TheConstants.{CONTINUE}
 use Rattle.oc_routes.specs.Refusals.{why_text}
 use Rattle.oc_routes.specs.declared.refused.Refused.{Refused}
@@ -43,7 +43,7 @@ abbrev pub OnlyLeave : Option Story → Option Story → Type 0
 OnlyLeave old new = WritesFront CONTINUE.now old new
 
 -- the text by which the input of a request is answered
-abbrev pub answer_text : List (List ℕ) → Asks → Bool → Input → Node → List ℕ
+abbrev pub answer_text : List (List ℕ) → Operation → Bool → Input → Node → List ℕ
 answer_text addresses asked last i n = whole_text asked (response_for addresses asked last i n) (step n i).node.groups
 
 -- some prefix of a reply was written on the current connection, whose writing ended so; where the output failed, in the line of a write
@@ -54,7 +54,7 @@ WritesUntil end text old new = WritesFront text old new
 
 -- the input of a request was heard and taken, and a prefix of the text of its step's outcome was written until it ended so
 pub record IsCutReply (t : Terms) (addresses : List (List ℕ)) (number : ℕ) (i : Input) (end : TurnEnd) (n : Node) (old new : Option Story) : Type 0 where
-  pub asked : Asks
+  pub asked : Operation
   pub last : Bool
   pub between : Option Story
   pub heard : HearsRequest t number asked (Some i) last old between
@@ -69,7 +69,7 @@ reply_under end = Idle
 -- of what refuses it, or nothing, because memory ran out.
 abbrev pub CutsHearing : Terms → ℕ → TurnEnd → Under → Option Story → Option Story → Type 0
 CutsHearing t number end Idle old new = end ≡ ends.Memory
-CutsHearing t number end (Taking i) old new = (asked : Asks) × (last : Bool) × HearsRequest t number asked (Some i) last old new
+CutsHearing t number end (Taking i) old new = (asked : Operation) × (last : Bool) × HearsRequest t number asked (Some i) last old new
 CutsHearing t number end (Noting line) old new = (refused : Refused) × IsRefused t number refused old new × (line ≡ note_line (why_text refused))
 
 -- What the deed of a request that ended so partway through, with this under way, is on its connection: its input was taken, and a prefix of
@@ -80,7 +80,7 @@ CutsOff t addresses number end under Talks n old new = OnlyLeave old new × Cuts
 CutsOff t addresses number end under d n old new = ⊥
 
 -- the same for an input, from the moment on at which its request was read
-abbrev pub CutsInput : List (List ℕ) → Asks → Bool → Input → TurnEnd → Under → Deed → Node → Option Story → Option Story → Type 0
+abbrev pub CutsInput : List (List ℕ) → Operation → Bool → Input → TurnEnd → Under → Deed → Node → Option Story → Option Story → Type 0
 CutsInput addresses asked last i end under (Answers j failed) n old new = (j ≡ i) × WritesUntil end (answer_text addresses asked last i n) old new × (under ≡ reply_under end)
 CutsInput addresses asked last i end under Talks n old new = (new ≡ old) × (under ≡ Taking i)
 CutsInput addresses asked last i end under d n old new = ⊥
@@ -99,7 +99,7 @@ CutsReply addresses request end under Talks n old new = (new ≡ old) × IsUnder
 CutsReply addresses request end under d n old new = ⊥
 
 -- a prefix of the response to this answer of a step, and to this message that goes back to a sender, was written until it ended so
-abbrev pub CutsResponse : List (List ℕ) → Asks → Bool → Answer → Option Message → List Group → TurnEnd → Option Story → Option Story → Type 0
+abbrev pub CutsResponse : List (List ℕ) → Operation → Bool → Answer → Option Message → List Group → TurnEnd → Option Story → Option Story → Type 0
 CutsResponse addresses asked last answer reply groups end old new =
     Fits asked (response_to asked answer reply (is_sealed asked (shelf groups)) addresses last).content groups
     → WritesUntil end (whole_text asked (response_to asked answer reply (is_sealed asked (shelf groups)) addresses last) groups) old new

@@ -10,10 +10,10 @@ use Rattle.oc_link.specs.LinkCalls.{IfTold, OnCurrent, Told}
 use Rattle.oc_link.specs.Story.{IsReadOut, Story}
 use Rattle.oc_policy.specs.declared.rule.Rule.{Rule}
 use Rattle.oc_routes.specs.Connections.{awaits_continue, is_last}
-use Rattle.oc_routes.specs.Inputs.{input_asked}
+use Rattle.oc_routes.specs.Routes.{input_asked}
 use Rattle.oc_routes.specs.Refusals.{fault_of_http}
 use Rattle.oc_routes.specs.Routes.{asked}
-use Rattle.oc_routes.specs.declared.asks.Asks.{Asks}
+use Rattle.oc_routes.specs.declared.routes.Operation.{Operation}
 use Rattle.oc_routes.specs.declared.connections.TheConstants.{CONTINUE}
 use Rattle.oc_routes.specs.declared.fault.RouteFault.{RouteFault}
 use Rattle.oc_routes.specs.declared.fault.RouteFault.TheVariants as faults
@@ -54,7 +54,7 @@ abbrev pub leave_for : Head → List ℕ
 leave_for head = if awaits_continue head then CONTINUE.now else []
 
 -- a head that asks this under the access rules was read
-pub record Opens (rules : List Rule) (head : Head) (asks : Asks) (old new : Option Story) : Type 0 where
+pub record Opens (rules : List Rule) (head : Head) (asks : Operation) (old new : Option Story) : Type 0 where
   pub bytes : List ℕ
   pub heard : HearsOn bytes old new
   pub says : SaysRequest bytes head
@@ -68,7 +68,7 @@ pub record HearsBody (head : Head) (body : List ℕ) (old new : Option Story) : 
   pub long : length body ≡ head.length
 
 -- a whole request was read, which asks this; this input results from it, if any; and whether it is the last of its connection
-pub record HearsRequest (t : Terms) (number : ℕ) (asks : Asks) (input : Option Input) (last : Bool) (old new : Option Story) : Type 0 where
+pub record HearsRequest (t : Terms) (number : ℕ) (asks : Operation) (input : Option Input) (last : Bool) (old new : Option Story) : Type 0 where
   pub head : Head
   pub body : List ℕ
   pub between : Option Story
@@ -127,7 +127,7 @@ pub record RefusedInBody (head : Head) (refused : Refused) (old new : Option Sto
   pub named : Refuses fault refused
 
 -- for its body, which is no message to this node, or is one of a request to seal
-pub record RefusedByBody (t : Terms) (head : Head) (asks : Asks) (refused : Refused) (old new : Option Story) : Type 0 where
+pub record RefusedByBody (t : Terms) (head : Head) (asks : Operation) (refused : Refused) (old new : Option Story) : Type 0 where
   pub body : List ℕ
   pub heard : HearsBody head body old new
   pub none : input_asked t.nodes t.me asks body ≡ Err refused
@@ -135,7 +135,7 @@ pub record RefusedByBody (t : Terms) (head : Head) (asks : Asks) (refused : Refu
 -- after a head that has a route
 pub record RefusedBehind (t : Terms) (refused : Refused) (old new : Option Story) : Type 0 where
   pub head : Head
-  pub asks : Asks
+  pub asks : Operation
   pub between : Option Story
   pub opens : Opens t.rules head asks old between
   pub cause : RefusedByLeave head refused between new ⊎ RefusedInBody head refused between new ⊎ RefusedByBody t head asks refused between new
@@ -172,7 +172,7 @@ ReadsBehind t number head (Ok (Some request)) old new =
 ReadsBehind t number head (Ok None) old new = ⊥
 ReadsBehind t number head (Err (faults.Refused refused)) old new =
     ((asked head t.rules ≡ Err refused) × (new ≡ old))
-    ⊎ ((asks : Asks) × (asked head t.rules ≡ Ok asks)
+    ⊎ ((asks : Operation) × (asked head t.rules ≡ Ok asks)
     × (RefusedByLeave head refused old new ⊎ RefusedInBody head refused old new ⊎ RefusedByBody t head asks refused old new))
 ReadsBehind t number head (Err faults.Memory) old new = Unit {0}
 

@@ -2,10 +2,10 @@
 use Rattle.std.specs.Prelude.{◌≡◌, ℕ, IfSome, Option, Result, Ok, Err, List}
 use Rattle.oc_model.specs.declared.input.Input.{Input}
 use Rattle.oc_model.specs.declared.input.Input.TheVariants as inputs
-use Rattle.oc_routes.specs.Inputs.{input_asked}
+use Rattle.oc_routes.specs.Routes.{input_asked}
 use Rattle.oc_routes.specs.Lawful.{IsAsked}
-use Rattle.oc_routes.specs.declared.asks.Asks.{Asks}
-use Rattle.oc_routes.specs.declared.asks.Asks.TheVariants as asks
+use Rattle.oc_routes.specs.declared.routes.Operation.{Operation}
+use Rattle.oc_routes.specs.declared.routes.Operation.TheVariants as operations
 use Rattle.oc_routes.specs.declared.fault.RouteFault.{RouteFault}
 use Rattle.oc_routes.specs.declared.fault.RouteFault.TheVariants as faults
 use Rattle.oc_turn.specs.Lines.{IsEntry, input_in}
@@ -13,14 +13,14 @@ use Rattle.oc_turn.specs.declared.entry.Entry.{Entry}
 use Rattle.oc_answer.specs.declared.requests.Request.{Request}
 
 -- the entry is that of the input that results from what was asked and from the body, unless memory ran out
-abbrev pub EntryOf : ℕ → ℕ → Asks → List ℕ → Result (Option Entry) RouteFault → Type 0
+abbrev pub EntryOf : ℕ → ℕ → Operation → List ℕ → Result (Option Entry) RouteFault → Type 0
 EntryOf nodes me asked body (Ok entry) = input_asked nodes me asked body ≡ Ok (input_in entry)
 EntryOf nodes me asked body (Err (faults.Refused refused)) = input_asked nodes me asked body ≡ Err refused
 EntryOf nodes me asked body (Err faults.Memory) = Unit {0}
 
 -- a client's input asks for the same
-abbrev pub Belongs : Asks → Input → Type 0
-Belongs (asks.Client group area start manner) i = i ≡ inputs.Client area start group
+abbrev pub Belongs : Operation → Input → Type 0
+Belongs (operations.Client group area start manner) i = i ≡ inputs.Client area start group
 Belongs asked i = Unit {0}
 
 -- what is asked is within its ranges, and the input that results from it is one of the node me

@@ -21,10 +21,10 @@ use Rattle.oc_link.specs.Story.{Story, closed}
 use Rattle.oc_routes.specs.Refusals.{refusal_text, why_text}
 use Rattle.oc_routes.specs.Replies.{reply_to}
 use Rattle.oc_routes.specs.Responses.{response_to}
-use Rattle.oc_routes.specs.declared.asks.Asks.{Asks}
-use Rattle.oc_routes.specs.declared.asks.Asks.TheVariants as asks
+use Rattle.oc_routes.specs.declared.routes.Operation.{Operation}
+use Rattle.oc_routes.specs.declared.routes.Operation.TheVariants as operations
 use Rattle.oc_routes.specs.declared.refused.Refused.{Refused}
-use Rattle.oc_routes.specs.declared.response.Content.{Content}
+use Rattle.oc_routes.specs.declared.response.GroupRange.{GroupRange}
 use Rattle.oc_routes.specs.declared.response.Response.{Response}
 use Rattle.oc_chunked.specs.Texts.{chunked_text, chunks_written}
 use Rattle.oc_turn.specs.Deeds.{Deed, Answers, Notes, Talks, inputs_of}
@@ -49,12 +49,12 @@ abbrev pub is_line_sealed : List ℕ → List Shelf → Bool
 is_line_sealed group lines = list_any (λ line. bytes_eq line.group group && line.sealed) lines
 
 -- whether the group that a client asks for is sealed
-abbrev pub is_sealed : Asks → List Shelf → Bool
-is_sealed (asks.Client group area start manner) lines = is_line_sealed group lines
+abbrev pub is_sealed : Operation → List Shelf → Bool
+is_sealed (operations.Client group area start manner) lines = is_line_sealed group lines
 is_sealed asked lines = false
 
 -- what a request whose input comes to this node is answered
-abbrev pub response_for : List (List ℕ) → Asks → Bool → Input → Node → Response
+abbrev pub response_for : List (List ℕ) → Operation → Bool → Input → Node → Response
 response_for addresses asked last i n =
     response_to asked (step n i).answer (back_to_sender i (step n i).sends) (is_sealed asked (shelf (step n i).node.groups)) addresses last
 
@@ -73,21 +73,21 @@ coded true bytes = chunked_text bytes
 coded false bytes = bytes
 
 -- the content of a group that follows the head
-abbrev pub content_text : Asks → Option Content → List Group → List ℕ
-content_text (asks.Client group area start manner) (Some content) groups = coded content.chunked (part_of group content.start content.count groups)
+abbrev pub content_text : Operation → Option GroupRange → List Group → List ℕ
+content_text (operations.Client group area start manner) (Some content) groups = coded content.chunked (part_of group content.start content.count groups)
 content_text asked content groups = []
 
 -- the group has as many bytes from the start on as are sent
-abbrev pub FitsIn : List ℕ → Content → List Group → Type 0
+abbrev pub FitsIn : List ℕ → GroupRange → List Group → Type 0
 FitsIn group content groups = content.count ≤ length (bytes_of group groups) - content.start
 
 -- the same for what a client is sent
-abbrev pub Fits : Asks → Option Content → List Group → Type 0
-Fits (asks.Client group area start manner) (Some content) groups = FitsIn group content groups
+abbrev pub Fits : Operation → Option GroupRange → List Group → Type 0
+Fits (operations.Client group area start manner) (Some content) groups = FitsIn group content groups
 Fits asked content groups = Unit {0}
 
 -- the whole text of a response
-abbrev pub whole_text : Asks → Response → List Group → List ℕ
+abbrev pub whole_text : Operation → Response → List Group → List ℕ
 whole_text asked response groups = response.text ++ content_text asked response.content groups
 
 -- Requests
@@ -98,26 +98,26 @@ IsSaid true text wanted kept old new = SaysOn true text old new × (kept ≡ wan
 IsSaid false text wanted kept old new = SaysOn false text old new × (kept ≡ Close)
 
 -- a response was written with its content
-abbrev pub SaysResponse : Asks → Response → Bool → Persistence → List Group → Option Story → Option Story → Type 0
+abbrev pub SaysResponse : Operation → Response → Bool → Persistence → List Group → Option Story → Option Story → Type 0
 SaysResponse asked response said kept groups old new =
     Fits asked response.content groups → IsSaid said (whole_text asked response groups) response.connection kept old new
 
 -- the response to this answer of a step, and to this message that goes back to a sender, was written with its content
-pub record Responds (addresses : List (List ℕ)) (asked : Asks) (last : Bool) (answer : Answer) (reply : Option Message) (groups : List Group) (said : Bool) (kept : Persistence) (old new : Option Story) : Type 0 where
+pub record Responds (addresses : List (List ℕ)) (asked : Operation) (last : Bool) (answer : Answer) (reply : Option Message) (groups : List Group) (said : Bool) (kept : Persistence) (old new : Option Story) : Type 0 where
   pub says : SaysResponse asked (response_to asked answer reply (is_sealed asked (shelf groups)) addresses last) said kept groups old new
 
 -- the input of a request is answered by the text of its step's outcome
-abbrev pub RepliesTo : List (List ℕ) → Asks → Bool → Input → Bool → Persistence → Node → Option Story → Option Story → Type 0
+abbrev pub RepliesTo : List (List ℕ) → Operation → Bool → Input → Bool → Persistence → Node → Option Story → Option Story → Type 0
 RepliesTo addresses asked last i said kept n old new =
     IsSaid said (whole_text asked (response_for addresses asked last i n) (step n i).node.groups) (response_for addresses asked last i n).connection kept old new
 
 -- what a request that is no input is answered
-abbrev pub shown : List (List ℕ) → Asks → Bool → Response
+abbrev pub shown : List (List ℕ) → Operation → Bool → Response
 shown addresses asked last = response_to asked answers.Ok None false addresses last
 
 -- the input of a request was heard, and is answered so
 pub record IsAnswered (t : Terms) (addresses : List (List ℕ)) (number : ℕ) (i : Input) (said : Bool) (kept : Persistence) (n : Node) (old new : Option Story) : Type 0 where
-  pub asked : Asks
+  pub asked : Operation
   pub last : Bool
   pub between : Option Story
   pub heard : HearsRequest t number asked (Some i) last old between
@@ -125,7 +125,7 @@ pub record IsAnswered (t : Terms) (addresses : List (List ℕ)) (number : ℕ) (
 
 -- a request that is no input was heard, and is answered
 pub record IsShown (t : Terms) (addresses : List (List ℕ)) (number : ℕ) (kept : Persistence) (old new : Option Story) : Type 0 where
-  pub asked : Asks
+  pub asked : Operation
   pub last : Bool
   pub between : Option Story
   pub said : Bool

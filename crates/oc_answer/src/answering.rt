@@ -26,7 +26,9 @@ use oc_io::{Disk, Sink};
 use oc_keep::Kept;
 use oc_link::Link;
 use oc_model::{Answer, Input, Message};
-use oc_routes::{Asks, Refused, RouteFault, put_refusal_line, refusal_reply, respond, split_reply};
+use oc_routes::{
+    Answered, Operation, Refused, RouteFault, put_refusal_line, refusal_reply, respond, split_reply,
+};
 use oc_turn::{Entry, Outbox, TurnEnd, put_all, take, write_failed_line, write_line};
 use std::alloc::Global;
 
@@ -140,7 +142,7 @@ fn show<L: Link>(
     alloc: Global,
     config: &Config,
     link: &mut L,
-    asks: &Asks,
+    asks: &Operation,
     last: bool,
 ) -> Result<Persistence, TurnEnd>
     requires { IsAsked asks.now }
@@ -153,11 +155,13 @@ fn show<L: Link>(
     let response = respond(
         alloc,
         asks,
-        Answer::Ok,
+        Answered {
+            answer: Answer::Ok,
+            sealed: false,
+            last,
+        },
         None,
-        false,
         &config.addresses,
-        last,
     )?;
     if say(link, response.text.items()) {
         return Ok(response.connection);
@@ -174,7 +178,7 @@ fn answer_input<D: Disk, L: Link, K: Sink>(
     config: &Config,
     link: &mut L,
     sink: &mut K,
-    asks: &Asks,
+    asks: &Operation,
     entry: Entry,
     last: bool,
 ) -> Result<Persistence, TurnEnd>
@@ -212,7 +216,7 @@ fn reply_to<D: Disk, L: Link, K: Sink>(
     config: &Config,
     link: &mut L,
     sink: &mut K,
-    asks: &Asks,
+    asks: &Operation,
     answer: Answer,
     reply: Option<Message>,
     last: bool,
@@ -233,11 +237,13 @@ fn reply_to<D: Disk, L: Link, K: Sink>(
     let response = respond(
         alloc,
         asks,
-        answer,
+        Answered {
+            answer,
+            sealed,
+            last,
+        },
         reply.as_ref(),
-        sealed,
         &config.addresses,
-        last,
     )?;
     let whole = send_response(alloc, kept, link, asks, &response)?;
     if whole {
@@ -270,10 +276,10 @@ fn split(sends: Vec<Message>, sender: Option<NodeId>) -> (Option<Message>, Vec<M
 }
 
 /// Whether the group that a client asks for is sealed.
-fn is_sealed(shelf: &[Shelf], asks: &Asks) -> bool
+fn is_sealed(shelf: &[Shelf], asks: &Operation) -> bool
     ensures { result ≡ is_sealed asks.now shelf.now }
 {
-    let Asks::Client { group, .. } = asks else {
+    let Operation::Client { group, .. } = asks else {
         return false;
     };
     is_line_sealed(shelf, group)

@@ -13,7 +13,7 @@ use oc_chunked::chunk_text;
 use oc_io::{Disk, write_all};
 use oc_keep::{Kept, KeptRead};
 use oc_link::{Current, Link};
-use oc_routes::{Asks, Content, Response};
+use oc_routes::{GroupRange, Operation, Response};
 use oc_turn::TurnEnd;
 use std::alloc::Global;
 
@@ -37,7 +37,7 @@ pub(crate) fn send_response<D: Disk, L: Link>(
     alloc: Global,
     kept: &mut Kept<D>,
     link: &mut L,
-    asks: &Asks,
+    asks: &Operation,
     response: &Response,
 ) -> Result<bool, TurnEnd>
     requires open { kept.old.closed ≡ false }
@@ -64,8 +64,8 @@ fn send_content_asked<D: Disk, L: Link>(
     alloc: Global,
     kept: &mut Kept<D>,
     link: &mut L,
-    asks: &Asks,
-    content: &Content,
+    asks: &Operation,
+    content: &GroupRange,
 ) -> Result<bool, TurnEnd>
     requires open { kept.old.closed ≡ false }
     ensures said { IfOk result (λ whole. IsHonest D.view kept.old → Fits asks.now (Some content.now) (node_of kept.old).groups
@@ -77,7 +77,7 @@ fn send_content_asked<D: Disk, L: Link>(
         → WritesFront (content_text asks.now (Some content.now) (node_of kept.old).groups) (L.story link.old) (L.story link.new)) }
 {
     match asks {
-        Asks::Client { group, .. } => send_content(alloc, kept, link, group, content),
+        Operation::Client { group, .. } => send_content(alloc, kept, link, group, content),
         _ => Ok(true),
     }
 }
@@ -88,7 +88,7 @@ fn send_content<D: Disk, L: Link>(
     kept: &mut Kept<D>,
     link: &mut L,
     group: &GroupName,
-    content: &Content,
+    content: &GroupRange,
 ) -> Result<bool, TurnEnd>
     requires open { kept.old.closed ≡ false }
     ensures said { IfOk result (λ whole. IsHonest D.view kept.old → FitsIn group.now content.now (node_of kept.old).groups
@@ -117,7 +117,7 @@ fn send_pieces<D: Disk, L: Link>(
     kept: &mut Kept<D>,
     link: &mut L,
     group: &GroupName,
-    content: &Content,
+    content: &GroupRange,
     buffer: &mut [u8],
 ) -> Result<bool, TurnEnd>
     requires open { kept.old.closed ≡ false }

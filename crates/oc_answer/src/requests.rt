@@ -17,14 +17,16 @@ use oc_base::NodeId;
 use oc_http::{Head, HeadReader, HttpFault, read_body};
 use oc_link::{Current, Link};
 use oc_policy::Rule;
-use oc_routes::{Asks, CONTINUE, Refused, RouteFault, awaits_continue, input_of, is_last, route};
+use oc_routes::{
+    CONTINUE, Operation, Refused, RouteFault, awaits_continue, input_of, is_last, route,
+};
 use oc_turn::{Entry, input_entry};
 use std::alloc::Global;
 
 /// What a request asks, with the input that results from it, if any, and its line.
 #[derive(Debug, Drop)]
 pub struct Request {
-    pub asks: Asks,
+    pub asks: Operation,
     pub entry: Option<Entry>,
     /// It is the last of its connection whatever it asks.
     pub last: bool,
@@ -150,7 +152,7 @@ fn read_rest<L: Link>(alloc: Global, link: &mut L, head: &Head) -> Result<Vec<u8
 /// The input that results from a request, with its line.
 fn entry_of(
     alloc: Global,
-    asks: &Asks,
+    asks: &Operation,
     body: Vec<u8>,
     me: NodeId,
     nodes: u32,

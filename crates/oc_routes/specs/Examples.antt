@@ -12,14 +12,14 @@ use Rattle.oc_model.specs.declared.message.Message.{Message}
 use Rattle.oc_policy.specs.declared.rule.Action.TheVariants.{Get, Post}
 use Rattle.oc_policy.specs.declared.rule.Rule.{Rule}
 use Rattle.oc_routes.specs.Connections.{is_last, awaits_continue}
-use Rattle.oc_routes.specs.Inputs.{input_asked, input_line}
+use Rattle.oc_routes.specs.Inputs.{input_line}
 use Rattle.oc_routes.specs.Refusals.{refusal_line, refusal_text}
 use Rattle.oc_routes.specs.Replies.{others, reply_to}
 use Rattle.oc_routes.specs.Responses.{response_to}
-use Rattle.oc_routes.specs.Routes.{asked}
-use Rattle.oc_routes.specs.declared.asks.Asks.{Asks}
-use Rattle.oc_routes.specs.declared.asks.Asks.TheVariants as asks
-use Rattle.oc_routes.specs.declared.asks.Manner.TheVariants.{HeadAlone, Once, Follow}
+use Rattle.oc_routes.specs.Routes.{asked, input_asked}
+use Rattle.oc_routes.specs.declared.routes.Operation.{Operation}
+use Rattle.oc_routes.specs.declared.routes.Operation.TheVariants as operations
+use Rattle.oc_routes.specs.declared.manner.Manner.TheVariants.{HeadAlone, Once, Follow}
 use Rattle.oc_routes.specs.declared.refused.Refused.{Refused}
 use Rattle.oc_routes.specs.declared.refused.Refused.TheVariants as refusals
 use Rattle.oc_routes.specs.declared.response.Response.{Response}
@@ -29,7 +29,7 @@ abbrev head : Method → List ℕ → List ℕ → Head
 head method path query = record { method = method; path = path; query = query; length = 0; expects = false; minor = 1; closes = false }
 
 -- what a request without access rules asks
-abbrev asks_for : Method → List ℕ → List ℕ → Asks → Type 0
+abbrev asks_for : Method → List ℕ → List ℕ → Operation → Type 0
 asks_for method path query wanted = asked (head method path query) [] ≡ Ok wanted
 
 abbrev refuses : Method → List ℕ → List ℕ → Refused → Type 0
@@ -41,21 +41,21 @@ rules = record { allow = false; action = Some Get; prefix = codes "/news"; area 
     ∷ record { allow = true; action = None; prefix = codes "/"; area = None }
     ∷ record { allow = false; action = Some Post; prefix = codes "/news/a"; area = None } ∷ []
 
-abbrev under_rules : Method → List ℕ → List ℕ → Result Asks Refused → Type 0
+abbrev under_rules : Method → List ℕ → List ℕ → Result Operation Refused → Type 0
 under_rules method path query wanted = asked (head method path query) rules ≡ wanted
 
 pub record AreRouted : Type 0 where
-  pub client : asks_for methods.Get (codes "/news/a") (codes "start=2") (asks.Client (codes "/news/a") 0 2 Once)
-  pub head_alone : asks_for methods.Head (codes "/a") (codes "follow") (asks.Client (codes "/a") 0 0 HeadAlone)
-  pub follows : asks_for methods.Get (codes "/a") (codes "start=0&follow") (asks.Client (codes "/a") 0 0 Follow)
-  pub version_1_0_follows_nothing : asked (record (head methods.Get (codes "/a") (codes "follow")) { minor = 0 }) [] ≡ Ok (asks.Client (codes "/a") 0 0 Once)
-  pub nearly_follow : asks_for methods.Get (codes "/a") (codes "follow=1&Follow") (asks.Client (codes "/a") 0 0 Once)
-  pub first_start : asks_for methods.Get (codes "/a") (codes "x&start=1&start=y&area=255") (asks.Client (codes "/a") 255 1 Once)
-  pub publish : asks_for methods.Post (codes "/a") (codes "follow") (asks.Publish (codes "/a"))
-  pub seal : asks_for methods.Post (codes "/a") (codes "x=1&seal") (asks.Seal (codes "/a"))
-  pub seal_of_a_get : asks_for methods.Get (codes "/a") (codes "seal") (asks.Client (codes "/a") 0 0 Once)
-  pub message : asks_for methods.Post (codes "/!overcast") [] asks.Message
-  pub probe : asks_for methods.Get (codes "/!probe") (codes "follow") (asks.Probe Follow)
+  pub client : asks_for methods.Get (codes "/news/a") (codes "start=2") (operations.Client (codes "/news/a") 0 2 Once)
+  pub head_alone : asks_for methods.Head (codes "/a") (codes "follow") (operations.Client (codes "/a") 0 0 HeadAlone)
+  pub follows : asks_for methods.Get (codes "/a") (codes "start=0&follow") (operations.Client (codes "/a") 0 0 Follow)
+  pub version_1_0_follows_nothing : asked (record (head methods.Get (codes "/a") (codes "follow")) { minor = 0 }) [] ≡ Ok (operations.Client (codes "/a") 0 0 Once)
+  pub nearly_follow : asks_for methods.Get (codes "/a") (codes "follow=1&Follow") (operations.Client (codes "/a") 0 0 Once)
+  pub first_start : asks_for methods.Get (codes "/a") (codes "x&start=1&start=y&area=255") (operations.Client (codes "/a") 255 1 Once)
+  pub publish : asks_for methods.Post (codes "/a") (codes "follow") (operations.Publish (codes "/a"))
+  pub seal : asks_for methods.Post (codes "/a") (codes "x=1&seal") (operations.Seal (codes "/a"))
+  pub seal_of_a_get : asks_for methods.Get (codes "/a") (codes "seal") (operations.Client (codes "/a") 0 0 Once)
+  pub message : asks_for methods.Post (codes "/!overcast") [] operations.Message
+  pub probe : asks_for methods.Get (codes "/!probe") (codes "follow") (operations.Probe Follow)
   pub put : refuses methods.Other (codes "/%") (codes "start=x") refusals.Method
   pub percent : refuses methods.Get (codes "/a%20") (codes "start=x") refusals.Path
   pub message_is_not_read : refuses methods.Get (codes "/!overcast") [] refusals.Path
@@ -68,9 +68,9 @@ pub record AreRouted : Type 0 where
   pub denied : under_rules methods.Get (codes "/news/a") (codes "area=4") (Err (refusals.Denied 1))
   pub head_is_denied : under_rules methods.Head (codes "/news") (codes "area=4&area=5") (Err (refusals.Denied 1))
   pub query_before_rules : under_rules methods.Get (codes "/news") (codes "area=4&start=x") (Err refusals.Query)
-  pub newsroom : under_rules methods.Get (codes "/newsroom") (codes "area=4") (Ok (asks.Client (codes "/newsroom") 4 0 Once))
-  pub news : under_rules methods.Get (codes "/news/a") [] (Ok (asks.Client (codes "/news/a") 0 0 Once))
-  pub post_news : under_rules methods.Post (codes "/news/a") [] (Ok (asks.Publish (codes "/news/a")))
+  pub newsroom : under_rules methods.Get (codes "/newsroom") (codes "area=4") (Ok (operations.Client (codes "/newsroom") 4 0 Once))
+  pub news : under_rules methods.Get (codes "/news/a") [] (Ok (operations.Client (codes "/news/a") 0 0 Once))
+  pub post_news : under_rules methods.Post (codes "/news/a") [] (Ok (operations.Publish (codes "/news/a")))
 
 -- to node 1 from node 2: a rejoin of ask 7
 abbrev rejoin : Message
@@ -94,14 +94,14 @@ abbrev octets : List ℕ
 octets = codes "Content-Type: application/octet-stream"
 
 -- what a client of group `/a` is answered
-abbrev answered : Asks → Answer → Bool → Bool → Response → Type 0
+abbrev answered : Operation → Answer → Bool → Bool → Response → Type 0
 answered wanted answer sealed last response = response_to wanted answer None sealed (codes "h:1" ∷ codes "h:2" ∷ []) last ≡ response
 
 pub record AreAnswered : Type 0 where
-  pub message : input_asked 3 1 asks.Message rejoin_bytes ≡ Ok (Some (inputs.Delivered rejoin))
-  pub message_to_another : input_asked 3 2 asks.Message rejoin_bytes ≡ Err refusals.Message
-  pub no_message : input_asked 3 1 asks.Message (0 ∷ 0 ∷ 0 ∷ []) ≡ Err refusals.Message
-  pub seal_with_a_body : input_asked 3 1 (asks.Seal (codes "/a")) (0 ∷ []) ≡ Err refusals.Body
+  pub message : input_asked 3 1 operations.Message rejoin_bytes ≡ Ok (Some (inputs.Delivered rejoin))
+  pub message_to_another : input_asked 3 2 operations.Message rejoin_bytes ≡ Err refusals.Message
+  pub no_message : input_asked 3 1 operations.Message (0 ∷ 0 ∷ 0 ∷ []) ≡ Err refusals.Message
+  pub seal_with_a_body : input_asked 3 1 (operations.Seal (codes "/a")) (0 ∷ []) ≡ Err refusals.Body
   pub recv_line : input_line 1 (inputs.Delivered rejoin) ≡ codes "recv 1 0000000200000001080000000000000007\n"
   pub publish_line : input_line 1 (inputs.Publish (codes "/a") []) ≡ codes "publish 1 /a -\n"
   pub client_line : input_line 1 (inputs.Client 4 2 (codes "/a")) ≡ codes "client 1 4 2 /a\n"
@@ -113,25 +113,25 @@ pub record AreAnswered : Type 0 where
   pub no_reply : refusal_text refusals.Ended ≡ None
   pub reply : reply_to (look_at 3 ∷ rejoin ∷ look_at 2 ∷ look_at 2 ∷ []) 2 ≡ Some (look_at 2)
   pub others : others (look_at 3 ∷ rejoin ∷ look_at 2 ∷ look_at 2 ∷ []) 2 ≡ look_at 3 ∷ rejoin ∷ look_at 2 ∷ []
-  pub redirected : answered (asks.Client (codes "/a") 0 2 Once) (answers.Redirect 2) false false
+  pub redirected : answered (operations.Client (codes "/a") 0 2 Once) (answers.Redirect 2) false false
       (record { text = lines (codes "HTTP/1.1 302 Found" ∷ codes "Location: http://h:2/a?start=2" ∷ codes "Content-Length: 0" ∷ closes ∷ []); content = None; connection = Close })
-  pub follower_redirected : answered (asks.Client (codes "/a") 0 0 Follow) (answers.Redirect 1) false false
+  pub follower_redirected : answered (operations.Client (codes "/a") 0 0 Follow) (answers.Redirect 1) false false
       (record { text = lines (codes "HTTP/1.1 302 Found" ∷ codes "Location: http://h:1/a?follow" ∷ codes "Content-Length: 0" ∷ closes ∷ []); content = None; connection = Close })
-  pub served : answered (asks.Client (codes "/a") 0 2 Once) (answers.Serve 3) false false
+  pub served : answered (operations.Client (codes "/a") 0 2 Once) (answers.Serve 3) false false
       (record { text = lines (codes "HTTP/1.1 200 OK" ∷ octets ∷ codes "Content-Length: 3" ∷ closes ∷ []); content = Some (record { start = 2; count = 3; chunked = false }); connection = Close })
-  pub head_alone : answered (asks.Client (codes "/a") 0 2 HeadAlone) (answers.Serve 3) false false
+  pub head_alone : answered (operations.Client (codes "/a") 0 2 HeadAlone) (answers.Serve 3) false false
       (record { text = lines (codes "HTTP/1.1 200 OK" ∷ octets ∷ codes "Content-Length: 3" ∷ closes ∷ []); content = None; connection = Close })
-  pub followed : answered (asks.Client (codes "/a") 0 0 Follow) (answers.Serve 2) false false
+  pub followed : answered (operations.Client (codes "/a") 0 0 Follow) (answers.Serve 2) false false
       (record { text = lines (codes "HTTP/1.1 200 OK" ∷ octets ∷ codes "Transfer-Encoding: chunked" ∷ []); content = Some (record { start = 0; count = 2; chunked = true }); connection = Keep })
-  pub sealed : answered (asks.Client (codes "/a") 0 2 Follow) (answers.Serve 0) true false
+  pub sealed : answered (operations.Client (codes "/a") 0 2 Follow) (answers.Serve 0) true false
       (record { text = lines (codes "HTTP/1.1 200 OK" ∷ octets ∷ codes "Content-Length: 0" ∷ []); content = Some (record { start = 2; count = 0; chunked = false }); connection = Keep })
-  pub last_of_its_connection : answered (asks.Client (codes "/a") 0 0 Follow) (answers.Serve 2) false true
+  pub last_of_its_connection : answered (operations.Client (codes "/a") 0 0 Follow) (answers.Serve 2) false true
       (record { text = lines (codes "HTTP/1.1 200 OK" ∷ octets ∷ codes "Transfer-Encoding: chunked" ∷ closes ∷ []); content = Some (record { start = 0; count = 2; chunked = true }); connection = Close })
-  pub not_held : answered (asks.Client (codes "/b") 0 0 Follow) answers.NoGroup false false
+  pub not_held : answered (operations.Client (codes "/b") 0 0 Follow) answers.NoGroup false false
       (record { text = lines (codes "HTTP/1.1 404 Not Found" ∷ codes "Content-Length: 0" ∷ closes ∷ []); content = None; connection = Close })
-  pub nothing_back : answered asks.Message answers.Ok false false
+  pub nothing_back : answered operations.Message answers.Ok false false
       (record { text = lines (codes "HTTP/1.1 204 No Content" ∷ closes ∷ []); content = None; connection = Close })
-  pub probe_head : answered (asks.Probe HeadAlone) answers.Ok false false
+  pub probe_head : answered (operations.Probe HeadAlone) answers.Ok false false
       (record { text = lines (codes "HTTP/1.1 200 OK" ∷ octets ∷ codes "Content-Length: 10240" ∷ closes ∷ []); content = None; connection = Close })
   pub fifteenth : is_last (head methods.Get (codes "/a") []) 15 ≡ false
   pub sixteenth : is_last (head methods.Get (codes "/a") []) 16 ≡ true

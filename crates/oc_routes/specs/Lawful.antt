@@ -2,19 +2,19 @@
 use Rattle.std.specs.Prelude.{◌≤◌}
 use Rattle.oc_base.specs.Names.{IsGroupName}
 use Rattle.oc_base.specs.declared.limits.TheConstants.{MAX_AREA, MAX_START}
-use Rattle.oc_routes.specs.declared.asks.Asks.{Asks}
-use Rattle.oc_routes.specs.declared.asks.Asks.TheVariants as asks
-use Rattle.oc_routes.specs.declared.place.Place.{Place}
-use Rattle.oc_routes.specs.declared.place.Place.TheVariants.{Group}
+use Rattle.oc_routes.specs.declared.routes.Operation.{Operation}
+use Rattle.oc_routes.specs.declared.routes.Operation.TheVariants as operations
+use Rattle.oc_routes.specs.declared.routes.Resource.{Resource}
+use Rattle.oc_routes.specs.declared.routes.Resource.TheVariants.{Group}
 
--- a place with a group has the name of one
-abbrev pub IsPlace : Place → Type 0
-IsPlace (Group group) = IsGroupName group
-IsPlace place = Unit {0}
+-- a resource that is a group has the name of one
+abbrev pub IsResource : Resource → Type 0
+IsResource (Group group) = IsGroupName group
+IsResource resource = Unit {0}
 
 -- the group is one, and start and area are within their ranges
-abbrev pub IsAsked : Asks → Type 0
-IsAsked (asks.Publish group) = IsGroupName group
-IsAsked (asks.Seal group) = IsGroupName group
-IsAsked (asks.Client group area start manner) = (area ≤ MAX_AREA) × (start ≤ MAX_START) × IsGroupName group
+abbrev pub IsAsked : Operation → Type 0
+IsAsked (operations.Publish group) = IsGroupName group
+IsAsked (operations.Seal group) = IsGroupName group
+IsAsked (operations.Client group area start manner) = (area ≤ MAX_AREA) × (start ≤ MAX_START) × IsGroupName group
 IsAsked other = Unit {0}

@@ -15,10 +15,10 @@ use Rattle.oc_updown.specs.Locations.{location_text, follow_location_text}
 use Rattle.oc_wire.specs.Spelling.{spelling}
 use Rattle.oc_routes.specs.Refusals.{bare}
 use Rattle.oc_routes.specs.Routes.{content_for}
-use Rattle.oc_routes.specs.declared.asks.Asks.{Asks}
-use Rattle.oc_routes.specs.declared.asks.Asks.TheVariants as asks
-use Rattle.oc_routes.specs.declared.asks.Manner.{Manner}
-use Rattle.oc_routes.specs.declared.asks.Manner.TheVariants.{HeadAlone, Follow}
+use Rattle.oc_routes.specs.declared.routes.Operation.{Operation}
+use Rattle.oc_routes.specs.declared.routes.Operation.TheVariants as operations
+use Rattle.oc_routes.specs.declared.manner.Manner.{Manner}
+use Rattle.oc_routes.specs.declared.manner.Manner.TheVariants.{HeadAlone, Follow}
 use Rattle.oc_routes.specs.declared.response.Response.{Response}
 
 -- a whole reply, which ends the connection
@@ -117,10 +117,10 @@ probe_response manner last = record {
 
 -- What is answered to what was asked: for this answer of the step, this message that goes back to the sender, and
 -- whether the group is sealed; last says that the request is the last of its connection whatever it asks.
-abbrev pub response_to : Asks → Answer → Option Message → Bool → List (List ℕ) → Bool → Response
-response_to asks.Message answer reply sealed addresses last = message_response reply
-response_to (asks.Publish group) answer reply sealed addresses last = status_alone (publish_status answer)
-response_to (asks.Seal group) answer reply sealed addresses last = status_alone (seal_status answer)
-response_to (asks.Client group area start manner) answer reply sealed addresses last =
+abbrev pub response_to : Operation → Answer → Option Message → Bool → List (List ℕ) → Bool → Response
+response_to operations.Message answer reply sealed addresses last = message_response reply
+response_to (operations.Publish group) answer reply sealed addresses last = status_alone (publish_status answer)
+response_to (operations.Seal group) answer reply sealed addresses last = status_alone (seal_status answer)
+response_to (operations.Client group area start manner) answer reply sealed addresses last =
     client_response group start manner answer sealed addresses last
-response_to (asks.Probe manner) answer reply sealed addresses last = probe_response manner last
+response_to (operations.Probe manner) answer reply sealed addresses last = probe_response manner last

@@ -6,7 +6,7 @@ use oc_model::Message;
 
 /// The place of the reply to a message from `sender` among the messages that it makes the node send: the
 /// first that goes back to the sender.
-pub fn reply_place(sends: &[Message], sender: NodeId) -> Option<usize>
+fn reply_place(sends: &[Message], sender: NodeId) -> Option<usize>
     ensures { result ≡ reply_place sends.now sender }
 {
     sends.iter().position(|message| message.to == sender)

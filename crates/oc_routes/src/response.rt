@@ -7,14 +7,14 @@ pub struct Response {
     /// What is written first: the head, and the body where it is not the content of a group.
     pub text: Text,
     /// The content that is written after it, where there is one.
-    pub content: Option<Content>,
+    pub content: Option<GroupRange>,
     /// What becomes of the connection after it.
     pub connection: Persistence,
 }
 
-/// The content of a group that is sent.
+/// A range of the bytes of a group, which is sent.
 #[derive(Clone, Copy, Debug, PartialEq, Eq)]
-pub struct Content {
+pub struct GroupRange {
     /// The offset of its first byte in the group.
     pub start: u64,
     /// The number of its bytes; there are none where the start is at or past the group's end.

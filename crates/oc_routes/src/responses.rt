@@ -9,9 +9,10 @@ ghost use Rattle.oc_routes.specs.Responses.{client_response, connection_for, cop
 ghost use Rattle.oc_wire.specs.Spelling.{HasSpelling};
 
 use crate::addresses::address_of;
+use crate::manner::Manner;
 use crate::refusals::bare_reply;
-use crate::response::{Content, Response};
-use crate::{Asks, Manner};
+use crate::response::{GroupRange, Response};
+use crate::routes::Operation;
 use oc_base::{Bytes, GroupName, Memory, NodeId, Text};
 use oc_http::{Framing, Persistence, Reply, write_reply_head, write_response};
 use oc_model::{Answer, Message};
@@ -20,31 +21,42 @@ use oc_updown::{follow_location, location};
 use oc_wire::encode;
 use std::alloc::Global;
 
-/// What is answered to what was asked.
-///
-/// `answer` is that of the step; for a probe it is not looked at. `reply` is the message that goes back to
-/// the sender of a message, `sealed` tells whether the group that a client gets is sealed, `addresses` are
-/// those of the nodes by their ids, and `last` says that the request is the last of its connection
-/// whatever it asks.
+/// What an answer depends on besides what was asked.
+#[derive(Clone, Copy)]
+pub struct Answered {
+    /// The answer of the step; for a probe it is not looked at.
+    pub answer: Answer,
+    /// The group that a client gets is sealed.
+    pub sealed: bool,
+    /// The request is the last of its connection whatever it asks.
+    pub last: bool,
+}
+
+/// What is answered to what was asked. `reply` is the message that goes back to the sender of a message,
+/// and `addresses` are those of the nodes by their ids.
 pub fn respond(
     alloc: Global,
-    asks: &Asks,
-    answer: Answer,
+    operation: &Operation,
+    answered: Answered,
     reply: Option<&Message>,
-    sealed: bool,
     addresses: &[String],
-    last: bool,
 ) -> Result<Response, Memory>
-    requires asks { IsAsked asks.now }
+    requires asks { IsAsked operation.now }
     requires reply { ForSome (option_map (λ m. m.now) reply) (λ m. HasSpelling m.body) }
     ensures { IfOk result (λ response. response
-        ≡ response_to asks.now answer (option_map (λ m. m.now) reply.entry) sealed (map string_bytes addresses.now) last) }
+        ≡ response_to operation.now answered.answer (option_map (λ m. m.now) reply.entry) answered.sealed
+        (map string_bytes addresses.now) answered.last) }
 {
-    match asks {
-        Asks::Message => to_message(alloc, reply),
-        Asks::Publish { .. } => status_alone(alloc, publish_status(answer)),
-        Asks::Seal { .. } => status_alone(alloc, seal_status(answer)),
-        Asks::Client {
+    let Answered {
+        answer,
+        sealed,
+        last,
+    } = answered;
+    match operation {
+        Operation::Message => to_message(alloc, reply),
+        Operation::Publish { .. } => status_alone(alloc, publish_status(answer)),
+        Operation::Seal { .. } => status_alone(alloc, seal_status(answer)),
+        Operation::Client {
             group,
             start,
             manner,
@@ -56,7 +68,7 @@ pub fn respond(
             Answer::Serve(count) => served(alloc, *manner, sealed, last, *start, count),
             _ => status_alone(alloc, 404),
         },
-        Asks::Probe { manner } => to_probe(alloc, *manner, last),
+        Operation::Probe { manner } => to_probe(alloc, *manner, last),
     }
 }
 
@@ -181,7 +193,7 @@ fn served(
     let head = typed_head(alloc, framing_for(chunked, count), connection)?;
     Ok(Response {
         text: Text::of(head),
-        content: manner.content_for(Content {
+        content: manner.content_for(GroupRange {
             start,
             count,
             chunked,

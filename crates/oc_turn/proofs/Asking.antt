@@ -12,7 +12,8 @@ use Rattle.oc_link.specs.Exchange.{Hears, HearsThenBreaks}
 use Rattle.oc_link.specs.LinkCalls.{Told, IfTold, OnOutgoing, DialsTo, DialFails, IsCutDial, connection_of, address_of}
 use Rattle.oc_link.specs.LinkBorrow.{BorrowView, ChangesOutgoing}
 use Rattle.oc_link.specs.Story.{Connection, Dial, Story, hung_up, unused, wrote, broken, IsHeardOut}
-use Rattle.oc_turn.specs.Dials.{AskedFor, IsReading, IsRead, IsOfBytes, IsAnswered, IsDialTo, IsAsked, Makes, MayMake, ComesOf, HearsUntil, input_of_reply}
+use Rattle.oc_turn.specs.Dials.{AskedFor, IsReading, IsRead, IsOfBytes, IsAnswered, IsDialTo, IsAsked, Makes, MayMake, ComesOf, input_of_reply}
+use Rattle.oc_probe.specs.Probes.{HearsUntil}
 
 -- the outgoing dial, on which these bytes came
 record Reads (to request bytes : List ℕ) (o : Option Dial) : Type 0 where

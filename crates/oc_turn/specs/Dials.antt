@@ -8,8 +8,7 @@ use Rattle.oc_http.specs.declared.reply.Reply.{Reply}
 use Rattle.oc_model.specs.declared.input.Input.{Input}
 use Rattle.oc_model.specs.declared.input.Input.TheVariants.{Delivered, Unreachable}
 use Rattle.oc_model.specs.declared.message.Message.{Message}
-use Rattle.oc_link.specs.Exchange.{Hears, HearsThenBreaks}
-use Rattle.oc_link.specs.LinkCalls.{Told, OnOutgoing, IsCutDial}
+use Rattle.oc_link.specs.LinkCalls.{Told, IsCutDial}
 use Rattle.oc_link.specs.Story.{Dial, Story, dials, hung_up}
 use Rattle.oc_wire.specs.MessageReading.{decoded}
 use Rattle.oc_wire.specs.Spelling.{spelling}
@@ -122,8 +121,3 @@ pub record IsRead (to request : List ℕ) (reading : Result Reply HttpFault) (di
 abbrev pub AskedFor : List ℕ → List ℕ → Result Reply HttpFault → Option Story → Option Story → Type 0
 AskedFor to request (Err SourceFault) old new = Told (Makes (IsCutDial to request)) old new
 AskedFor to request reading old new = Told (Makes (IsRead to request reading)) old new
-
--- from a story to the next these bytes came on the outgoing connection, and with the fault `Source` a call then failed
-abbrev pub HearsUntil : HttpFault → List ℕ → Option Story → Option Story → Type 0
-HearsUntil SourceFault bytes old new = Told (OnOutgoing (HearsThenBreaks bytes)) old new
-HearsUntil fault bytes old new = Told (OnOutgoing (Hears bytes)) old new

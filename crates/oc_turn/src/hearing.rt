@@ -6,7 +6,8 @@ ghost use Rattle.oc_link.specs.Exchange.{Hears};
 ghost use Rattle.oc_io.specs.Faults.{Rose};
 ghost use Rattle.oc_link.specs.LinkCalls.{CountsDialling, IfTold, OnOutgoing, Told};
 ghost use Rattle.oc_link.specs.Story.{IsHeardOut};
-ghost use Rattle.oc_turn.specs.Dials.{AskedFor, HearsUntil};
+ghost use Rattle.oc_probe.specs.Probes.{HearsUntil};
+ghost use Rattle.oc_turn.specs.Dials.{AskedFor};
 
 use oc_http::{HeadReader, HttpFault, Reply};
 use oc_link::{Link, Outgoing};

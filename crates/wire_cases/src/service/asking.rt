@@ -8,7 +8,7 @@ use oc_base::MAX_BODY_BYTES;
 use oc_http::{Head, read_body, read_head};
 use oc_io::MemSource;
 use oc_policy::{Action, MAX_RULES, Prefix, Rule};
-use oc_routes::{Asks, Refused, RouteFault, route};
+use oc_routes::{Operation, Refused, RouteFault, route};
 use std::alloc::Global;
 use test_tools::{Fault, RowFields};
 
@@ -16,7 +16,7 @@ use test_tools::{Fault, RowFields};
 #[derive(Drop)]
 pub struct ReadRequest {
     pub head: Head,
-    pub asks: Asks,
+    pub asks: Operation,
     pub body: Vec<u8>,
 }
 

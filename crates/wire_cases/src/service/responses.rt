@@ -8,7 +8,7 @@ ghost use Rattle.oc_wire.specs.Spelling.{HasSpelling};
 use crate::service::asking::{ReadRequest, request_in};
 use oc_base::NodeId;
 use oc_model::{Answer, Message};
-use oc_routes::{Persistence, Response, is_last, respond};
+use oc_routes::{Answered, Persistence, Response, is_last, respond};
 use oc_wire::decode;
 use std::alloc::Global;
 use test_tools::{Fault, RowFields, put_spelled, spelled_in};
@@ -108,15 +108,12 @@ fn respond_with(
 {
     let addresses = addresses(alloc)?;
     let last = is_last(&request.head, turn.number);
-    Ok(respond(
-        alloc,
-        &request.asks,
-        turn.answer,
-        reply,
-        turn.sealed,
-        &addresses,
+    let answered = Answered {
+        answer: turn.answer,
+        sealed: turn.sealed,
         last,
-    )?)
+    };
+    Ok(respond(alloc, &request.asks, answered, reply, &addresses)?)
 }
 
 fn addresses(alloc: Global) -> Result<Vec<String>, Fault> {

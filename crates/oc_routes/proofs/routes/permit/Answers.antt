@@ -1,6 +1,6 @@
 use Rattle.std.proofs.Common.{sym, ap, ◌∙◌}
 use Rattle.oc_routes.specs.Routes.{if_allowed, permitted}
-use Rattle.oc_routes.proofs.routing.permit.Goals as goal
+use Rattle.oc_routes.proofs.routes.permit.Goals as goal
 
 pub returns-in-Denied : goal.returns-in-Denied
 returns-in-Denied c =

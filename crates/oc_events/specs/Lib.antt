@@ -1,0 +1,10 @@
+pub mod Stands
+pub mod Traffic
+pub mod Dials
+pub mod Told
+pub mod Failures
+pub mod Counts
+pub mod ArrivedView
+pub mod Examples
+pub mod Plays
+pub mod MemLinkView

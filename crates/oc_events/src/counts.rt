@@ -1,0 +1,118 @@
+ghost use Rattle.std.specs.Prelude.{◌≡◌};
+ghost use Rattle.oc_io.specs.Tally.{counted};
+ghost use Rattle.oc_events.specs.Failures as kinds;
+
+use crate::event::{Coming, Event, Loss};
+
+/// How often the calls of a link failed, by their kind, and how long it has waited. A count that has reached the
+/// greatest `u64` stays there.
+#[derive(Clone, Copy, Debug)]
+pub struct Counts {
+    /// Calls of `listen` and `next`.
+    pub listening: u64,
+    /// Requests that could not be read.
+    pub reading: u64,
+    /// Replies that could not be sent.
+    pub writing: u64,
+    /// Dials.
+    pub dialling: u64,
+    /// The milliseconds that `next` has waited.
+    pub waited: u64,
+}
+
+impl Counts {
+    ghost use Rattle.oc_events.specs.Counts.{no_counts, CountsEvent};
+
+    /// Nothing failed yet.
+    pub fn none() -> Counts
+        ensures { result ≡ no_counts }
+    {
+        Counts {
+            listening: 0,
+            reading: 0,
+            writing: 0,
+            dialling: 0,
+            waited: 0,
+        }
+    }
+
+    /// After a call of `listen` or `next` failed.
+    pub fn with_failure(self) -> Counts
+        ensures { result ≡ record self { listening = counted self.listening } }
+    {
+        Counts {
+            listening: self.listening.saturating_add(1),
+            reading: self.reading,
+            writing: self.writing,
+            dialling: self.dialling,
+            waited: self.waited,
+        }
+    }
+
+    /// After `next` gave this event and waited for so many milliseconds at most.
+    pub fn with_event(self, event: Event, wait: u64) -> Counts
+        ensures { CountsEvent event wait self result }
+    {
+        let reading = raised(self.reading, fails_reading(&event));
+        let writing = raised(self.writing, fails_writing(&event));
+        let dialling = raised(self.dialling, fails_dialling(&event));
+        Counts {
+            listening: self.listening,
+            reading,
+            writing,
+            dialling,
+            waited: self.waited.saturating_add(wait),
+        }
+    }
+}
+
+/// The count after a failure.
+fn raised(count: u64, failed: bool) -> u64
+    ensures { kinds.RisesAt failed count result }
+{
+    if failed {
+        count.saturating_add(1)
+    } else {
+        count
+    }
+}
+
+/// Whether a request could not be read.
+fn fails_reading(event: &Event) -> bool
+    ensures { result ≡ kinds.fails_reading event.now }
+{
+    match event {
+        Event::Request(arrival) => has_failed(&arrival.coming),
+        _ => false,
+    }
+}
+
+/// Whether a reply could not be sent.
+fn fails_writing(event: &Event) -> bool
+    ensures { result ≡ kinds.fails_writing event.now }
+{
+    match event {
+        Event::Gone(_, Loss::Failed) => true,
+        _ => false,
+    }
+}
+
+/// Whether a dial failed.
+fn fails_dialling(event: &Event) -> bool
+    ensures { result ≡ kinds.fails_dialling event.now }
+{
+    match event {
+        Event::Reply(_, coming) => has_failed(coming),
+        _ => false,
+    }
+}
+
+/// Whether what came failed.
+fn has_failed(coming: &Coming) -> bool
+    ensures { result ≡ kinds.has_failed coming.now }
+{
+    match coming {
+        Coming::Failed => true,
+        _ => false,
+    }
+}

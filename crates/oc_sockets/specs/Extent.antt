@@ -1,0 +1,45 @@
+-- Where the message ends that some bytes begin.
+use Rattle.std.specs.Prelude.{◌≡◌, ◌⊎◌, ◌==◌, ℕ, ◌≤◌, if◌then◌else◌, Option, Some, None, List, [], ◌∷◌, drop, length}
+use Rattle.std.specs.Str.Parse.{digits_value}
+use Rattle.httparse.specs.Grammar.{RequestHead, ReadsRequest, HasNoRequest, NeverHasRequest, ResponseHead, ReadsResponse, HasNoResponse, NeverHasResponse, status_code}
+use Rattle.httparse.specs.Spans.{RequestExceeds, ResponseExceeds}
+use Rattle.oc_http.specs.Fields.{named, codings, is_length, is_present, lengths}
+use Rattle.oc_http.specs.Requests.{expects}
+use Rattle.oc_sockets.specs.declared.extent.Extent.{Extent}
+use Rattle.oc_sockets.specs.declared.extent.Extent.TheVariants as extents
+use Rattle.oc_sockets.specs.declared.extent.Outline.{Outline}
+
+-- the number of the first Content-Length, if there is one; 0 where it is no number
+abbrev pub body_length : List (List ℕ) → Option ℕ
+body_length [] = None
+body_length (value ∷ more) = Some (if is_length value then digits_value 10 value else 0)
+
+-- the length of the body of a response with this status: 204 has none (RFC 9112, section 6.3)
+abbrev pub response_length : ℕ → List (List ℕ) → Option ℕ
+response_length status values = if status == 204 then Some 0 else body_length values
+
+-- the outline is that of a request whose head these bytes begin with
+pub record OutlinesRequest (bytes : List ℕ) (outline : Outline) : Type 0 where
+  pub head : RequestHead
+  pub reads : ReadsRequest bytes head (drop outline.head bytes)
+  pub body : outline.body ≡ body_length (lengths (named head.fields))
+  pub expects : outline.expects ≡ expects head.minor (named head.fields)
+  pub coded : outline.coded ≡ is_present (codings (named head.fields))
+
+-- how far a request has come of which there are these bytes; room is that for fields
+abbrev pub IsRequestExtent : ℕ → List ℕ → Extent → Type 0
+IsRequestExtent room bytes extents.Open = HasNoRequest bytes
+IsRequestExtent room bytes extents.Never = NeverHasRequest bytes ⊎ RequestExceeds room bytes
+IsRequestExtent room bytes (extents.Begun outline) = OutlinesRequest bytes outline
+
+-- the outline is that of a response whose head these bytes begin with
+pub record OutlinesResponse (bytes : List ℕ) (outline : Outline) : Type 0 where
+  pub head : ResponseHead
+  pub reads : ReadsResponse bytes head (drop outline.head bytes)
+  pub body : outline.body ≡ response_length (status_code head) (lengths (named head.fields))
+
+-- how far a response has come of which there are these bytes; room is that for fields
+abbrev pub IsResponseExtent : ℕ → List ℕ → Extent → Type 0
+IsResponseExtent room bytes extents.Open = HasNoResponse bytes
+IsResponseExtent room bytes extents.Never = NeverHasResponse bytes ⊎ ResponseExceeds room bytes
+IsResponseExtent room bytes (extents.Begun outline) = OutlinesResponse bytes outline

@@ -1,0 +1,11 @@
+-- How much a call on a socket moved.
+use Rattle.std.specs.Prelude.{ℕ, ◌≤◌, ⊤}
+use Rattle.oc_sockets.specs.declared.socket.Moved.{Moved}
+use Rattle.oc_sockets.specs.declared.socket.Moved.TheVariants as moved
+
+-- no more bytes than this
+abbrev pub MovesAtMost : ℕ → Moved → Type 0
+MovesAtMost most (moved.Bytes count) = count ≤ most
+MovesAtMost most moved.Nothing = ⊤
+MovesAtMost most moved.End = ⊤
+MovesAtMost most moved.Failed = ⊤

@@ -1,0 +1,499 @@
+use crate::incoming::Incoming;
+use crate::limits::{
+    BODY_MILLIS, BODY_PAUSE_MILLIS, HEAD_MILLIS, LARGE_BYTES, LINGER_BYTES, LINGER_MILLIS,
+    MOST_MESSAGE, MOST_READS, MOST_UNSENT, REPLY_PAUSE_MILLIS, SHORT_REPLY,
+};
+use crate::socket::{Moved, read_some, write_some};
+use crate::times::Deadline;
+use crate::tools::Tools;
+use crate::unsent::Unsent;
+use mio::net::TcpStream;
+use mio::{Interest, Registry, Token};
+use oc_events::{Arrival, Coming, ConnectionId, Ending, Event};
+use std::alloc::Global;
+use std::net::Shutdown;
+
+/// What a connection is doing.
+#[derive(Clone, Copy, PartialEq, Eq)]
+pub(crate) enum Stage {
+    /// Its next request comes, once all of the last reply has gone out.
+    Awaiting,
+    /// Its request was taken, and its reply was not given whole.
+    Answering,
+    /// Its last reply was given whole, and goes out.
+    Finishing,
+    /// All went out, and the peer was told so; what still comes is dropped.
+    Lingering,
+    /// There is nothing more to do on it.
+    Over,
+}
+
+/// What is to be done about a connection.
+#[derive(Clone, Copy)]
+pub(crate) enum Fate {
+    /// It waits for its peer or for whoever answers it.
+    Stays,
+    /// This is to be told of it.
+    Tells(Event),
+    /// It is to be dropped, and that it failed is to be told.
+    Lost,
+    /// It is to be dropped.
+    Over,
+}
+
+/// What holds a place. The first kind gives way first.
+#[derive(Clone, Copy, PartialEq, Eq, PartialOrd, Ord)]
+pub(crate) enum ClaimKind {
+    /// It is only read out.
+    ReadOut,
+    /// Its request has not come whole.
+    Request,
+    /// Its reply is under way.
+    Content,
+    /// Its request was taken, and it was given nothing yet.
+    Follower,
+}
+
+/// What holds a place, and since when. Of one kind, that which holds it longest gives way first.
+#[derive(Clone, Copy, PartialEq, Eq, PartialOrd, Ord)]
+pub(crate) struct Claim {
+    kind: ClaimKind,
+    since: u64,
+}
+
+/// A connection that came in. No call on it waits.
+#[derive(Drop)]
+pub(crate) struct Connection {
+    stream: TcpStream,
+    pub(crate) id: u64,
+    pub(crate) stage: Stage,
+    /// Which request is awaited or answered.
+    number: u64,
+    pub(crate) incoming: Incoming,
+    /// Whether it has one of the places for large requests.
+    pub(crate) is_large: bool,
+    /// Whether the request as it is was told.
+    is_told: bool,
+    /// Whether its time ran out.
+    is_late: bool,
+    /// Whether it was given something since its request was awaited, taken, or there was room.
+    is_fed: bool,
+    /// Whether its reply has begun, and when it was given something last.
+    has_begun: bool,
+    fed_at: u64,
+    /// Whether it is to be told where its last reply does not go out.
+    is_watched: bool,
+    /// Whether its request was all that came, and how many bytes of its replies there were.
+    is_all: bool,
+    went: usize,
+    unsent: Unsent,
+    /// How many bytes were dropped at its end.
+    dropped: usize,
+    /// Since when it is at its stage, and until when it may be.
+    since: u64,
+    deadline: Deadline,
+    /// Whether a read and a write may find something to do.
+    pub(crate) is_readable: bool,
+    pub(crate) is_writable: bool,
+    /// Whether the system tells when its socket is ready.
+    is_registered: bool,
+}
+
+impl Connection {
+    /// A connection of this stream, which does not block.
+    pub(crate) fn new(stream: TcpStream, alloc: Global, id: u64, now: u64) -> Connection {
+        Connection {
+            stream,
+            id,
+            stage: Stage::Awaiting,
+            number: 1,
+            incoming: Incoming::new(alloc),
+            is_large: false,
+            is_told: false,
+            is_late: false,
+            is_fed: false,
+            has_begun: false,
+            fed_at: now,
+            is_watched: false,
+            is_all: false,
+            went: 0,
+            unsent: Unsent::new(alloc),
+            dropped: 0,
+            since: now,
+            deadline: Deadline::after(now, HEAD_MILLIS),
+            is_readable: true,
+            is_writable: true,
+            is_registered: false,
+        }
+    }
+
+    /// Has the system tell when its socket is ready. A connection whose request comes at once, and whose reply goes
+    /// out at once, does without: that is most of them, and a call less for each. The system tells at once of what
+    /// came before it was asked to.
+    pub(crate) fn register(&mut self, registry: &Registry, token: usize) {
+        if self.is_registered {
+            return;
+        }
+        self.is_registered = true;
+        // Without it the end of a piece may wait until the peer acknowledges what came before. One that ends at
+        // once needs it not: its end sends all.
+        let _set = self.stream.set_nodelay(true).is_ok();
+        let both = Interest::READABLE | Interest::WRITABLE;
+        if registry
+            .register(&mut self.stream, Token(token), both)
+            .is_err()
+        {
+            self.incoming.has_failed = true;
+        }
+    }
+
+    /// Does what can be done on it now: sends, and then reads at most until `most` bytes came, or ends it.
+    pub(crate) fn advance(&mut self, tools: &mut Tools, now: u64, most: usize) {
+        self.send(tools, now);
+        match self.stage {
+            Stage::Awaiting => self.receive(tools, now, most),
+            Stage::Finishing => self.end(now),
+            _ => {}
+        }
+        if self.stage == Stage::Lingering {
+            self.drain(tools);
+        }
+    }
+
+    /// Sends what its socket takes now.
+    fn send(&mut self, tools: &mut Tools, now: u64) {
+        if !self.is_writable || self.unsent.is_empty() {
+            return;
+        }
+        let before = self.unsent.len();
+        match self.unsent.send(&mut self.stream, tools) {
+            Moved::Nothing => self.is_writable = false,
+            Moved::Failed | Moved::End => self.incoming.has_failed = true,
+            Moved::Bytes(_) => {}
+        }
+        if self.unsent.len() < before {
+            self.deadline.progress(now);
+        }
+        if self.unsent.is_empty() {
+            self.note_sent(now);
+        }
+    }
+
+    /// All that it was given has gone out. Where its next request is awaited, its time begins now.
+    fn note_sent(&mut self, now: u64) {
+        self.deadline = Deadline::never();
+        if self.stage == Stage::Awaiting && !self.is_fed {
+            self.is_watched = false;
+            self.begin_head(now);
+        } else if self.stage == Stage::Awaiting {
+            self.begin_body(now);
+        }
+    }
+
+    fn begin_head(&mut self, now: u64) {
+        self.since = now;
+        self.deadline = Deadline::after(now, HEAD_MILLIS);
+        if self.incoming.outline.is_some() {
+            self.begin_body(now);
+        }
+    }
+
+    fn begin_body(&mut self, now: u64) {
+        self.deadline = Deadline::after(now, BODY_MILLIS).with_pause(now, BODY_PAUSE_MILLIS);
+    }
+
+    /// Reads what came of its next request. While its last reply goes out, that waits in the socket.
+    fn receive(&mut self, tools: &mut Tools, now: u64, most: usize) {
+        if !self.is_readable || !self.unsent.is_empty() || self.incoming.is_over() {
+            return;
+        }
+        let had_head = self.incoming.outline.is_some();
+        let intake = self
+            .incoming
+            .read(&mut self.stream, tools, most, self.is_fed);
+        self.is_readable = !intake.is_drained;
+        if intake.has_come {
+            self.is_told = false;
+            self.deadline.progress(now);
+        }
+        if !had_head && self.incoming.outline.is_some() {
+            self.begin_body(now);
+        }
+    }
+
+    /// Whether it has as many bytes as a request may have without one of the places for large ones.
+    pub(crate) fn is_held(&self) -> bool {
+        self.stage == Stage::Awaiting
+            && !self.is_large
+            && self.incoming.len() >= LARGE_BYTES
+            && !self.incoming.is_ripe(self.is_fed)
+    }
+
+    /// Gives it bytes to send: they go out at once as far as its socket takes them, and what is left is kept. A
+    /// connection for which that is too much fails.
+    pub(crate) fn give(&mut self, tools: &mut Tools, bytes: &[u8], now: u64) {
+        let is_open = matches!(self.stage, Stage::Awaiting | Stage::Answering);
+        if self.incoming.has_failed || !is_open {
+            return;
+        }
+        self.is_fed = true;
+        self.is_told = false;
+        self.has_begun = true;
+        self.fed_at = now;
+        self.went = self.went.saturating_add(bytes.len());
+        let rest = self.write(tools, bytes);
+        if rest.is_empty() {
+            if self.stage == Stage::Awaiting {
+                self.begin_body(now);
+            }
+            return;
+        }
+        if self.unsent.is_empty() {
+            self.deadline = Deadline::never().with_pause(now, REPLY_PAUSE_MILLIS);
+        }
+        let length = self.unsent.len().saturating_add(rest.len());
+        if length > MOST_UNSENT || !self.unsent.put(tools, rest) {
+            self.incoming.has_failed = true;
+        }
+    }
+
+    /// Writes what the socket takes now of these bytes, where nothing is to go out before them; answers the rest.
+    fn write<'b>(&mut self, tools: &mut Tools, bytes: &'b [u8]) -> &'b [u8] {
+        let mut rest = bytes;
+        for _ in 0..bytes.len() {
+            if rest.is_empty() || !self.is_writable || !self.unsent.is_empty() {
+                break;
+            }
+            match write_some(&mut self.stream, rest) {
+                Moved::Bytes(count) => {
+                    tools.went = tools.went.saturating_add(count as u64);
+                    rest = rest.get(count..).unwrap_or(&[]);
+                }
+                Moved::Nothing => self.is_writable = false,
+                Moved::Failed | Moved::End => {
+                    self.incoming.has_failed = true;
+                    return &[];
+                }
+            }
+        }
+        rest
+    }
+
+    /// Takes that many of these bytes, which are all that came, as its request, whose reply is then under way.
+    pub(crate) fn take(&mut self, tools: &mut Tools, bytes: &[u8], count: u64, now: u64) {
+        self.is_all = self.incoming.is_all(bytes, count);
+        let count = usize::try_from(count).unwrap_or(usize::MAX);
+        if !self.incoming.take(tools, bytes, count) {
+            self.incoming.has_failed = true;
+        }
+        self.stage = Stage::Answering;
+        self.is_told = false;
+        self.is_fed = false;
+        self.has_begun = false;
+        self.since = now;
+        self.fed_at = now;
+        if self.unsent.is_empty() {
+            self.deadline = Deadline::never();
+        }
+    }
+
+    /// Its reply was given whole.
+    pub(crate) fn finish(&mut self, ending: Ending, now: u64) {
+        self.is_fed = false;
+        self.is_watched = ending.watched;
+        if ending.keeps {
+            self.number = self.number.saturating_add(1);
+            self.stage = Stage::Awaiting;
+            if self.unsent.is_empty() && !self.incoming.has_failed {
+                self.note_sent(now);
+            }
+        } else {
+            self.stage = Stage::Finishing;
+            self.end(now);
+        }
+    }
+
+    /// Once all went out, tells the peer that nothing more comes, and gives it time to end. Were the socket closed
+    /// while something comes, the system would send a reset, which may overtake the reply. Where the whole request
+    /// came and nothing behind it, and the reply is short, a close is as good.
+    fn end(&mut self, now: u64) {
+        if !self.unsent.is_empty() || self.incoming.has_failed {
+            return;
+        }
+        if self.is_all && self.went <= SHORT_REPLY {
+            self.stage = Stage::Over;
+            return;
+        }
+        self.stage = Stage::Lingering;
+        self.since = now;
+        self.deadline = Deadline::after(now, LINGER_MILLIS);
+        self.is_late = false;
+        if self.stream.shutdown(Shutdown::Write).is_err() {
+            self.stage = Stage::Over;
+        }
+    }
+
+    /// Drops what has come, until the peer's end.
+    fn drain(&mut self, tools: &mut Tools) {
+        for _ in 0..MOST_READS {
+            if !self.is_readable || self.stage != Stage::Lingering {
+                return;
+            }
+            match read_some(&mut self.stream, &mut tools.piece) {
+                Moved::Bytes(count) => {
+                    self.dropped = self.dropped.saturating_add(count);
+                    if self.dropped >= LINGER_BYTES {
+                        self.stage = Stage::Over;
+                    }
+                }
+                Moved::Nothing => self.is_readable = false,
+                Moved::End | Moved::Failed => self.stage = Stage::Over,
+            }
+        }
+    }
+
+    /// Looks whether its time has run out; true where something is to be done about it. That of a request stands
+    /// still as long as it waits for others. One that was told, can be answered, and was left is dropped in the end.
+    pub(crate) fn expire(&mut self, now: u64) -> bool {
+        if self.is_held() {
+            self.deadline.progress(now);
+        }
+        if self.is_late || !self.deadline.is_over(now) {
+            return false;
+        }
+        match self.stage {
+            Stage::Awaiting if self.unsent.is_empty() => {
+                let is_ripe = self.incoming.is_ripe(self.is_fed);
+                self.is_late = self.is_told || !is_ripe;
+                self.is_told = self.is_told && is_ripe;
+            }
+            Stage::Lingering => self.stage = Stage::Over,
+            _ => self.incoming.has_failed = true,
+        }
+        true
+    }
+
+    /// What is to be done about it.
+    pub(crate) fn fate(&self) -> Fate {
+        if self.incoming.has_failed && self.is_missed() {
+            return Fate::Lost;
+        }
+        match self.stage {
+            Stage::Awaiting => self.fate_of_request(),
+            Stage::Answering if self.is_fed && self.unsent.is_empty() => {
+                Fate::Tells(Event::Room(ConnectionId(self.id)))
+            }
+            Stage::Finishing if self.incoming.has_failed => Fate::Over,
+            Stage::Over => Fate::Over,
+            Stage::Answering | Stage::Finishing | Stage::Lingering => Fate::Stays,
+        }
+    }
+
+    /// The same while its next request is awaited. One that ends, fails or runs out of its time without a byte of a
+    /// request goes without a word; so does one that fails before its last reply has gone out, which nobody asked
+    /// to be told. Where the permission to send a body did not go out, its request has failed.
+    fn fate_of_request(&self) -> Fate {
+        let has_failed = self.incoming.has_failed;
+        if !self.unsent.is_empty() && !(has_failed && self.is_fed) {
+            return if has_failed { Fate::Over } else { Fate::Stays };
+        }
+        let is_over = self.incoming.is_over() || self.is_late;
+        if self.incoming.len() == 0 && is_over {
+            return Fate::Over;
+        }
+        let is_full = self.incoming.len() >= MOST_MESSAGE;
+        if self.is_told || !(is_over || is_full || self.incoming.is_ripe(self.is_fed)) {
+            return Fate::Stays;
+        }
+        Fate::Tells(Event::Request(self.arrival()))
+    }
+
+    /// Its request as it is told. Of one that came whole it does not matter what came behind it.
+    fn arrival(&self) -> Arrival {
+        let is_ripe = self.incoming.is_ripe(self.is_fed);
+        let coming = if !is_ripe && (self.incoming.has_failed || self.is_late) {
+            Coming::Failed
+        } else if !is_ripe && self.incoming.has_ended {
+            Coming::Ended
+        } else {
+            Coming::Open
+        };
+        Arrival {
+            connection: ConnectionId(self.id),
+            number: self.number,
+            permitted: self.is_fed,
+            coming,
+        }
+    }
+
+    /// What was to be told of it was told.
+    pub(crate) fn note_told(&mut self) {
+        match self.stage {
+            Stage::Awaiting => self.is_told = true,
+            _ => self.is_fed = false,
+        }
+    }
+
+    /// Whether there may be more to read than `advance` read: it would not be told again.
+    pub(crate) fn is_busy(&self, most: usize) -> bool {
+        let is_read = match self.stage {
+            Stage::Awaiting => {
+                self.unsent.is_empty()
+                    && !self.incoming.is_over()
+                    && self.incoming.len() < most
+                    && !self.incoming.is_ripe(self.is_fed)
+            }
+            Stage::Lingering => true,
+            _ => false,
+        };
+        self.is_readable && is_read
+    }
+
+    /// The system told that its socket failed. Where it is read, the reading tells.
+    pub(crate) fn note_failure(&mut self) {
+        if matches!(self.stage, Stage::Answering | Stage::Finishing) {
+            self.incoming.has_failed = true;
+        }
+    }
+
+    /// Whether anything of what it was given has still to go out, or its peer to end.
+    pub(crate) fn is_leaving(&self) -> bool {
+        !self.unsent.is_empty() || self.stage == Stage::Lingering
+    }
+
+    /// Whether it is to be told where it is dropped: its reply was not given whole, or did not go out whole and that
+    /// is to be told. Once all went out it is not watched any more, or leaves these stages.
+    pub(crate) fn is_missed(&self) -> bool {
+        match self.stage {
+            Stage::Answering => true,
+            Stage::Awaiting | Stage::Finishing => self.is_watched,
+            Stage::Lingering | Stage::Over => false,
+        }
+    }
+
+    /// What it has to say for its place, where it may be asked for it. One whose request has come may not, and
+    /// neither one that has still to be read: its request may be there. Else of many that come at once each would
+    /// drop the one before.
+    pub(crate) fn claim(&self) -> Option<Claim> {
+        let (kind, since) = match self.stage {
+            Stage::Lingering | Stage::Over => (ClaimKind::ReadOut, self.since),
+            _ if !self.unsent.is_empty() => (ClaimKind::Content, self.fed_at),
+            Stage::Awaiting => {
+                if self.incoming.is_ripe(self.is_fed) || (self.is_readable && !self.is_held()) {
+                    return None;
+                }
+                (ClaimKind::Request, self.since)
+            }
+            _ if self.has_begun => (ClaimKind::Content, self.fed_at),
+            _ => (ClaimKind::Follower, self.since),
+        };
+        Some(Claim { kind, since })
+    }
+
+    /// Whether its request was told, with nothing more to come, and was not taken.
+    pub(crate) fn is_left(&self) -> bool {
+        self.stage == Stage::Awaiting
+            && self.is_told
+            && (self.incoming.is_over() || self.is_late || self.incoming.len() >= MOST_MESSAGE)
+    }
+}

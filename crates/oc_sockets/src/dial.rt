@@ -1,0 +1,277 @@
+use crate::extent::{Extent, Outline, response_extent};
+use crate::limits::{
+    BEGIN_MILLIS, CONNECT_MILLIS, DIAL_MILLIS, DIAL_PAUSE_MILLIS, MOST_MESSAGE, MOST_READS,
+};
+use crate::socket::{Moved, read_some};
+use crate::times::Deadline;
+use crate::tools::Tools;
+use crate::unsent::Unsent;
+use mio::net::TcpStream;
+use oc_base::{MAX_BODY_BYTES, MAX_HEAD_BYTES};
+use oc_events::{Coming, DialId};
+use std::io::ErrorKind;
+use std::mem;
+use std::net::SocketAddr;
+
+/// How far a dial is.
+#[derive(Clone, Copy, PartialEq, Eq)]
+pub(crate) enum Stage {
+    /// It is not connected yet.
+    Connecting,
+    /// Its request goes out.
+    Asking,
+    /// Its reply has not begun.
+    Waiting,
+    /// Its reply comes.
+    Hearing,
+    /// It could not be connected to this address; another one may be tried.
+    Refused,
+    /// It is over.
+    Over,
+}
+
+/// A connection that is made, to ask one thing. No call on it waits.
+#[derive(Drop)]
+pub(crate) struct Dial {
+    pub(crate) id: DialId,
+    stream: Option<TcpStream>,
+    pub(crate) stage: Stage,
+    /// Where it may be connected to, and how many of these were tried.
+    addresses: Vec<SocketAddr>,
+    tried: usize,
+    unsent: Unsent,
+    bytes: Vec<u8>,
+    outline: Option<Outline>,
+    /// How its reply ends, once the stage is `Over`.
+    coming: Coming,
+    begun: u64,
+    deadline: Deadline,
+    pub(crate) is_readable: bool,
+    pub(crate) is_writable: bool,
+}
+
+impl Dial {
+    /// A dial that has no connection yet, with what it asks. It is over where there is no memory for that.
+    pub(crate) fn new(
+        tools: &Tools,
+        id: DialId,
+        addresses: Vec<SocketAddr>,
+        bytes: &[u8],
+        now: u64,
+    ) -> Dial {
+        let mut unsent = Unsent::new(tools.alloc);
+        let is_kept = unsent.put(tools, bytes);
+        Dial {
+            id,
+            stream: None,
+            stage: if is_kept { Stage::Refused } else { Stage::Over },
+            addresses,
+            tried: 0,
+            unsent,
+            bytes: Vec::new(tools.alloc),
+            outline: None,
+            coming: Coming::Failed,
+            begun: now,
+            deadline: Deadline::after(now, CONNECT_MILLIS),
+            is_readable: false,
+            is_writable: false,
+        }
+    }
+
+    /// This is the stream on which it is being connected.
+    pub(crate) fn begin(&mut self, stream: TcpStream) {
+        self.stream = Some(stream);
+        self.stage = Stage::Connecting;
+        self.is_readable = false;
+        self.is_writable = false;
+    }
+
+    /// The next address to be tried.
+    pub(crate) fn next_address(&mut self) -> Option<SocketAddr> {
+        let address = self.addresses.get(self.tried).copied()?;
+        self.tried = self.tried.saturating_add(1);
+        Some(address)
+    }
+
+    /// It failed.
+    pub(crate) fn fail(&mut self) {
+        self.end(Coming::Failed);
+    }
+
+    /// It is over, and its reply ends so.
+    fn end(&mut self, coming: Coming) {
+        self.stage = Stage::Over;
+        self.coming = coming;
+        self.stream = None;
+    }
+
+    /// Does what can be done on it now.
+    pub(crate) fn advance(&mut self, tools: &mut Tools, now: u64) {
+        let Some(mut stream) = self.stream.take() else {
+            return;
+        };
+        if self.stage == Stage::Connecting {
+            self.connect(&mut stream, now);
+        }
+        if self.stage == Stage::Asking {
+            self.ask(&mut stream, tools, now);
+        }
+        if matches!(self.stage, Stage::Asking | Stage::Waiting | Stage::Hearing) {
+            self.hear(&mut stream, tools, now);
+        }
+        if !matches!(self.stage, Stage::Refused | Stage::Over) {
+            self.stream = Some(stream);
+        }
+    }
+
+    /// Looks whether it is connected. The system tells that a socket can be written where it is, and where it
+    /// failed to be.
+    fn connect(&mut self, stream: &mut TcpStream, now: u64) {
+        if !self.is_writable {
+            return;
+        }
+        if !matches!(stream.take_error(), Ok(None)) {
+            self.stage = Stage::Refused;
+            return;
+        }
+        match stream.peer_addr() {
+            Ok(_) => {
+                // Without it a request that is written in two pieces may wait for an acknowledgement.
+                let _set = stream.set_nodelay(true).is_ok();
+                self.stage = Stage::Asking;
+                let end = self.left(now, BEGIN_MILLIS);
+                self.deadline = Deadline::after(now, end).with_pause(now, DIAL_PAUSE_MILLIS);
+            }
+            Err(error) if error.kind() == ErrorKind::NotConnected => self.is_writable = false,
+            Err(_) => self.stage = Stage::Refused,
+        }
+    }
+
+    /// How much is left of a time that is counted from its beginning.
+    fn left(&self, now: u64, time: u64) -> u64 {
+        self.begun.saturating_add(time).saturating_sub(now)
+    }
+
+    /// Sends its request. Where that fails, a reply may have come before: a peer that refuses a request need not
+    /// read all of it.
+    fn ask(&mut self, stream: &mut TcpStream, tools: &mut Tools, now: u64) {
+        if !self.is_writable {
+            return;
+        }
+        let before = self.unsent.len();
+        match self.unsent.send(stream, tools) {
+            Moved::Nothing => self.is_writable = false,
+            Moved::Failed | Moved::End => {
+                self.unsent.clear(tools);
+                self.is_readable = true;
+            }
+            Moved::Bytes(_) => {}
+        }
+        if self.unsent.len() < before {
+            self.deadline.progress(now);
+        }
+        if self.unsent.is_empty() {
+            self.stage = Stage::Waiting;
+            self.deadline = Deadline::after(now, self.left(now, BEGIN_MILLIS));
+        }
+    }
+
+    /// Reads what has come of its reply.
+    fn hear(&mut self, stream: &mut TcpStream, tools: &mut Tools, now: u64) {
+        for _ in 0..MOST_READS {
+            if !self.is_readable || self.stage == Stage::Over {
+                return;
+            }
+            match read_some(stream, &mut tools.piece) {
+                Moved::Bytes(count) => {
+                    self.note_progress(now);
+                    if !self.keep(tools, count) {
+                        self.end(Coming::Failed);
+                    } else if self.is_whole() {
+                        self.end(Coming::Ended);
+                    } else if self.is_too_long() {
+                        self.end(Coming::Open);
+                    }
+                }
+                Moved::Nothing => self.is_readable = false,
+                Moved::End => self.end(Coming::Ended),
+                Moved::Failed => self.end(Coming::Failed),
+            }
+        }
+    }
+
+    /// Some of its reply came.
+    fn note_progress(&mut self, now: u64) {
+        if self.stage != Stage::Hearing {
+            self.stage = Stage::Hearing;
+            let end = self.left(now, DIAL_MILLIS);
+            self.deadline = Deadline::after(now, end).with_pause(now, DIAL_PAUSE_MILLIS);
+        }
+        self.deadline.progress(now);
+    }
+
+    /// Keeps that many bytes of the piece, and looks at them; false where there is no memory for them.
+    fn keep(&mut self, tools: &mut Tools, count: usize) -> bool {
+        tools.came = tools.came.saturating_add(count as u64);
+        let piece = tools.piece.get(..count).unwrap_or(&[]);
+        if self.bytes.extend_from_slice(piece).is_err() {
+            return false;
+        }
+        if self.outline.is_none() {
+            let end = self.bytes.len().min(MAX_HEAD_BYTES);
+            let head = self.bytes.get(..end).unwrap_or(&[]);
+            if let Extent::Begun(outline) = response_extent(head, &mut tools.spans) {
+                self.outline = Some(outline);
+            }
+        }
+        true
+    }
+
+    /// Whether its reply has come as far as its Content-Length says.
+    fn is_whole(&self) -> bool {
+        match &self.outline {
+            Some(outline) => match outline.body {
+                Some(body) => {
+                    self.bytes.len() as u64 >= body.saturating_add(outline.head as u64)
+                }
+                None => false,
+            },
+            None => false,
+        }
+    }
+
+    /// Whether there is more of it, or is to be, than a reply may have.
+    fn is_too_long(&self) -> bool {
+        match &self.outline {
+            Some(outline) => {
+                outline.body.unwrap_or(0) > MAX_BODY_BYTES || self.bytes.len() > MOST_MESSAGE
+            }
+            None => self.bytes.len() >= MAX_HEAD_BYTES,
+        }
+    }
+
+    /// Looks whether its time has run out; true where it has.
+    pub(crate) fn expire(&mut self, now: u64) -> bool {
+        let is_over = self.stage != Stage::Over && self.deadline.is_over(now);
+        if is_over {
+            self.end(Coming::Failed);
+        }
+        is_over
+    }
+
+    /// Whether there may be more to read than `advance` read: it would not be told again.
+    pub(crate) fn is_busy(&self) -> bool {
+        self.is_readable && matches!(self.stage, Stage::Waiting | Stage::Hearing)
+    }
+
+    /// What came of its reply, and how that ends.
+    pub(crate) fn outcome(&mut self, tools: &Tools) -> (Coming, Vec<u8>) {
+        let bytes = mem::replace(&mut self.bytes, Vec::new(tools.alloc));
+        (self.coming, bytes)
+    }
+
+    /// The stream, to be registered.
+    pub(crate) fn stream_mut(&mut self) -> Option<&mut TcpStream> {
+        self.stream.as_mut()
+    }
+}

@@ -1,0 +1,97 @@
+//! Where a message ends, as far as its head tells. This is all that the sockets know of HTTP; what else a head
+//! says is for whoever reads it.
+
+ghost use Rattle.std.specs.Prelude.{◌≡◌, length};
+ghost use Rattle.oc_http.specs.Fields.{lengths};
+ghost use Rattle.oc_sockets.specs.Extent.{IsRequestExtent, IsResponseExtent, body_length, response_length};
+
+use httparse::spans::{HeaderSpan, parse_request, parse_response};
+use httparse::{Error, Status};
+use oc_http::{Fields, Found, length_of};
+
+/// What the head of a message tells of its extent.
+#[derive(Clone, Copy)]
+pub(crate) struct Outline {
+    /// How many bytes the head has.
+    pub(crate) head: usize,
+    /// The Content-Length; 0 where it is no number, and none where there is no such field.
+    pub(crate) body: Option<u64>,
+    /// Whether the body is sent only after `100 Continue`.
+    pub(crate) expects: bool,
+    /// Whether something other than the Content-Length says where the body ends.
+    pub(crate) coded: bool,
+}
+
+/// How far a message has come.
+#[derive(Clone, Copy)]
+pub(crate) enum Extent {
+    /// Its head has not come whole.
+    Open,
+    /// Whatever follows, it is no head.
+    Never,
+    /// Its head has come.
+    Begun(Outline),
+}
+
+/// How far a request has come (RFC 9112, sections 2 to 6). The spans are room for its fields; more fields than that
+/// are no head.
+pub(crate) fn request_extent(bytes: &[u8], spans: &mut [HeaderSpan]) -> Extent
+    ensures { IsRequestExtent (length spans.old) bytes.now result }
+{
+    match parse_request(bytes, spans) {
+        Ok(Status::Complete(parts)) => {
+            let fields = Fields::of(bytes, &spans[..parts.headers]);
+            let expects = parts.version == 1 && fields.has_only("expect", "100-continue");
+            Extent::Begun(Outline {
+                head: parts.len,
+                body: told_length(&fields),
+                expects,
+                coded: fields.is_present("transfer-encoding"),
+            })
+        }
+        Ok(Status::Partial) => Extent::Open,
+        Err(Error::TooManyHeaders) => Extent::Never,
+        Err(_) => Extent::Never,
+    }
+}
+
+/// How far a response has come (RFC 9112, sections 2 to 6), in the same way.
+pub(crate) fn response_extent(bytes: &[u8], spans: &mut [HeaderSpan]) -> Extent
+    ensures { IsResponseExtent (length spans.old) bytes.now result }
+{
+    match parse_response(bytes, spans) {
+        Ok(Status::Complete(parts)) => {
+            let fields = Fields::of(bytes, &spans[..parts.headers]);
+            Extent::Begun(Outline {
+                head: parts.len,
+                body: response_length(parts.code, &fields),
+                expects: false,
+                coded: fields.is_present("transfer-encoding"),
+            })
+        }
+        Ok(Status::Partial) => Extent::Open,
+        Err(Error::TooManyHeaders) => Extent::Never,
+        Err(_) => Extent::Never,
+    }
+}
+
+/// The length of the body of a response with this status. A 204 has none.
+fn response_length(status: u16, fields: &Fields) -> Option<u64>
+    ensures { result ≡ response_length status (lengths fields.now) }
+{
+    if status == 204 {
+        Some(0)
+    } else {
+        told_length(fields)
+    }
+}
+
+/// The number of the first Content-Length.
+fn told_length(fields: &Fields) -> Option<u64>
+    ensures { result ≡ body_length (lengths fields.now) }
+{
+    match fields.find("content-length") {
+        Found::Absent => None,
+        Found::One(first) | Found::Several(first) => Some(length_of(first).unwrap_or(0)),
+    }
+}

@@ -1,0 +1,161 @@
+use crate::extent::{Extent, Outline, request_extent};
+use crate::limits::{MOST_MESSAGE, MOST_READS};
+use crate::socket::{Moved, read_some};
+use crate::tools::Tools;
+use mio::net::TcpStream;
+use oc_base::{MAX_BODY_BYTES, MAX_HEAD_BYTES};
+use std::alloc::Global;
+use std::mem;
+
+/// How reading what has come ended.
+#[derive(Clone, Copy)]
+pub(crate) struct Intake {
+    /// Whether anything came.
+    pub(crate) has_come: bool,
+    /// Whether all was read that has come.
+    pub(crate) is_drained: bool,
+}
+
+/// What came on a connection and was not taken as a request, and what is known of the request that it begins.
+#[derive(Drop)]
+pub(crate) struct Incoming {
+    pub(crate) bytes: Vec<u8>,
+    /// What its head tells, once it has come.
+    pub(crate) outline: Option<Outline>,
+    /// Whether no head begins so.
+    is_hopeless: bool,
+    /// Whether the peer sends no more, and whether a call failed.
+    pub(crate) has_ended: bool,
+    pub(crate) has_failed: bool,
+}
+
+impl Incoming {
+    pub(crate) fn new(alloc: Global) -> Incoming {
+        Incoming {
+            bytes: Vec::new(alloc),
+            outline: None,
+            is_hopeless: false,
+            has_ended: false,
+            has_failed: false,
+        }
+    }
+
+    pub(crate) fn len(&self) -> usize {
+        self.bytes.len()
+    }
+
+    /// Whether nothing more can come.
+    pub(crate) fn is_over(&self) -> bool {
+        self.has_ended || self.has_failed
+    }
+
+    /// Reads what has come, until there are `most` bytes or the request can be looked at.
+    pub(crate) fn read(
+        &mut self,
+        stream: &mut TcpStream,
+        tools: &mut Tools,
+        most: usize,
+        permitted: bool,
+    ) -> Intake {
+        let mut has_come = false;
+        for _ in 0..MOST_READS {
+            if self.is_over() || self.is_ripe(permitted) || self.bytes.len() >= most {
+                break;
+            }
+            match self.read_piece(stream, tools, most) {
+                Moved::Bytes(_) => has_come = true,
+                Moved::Nothing => {
+                    return Intake {
+                        has_come,
+                        is_drained: true,
+                    };
+                }
+                Moved::End => self.has_ended = true,
+                Moved::Failed => self.has_failed = true,
+            }
+        }
+        Intake {
+            has_come,
+            is_drained: false,
+        }
+    }
+
+    /// Reads one piece, and looks at it. Want of memory for it counts as a failure, as it does of a call.
+    fn read_piece(&mut self, stream: &mut TcpStream, tools: &mut Tools, most: usize) -> Moved {
+        let room = most.saturating_sub(self.bytes.len()).min(tools.piece.len());
+        let moved = read_some(stream, &mut tools.piece[..room]);
+        if let Moved::Bytes(count) = moved {
+            tools.came = tools.came.saturating_add(count as u64);
+            let before = self.bytes.len();
+            let piece = tools.piece.get(..count).unwrap_or(&[]);
+            if self.bytes.extend_from_slice(piece).is_err() {
+                return Moved::Failed;
+            }
+            self.look(tools, before);
+        }
+        moved
+    }
+
+    /// Looks at the head, where a line of it ended behind the first `before` bytes or it is as long as it may be.
+    /// So it is looked at once a line, however slowly its bytes come.
+    pub(crate) fn look(&mut self, tools: &mut Tools, before: usize) {
+        if self.outline.is_some() || self.is_hopeless {
+            return;
+        }
+        let newly = self.bytes.get(before..).unwrap_or(&[]);
+        if !newly.contains(&b'\n') && self.bytes.len() < MAX_HEAD_BYTES {
+            return;
+        }
+        let end = self.bytes.len().min(MAX_HEAD_BYTES);
+        let head = self.bytes.get(..end).unwrap_or(&[]);
+        match request_extent(head, &mut tools.spans) {
+            Extent::Begun(outline) => self.outline = Some(outline),
+            Extent::Never => self.is_hopeless = true,
+            Extent::Open => self.is_hopeless = end >= MAX_HEAD_BYTES,
+        }
+    }
+
+    /// Whether the request can be looked at: it is whole, or its head asks for the permission to send the body, or
+    /// it has more than a request may have, or no head begins so.
+    pub(crate) fn is_ripe(&self, permitted: bool) -> bool {
+        match &self.outline {
+            Some(outline) => {
+                let body = outline.body.unwrap_or(0);
+                body > MAX_BODY_BYTES
+                    || (outline.expects && body > 0 && !permitted)
+                    || self.bytes.len() as u64 >= body.saturating_add(outline.head as u64)
+            }
+            None => self.is_hopeless || self.bytes.len() >= MOST_MESSAGE,
+        }
+    }
+
+    /// Whether `count` bytes are a whole request, and all that came, which is `bytes`.
+    pub(crate) fn is_all(&self, bytes: &[u8], count: u64) -> bool {
+        match &self.outline {
+            Some(outline) => {
+                let body = outline.body.unwrap_or(0);
+                !outline.coded
+                    && count == body.saturating_add(outline.head as u64)
+                    && count == bytes.len() as u64
+            }
+            None => false,
+        }
+    }
+
+    /// Lends what came, which is given back or taken.
+    pub(crate) fn lend(&mut self, tools: &Tools) -> Vec<u8> {
+        mem::replace(&mut self.bytes, Vec::new(tools.alloc))
+    }
+
+    /// Takes that many of these bytes, which are all that came, as a request, and looks at what follows them. False
+    /// where there is no memory for it.
+    pub(crate) fn take(&mut self, tools: &mut Tools, bytes: &[u8], count: usize) -> bool {
+        self.bytes = Vec::new(tools.alloc);
+        self.outline = None;
+        self.is_hopeless = false;
+        let rest = bytes.get(count..).unwrap_or(&[]);
+        let is_kept = self.bytes.extend_from_slice(rest).is_ok();
+        self.look(tools, 0);
+        is_kept
+    }
+}

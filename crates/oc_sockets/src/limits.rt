@@ -1,0 +1,84 @@
+//! The numbers of the sockets. No contract speaks of them. Times are in milliseconds.
+
+use oc_base::{MAX_BODY_BYTES, MAX_HEAD_BYTES};
+
+/// How many connections there may be, and besides them how many dials.
+pub(crate) const PLACES: usize = 1_024;
+
+pub(crate) const DIALS: usize = 32;
+
+/// The most bytes of a request: of its head and of its body.
+pub(crate) const MOST_MESSAGE: usize = MAX_HEAD_BYTES + MAX_BODY_BYTES as usize;
+
+/// A request is large once it has more than this many bytes, and this many large ones are read at once: so a
+/// thousand clients with long bodies don't take a gigabyte. The bytes of others wait in their sockets.
+pub(crate) const LARGE_BYTES: usize = 65_536;
+
+pub(crate) const MOST_LARGE: usize = 64;
+
+/// The most bytes that a connection was given and that did not go out.
+pub(crate) const MOST_UNSENT: usize = 524_288;
+
+/// The send buffer that the system is asked for. The system's own choice grows to several MB, which hide for
+/// minutes whether a slow reader takes anything.
+pub(crate) const SEND_BUFFER: i32 = 262_144;
+
+/// A reply of at most this many bytes has gone out for good once the socket took it: it fits what a peer takes
+/// before it acknowledges anything.
+pub(crate) const SHORT_REPLY: usize = 16_384;
+
+/// How much is read and dropped on a connection that ends, and for how long.
+pub(crate) const LINGER_BYTES: usize = 1_048_576;
+
+pub(crate) const LINGER_MILLIS: u64 = 2_000;
+
+/// Until a head is whole, from the beginning of a connection or from the end of its last reply.
+pub(crate) const HEAD_MILLIS: u64 = 10_000;
+
+/// For a body: without progress, and in all.
+pub(crate) const BODY_PAUSE_MILLIS: u64 = 10_000;
+
+pub(crate) const BODY_MILLIS: u64 = 300_000;
+
+/// For a reply, without progress.
+pub(crate) const REPLY_PAUSE_MILLIS: u64 = 120_000;
+
+/// For a dial: until it is connected, then without progress, until its reply begins, and in all. Between the last
+/// byte of its request and the first one of its reply no progress is asked for.
+pub(crate) const CONNECT_MILLIS: u64 = 2_000;
+
+pub(crate) const DIAL_PAUSE_MILLIS: u64 = 10_000;
+
+pub(crate) const BEGIN_MILLIS: u64 = 25_000;
+
+pub(crate) const DIAL_MILLIS: u64 = 300_000;
+
+/// For how long what was given is sent on behind the last turn of a run.
+pub(crate) const FINISH_MILLIS: u64 = 2_000;
+
+/// After how many milliseconds those whose time has run out are looked for again.
+pub(crate) const SWEEP_MILLIS: u64 = 100;
+
+/// For how long no connection is taken where the system had no more files and none could give way.
+pub(crate) const SHUT_MILLIS: u64 = 50;
+
+/// How many places are looked at before the system is asked again which sockets are ready. So no crowd of them
+/// keeps a new connection waiting.
+pub(crate) const MOST_IN_A_ROW: u32 = 16;
+
+/// How many connections are taken before those that are there are looked at again.
+pub(crate) const MOST_ACCEPTED: u32 = 64;
+
+/// How often one connection is read before others are looked at.
+pub(crate) const MOST_READS: u32 = 32;
+
+/// How often an interrupted call is made again at most, and a wait.
+pub(crate) const MOST_TRIES: u32 = 1_000_000;
+
+/// How many events one wait gives, and the length of the buffer into which sockets are read, in bytes.
+pub(crate) const EVENTS: usize = 512;
+
+pub(crate) const PIECE: usize = 65_536;
+
+/// How many fields there is room for: more than `MAX_HEAD_BYTES` hold, since each takes three bytes.
+pub(crate) const FIELD_ROOM: usize = 2_731;

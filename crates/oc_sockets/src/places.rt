@@ -1,0 +1,104 @@
+use crate::connection::{Claim, Connection};
+use crate::limits::PLACES;
+use std::alloc::{AllocError, Global};
+
+/// The connections, each at a place of its own: so one that is ready is found at once, however many others there
+/// are. The number of a connection names its place, and is never used again.
+#[derive(Drop)]
+pub(crate) struct Places {
+    slots: Vec<Option<Connection>>,
+    /// The places that are free.
+    free: Vec<usize>,
+    last_round: u64,
+}
+
+impl Places {
+    /// All places free.
+    pub(crate) fn new(alloc: Global) -> Result<Places, AllocError> {
+        let mut slots = Vec::with_capacity(alloc, PLACES)?;
+        let mut free = Vec::with_capacity(alloc, PLACES)?;
+        for place in 0..PLACES {
+            // There is room for each place.
+            let _kept = slots.push(None).is_ok();
+            let _noted = free.push(place).is_ok();
+        }
+        Ok(Places {
+            slots,
+            free,
+            last_round: 0,
+        })
+    }
+
+    pub(crate) fn are_full(&self) -> bool {
+        self.free.is_empty()
+    }
+
+    /// Whether there is no connection.
+    pub(crate) fn are_empty(&self) -> bool {
+        self.free.len() >= PLACES
+    }
+
+    /// A free place, which is taken from now on, and the number of the connection that comes to it.
+    pub(crate) fn reserve(&mut self) -> Option<(usize, u64)> {
+        let place = self.free.pop()?;
+        self.last_round = self.last_round.saturating_add(1);
+        let id = self
+            .last_round
+            .saturating_mul(PLACES as u64)
+            .saturating_add(place as u64);
+        Some((place, id))
+    }
+
+    /// Puts a connection at a place that is reserved for it.
+    pub(crate) fn put(&mut self, place: usize, connection: Connection) {
+        if let Some(slot) = self.slots.get_mut(place) {
+            *slot = Some(connection);
+        }
+    }
+
+    /// The place of the connection of this number, as long as it is there.
+    pub(crate) fn place_of(&self, id: u64) -> Option<usize> {
+        let place = (id % PLACES as u64) as usize;
+        let connection = self.get(place)?;
+        (connection.id == id).then_some(place)
+    }
+
+    pub(crate) fn get(&self, place: usize) -> Option<&Connection> {
+        self.slots.get(place)?.as_ref()
+    }
+
+    pub(crate) fn get_mut(&mut self, place: usize) -> Option<&mut Connection> {
+        self.slots.get_mut(place)?.as_mut()
+    }
+
+    /// Takes the connection out of its place, which is free from now on.
+    pub(crate) fn remove(&mut self, place: usize) -> Option<Connection> {
+        let connection = self.slots.get_mut(place)?.take()?;
+        // There is room for each place.
+        let _noted = self.free.push(place).is_ok();
+        Some(connection)
+    }
+
+    /// The place of the connection that gives way first, if one may be asked to.
+    pub(crate) fn first_to_yield(&self) -> Option<usize> {
+        let mut first: Option<(usize, Claim)> = None;
+        for place in 0..self.slots.len() {
+            let Some(claim) = self.claim_at(place) else {
+                continue;
+            };
+            let is_first = match &first {
+                Some((_, least)) => claim < *least,
+                None => true,
+            };
+            if is_first {
+                first = Some((place, claim));
+            }
+        }
+        let (place, _) = first?;
+        Some(place)
+    }
+
+    fn claim_at(&self, place: usize) -> Option<Claim> {
+        self.get(place)?.claim()
+    }
+}

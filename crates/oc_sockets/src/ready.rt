@@ -1,0 +1,73 @@
+use crate::limits::EVENTS;
+use mio::event::Event;
+use mio::{Events, Poll, Registry};
+use std::alloc::Global;
+use std::io;
+use std::net::{Net, TcpStream};
+use std::time::Duration;
+
+/// A socket that the last wait found ready, by its token, and for what.
+#[derive(Clone, Copy)]
+pub(crate) struct Woken {
+    pub(crate) token: usize,
+    pub(crate) is_readable: bool,
+    pub(crate) is_writable: bool,
+    pub(crate) has_failed: bool,
+}
+
+impl Woken {
+    fn of(event: &Event) -> Woken {
+        let has_failed = event.is_error();
+        Woken {
+            token: event.token().0,
+            is_readable: has_failed || event.is_readable() || event.is_read_closed(),
+            is_writable: has_failed || event.is_writable() || event.is_write_closed(),
+            has_failed,
+        }
+    }
+}
+
+/// What tells which sockets are ready. The system tells of each once, as it becomes so.
+#[derive(Drop)]
+pub(crate) struct Ready {
+    poll: Poll,
+    events: Events,
+    woken: Vec<Woken>,
+}
+
+impl Ready {
+    /// No socket is looked at so far.
+    pub(crate) fn new<R: Net<Stream = TcpStream>>(rt: &R, alloc: Global) -> io::Result<Ready> {
+        Ok(Ready {
+            poll: Poll::new(rt)?,
+            events: Events::with_capacity(alloc, EVENTS)?,
+            woken: Vec::with_capacity(alloc, EVENTS)?,
+        })
+    }
+
+    /// Where sockets that are to be looked at are registered.
+    pub(crate) fn registry(&self) -> &Registry {
+        self.poll.registry()
+    }
+
+    /// Waits until something is ready or `millis` milliseconds are over. A signal ends a wait with nothing.
+    pub(crate) fn wait(&mut self, millis: u64) -> io::Result<()> {
+        self.poll
+            .poll(&mut self.events, Some(Duration::from_millis(millis)))?;
+        self.woken.clear();
+        for event in self.events.iter() {
+            // There is room for as many as one wait gives.
+            let _noted = self.woken.push(Woken::of(event)).is_ok();
+        }
+        Ok(())
+    }
+
+    /// How many the last wait found ready, and each of them.
+    pub(crate) fn len(&self) -> usize {
+        self.woken.len()
+    }
+
+    pub(crate) fn woken(&self, at: usize) -> Option<Woken> {
+        self.woken.get(at).copied()
+    }
+}

@@ -1,0 +1,282 @@
+mod accepting;
+mod calls;
+mod dialling;
+mod looking;
+
+use crate::dial::Dial;
+use crate::limits::{
+    DIALS, MOST_IN_A_ROW, MOST_LARGE, MOST_TRIES, PLACES, SHUT_MILLIS, SWEEP_MILLIS,
+};
+use crate::places::Places;
+use crate::ready::Ready;
+use crate::send_buffer::shorten_send_buffers;
+use crate::times::Watch;
+use crate::tools::Tools;
+use crate::turns::Turns;
+use mio::net::TcpListener;
+use mio::{Interest, Registry, Token};
+use oc_events::{ConnectionId, Event, Loss};
+use std::alloc::Global;
+use std::collections::VecDeque;
+use std::io::{self, ErrorKind};
+use std::net::{Net, SocketAddr, TcpStream, ToSocketAddrs};
+use std::rt::Clock;
+
+/// The token of the listener. That of a connection is its place, and dials follow.
+const LISTENER: usize = PLACES + DIALS;
+
+/// One thing that happened, and what it lends.
+#[derive(Drop)]
+pub(crate) struct Happened {
+    pub(crate) event: Event,
+    pub(crate) bytes: Vec<u8>,
+}
+
+/// A connection that was dropped before its reply had gone out.
+#[derive(Clone, Copy)]
+struct Lost {
+    connection: ConnectionId,
+    loss: Loss,
+}
+
+/// The sockets of a running node: those of the connections that came in, those of its dials, and the one that
+/// listens. One wait serves them all.
+///
+/// Each place at which something may be done stands once in one queue, and is looked at in its turn: what can be
+/// done is done, and where something is to be told, it is. So no connection is served twice while another waits.
+#[derive(Drop)]
+pub(crate) struct Sockets {
+    ready: Ready,
+    listener: TcpListener,
+    /// Whether a connection may wait to be taken, and until when none is.
+    knocks: bool,
+    shut_until: u64,
+    /// A descriptor that is given up where the system has no more of them.
+    spare: Option<Registry>,
+    places: Places,
+    dials: Vec<Option<Dial>>,
+    turns: Turns,
+    /// The places of those that wait for one of the places for large requests, and how many of these are taken.
+    held: Turns,
+    large: usize,
+    gone: VecDeque<Lost>,
+    tools: Tools,
+    /// How many places were looked at since the sockets were waited for.
+    in_a_row: u32,
+    /// When those whose time has run out are looked for next.
+    sweep_at: u64,
+}
+
+impl Sockets {
+    /// Waits for connections at that address from now on.
+    pub(crate) fn listen<R: Net<Stream = TcpStream>>(
+        rt: &R,
+        alloc: Global,
+        address: &str,
+    ) -> io::Result<Sockets> {
+        let ready = Ready::new(rt, alloc)?;
+        let mut listener = bound(rt, address)?;
+        shorten_send_buffers(&listener);
+        ready
+            .registry()
+            .register(&mut listener, Token(LISTENER), Interest::READABLE)?;
+        let spare = ready.registry().try_clone()?;
+        let mut dials = Vec::with_capacity(alloc, DIALS)?;
+        for _ in 0..DIALS {
+            dials.push(None)?;
+        }
+        Ok(Sockets {
+            ready,
+            listener,
+            knocks: true,
+            shut_until: 0,
+            spare: Some(spare),
+            places: Places::new(alloc)?,
+            dials,
+            turns: Turns::new(alloc, PLACES + DIALS)?,
+            held: Turns::new(alloc, PLACES)?,
+            large: 0,
+            gone: VecDeque::with_capacity(alloc, PLACES)?,
+            tools: Tools::new(alloc)?,
+            in_a_row: 0,
+            sweep_at: 0,
+        })
+    }
+
+    /// How many bytes came and went so far, over all connections and dials.
+    pub(crate) fn traffic(&self) -> (u64, u64) {
+        (self.tools.came, self.tools.went)
+    }
+
+    /// One thing that happened, by the time the wait is over.
+    pub(crate) fn next<R: Net<Stream = TcpStream> + Clock>(
+        &mut self,
+        rt: &R,
+        watch: &mut Watch,
+        wait: u64,
+    ) -> io::Result<Happened> {
+        let mut now = watch.millis(rt);
+        let until = now.saturating_add(wait);
+        let mut looked = 0usize;
+        for _ in 0..MOST_TRIES {
+            if self.turns.is_empty() || self.in_a_row >= MOST_IN_A_ROW {
+                now = self.pump(rt, watch, until.saturating_sub(now))?;
+            }
+            if let Some(happened) = self.look(rt, now) {
+                return Ok(happened);
+            }
+            looked = looked.saturating_add(1);
+            if now >= until && (self.turns.is_empty() || looked >= PLACES) {
+                break;
+            }
+        }
+        Ok(self.with_nothing(Event::Quiet))
+    }
+
+    /// An event that lends nothing.
+    fn with_nothing(&self, event: Event) -> Happened {
+        Happened {
+            event,
+            bytes: Vec::new(self.tools.alloc),
+        }
+    }
+
+    /// Waits until something is ready, and no longer than that; then notes what is ready, takes connections, and
+    /// looks for those whose time has run out. Answers the time then.
+    fn pump<R: Clock>(&mut self, rt: &R, watch: &mut Watch, longest: u64) -> io::Result<u64> {
+        self.in_a_row = 0;
+        let patience = self.patience(longest);
+        self.ready.wait(patience)?;
+        let now = watch.millis(rt);
+        self.note_woken();
+        self.accept(now);
+        if now >= self.sweep_at {
+            self.sweep_at = now.saturating_add(SWEEP_MILLIS);
+            self.sweep(now);
+        }
+        Ok(now)
+    }
+
+    /// How long the sockets are waited for: not at all where something can be done, and else until the next look
+    /// for those whose time has run out.
+    fn patience(&self, longest: u64) -> u64 {
+        if !self.turns.is_empty() || !self.gone.is_empty() {
+            return 0;
+        }
+        if self.knocks {
+            return if self.shut_until == 0 {
+                0
+            } else {
+                longest.min(SHUT_MILLIS)
+            };
+        }
+        longest.min(SWEEP_MILLIS)
+    }
+
+    /// Notes what the last wait found ready.
+    fn note_woken(&mut self) {
+        for at in 0..self.ready.len() {
+            let Some(woken) = self.ready.woken(at) else {
+                return;
+            };
+            if woken.token == LISTENER {
+                self.knocks = true;
+            } else if let Some(connection) = self.places.get_mut(woken.token) {
+                connection.is_readable = connection.is_readable || woken.is_readable;
+                connection.is_writable = connection.is_writable || woken.is_writable;
+                if woken.has_failed {
+                    connection.note_failure();
+                }
+                self.turns.push(woken.token);
+            } else if let Some(dial) = dial_at(&mut self.dials, woken.token) {
+                dial.is_readable = dial.is_readable || woken.is_readable;
+                dial.is_writable = dial.is_writable || woken.is_writable;
+                self.turns.push(woken.token);
+            }
+        }
+    }
+
+    /// Looks for those whose time has run out. They are looked at in their turn.
+    fn sweep(&mut self, now: u64) {
+        for place in 0..PLACES {
+            if let Some(connection) = self.places.get_mut(place) {
+                if connection.expire(now) {
+                    self.turns.push(place);
+                }
+            }
+        }
+        // One that waited may be gone meanwhile, so a free place may not have been taken.
+        for _ in self.large..MOST_LARGE {
+            if let Some(place) = self.held.pop() {
+                self.turns.push(place);
+            }
+        }
+        for place in PLACES..LISTENER {
+            if let Some(dial) = dial_at(&mut self.dials, place) {
+                if dial.expire(now) {
+                    self.turns.push(place);
+                }
+            }
+        }
+    }
+
+    /// Sends on what was given, until all of it has gone out and its peers have ended, and at the latest until then.
+    pub(crate) fn send_rest<R: Net<Stream = TcpStream> + Clock>(
+        &mut self,
+        rt: &R,
+        watch: &mut Watch,
+        time: u64,
+    ) {
+        let mut now = watch.millis(rt);
+        let until = now.saturating_add(time);
+        self.leave();
+        for _ in 0..MOST_TRIES {
+            if !self.is_leaving() || now >= until {
+                return;
+            }
+            match self.pump(rt, watch, until.saturating_sub(now)) {
+                Ok(time) => now = time,
+                Err(_) => return,
+            }
+            for _ in 0..PLACES {
+                let _told = self.look(rt, now).is_some();
+            }
+            self.leave();
+        }
+    }
+
+    /// Drops all connections but those that have to send, or to be read out.
+    fn leave(&mut self) {
+        for place in 0..PLACES {
+            let is_done = match self.places.get(place) {
+                Some(connection) => !connection.is_leaving(),
+                None => false,
+            };
+            if is_done {
+                self.drop_at(place);
+            }
+        }
+    }
+
+    fn is_leaving(&self) -> bool {
+        !self.places.are_empty()
+    }
+}
+
+/// The dial at this place, which follows those of the connections.
+fn dial_at(dials: &mut [Option<Dial>], place: usize) -> Option<&mut Dial> {
+    dials.get_mut(place.checked_sub(PLACES)?)?.as_mut()
+}
+
+/// A listener at the first address that can be bound.
+fn bound<R: Net<Stream = TcpStream>>(rt: &R, address: &str) -> io::Result<TcpListener> {
+    let mut last = io::Error::from(ErrorKind::AddrNotAvailable);
+    for each in address.to_socket_addrs(rt)? {
+        let each: SocketAddr = each;
+        match TcpListener::bind(rt, each) {
+            Ok(listener) => return Ok(listener),
+            Err(error) => last = error,
+        }
+    }
+    Err(last)
+}

@@ -1,0 +1,134 @@
+//! How connections are taken, and which of them give way.
+
+use super::{Lost, Sockets};
+use crate::connection::Connection;
+use crate::limits::{MOST_ACCEPTED, PLACES, SHUT_MILLIS};
+use libc::EMFILE;
+use mio::net::TcpStream as Stream;
+use oc_events::{ConnectionId, Loss};
+use std::io::{self, ErrorKind};
+
+/// The system as a whole has no more files, by POSIX.
+const ENFILE: i32 = 23;
+
+impl Sockets {
+    /// Takes the connections that wait.
+    ///
+    /// Where the system has no more descriptors, it says so even where no connection waits, so a connection that
+    /// gave way for that may have done so for nothing. Therefore a spare descriptor is given up first: then it
+    /// is known whether one waits, and only after it was taken one gives way, for the next spare one.
+    pub(super) fn accept(&mut self, now: u64) {
+        if now < self.shut_until {
+            return;
+        }
+        self.shut_until = 0;
+        for _ in 0..MOST_ACCEPTED {
+            // Room for those that give way, which are told one by one.
+            if !self.knocks || self.gone.len() >= PLACES {
+                return;
+            }
+            match self.listener.accept() {
+                Ok((stream, _)) => {
+                    self.welcome(stream, now);
+                    self.restore_spare();
+                }
+                Err(error) if is_out_of_files(&error) => {
+                    if self.spare.take().is_none() && !self.give_way() {
+                        self.shut(now);
+                        return;
+                    }
+                }
+                Err(error) => match error.kind() {
+                    ErrorKind::WouldBlock => {
+                        self.knocks = false;
+                        self.restore_spare();
+                    }
+                    ErrorKind::OutOfMemory => {
+                        self.shut(now);
+                        return;
+                    }
+                    // The connection that waited is over, or the call was interrupted: the next one is taken.
+                    _ => {}
+                },
+            }
+        }
+    }
+
+    /// No connection is taken for a while. Nothing else tells when one could be again.
+    fn shut(&mut self, now: u64) {
+        self.shut_until = now.saturating_add(SHUT_MILLIS);
+    }
+
+    /// Takes a descriptor to spare, where there is none. A connection gives way for it.
+    fn restore_spare(&mut self) {
+        if self.spare.is_some() {
+            return;
+        }
+        self.spare = self.ready.registry().try_clone().ok();
+        if self.spare.is_none() && self.give_way() {
+            self.spare = self.ready.registry().try_clone().ok();
+        }
+    }
+
+    /// Keeps a new connection. Where all places are taken, another one gives way; where none may be asked to, since
+    /// the requests of all have come, the new one is dropped.
+    fn welcome(&mut self, stream: Stream, now: u64) {
+        if self.places.are_full() && !self.give_way() {
+            return;
+        }
+        let Some((place, id)) = self.places.reserve() else {
+            return;
+        };
+        let connection = Connection::new(stream, self.tools.alloc, id, now);
+        self.places.put(place, connection);
+        self.turns.push(place);
+    }
+
+    /// Drops the connection that is to give way first; false where none may be asked to.
+    pub(super) fn give_way(&mut self) -> bool {
+        match self.places.first_to_yield() {
+            Some(place) => {
+                self.lose(place, Loss::GaveWay);
+                true
+            }
+            None => false,
+        }
+    }
+
+    /// Drops the connection at this place; where its reply was under way, that is told.
+    pub(super) fn lose(&mut self, place: usize, loss: Loss) {
+        if let Some(connection) = self.places.get(place) {
+            if connection.is_missed() {
+                let lost = Lost {
+                    connection: ConnectionId(connection.id),
+                    loss,
+                };
+                // There is room: no more are taken where as many wait to be told as there are places.
+                let _noted = self.gone.push_back(lost).is_ok();
+            }
+        }
+        self.drop_at(place);
+    }
+
+    /// Drops the connection at this place.
+    pub(super) fn drop_at(&mut self, place: usize) {
+        if let Some(connection) = self.places.remove(place) {
+            if connection.is_large {
+                self.free_large();
+            }
+        }
+    }
+
+    /// One of the places for large requests is free again: who waits for one goes on.
+    pub(super) fn free_large(&mut self) {
+        self.large = self.large.saturating_sub(1);
+        if let Some(place) = self.held.pop() {
+            self.turns.push(place);
+        }
+    }
+}
+
+/// Whether the system, or what it allows this program, has no more descriptors.
+pub(super) fn is_out_of_files(error: &io::Error) -> bool {
+    matches!(error.raw_os_error(), Some(EMFILE | ENFILE))
+}

@@ -1,0 +1,88 @@
+//! What is done to a connection from above.
+
+use super::Sockets;
+use crate::connection::Stage;
+use crate::limits::LARGE_BYTES;
+use oc_events::{ConnectionId, Ending};
+
+impl Sockets {
+    /// What came on a connection, which is given back or taken.
+    pub(crate) fn lend(&mut self, connection: ConnectionId) -> Vec<u8> {
+        if let Some(place) = self.places.place_of(connection.0) {
+            if let Some(lender) = self.places.get_mut(place) {
+                return lender.incoming.lend(&self.tools);
+            }
+        }
+        Vec::new(self.tools.alloc)
+    }
+
+    /// Gives back what was lent and not taken.
+    pub(crate) fn give_back(&mut self, connection: ConnectionId, bytes: Vec<u8>) {
+        let Some(place) = self.places.place_of(connection.0) else {
+            return;
+        };
+        if let Some(lender) = self.places.get_mut(place) {
+            lender.incoming.bytes = bytes;
+            self.turns.push(place);
+        }
+    }
+
+    /// Takes that many of the bytes that came on a connection.
+    pub(crate) fn take(&mut self, connection: ConnectionId, bytes: &[u8], count: u64, now: u64) {
+        let Some(place) = self.places.place_of(connection.0) else {
+            return;
+        };
+        let Some(taker) = self.places.get_mut(place) else {
+            return;
+        };
+        taker.take(&mut self.tools, bytes, count, now);
+        let is_smaller = taker.is_large && taker.incoming.len() <= LARGE_BYTES;
+        taker.is_large = taker.is_large && !is_smaller;
+        self.turns.push(place);
+        if is_smaller {
+            self.free_large();
+        }
+    }
+
+    /// Gives a connection bytes to send.
+    pub(crate) fn give(&mut self, connection: ConnectionId, bytes: &[u8], now: u64) {
+        let Some(place) = self.places.place_of(connection.0) else {
+            return;
+        };
+        if let Some(taker) = self.places.get_mut(place) {
+            taker.give(&mut self.tools, bytes, now);
+            self.turns.push(place);
+        }
+    }
+
+    /// The reply of a connection was given whole. One that was lost meanwhile is told only where that is asked for.
+    pub(crate) fn finish_reply(&mut self, connection: ConnectionId, ending: Ending, now: u64) {
+        let Some(place) = self.places.place_of(connection.0) else {
+            if !ending.watched {
+                self.forget(connection);
+            }
+            return;
+        };
+        if let Some(finished) = self.places.get_mut(place) {
+            finished.finish(ending, now);
+            if finished.stage == Stage::Over {
+                self.drop_at(place);
+            } else {
+                self.turns.push(place);
+            }
+        }
+    }
+
+    /// Ends a connection at once.
+    pub(crate) fn break_off(&mut self, connection: ConnectionId) {
+        match self.places.place_of(connection.0) {
+            Some(place) => self.drop_at(place),
+            None => self.forget(connection),
+        }
+    }
+
+    /// That a connection was lost is not to be told.
+    fn forget(&mut self, connection: ConnectionId) {
+        self.gone.retain(|lost| lost.connection != connection);
+    }
+}

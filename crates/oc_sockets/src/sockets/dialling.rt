@@ -1,0 +1,121 @@
+//! The dials of a node.
+
+use super::accepting::is_out_of_files;
+use super::{Happened, Sockets, dial_at};
+use crate::dial::{Dial, Stage};
+use crate::limits::PLACES;
+use mio::net::TcpStream as Stream;
+use mio::{Interest, Token};
+use oc_events::{DialId, Event};
+use std::io;
+use std::net::{Net, SocketAddr, TcpStream};
+
+/// How many addresses of one name are tried at most.
+const MOST_ADDRESSES: usize = 16;
+
+impl Sockets {
+    /// Begins a dial to the first of these addresses that takes it; false where there is no place for it.
+    pub(crate) fn dial<R: Net<Stream = TcpStream>>(
+        &mut self,
+        rt: &R,
+        id: DialId,
+        addresses: Vec<SocketAddr>,
+        bytes: &[u8],
+        now: u64,
+    ) -> bool {
+        let Some(slot) = self.dials.iter().position(|dial| dial.is_none()) else {
+            return false;
+        };
+        let dial = Dial::new(&self.tools, id, addresses, bytes, now);
+        if let Some(place) = self.dials.get_mut(slot) {
+            *place = Some(dial);
+        }
+        let place = PLACES.saturating_add(slot);
+        self.connect(rt, place);
+        self.turns.push(place);
+        true
+    }
+
+    /// Begins to connect a dial to the next of its addresses, and fails it where there is no further one.
+    fn connect<R: Net<Stream = TcpStream>>(&mut self, rt: &R, place: usize) {
+        for _ in 0..MOST_ADDRESSES {
+            let address = match dial_at(&mut self.dials, place) {
+                Some(dial) if dial.stage == Stage::Refused => dial.next_address(),
+                _ => return,
+            };
+            let Some(address) = address else {
+                break;
+            };
+            if let Ok(stream) = self.stream_to(rt, address) {
+                self.watch_dial(place, stream);
+            }
+        }
+        if let Some(dial) = dial_at(&mut self.dials, place) {
+            if dial.stage == Stage::Refused {
+                dial.fail();
+            }
+        }
+    }
+
+    /// A socket that is being connected. Where the system has no more files, a connection gives way: a node that
+    /// can't dial loses its place in the tree, while a client comes again.
+    fn stream_to<R: Net<Stream = TcpStream>>(
+        &mut self,
+        rt: &R,
+        address: SocketAddr,
+    ) -> io::Result<Stream> {
+        match Stream::connect(rt, address) {
+            Err(error) if is_out_of_files(&error) && self.give_way() => {
+                Stream::connect(rt, address)
+            }
+            made => made,
+        }
+    }
+
+    /// Has the system tell when this socket of a dial is ready.
+    fn watch_dial(&mut self, place: usize, stream: Stream) {
+        let Some(dial) = dial_at(&mut self.dials, place) else {
+            return;
+        };
+        dial.begin(stream);
+        let both = Interest::READABLE | Interest::WRITABLE;
+        let is_watched = match dial.stream_mut() {
+            Some(stream) => self
+                .ready
+                .registry()
+                .register(stream, Token(place), both)
+                .is_ok(),
+            None => false,
+        };
+        if !is_watched {
+            dial.fail();
+        }
+    }
+
+    /// Does what can be done on the dial at this place, and tells its reply once it is over.
+    pub(super) fn look_at_dial<R: Net<Stream = TcpStream>>(
+        &mut self,
+        rt: &R,
+        place: usize,
+        now: u64,
+    ) -> Option<Happened> {
+        let dial = dial_at(&mut self.dials, place)?;
+        dial.advance(&mut self.tools, now);
+        if dial.stage == Stage::Refused {
+            self.connect(rt, place);
+        }
+        let dial = dial_at(&mut self.dials, place)?;
+        if dial.is_busy() {
+            self.turns.push(place);
+        }
+        if dial.stage != Stage::Over {
+            return None;
+        }
+        let (coming, bytes) = dial.outcome(&self.tools);
+        let event = Event::Reply(dial.id, coming);
+        if let Some(slot) = self.dials.get_mut(place.saturating_sub(PLACES)) {
+            *slot = None;
+        }
+        Some(Happened { event, bytes })
+    }
+}

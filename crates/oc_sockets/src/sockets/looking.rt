@@ -1,0 +1,76 @@
+//! What is done at one place, in its turn.
+
+use super::{Happened, Sockets};
+use crate::connection::Fate;
+use crate::limits::{LARGE_BYTES, MOST_LARGE, MOST_MESSAGE, PLACES};
+use oc_events::{Event, Loss};
+use std::net::{Net, TcpStream};
+
+impl Sockets {
+    /// Looks at one place, and tells what happened there, if anything did. Those that were dropped are told first:
+    /// each is told once.
+    pub(super) fn look<R: Net<Stream = TcpStream>>(
+        &mut self,
+        rt: &R,
+        now: u64,
+    ) -> Option<Happened> {
+        if let Some(lost) = self.gone.pop_front() {
+            return Some(self.with_nothing(Event::Gone(lost.connection, lost.loss)));
+        }
+        let place = self.turns.pop()?;
+        self.in_a_row = self.in_a_row.saturating_add(1);
+        if place < PLACES {
+            self.look_at(place, now)
+        } else {
+            self.look_at_dial(rt, place, now)
+        }
+    }
+
+    /// Does what can be done on the connection at this place, and tells what happened on it, if anything did.
+    fn look_at(&mut self, place: usize, now: u64) -> Option<Happened> {
+        let connection = self.places.get_mut(place)?;
+        if connection.is_left() {
+            self.drop_at(place);
+            return None;
+        }
+        let most = if connection.is_large || self.large < MOST_LARGE {
+            MOST_MESSAGE
+        } else {
+            LARGE_BYTES
+        };
+        connection.advance(&mut self.tools, now, most);
+        if connection.incoming.len() > LARGE_BYTES && !connection.is_large {
+            connection.is_large = true;
+            self.large = self.large.saturating_add(1);
+        }
+        match connection.fate() {
+            Fate::Stays => self.leave_at(place, most),
+            Fate::Lost => self.lose(place, Loss::Failed),
+            Fate::Over => self.drop_at(place),
+            Fate::Tells(event) => {
+                connection.note_told();
+                if let Event::Request(_) = event {
+                    let bytes = connection.incoming.lend(&self.tools);
+                    return Some(Happened { event, bytes });
+                }
+                return Some(self.with_nothing(event));
+            }
+        }
+        // One that was dropped is told at the next look.
+        None
+    }
+
+    /// Nothing more can be done at this place now: the system is asked to tell when something can.
+    fn leave_at(&mut self, place: usize, most: usize) {
+        let Some(connection) = self.places.get_mut(place) else {
+            return;
+        };
+        if connection.is_held() {
+            self.held.push(place);
+        }
+        connection.register(self.ready.registry(), place);
+        if connection.is_busy(most) || connection.incoming.has_failed {
+            self.turns.push(place);
+        }
+    }
+}

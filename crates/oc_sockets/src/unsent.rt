@@ -1,0 +1,72 @@
+use crate::socket::{Moved, write_some};
+use crate::tools::Tools;
+use mio::net::TcpStream;
+use std::alloc::Global;
+
+/// What a connection was given and its socket has not taken.
+///
+/// The buffer is given back whenever it is empty, so only those that wait for their peer hold memory.
+#[derive(Drop)]
+pub(crate) struct Unsent {
+    bytes: Vec<u8>,
+    sent: usize,
+}
+
+impl Unsent {
+    pub(crate) fn new(alloc: Global) -> Unsent {
+        Unsent {
+            bytes: Vec::new(alloc),
+            sent: 0,
+        }
+    }
+
+    /// How many bytes there are.
+    pub(crate) fn len(&self) -> usize {
+        self.bytes.len().saturating_sub(self.sent)
+    }
+
+    pub(crate) fn is_empty(&self) -> bool {
+        self.len() == 0
+    }
+
+    /// Has these bytes go out behind the others; false where there is no memory for them. What was sent is dropped
+    /// first, so that the buffer is not longer than what is to go out.
+    pub(crate) fn put(&mut self, tools: &Tools, bytes: &[u8]) -> bool {
+        if self.sent == 0 {
+            return self.bytes.extend_from_slice(bytes).is_ok();
+        }
+        let mut rest = Vec::new(tools.alloc);
+        let left = self.bytes.get(self.sent..).unwrap_or(&[]);
+        if rest.extend_from_slice(left).is_err() || rest.extend_from_slice(bytes).is_err() {
+            return false;
+        }
+        self.bytes = rest;
+        self.sent = 0;
+        true
+    }
+
+    /// Sends what the socket takes now, and says what the last call did: `Bytes` where all went out.
+    pub(crate) fn send(&mut self, stream: &mut TcpStream, tools: &mut Tools) -> Moved {
+        let mut moved = Moved::Nothing;
+        for _ in 0..self.bytes.len() {
+            if self.is_empty() {
+                break;
+            }
+            let rest = self.bytes.get(self.sent..).unwrap_or(&[]);
+            moved = write_some(stream, rest);
+            let Moved::Bytes(count) = moved else {
+                return moved;
+            };
+            self.sent = self.sent.saturating_add(count);
+            tools.went = tools.went.saturating_add(count as u64);
+        }
+        self.clear(tools);
+        moved
+    }
+
+    /// Drops what there is.
+    pub(crate) fn clear(&mut self, tools: &Tools) {
+        self.bytes = Vec::new(tools.alloc);
+        self.sent = 0;
+    }
+}

@@ -133,9 +133,10 @@ impl<R: Net<Stream = TcpStream> + Clock> Link for SocketLink<'_, R> {
         match self.happened(wait) {
             Ok(happened) => {
                 let event = happened.event;
-                let lender = lender_of(event);
+                let counted = happened.event;
+                let lender = lender_of(&event);
                 let waited = self.watch.millis(self.rt).saturating_sub(begun).min(wait);
-                self.counts = counts.with_event(event, waited);
+                self.counts = counts.with_event(counted, waited);
                 self.lender = lender;
                 self.lent = happened.bytes;
                 Ok(event)
@@ -209,7 +210,7 @@ impl<R: Net<Stream = TcpStream> + Clock> Link for SocketLink<'_, R> {
 }
 
 /// Whose bytes an event lends.
-fn lender_of(event: Event) -> Option<ConnectionId> {
+fn lender_of(event: &Event) -> Option<ConnectionId> {
     match event {
         Event::Request(arrival) => Some(arrival.connection),
         _ => None,

@@ -1,0 +1,2 @@
+pub mod MadeReady
+pub mod Unheld

@@ -1,0 +1,73 @@
+//! Laws of the definitions.
+
+ghost use Rattle.std.specs.Prelude.{◌≡◌, ◌≢◌, ◌↔◌, ℕ, ◌+◌, ◌-◌, ◌<◌, ◌≤◌, Bool, false, true, List, ◌++◌, Some, length};
+ghost use Rattle.oc_base.specs.Groups.{bytes_of};
+ghost use Rattle.oc_base.specs.declared.group.Group.{Group};
+ghost use Rattle.oc_base.specs.declared.shelf.Shelf.{Shelf};
+ghost use Rattle.oc_reply.specs.Contents.{FitsIn, begun, behind, coded, owed, owed_of, part_of, piece_of, piece_text};
+ghost use Rattle.oc_reply.specs.Examples.{AreHinted, AreJudged, ArePieces, AreShown, AreWaiting};
+ghost use Rattle.oc_reply.specs.Stillness.{HasNothingNew, IsEarly};
+ghost use Rattle.oc_reply.specs.Verdicts.{IsVerdict, NodeTerms, arrival};
+ghost use Rattle.oc_reply.specs.Shown.{here_answer};
+ghost use Rattle.oc_reply.specs.Waits.{gives_nothing, holding, is_due, prospect};
+ghost use Rattle.oc_reply.specs.declared.arrival.Arrival.{Arrival};
+ghost use Rattle.oc_reply.specs.declared.arrival.Coming.{Coming};
+ghost use Rattle.oc_reply.specs.declared.arrival.Coming.TheVariants.{Open};
+ghost use Rattle.oc_reply.specs.declared.content.UnderWay.{UnderWay};
+ghost use Rattle.oc_reply.specs.declared.hint.Hint.{Hint};
+ghost use Rattle.oc_reply.specs.declared.holding.Holding.{Holding};
+ghost use Rattle.oc_reply.specs.declared.verdict.Verdict.{Verdict};
+ghost use Rattle.oc_reply.specs.declared.verdict.Verdict.TheVariants.{Wait};
+ghost use Rattle.oc_reply.specs.declared.waiting.Follower.{Follower};
+ghost use Rattle.oc_reply.specs.declared.waiting.Prospect.TheVariants.{Gives, Waits};
+ghost use Rattle.oc_reply.specs.declared.waiting.TheConstants.{IDLE_MILLIS};
+ghost use Rattle.oc_routes.specs.declared.response.GroupRange.{GroupRange};
+
+/// The same bytes of a request get the same verdict, however they are cut: there is one verdict, and what is
+/// said of them while more may come, and is not to wait, is said with any bytes behind them, however these end.
+pub fn a_request_has_one_verdict()
+    ensures one { (t : NodeTerms) (a : Arrival) (bytes : List ℕ) (v w : Verdict) → IsVerdict t a bytes v → IsVerdict t a bytes w → v ≡ w }
+    ensures cut { (t : NodeTerms) (number : ℕ) (permitted : Bool) (coming : Coming) (bytes more : List ℕ) (v : Verdict)
+        → IsVerdict t (arrival number permitted Open) bytes v → v ≢ Wait → IsVerdict t (arrival number permitted coming) (bytes ++ more) v }
+{}
+
+/// The pieces of a content are its text: what is owed before the first is the content as it is sent whole, what is
+/// owed before each is its text and what is owed behind it, and what is owed stays what it is while the group grows.
+pub fn pieces_are_the_content()
+    ensures begun { (group : List ℕ) (content : GroupRange) (groups : List Group)
+        → owed (Some (begun group content)) groups ≡ coded content.chunked (part_of group content.start content.count groups) }
+    ensures piece { (u : UnderWay) (groups : List Group) → FitsIn u groups
+        → owed (Some u) groups ≡ piece_text u (piece_of u groups) ++ owed (behind u (length (piece_of u groups))) groups }
+    ensures stays { (u : UnderWay) (old new : List Group) (more : List ℕ) → FitsIn u old → bytes_of u.group new ≡ bytes_of u.group old ++ more
+        → owed (Some u) new ≡ owed (Some u) old }
+{}
+
+/// The pieces of a content whose end is told, and which its group may not have yet: they follow one another in the
+/// group, from the start on, and what was given stays a part of the group while it grows.
+pub fn pieces_follow_one_another()
+    ensures follows { (u : UnderWay) (groups : List Group) (start : ℕ) → start ≤ u.at
+        → part_of u.group start (u.at - start) groups ++ piece_of u groups ≡ part_of u.group start ((u.at + length (piece_of u groups)) - start) groups }
+    ensures stays { (group : List ℕ) (start at : ℕ) (old new : List Group) (more : List ℕ) → at ≤ length (bytes_of group old)
+        → bytes_of group new ≡ bytes_of group old ++ more → part_of group start (at - start) new ≡ part_of group start (at - start) old }
+{}
+
+/// A content under way waits exactly where its group has nothing new for it, is open, and its time has not passed,
+/// and goes on where the group has all of it. A client that the node would answer itself is let wait only where its
+/// group has nothing new for it and is open, and is due exactly where that ends, or its time has passed.
+pub fn who_waits_has_nothing_new()
+    ensures waits { (u : UnderWay) (h : Holding) (idle : ℕ) → u.at < u.end
+        → (prospect u h idle ≡ Waits) ↔ (HasNothingNew u.at h × (idle < IDLE_MILLIS)) }
+    ensures gives { (u : UnderWay) (h : Holding) (idle : ℕ) → u.at < u.end → u.end ≤ h.held → prospect u h idle ≡ Gives }
+    ensures to_wait { (hint : Hint) (group : List ℕ) (lines : List Shelf) (start : ℕ)
+        → gives_nothing hint (here_answer (holding group lines) start) (holding group lines) start ≡ true → HasNothingNew start (holding group lines) }
+    ensures follower { (f : Follower) (h : Holding) (now : ℕ) → (is_due f h now ≡ false) ↔ (HasNothingNew f.start h × IsEarly f now) }
+{}
+
+/// Worked examples compute from the definitions.
+pub fn examples_compute()
+    ensures judged { AreJudged }
+    ensures hinted { AreHinted }
+    ensures pieces { ArePieces }
+    ensures waiting { AreWaiting }
+    ensures shown { AreShown }
+{}

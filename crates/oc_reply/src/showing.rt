@@ -1,0 +1,214 @@
+//! What a client is answered by what it tells.
+
+ghost use Rattle.std.specs.Prelude.{◌≡◌, ◌++◌, [], IfOk, None, OnOk, map, string_bytes, option_map};
+ghost use Rattle.oc_base.specs.Names.{IsGroupName};
+ghost use Rattle.oc_reply.specs.Shown.{address_in, here_answer, known_shown, location_of, of_shown, follow_text, reply_by, shown, start_text, told_text};
+ghost use Rattle.oc_routes.specs.Lawful.{IsAsked};
+ghost use Rattle.oc_routes.specs.Responses.{address_of, redirection, whole};
+
+use crate::hint::Hint;
+use crate::holding::Holding;
+use crate::verdict::Request;
+use oc_base::{Bytes, GroupName, Memory, NodeId, Text, put, put_with_number};
+use oc_http::{Persistence, Reply, write_response};
+use oc_model::Answer;
+use oc_routes::{Answered, Manner, Operation, Response, respond};
+use std::alloc::Global;
+
+/// An answer, and whether its group is sealed, as a client is shown them.
+#[derive(Clone, Copy, Debug)]
+pub struct Shown {
+    pub answer: Answer,
+    pub sealed: bool,
+}
+
+/// What a request is answered for this answer of its step, by what the node holds of the group. The reply to a
+/// message is that of [`oc_routes::respond`].
+pub fn reply_by(
+    alloc: Global,
+    request: &Request,
+    answer: Answer,
+    holding: Holding,
+    addresses: &[String],
+) -> Result<Response, Memory>
+    requires { IsAsked request.now.operation }
+    ensures { IfOk result (λ response. response
+        ≡ reply_by request.now.operation request.now.hint answer holding (map string_bytes addresses.now) request.now.last) }
+{
+    let Operation::Client {
+        group,
+        start,
+        manner,
+        ..
+    } = &request.operation
+    else {
+        let answered = Answered {
+            answer,
+            sealed: holding.sealed,
+            last: request.last,
+        };
+        return respond(alloc, &request.operation, answered, None, addresses);
+    };
+    let shown = as_shown(request.hint, answer, holding, *start);
+    let Some(address) = address_in(shown.answer, addresses) else {
+        let answered = Answered {
+            answer: shown.answer,
+            sealed: shown.sealed,
+            last: request.last,
+        };
+        return respond(alloc, &request.operation, answered, None, addresses);
+    };
+    let told = told_text(alloc, request.hint, holding)?;
+    let location = location_of(alloc, address, group, *start, &told, *manner)?;
+    redirected(alloc, location)
+}
+
+/// The address of the node to which an answer sends a client.
+fn address_in(answer: Answer, addresses: &[String]) -> Option<&str>
+    ensures { option_map (λ a. a.now) result ≡ address_in answer (map string_bytes addresses.now) }
+{
+    match answer {
+        Answer::Redirect(node) => Some(address_of(addresses, node)),
+        _ => None,
+    }
+}
+
+/// The address of a node, by its id; empty where no node has the id.
+fn address_of(addresses: &[String], node: NodeId) -> &str
+    ensures { result.now ≡ address_of (map string_bytes addresses.now) node }
+{
+    match addresses.get((node.0 as usize).saturating_sub(1)) {
+        Some(address) => address.as_str(),
+        None => "",
+    }
+}
+
+/// The answer of a step, and whether the group is sealed, as the client is shown them.
+pub fn as_shown(hint: Hint, answer: Answer, holding: Holding, start: u64) -> Shown
+    ensures { result ≡ shown hint answer holding start }
+{
+    let sealed = holding.sealed;
+    match hint {
+        Hint::Plain => Shown { answer, sealed },
+        Hint::Here => Shown {
+            answer: here_answer(holding, start),
+            sealed,
+        },
+        Hint::Of(length) => of_shown(length, answer, sealed, start),
+        Hint::Known => known_shown(answer, sealed),
+    }
+}
+
+/// The answer of the node itself.
+fn here_answer(holding: Holding, start: u64) -> Answer
+    ensures { result ≡ here_answer holding start }
+{
+    if holding.there {
+        Answer::Serve(holding.held.saturating_sub(start))
+    } else {
+        Answer::NoGroup
+    }
+}
+
+/// A group that is not sealed here goes up to the end that is told.
+fn of_shown(length: u64, answer: Answer, sealed: bool, start: u64) -> Shown
+    ensures { result ≡ of_shown length answer sealed start }
+{
+    match answer {
+        Answer::Serve(_) | Answer::NoGroup if !sealed => Shown {
+            answer: Answer::Serve(length.saturating_sub(start)),
+            sealed: true,
+        },
+        _ => Shown { answer, sealed },
+    }
+}
+
+/// A group that is known and not held counts as an open one without a byte.
+fn known_shown(answer: Answer, sealed: bool) -> Shown
+    ensures { result ≡ known_shown answer sealed }
+{
+    match answer {
+        Answer::NoGroup => Shown {
+            answer: Answer::Serve(0),
+            sealed: false,
+        },
+        _ => Shown { answer, sealed },
+    }
+}
+
+/// What is told of a group to the next node.
+fn told_text(alloc: Global, hint: Hint, holding: Holding) -> Result<Vec<u8>, Memory>
+    ensures { IfOk result (λ text. text.items ≡ told_text hint holding) }
+{
+    let mut text = Vec::new(alloc);
+    if holding.sealed {
+        put_with_number(&mut text, b"of=", holding.held)?;
+        return Ok(text);
+    }
+    match hint {
+        Hint::Of(length) => put_with_number(&mut text, b"of=", length)?,
+        _ => put(&mut text, b"known")?,
+    }
+    Ok(text)
+}
+
+/// The URL to which a client is sent.
+fn location_of(
+    alloc: Global,
+    address: &str,
+    group: &GroupName,
+    start: u64,
+    told: &[u8],
+    manner: Manner,
+) -> Result<Vec<u8>, Memory>
+    ensures { IfOk result (λ url. url.items ≡ location_of address.now group.now start told.now manner) }
+{
+    let mut url = Vec::new(alloc);
+    put(&mut url, b"http://")?;
+    put(&mut url, address.as_bytes())?;
+    put(&mut url, group.bytes())?;
+    put(&mut url, b"?")?;
+    put_start(&mut url, start)?;
+    put(&mut url, told)?;
+    put_follow(&mut url, manner)?;
+    Ok(url)
+}
+
+/// Puts the byte from which a client asks, where it is not the first.
+fn put_start(url: &mut Vec<u8>, start: u64) -> Result<(), Memory>
+    ensures { OnOk result (url.new.items ≡ url.old.items ++ start_text start) }
+{
+    if start == 0 {
+        return Ok(());
+    }
+    put_with_number(url, b"start=", start)?;
+    put(url, b"&")
+}
+
+/// Puts that the client follows the group, where it does.
+fn put_follow(url: &mut Vec<u8>, manner: Manner) -> Result<(), Memory>
+    ensures { OnOk result (url.new.items ≡ url.old.items ++ follow_text manner) }
+{
+    match manner {
+        Manner::Follow => put(url, b"&follow"),
+        Manner::HeadAlone | Manner::Once => Ok(()),
+    }
+}
+
+/// Sends a client to a URL.
+fn redirected(alloc: Global, location: Vec<u8>) -> Result<Response, Memory>
+    ensures { IfOk result (λ response. response ≡ whole (redirection location.items)) }
+{
+    let reply = Reply {
+        status: 302,
+        location: Some(Text::of(location)),
+        content_type: false,
+        body: Bytes::of(Vec::new(alloc)),
+        rule: None,
+    };
+    Ok(Response {
+        text: Text::of(write_response(alloc, &reply)?),
+        content: None,
+        connection: Persistence::Close,
+    })
+}

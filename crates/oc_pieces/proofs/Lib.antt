@@ -1,2 +1,0 @@
-pub mod MadeReady
-pub mod Unheld

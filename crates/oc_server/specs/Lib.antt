@@ -1,0 +1,10 @@
+pub mod Pace
+pub mod Due
+pub mod Spans
+pub mod Pieces
+pub mod Works
+pub mod NodeDoes
+pub mod Giving
+pub mod Openness
+pub mod Heads
+pub mod Examples

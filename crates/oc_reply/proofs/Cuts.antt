@@ -3,6 +3,9 @@ use Rattle.std.proofs.Common.{◌≡◌, ℕ, ◌+◌, ◌-◌, ◌<◌, ◌≤�
 use Rattle.std.specs.Prelude.{not, ◌&&◌, nat_lt, if◌then◌else◌}
 use Rattle.std.proofs.lemmas.Bool.{ltb-false, le-ltb, false≢true}
 use Rattle.std.proofs.lemmas.List.{append_assoc, take-append-le}
+use Rattle.oc_events.specs.declared.event.Arrival.{Arrival}
+use Rattle.oc_events.specs.declared.event.Coming.{Coming}
+use Rattle.oc_events.specs.declared.event.Coming.TheVariants as comings
 use Rattle.oc_http.specs.Answers.{AnswersRequest, IsDecided}
 use Rattle.oc_http.specs.Requests.{read_request}
 use Rattle.oc_http.proofs.Forms.{request_form}
@@ -14,10 +17,7 @@ use Rattle.oc_routes.specs.Connections.{awaits_continue, is_last}
 use Rattle.oc_routes.specs.Refusals.{fault_of_http}
 use Rattle.oc_routes.specs.declared.refused.Refused.{Refused}
 use Rattle.oc_reply.specs.Hints.{asked_with_hint}
-use Rattle.oc_reply.specs.Verdicts.{IsVerdict, NodeTerms, arrival, asked_behind, refuse, refused_for, routed, unfinished, verdict_for, whole, with_body}
-use Rattle.oc_reply.specs.declared.arrival.Arrival.{Arrival}
-use Rattle.oc_reply.specs.declared.arrival.Coming.{Coming}
-use Rattle.oc_reply.specs.declared.arrival.Coming.TheVariants as comings
+use Rattle.oc_reply.specs.Verdicts.{IsVerdict, NodeTerms, arrival, asked_behind, refused_for, routed, unfinished, verdict_for, whole, with_body}
 use Rattle.oc_reply.specs.declared.hint.Asked.{Asked}
 use Rattle.oc_reply.specs.declared.verdict.Verdict.{Verdict}
 use Rattle.oc_reply.specs.declared.verdict.Verdict.TheVariants.{Wait, Permit}
@@ -57,10 +57,10 @@ by_tests false true later done done_later shortened v stays same is decided = ab
 by_tests false false true done done_later shortened v stays same is decided = let no : true ≡ false = stays refl in absurd (false≢true (sym no))
 by_tests false false false done done_later shortened v stays same is decided = is ∙ same refl
 
-body_more : (t : NodeTerms) (number : ℕ) (permitted : Bool) (coming : Coming) (came : ℕ) (head : Head) (rest more : List ℕ) (said : Asked) (v : Verdict)
-    → v ≡ with_body t (arrival number permitted comings.Open) came head rest said → (v ≡ Wait → ⊥)
-    → v ≡ with_body t (arrival number permitted coming) (came + length more) head (rest ++ more) said
-body_more t number permitted coming came head rest more said v is decided =
+body_more : (t : NodeTerms) (c number : ℕ) (permitted : Bool) (coming : Coming) (came : ℕ) (head : Head) (rest more : List ℕ) (said : Asked) (v : Verdict)
+    → v ≡ with_body t (arrival c number permitted comings.Open) came head rest said → (v ≡ Wait → ⊥)
+    → v ≡ with_body t (arrival c number permitted coming) (came + length more) head (rest ++ more) said
+body_more t c number permitted coming came head rest more said v is decided =
     by_tests (awaits_continue head && not permitted) (nat_lt (length rest) head.length) (nat_lt (length (rest ++ more)) head.length)
     (request came rest) (request (came + length more) (rest ++ more)) (unfinished coming false) v
     (λ long. le-ltb (length (rest ++ more)) head.length (omega (arith, length-append rest more, ltb-false (length rest) head.length long)))
@@ -75,42 +75,42 @@ body_more t number permitted coming came head rest more said v is decided =
     request : ℕ → List ℕ → Verdict
     request n left = whole t (record { count = n - length left + head.length; operation = said.operation; hint = said.hint; input = None; last = is_last head number }) (take head.length left)
 
-routed_more : (t : NodeTerms) (number : ℕ) (permitted : Bool) (coming : Coming) (came : ℕ) (head : Head) (rest more : List ℕ) (asked : Result Asked Refused) (v : Verdict)
-    → v ≡ routed t (arrival number permitted comings.Open) came head rest asked → (v ≡ Wait → ⊥)
-    → v ≡ routed t (arrival number permitted coming) (came + length more) head (rest ++ more) asked
-routed_more t number permitted coming came head rest more (Ok said) v is decided = body_more t number permitted coming came head rest more said v is decided
-routed_more t number permitted coming came head rest more (Err why) v is decided = is
+routed_more : (t : NodeTerms) (c number : ℕ) (permitted : Bool) (coming : Coming) (came : ℕ) (head : Head) (rest more : List ℕ) (asked : Result Asked Refused) (v : Verdict)
+    → v ≡ routed t (arrival c number permitted comings.Open) came head rest asked → (v ≡ Wait → ⊥)
+    → v ≡ routed t (arrival c number permitted coming) (came + length more) head (rest ++ more) asked
+routed_more t c number permitted coming came head rest more (Ok said) v is decided = body_more t c number permitted coming came head rest more said v is decided
+routed_more t c number permitted coming came head rest more (Err why) v is decided = is
 
-verdict_more : (t : NodeTerms) (number : ℕ) (permitted : Bool) (coming : Coming) (bytes rest more : List ℕ) (answer : Result Head HttpFault) (v : Verdict)
-    → v ≡ verdict_for t (arrival number permitted comings.Open) bytes rest answer → (v ≡ Wait → ⊥)
-    → v ≡ verdict_for t (arrival number permitted coming) (bytes ++ more) (rest ++ more) answer
-verdict_more t number permitted coming bytes rest more (Ok head) v is decided =
-    routed_more t number permitted coming (length bytes) head rest more (asked_with_hint head t.rules) v is decided
-    ∙ ap (λ (n : ℕ). asked_behind t (arrival number permitted coming) n head (rest ++ more)) (sym (length-append bytes more))
-verdict_more t number permitted coming bytes rest more (Err Source) v is decided = is
-verdict_more t number permitted coming bytes rest more (Err Ended) v is decided = absurd (decided is)
-verdict_more t number permitted coming bytes rest more (Err NoHead) v is decided = is
-verdict_more t number permitted coming bytes rest more (Err HeadLong) v is decided = is
-verdict_more t number permitted coming bytes rest more (Err Fields) v is decided = is
-verdict_more t number permitted coming bytes rest more (Err Host) v is decided = is
-verdict_more t number permitted coming bytes rest more (Err (Coding both)) v is decided = is
-verdict_more t number permitted coming bytes rest more (Err (Length missing)) v is decided = is
-verdict_more t number permitted coming bytes rest more (Err BodyLong) v is decided = is
-verdict_more t number permitted coming bytes rest more (Err Memory) v is decided = is
+verdict_more : (t : NodeTerms) (c number : ℕ) (permitted : Bool) (coming : Coming) (bytes rest more : List ℕ) (answer : Result Head HttpFault) (v : Verdict)
+    → v ≡ verdict_for t (arrival c number permitted comings.Open) bytes rest answer → (v ≡ Wait → ⊥)
+    → v ≡ verdict_for t (arrival c number permitted coming) (bytes ++ more) (rest ++ more) answer
+verdict_more t c number permitted coming bytes rest more (Ok head) v is decided =
+    routed_more t c number permitted coming (length bytes) head rest more (asked_with_hint head t.rules) v is decided
+    ∙ ap (λ (n : ℕ). asked_behind t (arrival c number permitted coming) n head (rest ++ more)) (sym (length-append bytes more))
+verdict_more t c number permitted coming bytes rest more (Err Source) v is decided = is
+verdict_more t c number permitted coming bytes rest more (Err Ended) v is decided = absurd (decided is)
+verdict_more t c number permitted coming bytes rest more (Err NoHead) v is decided = is
+verdict_more t c number permitted coming bytes rest more (Err HeadLong) v is decided = is
+verdict_more t c number permitted coming bytes rest more (Err Fields) v is decided = is
+verdict_more t c number permitted coming bytes rest more (Err Host) v is decided = is
+verdict_more t c number permitted coming bytes rest more (Err (Coding both)) v is decided = is
+verdict_more t c number permitted coming bytes rest more (Err (Length missing)) v is decided = is
+verdict_more t c number permitted coming bytes rest more (Err BodyLong) v is decided = is
+verdict_more t c number permitted coming bytes rest more (Err Memory) v is decided = is
 
 -- a part of a request is to wait
-not_ended : (t : NodeTerms) (number : ℕ) (permitted : Bool) (bytes rest : List ℕ) (answer : Result Head HttpFault) (v : Verdict)
-    → v ≡ verdict_for t (arrival number permitted comings.Open) bytes rest answer → (v ≡ Wait → ⊥) → answer ≡ Err Ended → ⊥
-not_ended t number permitted bytes rest answer v is decided ended =
-    decided (is ∙ ap (λ (x : Result Head HttpFault). verdict_for t (arrival number permitted comings.Open) bytes rest x) ended)
+not_ended : (t : NodeTerms) (c number : ℕ) (permitted : Bool) (bytes rest : List ℕ) (answer : Result Head HttpFault) (v : Verdict)
+    → v ≡ verdict_for t (arrival c number permitted comings.Open) bytes rest answer → (v ≡ Wait → ⊥) → answer ≡ Err Ended → ⊥
+not_ended t c number permitted bytes rest answer v is decided ended =
+    decided (is ∙ ap (λ (x : Result Head HttpFault). verdict_for t (arrival c number permitted comings.Open) bytes rest x) ended)
 
 -- what is said of bytes behind which more may come, and is not to wait, is said with more bytes too
-pub verdict_stays : (t : NodeTerms) (number : ℕ) (permitted : Bool) (coming : Coming) (bytes more : List ℕ) (v : Verdict)
-    → IsVerdict t (arrival number permitted comings.Open) bytes v → (v ≡ Wait → ⊥) → IsVerdict t (arrival number permitted coming) (bytes ++ more) v
-verdict_stays t number permitted coming bytes more v x decided = record {
+pub verdict_stays : (t : NodeTerms) (c number : ℕ) (permitted : Bool) (coming : Coming) (bytes more : List ℕ) (v : Verdict)
+    → IsVerdict t (arrival c number permitted comings.Open) bytes v → (v ≡ Wait → ⊥) → IsVerdict t (arrival c number permitted coming) (bytes ++ more) v
+verdict_stays t c number permitted coming bytes more v x decided = record {
   answer = x.answer;
   rest = x.rest ++ more;
-  answers = answers_more bytes x.rest more x.answer x.answers x.decided (not_ended t number permitted bytes x.rest x.answer v x.verdict decided);
+  answers = answers_more bytes x.rest more x.answer x.answers x.decided (not_ended t c number permitted bytes x.rest x.answer v x.verdict decided);
   decided = x.decided;
-  verdict = verdict_more t number permitted coming bytes x.rest more x.answer v x.verdict decided;
+  verdict = verdict_more t c number permitted coming bytes x.rest more x.answer v x.verdict decided;
 }

@@ -1,13 +1,13 @@
 -- What is given of a content piece by piece, and what is owed.
 use Rattle.std.proofs.Common.{◌≡◌, ◌⊎◌, ◌≤◌, ◌<◌, ℕ, zero, suc, min, ◌+◌, ◌-◌, ◌*◌, false, true, Bool, Some, None, Option, List, [], ◌∷◌, ◌++◌, length, take, drop, inl, inr, refl, sym, ap, subst, ◌∙◌, arith, length-append, length-drop, length-take}
 use Rattle.std.proofs.lemmas.List.{append_assoc, append-nil, take-append-le, drop-append-le}
-use Rattle.std.proofs.lemmas.Bool.{cases_lt}
+use Rattle.std.proofs.lemmas.Bool.{cases_lt, false≢true}
 use Rattle.std.proofs.lemmas.Bool.Decides.{leb_tells}
 use Rattle.oc_base.specs.Groups.{bytes_of}
 use Rattle.oc_base.specs.declared.group.Group.{Group}
 use Rattle.oc_chunked.specs.Texts.{end_written}
 use Rattle.oc_routes.specs.declared.response.GroupRange.{GroupRange}
-use Rattle.oc_reply.specs.Contents.{FitsIn, begun, behind, coded, ending, is_last, owed, owed_of, part_of, piece_of, piece_text, pieces}
+use Rattle.oc_reply.specs.Contents.{IsThere, begun, behind, coded, ending, is_last, owed, owed_of, part_of, piece_of, piece_text, pieces}
 use Rattle.oc_reply.specs.declared.content.UnderWay.{UnderWay}
 use Rattle.oc_reply.specs.declared.content.TheConstants.{PIECE_BYTES}
 use Rattle.oc_reply.proofs.Chunks.{chunks, chunks_append}
@@ -63,7 +63,7 @@ next_piece true bytes piece rest is long =
 next_piece false bytes piece rest is long = is ∙ ap (λ (x : List ℕ). x ++ rest) (sym (append-nil piece))
 
 -- what is owed is the text of the next piece and what is owed behind it
-pub piece_owed : (u : UnderWay) (ks : List Group) → FitsIn u ks → owed_of u ks ≡ piece_text u (piece_of u ks) ++ owed (behind u (length (piece_of u ks))) ks
+pub piece_owed : (u : UnderWay) (ks : List Group) → IsThere u ks → owed_of u ks ≡ piece_text u (piece_of u ks) ++ owed (behind u (length (piece_of u ks))) ks
 piece_owed u ks fits = by_test (leb_tells u.end (u.at + length piece))
   where
     piece : List ℕ
@@ -104,7 +104,7 @@ part_grown : (g : List ℕ) (at count : ℕ) (old new : List Group) (more : List
 part_grown g at count old new more fits grown = ap (λ (x : List ℕ). take count (drop at x)) grown ∙ within count at (bytes_of g old) more fits
 
 -- what is owed stays what it is while the group grows
-pub owed_grown : (u : UnderWay) (old new : List Group) (more : List ℕ) → FitsIn u old → bytes_of u.group new ≡ bytes_of u.group old ++ more → owed_of u new ≡ owed_of u old
+pub owed_grown : (u : UnderWay) (old new : List Group) (more : List ℕ) → IsThere u old → bytes_of u.group new ≡ bytes_of u.group old ++ more → owed_of u new ≡ owed_of u old
 owed_grown u old new more fits grown = ap (λ (x : List ℕ). coded u.chunked x) (part_grown u.group u.at (u.end - u.at) old new more (omega (arith, fits)) grown)
 
 -- what is owed of a content of which nothing was given is the content as it is sent whole
@@ -133,6 +133,56 @@ piece_follows u ks start behind_it =
     ∙ ap (λ (n : ℕ). part_of u.group start (u.at - start) ks ++ part_of u.group n (((u.at + length (piece_of u ks)) - start) - (u.at - start)) ks) at
     ∙ ap (λ (n : ℕ). part_of u.group start (u.at - start) ks ++ part_of u.group u.at n ks) count
     ∙ ap (λ (x : List ℕ). part_of u.group start (u.at - start) ks ++ x) (take_own (min PIECE_BYTES (u.end - u.at)) (drop u.at (bytes_of u.group ks))))
+
+-- what is owed later begins with the piece of now
+split_grown : (u : UnderWay) (now later : List Group) (more : List ℕ) → bytes_of u.group later ≡ bytes_of u.group now ++ more
+    → part_of u.group u.at (u.end - u.at) later ≡ piece_of u now ++ part_of u.group (u.at + length (piece_of u now)) (u.end - (u.at + length (piece_of u now))) later
+split_grown u now later more grown =
+    let n : length (piece_of u now) ≡ min (min PIECE_BYTES (u.end - u.at)) (length (bytes_of u.group now) - u.at) = omega (arith, length-take (min PIECE_BYTES (u.end - u.at)) (drop u.at (bytes_of u.group now)), length-drop u.at (bytes_of u.group now)) in
+    let few : length (piece_of u now) ≤ u.end - u.at = omega (arith, n) in
+    let held : length (piece_of u now) ≤ length (bytes_of u.group now) - u.at = omega (arith, n) in
+    let left : (u.end - u.at) - length (piece_of u now) ≡ u.end - (u.at + length (piece_of u now)) = omega arith in
+    part_split u.group u.at (length (piece_of u now)) (u.end - u.at) later few
+    ∙ ap (λ (x : List ℕ). x ++ part_of u.group (u.at + length (piece_of u now)) ((u.end - u.at) - length (piece_of u now)) later)
+    (part_grown u.group u.at (length (piece_of u now)) now later more held grown ∙ take_own (min PIECE_BYTES (u.end - u.at)) (drop u.at (bytes_of u.group now)))
+    ∙ ap (λ (m : ℕ). piece_of u now ++ part_of u.group (u.at + length (piece_of u now)) m later) left
+
+-- a plain piece, and what is behind it
+plain_piece : (chunked : Bool) (bytes piece rest : List ℕ) → chunked ≡ false → bytes ≡ piece ++ rest → coded chunked bytes ≡ (pieces chunked piece ++ ending chunked false) ++ coded chunked rest
+plain_piece true bytes piece rest plain is = absurd (false≢true (sym plain))
+plain_piece false bytes piece rest plain is = is ∙ ap (λ (x : List ℕ). x ++ rest) (sym (append-nil piece))
+
+plain_owed : (u : UnderWay) (now later : List Group) (more : List ℕ) → u.chunked ≡ false → bytes_of u.group later ≡ bytes_of u.group now ++ more
+    → owed_of u later ≡ piece_text u (piece_of u now) ++ owed (behind u (length (piece_of u now))) later
+plain_owed u now later more plain grown = by_test (leb_tells u.end (u.at + length (piece_of u now)))
+  where
+    by_test : ((is_last u (length (piece_of u now)) ≡ true) × (u.end ≤ u.at + length (piece_of u now))) ⊎ ((is_last u (length (piece_of u now)) ≡ false) × (u.at + length (piece_of u now) < u.end))
+        → owed_of u later ≡ piece_text u (piece_of u now) ++ owed (behind u (length (piece_of u now))) later
+    by_test (inl last) =
+        let none : u.end - (u.at + length (piece_of u now)) ≡ 0 = omega (arith, last.1) in
+        rw (last.0) (last_piece u.chunked (part_of u.group u.at (u.end - u.at) later) (piece_of u now)
+        (split_grown u now later more grown
+        ∙ ap (λ (m : ℕ). piece_of u now ++ part_of u.group (u.at + length (piece_of u now)) m later) none
+        ∙ append-nil (piece_of u now)))
+    by_test (inr rest) =
+        rw (rest.0) (plain_piece u.chunked (part_of u.group u.at (u.end - u.at) later) (piece_of u now) (part_of u.group (u.at + length (piece_of u now)) (u.end - (u.at + length (piece_of u now))) later) plain (split_grown u now later more grown))
+
+chunked_owed : (u : UnderWay) (now later : List Group) (more : List ℕ) → IsThere u now → bytes_of u.group later ≡ bytes_of u.group now ++ more
+    → owed_of u later ≡ piece_text u (piece_of u now) ++ owed (behind u (length (piece_of u now))) later
+chunked_owed u now later more there grown =
+    let long : length (bytes_of u.group later) ≡ length (bytes_of u.group now) + length more = ap (λ (x : List ℕ). length x) grown ∙ length-append (bytes_of u.group now) more in
+    let same : piece_of u later ≡ piece_of u now = part_grown u.group u.at (min PIECE_BYTES (u.end - u.at)) now later more (omega (arith, there)) grown in
+    piece_owed u later (omega (arith, there, long))
+    ∙ ap (λ (x : List ℕ). piece_text u x ++ owed (behind u (length x)) later) same
+
+-- whatever the group becomes, what is owed of it is the piece of now and what is owed behind that
+pub owed_then : (u : UnderWay) (now later : List Group) (more : List ℕ) → (u.chunked ≡ true → IsThere u now) → bytes_of u.group later ≡ bytes_of u.group now ++ more
+    → owed_of u later ≡ piece_text u (piece_of u now) ++ owed (behind u (length (piece_of u now))) later
+owed_then u now later more there grown = by_coding u.chunked refl
+  where
+    by_coding : (chunked : Bool) → u.chunked ≡ chunked → owed_of u later ≡ piece_text u (piece_of u now) ++ owed (behind u (length (piece_of u now))) later
+    by_coding true is = chunked_owed u now later more (there is) grown
+    by_coding false is = plain_owed u now later more is grown
 
 -- what was given of a content stays a part of its group
 pub given_grown : (g : List ℕ) (start at : ℕ) (old new : List Group) (more : List ℕ) → at ≤ length (bytes_of g old) → bytes_of g new ≡ bytes_of g old ++ more → part_of g start (at - start) new ≡ part_of g start (at - start) old

@@ -1,5 +1,6 @@
 -- The verdict where no head was read.
 use Rattle.std.proofs.Common.{◌≡◌, ℕ, Bool, Some, None, Option, Result, Ok, Err, IfOk, List, [], ◌++◌, refl, sym, ap, ◌∙◌, subst}
+use Rattle.oc_events.specs.declared.event.Arrival.{Arrival}
 use Rattle.oc_http.specs.Answers.{AnswersRequest, IsDecided}
 use Rattle.oc_http.specs.Taking.{RefusesRequest, Took}
 use Rattle.oc_http.specs.declared.fault.HttpFault.{HttpFault}
@@ -8,9 +9,9 @@ use Rattle.oc_http.specs.declared.head.Head.{Head}
 use Rattle.oc_routes.specs.declared.fault.RouteFault.{RouteFault}
 use Rattle.oc_routes.specs.declared.fault.RouteFault.TheVariants as faults
 use Rattle.oc_routes.specs.declared.refused.Refused.{Refused}
-use Rattle.oc_reply.specs.Verdicts.{IsVerdict, NodeTerms, fault_met, is_none, refuse, unfinished, unread}
-use Rattle.oc_reply.specs.declared.arrival.Arrival.{Arrival}
+use Rattle.oc_reply.specs.Verdicts.{IsVerdict, NodeTerms, fault_met, is_none, unfinished, unread}
 use Rattle.oc_reply.specs.declared.verdict.Verdict.{Verdict}
+use Rattle.oc_reply.specs.declared.verdict.Verdict.TheVariants.{Refuse}
 
 -- reading stopped with a fault, at bytes in memory
 abbrev pub Stopped : {S : Type 0} → (S → List ℕ) → S → S → HttpFault → Type 0
@@ -47,10 +48,9 @@ ended_verdict left old new t a fault bytes none (Ok v) stopped met from is_it is
 ended_verdict left old new t a fault bytes none (Err e) stopped met from is_it is = tt
 
 -- the bytes are refused
-pub refused_verdict : {S M : Type 0} (left : S → List ℕ) (old new : S) (t : NodeTerms) (a : Arrival) (fault : HttpFault) (why : Refused) (bytes : List ℕ) (r : Result Verdict M) → Stopped left old new fault → fault_met fault ≡ Some (faults.Refused why)
-    → bytes ≡ left old → IfOk r (λ (v : Verdict). v ≡ refuse why) → IfOk r (IsVerdict t a bytes)
-refused_verdict left old new t a fault why bytes (Ok v) stopped met from is =
+pub refused_verdict : {S : Type 0} (left : S → List ℕ) (old new : S) (t : NodeTerms) (a : Arrival) (fault : HttpFault) (why : Refused) (bytes : List ℕ) (v : Verdict) → Stopped left old new fault → fault_met fault ≡ Some (faults.Refused why)
+    → bytes ≡ left old → v ≡ Refuse why → IsVerdict t a bytes v
+refused_verdict left old new t a fault why bytes v stopped met from is =
     subst (λ (x : List ℕ). IsVerdict t a x v) (sym from)
     (unread_verdict left old new t a fault v stopped (λ (e : fault_met fault ≡ Some faults.Memory). cc)
     (is ∙ ap (unread a.coming (is_none (left old))) (sym met)))
-refused_verdict left old new t a fault why bytes (Err e) stopped met from is = tt

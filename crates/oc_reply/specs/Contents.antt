@@ -25,9 +25,9 @@ coded false bytes = bytes
 abbrev pub begun : List ℕ → GroupRange → UnderWay
 begun group content = record { group = group; at = content.start; end = content.start + content.count; chunked = content.chunked }
 
--- the group has all of it
-abbrev pub FitsIn : UnderWay → List Group → Type 0
-FitsIn u groups = u.end ≤ length (bytes_of u.group groups)
+-- the group has all that is still to be given of it
+abbrev pub IsThere : UnderWay → List Group → Type 0
+IsThere u groups = u.end - u.at ≤ length (bytes_of u.group groups) - u.at
 
 -- the text that is still to be given of it
 abbrev pub owed_of : UnderWay → List Group → List ℕ

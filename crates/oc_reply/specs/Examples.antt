@@ -1,6 +1,7 @@
 -- Worked examples.
 use Rattle.std.specs.Prelude.{◌≡◌, ℕ, true, false, Bool, Option, Some, None, Result, Ok, Err, List, [], ◌∷◌, ◌++◌, length, codes}
 use Rattle.oc_base.specs.declared.group.Group.{Group}
+use Rattle.oc_events.specs.declared.event.Coming.TheVariants as comings
 use Rattle.oc_http.specs.declared.framing.Persistence.{Persistence}
 use Rattle.oc_http.specs.declared.framing.Persistence.TheVariants.{Close, Keep}
 use Rattle.oc_http.specs.declared.head.Head.{Head}
@@ -8,8 +9,12 @@ use Rattle.oc_http.specs.declared.head.Method.{Method}
 use Rattle.oc_http.specs.declared.head.Method.TheVariants as methods
 use Rattle.oc_model.specs.declared.input.Input.{Input}
 use Rattle.oc_model.specs.declared.input.Input.TheVariants as inputs
+use Rattle.oc_model.specs.declared.answer.Answer.{Answer}
 use Rattle.oc_model.specs.declared.answer.Answer.TheVariants as answers
+use Rattle.oc_model.specs.declared.message.Body.TheVariants as bodies
+use Rattle.oc_model.specs.declared.message.Message.{Message}
 use Rattle.oc_policy.specs.declared.rule.Rule.{Rule}
+use Rattle.oc_routes.specs.Responses.{message_response, status_alone}
 use Rattle.oc_routes.specs.declared.routes.Operation.{Operation}
 use Rattle.oc_routes.specs.declared.routes.Operation.TheVariants as asks
 use Rattle.oc_routes.specs.declared.manner.Manner.{Manner}
@@ -20,10 +25,9 @@ use Rattle.oc_routes.specs.declared.response.GroupRange.{GroupRange}
 use Rattle.oc_routes.specs.declared.response.Response.{Response}
 use Rattle.oc_reply.specs.Contents.{behind, owed, piece_of, piece_text}
 use Rattle.oc_reply.specs.Hints.{asked_with_hint, hint_in}
-use Rattle.oc_reply.specs.Shown.{location_of, reply_by, told_text}
-use Rattle.oc_reply.specs.Verdicts.{NodeTerms, arrival, asked_behind, refuse, terms_of, unfinished}
+use Rattle.oc_reply.specs.Shown.{location_of, reply_by, response_for, told_text}
+use Rattle.oc_reply.specs.Verdicts.{NodeTerms, arrival, asked_behind, terms_of, unfinished}
 use Rattle.oc_reply.specs.Waits.{holding, is_due, is_to_wait, left_of, prospect}
-use Rattle.oc_reply.specs.declared.arrival.Coming.TheVariants as comings
 use Rattle.oc_reply.specs.declared.content.UnderWay.{UnderWay}
 use Rattle.oc_reply.specs.declared.hint.Asked.{Asked}
 use Rattle.oc_reply.specs.declared.hint.Hint.{Hint}
@@ -43,7 +47,7 @@ open_terms = terms_of 1 3 []
 
 -- to node 1 a request came, with a head of 40 bytes, and these behind it
 abbrev came_open : Head → List ℕ → ℕ → Verdict → Type 0
-came_open head rest came verdict = asked_behind open_terms (arrival 1 false comings.Open) came head rest ≡ verdict
+came_open head rest came verdict = asked_behind open_terms (arrival 7 1 false comings.Open) came head rest ≡ verdict
 
 -- of a publish of three bytes two have come
 abbrev cut_publish : Head
@@ -58,25 +62,23 @@ read hint = verdicts.Ask (record { count = 40; operation = asks.Client (codes "/
 -- what is to be done with a connection
 pub record AreJudged : Type 0 where
   pub waits : came_open cut_publish (codes "ab") 42 verdicts.Wait
-  pub ended : asked_behind open_terms (arrival 1 false comings.Ended) 42 cut_publish (codes "ab") ≡ verdicts.Refuse refusals.Ended None
-  pub failed : asked_behind open_terms (arrival 1 false comings.Failed) 42 cut_publish (codes "ab") ≡ verdicts.Refuse refusals.Source None
-  pub late : asked_behind open_terms (arrival 1 false comings.Late) 42 cut_publish (codes "ab") ≡ verdicts.Refuse refusals.Source None
+  pub ended : asked_behind open_terms (arrival 7 1 false comings.Ended) 42 cut_publish (codes "ab") ≡ verdicts.Refuse refusals.Ended
+  pub failed : asked_behind open_terms (arrival 7 1 false comings.Failed) 42 cut_publish (codes "ab") ≡ verdicts.Refuse refusals.Source
   pub whole : came_open cut_publish (codes "abc") 43 (published 43 false)
   pub more_behind : came_open cut_publish (codes "abcGET") 46 (published 43 false)
-  pub whole_at_its_end : asked_behind open_terms (arrival 1 false comings.Ended) 43 cut_publish (codes "abc") ≡ published 43 false
-  pub sixteenth : asked_behind open_terms (arrival 16 false comings.Open) 43 cut_publish (codes "abc") ≡ published 43 true
+  pub whole_at_its_end : asked_behind open_terms (arrival 7 1 false comings.Ended) 43 cut_publish (codes "abc") ≡ published 43 false
+  pub sixteenth : asked_behind open_terms (arrival 7 16 false comings.Open) 43 cut_publish (codes "abc") ≡ published 43 true
   pub permits : came_open (record cut_publish { expects = true }) (codes "abc") 43 verdicts.Permit
-  pub permitted : asked_behind open_terms (arrival 1 true comings.Open) 43 (record cut_publish { expects = true }) (codes "abc") ≡ published 43 false
-  pub refused_at_its_head : came_open (record (head methods.Post (codes "/%") [] 3) { expects = true }) [] 40 (refuse refusals.Path)
-  pub sealed_with_a_body : came_open (head methods.Post (codes "/a") (codes "seal") 3) (codes "abc") 43 (refuse refusals.Body)
+  pub permitted : asked_behind open_terms (arrival 7 1 true comings.Open) 43 (record cut_publish { expects = true }) (codes "abc") ≡ published 43 false
+  pub refused_at_its_head : came_open (record (head methods.Post (codes "/%") [] 3) { expects = true }) [] 40 (verdicts.Refuse refusals.Path)
+  pub sealed_with_a_body : came_open (head methods.Post (codes "/a") (codes "seal") 3) (codes "abc") 43 (verdicts.Refuse refusals.Body)
   pub follows : came_open (head methods.Get (codes "/a") (codes "follow") 0) [] 40 (read hints.Plain)
   pub follows_known : came_open (head methods.Get (codes "/a") (codes "follow&known") 0) [] 40 (read hints.Known)
   pub here : came_open (head methods.Get (codes "/a") (codes "follow&here") 0) [] 40
       (verdicts.Ask (record { count = 40; operation = asks.Client (codes "/a") 0 0 Follow; hint = hints.Here; input = None; last = false }))
   pub nothing_waits : unfinished comings.Open true ≡ verdicts.Wait
   pub nothing_ended : unfinished comings.Ended true ≡ verdicts.Leave
-  pub nothing_late : unfinished comings.Late true ≡ verdicts.Leave
-  pub nothing_failed : unfinished comings.Failed true ≡ verdicts.Refuse refusals.Source None
+  pub nothing_failed : unfinished comings.Failed true ≡ verdicts.Refuse refusals.Source
 
 -- one rule: nobody reads or posts
 abbrev closed : List Rule
@@ -195,23 +197,37 @@ missing = record { text = lines (codes "HTTP/1.1 404 Not Found" ∷ codes "Conte
 abbrev location_is : Hint → Holding → ℕ → Manner → List ℕ → Type 0
 location_is hint h start manner wanted = location_of (codes "h:2") (codes "/a") start (told_text hint h) manner ≡ wanted
 
--- what a client is answered
+abbrev asks_with : Operation → Hint → Asked
+asks_with operation hint = record { operation = operation; hint = hint }
+
+-- a rejoin of ask 7 goes back to node 2
+abbrev rejoin : Message
+rejoin = record { from = 1; to = 2; body = bodies.Rejoin 7 }
+
+-- what is answered to a request, where this message goes back
+abbrev answered_with : Operation → Answer → Option Message → Response → Type 0
+answered_with operation answer back wanted = response_for (asks_with operation hints.Plain) false answer back holds_none addresses ≡ wanted
+
+-- what a client is answered, and anyone
 pub record AreShown : Type 0 where
-  pub plain : reply_by (client 2 Once) hints.Plain (answers.Serve 3) (holds 5 false) addresses false ≡ gives (codes "Content-Length: 3" ∷ closes ∷ []) (from_to 2 3 false) Close
-  pub told : reply_by (client 2 Once) (hints.Of 9) (answers.Serve 3) (holds 5 false) addresses false ≡ gives (codes "Content-Length: 7" ∷ closes ∷ []) (from_to 2 7 false) Close
-  pub told_to_a_follower : reply_by (client 2 Follow) (hints.Of 9) (answers.Serve 3) (holds 5 false) addresses false ≡ gives (codes "Content-Length: 7" ∷ []) (from_to 2 7 false) Keep
-  pub told_and_sealed : reply_by (client 2 Once) (hints.Of 9) (answers.Serve 3) (holds 5 true) addresses false ≡ gives (codes "Content-Length: 3" ∷ closes ∷ []) (from_to 2 3 false) Close
-  pub told_and_not_held : reply_by (client 2 HeadAlone) (hints.Of 9) answers.NoGroup holds_none addresses false ≡ gives (codes "Content-Length: 7" ∷ closes ∷ []) None Close
-  pub told_before : reply_by (client 12 Once) (hints.Of 9) (answers.Serve 0) (holds 5 false) addresses false ≡ gives (codes "Content-Length: 0" ∷ closes ∷ []) (from_to 12 0 false) Close
-  pub known : reply_by (client 2 Once) hints.Known answers.NoGroup holds_none addresses false ≡ gives (codes "Content-Length: 0" ∷ closes ∷ []) (from_to 2 0 false) Close
-  pub known_to_a_follower : reply_by (client 0 Follow) hints.Known answers.NoGroup holds_none addresses true ≡ gives (codes "Transfer-Encoding: chunked" ∷ closes ∷ []) (from_to 0 0 true) Close
-  pub unknown : reply_by (client 2 Once) hints.Plain answers.NoGroup holds_none addresses false ≡ missing
-  pub here : reply_by (client 2 Once) hints.Here answers.Ok (holds 5 false) addresses false ≡ gives (codes "Content-Length: 3" ∷ closes ∷ []) (from_to 2 3 false) Close
-  pub not_here : reply_by (client 2 Once) hints.Here answers.Ok holds_none addresses false ≡ missing
-  pub sent : reply_by (client 2 Once) hints.Plain (answers.Redirect 2) (holds 5 false) addresses false
+  pub plain : reply_by (asks_with (client 2 Once) hints.Plain) false (answers.Serve 3) (holds 5 false) addresses ≡ gives (codes "Content-Length: 3" ∷ closes ∷ []) (from_to 2 3 false) Close
+  pub told : reply_by (asks_with (client 2 Once) (hints.Of 9)) false (answers.Serve 3) (holds 5 false) addresses ≡ gives (codes "Content-Length: 7" ∷ closes ∷ []) (from_to 2 7 false) Close
+  pub told_to_a_follower : reply_by (asks_with (client 2 Follow) (hints.Of 9)) false (answers.Serve 3) (holds 5 false) addresses ≡ gives (codes "Content-Length: 7" ∷ []) (from_to 2 7 false) Keep
+  pub told_and_sealed : reply_by (asks_with (client 2 Once) (hints.Of 9)) false (answers.Serve 3) (holds 5 true) addresses ≡ gives (codes "Content-Length: 3" ∷ closes ∷ []) (from_to 2 3 false) Close
+  pub told_and_not_held : reply_by (asks_with (client 2 HeadAlone) (hints.Of 9)) false answers.NoGroup holds_none addresses ≡ gives (codes "Content-Length: 7" ∷ closes ∷ []) None Close
+  pub told_before : reply_by (asks_with (client 12 Once) (hints.Of 9)) false (answers.Serve 0) (holds 5 false) addresses ≡ gives (codes "Content-Length: 0" ∷ closes ∷ []) (from_to 12 0 false) Close
+  pub known : reply_by (asks_with (client 2 Once) hints.Known) false answers.NoGroup holds_none addresses ≡ gives (codes "Content-Length: 0" ∷ closes ∷ []) (from_to 2 0 false) Close
+  pub known_to_a_follower : reply_by (asks_with (client 0 Follow) hints.Known) true answers.NoGroup holds_none addresses ≡ gives (codes "Transfer-Encoding: chunked" ∷ closes ∷ []) (from_to 0 0 true) Close
+  pub unknown : reply_by (asks_with (client 2 Once) hints.Plain) false answers.NoGroup holds_none addresses ≡ missing
+  pub here : reply_by (asks_with (client 2 Once) hints.Here) false answers.Ok (holds 5 false) addresses ≡ gives (codes "Content-Length: 3" ∷ closes ∷ []) (from_to 2 3 false) Close
+  pub not_here : reply_by (asks_with (client 2 Once) hints.Here) false answers.Ok holds_none addresses ≡ missing
+  pub sent : reply_by (asks_with (client 2 Once) hints.Plain) false (answers.Redirect 2) (holds 5 false) addresses
       ≡ record { text = lines (codes "HTTP/1.1 302 Found" ∷ codes "Location: http://h:2/a?start=2&known" ∷ codes "Content-Length: 0" ∷ closes ∷ []); content = None; connection = Close }
   pub sent_sealed : location_is hints.Plain (holds 5 true) 2 Once (codes "http://h:2/a?start=2&of=5")
   pub sent_sealed_here : location_is (hints.Of 9) (holds 5 true) 0 Follow (codes "http://h:2/a?of=5&follow")
   pub sent_told : location_is (hints.Of 9) (holds 5 false) 2 HeadAlone (codes "http://h:2/a?start=2&of=9")
   pub sent_known : location_is hints.Known holds_none 0 Once (codes "http://h:2/a?known")
   pub sent_following : location_is hints.Plain holds_none 7 Follow (codes "http://h:2/a?start=7&known&follow")
+  pub message : answered_with asks.Message answers.Ok (Some rejoin) (message_response (Some rejoin))
+  pub nothing_back : answered_with asks.Message answers.Ok None (message_response None)
+  pub published : answered_with (asks.Publish (codes "/a")) answers.TooLong (Some rejoin) (status_alone 413)

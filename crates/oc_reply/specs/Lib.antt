@@ -1,3 +1,4 @@
+pub mod Asks
 pub mod Contents
 pub mod Examples
 pub mod Fronts

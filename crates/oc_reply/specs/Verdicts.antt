@@ -1,5 +1,8 @@
 -- What is to be done with the bytes that came on a connection.
 use Rattle.std.specs.Prelude.{◌≡◌, ℕ, ◌+◌, ◌-◌, Bool, true, false, not, ◌&&◌, nat_lt, if◌then◌else◌, Option, Some, None, Result, Ok, Err, List, [], ◌∷◌, length, take}
+use Rattle.oc_events.specs.declared.event.Arrival.{Arrival}
+use Rattle.oc_events.specs.declared.event.Coming.{Coming}
+use Rattle.oc_events.specs.declared.event.Coming.TheVariants.{Open, Ended, Failed}
 use Rattle.oc_http.specs.Answers.{AnswersRequest, IsDecided}
 use Rattle.oc_http.specs.declared.fault.HttpFault.{HttpFault}
 use Rattle.oc_http.specs.declared.fault.HttpFault.TheVariants as http
@@ -8,15 +11,12 @@ use Rattle.oc_model.specs.declared.input.Input.{Input}
 use Rattle.oc_policy.specs.declared.rule.Rule.{Rule}
 use Rattle.oc_routes.specs.Connections.{awaits_continue, is_last}
 use Rattle.oc_routes.specs.Routes.{input_asked}
-use Rattle.oc_routes.specs.Refusals.{fault_of_http, refusal_text}
+use Rattle.oc_routes.specs.Refusals.{fault_of_http}
 use Rattle.oc_routes.specs.declared.fault.RouteFault.{RouteFault}
 use Rattle.oc_routes.specs.declared.fault.RouteFault.TheVariants as faults
 use Rattle.oc_routes.specs.declared.refused.Refused.{Refused}
 use Rattle.oc_routes.specs.declared.refused.Refused.TheVariants as refusals
 use Rattle.oc_reply.specs.Hints.{asked_with_hint}
-use Rattle.oc_reply.specs.declared.arrival.Arrival.{Arrival}
-use Rattle.oc_reply.specs.declared.arrival.Coming.{Coming}
-use Rattle.oc_reply.specs.declared.arrival.Coming.TheVariants.{Open, Ended, Failed, Late}
 use Rattle.oc_reply.specs.declared.hint.Asked.{Asked}
 use Rattle.oc_reply.specs.declared.hint.Hint.{Hint}
 use Rattle.oc_reply.specs.declared.hint.Hint.TheVariants.{Here}
@@ -33,25 +33,21 @@ pub record NodeTerms : Type 0 where
 abbrev pub terms_of : ℕ → ℕ → List Rule → NodeTerms
 terms_of me nodes rules = record { me = me; nodes = nodes; rules = rules }
 
-abbrev pub arrival : ℕ → Bool → Coming → Arrival
-arrival number permitted coming = record { number = number; permitted = permitted; coming = coming }
+-- the request of this number on the connection c
+abbrev pub arrival : ℕ → ℕ → Bool → Coming → Arrival
+arrival c number permitted coming = record { connection = c; number = number; permitted = permitted; coming = coming }
 
--- a request is refused, with its reply
-abbrev pub refuse : Refused → Verdict
-refuse why = Refuse why (refusal_text why)
-
--- the same for a fault
+-- a request is refused for a fault
 abbrev pub refused_for : RouteFault → Verdict
-refused_for (faults.Refused why) = refuse why
+refused_for (faults.Refused why) = Refuse why
 refused_for faults.Memory = Wait
 
--- The bytes so far are a part of a request, none where there are none: one without a byte is left without a word, where it ended or ran
--- out of its time.
+-- The bytes so far are a part of a request, none where there are none. One that ended without a byte is left without a word; a link tells of one
+-- that ran out of its time without a byte the same, or nothing.
 abbrev pub unfinished : Coming → Bool → Verdict
 unfinished Open none = Wait
-unfinished Ended none = if none then Leave else refuse refusals.Ended
-unfinished Failed none = refuse refusals.Source
-unfinished Late none = if none then Leave else refuse refusals.Source
+unfinished Ended none = if none then Leave else Refuse refusals.Ended
+unfinished Failed none = Refuse refusals.Source
 
 abbrev pub is_none : List ℕ → Bool
 is_none [] = true
@@ -65,7 +61,7 @@ input_for hint input = input
 -- a whole request, with its body
 abbrev pub answered : Request → Result (Option Input) Refused → Verdict
 answered request (Ok input) = Ask (record request { input = input_for request.hint input })
-answered request (Err why) = refuse why
+answered request (Err why) = Refuse why
 
 abbrev pub whole : NodeTerms → Request → List ℕ → Verdict
 whole t request body = answered request (input_asked t.nodes t.me request.operation body)
@@ -85,7 +81,7 @@ with_body t a came head rest said =
 
 abbrev pub routed : NodeTerms → Arrival → ℕ → Head → List ℕ → Result Asked Refused → Verdict
 routed t a came head rest (Ok said) = with_body t a came head rest said
-routed t a came head rest (Err why) = refuse why
+routed t a came head rest (Err why) = Refuse why
 
 -- a whole head, with what came behind it
 abbrev pub asked_behind : NodeTerms → Arrival → ℕ → Head → List ℕ → Verdict

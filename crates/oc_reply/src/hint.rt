@@ -8,12 +8,11 @@ ghost use Rattle.oc_routes.specs.Lawful.{IsAsked};
 ghost use Rattle.oc_http.specs.Queries.{parts};
 ghost use Rattle.oc_routes.specs.Queries.{first_value, has_part};
 
-use crate::query::{first_value, has_part};
 use oc_base::MAX_START;
 use oc_base::words::number;
 use oc_http::{Head, Method};
 use oc_policy::Rule;
-use oc_routes::{Operation, Refused, route};
+use oc_routes::{Operation, Refused, first_value, has_part, route};
 
 /// What a client that asks for a group tells of it.
 #[derive(Clone, Copy, Debug, PartialEq, Eq)]

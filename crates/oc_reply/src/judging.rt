@@ -3,16 +3,18 @@
 ghost use Rattle.std.specs.Prelude.{◌≡◌, ◌≤◌, ◌++◌, length, IfOk};
 ghost use Rattle.oc_base.specs.declared.limits.TheConstants.{MAX_BODY_BYTES as MOST_BODY};
 ghost use Rattle.oc_policy.specs.declared.deciding.TheConstants.{MAX_RULES as MOST_RULES};
-ghost use Rattle.oc_reply.specs.Verdicts.{IsVerdict, asked_behind, fault_met, input_for, refuse, terms_of, unfinished};
+ghost use Rattle.oc_reply.specs.Asks.{IsLawfulVerdict};
+ghost use Rattle.oc_reply.specs.Verdicts.{IsVerdict, asked_behind, fault_met, input_for, terms_of, unfinished};
 
-use crate::arrival::{Arrival, Coming, Terms};
 use crate::hint::{Hint, route_with_hint};
 use crate::rest::Rest;
+use crate::terms::Terms;
 use crate::verdict::{Request, Verdict};
-use oc_base::{Memory, Text};
+use oc_base::Memory;
+use oc_events::{Arrival, Coming};
 use oc_http::{Head, HeadReader, HttpFault};
 use oc_model::Input;
-use oc_routes::{Refused, RouteFault, awaits_continue, input_of, is_last, refusal_reply};
+use oc_routes::{Refused, RouteFault, awaits_continue, input_of, is_last};
 use std::alloc::Global;
 
 /// What is to be done with a connection for the bytes of its request that came so far. For a request it is
@@ -25,7 +27,8 @@ pub fn judge(
     bytes: &[u8],
 ) -> Result<Verdict, Memory>
     requires { length terms.now.rules.now ≤ MOST_RULES }
-    ensures { IfOk result (IsVerdict (terms_of terms.now.me terms.now.nodes terms.now.rules.now) arrival bytes.now) }
+    ensures verdict { IfOk result (IsVerdict (terms_of terms.now.me terms.now.nodes terms.now.rules.now) arrival bytes.now) }
+    ensures lawful { IfOk result (IsLawfulVerdict terms.now.nodes terms.now.me) }
 {
     let mut source = Rest::of(bytes);
     match heads.read_head(&mut source) {
@@ -38,8 +41,8 @@ pub fn judge(
             source.left,
         ),
         Err(fault) => match fault_met(fault) {
-            None => not_whole(alloc, arrival.coming, bytes.is_empty()),
-            Some(RouteFault::Refused(why)) => refuse(alloc, why),
+            None => Ok(unfinished(arrival.coming, bytes.is_empty())),
+            Some(RouteFault::Refused(why)) => Ok(Verdict::Refuse(why)),
             Some(RouteFault::Memory) => Err(Memory),
         },
     }
@@ -66,18 +69,19 @@ fn behind_head(
 ) -> Result<Verdict, Memory>
     requires rules { length terms.now.rules.now ≤ MOST_RULES }
     requires body { head.now.length ≤ MOST_BODY }
-    ensures { IfOk result (λ verdict. verdict
+    ensures verdict { IfOk result (λ verdict. verdict
         ≡ asked_behind (terms_of terms.now.me terms.now.nodes terms.now.rules.now) arrival came head.now rest.now) }
+    ensures lawful { IfOk result (IsLawfulVerdict terms.now.nodes terms.now.me) }
 {
     let said = match route_with_hint(head, terms.rules) {
         Ok(said) => said,
-        Err(why) => return refuse(alloc, why),
+        Err(why) => return Ok(Verdict::Refuse(why)),
     };
     if awaits_continue(head) && !arrival.permitted {
         return Ok(Verdict::Permit);
     }
     if (rest.len() as u64) < head.length {
-        return not_whole(alloc, arrival.coming, false);
+        return Ok(unfinished(arrival.coming, false));
     }
     let body = copied(alloc, &rest[..head.length as usize])?;
     match input_of(alloc, &said.operation, body, terms.me, terms.nodes) {
@@ -88,7 +92,7 @@ fn behind_head(
             input: input_for(said.hint, input),
             last: is_last(head, arrival.number),
         })),
-        Err(RouteFault::Refused(why)) => refuse(alloc, why),
+        Err(RouteFault::Refused(why)) => Ok(Verdict::Refuse(why)),
         Err(RouteFault::Memory) => Err(Memory),
     }
 }
@@ -104,26 +108,15 @@ fn input_for(hint: Hint, input: Option<Input>) -> Option<Input>
 }
 
 /// The verdict on a request of which the bytes so far are a part, `none` where none came.
-fn not_whole(alloc: Global, coming: Coming, none: bool) -> Result<Verdict, Memory>
-    ensures { IfOk result (λ verdict. verdict ≡ unfinished coming none) }
+fn unfinished(coming: Coming, none: bool) -> Verdict
+    ensures { result ≡ unfinished coming none }
 {
     match coming {
-        Coming::Open => Ok(Verdict::Wait),
-        Coming::Ended | Coming::Late if none => Ok(Verdict::Leave),
-        Coming::Ended => refuse(alloc, Refused::Ended),
-        Coming::Failed | Coming::Late => refuse(alloc, Refused::Source),
+        Coming::Open => Verdict::Wait,
+        Coming::Ended if none => Verdict::Leave,
+        Coming::Ended => Verdict::Refuse(Refused::Ended),
+        Coming::Failed => Verdict::Refuse(Refused::Source),
     }
-}
-
-/// A request is refused.
-fn refuse(alloc: Global, why: Refused) -> Result<Verdict, Memory>
-    ensures { IfOk result (λ verdict. verdict ≡ refuse why) }
-{
-    let reply = match refusal_reply(alloc, why)? {
-        Some(text) => Some(Text::of(text)),
-        None => None,
-    };
-    Ok(Verdict::Refuse { why, reply })
 }
 
 /// A copy of these bytes.

@@ -4,15 +4,15 @@ ghost use Rattle.std.specs.Prelude.{◌≡◌, ◌≢◌, ◌↔◌, ℕ, ◌+�
 ghost use Rattle.oc_base.specs.Groups.{bytes_of};
 ghost use Rattle.oc_base.specs.declared.group.Group.{Group};
 ghost use Rattle.oc_base.specs.declared.shelf.Shelf.{Shelf};
-ghost use Rattle.oc_reply.specs.Contents.{FitsIn, begun, behind, coded, owed, owed_of, part_of, piece_of, piece_text};
+ghost use Rattle.oc_events.specs.declared.event.Arrival.{Arrival};
+ghost use Rattle.oc_events.specs.declared.event.Coming.{Coming};
+ghost use Rattle.oc_events.specs.declared.event.Coming.TheVariants.{Open};
+ghost use Rattle.oc_reply.specs.Contents.{IsThere, begun, behind, coded, owed, owed_of, part_of, piece_of, piece_text};
 ghost use Rattle.oc_reply.specs.Examples.{AreHinted, AreJudged, ArePieces, AreShown, AreWaiting};
 ghost use Rattle.oc_reply.specs.Stillness.{HasNothingNew, IsEarly};
 ghost use Rattle.oc_reply.specs.Verdicts.{IsVerdict, NodeTerms, arrival};
 ghost use Rattle.oc_reply.specs.Shown.{here_answer};
 ghost use Rattle.oc_reply.specs.Waits.{gives_nothing, holding, is_due, prospect};
-ghost use Rattle.oc_reply.specs.declared.arrival.Arrival.{Arrival};
-ghost use Rattle.oc_reply.specs.declared.arrival.Coming.{Coming};
-ghost use Rattle.oc_reply.specs.declared.arrival.Coming.TheVariants.{Open};
 ghost use Rattle.oc_reply.specs.declared.content.UnderWay.{UnderWay};
 ghost use Rattle.oc_reply.specs.declared.hint.Hint.{Hint};
 ghost use Rattle.oc_reply.specs.declared.holding.Holding.{Holding};
@@ -27,8 +27,8 @@ ghost use Rattle.oc_routes.specs.declared.response.GroupRange.{GroupRange};
 /// said of them while more may come, and is not to wait, is said with any bytes behind them, however these end.
 pub fn a_request_has_one_verdict()
     ensures one { (t : NodeTerms) (a : Arrival) (bytes : List ℕ) (v w : Verdict) → IsVerdict t a bytes v → IsVerdict t a bytes w → v ≡ w }
-    ensures cut { (t : NodeTerms) (number : ℕ) (permitted : Bool) (coming : Coming) (bytes more : List ℕ) (v : Verdict)
-        → IsVerdict t (arrival number permitted Open) bytes v → v ≢ Wait → IsVerdict t (arrival number permitted coming) (bytes ++ more) v }
+    ensures cut { (t : NodeTerms) (c number : ℕ) (permitted : Bool) (coming : Coming) (bytes more : List ℕ) (v : Verdict)
+        → IsVerdict t (arrival c number permitted Open) bytes v → v ≢ Wait → IsVerdict t (arrival c number permitted coming) (bytes ++ more) v }
 {}
 
 /// The pieces of a content are its text: what is owed before the first is the content as it is sent whole, what is
@@ -36,19 +36,23 @@ pub fn a_request_has_one_verdict()
 pub fn pieces_are_the_content()
     ensures begun { (group : List ℕ) (content : GroupRange) (groups : List Group)
         → owed (Some (begun group content)) groups ≡ coded content.chunked (part_of group content.start content.count groups) }
-    ensures piece { (u : UnderWay) (groups : List Group) → FitsIn u groups
+    ensures piece { (u : UnderWay) (groups : List Group) → IsThere u groups
         → owed (Some u) groups ≡ piece_text u (piece_of u groups) ++ owed (behind u (length (piece_of u groups))) groups }
-    ensures stays { (u : UnderWay) (old new : List Group) (more : List ℕ) → FitsIn u old → bytes_of u.group new ≡ bytes_of u.group old ++ more
+    ensures stays { (u : UnderWay) (old new : List Group) (more : List ℕ) → IsThere u old → bytes_of u.group new ≡ bytes_of u.group old ++ more
         → owed (Some u) new ≡ owed (Some u) old }
 {}
 
 /// The pieces of a content whose end is told, and which its group may not have yet: they follow one another in the
-/// group, from the start on, and what was given stays a part of the group while it grows.
+/// group, from the start on, and what was given stays a part of the group while it grows. Whatever a group becomes, what
+/// is owed of it then is the piece of now and what is owed behind that.
 pub fn pieces_follow_one_another()
     ensures follows { (u : UnderWay) (groups : List Group) (start : ℕ) → start ≤ u.at
         → part_of u.group start (u.at - start) groups ++ piece_of u groups ≡ part_of u.group start ((u.at + length (piece_of u groups)) - start) groups }
     ensures stays { (group : List ℕ) (start at : ℕ) (old new : List Group) (more : List ℕ) → at ≤ length (bytes_of group old)
         → bytes_of group new ≡ bytes_of group old ++ more → part_of group start (at - start) new ≡ part_of group start (at - start) old }
+    ensures told { (u : UnderWay) (now later : List Group) (more : List ℕ) → (u.chunked ≡ true → IsThere u now)
+        → bytes_of u.group later ≡ bytes_of u.group now ++ more
+        → owed (Some u) later ≡ piece_text u (piece_of u now) ++ owed (behind u (length (piece_of u now))) later }
 {}
 
 /// A content under way waits exactly where its group has nothing new for it, is open, and its time has not passed,

@@ -9,23 +9,22 @@
 //! A content under way ([`UnderWay`]) is a place in a group; `oc_pieces` reads its next piece from the content file.
 //! [`pieces_are_the_content`]: piece by piece they are the text of the whole content, whatever came between. [`is_to_wait`], [`Follower::is_due`] and [`UnderWay::prospect`] say who waits, and until when.
 //!
-//! What a query tells besides start and area (`of=`, `known`, `here`) is a [`Hint`], and [`reply_by`] says what a client
-//! is answered by it.
+//! What a query tells besides start and area (`of=`, `known`, `here`) is a [`Hint`]. [`respond_to`] says what any request is
+//! answered for the answer of its step: a message by the one that goes back, and all else by [`reply_by`].
 #![tactic(auto)]
 
-mod arrival;
 mod content;
 mod hint;
 mod holding;
 mod judging;
 mod law;
-mod query;
 mod rest;
 mod showing;
+mod terms;
+mod told;
 mod verdict;
 mod waiting;
 
-pub use arrival::{Arrival, Coming, Terms};
 pub use content::{PIECE_BYTES, UnderWay};
 pub use hint::{Asked, Hint, route_with_hint};
 pub use holding::Holding;
@@ -34,6 +33,8 @@ pub use law::{
     a_request_has_one_verdict, examples_compute, pieces_are_the_content, pieces_follow_one_another,
     who_waits_has_nothing_new,
 };
-pub use showing::{Shown, as_shown, reply_by};
+pub use showing::{Shown, as_shown, reply_by, respond_to};
+pub use terms::Terms;
+pub use told::Told;
 pub use verdict::{Request, Verdict};
 pub use waiting::{FOLLOW_MILLIS, Follower, IDLE_MILLIS, Prospect, is_to_wait, millis_left};

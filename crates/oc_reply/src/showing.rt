@@ -1,18 +1,20 @@
 //! What a client is answered by what it tells.
 
 ghost use Rattle.std.specs.Prelude.{◌≡◌, ◌++◌, [], IfOk, None, OnOk, map, string_bytes, option_map};
+ghost use Rattle.std.specs.Option.{ForSome};
 ghost use Rattle.oc_base.specs.Names.{IsGroupName};
-ghost use Rattle.oc_reply.specs.Shown.{address_in, here_answer, known_shown, location_of, of_shown, follow_text, reply_by, shown, start_text, told_text};
+ghost use Rattle.oc_reply.specs.Shown.{address_in, here_answer, known_shown, location_of, of_shown, follow_text, reply_by, shown, start_text, response_for, told_text};
 ghost use Rattle.oc_routes.specs.Lawful.{IsAsked};
-ghost use Rattle.oc_routes.specs.Responses.{address_of, redirection, whole};
+ghost use Rattle.oc_routes.specs.Responses.{redirection, whole};
+ghost use Rattle.oc_wire.specs.Spelling.{HasSpelling};
 
-use crate::hint::Hint;
+use crate::hint::{Asked, Hint};
 use crate::holding::Holding;
-use crate::verdict::Request;
-use oc_base::{Bytes, GroupName, Memory, NodeId, Text, put, put_with_number};
+use crate::told::Told;
+use oc_base::{Bytes, GroupName, Memory, Text, put, put_with_number};
 use oc_http::{Persistence, Reply, write_response};
 use oc_model::Answer;
-use oc_routes::{Answered, Manner, Operation, Response, respond};
+use oc_routes::{Answered, Manner, Operation, Response, address_of, respond};
 use std::alloc::Global;
 
 /// An answer, and whether its group is sealed, as a client is shown them.
@@ -22,43 +24,77 @@ pub struct Shown {
     pub sealed: bool,
 }
 
-/// What a request is answered for this answer of its step, by what the node holds of the group. The reply to a
-/// message is that of [`oc_routes::respond`].
+/// What a request is answered for the answer of its step: a message by the one that goes back, and all else by
+/// [`reply_by`]. `last` says that it is the last request of its connection whatever it asks, and `addresses` are those of the
+/// nodes by their ids.
+pub fn respond_to(
+    alloc: Global,
+    asked: Asked,
+    last: bool,
+    told: Told<'_>,
+    addresses: &[String],
+) -> Result<Response, Memory>
+    requires asks { IsAsked asked.operation }
+    requires back { ForSome (option_map (λ m. m.now) told.back) (λ m. HasSpelling m.body) }
+    ensures { IfOk result (λ response. response
+        ≡ response_for asked last told.entry.answer (option_map (λ m. m.now) told.entry.back) told.entry.holding (map string_bytes addresses.now)) }
+{
+    let Told {
+        answer,
+        back,
+        holding,
+    } = told;
+    match asked.operation {
+        Operation::Message => {
+            let answered = Answered {
+                answer,
+                sealed: holding.sealed,
+                last,
+            };
+            respond(alloc, &asked.operation, answered, back, addresses)
+        }
+        _ => reply_by(alloc, asked, last, answer, holding, addresses),
+    }
+}
+
+/// What a request is answered for the answer of its step, by what the node holds of the group, where no message goes
+/// back.
 pub fn reply_by(
     alloc: Global,
-    request: &Request,
+    asked: Asked,
+    last: bool,
     answer: Answer,
     holding: Holding,
     addresses: &[String],
 ) -> Result<Response, Memory>
-    requires { IsAsked request.now.operation }
+    requires { IsAsked asked.operation }
     ensures { IfOk result (λ response. response
-        ≡ reply_by request.now.operation request.now.hint answer holding (map string_bytes addresses.now) request.now.last) }
+        ≡ reply_by asked last answer holding (map string_bytes addresses.now)) }
 {
     let Operation::Client {
         group,
         start,
         manner,
         ..
-    } = &request.operation
+    } = &asked.operation
     else {
         let answered = Answered {
             answer,
             sealed: holding.sealed,
-            last: request.last,
+            last,
         };
-        return respond(alloc, &request.operation, answered, None, addresses);
+        return respond(alloc, &asked.operation, answered, None, addresses);
     };
-    let shown = as_shown(request.hint, answer, holding, *start);
+    let shown = as_shown(asked.hint, answer, holding, *start);
     let Some(address) = address_in(shown.answer, addresses) else {
         let answered = Answered {
             answer: shown.answer,
             sealed: shown.sealed,
-            last: request.last,
+            last,
         };
-        return respond(alloc, &request.operation, answered, None, addresses);
+        return respond(alloc, &asked.operation, answered, None, addresses);
     };
-    let told = told_text(alloc, request.hint, holding)?;
+    let told = told_text(alloc, asked.hint, holding)?;
     let location = location_of(alloc, address, group, *start, &told, *manner)?;
     redirected(alloc, location)
 }
@@ -70,16 +106,6 @@ fn address_in(answer: Answer, addresses: &[String]) -> Option<&str>
     match answer {
         Answer::Redirect(node) => Some(address_of(addresses, node)),
         _ => None,
-    }
-}
-
-/// The address of a node, by its id; empty where no node has the id.
-fn address_of(addresses: &[String], node: NodeId) -> &str
-    ensures { result.now ≡ address_of (map string_bytes addresses.now) node }
-{
-    match addresses.get((node.0 as usize).saturating_sub(1)) {
-        Some(address) => address.as_str(),
-        None => "",
     }
 }
 

@@ -1,5 +1,4 @@
 use crate::hint::Hint;
-use oc_base::Text;
 use oc_model::Input;
 use oc_routes::{Operation, Refused};
 
@@ -12,12 +11,8 @@ pub enum Verdict {
     Leave,
     /// Its client is given the permission to send the body (RFC 9110, section 10.1.1).
     Permit,
-    /// The request is refused.
-    Refuse {
-        why: Refused,
-        /// The whole reply, where there is one.
-        reply: Option<Text>,
-    },
+    /// The request is refused; [`oc_routes::refusal_reply`] has the reply.
+    Refuse(Refused),
     /// The request is whole, and is to be answered.
     Ask(Request),
 }

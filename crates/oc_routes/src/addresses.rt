@@ -4,7 +4,7 @@ ghost use Rattle.oc_routes.specs.Responses.{address_of};
 use oc_base::NodeId;
 
 /// The address of a node, by its id; empty where no node has the id.
-pub(crate) fn address_of(addresses: &[String], node: NodeId) -> &str
+pub fn address_of(addresses: &[String], node: NodeId) -> &str
     ensures { result.now ≡ address_of (map string_bytes addresses.now) node }
 {
     match addresses.get((node.0 as usize).saturating_sub(1)) {

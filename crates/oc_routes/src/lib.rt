@@ -28,12 +28,14 @@ mod response;
 mod responses;
 mod routes;
 
+pub use addresses::address_of;
 pub use connections::{CONTINUE, MAX_REQUESTS, awaits_continue, is_last};
 pub use fault::RouteFault;
 pub use law::{examples_compute, steps_answer_by_the_table};
 pub use lines::{put_input_line, put_refusal_line};
 pub use manner::Manner;
 pub use oc_http::Persistence;
+pub use query::{first_value, has_part};
 pub use refusals::refusal_reply;
 pub use refused::Refused;
 pub use replies::split_reply;

@@ -50,8 +50,8 @@ fn number_or_nought(most: u64, value: Option<&[u8]>) -> Result<u64, Refused>
     }
 }
 
-/// The first value of a name with its `=`.
-fn first_value<'a>(name: &[u8], query: &'a [u8]) -> Option<&'a [u8]>
+/// The value of the first part of a query that begins with this name, which ends with `=`.
+pub fn first_value<'a>(name: &[u8], query: &'a [u8]) -> Option<&'a [u8]>
     ensures { option_map (λ v. v.now) result ≡ first_value name.now (parts query.now) }
 {
     let mut rest = query;
@@ -71,8 +71,8 @@ fn value_in<'a>(name: &[u8], part: &'a [u8]) -> Option<&'a [u8]>
     part.strip_prefix(name)
 }
 
-/// Whether some part of a query is this one.
-fn has_part(name: &str, query: &[u8]) -> bool
+/// Whether some part of a query is exactly this one.
+pub fn has_part(name: &str, query: &[u8]) -> bool
     ensures { result ≡ has_part name.now (parts query.now) }
 {
     let mut rest = query;

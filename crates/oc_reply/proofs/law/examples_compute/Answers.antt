@@ -4,7 +4,7 @@ use Rattle.oc_chunked.specs.Texts.{chunks_written}
 use Rattle.oc_reply.proofs.law.examples_compute.Goals as goal
 
 pub returns-clause-judged : goal.returns-clause-judged
-returns-clause-judged c = record { waits = refl; ended = refl; failed = refl; late = refl; whole = refl; more_behind = refl; whole_at_its_end = refl; sixteenth = refl; permits = refl; permitted = refl; refused_at_its_head = refl; sealed_with_a_body = refl; follows = refl; follows_known = refl; here = refl; nothing_waits = refl; nothing_ended = refl; nothing_late = refl; nothing_failed = refl }
+returns-clause-judged c = record { waits = refl; ended = refl; failed = refl; whole = refl; more_behind = refl; whole_at_its_end = refl; sixteenth = refl; permits = refl; permitted = refl; refused_at_its_head = refl; sealed_with_a_body = refl; follows = refl; follows_known = refl; here = refl; nothing_waits = refl; nothing_ended = refl; nothing_failed = refl }
 
 pub returns-clause-hinted : goal.returns-clause-hinted
 returns-clause-hinted c = record { nothing = refl; known = refl; of_length = refl; first_of = refl; greatest = refl; too_great = refl; here_first = refl; refused_with_here = refl; refused = refl; refused_of_a_head = refl; before_the_rules = refl; denied = refl; behind_the_path = refl; not_of_a_post = refl; not_of_a_denied_post = refl; not_of_a_probe = refl }
@@ -18,4 +18,4 @@ returns-clause-waiting c = record { held = refl; not_held = refl; gives = refl; 
 
 pub returns-clause-shown : goal.returns-clause-shown
 unfolding digits
-returns-clause-shown c = record { plain = refl; told = refl; told_to_a_follower = refl; told_and_sealed = refl; told_and_not_held = refl; told_before = refl; known = refl; known_to_a_follower = refl; unknown = refl; here = refl; not_here = refl; sent = refl; sent_sealed = refl; sent_sealed_here = refl; sent_told = refl; sent_known = refl; sent_following = refl }
+returns-clause-shown c = record { plain = refl; told = refl; told_to_a_follower = refl; told_and_sealed = refl; told_and_not_held = refl; told_before = refl; known = refl; known_to_a_follower = refl; unknown = refl; here = refl; not_here = refl; sent = refl; sent_sealed = refl; sent_sealed_here = refl; sent_told = refl; sent_known = refl; sent_following = refl; message = refl; nothing_back = refl; published = refl }

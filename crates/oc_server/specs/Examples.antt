@@ -1,91 +1,105 @@
--- Worked examples of deeds, at a node that is the bytes of its one group.
-use Rattle.std.specs.Prelude.{◌≡◌, ℕ, false, true, None, Some, List, [], ◌∷◌, ◌++◌, codes, length, refl}
+-- Worked examples: short runs of deeds, with their calls, their lines and what is left under way.
+use Rattle.std.specs.Prelude.{◌≡◌, ℕ, true, false, Option, None, Some, List, [], ◌∷◌, ◌++◌, codes}
+use Rattle.oc_base.specs.Groups.{bytes_of}
 use Rattle.oc_events.specs.declared.call.Call.TheVariants as acts
-use Rattle.oc_events.specs.declared.event.Coming.TheVariants as comings
+use Rattle.oc_events.specs.declared.event.Coming.TheVariants.{Open, Ended}
 use Rattle.oc_events.specs.declared.event.Event.{Event}
 use Rattle.oc_events.specs.declared.event.Event.TheVariants as events
-use Rattle.oc_events.specs.declared.stage.Stage.TheVariants as stages
-use Rattle.oc_events.specs.Stands.{standing_of}
-use Rattle.oc_events.specs.Traffic.{asked, given}
-use Rattle.oc_server.specs.declared.follower.Follower.{Follower}
-use Rattle.oc_server.specs.declared.place.Place.{Place}
-use Rattle.oc_server.specs.NodeDoes.{Deed, Rules, Running, Sees, Ticks, Dials, Waits, Answers, Refuses, Drops, after_all, calls_of, lines}
+use Rattle.oc_http.specs.Writing.{request_text}
+use Rattle.oc_http.specs.declared.framing.Persistence.{Persistence}
+use Rattle.oc_http.specs.declared.framing.Persistence.TheVariants.{Close, Keep}
+use Rattle.oc_model.specs.Node.{new_node}
+use Rattle.oc_model.specs.declared.input.Input.TheVariants as inputs
+use Rattle.oc_model.specs.declared.message.Body.TheVariants as bodies
+use Rattle.oc_model.specs.declared.message.Message.{Message}
+use Rattle.oc_reply.specs.declared.hint.Hint.TheVariants.{Plain}
+use Rattle.oc_routes.specs.Inputs.{input_line}
+use Rattle.oc_routes.specs.declared.manner.Manner.TheVariants.{Once}
+use Rattle.oc_routes.specs.declared.response.GroupRange.{GroupRange}
+use Rattle.oc_routes.specs.declared.response.Response.{Response}
+use Rattle.oc_routes.specs.declared.routes.Operation.{Operation}
+use Rattle.oc_routes.specs.declared.routes.Operation.TheVariants as asks
+use Rattle.oc_wire.specs.Spelling.{spelling}
+use Rattle.oc_server.specs.Deeds.{Accepts, Deed, Dials, Drops, Gives, Notes, Replies, Running, Sees, Setting, after_all, calls_of, errand_in, lines}
+use Rattle.oc_server.specs.Dials.{dialling}
+use Rattle.oc_server.specs.declared.dials.Errand.TheVariants as errands
+use Rattle.oc_server.specs.declared.work.Pending.{Pending}
+use Rattle.oc_server.specs.declared.work.Place.{Place}
+use Rattle.oc_server.specs.declared.work.Work.TheVariants as works
 
--- what is published is added at the end, and a message tells how much it is
-abbrev place : List ℕ → ℕ → ℕ → Place
-place bytes c start = record { connection = c; group = 47 ∷ 103 ∷ []; next = start; end = length bytes; chunked = false; keeps = false }
+-- node 1 of 2, at these addresses
+abbrev example : Setting
+example = record { me = 1; addresses = codes "a:1" ∷ codes "b:2" ∷ [] }
 
-abbrev rules : Rules (List ℕ) (List ℕ) ℕ ℕ
-rules = record {
-  step = λ bytes more. bytes ++ more;
-  outbox = λ bytes more messages. messages ++ length more ∷ [];
-  line = λ more. codes "publish\n";
-  reply = λ bytes c start input. record { text = codes "h"; content = Some (place bytes c start); keeps = false };
-  bytes = λ bytes group. bytes;
-  address = λ message. codes "a";
-  request = λ message. message ∷ [];
-}
+-- node 1, new, with these messages to send
+abbrev started : List Message → Running
+started outbox = record { node = new_node (record { nodes = 2; chain = 1; areas = 0 ∷ 0 ∷ [] }) 1; outbox = outbox; works = []; dials = [] }
 
--- a node of three bytes that does nothing
-abbrev begun : Running (List ℕ) ℕ
-begun = record { node = 1 ∷ 2 ∷ 3 ∷ []; outbox = []; works = [] }
+-- a request of a connection has come
+abbrev came : ℕ → Event
+came c = events.Request (record { connection = c; number = 1; permitted = false; coming = Open })
 
--- the first request of the connection 7
-abbrev asks : Event
-asks = events.Request (record { connection = 7; number = 1; permitted = false; coming = comings.Open })
+-- a request that is to be answered, whose line was written
+abbrev pending : ℕ → ℕ → Operation → Pending
+pending c count operation = record { connection = c; count = count; asked = record { operation = operation; hint = Plain }; last = false; told = true; waited = false }
 
--- a request of two bytes for what is behind the first byte
-abbrev serves : List (Deed (List ℕ) ℕ ℕ)
-serves = Sees asks (97 ∷ 98 ∷ []) ∷ Answers 7 (Some 2) 1 None ∷ []
+-- a response
+abbrev response : List ℕ → Option GroupRange → Persistence → Response
+response text content connection = record { text = text; content = content; connection = connection }
 
-pub serves-asked : asked 7 (calls_of rules serves begun) ≡ 97 ∷ 98 ∷ []
-serves-asked = refl
+-- these bytes are published behind those of the group
+abbrev publishes : List ℕ → Deed
+publishes bytes = Accepts (inputs.Publish (codes "/a") bytes)
 
-pub serves-given : given 7 (calls_of rules serves begun) ≡ codes "h" ++ (2 ∷ 3 ∷ [])
-serves-given = refl
+-- A publish of three bytes comes on connection 7, is taken and answered.
 
-pub serves-whole : (standing_of 7 (calls_of rules serves begun)).stage ≡ stages.Whole
-serves-whole = refl
+abbrev publish : List Deed
+publish = Sees (came 7) 0 (codes "POST") ∷ publishes (codes "abc") ∷ Replies (pending 7 43 (asks.Publish (codes "/a"))) (response (codes "200") None Close) 5 ∷ []
 
--- A tick that adds a byte, and the message of it. The clock is read before, and its line is written.
-abbrev ticks : List (Deed (List ℕ) ℕ ℕ)
-ticks = Ticks 5 (4 ∷ []) ∷ Dials 0 1 ∷ []
+abbrev published : Running
+published = after_all publish (started [])
 
-pub ticks-calls : calls_of rules ticks begun ≡ acts.Now 5 ∷ acts.Dial 0 (codes "a") (1 ∷ []) ∷ []
-ticks-calls = refl
+-- Of six bytes that were promised of a group three are there: they are given with the head, and the other three once they were published.
 
-pub ticks-after : after_all rules ticks begun ≡ record { node = 1 ∷ 2 ∷ 3 ∷ 4 ∷ []; outbox = []; works = [] }
-ticks-after = refl
+abbrev six_bytes : GroupRange
+six_bytes = record { start = 0; count = 6; chunked = false }
 
-pub ticks-lines : lines rules ticks ≡ codes "publish\n"
-ticks-lines = refl
+abbrev head_deed : Deed
+head_deed = Replies (pending 8 40 (asks.Client (codes "/a") 0 0 Once)) (response (codes "200:") (Some six_bytes) Keep) 5
 
--- A client that has all waits; a byte comes, and it is answered.
-abbrev follower : Follower
-follower = record { connection = 7; group = 47 ∷ 103 ∷ []; area = 0; start = 3; last = true; since = 0 }
+-- what is left behind the first three
+abbrev left : Place
+left = record { connection = 8; content = record { group = codes "/a"; at = 3; end = 6; chunked = false }; keeps = true; told = true; since = 5 }
 
-abbrev follows : List (Deed (List ℕ) ℕ ℕ)
-follows = Sees asks (97 ∷ []) ∷ Waits follower 1 ∷ Ticks 5 (4 ∷ []) ∷ Answers 7 None 3 None ∷ []
+abbrev content : List Deed
+content = head_deed ∷ publishes (codes "def") ∷ Gives left 9 ∷ []
 
-pub follows-given : given 7 (calls_of rules follows begun) ≡ codes "h" ++ (4 ∷ [])
-follows-given = refl
+-- A message to node 2 is dialled, and its reply comes.
 
-pub follows-after : (after_all rules follows begun).works ≡ []
-follows-after = refl
+abbrev look : Message
+look = record { from = 1; to = 2; body = bodies.Look }
 
--- it is gone before
-pub gone-after : (after_all rules (Waits follower 1 ∷ Drops 7 false ∷ []) begun).works ≡ []
-gone-after = refl
+abbrev dial : List Deed
+dial = Dials 0 look 3 ∷ []
 
--- A request of three bytes is refused: it takes no input, a line says why, and its connection ends.
-abbrev refuses : List (Deed (List ℕ) ℕ ℕ)
-refuses = Sees asks (97 ∷ 98 ∷ 99 ∷ []) ∷ Refuses 7 3 (codes "path") (Some (codes "404")) ∷ []
+abbrev reply : Event
+reply = events.Reply 3 Ended
 
-pub refuses-line : lines rules refuses ≡ codes "! path\n"
-refuses-line = refl
-
-pub refuses-given : given 7 (calls_of rules refuses begun) ≡ codes "404"
-refuses-given = refl
-
-pub refuses-after : after_all rules refuses begun ≡ begun
-refuses-after = refl
+-- what these runs do
+pub record AreRuns : Type 0 where
+  pub published_calls : calls_of example publish (started [])
+      ≡ acts.Next (came 7) (codes "POST") ∷ acts.Take 7 43 ∷ acts.Give 7 (codes "200") ∷ acts.Finish 7 (record { keeps = false; watched = true }) ∷ []
+  pub published_lines : lines 1 publish ≡ input_line 1 (inputs.Publish (codes "/a") (codes "abc")) ++ []
+  pub published_bytes : bytes_of (codes "/a") published.node.groups ≡ codes "abc"
+  pub published_works : published.works ≡ []
+  pub noted_lines : lines 1 (Notes (codes "ended") ∷ Drops 7 true ∷ Drops 8 false ∷ []) ≡ codes "! ended\n! write\n"
+  pub content_calls : calls_of example content published
+      ≡ acts.Take 8 40 ∷ acts.Give 8 (codes "200:abc") ∷ acts.Give 8 (codes "def") ∷ acts.Finish 8 (record { keeps = true; watched = true }) ∷ []
+  pub content_left : (after_all (head_deed ∷ []) published).works ≡ works.Content left ∷ []
+  pub content_given : (after_all content published).works ≡ []
+  pub dial_calls : calls_of example (dial ++ Sees reply 100 (codes "204") ∷ []) (started (look ∷ []))
+      ≡ acts.Dial 3 (codes "b:2") (request_text (codes "b:2") (spelling look)) ∷ acts.Next reply (codes "204") ∷ []
+  pub dial_under_way : (after_all dial (started (look ∷ []))).dials ≡ dialling 3 (errands.Message 2 false) ∷ []
+  pub dial_outbox : (after_all dial (started (look ∷ []))).outbox ≡ []
+  pub dial_errand : errand_in reply (after_all dial (started (look ∷ []))).dials ≡ Some (errands.Message 2 false)
+  pub dial_over : (after_all (dial ++ Sees reply 100 (codes "204") ∷ []) (started (look ∷ []))).dials ≡ []

@@ -1,15 +1,15 @@
--- The calls by which the next piece of a content is given, and what is left of it.
-use Rattle.std.specs.Prelude.{ℕ, if◌then◌else◌, Option, None, Some, List, ◌∷◌}
+-- Pieces of contents that are read.
+use Rattle.std.specs.Prelude.{ℕ, Option, List}
 use Rattle.oc_events.specs.declared.call.Call.{Call}
-use Rattle.oc_events.specs.declared.call.Call.TheVariants as acts
-use Rattle.oc_server.specs.declared.place.Place.{Place}
-use Rattle.oc_server.specs.NodeDoes.{finish_at}
-use Rattle.oc_server.specs.Pieces.{behind_piece, is_whole}
+use Rattle.oc_events.specs.declared.counts.Counts.{Counts}
+use Rattle.oc_io.specs.DiskView.{DiskView}
+use Rattle.oc_server.specs.Scenes.{Breaks, Idle}
+use Rattle.oc_server.specs.declared.ends.TurnEnd.{TurnEnd}
+use Rattle.oc_server.specs.declared.ends.TurnEnd.TheVariants as ends
+use Rattle.oc_server.specs.declared.server.Server.{Server}
 
--- this text is given, and behind the last piece the reply is whole
-abbrev pub piece_calls : Place → List ℕ → List Call
-piece_calls p text = acts.Give p.connection text ∷ finish_at (behind_piece p)
-
--- what is left, if anything is
-abbrev pub left_behind : Place → Option Place
-left_behind p = if is_whole (behind_piece p) then None else Some (behind_piece p)
+-- it ended with nothing under way: memory ran out, or a disk failed in a look
+abbrev pub LookBreaks : {D L K : Type 0} → (D → DiskView) → (K → List ℕ → K → Type 0) → (K → List ℕ → K → Type 0) → (K → ℕ) → (L → Option (List Call)) → (L → Counts) → TurnEnd → Server D L K → Server D L K → Type 0
+LookBreaks view takes fails faults story counts ends.Memory old new = Breaks view takes fails faults story counts ends.Memory Idle old new
+LookBreaks view takes fails faults story counts ends.Disk old new = Breaks view takes fails faults story counts ends.Disk Idle old new
+LookBreaks view takes fails faults story counts end old new = ⊥

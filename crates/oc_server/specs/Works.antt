@@ -1,12 +1,13 @@
 -- What is under way by connection.
 use Rattle.std.specs.Prelude.{ℕ, ◌==◌, Option, None, Some, List, position, remove, slice_get}
-use Rattle.oc_server.specs.declared.replies.Work.{Work}
-use Rattle.oc_server.specs.declared.replies.Work.TheVariants as works
+use Rattle.oc_server.specs.declared.work.Work.{Work}
+use Rattle.oc_server.specs.declared.work.Work.TheVariants as works
 
 -- the connection on which it is under way
 abbrev pub connection_of : Work → ℕ
 connection_of (works.Content p) = p.connection
-connection_of (works.Waits f) = f.connection
+connection_of (works.Aside p) = p.connection
+connection_of (works.Waits w) = w.connection
 
 -- the place of what is under way on the connection c
 abbrev pub place_on : ℕ → List Work → Option ℕ

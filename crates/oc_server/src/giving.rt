@@ -1,26 +1,347 @@
-ghost use Rattle.std.specs.Prelude.{◌≡◌};
+//! What connections are given.
+
+ghost use Rattle.std.specs.Prelude.{◌≡◌, ◌≤◌, ◌∷◌, ◌++◌, [], OnErr, OnOk, IfErr, IfOk, List, ℕ, false, true, length, take, vec_len};
+ghost use Rattle.oc_chunked.specs.Texts.{chunked_text};
 ghost use Rattle.oc_events.specs.Told.{AddsAll};
-ghost use Rattle.oc_server.specs.Giving.{left_behind, piece_calls};
+ghost use Rattle.oc_keep.specs.KeptView.{IsHonest, node_of};
+ghost use Rattle.oc_reply.specs.Contents.{ending, part_of, piece_of, pieces};
+ghost use Rattle.oc_reply.specs.Contents as contents;
+ghost use Rattle.oc_server.specs.Deeds.{BreaksOff, Gives, LaysAside, Permits, Replies, Waits, content_at, content_in, finish, first_piece, first_rest, piece, place_behind, rest, takes_request, with_content};
+ghost use Rattle.oc_server.specs.Deeds as deeds;
+ghost use Rattle.oc_server.specs.Giving.{LookBreaks};
+ghost use Rattle.oc_server.specs.Looks.{LooksOnly, LookStops};
+ghost use Rattle.oc_server.specs.Scenes.{Breaks, Did, IsLawfulRequest, IsServing, Idle};
 
-use crate::place::Place;
-use oc_events::{Ending, Link};
+use crate::ends::TurnEnd;
+use crate::server::Server;
+use crate::work::{Pending, Place, Waiting, Work};
+use crate::works::Works;
+use oc_base::{GroupName, Memory, put};
+use oc_chunked::chunk_text;
+use oc_events::{ConnectionId, Ending, Link};
+use oc_http::Persistence;
+use oc_io::{Disk, Sink};
+use oc_keep::{Kept, KeptRead};
+use oc_reply::{PIECE_BYTES, UnderWay};
+use oc_routes::{CONTINUE, GroupRange, Operation, Response};
+use std::alloc::Global;
 
-/// Gives a connection the next piece of its content, which is sent as this text, and says what is left of it. The
-/// link is not waited for.
-pub fn give_piece<L: Link>(link: &mut L, place: Place, text: &[u8]) -> Option<Place>
-    ensures calls { AddsAll (piece_calls place text.now) (L.story link.old) (L.story link.new) }
-    ensures counts { L.counts link.new ≡ L.counts link.old }
-    ensures left { result ≡ left_behind place }
-{
-    link.give(place.connection, text);
-    let behind = place.behind();
-    if behind.is_whole() {
+/// The end of a chunked text (RFC 9112, section 7.1).
+const LAST_CHUNK: &[u8] = b"0\r\n\r\n";
+
+/// The next piece of a content, as it is sent, and what is left of it.
+#[derive(Drop)]
+struct Piece {
+    text: Vec<u8>,
+    rest: Option<Place>,
+}
+
+impl<D: Disk, L: Link, K: Sink> Server<D, L, K> {
+    /// Gives a connection the permission to send the body of its request.
+    pub fn permits(&mut self, connection: ConnectionId)
+        requires { IsServing self.old }
+        ensures { Did D.view K.takes K.faults L.story L.counts (Permits connection ∷ []) self.old self.new }
+    {
+        self.link.give(connection, CONTINUE);
+    }
+
+    /// Takes a request that waits.
+    pub fn waits(&mut self, waiting: Waiting) -> Result<(), TurnEnd>
+        requires serving { IsServing self.old }
+        requires request { IsLawfulRequest self.old.kept.node.control.nodes self.old.kept.node.control.me waiting.request }
+        ensures did { OnOk result (Did D.view K.takes K.faults L.story L.counts (Waits waiting ∷ []) self.old self.new) }
+        ensures breaks { IfErr result (λ end. (end ≡ TurnEnd.Memory) × Breaks D.view K.takes K.fails K.faults L.story L.counts end Idle self.old self.new) }
+    {
+        self.kept.recovers();
+        let (connection, count) = (waiting.connection, waiting.request.count);
+        self.works.begin(Work::Waits(waiting))?;
+        self.link.take(connection, count);
+        Ok(())
+    }
+
+    /// Answers a request: gives its response, and of a content the first piece.
+    pub fn replies(
+        &mut self,
+        request: Pending,
+        response: &Response,
+        now: u64,
+    ) -> Result<(), TurnEnd>
+        requires { IsServing self.old }
+        ensures did { OnOk result (Did D.view K.takes K.faults L.story L.counts
+            (Replies request response.now now ∷ []) self.old self.new) }
+        ensures breaks { IfErr result (λ end. LookBreaks D.view K.takes K.fails K.faults L.story L.counts end self.old self.new) }
+    {
+        let place = place_of(&request, response, now);
+        let piece = first_piece(self.alloc, &mut self.kept, &place, now)?;
+        self.kept.recovers();
+        let text = joined(self.alloc, response.text.items(), &piece.text)?;
+        let _waited = self.works.take(request.connection);
+        begin_rest(&mut self.works, &piece.rest)?;
+        take_request(&mut self.link, &request);
+        self.link.give(request.connection, &text);
         let ending = Ending {
-            keeps: behind.keeps,
-            watched: true,
+            keeps: keeps(response.connection),
+            watched: request.told,
         };
-        link.finish(behind.connection, ending);
+        finish(&mut self.link, request.connection, ending, &piece.rest);
+        Ok(())
+    }
+
+    /// Gives the next piece of a content.
+    pub fn gives(&mut self, place: Place, now: u64) -> Result<(), TurnEnd>
+        requires { IsServing self.old }
+        ensures did { OnOk result (Did D.view K.takes K.faults L.story L.counts (Gives place now ∷ []) self.old self.new) }
+        ensures breaks { IfErr result (λ end. LookBreaks D.view K.takes K.fails K.faults L.story L.counts end self.old self.new) }
+    {
+        let piece = next_piece(self.alloc, &mut self.kept, &place, now)?;
+        self.kept.recovers();
+        let _given = self.works.take(place.connection);
+        begin_rest(&mut self.works, &piece.rest)?;
+        self.link.give(place.connection, &piece.text);
+        let ending = Ending {
+            keeps: place.keeps,
+            watched: place.told,
+        };
+        finish(&mut self.link, place.connection, ending, &piece.rest);
+        Ok(())
+    }
+
+    /// A content has nothing to give until its group has grown.
+    pub fn lays_aside(&mut self, place: Place) -> Result<(), TurnEnd>
+        requires { IsServing self.old }
+        ensures did { OnOk result (Did D.view K.takes K.faults L.story L.counts (LaysAside place ∷ []) self.old self.new) }
+        ensures breaks { IfErr result (λ end. (end ≡ TurnEnd.Memory) × Breaks D.view K.takes K.fails K.faults L.story L.counts end Idle self.old self.new) }
+    {
+        self.kept.recovers();
+        let _content = self.works.take(place.connection);
+        self.works.begin(Work::Aside(place))?;
+        Ok(())
+    }
+
+    /// Breaks a connection off.
+    pub fn breaks_off(&mut self, connection: ConnectionId)
+        requires { IsServing self.old }
+        ensures { Did D.view K.takes K.faults L.story L.counts (BreaksOff connection ∷ []) self.old self.new }
+    {
+        let _gone = self.works.take(connection);
+        self.link.break_off(connection);
+    }
+}
+
+/// The place from which the content of a response is given, if it has one.
+fn place_of(request: &Pending, response: &Response, now: u64) -> Option<Place>
+    ensures { result ≡ deeds.place_of request.now response.now now }
+{
+    let content = content_in(&request.asked.operation, response.content)?;
+    Some(Place {
+        connection: request.connection,
+        content,
+        keeps: keeps(response.connection),
+        told: request.told,
+        since: now,
+    })
+}
+
+/// The content of a response to a client, of which nothing was given yet.
+fn content_in(asked: &Operation, range: Option<GroupRange>) -> Option<UnderWay>
+    ensures { result ≡ content_in asked.now range }
+{
+    match asked {
+        Operation::Client { group, .. } => content_at(*group, range),
+        _ => None,
+    }
+}
+
+/// The content of a group in this range, if there is one.
+fn content_at(group: GroupName, range: Option<GroupRange>) -> Option<UnderWay>
+    ensures { result ≡ content_at group range }
+{
+    let range = range?;
+    if range.count > u64::MAX - range.start {
         return None;
     }
-    Some(behind)
+    Some(UnderWay::begun(group, range))
+}
+
+/// What is left of a content is under way.
+fn begin_rest(works: &mut Works, left: &Option<Place>) -> Result<(), Memory>
+    ensures begun { OnOk result (works.new ≡ with_content left.now works.old) }
+    ensures fails { OnErr result (works.new ≡ works.old) }
+{
+    match left {
+        Some(left) => works.begin(Work::Content(*left)),
+        None => Ok(()),
+    }
+}
+
+/// Whether a connection is kept.
+fn keeps(connection: Persistence) -> bool
+    ensures { result ≡ deeds.keeps connection }
+{
+    match connection {
+        Persistence::Keep => true,
+        Persistence::Close => false,
+    }
+}
+
+/// Takes a request that was not taken before.
+fn take_request<L: Link>(link: &mut L, request: &Pending)
+    ensures calls { AddsAll (takes_request request.now) (L.story link.old) (L.story link.new) }
+    ensures counts { L.counts link.new ≡ L.counts link.old }
+{
+    if !request.waited {
+        link.take(request.connection, request.count);
+    }
+}
+
+/// Says that a reply is whole, where nothing of it is left.
+fn finish<L: Link>(link: &mut L, connection: ConnectionId, ending: Ending, left: &Option<Place>)
+    ensures calls { AddsAll (finish connection ending.keeps ending.watched left.now) (L.story link.old) (L.story link.new) }
+    ensures counts { L.counts link.new ≡ L.counts link.old }
+{
+    if left.is_none() {
+        link.finish(connection, ending);
+    }
+}
+
+/// One text behind another.
+fn joined(alloc: Global, first: &[u8], more: &[u8]) -> Result<Vec<u8>, Memory>
+    ensures { IfOk result (λ text. text.items ≡ first.now ++ more.now) }
+{
+    let mut text = Vec::new(alloc);
+    put(&mut text, first)?;
+    put(&mut text, more)?;
+    Ok(text)
+}
+
+/// Reads the first piece of the content of a response, if it has one. Nothing of the node changes.
+fn first_piece<D: Disk>(
+    alloc: Global,
+    kept: &mut Kept<D>,
+    place: &Option<Place>,
+    now: u64,
+) -> Result<Piece, TurnEnd>
+    requires { kept.old.closed ≡ false }
+    ensures text { IfOk result (λ next. IsHonest D.view kept.old → next.text.items ≡ first_piece place.now (node_of kept.old).groups) }
+    ensures rest { IfOk result (λ next. IsHonest D.view kept.old → next.rest ≡ first_rest place.now now (node_of kept.old).groups) }
+    ensures looks { OnOk result (LooksOnly D.view kept.old kept.new) }
+    ensures stops { IfErr result (λ end. LookStops D.view end kept.old kept.new) }
+{
+    match place {
+        Some(place) => next_piece(alloc, kept, place, now),
+        None => Ok(Piece {
+            text: Vec::new(alloc),
+            rest: None,
+        }),
+    }
+}
+
+/// Reads the next piece of a content. Nothing of the node changes.
+fn next_piece<D: Disk>(
+    alloc: Global,
+    kept: &mut Kept<D>,
+    place: &Place,
+    now: u64,
+) -> Result<Piece, TurnEnd>
+    requires { kept.old.closed ≡ false }
+    ensures text { IfOk result (λ next. IsHonest D.view kept.old → next.text.items ≡ piece place.now (node_of kept.old).groups) }
+    ensures rest { IfOk result (λ next. IsHonest D.view kept.old → next.rest ≡ rest place.now now (node_of kept.old).groups) }
+    ensures looks { OnOk result (LooksOnly D.view kept.old kept.new) }
+    ensures stops { IfErr result (λ end. LookStops D.view end kept.old kept.new) }
+{
+    kept.recovers();
+    let bytes = read_next(alloc, kept, &place.content)?;
+    kept.recovers();
+    let rest = place_behind(place, bytes.len(), now);
+    let text = piece_text(alloc, &place.content, bytes)?;
+    Ok(Piece { text, rest })
+}
+
+/// The place behind this many bytes more of its content, if anything is left.
+fn place_behind(place: &Place, count: usize, now: u64) -> Option<Place>
+    ensures { result ≡ place_behind place.now now count }
+{
+    let content = place.content.behind(count)?;
+    Some(Place {
+        connection: place.connection,
+        content,
+        keeps: place.keeps,
+        told: place.told,
+        since: now,
+    })
+}
+
+/// Reads the next bytes of a content, those of one piece.
+fn read_next<D: Disk>(
+    alloc: Global,
+    kept: &mut Kept<D>,
+    content: &UnderWay,
+) -> Result<Vec<u8>, TurnEnd>
+    requires { kept.old.closed ≡ false }
+    ensures bytes { IfOk result (λ bytes. IsHonest D.view kept.old → bytes.items ≡ piece_of content.now (node_of kept.old).groups) }
+    ensures looks { OnOk result (LooksOnly D.view kept.old kept.new) }
+    ensures stops { IfErr result (λ end. LookStops D.view end kept.old kept.new) }
+{
+    kept.recovers();
+    let most = content
+        .end
+        .saturating_sub(content.at)
+        .min(PIECE_BYTES as u64);
+    let mut buffer = zeros(alloc, most as usize)?;
+    let count = read_piece(kept, &content.group, content.at, &mut buffer)?;
+    buffer.truncate(count);
+    Ok(buffer)
+}
+
+/// A buffer of this length.
+fn zeros(alloc: Global, length_in_bytes: usize) -> Result<Vec<u8>, Memory>
+    ensures { IfOk result (λ buffer. vec_len buffer ≡ length_in_bytes) }
+{
+    Ok(vec![in alloc; 0; length_in_bytes]?)
+}
+
+/// Reads the next bytes of a group; none where the group is not held.
+fn read_piece<D: Disk>(
+    kept: &mut Kept<D>,
+    group: &GroupName,
+    at: u64,
+    buffer: &mut [u8],
+) -> Result<usize, TurnEnd>
+    requires { kept.old.closed ≡ false }
+    ensures within { IfOk result (λ count. count ≤ length buffer.old) }
+    ensures bytes { IfOk result (λ count. IsHonest D.view kept.old
+        → take count buffer.new ≡ part_of group.now at (length buffer.old) (node_of kept.old).groups) }
+    ensures looks { OnOk result (LooksOnly D.view kept.old kept.new) }
+    ensures stops { IfErr result (λ end. LookStops D.view end kept.old kept.new) }
+{
+    // The shelf says whether the group is held.
+    let _shelf = kept.shelf();
+    match kept.read(group, at, buffer) {
+        Ok(count) => Ok(count),
+        Err(KeptRead::NoGroup) => Ok(0),
+        Err(KeptRead::Disk | KeptRead::Closed) => Err(TurnEnd::Disk),
+    }
+}
+
+/// Bytes of a content as they are sent: plain, or as chunks; what ends a reply goes with its last piece.
+fn piece_text(alloc: Global, content: &UnderWay, bytes: Vec<u8>) -> Result<Vec<u8>, Memory>
+    ensures { IfOk result (λ text. text.items ≡ contents.piece_text content.now bytes.items) }
+{
+    if !content.chunked {
+        return Ok(bytes);
+    }
+    let last = content.is_last(bytes.len());
+    let text = chunk_text(alloc, &bytes)?;
+    Ok(with_end(text, last))
+}
+
+/// A text of chunks, which ends with the last chunk; without it where the piece is not the last.
+fn with_end(mut text: Vec<u8>, last: bool) -> Vec<u8>
+    ensures { (bytes : List ℕ) → text.items ≡ chunked_text bytes → result.items ≡ pieces true bytes ++ ending true last }
+{
+    if last {
+        return text;
+    }
+    text.truncate(text.len().saturating_sub(LAST_CHUNK.len()));
+    text
 }

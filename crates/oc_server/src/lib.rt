@@ -1,22 +1,42 @@
-//! What a running node has under way: its replies, by connection, and the time of its next tick.
+//! A running node as one value, and what it does, deed by deed.
 //!
-//! A content is a place in a group and not bytes ([`Place`]): each piece is read when it is given, so nothing grows
-//! with its length. A [`Follower`] is a client that has all of a group: its request waits for more. [`Replies`] has
-//! them by connection. [`Pace`] says when a tick is due.
+//! A [`Server`] is a node on its files with its outbox, what is under way on its connections, its dials, its link and its
+//! output. What it does is a list of deeds: `specs/Deeds` says of each what it makes of the node, which line it writes
+//! and which calls it makes on the link. Each method of a `Server` does one deed. Its contract says that the deed was
+//! done (`Did`), or how it broke (`Breaks`): why, what every crash leaves, and which part of a line was written
+//! (`specs/Scenes`). What holds between any two calls is `IsServing`.
 //!
-//! `specs/NodeDoes.antt` says on one page what a node does.
+//! A content under way is a place in a group and not bytes ([`Place`]): each piece is read when it is given, so nothing
+//! grows with its length. A follower that has all of a group waits ([`Waiting`]). [`connections_are_given_their_replies`]
+//! says that whatever is done in whatever order, each connection is given the replies to its requests. Which deeds make a
+//! turn is not said here yet.
 #![tactic(auto)]
 
-mod follower;
+mod asking;
+mod dialling;
+mod dials;
+mod ends;
 mod giving;
-mod hearing;
+mod law;
+mod noting;
+mod outbox;
 mod pace;
-mod place;
-mod replies;
+mod sendable;
+mod server;
+mod taking;
+mod tidying;
+mod work;
+mod works;
 
-pub use follower::Follower;
-pub use giving::give_piece;
-pub use hearing::{HeardHead, hear_head};
+pub use asking::Happened;
+pub use dials::{Dialling, Dials, Errand};
+pub use ends::TurnEnd;
+pub use law::{
+    connections_are_given_their_replies, examples_compute, what_is_given_in_chunks_is_there,
+};
+pub use outbox::Outbox;
 pub use pace::Pace;
-pub use place::{PIECE_BYTES, Place};
-pub use replies::{Replies, Work};
+pub use server::Server;
+pub use taking::Accepted;
+pub use work::{Pending, Place, Waiting, Work};
+pub use works::Works;

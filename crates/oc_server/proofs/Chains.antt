@@ -1,0 +1,120 @@
+-- Deeds after deeds.
+use Rattle.std.proofs.Common.{◌≡◌, ℕ, Option, None, Some, List, [], ◌∷◌, ◌++◌, refl, sym, ap, subst, ◌∙◌}
+use Rattle.std.proofs.lemmas.List.{append_assoc}
+use Rattle.oc_events.specs.declared.call.Call.{Call}
+use Rattle.oc_events.specs.declared.counts.Counts.{Counts}
+use Rattle.oc_keep.specs.Trials.{after_inputs}
+use Rattle.oc_model.specs.declared.input.Input.{Input}
+use Rattle.oc_model.specs.Node.{Node}
+use Rattle.oc_model.specs.Step.{step}
+use Rattle.oc_server.specs.Deeds.{Deed, Running, Setting, after, after_all, calls, calls_of, input_of, inputs_of, line, lines, with_input}
+use Rattle.oc_server.specs.Deeds as deeds
+use Rattle.oc_server.specs.Scenes.{CountsAll}
+
+-- Lists
+
+-- the lines of deeds behind deeds
+pub lines_append : (me : ℕ) (ds es : List Deed) → lines me (ds ++ es) ≡ lines me ds ++ lines me es
+lines_append me [] es = refl
+lines_append me (d ∷ ds) es = ap (λ (t : List ℕ). line me d ++ t) (lines_append me ds es) ∙ sym (append_assoc (line me d) (lines me ds) (lines me es))
+
+-- an input before inputs
+with_append : (o : Option Input) (is js : List Input) → with_input o (is ++ js) ≡ with_input o is ++ js
+with_append None is js = refl
+with_append (Some i) is js = refl
+
+-- their inputs
+pub inputs_append : (ds es : List Deed) → inputs_of (ds ++ es) ≡ inputs_of ds ++ inputs_of es
+inputs_append [] es = refl
+inputs_append (d ∷ ds) es = ap (λ (is : List Input). with_input (input_of d) is) (inputs_append ds es) ∙ with_append (input_of d) (inputs_of ds) (inputs_of es)
+
+-- what they make of a running node
+pub after_append : (ds es : List Deed) (a : Running) → after_all (ds ++ es) a ≡ after_all es (after_all ds a)
+after_append [] es a = refl
+after_append (d ∷ ds) es a = after_append ds es (after d a)
+
+-- their calls
+pub calls_append : (s : Setting) (ds es : List Deed) (a : Running) → calls_of s (ds ++ es) a ≡ calls_of s ds a ++ calls_of s es (after_all ds a)
+calls_append s [] es a = refl
+calls_append s (d ∷ ds) es a =
+    ap (λ (cs : List Call). calls s d a ++ cs) (calls_append s ds es (after d a))
+    ∙ sym (append_assoc (calls s d a) (calls_of s ds (after d a)) (calls_of s es (after_all ds (after d a))))
+
+-- The node
+
+-- inputs behind inputs
+pub fold_append : (n : Node) (is js : List Input) → after_inputs n (is ++ js) ≡ after_inputs (after_inputs n is) js
+fold_append n [] js = refl
+fold_append n (i ∷ is) js = fold_append (step n i).node is js
+
+-- an input is taken before inputs
+fold_with : (n : Node) (o : Option Input) (is : List Input) → after_inputs n (with_input o is) ≡ after_inputs (after_inputs n (with_input o [])) is
+fold_with n None is = refl
+fold_with n (Some i) is = refl
+
+-- the node behind a deed
+node_behind : (d : Deed) (a : Running) → (after d a).node ≡ after_inputs a.node (with_input (input_of d) [])
+node_behind (deeds.Sees e wait bytes) a = refl
+node_behind (deeds.Reads t) a = refl
+node_behind (deeds.Tells t) a = refl
+node_behind (deeds.Takes i) a = refl
+node_behind (deeds.Accepts i) a = refl
+node_behind (deeds.Notes why) a = refl
+node_behind (deeds.Permits c) a = refl
+node_behind (deeds.Waits w) a = refl
+node_behind (deeds.Replies r response now) a = refl
+node_behind (deeds.Refuses c count why) a = refl
+node_behind (deeds.BreaksOff c) a = refl
+node_behind (deeds.Gives p now) a = refl
+node_behind (deeds.LaysAside p) a = refl
+node_behind (deeds.Drops c told) a = refl
+node_behind (deeds.Dials place m d) a = refl
+node_behind (deeds.Probes peer d now) a = refl
+
+-- the node behind deeds is the fold of their inputs
+pub nodes_behind : (ds : List Deed) (a : Running) → (after_all ds a).node ≡ after_inputs a.node (inputs_of ds)
+nodes_behind [] a = refl
+nodes_behind (d ∷ ds) a =
+    nodes_behind ds (after d a) ∙ ap (λ (n : Node). after_inputs n (inputs_of ds)) (node_behind d a) ∙ sym (fold_with a.node (input_of d) (inputs_of ds))
+
+-- Counts
+
+-- those of deeds behind deeds
+pub counts_append : (ds es : List Deed) (a b c : Counts) → CountsAll ds a b → CountsAll es b c → CountsAll (ds ++ es) a c
+counts_append [] es a b c first second = subst (λ (x : Counts). CountsAll es x c) first second
+counts_append (deeds.Sees e wait bytes ∷ ds) es a b c (at, one, first) second = (at, one, counts_append ds es at b c first second)
+counts_append (deeds.Reads t ∷ ds) es a b c first second = counts_append ds es a b c first second
+counts_append (deeds.Tells t ∷ ds) es a b c first second = counts_append ds es a b c first second
+counts_append (deeds.Takes i ∷ ds) es a b c first second = counts_append ds es a b c first second
+counts_append (deeds.Accepts i ∷ ds) es a b c first second = counts_append ds es a b c first second
+counts_append (deeds.Notes why ∷ ds) es a b c first second = counts_append ds es a b c first second
+counts_append (deeds.Permits x ∷ ds) es a b c first second = counts_append ds es a b c first second
+counts_append (deeds.Waits w ∷ ds) es a b c first second = counts_append ds es a b c first second
+counts_append (deeds.Replies r response now ∷ ds) es a b c first second = counts_append ds es a b c first second
+counts_append (deeds.Refuses x count why ∷ ds) es a b c first second = counts_append ds es a b c first second
+counts_append (deeds.BreaksOff x ∷ ds) es a b c first second = counts_append ds es a b c first second
+counts_append (deeds.Gives p now ∷ ds) es a b c first second = counts_append ds es a b c first second
+counts_append (deeds.LaysAside p ∷ ds) es a b c first second = counts_append ds es a b c first second
+counts_append (deeds.Drops x told ∷ ds) es a b c first second = counts_append ds es a b c first second
+counts_append (deeds.Dials place m d ∷ ds) es a b c first second = counts_append ds es a b c first second
+counts_append (deeds.Probes peer d now ∷ ds) es a b c first second = counts_append ds es a b c first second
+
+-- deeds never raise the count of failures of `next`
+pub counts_listening : (ds : List Deed) (a b : Counts) → CountsAll ds a b → b.listening ≡ a.listening
+counts_listening [] a b done = ap (λ (x : Counts). x.listening) done
+counts_listening (deeds.Sees e wait bytes ∷ ds) a b (at, one, done) = counts_listening ds at b done ∙ one.listening
+counts_listening (deeds.Reads t ∷ ds) a b done = counts_listening ds a b done
+counts_listening (deeds.Tells t ∷ ds) a b done = counts_listening ds a b done
+counts_listening (deeds.Takes i ∷ ds) a b done = counts_listening ds a b done
+counts_listening (deeds.Accepts i ∷ ds) a b done = counts_listening ds a b done
+counts_listening (deeds.Notes why ∷ ds) a b done = counts_listening ds a b done
+counts_listening (deeds.Permits x ∷ ds) a b done = counts_listening ds a b done
+counts_listening (deeds.Waits w ∷ ds) a b done = counts_listening ds a b done
+counts_listening (deeds.Replies r response now ∷ ds) a b done = counts_listening ds a b done
+counts_listening (deeds.Refuses x count why ∷ ds) a b done = counts_listening ds a b done
+counts_listening (deeds.BreaksOff x ∷ ds) a b done = counts_listening ds a b done
+counts_listening (deeds.Gives p now ∷ ds) a b done = counts_listening ds a b done
+counts_listening (deeds.LaysAside p ∷ ds) a b done = counts_listening ds a b done
+counts_listening (deeds.Drops x told ∷ ds) a b done = counts_listening ds a b done
+counts_listening (deeds.Dials place m d ∷ ds) a b done = counts_listening ds a b done
+counts_listening (deeds.Probes peer d now ∷ ds) a b done = counts_listening ds a b done

@@ -1,0 +1,101 @@
+-- Lists of what is lawful.
+use Rattle.std.proofs.Common.{◌≡◌, ◌<◌, ℕ, zero, suc, Option, None, Some, List, [], ◌∷◌, ◌++◌, length, take, drop, remove, slice_get, sym, subst, arith}
+use Rattle.std.specs.List.{AllByRecursion}
+use Rattle.oc_keep.specs.Promises.{IsSameNode}
+use Rattle.oc_model.specs.Node.{Header}
+use Rattle.oc_events.specs.declared.event.Event.{Event}
+use Rattle.oc_events.specs.declared.event.Event.TheVariants as events
+use Rattle.oc_server.specs.Deeds.{dials_behind, with_content}
+use Rattle.oc_server.specs.Dials as dials
+use Rattle.oc_server.specs.Scenes.{IsLawful, IsLawfulDial, IsLawfulWork}
+use Rattle.oc_server.specs.Sending.{AreSendable}
+use Rattle.oc_server.specs.Works.{place_on, without, without_at}
+use Rattle.oc_server.specs.declared.dials.Dialling.{Dialling}
+use Rattle.oc_server.specs.declared.server.Server.{Server}
+use Rattle.oc_server.specs.declared.work.Place.{Place}
+use Rattle.oc_server.specs.declared.work.Work.{Work}
+use Rattle.oc_server.specs.declared.work.Work.TheVariants as works
+
+-- Lists
+
+module _ {X : Type 0} (P : X → Type 0) where
+  -- lists one behind the other
+  pub all_append : (xs ys : List X) → AllByRecursion P xs → AllByRecursion P ys → AllByRecursion P (xs ++ ys)
+  all_append [] ys some more = more
+  all_append (x ∷ xs) ys some more = (some.0, all_append xs ys some.1 more)
+
+  -- the first ones
+  all_take : (n : ℕ) (xs : List X) → AllByRecursion P xs → AllByRecursion P (take n xs)
+  all_take zero xs all = tt
+  all_take (suc n) [] all = tt
+  all_take (suc n) (x ∷ xs) all = (all.0, all_take n xs all.1)
+
+  -- those behind them
+  all_drop : (n : ℕ) (xs : List X) → AllByRecursion P xs → AllByRecursion P (drop n xs)
+  all_drop zero xs all = all
+  all_drop (suc n) [] all = tt
+  all_drop (suc n) (x ∷ xs) all = all_drop n xs all.1
+
+  -- all but one
+  pub all_remove : (place : ℕ) (xs : List X) → AllByRecursion P xs → AllByRecursion P (remove xs place)
+  all_remove place xs all = all_append (take place xs) (drop (suc place) xs) (all_take place xs all) (all_drop (suc place) xs all)
+
+-- there is an element at each place
+pub none_there : {X : Type 0} (xs : List X) (k : ℕ) → k < length xs → slice_get xs k ≡ None → ⊥
+none_there [] k few none = omega (arith, few)
+none_there (x ∷ xs) zero few none = cc
+none_there (x ∷ xs) (suc k) few none = none_there xs k (omega (arith, few)) none
+
+-- What is under way
+
+module _ (nodes me : ℕ) where
+  without_place : (place : Option ℕ) (ws : List Work) → AllByRecursion (IsLawfulWork nodes me) ws → AllByRecursion (IsLawfulWork nodes me) (without_at ws place)
+  without_place None ws all = all
+  without_place (Some place) ws all = all_remove (IsLawfulWork nodes me) place ws all
+
+  -- without what is under way on a connection
+  pub works_without : (c : ℕ) (ws : List Work) → AllByRecursion (IsLawfulWork nodes me) ws → AllByRecursion (IsLawfulWork nodes me) (without c ws)
+  works_without c ws all = without_place (place_on c ws) ws all
+
+  -- with further work
+  pub works_with : (ws : List Work) (w : Work) → AllByRecursion (IsLawfulWork nodes me) ws → IsLawfulWork nodes me w → AllByRecursion (IsLawfulWork nodes me) (ws ++ w ∷ [])
+  works_with ws w all one = all_append (IsLawfulWork nodes me) ws (w ∷ []) all (one, tt)
+
+  -- with what is left of a content
+  pub works_with_content : (p : Option Place) (ws : List Work) → AllByRecursion (IsLawfulWork nodes me) ws → AllByRecursion (IsLawfulWork nodes me) (with_content p ws)
+  works_with_content None ws all = all
+  works_with_content (Some p) ws all = works_with ws (works.Content p) all tt
+
+-- Dials
+
+dials_without_place : (nodes : ℕ) (place : Option ℕ) (ds : List Dialling) → AllByRecursion (IsLawfulDial nodes) ds → AllByRecursion (IsLawfulDial nodes) (dials.without_at ds place)
+dials_without_place nodes None ds all = all
+dials_without_place nodes (Some place) ds all = all_remove (IsLawfulDial nodes) place ds all
+
+-- without the dial of a number
+pub dials_without : (nodes d : ℕ) (ds : List Dialling) → AllByRecursion (IsLawfulDial nodes) ds → AllByRecursion (IsLawfulDial nodes) (dials.without d ds)
+dials_without nodes d ds all = dials_without_place nodes (dials.place_of d ds) ds all
+
+-- without the dial whose reply an event is
+pub dials_seen : (nodes : ℕ) (e : Event) (ds : List Dialling) → AllByRecursion (IsLawfulDial nodes) ds → AllByRecursion (IsLawfulDial nodes) (dials_behind e ds)
+dials_seen nodes (events.Reply d coming) ds all = dials_without nodes d ds all
+dials_seen nodes e ds all = all
+
+-- with another one
+pub dials_with : (nodes : ℕ) (ds : List Dialling) (d : Dialling) → AllByRecursion (IsLawfulDial nodes) ds → IsLawfulDial nodes d → AllByRecursion (IsLawfulDial nodes) (ds ++ d ∷ [])
+dials_with nodes ds d all one = all_append (IsLawfulDial nodes) ds (d ∷ []) all (one, tt)
+
+-- Servers
+
+-- what is lawful among some nodes is lawful at another moment of the same node
+pub lawful_of : {D L K : Type 0} (old new : Server D L K) → IsSameNode old.kept.node.control new.kept.node.control
+    → (AreSendable old.kept.node.control.nodes old.outbox → AreSendable old.kept.node.control.nodes new.outbox)
+    → (AllByRecursion (IsLawfulWork old.kept.node.control.nodes old.kept.node.control.me) old.works → AllByRecursion (IsLawfulWork old.kept.node.control.nodes old.kept.node.control.me) new.works)
+    → (AllByRecursion (IsLawfulDial old.kept.node.control.nodes) old.dials → AllByRecursion (IsLawfulDial old.kept.node.control.nodes) new.dials)
+    → IsLawful old → IsLawful new
+lawful_of old new same sends work dial lawful = record {
+  sendable = subst (λ (h : Header). AreSendable h.nodes new.outbox) (sym same.header) (sends lawful.sendable);
+  works = subst (λ (h : Header). AllByRecursion (IsLawfulWork h.nodes new.kept.node.control.me) new.works) (sym same.header)
+      (subst (λ (me : ℕ). AllByRecursion (IsLawfulWork old.kept.node.control.nodes me) new.works) (sym same.me) (work lawful.works));
+  dials = subst (λ (h : Header). AllByRecursion (IsLawfulDial h.nodes) new.dials) (sym same.header) (dial lawful.dials);
+}

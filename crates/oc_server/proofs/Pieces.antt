@@ -1,0 +1,51 @@
+-- Pieces of contents that are read.
+use Rattle.std.proofs.Common.{◌≡◌, ◌-◌, ◌+◌, ℕ, zero, suc, true, false, Bool, Some, None, List, [], ◌∷◌, ◌++◌, length, take, drop, refl, sym, ap, subst, ◌∙◌, arith, cond, length-append}
+use Rattle.std.proofs.Math.Seq.{take-append_seam}
+use Rattle.std.proofs.lemmas.List.{append-nil}
+use Rattle.std.specs.Option.{option_map}
+use Rattle.oc_base.specs.Groups.{bytes_of, group_of, or_empty, shelf, shelf_of}
+use Rattle.oc_base.specs.Named.{same_name}
+use Rattle.oc_base.specs.Shelves.{held_of, line_of}
+use Rattle.oc_base.specs.declared.group.Group.{Group}
+use Rattle.oc_base.specs.declared.shelf.Shelf.{Shelf}
+use Rattle.oc_chunked.specs.Texts.{chunked_text, chunks_written, end_written}
+use Rattle.oc_io.specs.DiskView.{DiskView}
+use Rattle.oc_keep.specs.KeptView.{IsHonest, KeptView, node_of}
+use Rattle.oc_reply.specs.Contents.{ending, part_of, pieces}
+
+-- Groups that are not held
+
+unnamed : (same : Bool) (g : List ℕ) (k : Group) (ks : List Group) → (held_of g (shelf ks) ≡ None → bytes_of g ks ≡ [])
+    → option_map (λ (l : Shelf). l.held) (cond same (Some (shelf_of k)) (line_of g (shelf ks))) ≡ None → (or_empty g (cond same (Some k) (group_of g ks))).bytes ≡ []
+unnamed true g k ks more none = cc
+unnamed false g k ks more none = more none
+
+-- a group without a line has no bytes
+no_line : (g : List ℕ) (ks : List Group) → held_of g (shelf ks) ≡ None → bytes_of g ks ≡ []
+no_line g [] none = refl
+no_line g (k ∷ ks) none = unnamed (same_name g k.name) g k ks (no_line g ks) none
+
+take_none : (n : ℕ) → take {A = ℕ} n [] ≡ []
+take_none zero = refl
+take_none (suc n) = refl
+
+drop_none : (n : ℕ) → drop {A = ℕ} n [] ≡ []
+drop_none zero = refl
+drop_none (suc n) = refl
+
+-- of a group that is not held there is nothing to read
+pub no_piece : {D : Type 0} (view : D → DiskView) (k : KeptView D) (g : List ℕ) (at w : ℕ) (lines : List Shelf) → (IsHonest view k → lines ≡ shelf (node_of k).groups) → held_of g lines ≡ None → IsHonest view k
+    → [] ≡ part_of g at w (node_of k).groups
+no_piece view k g at w lines is none honest =
+    let empty : bytes_of g (node_of k).groups ≡ [] = no_line g (node_of k).groups (subst (λ (ls : List Shelf). held_of g ls ≡ None) (is honest) none) in
+    sym (ap (λ (bytes : List ℕ). take w (drop at bytes)) empty ∙ ap (λ (bytes : List ℕ). take w bytes) (drop_none at) ∙ take_none w)
+
+-- Chunks
+
+-- a chunked text without what ends it
+pub without_end : (bytes text : List ℕ) (n : ℕ) → text ≡ chunked_text bytes → n ≡ length text - 5 → take n text ≡ pieces true bytes ++ ending true false
+without_end bytes text n is last =
+    let chunks = chunks_written (length bytes) bytes in
+    let long : length text ≡ length chunks + 5 = ap (λ (t : List ℕ). length t) is ∙ length-append chunks end_written in
+    let front : n ≡ length chunks = omega (arith, long, last) in
+    ap (λ (t : List ℕ). take n t) is ∙ ap (λ (k : ℕ). take k (chunks ++ end_written)) front ∙ take-append_seam chunks end_written ∙ sym (append-nil chunks)

@@ -1,0 +1,178 @@
+-- Scenes behind scenes.
+use Rattle.std.proofs.Common.{◌≡◌, ◌≤◌, ℕ, false, Option, List, [], ◌++◌, length, refl, sym, ap, subst, ◌∙◌, arith}
+use Rattle.std.proofs.lemmas.List.{append-nil}
+use Rattle.oc_config.specs.Settings.{Settings}
+use Rattle.oc_events.specs.Told.{AddsAll}
+use Rattle.oc_events.specs.declared.call.Call.{Call}
+use Rattle.oc_events.specs.declared.counts.Counts.{Counts}
+use Rattle.oc_events.proofs.Stories.{adds-none, adds-then}
+use Rattle.oc_io.specs.DiskView.{DiskView}
+use Rattle.oc_io.specs.Faults.{NoFall, Rose}
+use Rattle.oc_io.proofs.Counts.{Rose-after}
+use Rattle.oc_keep.specs.Files.{AllGoOn, Leaves, SameAsEither, Survives}
+use Rattle.oc_keep.specs.KeptView.{IsHonest, KeptView, disks_of, header_of, node_of}
+use Rattle.oc_keep.specs.Promises.{IsSameNode}
+use Rattle.oc_keep.specs.Trials.{after_inputs}
+use Rattle.oc_keep.proofs.Runs.{all_go_on_then, one_rose_after}
+use Rattle.oc_keep.proofs.Stays.{all_honest}
+use Rattle.oc_model.specs.declared.input.Input.{Input}
+use Rattle.oc_model.specs.Node.{Header, Node}
+use Rattle.oc_model.specs.Step.{step}
+use Rattle.oc_policy.specs.declared.deciding.TheConstants.{MAX_RULES}
+use Rattle.oc_server.specs.Deeds.{Deed, Running, Setting, after_all, calls_of, inputs_of, lines}
+use Rattle.oc_server.specs.Scenes.{AreDone, Breaks, BreaksBehind, Did, HasCause, IsPlaced, IsServing, KeepsAll, LeavesAt, LeavesUnder, Under, Idle, Taking, Noting, WritesAt, running, setting, under_line}
+use Rattle.oc_server.specs.declared.ends.TurnEnd.{TurnEnd}
+use Rattle.oc_server.specs.declared.ends.TurnEnd.TheVariants as ends
+use Rattle.oc_server.specs.declared.server.Server.{Server}
+use Rattle.oc_server.proofs.Chains.{after_append, calls_append, counts_append, counts_listening, inputs_append, lines_append, nodes_behind}
+use Rattle.oc_server.proofs.Looking.{go_on_none, keeps_then, looks_none, named}
+
+-- What deeds make of a running node
+
+-- nothing
+pub done_none : (s : Setting) (a : Running) (story : Option (List Call)) → AreDone s [] a a story story
+done_none s a story = record { after = refl; calls = adds-none story }
+
+-- deeds behind deeds
+pub done_then : (s : Setting) (ds es : List Deed) (a b c : Running) (x y z : Option (List Call)) → AreDone s ds a b x y → AreDone s es b c y z → AreDone s (ds ++ es) a c x z
+done_then s ds es a b c x y z first second = record {
+  after = second.after ∙ ap (after_all es) first.after ∙ sym (after_append ds es a);
+  calls = subst (λ (cs : List Call). AddsAll cs x z) (sym (calls_append s ds es a))
+      (adds-then (calls_of s ds a) (calls_of s es (after_all ds a)) x y z first.calls (subst (λ (r : Running). AddsAll (calls_of s es r) y z) first.after second.calls));
+}
+
+module _ {D L K : Type 0} (view : D → DiskView) (takes fails : K → List ℕ → K → Type 0) (faults : K → ℕ) (story : L → Option (List Call)) (counts : L → Counts) where
+  -- Nothing was done
+
+  pub did_none : (takes_nothing : (k : K) → takes k [] k) (a : Server D L K) → a.kept.closed ≡ false → Did view takes faults story counts [] a a
+  did_none takes_nothing a is_open = record {
+    is_open = is_open;
+    same = record { me = refl; header = refl };
+    config = refl;
+    goes_on = go_on_none view (disks_of a.kept);
+    no_fall = omega arith;
+    counted = refl;
+    keeps = looks_none view a.kept is_open;
+    lawful = λ lawful. lawful;
+    text = takes_nothing a.sink;
+    done = λ honest. done_none (setting a) (running a) (story a.link);
+  }
+
+  -- Deeds behind deeds
+
+  -- which node it is, at which addresses
+  pub setting_stays : (a b : Server D L K) → IsSameNode a.kept.node.control b.kept.node.control → b.config ≡ a.config → setting b ≡ setting a
+  setting_stays a b same config =
+      ap (λ (me : ℕ). record { me = me; addresses = b.config.addresses }) same.me
+      ∙ ap (λ (c : Settings). record { me = a.kept.node.control.me; addresses = c.addresses }) config
+
+  -- the lines behind lines, told of the same node
+  text_then : (takes_then : (a b c : K) (x y : List ℕ) → takes a x b → takes b y c → takes a (x ++ y) c) (me other : ℕ) (ds es : List Deed) (a b c : K)
+      → other ≡ me → takes a (lines me ds) b → takes b (lines other es) c → takes a (lines me (ds ++ es)) c
+  text_then takes_then me other ds es a b c same first second =
+      subst (λ (t : List ℕ). takes a t c) (sym (lines_append me ds es))
+      (takes_then a b c (lines me ds) (lines me es) first (subst (λ (x : ℕ). takes b (lines x es) c) same second))
+
+  pub did_then : (takes_then : (a b c : K) (x y : List ℕ) → takes a x b → takes b y c → takes a (x ++ y) c) (ds es : List Deed) (a b c : Server D L K)
+      → Did view takes faults story counts ds a b → Did view takes faults story counts es b c → Did view takes faults story counts (ds ++ es) a c
+  did_then takes_then ds es a b c first second = record {
+    is_open = second.is_open;
+    same = record { me = second.same.me ∙ first.same.me; header = second.same.header ∙ first.same.header };
+    config = second.config ∙ first.config;
+    goes_on = all_go_on_then view (disks_of a.kept) (disks_of b.kept) (disks_of c.kept) first.goes_on second.goes_on;
+    no_fall = omega (arith, first.no_fall, second.no_fall);
+    counted = counts_append ds es (counts a.link) (counts b.link) (counts c.link) first.counted second.counted;
+    keeps = subst (λ (is : List Input). KeepsAll view is a.kept c.kept) (sym (inputs_append ds es)) (keeps_then view (inputs_of ds) (inputs_of es) a.kept b.kept c.kept first.keeps second.keeps);
+    lawful = λ lawful. second.lawful (first.lawful lawful);
+    text = text_then takes_then a.kept.node.control.me b.kept.node.control.me ds es a.sink b.sink c.sink first.same.me first.text second.text;
+    done = λ honest. done_then (setting a) ds es (running a) (running b) (running c) (story a.link) (story b.link) (story c.link) (first.done honest)
+        (subst (λ (s : Setting). AreDone s es (running b) (running c) (story b.link) (story c.link)) (setting_stays a b first.same first.config)
+        (second.done (all_honest view (disks_of a.kept) (disks_of b.kept) first.goes_on honest)));
+  }
+
+  -- What holds between any two calls holds behind deeds
+  pub still_serving : (ds : List Deed) (a b : Server D L K) → Did view takes faults story counts ds a b → IsServing a → IsServing b
+  still_serving ds a b did serving = record {
+    is_open = did.is_open;
+    placed = subst (λ (c : Settings). IsPlaced b.kept.node.control.nodes c.addresses) (sym did.config)
+        (subst (λ (h : Header). IsPlaced h.nodes a.config.addresses) (sym did.same.header) serving.placed);
+    rules = subst (λ (c : Settings). length c.rules ≤ MAX_RULES) (sym did.config) serving.rules;
+    lawful = did.lawful serving.lawful;
+  }
+
+  -- the disks that kept the disk model keep it
+  pub still_honest : (ds : List Deed) (a b : Server D L K) → Did view takes faults story counts ds a b → IsHonest view a.kept → IsHonest view b.kept
+  still_honest ds a b did honest = all_honest view (disks_of a.kept) (disks_of b.kept) did.goes_on honest
+
+  -- the node behind deeds is the fold of their inputs
+  pub did_node : (ds : List Deed) (a b : Server D L K) → Did view takes faults story counts ds a b → IsHonest view a.kept → node_of b.kept ≡ after_inputs (node_of a.kept) (inputs_of ds)
+  did_node ds a b did honest = ap (λ (r : Running). r.node) (did.done honest).after ∙ nodes_behind ds (running a)
+
+  -- It ended so behind deeds
+
+  -- behind one list of deeds
+  pub breaks_behind : (ds : List Deed) (under : Under) (end : TurnEnd) (a b c : Server D L K)
+      → Did view takes faults story counts ds a b → Breaks view takes fails faults story counts end under b c → BreaksBehind view takes fails faults story counts end ds under a c
+  breaks_behind ds under end a b c did breaks = (b, did, breaks)
+
+  -- behind none
+  pub breaks_first : (takes_nothing : (k : K) → takes k [] k) (under : Under) (end : TurnEnd) (a c : Server D L K)
+      → a.kept.closed ≡ false → Breaks view takes fails faults story counts end under a c → BreaksBehind view takes fails faults story counts end [] under a c
+  breaks_first takes_nothing under end a c is_open breaks = (a, did_none takes_nothing a is_open, breaks)
+
+  -- behind further ones
+  pub breaks_then : (takes_then : (a b c : K) (x y : List ℕ) → takes a x b → takes b y c → takes a (x ++ y) c) (ds es : List Deed) (under : Under) (end : TurnEnd) (a b c : Server D L K)
+      → Did view takes faults story counts ds a b → BreaksBehind view takes fails faults story counts end es under b c → BreaksBehind view takes fails faults story counts end (ds ++ es) under a c
+  breaks_then takes_then ds es under end a b c did (at, more, breaks) = (at, did_then takes_then ds es a b at did more, breaks)
+
+  -- What is left where it ended so behind deeds
+
+  under_of : (a b c : KeptView D) (under : Under) (n m : Node) → IsSameNode a.node.control b.node.control → m ≡ n → LeavesUnder view b c m under → LeavesUnder view a c n under
+  under_of a b c (Taking i) n m same is leaves =
+      subst (λ (x : Node). Leaves view (header_of a.node.control) a.node.control.me (disks_of c) (SameAsEither x (step x i).node)) is
+      (named (λ h me. Leaves view h me (disks_of c) (SameAsEither m (step m i).node)) a b same leaves)
+  under_of a b c under n m same is leaves =
+      subst (λ (x : Node). Survives view (header_of a.node.control) a.node.control.me (disks_of c) x) is
+      (named (λ h me. Survives view h me (disks_of c) m) a b same leaves)
+
+  leaves_of : (a b c : KeptView D) (end : TurnEnd) (under : Under) (n m : Node) → IsSameNode a.node.control b.node.control → m ≡ n → LeavesAt view b c end m under → LeavesAt view a c end n under
+  leaves_of a b c ends.Disk under n m same is leaves = under_of a b c under n m same is leaves
+  leaves_of a b c ends.Sink under n m same is leaves = under_of a b c under n m same is leaves
+  leaves_of a b c end under n m same is leaves = under_of a b c Idle n m same is leaves
+
+  -- every crash leaves the fold of the inputs that were taken, or with the one under way
+  pub broken_leaves : (ds : List Deed) (under : Under) (end : TurnEnd) (a c : Server D L K) → BreaksBehind view takes fails faults story counts end ds under a c
+      → IsHonest view a.kept → LeavesAt view a.kept c.kept end (after_inputs (node_of a.kept) (inputs_of ds)) under
+  broken_leaves ds under end a c (b, did, breaks) honest =
+      leaves_of a.kept b.kept c.kept end under (after_inputs (node_of a.kept) (inputs_of ds)) (node_of b.kept) did.same (did_node ds a b did honest) (breaks.leaves (still_honest ds a b did honest))
+
+  write_then : (takes_then : (a b c : K) (x y : List ℕ) → takes a x b → takes b y c → takes a (x ++ y) c) (takes_fails : (a b c : K) (x y : List ℕ) → takes a x b → fails b y c → fails a (x ++ y) c)
+      → (a b c : K) (end : TurnEnd) (x line : List ℕ) → takes a x b → WritesAt takes fails b c end [] line → WritesAt takes fails a c end x line
+  write_then takes_then takes_fails a b c ends.Sink x line first (front, is, failed) = (front, is, takes_fails a b c x front first failed)
+  write_then takes_then takes_fails a b c end x line first second = subst (λ (t : List ℕ). takes a t c) (append-nil x) (takes_then a b c x [] first second)
+
+  -- the lines of the deeds were written, and where the output failed some prefix of the one under way
+  pub broken_text : (takes_then : (a b c : K) (x y : List ℕ) → takes a x b → takes b y c → takes a (x ++ y) c) (takes_fails : (a b c : K) (x y : List ℕ) → takes a x b → fails b y c → fails a (x ++ y) c)
+      → (ds : List Deed) (under : Under) (end : TurnEnd) (a c : Server D L K) → BreaksBehind view takes fails faults story counts end ds under a c
+      → WritesAt takes fails a.sink c.sink end (lines a.kept.node.control.me ds) (under_line a.kept.node.control.me under)
+  broken_text takes_then takes_fails ds under end a c (b, did, breaks) =
+      write_then takes_then takes_fails a.sink b.sink c.sink end (lines a.kept.node.control.me ds) (under_line a.kept.node.control.me under) did.text
+      (subst (λ (me : ℕ). WritesAt takes fails b.sink c.sink end [] (under_line me under)) did.same.me breaks.text)
+
+  cause_of : (a b c : KeptView D) (end : TurnEnd) (under : Under) (x y z : K) (p q r : Counts) → AllGoOn view (disks_of a) (disks_of b) → NoFall (faults x) (faults y) → q.listening ≡ p.listening
+      → HasCause view faults end under b c y z q r → HasCause view faults end under a c x z p r
+  cause_of a b c ends.Disk under x y z p q r on few same cause = one_rose_after view (disks_of a) (disks_of b) (disks_of c) on cause
+  cause_of a b c ends.Sink under x y z p q r on few same cause = Rose-after _ _ _ few cause
+  cause_of a b c ends.Full (Taking i) x y z p q r on few same cause = cause
+  cause_of a b c ends.Full Idle x y z p q r on few same cause = cause
+  cause_of a b c ends.Full (Noting line) x y z p q r on few same cause = cause
+  cause_of a b c ends.Link under x y z p q r on few same cause = subst (λ (n : ℕ). Rose n r.listening) same cause
+  cause_of a b c ends.Memory under x y z p q r on few same cause = tt
+  cause_of a b c ends.Served under x y z p q r on few same cause = cause
+  cause_of a b c ends.Quiet under x y z p q r on few same cause = cause
+
+  -- why it ended: a count rose, or a file is full
+  pub broken_cause : (ds : List Deed) (under : Under) (end : TurnEnd) (a c : Server D L K) → BreaksBehind view takes fails faults story counts end ds under a c
+      → HasCause view faults end under a.kept c.kept a.sink c.sink (counts a.link) (counts c.link)
+  broken_cause ds under end a c (b, did, breaks) =
+      cause_of a.kept b.kept c.kept end under a.sink b.sink c.sink (counts a.link) (counts b.link) (counts c.link) did.goes_on did.no_fall (counts_listening ds (counts a.link) (counts b.link) did.counted) breaks.cause

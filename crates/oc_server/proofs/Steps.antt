@@ -1,0 +1,226 @@
+-- Deeds, one at a time.
+use Rattle.std.proofs.Common.{◌≡◌, ℕ, Bool, false, Option, None, Some, List, [], ◌∷◌, ◌++◌, refl, sym, ap, subst, ◌∙◌, arith}
+use Rattle.std.proofs.lemmas.List.{append-nil}
+use Rattle.std.specs.List.{AllByRecursion}
+use Rattle.oc_events.specs.Counts.{CountsFailure}
+use Rattle.oc_events.specs.Told.{AddsAll, Gives, Told}
+use Rattle.oc_events.specs.declared.call.Call.{Call}
+use Rattle.oc_events.specs.declared.call.Call.TheVariants as acts
+use Rattle.oc_events.specs.declared.counts.Counts.{Counts}
+use Rattle.oc_events.specs.declared.event.Event.{Event}
+use Rattle.oc_events.proofs.Stories.{adds-then}
+use Rattle.oc_io.specs.DiskView.{DiskView}
+use Rattle.oc_io.specs.Faults.{NoFall}
+use Rattle.oc_keep.specs.Files.{AllGoOn, Survives}
+use Rattle.oc_keep.specs.KeptView.{IsHonest, KeptView, NodeSurvives, disks_of, header_of, node_of}
+use Rattle.oc_model.specs.declared.input.Input.{Input}
+use Rattle.oc_model.specs.declared.message.Message.{Message}
+use Rattle.oc_model.specs.Node.{Node}
+use Rattle.oc_server.specs.Deeds.{Deed, Running, after, calls, finish, input_of, line, with_input}
+use Rattle.oc_server.specs.Giving.{LookBreaks}
+use Rattle.oc_server.specs.Looks.{LooksOnly, LookStops}
+use Rattle.oc_server.specs.Noting.{LineStops, NoteBreaks}
+use Rattle.oc_server.specs.Scenes.{AreDone, Breaks, CountsAll, Did, IsLawful, IsLawfulWork, KeepsAll, Idle, running, setting}
+use Rattle.oc_server.specs.declared.dials.Dialling.{Dialling}
+use Rattle.oc_server.specs.declared.ends.TurnEnd.{TurnEnd}
+use Rattle.oc_server.specs.declared.ends.TurnEnd.TheVariants as ends
+use Rattle.oc_server.specs.declared.server.Server.{Server}
+use Rattle.oc_server.specs.declared.work.Place.{Place}
+use Rattle.oc_server.specs.declared.work.Work.{Work}
+use Rattle.oc_server.proofs.Lawful.{lawful_of}
+use Rattle.oc_server.proofs.Looking.{go_on_none, looks_none, memory_looks}
+use Rattle.oc_server.proofs.Scenes.{done_none}
+
+module _ {D L K : Type 0} (view : D → DiskView) (takes fails : K → List ℕ → K → Type 0) (faults : K → ℕ) (story : L → Option (List Call)) (counts : L → Counts) where
+  -- One deed that takes no input
+
+  pub did_step : (d : Deed) (old new : Server D L K) → input_of d ≡ None → new.config ≡ old.config
+      → takes old.sink (line old.kept.node.control.me d) new.sink → NoFall (faults old.sink) (faults new.sink)
+      → CountsAll (d ∷ []) (counts old.link) (counts new.link) → LooksOnly view old.kept new.kept → (IsLawful old → IsLawful new)
+      → (IsHonest view old.kept → running new ≡ after d (running old))
+      → (IsHonest view old.kept → AddsAll (calls (setting old) d (running old)) (story old.link) (story new.link))
+      → Did view takes faults story counts (d ∷ []) old new
+  did_step d old new none config text few counted looks lawful is made = record {
+    is_open = looks.is_open;
+    same = looks.same;
+    config = config;
+    goes_on = looks.goes_on;
+    no_fall = few;
+    counted = counted;
+    keeps = subst (λ (o : Option Input). KeepsAll view (with_input o []) old.kept new.kept) (sym none) looks;
+    lawful = lawful;
+    text = subst (λ (t : List ℕ). takes old.sink t new.sink) (sym (append-nil (line old.kept.node.control.me d))) text;
+    done = λ honest. record {
+      after = is honest;
+      calls = subst (λ (cs : List Call). AddsAll cs (story old.link) (story new.link)) (sym (append-nil (calls (setting old) d (running old)))) (made honest);
+    };
+  }
+
+  -- one that changes what is under way and the link
+  pub did_works : (takes_nothing : (k : K) → takes k [] k) (d : Deed) (old : Server D L K) (ws : List Work) (link : L) → input_of d ≡ None → line old.kept.node.control.me d ≡ []
+      → old.kept.closed ≡ false → CountsAll (d ∷ []) (counts old.link) (counts link)
+      → (AllByRecursion (IsLawfulWork old.kept.node.control.nodes old.kept.node.control.me) old.works → AllByRecursion (IsLawfulWork old.kept.node.control.nodes old.kept.node.control.me) ws)
+      → record (running old) { works = ws } ≡ after d (running old) → AddsAll (calls (setting old) d (running old)) (story old.link) (story link)
+      → Did view takes faults story counts (d ∷ []) old (record old { works = ws; link = link })
+  did_works takes_nothing d old ws link none silent is_open counted lawful is made =
+      did_step d old (record old { works = ws; link = link }) none refl (subst (λ (t : List ℕ). takes old.sink t old.sink) (sym silent) (takes_nothing old.sink)) (omega arith)
+      counted (looks_none view old.kept is_open) (lawful_of old (record old { works = ws; link = link }) (record { me = refl; header = refl }) (λ all. all) lawful (λ all. all)) (λ honest. is) (λ honest. made)
+
+  -- one that writes a line, and changes what is under way and the link
+  pub did_line : (d : Deed) (old : Server D L K) (sink : K) (ws : List Work) (link : L) → input_of d ≡ None
+      → old.kept.closed ≡ false → CountsAll (d ∷ []) (counts old.link) (counts link) → takes old.sink (line old.kept.node.control.me d) sink → NoFall (faults old.sink) (faults sink)
+      → (AllByRecursion (IsLawfulWork old.kept.node.control.nodes old.kept.node.control.me) old.works → AllByRecursion (IsLawfulWork old.kept.node.control.nodes old.kept.node.control.me) ws)
+      → record (running old) { works = ws } ≡ after d (running old) → AddsAll (calls (setting old) d (running old)) (story old.link) (story link)
+      → Did view takes faults story counts (d ∷ []) old (record old { sink = sink; works = ws; link = link })
+  did_line d old sink ws link none is_open counted text few lawful is made =
+      did_step d old (record old { sink = sink; works = ws; link = link }) none refl text few counted (looks_none view old.kept is_open)
+      (lawful_of old (record old { sink = sink; works = ws; link = link }) (record { me = refl; header = refl }) (λ all. all) lawful (λ all. all)) (λ honest. is) (λ honest. made)
+
+  -- one behind a look that changes what is under way and the link
+  pub did_given : (takes_nothing : (k : K) → takes k [] k) (d : Deed) (old : Server D L K) (kept : KeptView D) (ws left : List Work) (link : L) → input_of d ≡ None → line old.kept.node.control.me d ≡ []
+      → LooksOnly view old.kept kept → CountsAll (d ∷ []) (counts old.link) (counts link)
+      → (AllByRecursion (IsLawfulWork old.kept.node.control.nodes old.kept.node.control.me) old.works → AllByRecursion (IsLawfulWork old.kept.node.control.nodes old.kept.node.control.me) ws)
+      → after d (running old) ≡ record (running old) { works = left } → (IsHonest view old.kept → ws ≡ left)
+      → (IsHonest view old.kept → AddsAll (calls (setting old) d (running old)) (story old.link) (story link))
+      → Did view takes faults story counts (d ∷ []) old (record old { kept = kept; works = ws; link = link })
+  did_given takes_nothing d old kept ws left link none silent looks counted lawful behind is made =
+      did_step d old (record old { kept = kept; works = ws; link = link }) none refl (subst (λ (t : List ℕ). takes old.sink t old.sink) (sym silent) (takes_nothing old.sink)) (omega arith)
+      counted looks (lawful_of old (record old { kept = kept; works = ws; link = link }) looks.same (λ all. all) lawful (λ all. all))
+      (λ honest.
+      ap (λ (n : Node). record { node = n; outbox = old.outbox; works = ws; dials = old.dials }) (looks.node honest)
+      ∙ ap (λ (x : List Work). record { node = node_of old.kept; outbox = old.outbox; works = x; dials = old.dials }) (is honest)
+      ∙ sym behind) made
+
+  -- none, and the files were looked at
+  pub did_look : (takes_nothing : (k : K) → takes k [] k) (old new : Server D L K) → new.config ≡ old.config → new.sink ≡ old.sink → new.link ≡ old.link
+      → new.outbox ≡ old.outbox → new.works ≡ old.works → new.dials ≡ old.dials → (IsLawful old → IsLawful new)
+      → LooksOnly view old.kept new.kept → Did view takes faults story counts [] old new
+  did_look takes_nothing old new config sink link outbox works dials lawful looks = record {
+    is_open = looks.is_open;
+    same = looks.same;
+    config = config;
+    goes_on = looks.goes_on;
+    no_fall = subst (λ (k : K). NoFall (faults old.sink) (faults k)) (sym sink) (omega arith);
+    counted = ap counts link;
+    keeps = looks;
+    lawful = lawful;
+    text = subst (λ (k : K). takes old.sink [] k) (sym sink) (takes_nothing old.sink);
+    done = λ honest.
+        let now : running new ≡ running old = is_same honest in
+        subst (λ (r : Running). AreDone (setting old) [] (running old) r (story old.link) (story new.link)) (sym now)
+        (subst (λ (l : L). AreDone (setting old) [] (running old) (running old) (story old.link) (story l)) (sym link) (done_none (setting old) (running old) (story old.link)));
+  }
+    where
+      is_same : IsHonest view old.kept → running new ≡ running old
+      is_same honest =
+          ap (λ (n : Node). record { node = n; outbox = new.outbox; works = new.works; dials = new.dials }) (looks.node honest)
+          ∙ ap (λ (ms : List Message). record { node = node_of old.kept; outbox = ms; works = new.works; dials = new.dials }) outbox
+          ∙ ap (λ (ws : List Work). record { node = node_of old.kept; outbox = old.outbox; works = ws; dials = new.dials }) works
+          ∙ ap (λ (ds : List Dialling). record { node = node_of old.kept; outbox = old.outbox; works = old.works; dials = ds }) dials
+
+  -- It ended so at once
+
+  -- memory ran out, or a disk failed in a look
+  pub look_breaks : (takes_nothing : (k : K) → takes k [] k) (end : TurnEnd) (old new : Server D L K) → new.sink ≡ old.sink → story new.link ≡ story old.link → counts new.link ≡ counts old.link
+      → LookStops view end old.kept new.kept → Breaks view takes fails faults story counts end Idle old new
+  look_breaks takes_nothing ends.Memory old new sink told counted stops = record {
+    text = subst (λ (k : K). takes old.sink [] k) (sym sink) (takes_nothing old.sink);
+    leaves = stops.leaves;
+    goes_on = stops.goes_on;
+    cause = tt;
+    meets = tt;
+    told = told;
+    counted = counted;
+  }
+  look_breaks takes_nothing ends.Disk old new sink told counted stops = record {
+    text = subst (λ (k : K). takes old.sink [] k) (sym sink) (takes_nothing old.sink);
+    leaves = stops.leaves;
+    goes_on = stops.goes_on;
+    cause = stops.cause;
+    meets = tt;
+    told = told;
+    counted = counted;
+  }
+  look_breaks takes_nothing ends.Served old new sink told counted stops = absurd stops.cause
+  look_breaks takes_nothing ends.Quiet old new sink told counted stops = absurd stops.cause
+  look_breaks takes_nothing ends.Link old new sink told counted stops = absurd stops.cause
+  look_breaks takes_nothing ends.Full old new sink told counted stops = absurd stops.cause
+  look_breaks takes_nothing ends.Sink old new sink told counted stops = absurd stops.cause
+
+  -- the same by its end
+  pub look_breaks_by : (takes_nothing : (k : K) → takes k [] k) (end : TurnEnd) (old new : Server D L K) → new.sink ≡ old.sink → story new.link ≡ story old.link → counts new.link ≡ counts old.link
+      → LookStops view end old.kept new.kept → LookBreaks view takes fails faults story counts end old new
+  look_breaks_by takes_nothing ends.Memory old new sink told counted stops = look_breaks takes_nothing ends.Memory old new sink told counted stops
+  look_breaks_by takes_nothing ends.Disk old new sink told counted stops = look_breaks takes_nothing ends.Disk old new sink told counted stops
+  look_breaks_by takes_nothing ends.Served old new sink told counted stops = absurd stops.cause
+  look_breaks_by takes_nothing ends.Quiet old new sink told counted stops = absurd stops.cause
+  look_breaks_by takes_nothing ends.Link old new sink told counted stops = absurd stops.cause
+  look_breaks_by takes_nothing ends.Full old new sink told counted stops = absurd stops.cause
+  look_breaks_by takes_nothing ends.Sink old new sink told counted stops = absurd stops.cause
+
+  -- memory ran out, and the files are as they were
+  pub memory_breaks : (takes_nothing : (k : K) → takes k [] k) (old new : Server D L K) → new.kept ≡ old.kept → new.sink ≡ old.sink → story new.link ≡ story old.link → counts new.link ≡ counts old.link
+      → (IsHonest view old.kept → NodeSurvives view old.kept (node_of old.kept)) → Breaks view takes fails faults story counts ends.Memory Idle old new
+  memory_breaks takes_nothing old new kept sink told counted survives =
+      look_breaks takes_nothing ends.Memory old new sink told counted (subst (λ (k : KeptView D). LookStops view ends.Memory old.kept k) (sym kept) (memory_looks view old.kept survives))
+
+  -- the link was asked in vain
+  pub link_breaks : (takes_nothing : (k : K) → takes k [] k) (old new : Server D L K) → new.kept ≡ old.kept → new.sink ≡ old.sink → story new.link ≡ story old.link → CountsFailure (counts old.link) (counts new.link)
+      → (IsHonest view old.kept → NodeSurvives view old.kept (node_of old.kept)) → Breaks view takes fails faults story counts ends.Link Idle old new
+  link_breaks takes_nothing old new kept sink told failed survives = record {
+    text = subst (λ (k : K). takes old.sink [] k) (sym sink) (takes_nothing old.sink);
+    leaves = subst (λ (k : KeptView D). IsHonest view old.kept → Survives view (header_of old.kept.node.control) old.kept.node.control.me (disks_of k) (node_of old.kept)) (sym kept) survives;
+    goes_on = subst (λ (k : KeptView D). AllGoOn view (disks_of old.kept) (disks_of k)) (sym kept) (go_on_none view (disks_of old.kept));
+    cause = failed.listening;
+    meets = tt;
+    told = told;
+    counted = failed;
+  }
+
+  -- the output failed in a line of no input
+  pub line_breaks : (end : TurnEnd) (text : List ℕ) (old new : Server D L K) → new.kept ≡ old.kept → story new.link ≡ story old.link → counts new.link ≡ counts old.link
+      → LineStops fails faults end text old.sink new.sink → (IsHonest view old.kept → NodeSurvives view old.kept (node_of old.kept)) → NoteBreaks view takes fails faults story counts end text old new
+  line_breaks ends.Sink text old new kept told counted (front, is, failed, rose) survives = record {
+    text = (front, is, failed);
+    leaves = subst (λ (k : KeptView D). IsHonest view old.kept → Survives view (header_of old.kept.node.control) old.kept.node.control.me (disks_of k) (node_of old.kept)) (sym kept) survives;
+    goes_on = subst (λ (k : KeptView D). AllGoOn view (disks_of old.kept) (disks_of k)) (sym kept) (go_on_none view (disks_of old.kept));
+    cause = rose;
+    meets = tt;
+    told = told;
+    counted = counted;
+  }
+  line_breaks ends.Memory text old new kept told counted stops survives = absurd stops
+  line_breaks ends.Served text old new kept told counted stops survives = absurd stops
+  line_breaks ends.Quiet text old new kept told counted stops survives = absurd stops
+  line_breaks ends.Link text old new kept told counted stops survives = absurd stops
+  line_breaks ends.Disk text old new kept told counted stops survives = absurd stops
+  line_breaks ends.Full text old new kept told counted stops survives = absurd stops
+
+module _ {D L K : Type 0} (view : D → DiskView) (takes fails : K → List ℕ → K → Type 0) (faults : K → ℕ) (story : L → Option (List Call)) (counts : L → Counts) where
+  -- the same of a line that is another text
+  pub line_breaks_as : (end : TurnEnd) (text other : List ℕ) (old new : Server D L K) → text ≡ other → new.kept ≡ old.kept → story new.link ≡ story old.link → counts new.link ≡ counts old.link
+      → LineStops fails faults end text old.sink new.sink → (IsHonest view old.kept → NodeSurvives view old.kept (node_of old.kept)) → NoteBreaks view takes fails faults story counts end other old new
+  line_breaks_as end text other old new same kept told counted stops survives =
+      subst (λ (t : List ℕ). NoteBreaks view takes fails faults story counts end t old new) same (line_breaks view takes fails faults story counts end text old new kept told counted stops survives)
+
+-- a text that was put first is all
+pub put_first : (old text new : List ℕ) → old ≡ [] → new ≡ old ++ text → new ≡ text
+put_first old text new none is = is ∙ ap (λ (t : List ℕ). t ++ text) none
+
+-- What the link tells
+
+-- an event came by some bytes
+pub event_bytes : (event : Event) (lent : List ℕ) (a b : Option (List Call)) → Told (Gives event lent) a b → (bytes : List ℕ) × AddsAll (acts.Next event bytes ∷ []) a b
+event_bytes event lent a None told = ([], tt)
+event_bytes event lent None (Some b) told = absurd told
+event_bytes event lent (Some a) (Some b) told = (told.bytes, told.made)
+
+-- What a connection is given
+
+-- a text, and the end of the reply where nothing is left of it
+pub gave : (c : ℕ) (bytes text : List ℕ) (keeps told : Bool) (rest left : Option Place) (a b d : Option (List Call)) → bytes ≡ text → rest ≡ left
+    → AddsAll (acts.Give c bytes ∷ []) a b → AddsAll (finish c keeps told rest) b d → AddsAll (acts.Give c text ∷ finish c keeps told left) a d
+gave c bytes text keeps told rest left a b d same is given finished =
+    subst (λ (t : List ℕ). AddsAll (acts.Give c t ∷ finish c keeps told left) a d) same
+    (subst (λ (p : Option Place). AddsAll (acts.Give c bytes ∷ finish c keeps told p) a d) is
+    (adds-then (acts.Give c bytes ∷ []) (finish c keeps told rest) a b d given finished))

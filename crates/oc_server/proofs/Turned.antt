@@ -1,0 +1,77 @@
+-- The files are turned over, or not.
+use Rattle.std.proofs.Common.{◌≡◌, IsTrue, false, true, Bool, refl, ap, subst, ◌∙◌, arith}
+use Rattle.oc_content.specs.ContentFile.{groups_in}
+use Rattle.oc_content.specs.ContentView.{ContentView}
+use Rattle.oc_keep.specs.Files.{AllGoOn, SameDurable, Survives}
+use Rattle.oc_keep.specs.KeptView.{IsHonest, KeptView, NodeSurvives, disks_of, header_of, node_of}
+use Rattle.oc_keep.specs.Calls.{FailsToTidy, KeepsNode, StaysTheSame, Tidies}
+use Rattle.oc_keep.specs.Promises.{Closes, IsSameNode}
+use Rattle.oc_keep.specs.declared.errors.TidyError.{TidyError}
+use Rattle.oc_keep.specs.declared.errors.TidyError.TheVariants as tidies
+use Rattle.oc_keep.proofs.Stays.{Law, all_honest, leaves_now}
+use Rattle.oc_model.specs.Node.{Control, Node}
+use Rattle.oc_io.specs.DiskView.{DiskView}
+use Rattle.oc_io.specs.Faults.{NoFall}
+use Rattle.oc_server.specs.declared.ends.TurnEnd.TheVariants as ends
+use Rattle.oc_server.specs.Looks.{LooksOnly, LookStops, end_of_tidy}
+use Rattle.oc_server.proofs.Looking.{named}
+
+module _ {D : Type 0} (view : D → DiskView) (old new : KeptView D) where
+  -- with the same control state and the same content it is the same node
+  same_node : new.node.control ≡ old.node.control → new.content ≡ old.content → node_of new ≡ node_of old
+  same_node control content =
+      ap (λ (n : Control). record { control = n; groups = groups_in new.content.journal.frames }) control
+      ∙ ap (λ (x : ContentView D). record { control = old.node.control; groups = groups_in x.journal.frames }) content
+
+  same_id : new.node.control ≡ old.node.control → IsSameNode old.node.control new.node.control
+  same_id control = record { me = ap (λ (n : Control). n.me) control; header = ap header_of control }
+
+  -- files that were tidied were only looked at
+  pub tidied : (turned : Bool) → old.closed ≡ false → KeepsNode view old new → Tidies view turned old new → LooksOnly view old new
+  tidied turned is_open keeps tidies = record {
+    is_open = still turned tidies ∙ is_open;
+    same = same_id keeps.control;
+    goes_on = keeps.goes_on;
+    node = λ honest. same_node keeps.control keeps.content;
+    generation = λ honest. grows turned tidies;
+  }
+    where
+      still : (t : Bool) → Tidies view t old new → new.closed ≡ old.closed
+      still true over = over.1
+      still false same = ap (λ (k : KeptView D). k.closed) same
+
+      grows : (t : Bool) → Tidies view t old new → NoFall old.store.generation new.store.generation
+      grows true over = omega (arith, over.0.generation)
+      grows false same = omega (arith, ap (λ (k : KeptView D). k.store.generation) same)
+
+module _ {D : Type 0} (view : D → DiskView) (law : Law view) (old new : KeptView D) where
+  stays : new.node.control ≡ old.node.control → new.content ≡ old.content → AllGoOn view (disks_of old) (disks_of new) → new.closed ≡ false
+      → (new.closed ≡ false → IsHonest view new → NodeSurvives view new (node_of new)) → IsHonest view old → Survives view (header_of old.node.control) old.node.control.me (disks_of new) (node_of old)
+  stays control content on is_open survives honest =
+      subst (λ (n : Node). Survives view (header_of old.node.control) old.node.control.me (disks_of new) n) (same_node view old new control content)
+      (named (λ h me. Survives view h me (disks_of new) (node_of new)) old new (same_id view old new control)
+      (survives is_open (all_honest view (disks_of old) (disks_of new) on honest)))
+
+  pub tidy_stops : (error : TidyError) → old.closed ≡ false → KeepsNode view old new → (error ≡ tidies.Closed → IsTrue old.closed) → FailsToTidy view error old new
+      → (new.closed ≡ false → IsHonest view new → NodeSurvives view new (node_of new))
+      → LookStops view (end_of_tidy error) old new
+  tidy_stops tidies.Closed is_open keeps closed fails survives =
+      let yes : old.closed ≡ true = closed refl in let no = is_open in absurd cc
+  tidy_stops tidies.Memory is_open keeps closed fails survives = record {
+    goes_on = keeps.goes_on;
+    leaves = stays keeps.control keeps.content keeps.goes_on (fails.still ∙ is_open) survives;
+    cause = tt;
+  }
+  tidy_stops tidies.Disk is_open keeps closed fails survives = record {
+    goes_on = keeps.goes_on;
+    leaves = λ honest. leaves_now view (header_of old.node.control) old.node.control.me (disks_of old) (disks_of new) (SameDurable (node_of old)) law (all_honest view (disks_of old) (disks_of new) keeps.goes_on honest) (keeps.any_moment is_open honest);
+    cause = fails.rose;
+  }
+
+  -- the same of a call that read
+  pub read_stops : old.closed ≡ false → StaysTheSame view old new → Closes view old new → LookStops view ends.Disk old new
+  read_stops is_open same closes = record {
+    goes_on = same.goes_on;
+    leaves = λ honest. leaves_now view (header_of old.node.control) old.node.control.me (disks_of old) (disks_of new) (SameDurable (node_of old)) law (all_honest view (disks_of old) (disks_of new) same.goes_on honest) (same.any_moment is_open honest);
+    cause = closes.rose;
+  }

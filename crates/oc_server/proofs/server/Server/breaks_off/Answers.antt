@@ -1,0 +1,21 @@
+use Rattle.std.proofs.Common.{List, refl, ap, subst, sym}
+use Rattle.std.specs.List.{AllByRecursion}
+use Rattle.oc_keep.specs.KeptView.{node_of}
+use Rattle.oc_server.specs.Deeds.{BreaksOff}
+use Rattle.oc_server.specs.Scenes.{IsLawfulWork}
+use Rattle.oc_server.specs.declared.work.Work.{Work}
+use Rattle.oc_server.proofs.Lawful.{works_without}
+use Rattle.oc_server.proofs.Steps.{did_works}
+use Rattle.oc_server.proofs.server.Server.breaks_off.Goals as goal
+
+pub returns : goal.returns
+returns g c =
+    let s = c.args.self.now in
+    let x = c.args.connection in
+    let nodes = s.kept.node.control.nodes in
+    let me = s.kept.node.control.me in
+    let is = c.take-gone.ensures.rest in
+    did_works g.D.Disk.view g.K.Sink.takes g.K.Sink.fails g.K.Sink.faults g.L.Link.story g.L.Link.counts g.met.K.Sink.takes_nothing (BreaksOff x) s c.take-gone.new.self c.break_off.new.self refl refl c.requires.is_open c.break_off.ensures.counts
+    (λ all. subst (λ (ws : List Work). AllByRecursion (IsLawfulWork nodes me) ws) (sym is) (works_without nodes me x s.works all))
+    (ap (λ (ws : List Work). record { node = node_of s.kept; outbox = s.outbox; works = ws; dials = s.dials }) is)
+    c.break_off.ensures.story

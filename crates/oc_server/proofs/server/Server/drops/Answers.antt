@@ -1,0 +1,28 @@
+use Rattle.std.proofs.Common.{List, refl, ap, subst, sym, codes}
+use Rattle.std.proofs.lemmas.Result.{err_from_is_err_and}
+use Rattle.std.specs.List.{AllByRecursion}
+use Rattle.oc_events.proofs.Stories.{adds-none}
+use Rattle.oc_keep.specs.KeptView.{node_of}
+use Rattle.oc_server.specs.Deeds.{Drops, note_line}
+use Rattle.oc_server.specs.Scenes.{IsLawfulWork}
+use Rattle.oc_server.specs.declared.work.Work.{Work}
+use Rattle.oc_server.proofs.Lawful.{works_without}
+use Rattle.oc_server.proofs.Steps.{did_line, line_breaks}
+use Rattle.oc_server.proofs.server.Server.drops.Goals as goal
+
+pub returns-clause-did : goal.returns-clause-did
+returns-clause-did g c =
+    let s = c.args.self.now in
+    let x = c.args.connection in
+    let nodes = s.kept.node.control.nodes in
+    let me = s.kept.node.control.me in
+    let is = c.take-gone.ensures.rest in
+    did_line g.D.Disk.view g.K.Sink.takes g.K.Sink.fails g.K.Sink.faults g.L.Link.story g.L.Link.counts (Drops x c.args.told) s c.write_told.new.sink c.take-gone.new.self s.link refl c.requires.is_open refl c.in_ok-write_told.ensures.wrote c.write_told.ensures.count
+    (λ all. subst (λ (ws : List Work). AllByRecursion (IsLawfulWork nodes me) ws) (sym is) (works_without nodes me x s.works all))
+    (ap (λ (ws : List Work). record { node = node_of s.kept; outbox = s.outbox; works = ws; dials = s.dials }) is)
+    (adds-none (g.L.Link.story s.link))
+
+pub returns-in_err-write_told-clause-breaks : goal.returns-in_err-write_told-clause-breaks
+returns-in_err-write_told-clause-breaks g c =
+    let p = err_from_is_err_and c.from_residual.result c.from_residual.ensures.1 in
+    rw (p.1, p.2) (line_breaks g.D.Disk.view g.K.Sink.takes g.K.Sink.fails g.K.Sink.faults g.L.Link.story g.L.Link.counts c.in_err-write_told.field-0.0 (note_line (codes "write")) c.args.self.now _ refl refl refl c.in_err-write_told.ensures.stops (c.recovers.ensures.survives c.requires.is_open))

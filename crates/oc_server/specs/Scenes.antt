@@ -1,0 +1,222 @@
+-- A running node with its files, its output and its link, from one moment to a later one.
+use Rattle.std.specs.Prelude.{◌≡◌, ◌≤◌, ℕ, false, Option, IfSome, List, [], ◌∷◌, ◌++◌, length, slice_index_or, ◌-◌}
+use Rattle.std.specs.List.{AllByRecursion}
+use Rattle.oc_base.specs.Lawful.{IsNode}
+use Rattle.oc_events.specs.Counts.{CountsEvent, CountsFailure}
+use Rattle.oc_events.specs.Told.{AddsAll}
+use Rattle.oc_events.specs.declared.call.Call.{Call}
+use Rattle.oc_events.specs.declared.counts.Counts.{Counts}
+use Rattle.oc_http.specs.Writing.{IsHost}
+use Rattle.oc_io.specs.DiskView.{DiskView}
+use Rattle.oc_io.specs.Faults.{NoFall, Rose}
+use Rattle.oc_keep.specs.Files.{AllGoOn, Leaves, OneRose, SameAsEither, Survives}
+use Rattle.oc_keep.specs.KeptView.{IsFullAt, IsHonest, KeptView, NodeSurvives, disks_of, header_of, node_of}
+use Rattle.oc_keep.specs.Promises.{ChangesNothing, IsSameNode}
+use Rattle.oc_keep.specs.ReadyView.{told_of}
+use Rattle.oc_keep.specs.declared.errors.KeepError.{KeepError}
+use Rattle.oc_keep.specs.declared.errors.KeepError.TheVariants as keeps
+use Rattle.oc_model.specs.declared.input.Input.{Input}
+use Rattle.oc_model.specs.Lawful.{IsInput}
+use Rattle.oc_model.specs.Node.{Node}
+use Rattle.oc_model.specs.Step.{step}
+use Rattle.oc_node.specs.OutcomeView.{OutcomeView}
+use Rattle.oc_policy.specs.declared.deciding.TheConstants.{MAX_RULES}
+use Rattle.oc_reply.specs.declared.verdict.Request.{Request}
+use Rattle.oc_routes.specs.Inputs.{input_line}
+use Rattle.oc_routes.specs.Lawful.{IsAsked}
+use Rattle.oc_server.specs.Deeds.{Deed, Sees, Running, Setting, after_all, calls_of, inputs_of, lines}
+use Rattle.oc_server.specs.Looks.{LooksOnly}
+use Rattle.oc_server.specs.Sending.{AreSendable}
+use Rattle.oc_server.specs.declared.dials.Dialling.{Dialling}
+use Rattle.oc_server.specs.declared.dials.Errand.{Errand}
+use Rattle.oc_server.specs.declared.dials.Errand.TheVariants as errands
+use Rattle.oc_server.specs.declared.ends.TurnEnd.{TurnEnd}
+use Rattle.oc_server.specs.declared.ends.TurnEnd.TheVariants as ends
+use Rattle.oc_server.specs.declared.server.Server.{Server}
+use Rattle.oc_server.specs.declared.work.Work.{Work}
+use Rattle.oc_server.specs.declared.work.Work.TheVariants as works
+
+-- What a server is seen as
+
+abbrev pub running : {D L K : Type 0} → Server D L K → Running
+running s = record { node = node_of s.kept; outbox = s.outbox; works = s.works; dials = s.dials }
+
+abbrev pub setting : {D L K : Type 0} → Server D L K → Setting
+setting s = record { me = s.kept.node.control.me; addresses = s.config.addresses }
+
+-- What holds between any two calls
+
+-- each node has an address
+pub record IsPlaced (nodes : ℕ) (addresses : List (List ℕ)) : Type 0 where
+  pub count : length addresses ≡ nodes
+  pub hosts : (x : ℕ) → IsNode nodes x → IsHost (slice_index_or addresses (x - 1) [])
+
+-- what is asked is within its ranges, and so is the input
+pub record IsLawfulRequest (nodes me : ℕ) (request : Request) : Type 0 where
+  pub asks : IsAsked request.operation
+  pub input : IfSome request.input (IsInput nodes me)
+
+-- a request that waits is lawful
+abbrev pub IsLawfulWork : ℕ → ℕ → Work → Type 0
+IsLawfulWork nodes me (works.Waits w) = IsLawfulRequest nodes me w.request
+IsLawfulWork nodes me work = Unit {0}
+
+-- the node that was dialled is one
+abbrev pub IsLawfulErrand : ℕ → Errand → Type 0
+IsLawfulErrand nodes (errands.Message to fetch) = IsNode nodes to
+IsLawfulErrand nodes (errands.Probe peer since) = IsNode nodes peer
+
+abbrev pub IsLawfulDial : ℕ → Dialling → Type 0
+IsLawfulDial nodes d = IsLawfulErrand nodes d.errand
+
+-- what is to be sent can be sent, and what is under way is lawful
+pub record IsLawful {D L K : Type 0} (s : Server D L K) : Type 0 where
+  pub sendable : AreSendable s.kept.node.control.nodes s.outbox
+  pub works : AllByRecursion (IsLawfulWork s.kept.node.control.nodes s.kept.node.control.me) s.works
+  pub dials : AllByRecursion (IsLawfulDial s.kept.node.control.nodes) s.dials
+
+-- no disk failed, each node has an address, there are not too many rules, and all is lawful
+pub record IsServing {D L K : Type 0} (s : Server D L K) : Type 0 where
+  pub is_open : s.kept.closed ≡ false
+  pub placed : IsPlaced s.kept.node.control.nodes s.config.addresses
+  pub rules : length s.config.rules ≤ MAX_RULES
+  pub lawful : IsLawful s
+
+-- Deeds that were done
+
+-- an input was taken into the files, none of which was full for it, with this outcome, whose messages can be sent
+pub record KeepsOne {D : Type 0} (view : D → DiskView) (i : Input) (outcome : OutcomeView) (old new : KeptView D) : Type 0 where
+  pub is_open : new.closed ≡ false
+  pub same : IsSameNode old.node.control new.node.control
+  pub goes_on : AllGoOn view (disks_of old) (disks_of new)
+  pub fits : ¬ IsFullAt old i
+  pub outcome_is : IsHonest view old → outcome ≡ told_of (step (node_of old) i)
+  pub sendable : AreSendable old.node.control.nodes outcome.sends
+  pub node : IsHonest view old → node_of new ≡ (step (node_of old) i).node
+  pub survives : IsHonest view old → NodeSurvives view new (node_of new)
+  pub generation : IsHonest view old → new.store.generation ≡ old.store.generation
+
+-- these inputs were taken one after another, and between them the files were only looked at or turned over
+abbrev pub KeepsAll : {D : Type 0} → (D → DiskView) → List Input → KeptView D → KeptView D → Type 0
+KeepsAll {D} view [] old new = LooksOnly view old new
+KeepsAll {D} view (i ∷ is) old new = (at next : KeptView D) × (outcome : OutcomeView) × LooksOnly view old at × KeepsOne view i outcome at next × KeepsAll view is next new
+
+-- how the counts of a link change: an event tells of one failure at most and waits no longer than it may, and nothing else changes them
+abbrev pub CountsAll : List Deed → Counts → Counts → Type 0
+CountsAll [] old new = new ≡ old
+CountsAll (Sees event wait bytes ∷ ds) old new = (at : Counts) × CountsEvent event wait old at × CountsAll ds at new
+CountsAll (d ∷ ds) old new = CountsAll ds old new
+
+-- what deeds make of a running node, and of the story of its link
+pub record AreDone (s : Setting) (deeds : List Deed) (a b : Running) (old new : Option (List Call)) : Type 0 where
+  pub after : b ≡ after_all deeds a
+  pub calls : AddsAll (calls_of s deeds a) old new
+
+-- The deeds were done: their lines were written, no disk and no output failed, and no file was full for an input.
+pub record Did {D L K : Type 0} (view : D → DiskView) (takes : K → List ℕ → K → Type 0) (faults : K → ℕ) (story : L → Option (List Call)) (counts : L → Counts) (deeds : List Deed) (old new : Server D L K) : Type 0 where
+  pub is_open : new.kept.closed ≡ false
+  pub same : IsSameNode old.kept.node.control new.kept.node.control
+  pub config : new.config ≡ old.config
+  pub goes_on : AllGoOn view (disks_of old.kept) (disks_of new.kept)
+  pub no_fall : NoFall (faults old.sink) (faults new.sink)
+  pub counted : CountsAll deeds (counts old.link) (counts new.link)
+  pub keeps : KeepsAll view (inputs_of deeds) old.kept new.kept
+  pub lawful : IsLawful old → IsLawful new
+  pub text : takes old.sink (lines old.kept.node.control.me deeds) new.sink
+  pub done : IsHonest view old.kept → AreDone (setting old) deeds (running old) (running new) (story old.link) (story new.link)
+
+-- What is under way where it ends
+
+pub data Under : Type 0 where
+  Idle : Under
+  -- an input, which the files may have, and whose line may have been begun
+  Taking : Input → Under
+  -- a line of no input, which may have been begun
+  Noting : List ℕ → Under
+
+-- the line that is under way
+abbrev pub under_line : ℕ → Under → List ℕ
+under_line me Idle = []
+under_line me (Taking i) = input_line me i
+under_line me (Noting line) = line
+
+-- What every crash leaves where a disk or the output failed: with one more input under way, the node before it or after it.
+abbrev pub LeavesUnder : {D : Type 0} → (D → DiskView) → KeptView D → KeptView D → Node → Under → Type 0
+LeavesUnder view old new n (Taking i) = Leaves view (header_of old.node.control) old.node.control.me (disks_of new) (SameAsEither n (step n i).node)
+LeavesUnder view old new n under = Survives view (header_of old.node.control) old.node.control.me (disks_of new) n
+
+-- what every crash leaves, by how it ended
+abbrev pub LeavesAt : {D : Type 0} → (D → DiskView) → KeptView D → KeptView D → TurnEnd → Node → Under → Type 0
+LeavesAt view old new ends.Disk n under = LeavesUnder view old new n under
+LeavesAt view old new ends.Sink n under = LeavesUnder view old new n under
+LeavesAt view old new end n under = LeavesUnder view old new n Idle
+
+abbrev pub IsFront : List ℕ → List ℕ → Type 0
+IsFront front whole = (behind : List ℕ) × (whole ≡ front ++ behind)
+
+-- where the output failed, some prefix of another line was written after the text, and else nothing more was
+abbrev pub WritesAt : {K : Type 0} → (K → List ℕ → K → Type 0) → (K → List ℕ → K → Type 0) → K → K → TurnEnd → List ℕ → List ℕ → Type 0
+WritesAt takes fails old new ends.Sink text line = (front : List ℕ) × IsFront front line × fails old (text ++ front) new
+WritesAt takes fails old new end text line = takes old text new
+
+-- why it ended
+abbrev pub HasCause : {D K : Type 0} → (D → DiskView) → (K → ℕ) → TurnEnd → Under → KeptView D → KeptView D → K → K → Counts → Counts → Type 0
+HasCause view faults ends.Disk under old new sink after before behind = OneRose view (disks_of old) (disks_of new)
+HasCause view faults ends.Sink under old new sink after before behind = Rose (faults sink) (faults after)
+HasCause view faults ends.Full (Taking i) old new sink after before behind = IsFullAt new i
+HasCause view faults ends.Full under old new sink after before behind = ⊥
+HasCause view faults ends.Link under old new sink after before behind = Rose before.listening behind.listening
+HasCause view faults ends.Memory under old new sink after before behind = Unit {0}
+HasCause view faults ends.Served under old new sink after before behind = ⊥
+HasCause view faults ends.Quiet under old new sink after before behind = ⊥
+
+-- A file is full for the input that was under way exactly where it ended so, and then nothing changed.
+abbrev pub MeetsFull : {D : Type 0} → (D → DiskView) → TurnEnd → Under → KeptView D → KeptView D → Type 0
+MeetsFull view ends.Full (Taking i) old new = IsFullAt old i × ChangesNothing view old new
+MeetsFull view ends.Full under old new = ⊥
+MeetsFull view ends.Disk (Taking i) old new = ¬ IsFullAt old i
+MeetsFull view ends.Sink (Taking i) old new = ¬ IsFullAt old i
+MeetsFull view end under old new = Unit {0}
+
+-- the link was asked in vain where it ended so, and else nothing happened there
+abbrev pub CountsAt : TurnEnd → Counts → Counts → Type 0
+CountsAt ends.Link old new = CountsFailure old new
+CountsAt end old new = new ≡ old
+
+-- It ended so at once, perhaps with one input or one line under way.
+pub record Breaks {D L K : Type 0} (view : D → DiskView) (takes fails : K → List ℕ → K → Type 0) (faults : K → ℕ) (story : L → Option (List Call)) (counts : L → Counts) (end : TurnEnd) (under : Under) (old new : Server D L K) : Type 0 where
+  pub text : WritesAt takes fails old.sink new.sink end [] (under_line old.kept.node.control.me under)
+  pub leaves : IsHonest view old.kept → LeavesAt view old.kept new.kept end (node_of old.kept) under
+  pub goes_on : AllGoOn view (disks_of old.kept) (disks_of new.kept)
+  pub cause : HasCause view faults end under old.kept new.kept old.sink new.sink (counts old.link) (counts new.link)
+  pub meets : MeetsFull view end under old.kept new.kept
+  pub told : story new.link ≡ story old.link
+  pub counted : CountsAt end (counts old.link) (counts new.link)
+
+-- These deeds were done, and then it ended so at once.
+abbrev pub BreaksBehind : {D L K : Type 0} → (D → DiskView) → (K → List ℕ → K → Type 0) → (K → List ℕ → K → Type 0) → (K → ℕ) → (L → Option (List Call)) → (L → Counts) → TurnEnd → List Deed → Under → Server D L K → Server D L K → Type 0
+BreaksBehind {D} {L} {K} view takes fails faults story counts end deeds under old new = (at : Server D L K)
+    × Did view takes faults story counts deeds old at × Breaks view takes fails faults story counts end under at new
+
+-- One input
+
+-- why an input is not taken; a node whose disks failed takes none
+abbrev pub end_of : KeepError → TurnEnd
+end_of keeps.Closed = ends.Disk
+end_of keeps.Memory = ends.Memory
+end_of keeps.Full = ends.Full
+end_of keeps.Disk = ends.Disk
+
+-- why an input was not taken into the files
+abbrev pub KeepCause : {D : Type 0} → (D → DiskView) → TurnEnd → Input → KeptView D → KeptView D → Type 0
+KeepCause view ends.Disk i old new = OneRose view (disks_of old) (disks_of new)
+KeepCause view ends.Full i old new = IsFullAt new i
+KeepCause view ends.Memory i old new = Unit {0}
+KeepCause view end i old new = ⊥
+
+-- an input was not taken into the files
+pub record KeepStops {D : Type 0} (view : D → DiskView) (end : TurnEnd) (i : Input) (old new : KeptView D) : Type 0 where
+  pub leaves : IsHonest view old → LeavesAt view old new end (node_of old) (Taking i)
+  pub goes_on : AllGoOn view (disks_of old) (disks_of new)
+  pub cause : KeepCause view end i old new
+  pub meets : MeetsFull view end (Taking i) old new

@@ -1,0 +1,67 @@
+//! What a turn asks of its link: one thing that happened, and the time.
+
+ghost use Rattle.std.specs.Prelude.{◌≡◌, ◌∷◌, [], Ok, List, ℕ, IfErr, IfOk};
+ghost use Rattle.oc_events.specs.Told.{NextGives};
+ghost use Rattle.oc_server.specs.Deeds.{Reads, Sees, Tells, dials_behind, errand_in};
+ghost use Rattle.oc_server.specs.Scenes.{Breaks, Did, IsServing, Idle};
+
+use crate::dials::{Dials, Errand};
+use crate::ends::TurnEnd;
+use crate::server::Server;
+use oc_events::{Event, Link};
+use oc_io::{Disk, Sink};
+
+/// One thing that happened, and for what a dial was made whose reply it is.
+#[derive(Clone, Copy, Debug)]
+pub struct Happened {
+    pub event: Event,
+    pub errand: Option<Errand>,
+}
+
+impl<D: Disk, L: Link, K: Sink> Server<D, L, K> {
+    /// One thing that happened at the link, at the latest when this many milliseconds have passed. A dial whose reply
+    /// came is over.
+    pub fn sees(&mut self, wait: u64) -> Result<Happened, TurnEnd>
+        requires { IsServing self.old }
+        ensures did { IfOk result (λ seen. (bytes : List ℕ) × Did D.view K.takes K.faults L.story L.counts (Sees seen.event wait bytes ∷ []) self.old self.new) }
+        ensures told { IfOk result (λ seen. NextGives (Ok seen.event) (L.lends self.new.link) (L.story self.old.link) (L.story self.new.link)) }
+        ensures errand { IfOk result (λ seen. seen.errand ≡ errand_in seen.event self.old.dials) }
+        ensures breaks { IfErr result (λ end. (end ≡ TurnEnd.Link) × Breaks D.view K.takes K.fails K.faults L.story L.counts end Idle self.old self.new) }
+    {
+        self.kept.recovers();
+        match self.link.next(wait) {
+            Ok(event) => {
+                let errand = errand_in(&mut self.dials, &event);
+                Ok(Happened { event, errand })
+            }
+            Err(_) => Err(TurnEnd::Link),
+        }
+    }
+
+    /// The time in milliseconds.
+    pub fn reads(&mut self) -> u64
+        requires { IsServing self.old }
+        ensures { Did D.view K.takes K.faults L.story L.counts (Reads result ∷ []) self.old self.new }
+    {
+        self.link.millis()
+    }
+
+    /// The time in seconds.
+    pub fn tells(&mut self) -> u64
+        requires { IsServing self.old }
+        ensures { Did D.view K.takes K.faults L.story L.counts (Tells result ∷ []) self.old self.new }
+    {
+        self.link.now()
+    }
+}
+
+/// Takes out the dial whose reply an event is.
+fn errand_in(dials: &mut Dials, event: &Event) -> Option<Errand>
+    ensures errand { result ≡ errand_in event.now dials.old }
+    ensures rest { dials.new ≡ dials_behind event.now dials.old }
+{
+    match event {
+        Event::Reply(dial, _) => dials.take(*dial),
+        _ => None,
+    }
+}

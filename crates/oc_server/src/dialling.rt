@@ -1,0 +1,106 @@
+//! Dials that begin.
+
+ghost use Rattle.std.specs.Prelude.{◌≡◌, ◌<◌, ◌∷◌, ◌++◌, [], OnErr, OnOk, IfErr, length, slice_get, Some};
+ghost use Rattle.oc_base.specs.Lawful.{IsNode};
+ghost use Rattle.oc_events.specs.Told.{AddsAll};
+ghost use Rattle.oc_events.specs.declared.call.Call.TheVariants as acts;
+ghost use Rattle.oc_http.specs.Writing.{IsHost, request_text};
+ghost use Rattle.oc_model.specs.declared.message.Message.{Message};
+ghost use Rattle.oc_wire.specs.Spelling.{HasSpelling, spelling};
+ghost use Rattle.oc_server.specs.Deeds.{Probes};
+ghost use Rattle.oc_server.specs.Deeds as deeds;
+ghost use Rattle.oc_server.specs.Dials.{brings, dialling};
+ghost use Rattle.oc_server.specs.Scenes.{Breaks, Did, IsServing, Idle};
+
+use crate::dials::{Dials, Errand};
+use crate::ends::TurnEnd;
+use crate::outbox::is_fetch;
+use crate::server::Server;
+use oc_base::{Memory, NodeId};
+use oc_config::Config;
+use oc_events::{DialId, Link};
+use oc_http::write_probe;
+use oc_io::{Disk, Sink};
+use oc_model::Message;
+use oc_wire::to_http;
+use std::alloc::Global;
+
+impl<D: Disk, L: Link, K: Sink> Server<D, L, K> {
+    /// Dials the message at a place of the outbox under this number.
+    pub fn dials(&mut self, place: usize, dial: DialId) -> Result<(), TurnEnd>
+        requires serving { IsServing self.old }
+        requires place { place < length self.old.outbox }
+        ensures did { OnOk result ((m : Message) × (slice_get self.old.outbox place ≡ Some m)
+            × Did D.view K.takes K.faults L.story L.counts (deeds.Dials place m dial ∷ []) self.old self.new) }
+        ensures breaks { IfErr result (λ end. (end ≡ TurnEnd.Memory) × Breaks D.view K.takes K.fails K.faults L.story L.counts end Idle self.old self.new) }
+    {
+        self.kept.recovers();
+        match self.outbox.take(place) {
+            Some(message) => {
+                let address = address_of(&self.config, message.to);
+                begin_dial(
+                    self.alloc,
+                    &mut self.link,
+                    &mut self.dials,
+                    address,
+                    &message,
+                    dial,
+                )?;
+                Ok(())
+            }
+            None => Ok(()),
+        }
+    }
+
+    /// Begins the probe of a node under this number and at this time.
+    pub fn probes(&mut self, peer: NodeId, dial: DialId, now: u64) -> Result<(), TurnEnd>
+        requires serving { IsServing self.old }
+        requires peer { IsNode self.old.kept.node.control.nodes peer }
+        ensures did { OnOk result (Did D.view K.takes K.faults L.story L.counts (Probes peer dial now ∷ []) self.old self.new) }
+        ensures breaks { IfErr result (λ end. (end ≡ TurnEnd.Memory) × Breaks D.view K.takes K.fails K.faults L.story L.counts end Idle self.old self.new) }
+    {
+        self.kept.recovers();
+        let address = address_of(&self.config, peer);
+        let text = write_probe(self.alloc, address)?;
+        let errand = Errand::Probe { peer, since: now };
+        self.dials.begin(dial, errand)?;
+        self.link.dial(dial, address, &text);
+        Ok(())
+    }
+}
+
+/// Begins the dial of a message to this address.
+fn begin_dial<L: Link>(
+    alloc: Global,
+    link: &mut L,
+    dials: &mut Dials,
+    address: &str,
+    message: &Message,
+    dial: DialId,
+) -> Result<(), Memory>
+    requires body { HasSpelling message.now.body }
+    requires host { IsHost address.now }
+    ensures begun { OnOk result (dials.new ≡ dials.old ++ dialling dial (brings message.now) ∷ []) }
+    ensures calls { OnOk result (AddsAll (acts.Dial dial address.now (request_text address.now (spelling message.now)) ∷ []) (L.story link.old) (L.story link.new)) }
+    ensures fails { OnErr result (L.story link.new ≡ L.story link.old) }
+    ensures counts { L.counts link.new ≡ L.counts link.old }
+{
+    let text = to_http(alloc, message, address)?;
+    let errand = Errand::Message {
+        to: message.to,
+        fetch: is_fetch(&message.body),
+    };
+    dials.begin(dial, errand)?;
+    link.dial(dial, address, &text);
+    Ok(())
+}
+
+/// The address of a node.
+fn address_of(config: &Config, node: NodeId) -> &str
+    ensures { result.now ≡ deeds.address_at config.now.addresses node }
+{
+    match config.addresses.get((node.0 as usize).saturating_sub(1)) {
+        Some(address) => address.as_str(),
+        None => "",
+    }
+}

@@ -1,0 +1,34 @@
+use crate::dials::Dials;
+use crate::outbox::Outbox;
+use crate::pace::Pace;
+use crate::works::Works;
+use oc_config::Config;
+use oc_events::Link;
+use oc_http::HeadReader;
+use oc_io::{Disk, Sink};
+use oc_keep::Kept;
+use oc_probe::Probing;
+use std::alloc::Global;
+
+/// A running node: its files, what it has still to send and to answer, its configuration, and what it reaches the
+/// world by.
+#[derive(Drop)]
+pub struct Server<D: Disk, L: Link, K: Sink> {
+    pub alloc: Global,
+    pub kept: Kept<D>,
+    /// The messages that are still to be sent.
+    pub outbox: Outbox,
+    /// What is under way on its connections.
+    pub works: Works,
+    /// What it has dialled.
+    pub dials: Dials,
+    /// Whom it probes, if it does.
+    pub probing: Option<Probing>,
+    /// When its next tick is due.
+    pub pace: Pace,
+    pub config: Config,
+    pub link: L,
+    /// Where its lines go.
+    pub sink: K,
+    pub heads: HeadReader,
+}

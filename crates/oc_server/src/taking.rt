@@ -1,0 +1,140 @@
+//! Inputs that are taken.
+
+ghost use Rattle.std.specs.Prelude.{◌≡◌, List, [], ◌∷◌, false, IfOk, IfErr, OnOk};
+ghost use Rattle.oc_model.specs.Lawful.{IsInput};
+ghost use Rattle.oc_model.specs.Step.{step};
+ghost use Rattle.oc_keep.specs.KeptView.{IsHonest, node_of};
+ghost use Rattle.oc_routes.specs.Inputs.{input_line};
+ghost use Rattle.oc_server.specs.Deeds.{Accepts, Takes, back_to, others_than, sender_of};
+ghost use Rattle.oc_server.specs.Deeds as deeds;
+ghost use Rattle.oc_server.specs.Scenes as scenes;
+ghost use Rattle.oc_server.specs.Scenes.{Breaks, Did, IsServing, KeepStops, KeepsOne, Taking};
+
+use crate::ends::TurnEnd;
+use crate::noting::write_line;
+use crate::outbox::put_all;
+use crate::sendable::sendable;
+use crate::server::Server;
+use oc_base::{Memory, NodeId};
+use oc_events::Link;
+use oc_io::{Disk, Sink};
+use oc_keep::{KeepError, Kept, Outcome};
+use oc_laws_step::lawful_nodes_stay_lawful;
+use oc_model::{Answer, Input, Message};
+use oc_routes::{put_input_line, split_reply};
+use oc_wire::spellings_are_read;
+use std::alloc::Global;
+
+/// What a request's input brought: the answer of its step, and the message that goes back to its sender.
+#[derive(Drop)]
+pub struct Accepted {
+    pub answer: Answer,
+    pub back: Option<Message>,
+}
+
+impl<D: Disk, L: Link, K: Sink> Server<D, L, K> {
+    /// Takes an input: makes its frame safe, changes the node, and then writes its line. What it sends goes to the
+    /// outbox.
+    pub fn takes(&mut self, input: Input) -> Result<(), TurnEnd>
+        requires serving { IsServing self.old }
+        requires input { IsInput self.old.kept.node.control.nodes self.old.kept.node.control.me input }
+        ensures did { OnOk result (Did D.view K.takes K.faults L.story L.counts (Takes input ∷ []) self.old self.new) }
+        ensures breaks { IfErr result (λ end. Breaks D.view K.takes K.fails K.faults L.story L.counts end (Taking input) self.old self.new) }
+    {
+        self.kept.recovers();
+        let line = line_of(self.alloc, &self.kept, &input)?;
+        let outcome = keep(&mut self.kept, input)?;
+        // Where the output fails, the disks have the input already.
+        write_line(&mut self.sink, &line)?;
+        put_all(&mut self.outbox, outcome.sends);
+        Ok(())
+    }
+
+    /// Takes the input of a request. The first message that goes back to the sender of a message is its reply, and
+    /// does not go to the outbox.
+    pub fn accepts(&mut self, input: Input) -> Result<Accepted, TurnEnd>
+        requires serving { IsServing self.old }
+        requires input { IsInput self.old.kept.node.control.nodes self.old.kept.node.control.me input }
+        ensures did { OnOk result (Did D.view K.takes K.faults L.story L.counts (Accepts input ∷ []) self.old self.new) }
+        ensures answer { IfOk result (λ accepted. IsHonest D.view self.old.kept → accepted.answer ≡ (step (node_of self.old.kept) input).answer) }
+        ensures back { IfOk result (λ accepted. IsHonest D.view self.old.kept → accepted.back ≡ back_to (sender_of input) (step (node_of self.old.kept) input).sends) }
+        ensures breaks { IfErr result (λ end. Breaks D.view K.takes K.fails K.faults L.story L.counts end (Taking input) self.old self.new) }
+    {
+        self.kept.recovers();
+        let line = line_of(self.alloc, &self.kept, &input)?;
+        let sender = sender_of(&input);
+        let outcome = keep(&mut self.kept, input)?;
+        write_line(&mut self.sink, &line)?;
+        let (back, others) = held_back(sender, outcome.sends);
+        put_all(&mut self.outbox, others);
+        Ok(Accepted {
+            answer: outcome.answer,
+            back,
+        })
+    }
+}
+
+/// The line of an input of this node.
+fn line_of<D: Disk>(alloc: Global, kept: &Kept<D>, input: &Input) -> Result<Vec<u8>, Memory>
+    requires { IsInput kept.now.node.control.nodes kept.now.node.control.me input.now }
+    ensures { IfOk result (λ line. line.items ≡ input_line kept.now.node.control.me input.now) }
+{
+    spellings_are_read();
+    kept.recovers();
+    let me = kept.node().id();
+    let mut line = Vec::new(alloc);
+    put_input_line(alloc, &mut line, me, input)?;
+    Ok(line)
+}
+
+/// Takes an input into the files of its node.
+fn keep<D: Disk>(kept: &mut Kept<D>, input: Input) -> Result<Outcome, TurnEnd>
+    requires open { kept.old.closed ≡ false }
+    requires input { IsInput kept.old.node.control.nodes kept.old.node.control.me input }
+    ensures kept { IfOk result (λ outcome. KeepsOne D.view input outcome kept.old kept.new) }
+    ensures stops { IfErr result (λ end. KeepStops D.view end input kept.old kept.new) }
+{
+    lawful_nodes_stay_lawful();
+    spellings_are_read();
+    kept.recovers();
+    let nodes = kept.node().nodes();
+    match kept.take(input) {
+        Ok(outcome) => Ok(sendable(nodes, outcome)),
+        Err(error) => {
+            kept.recovers();
+            Err(end_of(error))
+        }
+    }
+}
+
+/// Why an input is not taken.
+fn end_of(error: KeepError) -> TurnEnd
+    ensures { result ≡ scenes.end_of error }
+{
+    match error {
+        KeepError::Closed | KeepError::Disk => TurnEnd::Disk,
+        KeepError::Memory => TurnEnd::Memory,
+        KeepError::Full => TurnEnd::Full,
+    }
+}
+
+/// Who sent the message that an input is.
+fn sender_of(input: &Input) -> Option<NodeId>
+    ensures { result ≡ deeds.sender_of input.now }
+{
+    match input {
+        Input::Delivered(message) => Some(message.from),
+        _ => None,
+    }
+}
+
+/// Splits messages into what goes back to a sender and all others.
+fn held_back(sender: Option<NodeId>, sends: Vec<Message>) -> (Option<Message>, Vec<Message>)
+    ensures back { result.0 ≡ back_to sender sends.items }
+    ensures others { result.1.items ≡ others_than sender sends.items }
+{
+    match sender {
+        Some(sender) => split_reply(sends, sender),
+        None => (None, sends),
+    }
+}

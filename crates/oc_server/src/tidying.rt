@@ -1,0 +1,52 @@
+//! The files of a node, turned over.
+
+ghost use Rattle.std.specs.Prelude.{◌≡◌, ◌+◌, IfErr, OnOk, [], false};
+ghost use Rattle.oc_keep.specs.KeptView.{IsRipe};
+ghost use Rattle.oc_server.specs.Looks.{LooksOnly, LookStops, end_of_tidy};
+ghost use Rattle.oc_server.specs.Scenes.{Breaks, Did, IsServing, Idle};
+
+use crate::ends::TurnEnd;
+use crate::server::Server;
+use oc_events::Link;
+use oc_io::{Disk, Sink};
+use oc_keep::{Kept, TidyError};
+
+impl<D: Disk, L: Link, K: Sink> Server<D, L, K> {
+    /// Turns the control files over, where they are ripe.
+    pub fn tidies(&mut self) -> Result<(), TurnEnd>
+        requires { IsServing self.old }
+        ensures did { OnOk result (Did D.view K.takes K.faults L.story L.counts [] self.old self.new) }
+        ensures breaks { IfErr result (λ end. Breaks D.view K.takes K.fails K.faults L.story L.counts end Idle self.old self.new) }
+
+        // A ripe node gets a greater generation.
+        ensures ripe { OnOk result (IsRipe self.old.kept → self.new.kept.store.generation ≡ self.old.kept.store.generation + 1) }
+    {
+        tidy(&mut self.kept)
+    }
+}
+
+/// Turns the control files over, where they are ripe.
+fn tidy<D: Disk>(kept: &mut Kept<D>) -> Result<(), TurnEnd>
+    requires open { kept.old.closed ≡ false }
+    ensures looks { OnOk result (LooksOnly D.view kept.old kept.new) }
+    ensures stops { IfErr result (λ end. LookStops D.view end kept.old kept.new) }
+    ensures ripe { OnOk result (IsRipe kept.old → kept.new.store.generation ≡ kept.old.store.generation + 1) }
+{
+    match kept.tidy() {
+        Ok(_) => Ok(()),
+        Err(error) => {
+            kept.recovers();
+            Err(end_of(error))
+        }
+    }
+}
+
+/// How a turn ends where the files are not tidied.
+fn end_of(error: TidyError) -> TurnEnd
+    ensures { result ≡ end_of_tidy error }
+{
+    match error {
+        TidyError::Closed | TidyError::Disk => TurnEnd::Disk,
+        TidyError::Memory => TurnEnd::Memory,
+    }
+}

@@ -4,11 +4,12 @@ use Rattle.oc_base.specs.declared.group_name.NameFault.{NameFault}
 use Rattle.oc_base.specs.declared.limits.TheConstants.{MIN_NAME_BYTES, MAX_NAME_BYTES}
 use Rattle.oc_base.specs.declared.group_name.NameFault.TheVariants.{Length, Byte, Form}
 
--- a letter, a digit, or one of `/`, `.`, `_`, `~` and `-`
+-- a letter, a digit, or one of `/`, `.`, `_`, `~`, `-`, `+`, `:`, `=`, `@`, `,`, `(` and `)`
 abbrev pub is_name_byte : ℕ → Bool
 is_name_byte b =
     (nat_le 97 b && nat_le b 122) || (nat_le 65 b && nat_le b 90) || (nat_le 48 b && nat_le b 57)
     || b == 47 || b == 46 || b == 95 || b == 126 || b == 45
+    || b == 43 || b == 58 || b == 61 || b == 64 || b == 44 || b == 40 || b == 41
 
 -- what comes between two slashes: neither nothing, nor one dot, nor two
 abbrev pub is_segment : List ℕ → Bool

@@ -7,7 +7,7 @@ ghost use Rattle.oc_base.specs.Codes.{row_of, AreDistinct, are_distinct};
 pub struct CodeRow {
     pub code: u8,
     /// In bytes.
-    pub least: u16,
+    pub least: u32,
 }
 
 /// The place of the first row with this code.

@@ -16,8 +16,8 @@ use std::marker::Model;
 
 /// The name of a group: the path of its URL. Names are ordered by their bytes.
 ///
-/// It is 2 to 200 bytes, each a letter, a digit, `/`, `.`, `_`, `~` or `-`. It begins with `/`, and
-/// no segment between slashes or after the last is empty, `.` or `..`.
+/// It is 2 to 200 bytes, each a letter, a digit or one of `/`, `.`, `_`, `~`, `-`, `+`, `:`, `=`, `@`, `,`,
+/// `(` and `)`. It begins with `/`, and no segment between slashes or after the last is empty, `.` or `..`.
 #[derive(Clone, Copy)]
 pub struct GroupName {
     bytes: [u8; MAX_NAME_BYTES],
@@ -120,7 +120,7 @@ fn first_strange(bytes: &[u8]) -> Option<usize>
 fn may_stand(byte: u8) -> bool
     ensures { result ≡ is_name_byte byte }
 {
-    matches!(byte, b'a'..=b'z' | b'A'..=b'Z' | b'0'..=b'9' | b'/' | b'.' | b'_' | b'~' | b'-')
+    matches!(byte, b'a'..=b'z' | b'A'..=b'Z' | b'0'..=b'9' | b'/' | b'.' | b'_' | b'~' | b'-' | b'+' | b':' | b'=' | b'@' | b',' | b'(' | b')')
 }
 
 fn is_allowed_segment(segment: &[u8]) -> bool

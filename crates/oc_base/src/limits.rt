@@ -35,8 +35,8 @@ pub const LAST_SECOND: u64 = 2_199_023_255_552;
 /// The greatest acknowledged count of a `Base` record: 2^62.
 pub const MAX_BASE_ACKED: u64 = 4_611_686_018_427_387_904;
 
-/// The greatest length of a change log at which a node takes a step: 2^62 + 2^40.
-pub const MAX_LOG_LENGTH: u64 = 4_611_687_117_939_015_680;
+/// The greatest length of a change log at which a node takes a step: 2^62 + 2^48.
+pub const MAX_LOG_LENGTH: u64 = 4_611_967_493_404_098_560;
 
 // Content
 
@@ -48,14 +48,17 @@ pub const MAX_NAME_BYTES: usize = 200;
 /// The greatest number of groups of a node.
 pub const MAX_GROUPS: usize = 64;
 
-/// The greatest number of bytes of a group: 2^30.
-pub const MAX_GROUP_BYTES: u64 = 1_073_741_824;
+/// The greatest number of bytes of a group: 2^40.
+pub const MAX_GROUP_BYTES: u64 = 1_099_511_627_776;
 
 /// The greatest number of bytes of one publish.
 pub const MAX_PUBLISH_BYTES: usize = 1_000_000;
 
-/// The greatest number of bytes of a chunk that goes from node to node.
-pub const MAX_CHUNK_BYTES: usize = 4_096;
+/// The greatest number of bytes of a chunk that goes from node to node, in any network.
+pub const MAX_CHUNK_BYTES: usize = 524_288;
+
+/// The greatest number of bytes of a chunk in a network for which a schedule names no number.
+pub const USUAL_CHUNK_BYTES: u32 = 4_096;
 
 /// The greatest byte at which a client's request begins: 2^40.
 pub const MAX_START: u64 = 1_099_511_627_776;
@@ -68,8 +71,9 @@ pub const MAX_FRAME_BYTES: usize = 1_048_576;
 /// The greatest number of records of a frame.
 pub const MAX_FRAME_RECORDS: usize = 4_096;
 
-/// The greatest number of bytes of a journal: 2^40.
-pub const MAX_JOURNAL_BYTES: u64 = 1_099_511_627_776;
+/// The greatest number of bytes of a journal, 2^48: room for the content of as many full groups as a
+/// node may hold.
+pub const MAX_JOURNAL_BYTES: u64 = 281_474_976_710_656;
 
 /// A control file whose frames end past this byte is due to be turned over.
 pub const DUE_BYTES: u64 = 262_144;

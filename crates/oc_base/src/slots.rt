@@ -1,9 +1,7 @@
-ghost use Rattle.std.specs.Prelude.{◌≡◌, ◌+◌, ◌-◌, ◌≤◌, ◌<◌, ◌++◌, drop, get_or, length, max, replicate, set, IfOk};
-ghost use Rattle.std.specs.VecDeque.{deque_capacity};
+ghost use Rattle.std.specs.Prelude.{◌≡◌, ◌+◌, ◌-◌, ◌≤◌, ◌<◌, ◌++◌, drop, get_or, length, max, replicate, set, vec_capacity, IfOk};
 
 use crate::Memory;
 use std::alloc::Global;
-use std::collections::VecDeque;
 use std::marker::Model;
 
 /// A value for each of a fixed number of slots, the same everywhere at first. All memory is taken at
@@ -16,12 +14,11 @@ use std::marker::Model;
 pub struct Slots<T> {
     count: usize,
     blank: T,
-    written: VecDeque<T>,
+    written: Vec<T>,
 }
 
 impl<T> Model for Slots<T> {
-    ghost use Rattle.std.specs.Prelude.{◌≤◌, length};
-    ghost use Rattle.std.specs.VecDeque.{deque_capacity};
+    ghost use Rattle.std.specs.Prelude.{◌≤◌, length, vec_capacity};
     ghost use Rattle.oc_base.specs.SlotsView.{SlotsView, filled_up};
 
     ghost Value = { SlotsView T };
@@ -30,10 +27,10 @@ impl<T> Model for Slots<T> {
       items = filled_up r.count r.blank r.written.items;
       used = length r.written.items;
       blank = r.blank;
-      room = deque_capacity r.written;
+      room = r.count;
     } };
 
-    ghost invariant = { λ r. (length r.written.items ≤ r.count) × (r.count ≤ deque_capacity r.written) };
+    ghost invariant = { λ r. (length r.written.items ≤ r.count) × (r.count ≤ vec_capacity r.written) };
 }
 
 impl<T: Copy> Slots<T> {
@@ -47,7 +44,7 @@ impl<T: Copy> Slots<T> {
         Ok(Slots {
             count,
             blank,
-            written: VecDeque::with_capacity(alloc, count)?,
+            written: Vec::with_capacity(alloc, count)?,
         })
     }
 
@@ -71,10 +68,12 @@ impl<T: Copy> Slots<T> {
     pub fn get_or(&self, slot: usize, other: T) -> T
         ensures { result ≡ get_or self.now.items slot other }
     {
-        match self.written.get(slot) {
-            Some(value) => *value,
-            None if slot < self.count => self.blank,
-            None => other,
+        if slot < self.written.len() {
+            self.written[slot]
+        } else if slot < self.count {
+            self.blank
+        } else {
+            other
         }
     }
 
@@ -103,13 +102,13 @@ impl<T: Copy> Slots<T> {
 }
 
 /// Puts this value at the end until there are this many. There is room for them.
-fn write_up_to<T: Copy>(written: &mut VecDeque<T>, end: usize, blank: T)
-    requires { end ≤ deque_capacity written.old }
+fn write_up_to<T: Copy>(written: &mut Vec<T>, end: usize, blank: T)
+    requires { end ≤ vec_capacity written.old }
     ensures items { written.new.items ≡ written.old.items ++ replicate (end - length written.old.items) blank }
-    ensures room { deque_capacity written.new ≡ deque_capacity written.old }
+    ensures room { vec_capacity written.new ≡ vec_capacity written.old }
 {
     let more = end.saturating_sub(written.len());
     for _ in 0..more {
-        written.push_back_reserved(blank);
+        written.push_reserved(blank);
     }
 }

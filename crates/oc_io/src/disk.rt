@@ -5,8 +5,8 @@ ghost use Rattle.oc_io.specs.Faults.{Rose};
 use crate::fault::Failed;
 use std::alloc::AllocError;
 
-/// The most bytes that a reliable disk holds together with its spare room: 2^40.
-pub const MAX_RELIABLE_BYTES: u64 = 1_099_511_627_776;
+/// The most bytes that a reliable disk holds together with its spare room: 2^48.
+pub const MAX_RELIABLE_BYTES: u64 = 281_474_976_710_656;
 
 /// A file of bytes that may crash at any moment.
 ///

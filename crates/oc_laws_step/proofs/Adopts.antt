@@ -25,7 +25,7 @@ goes_raises_over o x r =
 pub goes_renew : (o : Plan) (x : ℕ) → Goes 0 0 o (with_leases o (renew o.node.leases x o.node.soft.clock))
 goes_renew o x =
     goes_still o (with_leases o (renew o.node.leases x o.node.soft.clock)) refl refl
-    (record { me = refl; nodes = refl; chain = refl; areas = refl; leases = length-set o.node.leases _ _; rates = refl; counts = refl })
+    (record { me = refl; nodes = refl; chain = refl; chunk = refl; areas = refl; leases = length-set o.node.leases _ _; rates = refl; counts = refl })
     refl refl
 
 goes_grants : (o : Plan) (x seq : ℕ) → Goes 0 0 o (grants o x seq)

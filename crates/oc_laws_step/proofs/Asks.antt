@@ -90,12 +90,12 @@ goes_refused o why = goes_next_try o
 
 -- the node that has no parent any more
 abbrev heard : Plan → Plan
-heard o = with_soft (lost o) (record o.node.soft { silent = false })
+heard o = with_soft (lost o) (record o.node.soft { silent = false; refused = true })
 
 pub goes_took_no : (o : Plan) (p seq : ℕ) (why : Refusal) → Goes 0 3 o (took_no o p seq why)
 goes_took_no o p seq why =
     either (is_asking o.node.kept.mode p && seq == o.node.kept.seq) (Goes 0 3 o) (refused (heard o) why) (ignored o)
-    (goes_then 0 1 0 2 o (heard o) (refused (heard o) why) (then_soft 0 1 o (lost o) (record o.node.soft { silent = false }) (goes_lost o)) (goes_refused (heard o) why))
+    (goes_then 0 1 0 2 o (heard o) (refused (heard o) why) (then_soft 0 1 o (lost o) (record o.node.soft { silent = false; refused = true }) (goes_lost o)) (goes_refused (heard o) why))
     (goes_says 0 3 o words.Ignored)
 
 goes_not_seen : (s : Option Search) (o : Plan) (p : ℕ) → Goes 0 3 o (not_seen s o p)

@@ -16,7 +16,7 @@ use Rattle.oc_model.specs.Adoption.{rank_or_last, is_better}
 use Rattle.oc_model.specs.Asking.{send_ask, ask_before, ancestors_by}
 use Rattle.oc_base.specs.declared.limits.TheConstants.{MAX_ANCESTORS}
 use Rattle.oc_model.specs.ChangeLog.{is_ahead}
-use Rattle.oc_model.specs.Checking.{counts_clients, checks_in, checks_as, next_check, checks, merges, merges_all, at_time, starts_leases, dies, ends_each, ends_leases, looks_at_each, looks_round, is_due, checks_if_due, fetches_as, tick, acknowledges, life, checked_in, is_joined_to, takes_place, takes_rank, same_ids, takes_ancestors, took_ack, is_peer, took_rejoin}
+use Rattle.oc_model.specs.Checking.{counts_clients, reports, checks_as, next_check, checks, merges, merges_all, at_time, starts_leases, dies, ends_each, ends_leases, looks_at_each, looks_round, is_due, forgets_refusal, checks_in_time, has_news, reports_news_as, reports_news, checks_if_due, fetches_as, tick, acknowledges, life, checked_in, is_joined_to, takes_place, takes_rank, same_ids, takes_ancestors, took_ack, is_peer, took_rejoin}
 use Rattle.oc_model.specs.Choice.{below}
 use Rattle.oc_model.specs.Leases.{start_if, start_each, is_over, ended}
 use Rattle.oc_model.specs.Numbers.{number_end, raise, capped, at}
@@ -37,10 +37,17 @@ goes_counts_clients o =
     (then_soft 0 1 o (counted o) (record o.node.soft { served = 0 }) (goes_write o (records.Info (o.node.kept.number + 1) (capped (o.node.kept.clients + o.node.soft.served))) (λ e. omega arith)))
     (goes_free 0 1 o o (goes_itself o))
 
+abbrev noted : Plan → Plan
+noted o = with_soft o (record o.node.soft { checked = Some o.node.soft.clock })
+
+goes_reports : (o : Plan) (p : ℕ) → Goes 0 1 o (reports o p)
+goes_reports o p =
+    then_still 0 1 o (counts_clients (noted o)) (reports o p)
+    (goes_then 0 0 0 1 o (noted o) (counts_clients (noted o)) (goes_soft o (record o.node.soft { checked = Some o.node.soft.clock })) (goes_counts_clients (noted o)))
+    (goes_send (counts_clients (noted o)) p _)
+
 goes_checks_as : (m : Mode) (o : Plan) → Goes 0 2 o (checks_as m o)
-goes_checks_as (modes.Joined p) o =
-    goes_within 0 1 0 2 o (checks_in (counts_clients o) p) (omega arith) (omega arith)
-    (then_still 0 1 o (counts_clients o) (checks_in (counts_clients o) p) (goes_counts_clients o) (goes_send (counts_clients o) p _))
+goes_checks_as (modes.Joined p) o = goes_within 0 1 0 2 o (reports o p) (omega arith) (omega arith) (goes_reports o p)
 goes_checks_as modes.Acting o =
     goes_within 0 1 0 2 o (raises o (raise (rank_or_last o.node.kept.rank).epoch)) (omega arith) (omega arith) (goes_raises o (raise (rank_or_last o.node.kept.rank).epoch))
 goes_checks_as modes.Idle o = goes_round o None
@@ -75,7 +82,7 @@ length-start_each (x ∷ xs) ends now = length-start_each xs (start_if (at ends 
 goes_starts : (o : Plan) → Goes 0 0 o (starts_leases o)
 goes_starts o =
     goes_still o (starts_leases o) refl refl
-    (record { me = refl; nodes = refl; chain = refl; areas = refl; leases = length-start_each (leased_children o.node.kept.table o.node.me) o.node.leases o.node.soft.clock; rates = refl; counts = refl })
+    (record { me = refl; nodes = refl; chain = refl; chunk = refl; areas = refl; leases = length-start_each (leased_children o.node.kept.table o.node.me) o.node.leases o.node.soft.clock; rates = refl; counts = refl })
     refl refl
 
 goes_dies : (k : Option Cert) (o : Plan) → Goes 1 0 o (dies k o)
@@ -109,18 +116,33 @@ goes_looks_at_each (x ∷ xs) o =
 
 goes_looks_round : (m : Mode) (o : Plan) → Goes 0 0 o (looks_round m o)
 goes_looks_round (modes.Joined p) o =
-    either (is_member o.node) (Goes 0 0 o) (looks_at_each (filter (λ x. nat_lt p x) (below o.node.me)) o) (send (searching o (Some Review)) p bodies.Look)
+    either (is_member o.node) (Goes 0 0 o) (looks_at_each (filter (λ x. nat_lt p x) (below o.node.me)) o) (if o.node.soft.refused then o else send (searching o (Some Review)) p bodies.Look)
     (goes_looks_at_each (filter (λ x. nat_lt p x) (below o.node.me)) o)
-    (then_send 0 0 o (searching o (Some Review)) p bodies.Look (goes_soft o (record o.node.soft { search = Some Review })))
+    (either o.node.soft.refused (Goes 0 0 o) o (send (searching o (Some Review)) p bodies.Look) (goes_itself o)
+    (then_send 0 0 o (searching o (Some Review)) p bodies.Look (goes_soft o (record o.node.soft { search = Some Review }))))
 goes_looks_round modes.Acting o =
     either (is_member o.node) (Goes 0 0 o) (looks_at_each (below o.node.me) o) o (goes_looks_at_each (below o.node.me) o) (goes_itself o)
 goes_looks_round m o = goes_itself o
 
+goes_forgets : (due : Option ℕ) (o : Plan) → Goes 0 0 o (forgets_refusal due o)
+goes_forgets None o = goes_itself o
+goes_forgets (Some t) o = goes_soft o (record o.node.soft { refused = false })
+
+goes_checks_in_time : (o : Plan) → Goes 0 2 o (checks_in_time o)
+goes_checks_in_time o =
+    let begins : Plan = forgets_refusal o.node.soft.due o in
+    goes_then 0 2 0 0 o (checks begins) (checks_in_time o)
+    (goes_then 0 0 0 2 o begins (checks begins) (goes_forgets o.node.soft.due o) (goes_checks begins))
+    (goes_looks_round o.node.kept.mode (checks begins))
+
+goes_reports_news_as : (m : Mode) (o : Plan) → Goes 0 2 o (reports_news_as m o)
+goes_reports_news_as (modes.Joined p) o =
+    either (has_news o.node) (Goes 0 2 o) (reports o p) o (goes_within 0 1 0 2 o (reports o p) (omega arith) (omega arith) (goes_reports o p)) (goes_free 0 2 o o (goes_itself o))
+goes_reports_news_as m o = goes_free 0 2 o o (goes_itself o)
+
 goes_checks_if_due : (o : Plan) → Goes 0 2 o (checks_if_due o)
 goes_checks_if_due o =
-    either (is_due o.node.soft.due o.node.soft.clock) (Goes 0 2 o) (looks_round o.node.kept.mode (checks o)) o
-    (goes_then 0 2 0 0 o (checks o) (looks_round o.node.kept.mode (checks o)) (goes_checks o) (goes_looks_round o.node.kept.mode (checks o)))
-    (goes_free 0 2 o o (goes_itself o))
+    either (is_due o.node.soft.due o.node.soft.clock) (Goes 0 2 o) (checks_in_time o) (reports_news o) (goes_checks_in_time o) (goes_reports_news_as o.node.kept.mode o)
 
 goes_fetches_as : (m : Mode) (o : Plan) (shelf : List Shelf) → Goes 0 0 o (fetches_as m o shelf)
 goes_fetches_as (modes.Joined p) o shelf = goes_send o p (bodies.Fetch shelf)
@@ -156,7 +178,7 @@ goes_tick o shelf t =
 goes_acknowledges : (o : Plan) (x seq upto rate : ℕ) → Goes 0 0 o (acknowledges o x seq upto rate)
 goes_acknowledges o x seq upto rate =
     goes_still o (acknowledges o x seq upto rate) refl refl
-    (record { me = refl; nodes = refl; chain = refl; areas = refl; leases = length-set o.node.leases _ _; rates = length-set o.node.rates _ _; counts = refl })
+    (record { me = refl; nodes = refl; chain = refl; chunk = refl; areas = refl; leases = length-set o.node.leases _ _; rates = length-set o.node.rates _ _; counts = refl })
     refl refl
 
 -- all certificates of a check-in

@@ -7,7 +7,7 @@ use Rattle.oc_model.specs.declared.mode.Mode.{Mode}
 use Rattle.oc_model.specs.declared.mode.Mode.TheVariants as modes
 use Rattle.oc_model.specs.Content.{unless, keeps, grows, publish_to, published, seal_line, sealed_at, answers_fetch, fetched, adds_seal, adds, grown_line, asks_on, keeps_chunk, chunk_to, took_chunk}
 use Rattle.oc_model.specs.Plan.{Plan, answers, ignored}
-use Rattle.oc_model.specs.Shelves.{line_at, with_line, limit, first_behind}
+use Rattle.oc_model.specs.Shelves.{line_at, with_line, limit, next_behind}
 use Rattle.oc_base.specs.Shelves.{line_of}
 use Rattle.oc_laws_step.proofs.Goes.{either}
 
@@ -54,7 +54,7 @@ stays_answers_fetch o p have None = stays_itself o
 stays_answers_fetch o p have (Some l) = record { node = refl; records = refl }
 
 pub stays_fetched : (o : Plan) (shelf : List Shelf) (p : ℕ) (have : List Shelf) → Stays o (fetched o shelf p have)
-stays_fetched o shelf p have = stays_answers_fetch o p have (first_behind have shelf)
+stays_fetched o shelf p have = stays_answers_fetch o p have (next_behind o.node.chunk have shelf)
 
 stays_asks_on : (m : Mode) (p : ℕ) (shelf : List Shelf) (o q : Plan) → Stays o q → Stays o (asks_on m p shelf q)
 stays_asks_on (modes.Joined r) p shelf o q h = either (r == p) (Stays o) _ q (record { node = h.node; records = h.records }) h

@@ -56,19 +56,21 @@ pub record IsSame (n m : Control) : Type 0 where
   pub me : m.me ≡ n.me
   pub nodes : m.nodes ≡ n.nodes
   pub chain : m.chain ≡ n.chain
+  pub chunk : m.chunk ≡ n.chunk
   pub areas : m.areas ≡ n.areas
   pub leases : length m.leases ≡ length n.leases
   pub rates : length m.rates ≡ length n.rates
   pub counts : length m.counts ≡ length n.counts
 
 pub same_itself : (n : Control) → IsSame n n
-same_itself n = record { me = refl; nodes = refl; chain = refl; areas = refl; leases = refl; rates = refl; counts = refl }
+same_itself n = record { me = refl; nodes = refl; chain = refl; chunk = refl; areas = refl; leases = refl; rates = refl; counts = refl }
 
 pub same_then : (a b c : Control) → IsSame a b → IsSame b c → IsSame a c
 same_then a b c h k = record {
   me = k.me ∙ h.me;
   nodes = k.nodes ∙ h.nodes;
   chain = k.chain ∙ h.chain;
+  chunk = k.chunk ∙ h.chunk;
   areas = k.areas ∙ h.areas;
   leases = k.leases ∙ h.leases;
   rates = k.rates ∙ h.rates;
@@ -127,7 +129,7 @@ goes_within e k e' k' o q more others h = record { written = h.written; by = h.b
 pub goes_write : (o : Plan) (r : Record) → IsSoundRecord r → Goes (as_entry r) (as_other r) o (write o r)
 goes_write o r sound = record {
   written = r ∷ [];
-  by = record { records = refl; kept = refl; sound = (sound, tt); same = record { me = refl; nodes = refl; chain = refl; areas = refl; leases = refl; rates = refl; counts = refl }; keeps = refl; wants = refl };
+  by = record { records = refl; kept = refl; sound = (sound, tt); same = record { me = refl; nodes = refl; chain = refl; chunk = refl; areas = refl; leases = refl; rates = refl; counts = refl }; keeps = refl; wants = refl };
   few = omega arith;
   rest = omega arith;
 }
@@ -139,7 +141,7 @@ pub goes_answers : (o : Plan) (a : Answer) → Goes 0 0 o (answers o a)
 goes_answers o a = goes_still o (answers o a) refl refl (same_itself o.node) refl refl
 
 pub goes_soft : (o : Plan) (s : Soft) → Goes 0 0 o (with_soft o s)
-goes_soft o s = goes_still o (with_soft o s) refl refl (record { me = refl; nodes = refl; chain = refl; areas = refl; leases = refl; rates = refl; counts = refl }) refl refl
+goes_soft o s = goes_still o (with_soft o s) refl refl (record { me = refl; nodes = refl; chain = refl; chunk = refl; areas = refl; leases = refl; rates = refl; counts = refl }) refl refl
 
 -- What follows on a step that goes
 

@@ -123,11 +123,11 @@ module _ (nodes : ℕ) where
   lawful_refused o refusals.Rank to ok = lawful_next_try o ok
 
   abbrev heard : Plan → Plan
-  heard o = with_soft (lost o) (record o.node.soft { silent = false })
+  heard o = with_soft (lost o) (record o.node.soft { silent = false; refused = true })
 
   lawful_heard : (o : Plan) → IsLawfulPlan nodes o → IsLawfulPlan nodes (heard o)
   lawful_heard o ok =
-      lawful_soft nodes (lost o) (record o.node.soft { silent = false })
+      lawful_soft nodes (lost o) (record o.node.soft { silent = false; refused = true })
       (record { clock = ok.node.soft.clock; tries = ok.node.soft.tries; search = ok.node.soft.search }) (lawful_lost o ok)
 
   pub lawful_took_no : (o : Plan) (p seq : ℕ) (why : Refusal) → IsRefusal nodes why → IsLawfulPlan nodes o → IsLawfulPlan nodes (took_no o p seq why)

@@ -1,5 +1,5 @@
 -- The rules Check now, Tick and Check-ins keep a node lawful, and write and send what is lawful.
-use Rattle.std.proofs.Common.{◌≡◌, ℕ, ◌+◌, ◌-◌, ◌<◌, ◌≤◌, min, max, true, not, ◌&&◌, ◌==◌, nat_lt, Option, Some, None, List, [], ◌∷◌, length, filter, refl, sym, subst, arith, ltb-true, length-take}
+use Rattle.std.proofs.Common.{◌≡◌, ℕ, ◌+◌, ◌-◌, ◌<◌, ◌≤◌, min, max, true, false, not, ◌&&◌, ◌==◌, nat_lt, if◌then◌else◌, Option, Some, None, List, [], ◌∷◌, length, filter, refl, sym, subst, arith, ltb-true, length-take}
 use Rattle.std.proofs.lemmas.Bool.{and_parts}
 use Rattle.oc_base.specs.declared.cert.Cert.{Cert}
 use Rattle.oc_base.specs.declared.rank.Rank.{Rank}
@@ -15,7 +15,7 @@ use Rattle.oc_model.specs.Adoption.{rank_or_last, is_better, precedes_any}
 use Rattle.oc_base.specs.declared.limits.TheConstants.{MAX_DEPTH, MAX_CHECK_IN_CERTS, LAST_SECOND}
 use Rattle.oc_model.specs.Asking.{ask_before, ancestors_by}
 use Rattle.oc_model.specs.ChangeLog.{is_ahead, next_certs, place_after}
-use Rattle.oc_model.specs.Checking.{counts_clients, checks_in, checks_as, next_check, checks, merges, merges_all, at_time, starts_leases, dies, ends_each, ends_leases, looks_at_each, looks_round, is_due, checks_if_due, fetches_as, fetches, tick, acknowledges, life, checked_in, is_joined_to, takes_place, takes_rank, same_ids, takes_ancestors, took_ack, is_peer, took_rejoin}
+use Rattle.oc_model.specs.Checking.{counts_clients, checks_in, reports, checks_as, next_check, checks, merges, merges_all, at_time, starts_leases, dies, ends_each, ends_leases, looks_at_each, looks_round, is_due, forgets_refusal, checks_in_time, has_news, reports_news_as, reports_news, checks_if_due, fetches_as, fetches, tick, acknowledges, life, checked_in, is_joined_to, takes_place, takes_rank, same_ids, takes_ancestors, took_ack, is_peer, took_rejoin}
 use Rattle.oc_model.specs.Choice.{below}
 use Rattle.oc_base.specs.Lawful.{IsNode, AreNodes, IsLong, IsCount, IsRank, IsRate, IsCert, AreCerts, AreAncestors}
 use Rattle.oc_base.specs.Shelves.{IsShelf}
@@ -66,9 +66,17 @@ module _ (nodes : ℕ) where
         taken : length (next_certs o.node.kept.log) ≡ min MAX_CHECK_IN_CERTS (length o.node.kept.log.waiting)
         taken = length-take MAX_CHECK_IN_CERTS o.node.kept.log.waiting
 
+  abbrev noted : Plan → Plan
+  noted o = with_soft o (record o.node.soft { checked = Some o.node.soft.clock })
+
+  lawful_reports : (o : Plan) (p : ℕ) → IsNode nodes p → 1 ≤ o.node.kept.seq → IsLawfulPlan nodes o → IsLawfulPlan nodes (reports o p)
+  lawful_reports o p to asked ok =
+      lawful_checks_in (counts_clients (noted o)) p to (subst (λ s. 1 ≤ s) (sym (counts_seq (noted o))) asked)
+      (lawful_counts (noted o)
+      (lawful_soft nodes o (record o.node.soft { checked = Some o.node.soft.clock }) (record { clock = ok.node.soft.clock; tries = ok.node.soft.tries; search = ok.node.soft.search }) ok))
+
   lawful_checks_as : (m : Mode) (o : Plan) → IsLawfulMode nodes o.node.kept.seq m → IsLawfulPlan nodes o → IsLawfulPlan nodes (checks_as m o)
-  lawful_checks_as (modes.Joined p) o mode ok =
-      lawful_checks_in (counts_clients o) p mode.1 (subst (λ s. 1 ≤ s) (sym (counts_seq o)) mode.0) (lawful_counts o ok)
+  lawful_checks_as (modes.Joined p) o mode ok = lawful_reports o p mode.1 mode.0 ok
   lawful_checks_as modes.Acting o mode ok = lawful_raises nodes o (raise (rank_or_last o.node.kept.rank).epoch) (raise_lawful (rank_or_last o.node.kept.rank).epoch (rank_lawful o.node.kept.rank ok.node.kept.rank).0) ok
   lawful_checks_as modes.Idle o mode ok = lawful_round nodes o None ok
   lawful_checks_as (modes.Asking p) o mode ok = lawful_send nodes o p (bodies.Ask o.node.kept.seq o.node.kept.rank) mode.1 ((mode.0, ok.node.kept.seq), ok.node.kept.rank) ok
@@ -110,18 +118,34 @@ module _ (nodes : ℕ) where
 
   lawful_looks_round : (m : Mode) (seq : ℕ) (o : Plan) → IsLawfulMode nodes seq m → IsLawfulPlan nodes o → IsLawfulPlan nodes (looks_round m o)
   lawful_looks_round (modes.Joined p) seq o mode ok =
-      either (is_member o.node) (IsLawfulPlan nodes) (looks_at_each (filter (λ x. nat_lt p x) (below o.node.me)) o) (send (searching o (Some Review)) p bodies.Look)
+      either (is_member o.node) (IsLawfulPlan nodes) (looks_at_each (filter (λ x. nat_lt p x) (below o.node.me)) o) (if o.node.soft.refused then o else send (searching o (Some Review)) p bodies.Look)
       (lawful_looks_at_each (filter (λ x. nat_lt p x) (below o.node.me)) o (all_filter (IsNode nodes) (λ x. nat_lt p x) (below o.node.me) (below_lawful nodes o.node.me ok.node.me.1)) ok)
-      (lawful_send nodes (searching o (Some Review)) p bodies.Look mode.1 tt (lawful_searching nodes o (Some Review) tt ok))
+      (either o.node.soft.refused (IsLawfulPlan nodes) o (send (searching o (Some Review)) p bodies.Look) ok
+      (lawful_send nodes (searching o (Some Review)) p bodies.Look mode.1 tt (lawful_searching nodes o (Some Review) tt ok)))
   lawful_looks_round modes.Acting seq o mode ok =
       either (is_member o.node) (IsLawfulPlan nodes) (looks_at_each (below o.node.me) o) o (lawful_looks_at_each (below o.node.me) o (below_lawful nodes o.node.me ok.node.me.1) ok) ok
   lawful_looks_round modes.Idle seq o mode ok = ok
   lawful_looks_round (modes.Asking p) seq o mode ok = ok
 
+  lawful_forgets : (due : Option ℕ) (o : Plan) → IsLawfulPlan nodes o → IsLawfulPlan nodes (forgets_refusal due o)
+  lawful_forgets None o ok = ok
+  lawful_forgets (Some t) o ok = lawful_soft nodes o (record o.node.soft { refused = false }) (record { clock = ok.node.soft.clock; tries = ok.node.soft.tries; search = ok.node.soft.search }) ok
+
+  lawful_checks_in_time : (o : Plan) → IsLawfulPlan nodes o → IsLawfulPlan nodes (checks_in_time o)
+  lawful_checks_in_time o ok =
+      let begins : Plan = forgets_refusal o.node.soft.due o in
+      lawful_looks_round o.node.kept.mode o.node.kept.seq (checks begins) ok.node.kept.mode (lawful_checks begins (lawful_forgets o.node.soft.due o ok))
+
+  lawful_reports_news_as : (m : Mode) (o : Plan) → IsLawfulMode nodes o.node.kept.seq m → IsLawfulPlan nodes o → IsLawfulPlan nodes (reports_news_as m o)
+  lawful_reports_news_as (modes.Joined p) o mode ok = either (has_news o.node) (IsLawfulPlan nodes) (reports o p) o (lawful_reports o p mode.1 mode.0 ok) ok
+  lawful_reports_news_as modes.Idle o mode ok = ok
+  lawful_reports_news_as (modes.Asking p) o mode ok = ok
+  lawful_reports_news_as modes.Acting o mode ok = ok
+
   lawful_checks_if_due : (o : Plan) → IsLawfulPlan nodes o → IsLawfulPlan nodes (checks_if_due o)
   lawful_checks_if_due o ok =
-      either (is_due o.node.soft.due o.node.soft.clock) (IsLawfulPlan nodes) (looks_round o.node.kept.mode (checks o)) o
-      (lawful_looks_round o.node.kept.mode o.node.kept.seq (checks o) ok.node.kept.mode (lawful_checks o ok)) ok
+      either (is_due o.node.soft.due o.node.soft.clock) (IsLawfulPlan nodes) (checks_in_time o) (reports_news o)
+      (lawful_checks_in_time o ok) (lawful_reports_news_as o.node.kept.mode o ok.node.kept.mode ok)
 
   lawful_fetches_as : (m : Mode) (seq : ℕ) (o : Plan) (shelf : List Shelf) → IsLawfulMode nodes seq m → IsShelf shelf → IsLawfulPlan nodes o → IsLawfulPlan nodes (fetches_as m o shelf)
   lawful_fetches_as (modes.Joined p) seq o shelf mode lines ok = lawful_send nodes o p (bodies.Fetch shelf) mode.1 lines ok

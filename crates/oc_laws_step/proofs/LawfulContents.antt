@@ -13,7 +13,7 @@ use Rattle.oc_base.specs.declared.limits.TheConstants.{MAX_GROUP_BYTES, MAX_CHUN
 use Rattle.oc_base.specs.Lawful.{IsNode}
 use Rattle.oc_base.specs.Shelves.{IsLine, AreLines, IsShelf, line_of}
 use Rattle.oc_model.specs.Plan.{Plan, send, answers, ignored}
-use Rattle.oc_model.specs.Shelves.{line_at, with_line, limit, first_behind}
+use Rattle.oc_model.specs.Shelves.{line_at, with_line, limit, next_behind}
 use Rattle.oc_laws_step.specs.LawfulNode.{IsLawfulWant, IsLawfulPlan}
 use Rattle.oc_laws_step.proofs.Goes.{either}
 use Rattle.oc_laws_step.proofs.LawfulAsks.{lawful_ignored}
@@ -57,17 +57,17 @@ module _ (nodes : ℕ) where
   want_lawful : (l : Shelf) (start count : ℕ) → count ≤ MAX_CHUNK_BYTES → IsLawfulWant (wanted l start count)
   want_lawful l start count few = cond_both (count == 0) None (Some (record { group = l.group; start = start; count = count })) IsLawfulWant (λ _. tt) (λ _. few)
 
-  lawful_sends_chunk : (o : Plan) (p : ℕ) (l : Shelf) (start : ℕ) → IsNode nodes p → IsLine l → start ≤ MAX_GROUP_BYTES → IsLawfulPlan nodes o → IsLawfulPlan nodes (sends_chunk o p l start (count_from l start))
+  lawful_sends_chunk : (o : Plan) (p : ℕ) (l : Shelf) (start : ℕ) → IsNode nodes p → IsLine l → start ≤ MAX_GROUP_BYTES → IsLawfulPlan nodes o → IsLawfulPlan nodes (sends_chunk o p l start (count_from o.node.chunk l start))
   lawful_sends_chunk o p l start to line within ok =
-      let sent = lawful_send nodes o p (bodies.Chunk l.group start [] (l.sealed && start + count_from l start == l.held)) to (line.0, within, omega arith) ok in
-      record { node = sent.node; log = sent.log; records = sent.records; sends = sent.sends; wants = want_lawful l start (count_from l start) (omega arith) }
+      let sent = lawful_send nodes o p (bodies.Chunk l.group start [] (l.sealed && start + count_from o.node.chunk l start == l.held)) to (line.0, within, omega arith) ok in
+      record { node = sent.node; log = sent.log; records = sent.records; sends = sent.sends; wants = want_lawful l start (count_from o.node.chunk l start) (omega (arith, ok.node.chunk)) }
 
   lawful_answers_fetch : (o : Plan) (p : ℕ) (have : List Shelf) (l : Option Shelf) → IsNode nodes p → AreLines have → IfFound IsLine l → IsLawfulPlan nodes o → IsLawfulPlan nodes (answers_fetch o p have l)
   lawful_answers_fetch o p have None to lines here ok = ok
   lawful_answers_fetch o p have (Some l) to lines here ok = lawful_sends_chunk o p l (line_at l.group have).held to here (line_at_lawful l.group have here.0 lines).1 ok
 
   pub lawful_fetched : (o : Plan) (shelf : List Shelf) (p : ℕ) (have : List Shelf) → IsNode nodes p → IsShelf shelf → IsShelf have → IsLawfulPlan nodes o → IsLawfulPlan nodes (fetched o shelf p have)
-  lawful_fetched o shelf p have to lines theirs ok = lawful_answers_fetch o p have (first_behind have shelf) to theirs.0 (behind_lawful have shelf lines.0) ok
+  lawful_fetched o shelf p have to lines theirs ok = lawful_answers_fetch o p have (next_behind o.node.chunk have shelf) to theirs.0 (behind_lawful o.node.chunk have shelf lines.0) ok
 
   lawful_asks_on : (m : Mode) (p : ℕ) (shelf : List Shelf) (o : Plan) → IsNode nodes p → IsShelf shelf → IsLawfulPlan nodes o → IsLawfulPlan nodes (asks_on m p shelf o)
   lawful_asks_on (modes.Joined q) p shelf o to lines ok = either (q == p) (IsLawfulPlan nodes) (send o p (bodies.Fetch shelf)) o (lawful_send nodes o p (bodies.Fetch shelf) to lines ok) ok

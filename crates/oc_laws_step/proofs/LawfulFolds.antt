@@ -231,7 +231,7 @@ lawful_begun nodes n short ok = record { node = ok; log = omega (arith, short); 
 
 -- a node with other durable parts
 lawful_kept : (nodes : ℕ) (n : Control) (d : Durable) → IsLawfulDurable nodes d → IsLawfulControl nodes n → IsLawfulControl nodes (record n { kept = d })
-lawful_kept nodes n d here ok = record { few = ok.few; among = ok.among; me = ok.me; chain = ok.chain; kept = here; soft = ok.soft; rates = ok.rates }
+lawful_kept nodes n d here ok = record { few = ok.few; among = ok.among; me = ok.me; chain = ok.chain; chunk = ok.chunk; kept = here; soft = ok.soft; rates = ok.rates }
 
 pub lawful_write : (nodes : ℕ) (o : Plan) (r : Record) → IsRecord nodes r → IsLawfulPlan nodes o → IsLawfulPlan nodes (write o r)
 lawful_write nodes o r here ok = record {
@@ -273,7 +273,7 @@ lawful_answers nodes o a ok = record { node = ok.node; log = ok.log; records = o
 
 pub lawful_soft : (nodes : ℕ) (o : Plan) (s : Soft) → IsLawfulSoft nodes s → IsLawfulPlan nodes o → IsLawfulPlan nodes (with_soft o s)
 lawful_soft nodes o s here ok = record {
-  node = record { few = ok.node.few; among = ok.node.among; me = ok.node.me; chain = ok.node.chain; kept = ok.node.kept; soft = here; rates = ok.node.rates };
+  node = record { few = ok.node.few; among = ok.node.among; me = ok.node.me; chain = ok.node.chain; chunk = ok.node.chunk; kept = ok.node.kept; soft = here; rates = ok.node.rates };
   log = ok.log;
   records = ok.records;
   sends = ok.sends;
@@ -291,7 +291,7 @@ lawful_due nodes o due ok = lawful_soft nodes o (record o.node.soft { due = due 
 pub lawful_lists : (nodes : ℕ) (o : Plan) (leases : List (Option ℕ)) (rates counts : List ℕ) → AllByRecursion IsRate rates → IsLawfulPlan nodes o
     → IsLawfulPlan nodes (record o { node = record o.node { leases = leases; rates = rates; counts = counts } })
 lawful_lists nodes o leases rates counts here ok = record {
-  node = record { few = ok.node.few; among = ok.node.among; me = ok.node.me; chain = ok.node.chain; kept = ok.node.kept; soft = ok.node.soft; rates = here };
+  node = record { few = ok.node.few; among = ok.node.among; me = ok.node.me; chain = ok.node.chain; chunk = ok.node.chunk; kept = ok.node.kept; soft = ok.node.soft; rates = here };
   log = ok.log;
   records = ok.records;
   sends = ok.sends;

@@ -1,5 +1,5 @@
 -- The rule Look keeps a node lawful, and writes and sends what is lawful.
-use Rattle.std.proofs.Common.{ℕ, ◌-◌, ◌<◌, not, ◌&&◌, ◌==◌, nat_lt, Option, Some, None, List, [], ◌∷◌, map, filter, arith}
+use Rattle.std.proofs.Common.{ℕ, ◌-◌, ◌<◌, not, ◌&&◌, ◌||◌, ◌==◌, nat_lt, nat_le, Option, Some, None, List, [], ◌∷◌, map, filter, arith}
 use Rattle.std.specs.List.{AllByRecursion}
 use Rattle.std.proofs.lemmas.Bool.{cond_both}
 use Rattle.oc_base.specs.declared.cert.Cert.{Cert}
@@ -59,9 +59,9 @@ candidates_nodes : (nodes : ℕ) (n : Control) (cs : List Child) → AreChildren
 candidates_nodes nodes n cs all =
     all_map (λ c. IsNode nodes c.id) (candidate n) (filter (λ c. not (c.id == n.me)) cs) (all_filter (λ c. IsNode nodes c.id) (λ c. not (c.id == n.me)) cs (told_nodes nodes cs all))
 
-grand_node : (nodes : ℕ) (n : Control) (g : Option ℕ) → IsNodeOrNone nodes g → IfFound (λ h. IsNode nodes (h.0)) (grandparent n g)
-grand_node nodes n None to = tt
-grand_node nodes n (Some g) to = cond_both (g == n.me) None (Some (g, rate_to n g)) (IfFound (λ h. IsNode nodes (h.0))) (λ _. tt) (λ _. to)
+grand_node : (nodes : ℕ) (n : Control) (p : ℕ) (g : Option ℕ) → IsNodeOrNone nodes g → IfFound (λ h. IsNode nodes (h.0)) (grandparent n p g)
+grand_node nodes n p None to = tt
+grand_node nodes n p (Some g) to = cond_both (g == n.me || (nat_le p n.chain && nat_le g n.chain)) None (Some (g, rate_to n g)) (IfFound (λ h. IsNode nodes (h.0))) (λ _. tt) (λ _. to)
 
 module _ (nodes : ℕ) where
   parent_node : (m : Mode) (seq : ℕ) → IsLawfulMode nodes seq m → IsNodeOrNone nodes (parent_of m)
@@ -102,7 +102,7 @@ module _ (nodes : ℕ) where
   lawful_reviews : (o : Plan) (p : ℕ) (s : Stand) → IsLawfulStand nodes s → IsLawfulPlan nodes o → IsLawfulPlan nodes (reviews_place o p s)
   lawful_reviews o p s told ok =
       lawful_goes_where (reviewed (view o.node p s)) (searching o None)
-      (reviewed_one (IsNode nodes) (view o.node p s) (grand_node nodes o.node s.parent told.parent) (candidates_nodes nodes o.node s.children told.children))
+      (reviewed_one (IsNode nodes) (view o.node p s) (grand_node nodes o.node p s.parent told.parent) (candidates_nodes nodes o.node s.children told.children))
       (lawful_searching nodes o None tt ok)
 
   lawful_keeps_line : (o : Plan) (p : ℕ) (s : Stand) → IsNode nodes p → IsLawfulPlan nodes o → IsLawfulPlan nodes (keeps_line o p s)

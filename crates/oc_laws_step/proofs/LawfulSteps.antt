@@ -20,7 +20,7 @@ use Rattle.oc_base.specs.Shelves.{IsShelf}
 use Rattle.oc_model.specs.Node.{Control, Durable, Node, Header, new_durable, new_node, started_with, restarted}
 use Rattle.oc_model.specs.Records.{fold_one, folded}
 use Rattle.oc_model.specs.Plan.{Plan, begun}
-use Rattle.oc_model.specs.Shelves.{first_behind}
+use Rattle.oc_model.specs.Shelves.{next_behind}
 use Rattle.oc_model.specs.Step.{received, plan, Piece, piece_in, piece_of, grown, kept_at, bytes_wanted, fill_body, fill, filled, step}
 use Rattle.oc_model.proofs.Groups.{group_or_empty-name}
 use Rattle.oc_model.proofs.Limits.{all-with_group}
@@ -91,7 +91,7 @@ names_received nodes n lines m (bodies.No seq why) body = inl (goes_took_no (beg
 names_received nodes n lines m (bodies.CheckIn seq upto rate number clients certs) body = inl (goes_checked_in (begun n) m.from seq upto rate number clients certs).by.keeps
 names_received nodes n lines m (bodies.CheckAck seq upto rank ancestors) body = inl (goes_took_ack (begun n) m.from seq upto rank ancestors).by.keeps
 names_received nodes n lines m (bodies.Rejoin seq) body = inl (goes_took_rejoin (begun n) m.from seq).by.keeps
-names_received nodes n lines m (bodies.Fetch have) body = inl (fetch_keeps n m.from have (first_behind have lines))
+names_received nodes n lines m (bodies.Fetch have) body = inl (fetch_keeps n m.from have (next_behind n.chunk have lines))
 names_received nodes n lines m (bodies.Chunk g start bytes last) body = inr body.0
 
 keeps_or_names : (nodes : ℕ) (n : Control) (lines : List Shelf) (i : Input) → IsInput nodes n.me i → KeepsOrNames n lines i
@@ -184,6 +184,7 @@ lawful_started h x d header me ok = record {
   among = refl;
   me = me;
   chain = header.within;
+  chunk = header.fits;
   kept = ok;
   soft = record { clock = omega arith; tries = tt; search = tt };
   rates = all_replicate IsRate h.nodes 0 (omega arith);
@@ -199,6 +200,7 @@ lawful_restarted nodes n ok = record {
     among = ok.control.among;
     me = ok.control.me;
     chain = ok.control.chain;
+    chunk = ok.control.chunk;
     kept = ok.control.kept;
     soft = record { clock = omega arith; tries = tt; search = tt };
     rates = all_replicate IsRate n.control.nodes 0 (omega arith);

@@ -12,12 +12,13 @@ use Rattle.oc_base.specs.Named.{same_name}
 use Rattle.oc_base.specs.Groups.{shelf, AreAbove, IsAscending}
 use Rattle.oc_base.specs.declared.limits.TheConstants.{MAX_GROUPS, MAX_GROUP_BYTES}
 use Rattle.oc_base.specs.Shelves.{IsLine, AreLines, IsShelf, line_of}
+use Rattle.oc_model.specs.Numbers.{IsAmong}
 use Rattle.oc_model.specs.Plan.{Plan, answers}
-use Rattle.oc_model.specs.Shelves.{line_or_none, line_at, with_line, limit, is_behind, first_behind}
+use Rattle.oc_model.specs.Shelves.{line_or_none, line_at, with_line, limit, next_behind}
 use Rattle.oc_model.specs.WorldBounds.{IsShort, AreWithinLimits}
 use Rattle.oc_model.proofs.Lists.{all_weaker}
 use Rattle.oc_base.proofs.NameOrder.{names_back, names_tied, names_rise}
-use Rattle.oc_model.proofs.Shelves.{length-shelf}
+use Rattle.oc_model.proofs.Shelves.{length-shelf, next-among}
 use Rattle.oc_laws_step.proofs.Ranges.{IfFound}
 
 -- A line that is found
@@ -32,9 +33,16 @@ line_at_lawful g ls name all = by_found (line_of g ls) (line_found g ls all) whe
   by_found None here = (name, omega arith)
   by_found (Some l) here = here
 
-pub behind_lawful : (have ls : List Shelf) → AreLines ls → IfFound IsLine (first_behind have ls)
-behind_lawful have [] all = tt
-behind_lawful have (l ∷ ls) all = cond_both (is_behind (line_of l.group have) l) (Some l) (first_behind have ls) (IfFound IsLine) (λ _. all.0) (λ _. behind_lawful have ls all.2)
+line_among : (l : Shelf) (ls : List Shelf) → AreLines ls → IsAmong l ls → IsLine l
+line_among l [] all h = absurd h
+line_among l (k ∷ ks) all (inl e) = subst IsLine e all.0
+line_among l (k ∷ ks) all (inr h) = line_among l ks all.2 h
+
+pub behind_lawful : (chunk : ℕ) (have ls : List Shelf) → AreLines ls → IfFound IsLine (next_behind chunk have ls)
+behind_lawful chunk have ls all = by_found (next_behind chunk have ls) refl where
+  by_found : (found : Option Shelf) → next_behind chunk have ls ≡ found → IfFound IsLine found
+  by_found None e = tt
+  by_found (Some l) e = line_among l ls all (next-among chunk have ls l e)
 
 -- A line that is put
 

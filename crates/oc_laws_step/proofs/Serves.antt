@@ -19,7 +19,7 @@ goes_redirects : (k : Option ℕ) (o : Plan) (count : ℕ) → Goes 0 0 o (redir
 goes_redirects None o count = goes_serves o count
 goes_redirects (Some k) o count =
     goes_still o (redirects (Some k) o count) refl refl
-    (record { me = refl; nodes = refl; chain = refl; areas = refl; leases = refl; rates = refl; counts = length-set o.node.counts _ _ })
+    (record { me = refl; nodes = refl; chain = refl; chunk = refl; areas = refl; leases = refl; rates = refl; counts = length-set o.node.counts _ _ })
     refl refl
 
 goes_client_of : (l : Option Shelf) (o : Plan) (area start : ℕ) → Goes 0 0 o (client_of l o area start)

@@ -33,7 +33,7 @@ pub sound_new : (h : Header) (x : ℕ) → IsSound (new_node h x).control
 sound_new h x = sound_started h x (new_durable h.nodes) (sound_new_durable h.nodes)
 
 pub sound_restarted : (n : Node) → IsSound n.control → IsSound (restarted n).control
-sound_restarted n sound = sound_started (record { nodes = n.control.nodes; chain = n.control.chain; areas = n.control.areas }) n.control.me n.control.kept sound.kept
+sound_restarted n sound = sound_started (record { nodes = n.control.nodes; chain = n.control.chain; chunk = n.control.chunk; areas = n.control.areas }) n.control.me n.control.kept sound.kept
 
 -- each step leaves a sound node sound
 pub sound_planned : (n : Control) (lines : List Shelf) (i : Input) → IsSound n → IsSound (plan n lines i).node

@@ -58,6 +58,7 @@ pub record IsLawfulControl (nodes : ℕ) (n : Control) : Type 0 where
   pub among : n.nodes ≡ nodes
   pub me : IsNode nodes n.me
   pub chain : n.chain ≤ nodes
+  pub chunk : n.chunk ≤ MAX_CHUNK_BYTES
   pub kept : IsLawfulDurable nodes n.kept
   pub soft : IsLawfulSoft nodes n.soft
   pub rates : AllByRecursion IsRate n.rates

@@ -46,7 +46,7 @@ pub check_sends : (n : Control) (p : ℕ) → n.kept.mode ≡ Joined p → Sends
 check_sends n p joins =
     let o : Plan = with_soft (begun n) (record n.soft { due = Some (next_check n) }) in
     subst (λ (m : Mode). SendsCheckIn n p (checks_as m o)) (sym joins) (by_test (has_uncounted (core_of n)) refl) where
-      by_test : (b : Bool) → has_uncounted (core_of n) ≡ b → let o : Plan = with_soft (begun n) (record n.soft { due = Some (next_check n) }) in
+      by_test : (b : Bool) → has_uncounted (core_of n) ≡ b → let o : Plan = with_soft (begun n) (record n.soft { due = Some (next_check n); checked = Some n.soft.clock }) in
           SendsCheckIn n p (checks_in (if b then with_soft (write o (records.Info (n.kept.number + 1) (capped (n.kept.clients + n.soft.served)))) (record o.node.soft { served = 0 }) else o) p)
       by_test true e = record { core = ap (λ b. if b then with_count (core_of n) else core_of n) (sym e); rest = record { table = refl; leases = refl; clock = refl }; log = refl; rate = _; sends = refl }
       by_test false e = record { core = ap (λ b. if b then with_count (core_of n) else core_of n) (sym e); rest = record { table = refl; leases = refl; clock = refl }; log = refl; rate = _; sends = refl }

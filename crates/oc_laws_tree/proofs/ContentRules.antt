@@ -10,7 +10,7 @@ use Rattle.oc_model.specs.Content.{unless, keeps, grows, publish_to, published, 
 use Rattle.oc_model.specs.Node.{Control}
 use Rattle.oc_model.specs.Plan.{Plan, send, answers, ignored}
 use Rattle.oc_base.specs.Shelves.{line_of}
-use Rattle.oc_model.specs.Shelves.{line_at, with_line, limit, first_behind}
+use Rattle.oc_model.specs.Shelves.{line_at, with_line, limit, next_behind}
 use Rattle.oc_model.proofs.Rules.{either}
 
 module _ (P : Control → Type 0) where
@@ -47,7 +47,7 @@ module _ (P : Control → Type 0) where
   content_answers_fetch (Some l) o p have h = h
 
   pub content_fetched : (o : Plan) (shelf : List Shelf) (p : ℕ) (have : List Shelf) → OfNode o → OfNode (fetched o shelf p have)
-  content_fetched o shelf p have h = content_answers_fetch (first_behind have shelf) o p have h
+  content_fetched o shelf p have h = content_answers_fetch (next_behind o.node.chunk have shelf) o p have h
 
   content_asks_on : (m : Mode) (p : ℕ) (shelf : List Shelf) (o : Plan) → OfNode o → OfNode (asks_on m p shelf o)
   content_asks_on (modes.Joined q) p shelf o h = either (q == p) (OfNode) (send o p (bodies.Fetch shelf)) o h h

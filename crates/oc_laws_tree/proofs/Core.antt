@@ -12,7 +12,7 @@ use Rattle.oc_model.specs.declared.soft.Search.TheVariants as searches
 use Rattle.oc_model.specs.Adopting.{raises}
 use Rattle.oc_model.specs.Adoption.{rank_or_last}
 use Rattle.oc_model.specs.Asking.{lost_from, lost, send_ask, ask, next_epoch, act, descend, is_empty, try_at, try_first, set_tries, round}
-use Rattle.oc_model.specs.Checking.{counts_clients, checks_as, next_check, checks, merges, merges_all, at_time, starts_leases, dies, ends_each, ends_leases, looks_at_each, looks_round, is_due, checks_if_due, fetches_as, tick}
+use Rattle.oc_model.specs.Checking.{counts_clients, notes_time, reports, checks_as, next_check, checks, merges, merges_all, at_time, starts_leases, dies, ends_each, ends_leases, looks_at_each, looks_round, is_due, forgets_refusal, checks_in_time, has_news, reports_news_as, reports_news, checks_if_due, fetches_as, tick}
 use Rattle.oc_model.specs.Choice.{below}
 use Rattle.oc_model.specs.Heal.{epoch_in}
 use Rattle.oc_model.specs.Leases.{ended}
@@ -127,7 +127,7 @@ module _ (P : Core → Type 0) where
   core_checks_as : (m : Mode) (o : Plan) → o.node.kept.mode ≡ m → IsCheckClosed P (core_of o.node) → OfCore (checks_as m o)
   core_checks_as modes.Idle o is k = core_round o None is k
   core_checks_as (modes.Asking p) o is k = k.still
-  core_checks_as (modes.Joined p) o is k = core_counts o p is k
+  core_checks_as (modes.Joined p) o is k = core_counts (notes_time o) p is k
   core_checks_as modes.Acting o is k = core_raises o is k
 
   -- a check
@@ -141,13 +141,29 @@ module _ (P : Core → Type 0) where
   core_looks_round : (m : Mode) (o : Plan) → OfCore o → OfCore (looks_round m o)
   core_looks_round (modes.Joined p) o h =
       let nearer : List ℕ = filter (λ x. nat_lt p x) (below o.node.me) in
-      either (is_member o.node) OfCore (looks_at_each nearer o) (send (searching o (Some searches.Review)) p bodies.Look) (core_looks_at_each nearer o h) h
+      either (is_member o.node) OfCore (looks_at_each nearer o) (if o.node.soft.refused then o else send (searching o (Some searches.Review)) p bodies.Look) (core_looks_at_each nearer o h)
+      (either o.node.soft.refused OfCore o (send (searching o (Some searches.Review)) p bodies.Look) h h)
   core_looks_round modes.Acting o h = either (is_member o.node) OfCore (looks_at_each (below o.node.me) o) o (core_looks_at_each (below o.node.me) o h) h
   core_looks_round modes.Idle o h = h
   core_looks_round (modes.Asking p) o h = h
 
+  core_forgets_refusal : (due : Option ℕ) (o : Plan) → core_of (forgets_refusal due o).node ≡ core_of o.node
+  core_forgets_refusal None o = refl
+  core_forgets_refusal (Some t) o = refl
+
+  core_checks_in_time : (o : Plan) → IsCheckClosed P (core_of o.node) → OfCore (checks_in_time o)
+  core_checks_in_time o k =
+      let begins : Plan = forgets_refusal o.node.soft.due o in
+      core_looks_round o.node.kept.mode (checks begins) (core_checks begins (subst (IsCheckClosed P) (sym (core_forgets_refusal o.node.soft.due o)) k))
+
+  core_reports_news_as : (m : Mode) (o : Plan) → o.node.kept.mode ≡ m → IsCheckClosed P (core_of o.node) → OfCore (reports_news_as m o)
+  core_reports_news_as modes.Idle o is k = k.still
+  core_reports_news_as (modes.Asking p) o is k = k.still
+  core_reports_news_as (modes.Joined p) o is k = either (has_news o.node) OfCore (reports o p) o (core_counts (notes_time o) p is k) k.still
+  core_reports_news_as modes.Acting o is k = k.still
+
   core_checks_if_due : (o : Plan) → IsCheckClosed P (core_of o.node) → OfCore (checks_if_due o)
-  core_checks_if_due o k = either (is_due o.node.soft.due o.node.soft.clock) OfCore (looks_round o.node.kept.mode (checks o)) o (core_looks_round o.node.kept.mode (checks o) (core_checks o k)) k.still
+  core_checks_if_due o k = either (is_due o.node.soft.due o.node.soft.clock) OfCore (checks_in_time o) (reports_news o) (core_checks_in_time o k) (core_reports_news_as o.node.kept.mode o refl k)
 
   core_fetches_as : (m : Mode) (o : Plan) (ls : List Shelf) → OfCore o → OfCore (fetches_as m o ls)
   core_fetches_as (modes.Joined p) o ls h = h

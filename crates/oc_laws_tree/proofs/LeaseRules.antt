@@ -22,7 +22,7 @@ use Rattle.oc_model.specs.Adoption.{precedes, precedes_any, rank_or_last, is_bet
 use Rattle.oc_base.specs.declared.limits.TheConstants.{MAX_DEPTH}
 use Rattle.oc_model.specs.Asking.{lost_from, lost, send_ask, ask, act, descend, is_empty, try_at, try_first, next_try, set_tries, round, ask_before, is_asking, ancestors_by, joins, took_yes, refused, took_no, not_seen, not_reached, unreachable, relocate}
 use Rattle.oc_model.specs.ChangeLog.{begun_with, is_ahead}
-use Rattle.oc_model.specs.Checking.{counts_clients, checks_as, next_check, checks, looks_at_each, looks_round, is_due, checks_if_due, fetches_as, is_joined_to, takes_place, takes_rank, same_ids, takes_ancestors, took_ack, is_peer, took_rejoin}
+use Rattle.oc_model.specs.Checking.{counts_clients, notes_time, reports, checks_as, next_check, checks, looks_at_each, looks_round, is_due, forgets_refusal, checks_in_time, has_news, reports_news_as, reports_news, checks_if_due, fetches_as, is_joined_to, takes_place, takes_rank, same_ids, takes_ancestors, took_ack, is_peer, took_rejoin}
 use Rattle.oc_model.specs.Choice.{below, chosen, reviewed}
 use Rattle.oc_model.specs.Content.{unless, keeps, grows, publish_to, published, seal_line, sealed_at, pulled, answers_fetch, fetched, adds_seal, adds, grown_line, asks_on, keeps_chunk, chunk_to, took_chunk}
 use Rattle.oc_model.specs.Looking.{Stand, goes_down, candidates, descends, goes_where, view, reviews_place, prefers, keeps_line, sees_as, sees}
@@ -31,7 +31,7 @@ use Rattle.oc_model.specs.Node.{Control, Durable}
 use Rattle.oc_model.specs.Numbers.{number_end, raise, capped}
 use Rattle.oc_model.specs.Plan.{Plan, write, send, answers, with_soft, searching, ignored, is_member, rate_to}
 use Rattle.oc_model.specs.Serving.{redirects, server_for, client_of, client, measured}
-use Rattle.oc_model.specs.Shelves.{line_at, with_line, limit, first_behind}
+use Rattle.oc_model.specs.Shelves.{line_at, with_line, limit, next_behind}
 use Rattle.oc_base.specs.Shelves.{line_of}
 use Rattle.oc_model.proofs.Rules.{either}
 
@@ -93,9 +93,9 @@ module _ (Q : ℕ → List Cert → List (Option ℕ) → ℕ → Type 0) where
 
   pub stays_took_no : (o : Plan) (p seq : ℕ) (why : Refusal) → OfPlan Q o → OfPlan Q (took_no o p seq why)
   stays_took_no o p seq why h =
-      let fallen : Plan = with_soft (lost o) (record o.node.soft { silent = false }) in
+      let fallen : Plan = with_soft (lost o) (record o.node.soft { silent = false; refused = true }) in
       either (is_asking o.node.kept.mode p && seq == o.node.kept.seq) (OfPlan Q) (refused fallen why) (ignored o) (stays_refused fallen why (by_mode o.node.kept.mode)) h where
-        by_mode : (m : Mode) → OfPlan Q (with_soft (lost_from m o) (record o.node.soft { silent = false }))
+        by_mode : (m : Mode) → OfPlan Q (with_soft (lost_from m o) (record o.node.soft { silent = false; refused = true }))
         by_mode modes.Idle = h
         by_mode (modes.Asking q) = h
         by_mode (modes.Joined q) = h
@@ -139,7 +139,7 @@ module _ (Q : ℕ → List Cert → List (Option ℕ) → ℕ → Type 0) where
       either (not (o.node.soft.served == 0) && nat_lt o.node.kept.number number_end) (OfPlan Q) (with_soft counted (record o.node.soft { served = 0 })) o h h
 
   stays_checks_as : (m : Mode) (o : Plan) → OfPlan Q o → OfPlan Q (checks_as m o)
-  stays_checks_as (modes.Joined p) o h = stays_counts_clients o h
+  stays_checks_as (modes.Joined p) o h = stays_counts_clients (notes_time o) h
   stays_checks_as modes.Acting o h = stays_raises o (raise (rank_or_last o.node.kept.rank).epoch) h
   stays_checks_as modes.Idle o h = stays_round o None h
   stays_checks_as (modes.Asking p) o h = h
@@ -154,15 +154,31 @@ module _ (Q : ℕ → List Cert → List (Option ℕ) → ℕ → Type 0) where
   stays_looks_round : (m : Mode) (o : Plan) → OfPlan Q o → OfPlan Q (looks_round m o)
   stays_looks_round (modes.Joined p) o h =
       let nearer : List ℕ = filter (λ x. nat_lt p x) (below o.node.me) in
-      either (is_member o.node) (OfPlan Q) (looks_at_each nearer o) (send (searching o (Some searches.Review)) p bodies.Look) (stays_looks_at_each nearer o h) h
+      either (is_member o.node) (OfPlan Q) (looks_at_each nearer o) (if o.node.soft.refused then o else send (searching o (Some searches.Review)) p bodies.Look) (stays_looks_at_each nearer o h)
+      (either o.node.soft.refused (OfPlan Q) o (send (searching o (Some searches.Review)) p bodies.Look) h h)
   stays_looks_round modes.Acting o h = either (is_member o.node) (OfPlan Q) (looks_at_each (below o.node.me) o) o (stays_looks_at_each (below o.node.me) o h) h
   stays_looks_round modes.Idle o h = h
   stays_looks_round (modes.Asking p) o h = h
 
+  stays_forgets_refusal : (due : Option ℕ) (o : Plan) → OfPlan Q o → OfPlan Q (forgets_refusal due o)
+  stays_forgets_refusal None o h = h
+  stays_forgets_refusal (Some t) o h = h
+
+  stays_checks_in_time : (o : Plan) → OfPlan Q o → OfPlan Q (checks_in_time o)
+  stays_checks_in_time o h =
+      let begins : Plan = forgets_refusal o.node.soft.due o in
+      stays_looks_round o.node.kept.mode (checks begins) (stays_checks begins (stays_forgets_refusal o.node.soft.due o h))
+
+  stays_reports_news_as : (m : Mode) (o : Plan) → OfPlan Q o → OfPlan Q (reports_news_as m o)
+  stays_reports_news_as (modes.Joined p) o h = either (has_news o.node) (OfPlan Q) (reports o p) o (stays_counts_clients (notes_time o) h) h
+  stays_reports_news_as modes.Idle o h = h
+  stays_reports_news_as (modes.Asking p) o h = h
+  stays_reports_news_as modes.Acting o h = h
+
   -- what a tick does after the leases
   pub stays_checks_if_due : (o : Plan) → OfPlan Q o → OfPlan Q (checks_if_due o)
   stays_checks_if_due o h =
-      either (is_due o.node.soft.due o.node.soft.clock) (OfPlan Q) (looks_round o.node.kept.mode (checks o)) o (stays_looks_round o.node.kept.mode (checks o) (stays_checks o h)) h
+      either (is_due o.node.soft.due o.node.soft.clock) (OfPlan Q) (checks_in_time o) (reports_news o) (stays_checks_in_time o h) (stays_reports_news_as o.node.kept.mode o h)
 
   pub stays_fetches_as : (m : Mode) (o : Plan) (shelf : List Shelf) → OfPlan Q o → OfPlan Q (fetches_as m o shelf)
   stays_fetches_as (modes.Joined p) o shelf h = h
@@ -276,7 +292,7 @@ module _ (Q : ℕ → List Cert → List (Option ℕ) → ℕ → Type 0) where
   stays_answers_fetch (Some l) o p have h = h
 
   pub stays_fetched : (o : Plan) (shelf : List Shelf) (p : ℕ) (have : List Shelf) → OfPlan Q o → OfPlan Q (fetched o shelf p have)
-  stays_fetched o shelf p have h = stays_answers_fetch (first_behind have shelf) o p have h
+  stays_fetched o shelf p have h = stays_answers_fetch (next_behind o.node.chunk have shelf) o p have h
 
   stays_asks_on : (m : Mode) (p : ℕ) (shelf : List Shelf) (o : Plan) → OfPlan Q o → OfPlan Q (asks_on m p shelf o)
   stays_asks_on (modes.Joined q) p shelf o h = either (q == p) (OfPlan Q) (send o p (bodies.Fetch shelf)) o h h

@@ -22,7 +22,7 @@ use Rattle.oc_model.specs.Adopting.{is_acting, raises, raises_over}
 use Rattle.oc_model.specs.Adoption.{precedes, precedes_any, rank_or_last, is_better}
 use Rattle.oc_model.specs.Asking.{lost_from, lost, send_ask, ask, next_epoch, act, descend, is_empty, try_at, try_first, next_try, set_tries, round, ask_before, is_asking, ancestors_by, joins, took_yes, refused, took_no, not_seen, not_reached, unreachable, relocate}
 use Rattle.oc_model.specs.ChangeLog.{is_ahead}
-use Rattle.oc_model.specs.Checking.{counts_clients, checks_as, next_check, checks, looks_at_each, looks_round, is_due, checks_if_due, fetches_as, is_joined_to, takes_place, takes_rank, same_ids, takes_ancestors, took_ack, is_peer, took_rejoin}
+use Rattle.oc_model.specs.Checking.{counts_clients, notes_time, reports, checks_as, next_check, checks, looks_at_each, looks_round, is_due, forgets_refusal, checks_in_time, has_news, reports_news_as, reports_news, checks_if_due, fetches_as, is_joined_to, takes_place, takes_rank, same_ids, takes_ancestors, took_ack, is_peer, took_rejoin}
 use Rattle.oc_model.specs.Choice.{below, each_once, just, ask_order, chosen, reviewed}
 use Rattle.oc_model.specs.Looking.{Stand, goes_down, candidates, descends, goes_where, view, reviews_place, prefers, keeps_line, sees_as, sees}
 use Rattle.oc_model.specs.Node.{Control}
@@ -202,9 +202,9 @@ line_refused o refusals.Rank h = line_next_try o h
 
 pub line_took_no : (o : Plan) (p seq : ℕ) (why : Refusal) → OfLine o → OfLine (took_no o p seq why)
 line_took_no o p seq why h =
-    let fallen : Plan = with_soft (lost o) (record o.node.soft { silent = false }) in
+    let fallen : Plan = with_soft (lost o) (record o.node.soft { silent = false; refused = true }) in
     either (is_asking o.node.kept.mode p && seq == o.node.kept.seq) OfLine (refused fallen why) (ignored o) (line_refused fallen why (by_mode o.node.kept.mode)) h where
-      by_mode : (m : Mode) → OfLine (with_soft (lost_from m o) (record o.node.soft { silent = false }))
+      by_mode : (m : Mode) → OfLine (with_soft (lost_from m o) (record o.node.soft { silent = false; refused = true }))
       by_mode modes.Idle = h
       by_mode (modes.Asking q) = line_idle h
       by_mode (modes.Joined q) = line_idle h
@@ -257,7 +257,7 @@ line_counts_clients o h =
     either (not (o.node.soft.served == 0) && nat_lt o.node.kept.number number_end) OfLine (with_soft counted (record o.node.soft { served = 0 })) o h h
 
 line_checks_as : (m : Mode) (o : Plan) → OfLine o → OfLine (checks_as m o)
-line_checks_as (modes.Joined p) o h = line_counts_clients o h
+line_checks_as (modes.Joined p) o h = line_counts_clients (notes_time o) h
 line_checks_as modes.Acting o h = line_raises o (raise (rank_or_last o.node.kept.rank).epoch) h
 line_checks_as modes.Idle o h = line_round o None h
 line_checks_as (modes.Asking p) o h = h
@@ -272,14 +272,30 @@ line_looks_at_each (x ∷ xs) o h = line_looks_at_each xs (send o x bodies.Look)
 line_looks_round : (m : Mode) (o : Plan) → OfLine o → OfLine (looks_round m o)
 line_looks_round (modes.Joined p) o h =
     let nearer : List ℕ = filter (λ x. nat_lt p x) (below o.node.me) in
-    cond_both (is_member o.node) (looks_at_each nearer o) (send (searching o (Some searches.Review)) p bodies.Look) OfLine
-    (λ _. line_looks_at_each nearer o h) (λ past. line_looks h (Some searches.Review) (λ member. absurd (true≢false (sym member ∙ past))))
+    let reviewing : Plan = send (searching o (Some searches.Review)) p bodies.Look in
+    cond_both (is_member o.node) (looks_at_each nearer o) (if o.node.soft.refused then o else reviewing) OfLine
+    (λ _. line_looks_at_each nearer o h) (λ past. either o.node.soft.refused OfLine o reviewing h (line_looks h (Some searches.Review) (λ member. absurd (true≢false (sym member ∙ past)))))
 line_looks_round modes.Acting o h = either (is_member o.node) OfLine (looks_at_each (below o.node.me) o) o (line_looks_at_each (below o.node.me) o h) h
 line_looks_round modes.Idle o h = h
 line_looks_round (modes.Asking p) o h = h
 
+line_forgets_refusal : (due : Option ℕ) (o : Plan) → OfLine o → OfLine (forgets_refusal due o)
+line_forgets_refusal None o h = h
+line_forgets_refusal (Some t) o h = h
+
+line_checks_in_time : (o : Plan) → OfLine o → OfLine (checks_in_time o)
+line_checks_in_time o h =
+    let begins : Plan = forgets_refusal o.node.soft.due o in
+    line_looks_round o.node.kept.mode (checks begins) (line_checks begins (line_forgets_refusal o.node.soft.due o h))
+
+line_reports_news_as : (m : Mode) (o : Plan) → OfLine o → OfLine (reports_news_as m o)
+line_reports_news_as (modes.Joined p) o h = either (has_news o.node) OfLine (reports o p) o (line_counts_clients (notes_time o) h) h
+line_reports_news_as modes.Idle o h = h
+line_reports_news_as (modes.Asking p) o h = h
+line_reports_news_as modes.Acting o h = h
+
 pub line_checks_if_due : (o : Plan) → OfLine o → OfLine (checks_if_due o)
-line_checks_if_due o h = either (is_due o.node.soft.due o.node.soft.clock) OfLine (looks_round o.node.kept.mode (checks o)) o (line_looks_round o.node.kept.mode (checks o) (line_checks o h)) h
+line_checks_if_due o h = either (is_due o.node.soft.due o.node.soft.clock) OfLine (checks_in_time o) (reports_news o) (line_checks_in_time o h) (line_reports_news_as o.node.kept.mode o h)
 
 pub line_fetches_as : (m : Mode) (o : Plan) (ls : List Shelf) → OfLine o → OfLine (fetches_as m o ls)
 line_fetches_as (modes.Joined p) o ls h = h

@@ -28,7 +28,7 @@ with_kept n d = record n { kept = d }
 
 -- what a start clears, cleared
 abbrev pub cleared : Control → Control
-cleared n = started_with (record { nodes = n.nodes; chain = n.chain; areas = n.areas }) n.me n.kept
+cleared n = started_with (record { nodes = n.nodes; chain = n.chain; chunk = n.chunk; areas = n.areas }) n.me n.kept
 
 -- what was sent, and one more message of the node
 abbrev pub and_sent : Control → List Message → ℕ → Body → List Message

@@ -19,13 +19,13 @@ use Rattle.oc_base.specs.Groups.{group_of, group_or_empty, or_empty, with_group,
 use Rattle.oc_base.specs.declared.limits.TheConstants.{MAX_GROUPS, MAX_GROUP_BYTES}
 use Rattle.oc_model.specs.Node.{Node, Outcome}
 use Rattle.oc_model.specs.Plan.{Plan, begun, send, ignored, answers as says}
-use Rattle.oc_model.specs.Shelves.{line_at, with_line, limit, first_behind}
+use Rattle.oc_model.specs.Shelves.{line_at, with_line, limit, next_behind}
 use Rattle.oc_base.specs.Shelves.{line_of}
 use Rattle.oc_model.specs.Step.{grown, finished, bytes_wanted}
 use Rattle.oc_model.specs.World.{source_after}
 use Rattle.oc_model.proofs.Groups.{ascend-found, ascend-with_group, group_of-name, group_of-with_group, group_or_empty-name, group_or_empty-held, put_at}
 use Rattle.oc_base.proofs.NameOrder.{names_equal}
-use Rattle.oc_model.proofs.Shelves.{line_of-shelf, line_at-shelf, is_some-shelf, with_line-shelf, line-grown, first_behind-shelf}
+use Rattle.oc_model.proofs.Shelves.{line_of-shelf, line_at-shelf, is_some-shelf, with_line-shelf, line-grown, next_behind-shelf}
 use Rattle.oc_laws_world.proofs.Fair.{Ready, MaySend, Fair, fair_still, fair_source, fair_same, fair_keeps}
 use Rattle.oc_laws_world.proofs.Fronts.{IsFront, IsPiece, front_append, front_whole, front_itself, joined, joined_front, joined_length, joined_within}
 use Rattle.oc_laws_world.proofs.Truth.{AreSame, MayReplace, IsHeld, Holds, IsTrueOfSource, IsTrue, piece_true, shelf_true}
@@ -206,10 +206,10 @@ comes x p b = Delivered (record { from = p; to = x; body = b })
 
 -- a chunk of a group that is held, of `count` bytes from a place on, is true
 chunk_true : (s : List Group) (n : Node) (x p : ℕ) (k : Group) (have : List Shelf) (start : ℕ) → Ready s n → group_of k.name n.groups ≡ Some k
-    → Fair s s n (finished n (comes x p (Fetch have)) (sends_chunk (begun n.control) p (shelf_of k) start (count_from (shelf_of k) start)))
+    → Fair s s n (finished n (comes x p (Fetch have)) (sends_chunk (begun n.control) p (shelf_of k) start (count_from n.control.chunk (shelf_of k) start)))
 chunk_true s n x p k have start ready found = by_test (count == 0) refl where
   count : ℕ
-  count = count_from (shelf_of k) start
+  count = count_from n.control.chunk (shelf_of k) start
 
   sent : List ℕ → Message
   sent bytes = record { from = n.control.me; to = p; body = Chunk k.name start bytes (k.sealed && start + count == length k.bytes) }
@@ -229,15 +229,15 @@ chunk_true s n x p k have start ready found = by_test (count == 0) refl where
 
 -- a fetch is answered by a true chunk at most
 pub fetch_fair : (s : List Group) (n : Node) (x p : ℕ) (have : List Shelf) → Ready s n → Fair s s n (finished n (comes x p (Fetch have)) (fetched (begun n.control) (shelf n.groups) p have))
-fetch_fair s n x p have ready = by_found (first_behind have (shelf n.groups)) refl where
+fetch_fair s n x p have ready = by_found (next_behind n.control.chunk have (shelf n.groups)) refl where
   by_line : (l : Shelf) → (k : Group) × (group_of k.name n.groups ≡ Some k) × (l ≡ shelf_of k) → Fair s s n (finished n (comes x p (Fetch have)) (answers_fetch (begun n.control) p have (Some l)))
   by_line l found =
       subst (λ z. Fair s s n (finished n (comes x p (Fetch have)) (answers_fetch (begun n.control) p have (Some z)))) (sym found.2)
       (chunk_true s n x p found.0 have (line_at found.0.name have).held ready found.1)
 
-  by_found : (found : Option Shelf) → first_behind have (shelf n.groups) ≡ found → Fair s s n (finished n (comes x p (Fetch have)) (answers_fetch (begun n.control) p have found))
+  by_found : (found : Option Shelf) → next_behind n.control.chunk have (shelf n.groups) ≡ found → Fair s s n (finished n (comes x p (Fetch have)) (answers_fetch (begun n.control) p have found))
   by_found None e = fair_still s n (finished n (comes x p (Fetch have)) (begun n.control)) ready refl refl tt
-  by_found (Some l) e = by_line l (first_behind-shelf n.groups have n.groups l (ascend-found n.groups ready.holds.ascend) e)
+  by_found (Some l) e = by_line l (next_behind-shelf n.control.chunk n.groups have l (ascend-found n.groups ready.holds.ascend) e)
 
 -- Chunk
 

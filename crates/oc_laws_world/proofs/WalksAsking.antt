@@ -111,9 +111,9 @@ module _ (came : ℕ → Body → Type 0) (P : Control → List Message → Type
 
   pub walks_took_no : (o : Plan) (p seq : ℕ) (why : Refusal) → Of P o → Of P (took_no o p seq why)
   walks_took_no o p seq why h =
-      let heard : Plan = with_soft (lost o) (record o.node.soft { silent = false }) in
+      let heard : Plan = with_soft (lost o) (record o.node.soft { silent = false; refused = true }) in
       cond_both (is_asking o.node.kept.mode p && seq == o.node.kept.seq) (refused heard why) (ignored o) (Of P)
-      (λ _. walks_refused heard why (k.soft (lost o).node (lost o).sends (record o.node.soft { silent = false }) (walks_lost o h)))
+      (λ _. walks_refused heard why (k.soft (lost o).node (lost o).sends (record o.node.soft { silent = false; refused = true }) (walks_lost o h)))
       (λ _. h)
 
   walks_not_seen : (s : Option Search) (o : Plan) (p : ℕ) → Of P o → Of P (not_seen s o p)

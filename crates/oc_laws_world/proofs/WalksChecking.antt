@@ -1,5 +1,5 @@
 -- How leases are kept up and changes are told: the rules Check now, Tick and Check-ins are made of the small changes.
-use Rattle.std.proofs.Common.{◌≡◌, ℕ, ◌+◌, max, true, false, not, ◌&&◌, ◌==◌, nat_lt, Option, Some, None, List, [], ◌∷◌, inl, inr, filter, refl, sym, ◌∙◌, subst, eqb-true}
+use Rattle.std.proofs.Common.{◌≡◌, ℕ, ◌+◌, max, true, false, not, ◌&&◌, ◌==◌, nat_lt, if◌then◌else◌, Option, Some, None, List, [], ◌∷◌, inl, inr, filter, refl, sym, ◌∙◌, subst, eqb-true}
 use Rattle.std.specs.List.{AllByRecursion}
 use Rattle.std.proofs.lemmas.Bool.{cond_both, and_parts}
 use Rattle.oc_base.specs.declared.cert.Cert.{Cert}
@@ -17,7 +17,7 @@ use Rattle.oc_model.specs.Adopting.{has_lease, sends_rejoin}
 use Rattle.oc_model.specs.Adoption.{rank_or_last, is_better}
 use Rattle.oc_model.specs.Asking.{ask_before, ancestors_by}
 use Rattle.oc_model.specs.ChangeLog.{is_ahead}
-use Rattle.oc_model.specs.Checking.{counts_clients, checks_in, checks_as, next_check, checks, merges, merges_all, at_time, starts_leases, dies, ends_each, ends_leases, looks_at_each, looks_round, is_due, checks_if_due, fetches_as, tick, acknowledges, life, checked_in, is_joined_to, takes_place, takes_rank, same_ids, takes_ancestors, took_ack, is_peer, took_rejoin}
+use Rattle.oc_model.specs.Checking.{counts_clients, checks_in, notes_time, reports, checks_as, next_check, checks, merges, merges_all, at_time, starts_leases, dies, ends_each, ends_leases, looks_at_each, looks_round, is_due, forgets_refusal, checks_in_time, has_news, reports_news_as, reports_news, checks_if_due, fetches_as, tick, acknowledges, life, checked_in, is_joined_to, takes_place, takes_rank, same_ids, takes_ancestors, took_ack, is_peer, took_rejoin}
 use Rattle.oc_model.specs.Choice.{below}
 use Rattle.oc_model.specs.Leases.{renew, start_all, ended}
 use Rattle.oc_model.specs.Node.{Control}
@@ -68,8 +68,11 @@ module _ (came : ℕ → Body → Type 0) (P : Control → List Message → Type
       (k.counts o.node o.sends (capped (o.node.kept.clients + o.node.soft.served)) (and_parts (not (o.node.soft.served == 0)) (nat_lt o.node.kept.number number_end) e).1 h)))
       (λ _. k.says_check_in o.node o.sends p (rate_to o.node p) joined h)
 
+  walks_reports : (p : ℕ) (o : Plan) → o.node.kept.mode ≡ modes.Joined p → Of P o → Of P (reports o p)
+  walks_reports p o joined h = walks_counts_clients p (notes_time o) joined (k.soft o.node o.sends (record o.node.soft { checked = Some o.node.soft.clock }) h)
+
   walks_checks_as : (m : Mode) (o : Plan) → o.node.kept.mode ≡ m → Of P o → Of P (checks_as m o)
-  walks_checks_as (modes.Joined p) o e h = walks_counts_clients p o e h
+  walks_checks_as (modes.Joined p) o e h = walks_reports p o e h
   walks_checks_as modes.Acting o e h =
       walks_raises came P k o (raise (rank_or_last o.node.kept.rank).epoch) e (λ f g. raise_above (rank_or_last o.node.kept.rank).epoch f g) h
   walks_checks_as modes.Idle o e h = walks_round came P k o None h
@@ -106,16 +109,33 @@ module _ (came : ℕ → Body → Type 0) (P : Control → List Message → Type
   walks_looks_round (modes.Joined p) o h =
       let nearer : List ℕ = filter (λ x. nat_lt p x) (below o.node.me) in
       let reviewing : Plan = searching o (Some searches.Review) in
-      cond_both (is_member o.node) (looks_at_each nearer o) (send reviewing p bodies.Look) (Of P)
+      cond_both (is_member o.node) (looks_at_each nearer o) (if o.node.soft.refused then o else send reviewing p bodies.Look) (Of P)
       (λ _. walks_looks_at_each nearer o h)
-      (λ _. k.says reviewing.node reviewing.sends p bodies.Look tt (k.soft o.node o.sends (record o.node.soft { search = Some searches.Review }) h))
+      (λ _. cond_both o.node.soft.refused o (send reviewing p bodies.Look) (Of P) (λ _. h)
+      (λ _. k.says reviewing.node reviewing.sends p bodies.Look tt (k.soft o.node o.sends (record o.node.soft { search = Some searches.Review }) h)))
   walks_looks_round modes.Acting o h = cond_both (is_member o.node) (looks_at_each (below o.node.me) o) o (Of P) (λ _. walks_looks_at_each (below o.node.me) o h) (λ _. h)
   walks_looks_round modes.Idle o h = h
   walks_looks_round (modes.Asking p) o h = h
 
+  walks_forgets : (due : Option ℕ) (o : Plan) → Of P o → Of P (forgets_refusal due o)
+  walks_forgets None o h = h
+  walks_forgets (Some t) o h = k.soft o.node o.sends (record o.node.soft { refused = false }) h
+
+  walks_checks_in_time : (o : Plan) → Of P o → Of P (checks_in_time o)
+  walks_checks_in_time o h =
+      let begins : Plan = forgets_refusal o.node.soft.due o in
+      walks_looks_round o.node.kept.mode (checks begins) (walks_checks begins (walks_forgets o.node.soft.due o h))
+
+  walks_reports_news_as : (m : Mode) (o : Plan) → o.node.kept.mode ≡ m → Of P o → Of P (reports_news_as m o)
+  walks_reports_news_as (modes.Joined p) o e h = cond_both (has_news o.node) (reports o p) o (Of P) (λ _. walks_reports p o e h) (λ _. h)
+  walks_reports_news_as modes.Idle o e h = h
+  walks_reports_news_as (modes.Asking p) o e h = h
+  walks_reports_news_as modes.Acting o e h = h
+
   walks_checks_if_due : (o : Plan) → Of P o → Of P (checks_if_due o)
   walks_checks_if_due o h =
-      cond_both (is_due o.node.soft.due o.node.soft.clock) (looks_round o.node.kept.mode (checks o)) o (Of P) (λ _. walks_looks_round o.node.kept.mode (checks o) (walks_checks o h)) (λ _. h)
+      cond_both (is_due o.node.soft.due o.node.soft.clock) (checks_in_time o) (reports_news o) (Of P)
+      (λ _. walks_checks_in_time o h) (λ _. walks_reports_news_as o.node.kept.mode o refl h)
 
   walks_fetches_as : (m : Mode) (o : Plan) (shelf : List Shelf) → Of P o → Of P (fetches_as m o shelf)
   walks_fetches_as (modes.Joined p) o shelf h = k.says o.node o.sends p (bodies.Fetch shelf) tt h

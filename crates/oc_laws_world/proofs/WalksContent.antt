@@ -13,7 +13,7 @@ use Rattle.oc_model.specs.declared.mode.Mode.TheVariants as modes
 use Rattle.oc_model.specs.Content.{unless, keeps, grows, publish_to, published, seal_line, sealed_at, pulled, count_from, sends_chunk, answers_fetch, fetched, adds_seal, adds, grown_line, asks_on, keeps_chunk, chunk_to, took_chunk}
 use Rattle.oc_model.specs.Node.{Control}
 use Rattle.oc_model.specs.Plan.{Plan, begun, send, answers, ignored}
-use Rattle.oc_model.specs.Shelves.{line_at, with_line, limit, first_behind}
+use Rattle.oc_model.specs.Shelves.{line_at, with_line, limit, next_behind}
 use Rattle.oc_base.specs.Shelves.{line_of}
 use Rattle.oc_model.specs.Step.{bytes_wanted, filled}
 use Rattle.oc_laws_world.proofs.Machine.{IsMachine, Of}
@@ -54,7 +54,7 @@ module _ (came : ℕ → Body → Type 0) (P : Control → List Message → Type
   walks_answers_fetch n p have None ks h = h
   walks_answers_fetch n p have (Some l) ks h =
       let start : ℕ = (line_at l.group have).held in
-      let count : ℕ = count_from l start in
+      let count : ℕ = count_from n.chunk l start in
       let last : Bool = l.sealed && start + count == l.held in
       cond_both (count == 0) None (Some (record { group = l.group; start = start; count = count })) (λ w. P n (filled w ks (sends_chunk (begun n) p l start count).sends))
       (λ _. k.says n [] p (bodies.Chunk l.group start [] last) tt h)
@@ -62,7 +62,7 @@ module _ (came : ℕ → Body → Type 0) (P : Control → List Message → Type
 
   pub walks_fetched : (n : Control) (shelf : List Shelf) (p : ℕ) (have : List Shelf) (ks : List Group) → P n []
       → P (fetched (begun n) shelf p have).node (filled (fetched (begun n) shelf p have).wants ks (fetched (begun n) shelf p have).sends)
-  walks_fetched n shelf p have ks h = walks_answers_fetch n p have (first_behind have shelf) ks h
+  walks_fetched n shelf p have ks h = walks_answers_fetch n p have (next_behind n.chunk have shelf) ks h
 
   -- Chunks
 

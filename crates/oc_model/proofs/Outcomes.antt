@@ -16,7 +16,7 @@ use Rattle.oc_base.specs.Groups.{group_of, group_or_empty, or_empty, with_group,
 use Rattle.oc_base.specs.declared.limits.TheConstants.{MAX_GROUPS, MAX_GROUP_BYTES}
 use Rattle.oc_model.specs.Node.{Node}
 use Rattle.oc_model.specs.Plan.{Plan, begun, send, ignored, answers as says}
-use Rattle.oc_model.specs.Shelves.{line_at, with_line, limit, first_behind}
+use Rattle.oc_model.specs.Shelves.{line_at, with_line, limit, next_behind}
 use Rattle.oc_base.specs.Shelves.{line_of}
 use Rattle.oc_model.specs.Step.{piece_of, grown, kept_at, plan, step}
 use Rattle.oc_model.specs.WorldBounds.{AreWithinLimits}
@@ -147,11 +147,11 @@ comes x p b = Delivered (record { from = p; to = x; body = b })
 
 -- a fetch
 fetch_kept : (n : Node) (x p : ℕ) (have : List Shelf) → IsKept n (comes x p (bodies.Fetch have)) (fetched (begun n.control) (shelf n.groups) p have)
-fetch_kept n x p have = by_found (first_behind have (shelf n.groups)) where
+fetch_kept n x p have = by_found (next_behind n.control.chunk have (shelf n.groups)) where
   by_found : (found : Option Shelf) → IsKept n (comes x p (bodies.Fetch have)) (answers_fetch (begun n.control) p have found)
   by_found None = kept_none n (comes x p (bodies.Fetch have)) (begun n.control) refl refl
   by_found (Some l) =
-      kept_none n (comes x p (bodies.Fetch have)) (sends_chunk (begun n.control) p l (line_at l.group have).held (count_from l (line_at l.group have).held)) refl refl
+      kept_none n (comes x p (bodies.Fetch have)) (sends_chunk (begun n.control) p l (line_at l.group have).held (count_from n.control.chunk l (line_at l.group have).held)) refl refl
 
 -- a chunk
 chunk_kept : (n : Node) (x p : ℕ) (g : List ℕ) (start : ℕ) (bytes : List ℕ) (last : Bool)

@@ -57,7 +57,7 @@ IsNew x p = (h : Header) × (p ≡ down (new_node h x))
 
 -- in a new world each process is that of a new node
 pub process_in-new : (h : Header) (xs : List ℕ) (x : ℕ) → IsNew x (process_in (map (λ y. down (new_node h y)) xs) x)
-process_in-new h [] x = (record { nodes = 0; chain = 0; areas = [] }, refl)
+process_in-new h [] x = (record { nodes = 0; chain = 0; chunk = 0; areas = [] }, refl)
 process_in-new h (y ∷ ys) x = by_test (process_in-new h ys x) (y == x) refl where
   by_test : IsNew x (process_in (map (λ z. down (new_node h z)) ys) x) → (b : Bool) → (y == x) ≡ b → IsNew x (process_in (map (λ z. down (new_node h z)) (y ∷ ys)) x)
   by_test rest true e = (h, rw e (ap (λ z. down (new_node h z)) (eqb-true y x e)))

@@ -24,7 +24,7 @@ use Rattle.oc_model.specs.Adoption.{precedes, precedes_any, rank_or_last, is_bet
 use Rattle.oc_base.specs.declared.limits.TheConstants.{MAX_DEPTH}
 use Rattle.oc_model.specs.Asking.{lost_from, lost, send_ask, ask, next_epoch, act, descend, is_empty, try_at, try_first, next_try, set_tries, round, ask_before, is_asking, ancestors_by, joins, took_yes, refused, took_no, not_seen, not_reached, unreachable, relocate}
 use Rattle.oc_model.specs.ChangeLog.{next_certs, place_after, is_ahead}
-use Rattle.oc_model.specs.Checking.{counts_clients, checks_in, checks_as, next_check, checks, merges, merges_all, at_time, starts_leases, dies, ends_each, ends_leases, looks_at_each, looks_round, is_due, checks_if_due, fetches_as, fetches, tick, acknowledges, life, checked_in, is_joined_to, takes_place, takes_rank, same_ids, takes_ancestors, took_ack, is_peer, took_rejoin}
+use Rattle.oc_model.specs.Checking.{counts_clients, checks_in, notes_time, reports, checks_as, next_check, checks, merges, merges_all, at_time, starts_leases, dies, ends_each, ends_leases, looks_at_each, looks_round, is_due, forgets_refusal, checks_in_time, has_news, reports_news_as, reports_news, checks_if_due, fetches_as, fetches, tick, acknowledges, life, checked_in, is_joined_to, takes_place, takes_rank, same_ids, takes_ancestors, took_ack, is_peer, took_rejoin}
 use Rattle.oc_model.specs.Choice.{ask_order, below, chosen, reviewed}
 use Rattle.oc_model.specs.Content.{pulled}
 use Rattle.oc_model.specs.Leases.{renew, start_all, ended}
@@ -137,9 +137,9 @@ module _ (shelf : List Shelf) (P : Plan → Type 0) (k : IsClosed shelf P) where
 
   pub keeps_took_no : (o : Plan) (p seq : ℕ) (why : Refusal) → P o → P (took_no o p seq why)
   keeps_took_no o p seq why h =
-      either (is_asking o.node.kept.mode p && seq == o.node.kept.seq) P (refused (with_soft (lost o) (record o.node.soft { silent = false })) why) (ignored o)
-      (keeps_refused (with_soft (lost o) (record o.node.soft { silent = false })) why
-      (k.soft (lost o) (record o.node.soft { silent = false }) (ap (λ s. s.clock) (sym (lost_soft o.node.kept.mode o))) (keeps_lost o h)))
+      either (is_asking o.node.kept.mode p && seq == o.node.kept.seq) P (refused (with_soft (lost o) (record o.node.soft { silent = false; refused = true })) why) (ignored o)
+      (keeps_refused (with_soft (lost o) (record o.node.soft { silent = false; refused = true })) why
+      (k.soft (lost o) (record o.node.soft { silent = false; refused = true }) (ap (λ s. s.clock) (sym (lost_soft o.node.kept.mode o))) (keeps_lost o h)))
       (keeps_ignored o h)
 
   keeps_not_seen : (s : Option Search) (o : Plan) (p : ℕ) → P o → P (not_seen s o p)
@@ -211,8 +211,12 @@ module _ (shelf : List Shelf) (P : Plan → Type 0) (k : IsClosed shelf P) where
   keeps_checks_in : (o : Plan) (p : ℕ) → P o → P (checks_in o p)
   keeps_checks_in o p h = k.send o p (bodies.CheckIn o.node.kept.seq (place_after o.node.kept.log) (rate_to o.node p) o.node.kept.number o.node.kept.clients (next_certs o.node.kept.log)) tt h
 
+  keeps_reports : (o : Plan) (p : ℕ) → P o → P (reports o p)
+  keeps_reports o p h =
+      keeps_checks_in (counts_clients (notes_time o)) p (keeps_counts_clients (notes_time o) (k.soft o (record o.node.soft { checked = Some o.node.soft.clock }) refl h))
+
   keeps_checks_as : (m : Mode) (o : Plan) → P o → P (checks_as m o)
-  keeps_checks_as (modes.Joined p) o h = keeps_checks_in (counts_clients o) p (keeps_counts_clients o h)
+  keeps_checks_as (modes.Joined p) o h = keeps_reports o p h
   keeps_checks_as modes.Acting o h = keeps_raises o (raise (rank_or_last o.node.kept.rank).epoch) h
   keeps_checks_as modes.Idle o h = keeps_round o None h
   keeps_checks_as (modes.Asking p) o h = keeps_send_ask o p h
@@ -251,15 +255,31 @@ module _ (shelf : List Shelf) (P : Plan → Type 0) (k : IsClosed shelf P) where
   keeps_looks_round (modes.Joined p) o h =
       let nearer : List ℕ = filter (λ x. nat_lt p x) (below o.node.me) in
       let reviewing : Plan = searching o (Some searches.Review) in
-      either (is_member o.node) P (looks_at_each nearer o) (send reviewing p bodies.Look)
-      (keeps_looks_at_each nearer o h) (k.send reviewing p bodies.Look tt (keeps_searching o (Some searches.Review) h))
+      either (is_member o.node) P (looks_at_each nearer o) (if o.node.soft.refused then o else send reviewing p bodies.Look)
+      (keeps_looks_at_each nearer o h)
+      (either o.node.soft.refused P o (send reviewing p bodies.Look) h (k.send reviewing p bodies.Look tt (keeps_searching o (Some searches.Review) h)))
   keeps_looks_round modes.Acting o h = either (is_member o.node) P (looks_at_each (below o.node.me) o) o (keeps_looks_at_each (below o.node.me) o h) h
   keeps_looks_round modes.Idle o h = h
   keeps_looks_round (modes.Asking p) o h = h
 
+  keeps_forgets_refusal : (due : Option ℕ) (o : Plan) → P o → P (forgets_refusal due o)
+  keeps_forgets_refusal None o h = h
+  keeps_forgets_refusal (Some t) o h = k.soft o (record o.node.soft { refused = false }) refl h
+
+  keeps_checks_in_time : (o : Plan) → P o → P (checks_in_time o)
+  keeps_checks_in_time o h =
+      let begins : Plan = forgets_refusal o.node.soft.due o in
+      keeps_looks_round o.node.kept.mode (checks begins) (keeps_checks begins (keeps_forgets_refusal o.node.soft.due o h))
+
+  keeps_reports_news_as : (m : Mode) (o : Plan) → P o → P (reports_news_as m o)
+  keeps_reports_news_as (modes.Joined p) o h = either (has_news o.node) P (reports o p) o (keeps_reports o p h) h
+  keeps_reports_news_as modes.Idle o h = h
+  keeps_reports_news_as (modes.Asking p) o h = h
+  keeps_reports_news_as modes.Acting o h = h
+
   keeps_checks_if_due : (o : Plan) → P o → P (checks_if_due o)
   keeps_checks_if_due o h =
-      either (is_due o.node.soft.due o.node.soft.clock) P (looks_round o.node.kept.mode (checks o)) o (keeps_looks_round o.node.kept.mode (checks o) (keeps_checks o h)) h
+      either (is_due o.node.soft.due o.node.soft.clock) P (checks_in_time o) (reports_news o) (keeps_checks_in_time o h) (keeps_reports_news_as o.node.kept.mode o h)
 
   keeps_fetches_as : (m : Mode) (o : Plan) → P o → P (fetches_as m o shelf)
   keeps_fetches_as (modes.Joined p) o h = k.send o p (bodies.Fetch shelf) refl h

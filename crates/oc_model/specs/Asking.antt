@@ -114,7 +114,7 @@ refused o why = next_try o
 abbrev pub took_no : Plan → ℕ → ℕ → Refusal → Plan
 took_no o p seq why =
     if is_asking o.node.kept.mode p && seq == o.node.kept.seq
-    then refused (with_soft (lost o) (record o.node.soft { silent = false })) why
+    then refused (with_soft (lost o) (record o.node.soft { silent = false; refused = true })) why
     else ignored o
 
 -- The rule Unreachable

@@ -1,4 +1,4 @@
-use Rattle.std.specs.Prelude.{◌≡◌, ℕ, ◌+◌, ◌-◌, Bool, ◌&&◌, nat_lt, nat_le, if◌then◌else◌, List, [], ◌∷◌, ◌++◌, length, take, drop}
+use Rattle.std.specs.Prelude.{◌≡◌, ℕ, ◌+◌, ◌-◌, Bool, true, false, ◌&&◌, nat_lt, nat_le, if◌then◌else◌, List, [], ◌∷◌, ◌++◌, length, take, drop}
 use Rattle.oc_base.specs.declared.cert.Cert.{Cert}
 use Rattle.oc_model.specs.Node.{Log}
 use Rattle.oc_model.specs.Numbers.{IsAmong}
@@ -29,6 +29,11 @@ acked_whole n = record { length = n; acked = n; waiting = [] }
 -- there is something about x that the parent has not acknowledged
 abbrev pub IsWaiting : Log → ℕ → Type 0
 IsWaiting l x = (c : Cert) × IsAmong c l.waiting × (c.subject ≡ x)
+
+-- whether there is anything of that
+abbrev pub waits : List Cert → Bool
+waits [] = false
+waits (c ∷ cs) = true
 
 -- the certificates of the next check-in, and the place after them
 abbrev pub next_certs : Log → List Cert

@@ -11,7 +11,7 @@ use Rattle.oc_model.specs.declared.soft.Search.TheVariants.{Review}
 use Rattle.oc_model.specs.Adopting.{raises, has_lease, sends_rejoin}
 use Rattle.oc_model.specs.Adoption.{rank_or_last, is_better}
 use Rattle.oc_model.specs.Asking.{send_ask, round, ask_before, ancestors_by}
-use Rattle.oc_model.specs.ChangeLog.{is_ahead, next_certs, place_after}
+use Rattle.oc_model.specs.ChangeLog.{is_ahead, next_certs, place_after, waits}
 use Rattle.oc_model.specs.Choice.{below}
 use Rattle.oc_model.specs.Leases.{renew, start_all, ended}
 use Rattle.oc_model.specs.Node.{Control}
@@ -35,8 +35,16 @@ abbrev pub checks_in : Plan → ℕ → Plan
 checks_in o p =
     send o p (bodies.CheckIn o.node.kept.seq (place_after o.node.kept.log) (rate_to o.node p) o.node.kept.number o.node.kept.clients (next_certs o.node.kept.log))
 
+-- the parent is told at this second
+abbrev pub notes_time : Plan → Plan
+notes_time o = with_soft o (record o.node.soft { checked = Some o.node.soft.clock })
+
+-- a check-in goes to the parent p
+abbrev pub reports : Plan → ℕ → Plan
+reports o p = checks_in (counts_clients (notes_time o)) p
+
 abbrev pub checks_as : Mode → Plan → Plan
-checks_as (modes.Joined p) o = checks_in (counts_clients o) p
+checks_as (modes.Joined p) o = reports o p
 checks_as modes.Acting o = raises o (raise (rank_or_last o.node.kept.rank).epoch)
 checks_as modes.Idle o = round o None
 checks_as (modes.Asking p) o = send_ask o p
@@ -83,11 +91,12 @@ abbrev pub looks_at_each : List ℕ → Plan → Plan
 looks_at_each [] o = o
 looks_at_each (x ∷ xs) o = looks_at_each xs (send o x bodies.Look)
 
--- after its check a node in the tree looks for a better place; a chain member looks among the earlier members that are nearer than
--- its parent
+-- after its check a node in the tree looks for a better place, unless it was refused; a chain member looks among the earlier members
+-- that are nearer than its parent
 abbrev pub looks_round : Mode → Plan → Plan
 looks_round (modes.Joined p) o =
     if is_member o.node then looks_at_each (filter (λ x. nat_lt p x) (below o.node.me)) o
+    else if o.node.soft.refused then o
     else send (searching o (Some Review)) p bodies.Look
 looks_round modes.Acting o = if is_member o.node then looks_at_each (below o.node.me) o else o
 looks_round mode o = o
@@ -96,8 +105,34 @@ abbrev pub is_due : Option ℕ → ℕ → Bool
 is_due None now = true
 is_due (Some t) now = nat_le t now
 
+-- a check in time forgets that the node was refused; the first one in a place does not
+abbrev pub forgets_refusal : Option ℕ → Plan → Plan
+forgets_refusal None o = o
+forgets_refusal (Some t) o = with_soft o (record o.node.soft { refused = false })
+
+-- the check that is due, and what the node looks at after it
+abbrev pub checks_in_time : Plan → Plan
+checks_in_time o = looks_round o.node.kept.mode (checks (forgets_refusal o.node.soft.due o))
+
+-- whether the last check-in was two seconds ago, or more
+abbrev pub is_past : Option ℕ → ℕ → Bool
+is_past None now = false
+is_past (Some t) now = nat_le (t + 2) now
+
+-- whether there is something to tell before the next check
+abbrev pub has_news : Control → Bool
+has_news n = waits n.kept.log.waiting && is_past n.soft.checked n.soft.clock
+
+-- what is new goes up between two checks
+abbrev pub reports_news_as : Mode → Plan → Plan
+reports_news_as (modes.Joined p) o = if has_news o.node then reports o p else o
+reports_news_as mode o = o
+
+abbrev pub reports_news : Plan → Plan
+reports_news o = reports_news_as o.node.kept.mode o
+
 abbrev pub checks_if_due : Plan → Plan
-checks_if_due o = if is_due o.node.soft.due o.node.soft.clock then looks_round o.node.kept.mode (checks o) else o
+checks_if_due o = if is_due o.node.soft.due o.node.soft.clock then checks_in_time o else reports_news o
 
 -- a joined node asks its parent for more of every group
 abbrev pub fetches_as : Mode → Plan → List Shelf → Plan

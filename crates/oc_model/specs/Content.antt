@@ -6,9 +6,8 @@ use Rattle.oc_model.specs.declared.message.Body.TheVariants as bodies
 use Rattle.oc_model.specs.declared.mode.Mode.{Mode}
 use Rattle.oc_model.specs.declared.mode.Mode.TheVariants as modes
 use Rattle.oc_model.specs.declared.want.Want.{Want}
-use Rattle.oc_base.specs.declared.limits.TheConstants.{MAX_CHUNK_BYTES}
 use Rattle.oc_model.specs.Plan.{Plan, send, answers, ignored}
-use Rattle.oc_model.specs.Shelves.{line_at, with_line, limit, first_behind}
+use Rattle.oc_model.specs.Shelves.{line_at, with_line, limit, next_behind}
 use Rattle.oc_base.specs.Shelves.{line_of}
 
 -- The rule Content: how bytes come to be held, and how they spread.
@@ -51,9 +50,9 @@ sealed_at o shelf g = if o.node.me == 1 then seal_line o (line_of g shelf) else 
 abbrev pub pulled : Plan → List Shelf → ℕ → Plan
 pulled o shelf p = if p == o.node.me then answers o words.Own else send o p (bodies.Fetch shelf)
 
--- how many bytes of a group a chunk has from a place on
-abbrev pub count_from : Shelf → ℕ → ℕ
-count_from l start = min MAX_CHUNK_BYTES (l.held - start)
+-- how many bytes of a group a chunk has from a place on, where it may have that many at most
+abbrev pub count_from : ℕ → Shelf → ℕ → ℕ
+count_from most l start = min most (l.held - start)
 
 -- these bytes, if they are any
 abbrev pub wanted : Shelf → ℕ → ℕ → Option Want
@@ -66,11 +65,11 @@ sends_chunk o p l start count =
 
 abbrev pub answers_fetch : Plan → ℕ → List Shelf → Option Shelf → Plan
 answers_fetch o p have None = o
-answers_fetch o p have (Some l) = sends_chunk o p l (line_at l.group have).held (count_from l (line_at l.group have).held)
+answers_fetch o p have (Some l) = sends_chunk o p l (line_at l.group have).held (count_from o.node.chunk l (line_at l.group have).held)
 
--- a fetch from p that names what p has
+-- a fetch from p that names what p has: groups take turns, so that a large one holds up no other
 abbrev pub fetched : Plan → List Shelf → ℕ → List Shelf → Plan
-fetched o shelf p have = answers_fetch o p have (first_behind have shelf)
+fetched o shelf p have = answers_fetch o p have (next_behind o.node.chunk have shelf)
 
 -- Chunks
 

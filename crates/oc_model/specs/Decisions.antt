@@ -1,7 +1,8 @@
-use Rattle.std.specs.Prelude.{◌≡◌, ℕ, true, false, Some, None, List, [], ◌∷◌}
+use Rattle.std.specs.Prelude.{◌≡◌, ℕ, true, false, Option, Some, None, option_map, List, [], ◌∷◌, codes}
 use Rattle.oc_base.specs.declared.cert.Cert.{Cert}
 use Rattle.oc_base.specs.declared.rank.Rank.{Rank}
 use Rattle.oc_base.specs.declared.refusal.Refusal.TheVariants as refusals
+use Rattle.oc_base.specs.declared.shelf.Shelf.{Shelf}
 use Rattle.oc_model.specs.declared.mode.Mode.TheVariants as modes
 use Rattle.oc_model.specs.declared.place.Candidate.{Candidate}
 use Rattle.oc_model.specs.declared.place.Review.TheVariants as reviews
@@ -13,6 +14,7 @@ use Rattle.oc_model.specs.Node.{new_durable, Durable}
 use Rattle.oc_model.specs.Numbers.{number_end, raise}
 use Rattle.oc_model.specs.Records.{folded}
 use Rattle.oc_model.specs.Selected.{selected}
+use Rattle.oc_model.specs.Shelves.{next_behind}
 use Rattle.oc_model.specs.Snapshot.{snapshot}
 use Rattle.oc_model.specs.Table.{merge_all, leased_children, table_line, listed_in}
 
@@ -52,6 +54,14 @@ a_state = record {
   measures = record { rate = 10; hops = 2 } ∷ record { rate = 0; hops = 0 } ∷ record { rate = 0; hops = 0 } ∷ [];
 }
 
+-- a shelf of two groups, and what another has of them
+abbrev two_groups : ℕ → ℕ → List Shelf
+two_groups a b = record { group = codes "/a"; held = a; sealed = false } ∷ record { group = codes "/b"; held = b; sealed = false } ∷ []
+
+-- the group of the next chunk of 10 bytes, from 25 bytes of each
+abbrev next_group : List Shelf → Option (List ℕ)
+next_group have = option_map (λ l. l.group) (next_behind 10 have (two_groups 25 25))
+
 pub record DecisionsCompute : Type 0 where
   pub later_words : merge_all [] (alive 3 1 2 ∷ alive 2 1 1 ∷ dead 3 1 2 ∷ alive 3 2 1 ∷ dead 3 1 2 ∷ []) ≡ alive 2 1 1 ∷ alive 3 2 1 ∷ []
   pub children : leased_children a_table 3 ≡ 4 ∷ 5 ∷ []
@@ -81,3 +91,8 @@ pub record DecisionsCompute : Type 0 where
   pub far_client : selected a_table 1 2 (0 ∷ 0 ∷ 0 ∷ 7 ∷ 7 ∷ 0 ∷ 0 ∷ []) (0 ∷ 0 ∷ 0 ∷ 4 ∷ 3 ∷ 0 ∷ 0 ∷ []) 8 ≡ Some 3
   pub snapshot_folds : folded (new_durable 3) (snapshot 9 a_state) ≡ a_state
   pub later_snapshot_folds : folded (record a_state { ancestors = []; number = 9 }) (snapshot 10 a_state) ≡ a_state
+  pub first_turn : next_group [] ≡ Some (codes "/a")
+  pub second_turn : next_group (two_groups 10 0) ≡ Some (codes "/b")
+  pub turn_again : next_group (two_groups 10 10) ≡ Some (codes "/a")
+  pub who_is_behind : next_group (two_groups 25 20) ≡ Some (codes "/b")
+  pub none_is_behind : next_group (two_groups 25 25) ≡ None

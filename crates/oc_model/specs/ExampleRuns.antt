@@ -1,6 +1,7 @@
 use Rattle.std.specs.Prelude.{ℕ, ◌+◌, Bool, true, false, Option, Some, List, [], ◌∷◌, map, filter_map, option_map, length, drop}
 use Rattle.oc_base.specs.declared.cert.Cert.{Cert}
 use Rattle.oc_base.specs.declared.cert.Line.{Line}
+use Rattle.oc_base.specs.declared.limits.TheConstants.{USUAL_CHUNK_BYTES}
 use Rattle.oc_base.specs.declared.rank.Rank.{Rank}
 use Rattle.oc_base.specs.declared.shelf.Shelf.{Shelf}
 use Rattle.oc_model.specs.declared.event.Act.TheVariants as acts
@@ -96,7 +97,7 @@ held h es x = shelf (node (world_after (new_world h) es) x).groups
 
 -- this many nodes, and this long a chain
 abbrev pub header : ℕ → ℕ → List ℕ → Header
-header nodes chain areas = record { nodes = nodes; chain = chain; areas = areas }
+header nodes chain areas = record { nodes = nodes; chain = chain; chunk = USUAL_CHUNK_BYTES; areas = areas }
 
 -- x moves to p, p takes its ask, which is message k, and x takes the answer
 abbrev pub join : ℕ → ℕ → ℕ → List Event

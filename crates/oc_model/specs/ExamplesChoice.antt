@@ -1,10 +1,11 @@
 use Rattle.std.specs.Prelude.{◌≡◌, ℕ, Bool, true, false, Some, None, List, [], ◌∷◌, ◌++◌}
 use Rattle.oc_base.specs.declared.cert.Cert.{Cert}
+use Rattle.oc_base.specs.declared.refusal.Refusal.TheVariants as refusals
 use Rattle.oc_model.specs.declared.event.Act.TheVariants.{At, Deliver}
 use Rattle.oc_model.specs.declared.event.Event.{Event}
 use Rattle.oc_model.specs.declared.event.Event.TheVariants.{Up, Do}
 use Rattle.oc_model.specs.declared.input.Input.TheVariants.{Tick, CheckNow, Measured}
-use Rattle.oc_model.specs.declared.message.Body.TheVariants.{Look, LookIs, Ask, Yes}
+use Rattle.oc_model.specs.declared.message.Body.TheVariants.{Look, LookIs, Ask, Yes, No, CheckIn, Fetch}
 use Rattle.oc_model.specs.declared.place.Candidate.{Candidate}
 use Rattle.oc_model.specs.Choice.{chosen}
 use Rattle.oc_model.specs.ExampleRuns.{told, header, join, from_to, alive, dead, rank, ok}
@@ -30,6 +31,49 @@ Descent = told (header 3 1 (0 ∷ 0 ∷ 0 ∷ [])) descending 12 4 [] ≡ record
       ∷ from_to 2 3 (Yes 1 (rank 1 1) (1 ∷ []))
       ∷ [];
   messages = 10;
+  shown = [];
+}
+
+-- A review sends a node beneath a sibling, which refuses it. It reviews its place again at its next check in time, and not at the
+-- first one in the place that it then found.
+
+abbrev refusing : List Event
+refusing =
+    (Up 1 ∷ Up 2 ∷ Up 3 ∷ Do (At 1 (Tick 0)) ∷ []) ++ join 2 1 1 ++ join 3 1 3
+    ++ (Do (At 2 (Measured 1 100 1)) ∷ Do (At 3 (Measured 1 100 1)) ∷ Do (At 3 (Measured 2 100 1)) ∷ Do (At 2 CheckNow) ∷ Do (Deliver 5) ∷ Do (At 3 (Tick 3))
+    ∷ Do (Deliver 8) ∷ Do (Deliver 10) ∷ Do (Deliver 11) ∷ Do (Deliver 12) ∷ Do (Deliver 13) ∷ Do (Deliver 14) ∷ Do (At 3 (Tick 4)) ∷ Do (At 3 (Tick 33)) ∷ [])
+
+abbrev pub RefusedReview : Type 0
+RefusedReview = told (header 3 1 (0 ∷ 0 ∷ 0 ∷ [])) refusing 16 9 [] ≡ record {
+  words = ok ∷ ok ∷ ok ∷ ok ∷ ok ∷ ok ∷ ok ∷ ok ∷ [];
+  sent =
+      from_to 1 3 (LookIs true None 0 (record { id = 2; rate = 100 } ∷ record { id = 3; rate = 0 } ∷ []))
+      ∷ from_to 3 2 (Ask 2 (Some (rank 1 1)))
+      ∷ from_to 2 3 (No 2 refusals.Rank)
+      ∷ from_to 3 1 (Ask 3 (Some (rank 1 1)))
+      ∷ from_to 1 3 (Yes 3 (rank 1 0) [])
+      ∷ from_to 3 1 (CheckIn 3 0 100 0 0 [])
+      ∷ from_to 3 1 (Fetch [])
+      ∷ from_to 3 1 (CheckIn 3 0 100 0 0 [])
+      ∷ from_to 3 1 Look
+      ∷ from_to 3 1 (Fetch [])
+      ∷ [];
+  messages = 19;
+  shown = [];
+}
+
+-- A node beneath a chain member stays there, however good its own way to that one's chain parent is.
+
+abbrev beneath_the_chain : List Event
+beneath_the_chain =
+    (Up 1 ∷ Up 2 ∷ Up 3 ∷ Do (At 1 (Tick 0)) ∷ []) ++ join 2 1 1 ++ join 3 2 3
+    ++ (Do (At 2 (Measured 1 10 1)) ∷ Do (At 3 (Measured 1 100 1)) ∷ Do (At 3 (Measured 2 100 1)) ∷ Do (At 3 (Tick 5)) ∷ Do (Deliver 6) ∷ Do (Deliver 8) ∷ [])
+
+abbrev pub ChainReview : Type 0
+ChainReview = told (header 3 2 (0 ∷ 0 ∷ 0 ∷ [])) beneath_the_chain 13 7 [] ≡ record {
+  words = ok ∷ ok ∷ ok ∷ [];
+  sent = from_to 2 3 (LookIs true (Some 1) 10 (record { id = 3; rate = 0 } ∷ [])) ∷ [];
+  messages = 8;
   shown = [];
 }
 

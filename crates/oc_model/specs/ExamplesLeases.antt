@@ -3,7 +3,7 @@ use Rattle.oc_model.specs.declared.event.Act.TheVariants.{At, Deliver}
 use Rattle.oc_model.specs.declared.event.Event.{Event}
 use Rattle.oc_model.specs.declared.event.Event.TheVariants.{Up, Crash, Do, Show, Settle}
 use Rattle.oc_model.specs.declared.input.Input.TheVariants.{Tick, CheckNow, Unreachable}
-use Rattle.oc_model.specs.declared.message.Body.TheVariants.{Ask, Yes, CheckIn, CheckAck, Rejoin}
+use Rattle.oc_model.specs.declared.message.Body.TheVariants.{Ask, Yes, CheckIn, CheckAck, Rejoin, Fetch}
 use Rattle.oc_model.specs.declared.mode.Mode.TheVariants.{Joined}
 use Rattle.oc_model.specs.declared.word.Word.TheVariants.{Settled}
 use Rattle.oc_model.specs.ExampleRuns.{told, header, join, from_to, alive, dead, line, rank, root_shown, ok}
@@ -71,4 +71,26 @@ FailedParent = told (header 5 1 (0 ∷ 0 ∷ 0 ∷ 0 ∷ 0 ∷ [])) failing 28 4
   sent = [];
   messages = 41;
   shown = root_shown (rank 2 0) (dead 2 1 1 ∷ alive 3 2 1 ∷ alive 4 2 1 ∷ alive 5 2 1 ∷ []) (line 3 1 ∷ line 4 1 ∷ line 5 1 ∷ []) ∷ [];
+}
+
+-- A certificate that waits goes up two seconds behind the last check-in, and not before.
+
+abbrev telling : List Event
+telling =
+    (Up 1 ∷ Up 2 ∷ Up 3 ∷ Do (At 1 (Tick 0)) ∷ []) ++ join 2 1 1
+    ++ (Do (At 2 (Tick 0)) ∷ Do (Deliver 3) ∷ Do (Deliver 6) ∷ []) ++ join 3 2 7
+    ++ (Do (At 2 (Tick 1)) ∷ Do (At 2 (Tick 2)) ∷ Do (Deliver 10) ∷ Do (Deliver 12) ∷ Do (At 2 (Tick 4)) ∷ [])
+
+abbrev pub EarlyCheckIn : Type 0
+EarlyCheckIn = told (header 3 1 (0 ∷ 0 ∷ 0 ∷ [])) telling 13 8 [] ≡ record {
+  words = ok ∷ ok ∷ ok ∷ ok ∷ ok ∷ [];
+  sent =
+      from_to 2 1 (Fetch [])
+      ∷ from_to 2 1 (CheckIn 1 1 0 0 0 (alive 3 1 2 ∷ []))
+      ∷ from_to 2 1 (Fetch [])
+      ∷ from_to 1 2 (CheckAck 1 1 (rank 1 0) [])
+      ∷ from_to 2 1 (Fetch [])
+      ∷ [];
+  messages = 13;
+  shown = [];
 }

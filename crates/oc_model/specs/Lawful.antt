@@ -74,13 +74,15 @@ IsInput nodes me (inputs.Delivered m) = IsMessage nodes m × (m.to ≡ me)
 
 -- Schedules
 
--- 1 to 1,024 nodes, a chain of 1 to 16 and at most the nodes, an area for each node
+-- 1 to 1,024 nodes, a chain of 1 to 16 and at most the nodes, chunks of 1 to 524,288 bytes, an area for each node
 pub record IsHeader (h : Header) : Type 0 where
   pub some : 1 ≤ h.nodes
   pub few : h.nodes ≤ MAX_NODES
   pub chain : 1 ≤ h.chain
   pub short : h.chain ≤ MAX_CHAIN
   pub within : h.chain ≤ h.nodes
+  pub chunk : 1 ≤ h.chunk
+  pub fits : h.chunk ≤ MAX_CHUNK_BYTES
   pub areas : length h.areas ≡ h.nodes
   pub bytes : AllByRecursion (λ a. a ≤ MAX_AREA) h.areas
 

@@ -1,4 +1,4 @@
-use Rattle.std.specs.Prelude.{ℕ, Bool, true, false, not, ◌&&◌, ◌==◌, nat_lt, if◌then◌else◌, Option, Some, None, List, map, filter}
+use Rattle.std.specs.Prelude.{ℕ, Bool, true, false, not, ◌&&◌, ◌||◌, ◌==◌, nat_lt, nat_le, if◌then◌else◌, Option, Some, None, List, map, filter}
 use Rattle.oc_base.specs.declared.cert.Child.{Child}
 use Rattle.oc_model.specs.declared.message.Body.TheVariants as bodies
 use Rattle.oc_model.specs.declared.mode.Mode.{Mode}
@@ -60,14 +60,15 @@ descends o p s =
     if s.in_tree then goes_down (chosen (rate_to o.node p) (candidates o.node s.children)) o p
     else next_try (searching o None)
 
--- the parent's parent with this node's own rate to it, unless that is the node itself
-abbrev pub grandparent : Control → Option ℕ → Option (ℕ × ℕ)
-grandparent n None = None
-grandparent n (Some g) = if g == n.me then None else Some (g, rate_to n g)
+-- the parent's parent with this node's own rate to it, unless that is the node itself, or both are chain members: one that has
+-- another beneath it refuses everyone else
+abbrev pub grandparent : Control → ℕ → Option ℕ → Option (ℕ × ℕ)
+grandparent n p None = None
+grandparent n p (Some g) = if g == n.me || (nat_le p n.chain && nat_le g n.chain) then None else Some (g, rate_to n g)
 
 -- the place beneath the parent p
 abbrev pub view : Control → ℕ → Stand → View
-view n p s = record { direct = rate_to n p; up = s.rate; grand = grandparent n s.parent; siblings = candidates n s.children }
+view n p s = record { direct = rate_to n p; up = s.rate; grand = grandparent n p s.parent; siblings = candidates n s.children }
 
 abbrev pub goes_where : Review → Plan → Plan
 goes_where reviews.Stay o = o

@@ -12,10 +12,11 @@ use Rattle.oc_model.specs.declared.soft.Soft.{Soft}
 
 -- The state of one node.
 
--- what opens a world: the number of nodes, the length of the chain, the area of each node
+-- what opens a world: the number of nodes, the length of the chain, how many bytes a chunk has at most, the area of each node
 pub record Header : Type 0 where
   pub nodes : ℕ
   pub chain : ℕ
+  pub chunk : ℕ
   pub areas : List ℕ
 
 -- the change log: its length, how many of its certificates the parent has acknowledged, and the rest, which wait
@@ -43,6 +44,7 @@ pub record Control : Type 0 where
   pub me : ℕ
   pub nodes : ℕ
   pub chain : ℕ
+  pub chunk : ℕ
   pub areas : List ℕ
   pub kept : Durable
   pub soft : Soft
@@ -86,7 +88,7 @@ new_durable nodes = record {
 
 -- what a start clears, cleared
 abbrev pub new_soft : Soft
-new_soft = record { clock = 0; due = None; tries = []; silent = false; search = None; served = 0 }
+new_soft = record { clock = 0; due = None; tries = []; silent = false; refused = false; checked = None; search = None; served = 0 }
 
 -- a node with these durable parts, just started
 abbrev pub started_with : Header → ℕ → Durable → Control
@@ -94,6 +96,7 @@ started_with h x d = record {
   me = x;
   nodes = h.nodes;
   chain = h.chain;
+  chunk = h.chunk;
   areas = h.areas;
   kept = d;
   soft = new_soft;
@@ -112,5 +115,5 @@ new_node h x = record { control = new_control h x; groups = [] }
 -- what a start makes of what was kept
 abbrev pub restarted : Node → Node
 restarted n = record n {
-  control = started_with (record { nodes = n.control.nodes; chain = n.control.chain; areas = n.control.areas }) n.control.me n.control.kept;
+  control = started_with (record { nodes = n.control.nodes; chain = n.control.chain; chunk = n.control.chunk; areas = n.control.areas }) n.control.me n.control.kept;
 }

@@ -1,5 +1,5 @@
 -- What one shelf lacks of another.
-use Rattle.std.specs.Prelude.{ℕ, Bool, true, false, not, ◌&&◌, ◌||◌, ◌==◌, nat_lt, nat_le, if◌then◌else◌, Option, Some, None, is_some, List, [], ◌∷◌, length}
+use Rattle.std.specs.Prelude.{ℕ, ◌+◌, ◌/◌, ◌%◌, Bool, true, false, not, ◌&&◌, ◌||◌, ◌==◌, nat_lt, nat_le, if◌then◌else◌, Option, Some, None, is_some, List, [], ◌∷◌, ◌++◌, length, take, drop}
 use Rattle.std.specs.Ordering.{nat_cmp, match_ordering}
 use Rattle.std.specs.Cmp.Lexicographic.{slice_cmp}
 use Rattle.oc_base.specs.declared.shelf.Shelf.{Shelf}
@@ -37,3 +37,20 @@ is_behind (Some k) l = nat_lt k.held l.held || (k.held == l.held && l.sealed && 
 abbrev pub first_behind : List Shelf → List Shelf → Option Shelf
 first_behind have [] = None
 first_behind have (l ∷ ls) = if is_behind (line_of l.group have) l then Some l else first_behind have ls
+
+-- all that is held, in bytes
+abbrev pub held_in_all : List Shelf → ℕ
+held_in_all [] = 0
+held_in_all (l ∷ ls) = l.held + held_in_all ls
+
+-- the place of the line whose turn it is, after chunks of this size: with each that came, the next one's
+abbrev pub turn : ℕ → List Shelf → List Shelf → ℕ
+turn chunk have ls = held_in_all have / chunk % length ls
+
+-- the lines in cyclic order from this place
+abbrev pub from_place : ℕ → List Shelf → List Shelf
+from_place i ls = drop i ls ++ take i ls
+
+-- the first line in which the other is behind, from that on whose turn it is
+abbrev pub next_behind : ℕ → List Shelf → List Shelf → Option Shelf
+next_behind chunk have ls = first_behind have (from_place (turn chunk have ls) ls)

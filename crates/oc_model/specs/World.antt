@@ -31,7 +31,7 @@ down n = record { node = n; up = false }
 
 -- what stands for an id that no node has: a new node of that very id
 abbrev pub absent : ℕ → Process
-absent x = down (new_node (record { nodes = 0; chain = 0; areas = [] }) x)
+absent x = down (new_node (record { nodes = 0; chain = 0; chunk = 0; areas = [] }) x)
 
 -- the process of this id
 abbrev pub process_in : List Process → ℕ → Process

@@ -1,6 +1,6 @@
-ghost use Rattle.oc_model.specs.ExamplesChoice.{Descent, ChooseAmong, CertificateRace, MergedCounts};
+ghost use Rattle.oc_model.specs.ExamplesChoice.{Descent, RefusedReview, ChainReview, ChooseAmong, CertificateRace, MergedCounts};
 ghost use Rattle.oc_model.specs.ExamplesContent.{FirstPath, FirstPathHeld, SealedGroup, SealedGroupHeld, ServedCounts, TornGate, TornGateHeld, DownAndUnknown, PublishElsewhere, PublishElsewhereHeld};
-ghost use Rattle.oc_model.specs.ExamplesLeases.{FalseDeath, Quash, FailedParent};
+ghost use Rattle.oc_model.specs.ExamplesLeases.{FalseDeath, Quash, FailedParent, EarlyCheckIn};
 ghost use Rattle.oc_model.specs.ExamplesMoves.{CrossingMoves, StaleAncestors, StaleAncestorsSettled, StaleLines, StaleSettles, ReverseMove};
 ghost use Rattle.oc_model.specs.ExamplesRoots.{TakeoverAndReturn, Healing, HealWithoutAChainMember};
 
@@ -21,6 +21,8 @@ pub fn content_computes()
 /// How a place is chosen, and which certificate stays.
 pub fn choices_compute()
     ensures descent { Descent }
+    ensures refused_review { RefusedReview }
+    ensures chain_review { ChainReview }
     ensures choose_among { ChooseAmong }
     ensures certificate_race { CertificateRace }
     ensures merged_counts { MergedCounts }
@@ -41,6 +43,7 @@ pub fn leases_compute()
     ensures false_death { FalseDeath }
     ensures quash { Quash }
     ensures failed_parent { FailedParent }
+    ensures early_check_in { EarlyCheckIn }
 {}
 
 /// How a root takes over and gives way, and how a world heals.

@@ -14,5 +14,5 @@ pub soft_applied : (s : Soft) (p : PlanView) (v : Volatile) (set : Option (List 
 soft_applied s p v set taken tries e f g h = rw (h, e, f, g)
 
 -- the control state of the parts is that after the plan
-pub control_applied : (me nodes chain : ℕ) (areas : List ℕ) (kept after : Durable) (s t : Soft) (leases ends : List (Option ℕ)) (rates told counts sent : List ℕ) (n : Control) (p : PlanView) → control_of me nodes chain areas kept s leases rates counts ≡ n → after ≡ folded kept p.records → t ≡ soft_after s p → ends ≡ leases_after kept.table me leases p.updates → told ≡ rates_after rates p.updates → sent ≡ counts_after counts p.updates → control_of me nodes chain areas after t ends told sent ≡ control_after n p
-control_applied me nodes chain areas kept after s t leases ends rates told counts sent n p same k soft l r c = rw (k, soft, l, r, c) (ap (λ (m : Control). control_after m p) same)
+pub control_applied : (me nodes chain chunk : ℕ) (areas : List ℕ) (kept after : Durable) (s t : Soft) (leases ends : List (Option ℕ)) (rates told counts sent : List ℕ) (n : Control) (p : PlanView) → control_of me nodes chain chunk areas kept s leases rates counts ≡ n → after ≡ folded kept p.records → t ≡ soft_after s p → ends ≡ leases_after kept.table me leases p.updates → told ≡ rates_after rates p.updates → sent ≡ counts_after counts p.updates → control_of me nodes chain chunk areas after t ends told sent ≡ control_after n p
+control_applied me nodes chain chunk areas kept after s t leases ends rates told counts sent n p same k soft l r c = rw (k, soft, l, r, c) (ap (λ (m : Control). control_after m p) same)

@@ -15,7 +15,7 @@ use Rattle.oc_model.specs.declared.want.Want.{Want}
 use Rattle.oc_model.specs.Content.{unless, grows, keeps, publish_to, published, seal_line, sealed_at, answers_fetch, adds, adds_seal, grown_line, asks_on, keeps_chunk, chunk_to, took_chunk}
 use Rattle.oc_model.specs.Node.{Control}
 use Rattle.oc_model.specs.Plan.{Plan, begun, answers, ignored, send}
-use Rattle.oc_model.specs.Shelves.{line_at, limit, first_behind, with_line}
+use Rattle.oc_model.specs.Shelves.{line_at, limit, next_behind, with_line}
 use Rattle.oc_model.specs.Step.{plan, received}
 use Rattle.oc_laws_step.proofs.Goes.{Goes, either}
 use Rattle.oc_laws_step.proofs.Asks.{goes_took_yes, goes_took_no, goes_unreachable, goes_relocate}
@@ -85,7 +85,7 @@ alone_received n shelf p (bodies.No seq why) = alone_goes n 0 3 _ (goes_took_no 
 alone_received n shelf p (bodies.CheckIn seq upto rate number clients certs) = alone_goes n (length certs + 1) 0 _ (goes_checked_in (begun n) p seq upto rate number clients certs)
 alone_received n shelf p (bodies.CheckAck seq upto rank ancestors) = alone_goes n 0 3 _ (goes_took_ack (begun n) p seq upto rank ancestors)
 alone_received n shelf p (bodies.Rejoin seq) = alone_goes n 0 1 _ (goes_took_rejoin (begun n) p seq)
-alone_received n shelf p (bodies.Fetch have) = alone_fetch n p have (first_behind have shelf)
+alone_received n shelf p (bodies.Fetch have) = alone_fetch n p have (next_behind n.chunk have shelf)
 alone_received n shelf p (bodies.Chunk g start bytes last) =
     alone_none (took_chunk (begun n) shelf p g start bytes last) (either (n.me == 1) WantsNone (ignored (begun n)) (chunk_to (begun n) shelf p (line_at g shelf) start (start + length bytes) last) refl (none_chunk_to (begun n) shelf p (line_at g shelf) start (start + length bytes) last refl))
 

@@ -34,9 +34,9 @@ pub reached_new : (h : Header) (x : ℕ) → IsHeader h → IsNode h.nodes x →
 reached_new h x header me = record { header = header; me = me; sound = sound_new h x; lawful = (lawful_new h x header me).control }
 
 -- the same of the parts that a new node is made of
-pub reached_made : (me nodes chain : ℕ) (areas : List ℕ) (kept : Durable) (v : Volatile) (tries : List ℕ) (leases : List (Option ℕ)) (rates counts : List ℕ) → IsHeader (record { nodes = nodes; chain = chain; areas = areas }) → IsNode nodes me → kept ≡ new_durable nodes → v ≡ new_volatile → tries ≡ [] → leases ≡ replicate nodes None → rates ≡ replicate nodes 0 → counts ≡ replicate nodes 0 → IsReached (control_of me nodes chain areas kept (soft_of v tries) leases rates counts)
-reached_made me nodes chain areas kept v tries leases rates counts header here k s t l r c =
-    let made : IsReached (control_of me nodes chain areas (new_durable nodes) (soft_of new_volatile []) (replicate nodes None) (replicate nodes 0) (replicate nodes 0)) = reached_new (record { nodes = nodes; chain = chain; areas = areas }) me header here in
+pub reached_made : (me nodes chain chunk : ℕ) (areas : List ℕ) (kept : Durable) (v : Volatile) (tries : List ℕ) (leases : List (Option ℕ)) (rates counts : List ℕ) → IsHeader (record { nodes = nodes; chain = chain; chunk = chunk; areas = areas }) → IsNode nodes me → kept ≡ new_durable nodes → v ≡ new_volatile → tries ≡ [] → leases ≡ replicate nodes None → rates ≡ replicate nodes 0 → counts ≡ replicate nodes 0 → IsReached (control_of me nodes chain chunk areas kept (soft_of v tries) leases rates counts)
+reached_made me nodes chain chunk areas kept v tries leases rates counts header here k s t l r c =
+    let made : IsReached (control_of me nodes chain chunk areas (new_durable nodes) (soft_of new_volatile []) (replicate nodes None) (replicate nodes 0) (replicate nodes 0)) = reached_new (record { nodes = nodes; chain = chain; chunk = chunk; areas = areas }) me header here in
     rw (k, s, t, l, r, c) made
 
 -- what is durable of it is as it may be
@@ -49,7 +49,7 @@ reached_with n d reached kept = record {
   header = reached.header;
   me = reached.me;
   sound = record { kept = kept.sound; leases = reached.sound.leases; rates = reached.sound.rates; counts = reached.sound.counts };
-  lawful = record { few = reached.lawful.few; among = reached.lawful.among; me = reached.lawful.me; chain = reached.lawful.chain; kept = kept.lawful; soft = reached.lawful.soft; rates = reached.lawful.rates };
+  lawful = record { few = reached.lawful.few; among = reached.lawful.among; me = reached.lawful.me; chain = reached.lawful.chain; chunk = reached.lawful.chunk; kept = kept.lawful; soft = reached.lawful.soft; rates = reached.lawful.rates };
 }
 
 -- after a step
@@ -101,8 +101,8 @@ one_file n lines i p made = subst (λ (o : Plan). (o.keeps ≡ None) ⊎ (o.reco
 pub plan_folds : (n : Control) (lines : List Shelf) (i : Input) (p : PlanView) → planned n p ≡ plan n lines i → (plan n lines i).node.kept ≡ folded n.kept p.records
 plan_folds n lines i p made = sym (ap (λ (o : Plan). o.node.kept) made)
 
--- a plan of a step can be applied, where there is room for all nodes and all its records
-pub plan_applies : (v w : NodeView) (lines : List Shelf) (i : Input) (p : PlanView) → IsReached v.control → IsShelf lines → IsInput v.control.nodes v.control.me i → planned v.control p ≡ plan v.control lines i → AllByRecursion (IsListUpdate v.control.nodes) p.updates → FitsFrame p.records → v.control.kept.log.length ≤ MAX_LOG_LENGTH → w.control ≡ v.control → length w.control.kept.log.waiting + (v.control.nodes + length p.records) ≤ w.room → CanApply w p
+-- a plan of a step can be applied, where there is room for its table and all its records
+pub plan_applies : (v w : NodeView) (lines : List Shelf) (i : Input) (p : PlanView) → IsReached v.control → IsShelf lines → IsInput v.control.nodes v.control.me i → planned v.control p ≡ plan v.control lines i → AllByRecursion (IsListUpdate v.control.nodes) p.updates → FitsFrame p.records → v.control.kept.log.length ≤ MAX_LOG_LENGTH → w.control ≡ v.control → length w.control.kept.log.waiting + (length w.control.kept.table + length p.records) ≤ w.room → CanApply w p
 plan_applies v w lines i p reached fair input made updates fits short same room = rw same (record {
   reached = reached_step v.control lines i p reached fair input short made;
   records = records_lawful v.control lines i p reached fair input short fits.records made;

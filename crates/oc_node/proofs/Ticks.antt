@@ -1,9 +1,10 @@
 -- What a tick has done before its check.
-use Rattle.std.proofs.Common.{◌≡◌, ℕ, true, Option, Some, None, List, [], ◌∷◌, refl}
+use Rattle.std.proofs.Common.{◌≡◌, ℕ, ◌+◌, ◌-◌, Bool, true, false, nat_le, Option, Some, None, List, [], ◌∷◌, refl, arith}
+use Rattle.std.proofs.lemmas.Bool.{leb-true, le-leb, leb-false, lt-leb}
 use Rattle.oc_base.specs.declared.cert.Cert.{Cert}
 use Rattle.oc_model.specs.declared.soft.Soft.{Soft}
 use Rattle.oc_model.specs.declared.record.Record.TheVariants as records
-use Rattle.oc_model.specs.Checking.{merges, dies, ends_each, ends_leases}
+use Rattle.oc_model.specs.Checking.{merges, dies, ends_each, ends_leases, forgets_refusal}
 use Rattle.oc_model.specs.Leases.{ended}
 use Rattle.oc_model.specs.Plan.{Plan, write}
 use Rattle.oc_model.specs.Table.{newest, is_news}
@@ -35,3 +36,15 @@ ends_told o told = (tells_ends o told).told
 
 pub ends_soft : (o : Plan) → AreTold o.records → (ends_leases o).node.soft ≡ o.node.soft
 ends_soft o told = (tells_ends o told).soft
+
+-- forgetting a refusal tells nothing
+pub forgets_told : (due : Option ℕ) (o : Plan) → AreTold o.records → AreTold (forgets_refusal due o).records
+forgets_told None o told = told
+forgets_told (Some t) o told = told
+
+-- two seconds or more have passed
+pub past_is : (t now : ℕ) → nat_le 2 (now - t) ≡ nat_le (t + 2) now
+past_is t now = by_test (nat_le (t + 2) now) refl where
+  by_test : (b : Bool) → nat_le (t + 2) now ≡ b → nat_le 2 (now - t) ≡ b
+  by_test true e = le-leb 2 (now - t) (omega (arith, leb-true (t + 2) now e))
+  by_test false e = lt-leb 2 (now - t) (omega (arith, leb-false (t + 2) now e))

@@ -199,6 +199,7 @@ pub fn took_no(step: &mut Step, from: NodeId, seq: u64, why: Refusal) -> Result<
         lose(step)?;
         step.set_volatile(Volatile {
             silent: false,
+            refused: true,
             ..volatile
         });
         refused(step, why)

@@ -1,7 +1,6 @@
 ghost use Rattle.std.specs.Prelude.{◌≡◌, ◌≤◌, [], ◌∷◌, true, OnOk, filter, nat_lt};
-ghost use Rattle.oc_base.specs.Lawful.{IsNode};
 ghost use Rattle.oc_base.specs.declared.limits.TheConstants.{LAST_SECOND};
-ghost use Rattle.oc_model.specs.Checking.{counts_clients, checks_in, checks_as, next_check, checks, merges, merges_all, at_time, starts_leases, dies, ends_leases, looks_at_each, looks_round, is_due, checks_if_due, fetches_as, tick, acknowledges, checked_in, takes_place, takes_rank, takes_ancestors, took_ack, took_rejoin};
+ghost use Rattle.oc_model.specs.Checking.{counts_clients, checks_in, notes_time, reports, checks_as, next_check, checks, merges, at_time, starts_leases, dies, ends_leases, looks_at_each, looks_round, is_due, forgets_refusal, checks_in_time, is_past, has_news, reports_news_as, checks_if_due, fetches_as, tick};
 ghost use Rattle.oc_model.specs.Choice.{below};
 ghost use Rattle.oc_model.specs.Leases.{start_all};
 ghost use Rattle.oc_model.specs.Plan.{begun};
@@ -11,19 +10,17 @@ ghost use Rattle.oc_step.specs.StepView.{goes};
 ghost use Rattle.oc_step.specs.NodeView.{IsReached};
 ghost use Rattle.oc_step.specs.Since.{AreTold};
 
-use crate::adopting::{has_lease, send_rejoin, set_epoch};
-use crate::asking::{ask_before, round, send_ask};
-use crate::check_in::CheckIn;
-use oc_base::{Cert, CertList, IdList, Memory, NodeId, Rank, Shelf, ShelfList};
+use crate::adopting::set_epoch;
+use crate::asking::{round, send_ask};
+use oc_base::{Cert, CertList, Memory, NodeId, Shelf, ShelfList};
 use oc_model::{Body, Mode, Record, Search};
 use oc_place::raise;
-use oc_state::modes::{is_joined_to, is_peer};
-use oc_state::ranks::{ancestors_by, better_rank, rank_or_last};
+use oc_state::ranks::rank_or_last;
 use oc_state::{ListUpdate, Volatile};
 use oc_step::Step;
 use oc_updown::LEASE_TIME;
 
-// How leases are kept up and changes are told: the rules Check now, Tick and Check-ins.
+// How leases are kept up and changes are told: the rules Check now and Tick.
 
 // The rule Check now
 
@@ -70,16 +67,36 @@ fn check_in(step: &mut Step, parent: NodeId) -> Result<(), Memory>
     )
 }
 
+/// The parent is told at this second.
+fn note_time(step: &mut Step)
+    ensures { step.new ≡ goes step.old (notes_time step.old.plan) }
+{
+    let volatile = step.volatile();
+    let checked = Some(volatile.clock);
+    step.set_volatile(Volatile {
+        checked,
+        ..volatile
+    });
+}
+
+/// A check-in goes to the parent.
+fn report(step: &mut Step, parent: NodeId) -> Result<(), Memory>
+    requires told { AreTold step.old.plan.records }
+    requires joined { is_joined step.old.plan.node.kept.mode ≡ true }
+    ensures { OnOk result (step.new ≡ goes step.old (reports step.old.plan parent)) }
+{
+    note_time(step);
+    count_clients(step)?;
+    check_in(step, parent)
+}
+
 fn check_as(step: &mut Step, mode: Mode) -> Result<(), Memory>
     requires told { AreTold step.old.plan.records }
     requires mode { mode ≡ step.old.plan.node.kept.mode }
     ensures { OnOk result (step.new ≡ goes step.old (checks_as mode step.old.plan)) }
 {
     match mode {
-        Mode::Joined(parent) => {
-            count_clients(step)?;
-            check_in(step, parent)
-        }
+        Mode::Joined(parent) => report(step, parent),
         Mode::Acting => {
             let rank = rank_or_last(step.position().rank);
             set_epoch(step, raise(rank.epoch))
@@ -110,7 +127,7 @@ pub fn check(step: &mut Step) -> Result<(), Memory>
 // The rule Tick
 
 /// A certificate is merged, and written where it changes the table.
-fn merge(step: &mut Step, cert: &Cert) -> Result<(), Memory>
+pub fn merge(step: &mut Step, cert: &Cert) -> Result<(), Memory>
     ensures { OnOk result (step.new ≡ goes step.old (merges step.old.plan cert.now)) }
 {
     if step.is_news(cert) {
@@ -118,15 +135,6 @@ fn merge(step: &mut Step, cert: &Cert) -> Result<(), Memory>
     } else {
         Ok(())
     }
-}
-
-fn merge_all(step: &mut Step, certs: &[Cert]) -> Result<(), Memory>
-    ensures { OnOk result (step.new ≡ goes step.old (merges_all certs.now step.old.plan)) }
-{
-    for cert in certs {
-        merge(step, cert)?;
-    }
-    Ok(())
 }
 
 /// The clock never goes back.
@@ -198,8 +206,8 @@ fn look_at_earlier(step: &mut Step, other: u32) -> Result<(), Memory>
     Ok(())
 }
 
-/// After its check a node in the tree looks for a better place; a chain member looks among the earlier
-/// members that are nearer than its parent.
+/// After its check a node in the tree looks for a better place, unless it was refused; a chain member
+/// looks among the earlier members that are nearer than its parent.
 fn look_round(step: &mut Step, mode: Mode) -> Result<(), Memory>
     ensures { OnOk result (step.new ≡ goes step.old (looks_round mode step.old.plan)) }
 {
@@ -207,6 +215,8 @@ fn look_round(step: &mut Step, mode: Mode) -> Result<(), Memory>
         Mode::Joined(parent) => {
             if step.is_member() {
                 look_at_earlier(step, parent.0)
+            } else if step.volatile().refused {
+                Ok(())
             } else {
                 step.search(Some(Search::Review));
                 step.send(parent, Body::Look)
@@ -223,16 +233,79 @@ fn look_round(step: &mut Step, mode: Mode) -> Result<(), Memory>
     }
 }
 
+/// A check in time forgets that the node was refused; the first one in a place does not.
+fn forget_refusal(step: &mut Step)
+    ensures { step.new ≡ goes step.old (forgets_refusal step.old.plan.node.soft.due step.old.plan) }
+{
+    let volatile = step.volatile();
+    match volatile.due {
+        Some(_) => step.set_volatile(Volatile {
+            refused: false,
+            ..volatile
+        }),
+        None => {}
+    }
+}
+
+/// The check that is due, and what the node looks at after it.
+#[tactic(auto, using(crate::proofs::Ticks::forgets_told))]
+fn check_in_time(step: &mut Step) -> Result<(), Memory>
+    requires { AreTold step.old.plan.records }
+    ensures { OnOk result (step.new ≡ goes step.old (checks_in_time step.old.plan)) }
+{
+    let mode = step.position().mode;
+    forget_refusal(step);
+    check(step)?;
+    look_round(step, mode)
+}
+
+/// Whether the last check-in was two seconds ago, or more.
+#[tactic(auto, using(crate::proofs::Ticks::past_is))]
+fn is_past(step: &Step) -> bool
+    ensures { result ≡ is_past step.now.plan.node.soft.checked step.now.plan.node.soft.clock }
+{
+    match step.volatile().checked {
+        Some(checked) => step.volatile().clock.saturating_sub(checked) >= 2,
+        None => false,
+    }
+}
+
+/// Whether there is something to tell before the next check.
+fn has_news(step: &Step) -> bool
+    requires told { AreTold step.now.plan.records }
+    requires joined { is_joined step.now.plan.node.kept.mode ≡ true }
+    ensures { result ≡ has_news step.now.plan.node }
+{
+    step.is_waiting() && is_past(step)
+}
+
+/// What is new goes up between two checks.
+fn report_news_as(step: &mut Step, mode: Mode) -> Result<(), Memory>
+    requires told { AreTold step.old.plan.records }
+    requires mode { mode ≡ step.old.plan.node.kept.mode }
+    ensures { OnOk result (step.new ≡ goes step.old (reports_news_as mode step.old.plan)) }
+{
+    match mode {
+        Mode::Joined(parent) => {
+            if has_news(step) {
+                report(step, parent)
+            } else {
+                Ok(())
+            }
+        }
+        _ => Ok(()),
+    }
+}
+
 fn check_if_due(step: &mut Step) -> Result<(), Memory>
     requires { AreTold step.old.plan.records }
     ensures { OnOk result (step.new ≡ goes step.old (checks_if_due step.old.plan)) }
 {
     if is_due(step) {
-        let mode = step.position().mode;
-        check(step)?;
-        look_round(step, mode)
+        check_in_time(step)
     } else {
-        Ok(())
+        let mode = step.position().mode;
+        report_news_as(step, mode)
     }
 }
 
@@ -271,117 +344,4 @@ pub fn tick(step: &mut Step, shelf: &[Shelf], time: u64) -> Result<(), Memory>
     check_if_due(step)?;
     let mode = step.position().mode;
     fetch_as(step, mode, shelf)
-}
-
-// The rule Check-ins
-
-/// A check-in of a child is acknowledged.
-fn acknowledge(step: &mut Step, child: NodeId, seq: u64, upto: u64, rate: u64) -> Result<(), Memory>
-    requires { IsNode step.old.base.nodes child }
-    ensures { OnOk result (step.new ≡ goes step.old (acknowledges step.old.plan child seq upto rate)) }
-{
-    let now = step.volatile().clock;
-    step.update(ListUpdate::Renew { child, now })?;
-    step.update(ListUpdate::Tell { child, rate })?;
-    let rank = rank_or_last(step.position().rank);
-    let ancestors = step.ancestor_list()?;
-    step.send(
-        child,
-        Body::CheckAck {
-            seq,
-            upto,
-            rank,
-            ancestors,
-        },
-    )
-}
-
-/// A check-in came: what it tells is merged, where the child has a lease at that number.
-pub fn checked_in(step: &mut Step, child: NodeId, told: &CheckIn) -> Result<(), Memory>
-    requires { IsNode step.old.base.nodes child }
-    ensures { OnOk result (step.new ≡ goes step.old (checked_in step.old.plan child told.now.seq told.now.upto
-        told.now.rate told.now.number told.now.clients told.now.certs.now)) }
-{
-    if has_lease(step, child, told.seq) {
-        let life = Cert {
-            subject: child,
-            seq: told.seq,
-            parent: step.id(),
-            dead: false,
-            number: told.number,
-            clients: told.clients,
-        };
-        merge(step, &life)?;
-        merge_all(step, told.certs)?;
-        acknowledge(step, child, told.seq, told.upto, told.rate)
-    } else {
-        send_rejoin(step, child, told.seq)
-    }
-}
-
-fn take_place(step: &mut Step, upto: u64) -> Result<(), Memory>
-    requires { step.old.plan.node.kept.log ≡ step.old.base.kept.log }
-    ensures { OnOk result (step.new ≡ goes step.old (takes_place step.old.plan upto)) }
-{
-    if step.is_ahead(upto) {
-        step.write(Record::Acked { upto })
-    } else {
-        Ok(())
-    }
-}
-
-#[tactic(auto, using(crate::proofs::ByMode::rank_taken, crate::proofs::ByMode::rank_left))]
-fn take_rank(step: &mut Step, told: Rank) -> Result<(), Memory>
-    ensures { OnOk result (step.new ≡ goes step.old (takes_rank step.old.plan told)) }
-{
-    match better_rank(step.position().rank, told) {
-        Some(rank) => step.write(Record::Ranked { rank }),
-        None => Ok(()),
-    }
-}
-
-#[tactic(auto, using(crate::proofs::SameIds::same_ids_is))]
-fn take_ancestors(step: &mut Step, ids: IdList) -> Result<(), Memory>
-    ensures { OnOk result (step.new ≡ goes step.old (takes_ancestors step.old.plan ids)) }
-{
-    if ids.items() == step.ancestors() {
-        Ok(())
-    } else {
-        step.write(Record::Ancestors { ids })
-    }
-}
-
-/// An acknowledgement came.
-pub fn took_ack(
-    step: &mut Step,
-    from: NodeId,
-    seq: u64,
-    upto: u64,
-    told: Rank,
-    above: &[NodeId],
-) -> Result<(), Memory>
-    requires { step.old.plan.node.kept.log ≡ step.old.base.kept.log }
-    ensures { OnOk result (step.new ≡ goes step.old (took_ack step.old.plan from seq upto told above.now)) }
-{
-    let position = step.position();
-    if is_joined_to(position.mode, from) && seq == position.seq {
-        take_place(step, upto)?;
-        take_rank(step, told)?;
-        let ids = ancestors_by(step.alloc(), from, above)?;
-        take_ancestors(step, ids)
-    } else {
-        step.ignore()
-    }
-}
-
-/// A node has no lease at that number.
-pub fn took_rejoin(step: &mut Step, from: NodeId, seq: u64) -> Result<(), Memory>
-    ensures { OnOk result (step.new ≡ goes step.old (took_rejoin step.old.plan from seq)) }
-{
-    let position = step.position();
-    if is_peer(position.mode, from) && seq == position.seq {
-        ask_before(step, from)
-    } else {
-        step.ignore()
-    }
 }

@@ -6,9 +6,9 @@ ghost use Rattle.oc_model.specs.Shelves.{with_line};
 ghost use Rattle.oc_step.specs.StepView.{goes};
 
 use crate::chunk::Chunk;
-use oc_base::{Bytes, GroupName, MAX_CHUNK_BYTES, Memory, NodeId, Shelf, ShelfList};
+use oc_base::{Bytes, GroupName, Memory, NodeId, Shelf, ShelfList};
 use oc_model::{Answer, Body, Mode, Want};
-use oc_state::shelves::{first_behind, limit, line_at, line_of, with_line};
+use oc_state::shelves::{limit, line_at, line_of, next_behind, with_line};
 use oc_step::Step;
 
 // The rule Content: how bytes come to be held, and how they spread.
@@ -83,11 +83,11 @@ pub fn sealed_at(step: &mut Step, shelf: &[Shelf], group: &GroupName) -> Result<
 
 // Pull and fetch
 
-/// How many bytes of a group a chunk has from a place on.
-fn count_from(line: &Shelf, start: u64) -> u64
-    ensures { result ≡ count_from line.now start }
+/// How many bytes of a group a chunk has from a place on, where it may have that many at most.
+fn count_from(most: u32, line: &Shelf, start: u64) -> u64
+    ensures { result ≡ count_from most line.now start }
 {
-    line.held.saturating_sub(start).min(MAX_CHUNK_BYTES as u64)
+    line.held.saturating_sub(start).min(u64::from(most))
 }
 
 /// These bytes of a group, if they are any.
@@ -140,16 +140,18 @@ fn send_chunk(
     step.want(wanted(line, start, count))
 }
 
-/// A fetch came, which names what the sender has.
+/// A fetch came, which names what the sender has. Groups take turns, so that a large one holds up no
+/// other.
 #[tactic(auto, using(oc_state::proofs::ShelfLines::held_bound))]
 pub fn fetched(step: &mut Step, shelf: &[Shelf], from: NodeId, have: &[Shelf]) -> Result<(), Memory>
     requires have { IsShelf have.now }
     ensures { OnOk result (step.new ≡ goes step.old (fetched step.old.plan shelf.now from have.now)) }
 {
-    match first_behind(have, shelf) {
+    match next_behind(have, shelf, u64::from(step.chunk())) {
         Some(line) => {
             let start = line_at(have, &line.group).held;
-            send_chunk(step, from, &line, start, count_from(&line, start))
+            let count = count_from(step.chunk(), &line, start);
+            send_chunk(step, from, &line, start, count)
         }
         None => Ok(()),
     }

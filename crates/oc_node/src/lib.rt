@@ -7,14 +7,15 @@
 //! all before them.
 //!
 //! The rules are those of the model, in files of its names and in the order of its definitions: `asking`,
-//! `adopting`, `checking`, `looking`, `content` and `serving`. Each leads a step under way (`oc_step`) on as
-//! the model's definition does.
+//! `adopting`, `checking` with `acknowledging`, `looking`, `content` and `serving`. Each leads a step under
+//! way (`oc_step`) on as the model's definition does.
 //!
 //! The layer above rests on this: the plan is the control step of the model (`plan`), and with the bytes that
 //! it wants filled in (`Plan::fill`) applying it is the model's `step`: the node after it, the messages and
 //! the answer. The records fit one frame, and folding them gives what is durable after the step.
 #![tactic(auto)]
 
+mod acknowledging;
 mod adopting;
 mod asking;
 mod check_in;

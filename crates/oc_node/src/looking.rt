@@ -112,14 +112,16 @@ fn descends(step: &mut Step, from: NodeId, stand: &Stand) -> Result<(), Memory>
     }
 }
 
-/// The parent's parent with this node's own rate to it, unless that is the node itself.
-fn grandparent(step: &Step, told: Option<NodeId>) -> Option<(NodeId, u64)>
+/// The parent's parent with this node's own rate to it, unless that is the node itself, or both are chain
+/// members: one that has another beneath it refuses everyone else.
+fn grandparent(step: &Step, parent: NodeId, told: Option<NodeId>) -> Option<(NodeId, u64)>
     requires { AreTold step.now.plan.records }
-    ensures { result ≡ grandparent step.now.plan.node told }
+    ensures { result ≡ grandparent step.now.plan.node parent told }
 {
+    let chain = step.chain();
     match told {
         Some(node) => {
-            if node == step.id() {
+            if node == step.id() || (parent.0 <= chain && node.0 <= chain) {
                 None
             } else {
                 Some((node, step.rate_to(node)))
@@ -138,7 +140,7 @@ fn review(step: &Step, parent: NodeId, stand: &Stand) -> Result<Review, Memory>
     Ok(oc_place::review(&View {
         direct: step.rate_to(parent),
         up: stand.rate,
-        grand: grandparent(step, stand.parent),
+        grand: grandparent(step, parent, stand.parent),
         siblings: &siblings,
     }))
 }

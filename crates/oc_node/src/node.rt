@@ -37,6 +37,8 @@ pub struct Node {
     id: NodeId,
     nodes: u32,
     chain: u32,
+    /// The greatest number of bytes of a chunk that the node sends.
+    chunk: u32,
     /// The area of each node, by its number.
     areas: Vec<u8>,
     durable: Durable,
@@ -59,28 +61,29 @@ impl Model for Node {
     ghost Value = { NodeView };
 
     ghost view = { λ n. record {
-      control = control_of n.id n.nodes n.chain n.areas.items n.durable.kept (soft_of n.volatile n.tries) n.leases.ends n.rates.items n.counts.items;
+      control = control_of n.id n.nodes n.chain n.chunk n.areas.items n.durable.kept (soft_of n.volatile n.tries) n.leases.ends n.rates.items n.counts.items;
       room = n.durable.room;
     } };
 
     ghost invariant = { λ n. (n.durable.nodes ≡ n.nodes)
-        × IsReached (control_of n.id n.nodes n.chain n.areas.items n.durable.kept (soft_of n.volatile n.tries) n.leases.ends n.rates.items n.counts.items) };
+        × IsReached (control_of n.id n.nodes n.chain n.chunk n.areas.items n.durable.kept (soft_of n.volatile n.tries) n.leases.ends n.rates.items n.counts.items) };
 }
 
 impl Node {
-    /// A new node, which knows of no other: its id, the number of nodes, the length of the chain and the
-    /// area of each node, by its number.
+    /// A new node, which knows of no other: its id, the number of nodes, the length of the chain, the
+    /// greatest number of bytes of a chunk, and the area of each node, by its number.
     #[tactic(auto, using(crate::proofs::Reaching::reached_new))]
     pub fn new(
         alloc: Global,
         me: NodeId,
         nodes: u32,
         chain: u32,
+        chunk: u32,
         areas: Vec<u8>,
     ) -> Result<Node, Memory>
-        requires header { IsHeader (record { nodes = nodes; chain = chain; areas = areas.items }) }
+        requires header { IsHeader (record { nodes = nodes; chain = chain; chunk = chunk; areas = areas.items }) }
         requires me { IsNode nodes me }
-        ensures { IfOk result (λ made. made.control ≡ new_control (record { nodes = nodes; chain = chain; areas = areas.items }) me) }
+        ensures { IfOk result (λ made. made.control ≡ new_control (record { nodes = nodes; chain = chain; chunk = chunk; areas = areas.items }) me) }
     {
         let leases = Leases::new(alloc, nodes)?;
         let rates = Slots::new(alloc, nodes as usize, 0)?;
@@ -90,6 +93,7 @@ impl Node {
             id: me,
             nodes,
             chain,
+            chunk,
             areas,
             durable,
             volatile: Volatile::new(),
@@ -129,8 +133,7 @@ impl Node {
         ensures node { self.new.control ≡ self.old.control }
     {
         let plan = self.make_plan(input, shelf)?;
-        let more = self.nodes as usize + plan.records().len();
-        self.durable.reserve(more)?;
+        self.durable.reserve(plan.records().len())?;
         Ok(plan)
     }
 
@@ -155,6 +158,7 @@ impl Node {
             id: self.id,
             nodes: self.nodes,
             chain: self.chain,
+            chunk: self.chunk,
             areas: &self.areas,
             durable: &self.durable,
             volatile: self.volatile,

@@ -7,10 +7,11 @@ ghost use Rattle.oc_model.specs.Step.{received, taken};
 ghost use Rattle.oc_step.specs.StepView.{goes};
 ghost use Rattle.oc_step.specs.NodeView.{IsReached};
 
+use crate::acknowledging::{checked_in, took_ack, took_rejoin};
 use crate::adopting::asked;
 use crate::asking::{relocate, took_no, took_yes, unreachable};
 use crate::check_in::CheckIn;
-use crate::checking::{check, checked_in, tick, took_ack, took_rejoin};
+use crate::checking::{check, tick};
 use crate::chunk::Chunk;
 use crate::content::{fetched, published, pulled, sealed_at, took_chunk};
 use crate::looking::{looked, sees};

@@ -1,5 +1,5 @@
 -- What is durable, one record after another.
-use Rattle.std.proofs.Common.{◌≡◌, ℕ, suc, ◌+◌, ◌-◌, ◌<◌, ◌≤◌, ◌^◌, ◌⊎◌, inl, inr, true, ◌==◌, Some, List, [], ◌∷◌, ◌++◌, length, drop, get_or, refl, ap, sym, subst, ◌∙◌, arith, length-append, length-drop}
+use Rattle.std.proofs.Common.{◌≡◌, ℕ, suc, ◌+◌, ◌-◌, ◌<◌, ◌≤◌, ◌^◌, ◌⊎◌, inl, inr, true, ◌==◌, nat_lt, if◌then◌else◌, Some, List, [], ◌∷◌, ◌++◌, length, drop, get_or, refl, ap, sym, subst, ◌∙◌, arith, length-append, length-drop}
 use Rattle.std.specs.List.{AllByRecursion}
 use Rattle.std.proofs.lemmas.Bool.{cond_both}
 use Rattle.std.proofs.lemmas.List.{length-replicate}
@@ -15,6 +15,7 @@ use Rattle.oc_model.specs.ChangeLog.{ack, is_ahead, acked_whole, begun_with}
 use Rattle.oc_model.specs.Lawful.{IsRecord}
 use Rattle.oc_model.specs.Node.{Durable, Log, new_durable, empty_log, no_reading}
 use Rattle.oc_model.specs.Records.{fold_one, folded, noted, is_joined}
+use Rattle.oc_model.specs.Table.{is_news, merge, put}
 use Rattle.oc_laws_step.specs.Sound.{AreAbove, IsSoundAs, IsSoundDurable}
 use Rattle.oc_laws_step.proofs.Folds.{sound_fold_one}
 use Rattle.oc_laws_step.proofs.LawfulFolds.{lawful_fold_one, lawful_new_durable}
@@ -81,55 +82,83 @@ rows_few nodes d kept = let few : 0 + length d.table ≤ nodes = few_rows nodes 
 
 -- Room
 
--- the log after one more record: it has one more that waits, or the whole table, or a new base
-record Follows (nodes : ℕ) (was now : Log) : Type 0 where
-  waiting : (length now.waiting ≤ length was.waiting + 1) ⊎ (length now.waiting ≤ nodes)
+-- the log after one more record: it has one more that waits, or the whole table of this many rows, or a new base
+record Follows (rows : ℕ) (was now : Log) : Type 0 where
+  waiting : (length now.waiting ≤ length was.waiting + 1) ⊎ (length now.waiting ≤ rows)
   length : (now.length ≤ was.length + 1) ⊎ (now.length ≤ MAX_BASE_ACKED)
 
-follows_same : (nodes : ℕ) (l : Log) → Follows nodes l l
-follows_same nodes l = record { waiting = inl (omega arith); length = inl (omega arith) }
+follows_same : (rows : ℕ) (l : Log) → Follows rows l l
+follows_same rows l = record { waiting = inl (omega arith); length = inl (omega arith) }
 
-follows_empty : (nodes : ℕ) (l : Log) → Follows nodes l empty_log
-follows_empty nodes l = record { waiting = inr (omega arith); length = inr (omega arith) }
+follows_empty : (rows : ℕ) (l : Log) → Follows rows l empty_log
+follows_empty rows l = record { waiting = inr (omega arith); length = inr (omega arith) }
 
-follows_noted : (nodes : ℕ) (m : Mode) (l : Log) (c : Cert) → Follows nodes l (noted m l c)
-follows_noted nodes modes.Idle l c = follows_same nodes l
-follows_noted nodes (modes.Asking p) l c = follows_same nodes l
-follows_noted nodes (modes.Joined p) l c = record { waiting = inl (let more : length (l.waiting ++ c ∷ []) ≡ length l.waiting + length (c ∷ []) = length-append l.waiting (c ∷ []) in omega arith); length = inl (omega arith) }
-follows_noted nodes modes.Acting l c = follows_same nodes l
+follows_noted : (rows : ℕ) (m : Mode) (l : Log) (c : Cert) → Follows rows l (noted m l c)
+follows_noted rows modes.Idle l c = follows_same rows l
+follows_noted rows (modes.Asking p) l c = follows_same rows l
+follows_noted rows (modes.Joined p) l c = record { waiting = inl (let more : length (l.waiting ++ c ∷ []) ≡ length l.waiting + length (c ∷ []) = length-append l.waiting (c ∷ []) in omega arith); length = inl (omega arith) }
+follows_noted rows modes.Acting l c = follows_same rows l
 
-follows_acked : (nodes : ℕ) (l : Log) (upto : ℕ) → Follows nodes l (ack l upto)
-follows_acked nodes l upto =
-    cond_both (is_ahead l upto) (record { length = l.length; acked = upto; waiting = drop (upto - l.acked) l.waiting }) l (Follows nodes l)
+follows_acked : (rows : ℕ) (l : Log) (upto : ℕ) → Follows rows l (ack l upto)
+follows_acked rows l upto =
+    cond_both (is_ahead l upto) (record { length = l.length; acked = upto; waiting = drop (upto - l.acked) l.waiting }) l (Follows rows l)
     (λ _. record { waiting = inl (omega (arith, length-drop (upto - l.acked) l.waiting)); length = inl (omega arith) })
-    (λ _. follows_same nodes l)
+    (λ _. follows_same rows l)
 
-follows_one : (nodes : ℕ) (d : Durable) (r : Record) → IsRecord nodes r → IsKept nodes d → Follows nodes d.log (fold_one d r).log
-follows_one nodes d (records.Ask s p) ok kept = follows_empty nodes d.log
+follows_one : (nodes : ℕ) (d : Durable) (r : Record) → IsRecord nodes r → IsKept nodes d → Follows (length d.table) d.log (fold_one d r).log
+follows_one nodes d (records.Ask s p) ok kept = follows_empty (length d.table) d.log
 follows_one nodes d (records.Joined p r) ok kept =
-    cond_both (d.seq == 0) d (record d { mode = modes.Joined p; rank = Some r; log = begun_with d.table }) (λ e. Follows nodes d.log e.log)
-    (λ _. follows_same nodes d.log)
-    (λ _. let few : length d.table ≤ nodes = rows_few nodes d kept in record { waiting = inr few; length = inr (omega (arith, few, kept.few)) })
-follows_one nodes d records.Lost ok kept = follows_empty nodes d.log
-follows_one nodes d records.Acting ok kept = follows_empty nodes d.log
-follows_one nodes d (records.Ranked r) ok kept = follows_same nodes d.log
-follows_one nodes d (records.OldEntry x s p dead) ok kept = follows_noted nodes d.mode d.log (record { subject = x; seq = s; parent = p; dead = dead; number = 0; clients = 0 })
-follows_one nodes d (records.Acked upto) ok kept = follows_acked nodes d.log upto
-follows_one nodes d (records.Ancestors xs) ok kept = follows_same nodes d.log
-follows_one nodes d (records.Rate p rate hops) ok kept = follows_same nodes d.log
-follows_one nodes d (records.Epoch e) ok kept = follows_same nodes d.log
+    cond_both (d.seq == 0) d (record d { mode = modes.Joined p; rank = Some r; log = begun_with d.table }) (λ e. Follows (length d.table) d.log e.log)
+    (λ _. follows_same (length d.table) d.log)
+    (λ _. let few : length d.table ≤ nodes = rows_few nodes d kept in record { waiting = inr (omega arith); length = inr (omega (arith, few, kept.few)) })
+follows_one nodes d records.Lost ok kept = follows_empty (length d.table) d.log
+follows_one nodes d records.Acting ok kept = follows_empty (length d.table) d.log
+follows_one nodes d (records.Ranked r) ok kept = follows_same (length d.table) d.log
+follows_one nodes d (records.OldEntry x s p dead) ok kept = follows_noted (length d.table) d.mode d.log (record { subject = x; seq = s; parent = p; dead = dead; number = 0; clients = 0 })
+follows_one nodes d (records.Acked upto) ok kept = follows_acked (length d.table) d.log upto
+follows_one nodes d (records.Ancestors xs) ok kept = follows_same (length d.table) d.log
+follows_one nodes d (records.Rate p rate hops) ok kept = follows_same (length d.table) d.log
+follows_one nodes d (records.Epoch e) ok kept = follows_same (length d.table) d.log
 follows_one nodes d (records.Base n) ok kept =
-    cond_both (is_joined d.mode) (record d { log = acked_whole n }) d (λ e. Follows nodes d.log e.log)
+    cond_both (is_joined d.mode) (record d { log = acked_whole n }) d (λ e. Follows (length d.table) d.log e.log)
     (λ _. record { waiting = inr (omega arith); length = inr ok })
-    (λ _. follows_same nodes d.log)
-follows_one nodes d (records.Snapshot g) ok kept = follows_empty nodes d.log
-follows_one nodes d (records.Entry c) ok kept = follows_noted nodes d.mode d.log c
-follows_one nodes d (records.Info number clients) ok kept = follows_same nodes d.log
+    (λ _. follows_same (length d.table) d.log)
+follows_one nodes d (records.Snapshot g) ok kept = follows_empty (length d.table) d.log
+follows_one nodes d (records.Entry c) ok kept = follows_noted (length d.table) d.mode d.log c
+follows_one nodes d (records.Info number clients) ok kept = follows_same (length d.table) d.log
+
+-- a certificate that is put is one row more at the most
+put_rows : (t : List Cert) (c : Cert) → length (put t c) ≤ length t + 1
+put_rows [] c = omega arith
+put_rows (k ∷ ks) c =
+    cond_both (k.subject == c.subject) (c ∷ ks) (if nat_lt c.subject k.subject then c ∷ k ∷ ks else k ∷ put ks c) (λ t. length t ≤ length (k ∷ ks) + 1)
+    (λ _. omega arith)
+    (λ _. cond_both (nat_lt c.subject k.subject) (c ∷ k ∷ ks) (k ∷ put ks c) (λ t. length t ≤ length (k ∷ ks) + 1) (λ _. omega arith) (λ _. omega (arith, put_rows ks c)))
+
+merge_rows : (t : List Cert) (c : Cert) → length (merge t c) ≤ length t + 1
+merge_rows t c = cond_both (is_news t c) (put t c) t (λ u. length u ≤ length t + 1) (λ _. put_rows t c) (λ _. omega arith)
+
+-- the table after one more record has one more row at the most
+rows_one : (d : Durable) (r : Record) → length (fold_one d r).table ≤ length d.table + 1
+rows_one d (records.Ask s p) = omega arith
+rows_one d (records.Joined p r) = cond_both (d.seq == 0) d (record d { mode = modes.Joined p; rank = Some r; log = begun_with d.table }) (λ e. length e.table ≤ length d.table + 1) (λ _. omega arith) (λ _. omega arith)
+rows_one d records.Lost = omega arith
+rows_one d records.Acting = omega arith
+rows_one d (records.Ranked r) = omega arith
+rows_one d (records.OldEntry x s p dead) = merge_rows d.table (record { subject = x; seq = s; parent = p; dead = dead; number = 0; clients = 0 })
+rows_one d (records.Acked upto) = omega arith
+rows_one d (records.Ancestors xs) = omega arith
+rows_one d (records.Rate p rate hops) = omega arith
+rows_one d (records.Epoch e) = omega arith
+rows_one d (records.Base n) = cond_both (is_joined d.mode) (record d { log = acked_whole n }) d (λ e. length e.table ≤ length d.table + 1) (λ _. omega arith) (λ _. omega arith)
+rows_one d (records.Snapshot g) = omega arith
+rows_one d (records.Entry c) = merge_rows d.table c
+rows_one d (records.Info number clients) = omega arith
 
 -- there is room for the records that are left
 room_one : (v : DurableView) (r : Record) (more : ℕ) → IsRecord v.nodes r → IsKept v.nodes v.kept → HasRoom v (suc more) → HasRoom (record v { kept = fold_one v.kept r }) more
 room_one v r more ok kept room = by_log (follows_one v.nodes v.kept r ok kept) where
-  by_waiting : (n : ℕ) → (n ≤ length v.kept.log.waiting + 1) ⊎ (n ≤ v.nodes) → n + more ≤ v.room
+  by_waiting : (n : ℕ) → (n ≤ length v.kept.log.waiting + 1) ⊎ (n ≤ length v.kept.table) → n + more ≤ v.room
   by_waiting n (inl h) = omega (arith, h, room.waiting)
   by_waiting n (inr h) = omega (arith, h, room.rows)
 
@@ -137,10 +166,10 @@ room_one v r more ok kept room = by_log (follows_one v.nodes v.kept r ok kept) w
   by_length n (inl h) = omega (arith, h, room.places)
   by_length n (inr h) = omega (arith, h, room.based)
 
-  by_log : Follows v.nodes v.kept.log (fold_one v.kept r).log → HasRoom (record v { kept = fold_one v.kept r }) more
+  by_log : Follows (length v.kept.table) v.kept.log (fold_one v.kept r).log → HasRoom (record v { kept = fold_one v.kept r }) more
   by_log f = record {
     waiting = by_waiting (length (fold_one v.kept r).log.waiting) f.waiting;
-    rows = omega (arith, room.rows);
+    rows = omega (arith, room.rows, rows_one v.kept r);
     places = by_length (fold_one v.kept r).log.length f.length;
     based = omega (arith, room.based);
   }

@@ -1,5 +1,6 @@
 -- Lines of a shelf, one after another.
-use Rattle.std.proofs.Common.{◌≡◌, ℕ, zero, suc, ◌+◌, ◌<◌, ◌≤◌, Bool, true, false, if◌then◌else◌, Option, Some, List, [], ◌∷◌, length, drop, get_or, set, refl, ap, sym, ◌∙◌, arith}
+use Rattle.std.proofs.Common.{◌≡◌, ℕ, zero, suc, ◌+◌, ◌-◌, ◌*◌, ◌^◌, ◌<◌, ◌≤◌, Bool, true, false, if◌then◌else◌, Option, Some, None, List, [], ◌∷◌, ◌++◌, length, drop, take, get_or, set, refl, ap, sym, ◌∙◌, arith, length-drop}
+use Rattle.std.proofs.lemmas.List.{take_all}
 use Rattle.std.specs.Prelude.{insert}
 use Rattle.std.specs.declared.cmp.Ordering.{Ordering}
 use Rattle.std.specs.declared.cmp.Ordering.TheVariants.{Less, Equal, Greater}
@@ -10,7 +11,7 @@ use Rattle.oc_base.specs.declared.shelf.Shelf.{Shelf}
 use Rattle.oc_base.specs.Named.{same_name, AreAscending, IsFoundAt, IsFreeAt}
 use Rattle.oc_base.specs.Shelves.{line_of, IsShelf, AreLines}
 use Rattle.oc_base.proofs.NameOrder.{same_name-itself}
-use Rattle.oc_model.specs.Shelves.{line_at, with_line, is_behind, first_behind}
+use Rattle.oc_model.specs.Shelves.{line_at, with_line, is_behind, first_behind, held_in_all, turn, from_place, next_behind}
 use Rattle.oc_state.proofs.Lists.{drop_at}
 
 -- Looking for a line
@@ -87,3 +88,57 @@ held_bound g ls is = bound_in g ls is.0 where
     by_test : (b : Bool) → l.held ≤ MAX_GROUP_BYTES → (line_at g ls).held ≤ MAX_GROUP_BYTES → same_name g l.group ≡ b → (line_at g (l ∷ ls)).held ≤ MAX_GROUP_BYTES
     by_test true here rest e = rw e here
     by_test false here rest e = rw e rest
+
+-- All that is held
+
+-- it is no more than all lines may hold
+held_few : (ls : List Shelf) → AreLines ls → held_in_all ls ≤ length ls * MAX_GROUP_BYTES
+held_few [] are = omega arith
+held_few (l ∷ ls) are = let rest : held_in_all ls ≤ length ls * MAX_GROUP_BYTES = held_few ls are.2 in omega (arith, are.0.1, rest)
+
+-- one line more
+pub held_goes_on : (ls : List Shelf) (i held whole : ℕ) (l : Shelf) → i < length ls → l ≡ get_or ls i l → held + held_in_all (drop i ls) ≡ whole → (held + l.held) + held_in_all (drop (i + 1) ls) ≡ whole
+held_goes_on ls i held whole l within e so =
+    let here : held_in_all (drop i ls) ≡ l.held + held_in_all (drop (i + 1) ls) = ap held_in_all (drop_at ls i l within e) in
+    omega (arith, here, so)
+
+-- and it fits a number of 64 bits
+pub held_fits : (ls : List Shelf) (i held : ℕ) (l : Shelf) → IsShelf ls → i < length ls → l ≡ get_or ls i l → held + held_in_all (drop i ls) ≡ held_in_all ls → held + l.held < 2 ^ 64
+held_fits ls i held l is within e so = omega (arith, held_goes_on ls i held (held_in_all ls) l within e so, held_few ls is.0, is.1)
+
+-- Whose turn it is
+
+-- the first line in a list and then another, in which the other is behind
+pub behind_first : (have xs ys : List Shelf) (l : Shelf) → first_behind have xs ≡ Some l → first_behind have (xs ++ ys) ≡ Some l
+behind_first have [] ys l e = absurd cc
+behind_first have (k ∷ ks) ys l e = by_test (is_behind (line_of k.group have) k) (behind_first have ks ys l) e where
+  by_test : (b : Bool) → (first_behind have ks ≡ Some l → first_behind have (ks ++ ys) ≡ Some l) → (if b then Some k else first_behind have ks) ≡ Some l → (if b then Some k else first_behind have (ks ++ ys)) ≡ Some l
+  by_test true rest e = e
+  by_test false rest e = rest e
+
+pub behind_second : (have xs ys : List Shelf) → first_behind have xs ≡ None → first_behind have (xs ++ ys) ≡ first_behind have ys
+behind_second have [] ys e = refl
+behind_second have (k ∷ ks) ys e = by_test (is_behind (line_of k.group have) k) (behind_second have ks ys) e where
+  by_test : (b : Bool) → (first_behind have ks ≡ None → first_behind have (ks ++ ys) ≡ first_behind have ys) → (if b then Some k else first_behind have ks) ≡ None → (if b then Some k else first_behind have (ks ++ ys)) ≡ first_behind have ys
+  by_test true rest e = absurd cc
+  by_test false rest e = rest e
+
+-- there is none on an empty shelf
+pub behind_empty : (chunk : ℕ) (have : List Shelf) → next_behind chunk have [] ≡ None
+behind_empty chunk have = by_place (turn chunk have []) where
+  by_place : (i : ℕ) → first_behind have (drop i [] ++ take i []) ≡ None
+  by_place zero = refl
+  by_place (suc i) = refl
+
+-- all that is left of a list
+the_rest : (ls : List Shelf) (i : ℕ) → take (length ls - i) (drop i ls) ≡ drop i ls
+the_rest ls i = take_all (length ls - i) (drop i ls) (omega (arith, length-drop i ls))
+
+-- from its place on, and then before it
+pub turn_first : (chunk : ℕ) (have ls : List Shelf) (i : ℕ) (l : Shelf) → i ≡ turn chunk have ls → Some l ≡ first_behind have (take (length ls - i) (drop i ls)) → Some l ≡ next_behind chunk have ls
+turn_first chunk have ls i l place found =
+    sym (behind_first have (drop i ls) (take i ls) l (sym (found ∙ ap (first_behind have) (the_rest ls i)))) ∙ ap (λ (j : ℕ). first_behind have (from_place j ls)) place
+
+pub turn_second : (chunk : ℕ) (have ls : List Shelf) (i : ℕ) → i ≡ turn chunk have ls → None ≡ first_behind have (take (length ls - i) (drop i ls)) → first_behind have (take i ls) ≡ next_behind chunk have ls
+turn_second chunk have ls i place none =
+    sym (behind_second have (drop i ls) (take i ls) (sym (none ∙ ap (first_behind have) (the_rest ls i)))) ∙ ap (λ (j : ℕ). first_behind have (from_place j ls)) place

@@ -31,7 +31,7 @@ durable_of s table log ancestors measures = record {
 -- there is room to fold this many records: each lets at most one more certificate wait, or the whole table
 pub record HasRoom (v : DurableView) (more : ℕ) : Type 0 where
   pub waiting : length v.kept.log.waiting + more ≤ v.room
-  pub rows : v.nodes + more ≤ v.room
+  pub rows : length v.kept.table + more ≤ v.room
   pub places : v.kept.log.length + more < 2 ^ 63
   pub based : MAX_BASE_ACKED + more < 2 ^ 63
 

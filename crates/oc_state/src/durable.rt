@@ -106,13 +106,14 @@ impl Durable {
         &self.measures
     }
 
-    /// Makes room for this many certificates more in the log.
-    pub fn reserve(&mut self, more: usize) -> Result<(), Memory>
-        ensures room { OnOk result (length self.new.kept.log.waiting + more ≤ self.new.room) }
+    /// Makes room to fold this many records more: for each a certificate in the log, or the whole table.
+    pub fn reserve(&mut self, records: usize) -> Result<(), Memory>
+        ensures room { OnOk result (length self.new.kept.log.waiting + (length self.new.kept.table + records) ≤ self.new.room) }
         ensures stays { self.old.room ≤ self.new.room }
         ensures kept { self.new.kept ≡ self.old.kept }
         ensures nodes { self.new.nodes ≡ self.old.nodes }
     {
+        let more = rows_in_use(&self.table).checked_add(records).ok_or(Memory)?;
         self.log.reserve(more)?;
         let waiting = (self.log.length() - self.log.acked()) as usize;
         let room = waiting.checked_add(more).ok_or(Memory)?;
@@ -179,7 +180,7 @@ impl Durable {
         ensures err { OnErr result (self.new.kept ≡ self.old.kept) }
     {
         let change = change.clone()?;
-        self.reserve(self.nodes as usize + 1)?;
+        self.reserve(1)?;
         self.fold(change);
         Ok(())
     }
@@ -240,4 +241,11 @@ impl Durable {
             _ => {}
         }
     }
+}
+
+/// How many rows of a table are in use, at least as many as there are certificates.
+fn rows_in_use(table: &Table) -> usize
+    ensures { length table.now.entries ≤ result }
+{
+    table.rows().used()
 }

@@ -1,7 +1,7 @@
 ghost use Rattle.std.specs.Prelude.{◌≡◌, ◌<◌, ◌≤◌, length, set, insert, IfOk};
 ghost use Rattle.oc_base.specs.Named.{same_name};
 ghost use Rattle.oc_base.specs.Shelves.{line_of, IsShelf};
-ghost use Rattle.oc_model.specs.Shelves.{line_at, with_line, limit, is_behind, first_behind};
+ghost use Rattle.oc_model.specs.Shelves.{line_at, with_line, limit, is_behind, first_behind, held_in_all, turn, next_behind};
 
 use oc_base::{GroupName, Lookup, MAX_GROUP_BYTES, MAX_GROUPS, Memory, Shelf, look_up};
 use oc_model::Answer;
@@ -111,7 +111,7 @@ fn is_behind(other: &Option<Shelf>, line: &Shelf) -> bool
 }
 
 /// The first line in which the other is behind.
-pub fn first_behind(have: &[Shelf], shelf: &[Shelf]) -> Option<Shelf>
+fn first_behind(have: &[Shelf], shelf: &[Shelf]) -> Option<Shelf>
     ensures { result ≡ first_behind have.now shelf.now }
 {
     for line in shelf {
@@ -120,4 +120,45 @@ pub fn first_behind(have: &[Shelf], shelf: &[Shelf]) -> Option<Shelf>
         }
     }
     None
+}
+
+/// All that is held, in bytes.
+#[tactic(auto, using(crate::proofs::ShelfLines::held_goes_on))]
+fn held_in_all(shelf: &[Shelf]) -> u64
+    requires { IsShelf shelf.now }
+    ensures { result ≡ held_in_all shelf.now }
+{
+    let mut held = 0;
+    for line in shelf {
+        held += line.held;
+    }
+    held
+}
+
+/// The place of the line whose turn it is, after chunks of this size: with each that came, the next one's.
+fn turn(have: &[Shelf], shelf: &[Shelf], chunk: u64) -> usize
+    requires have { IsShelf have.now }
+    requires chunk { 1 ≤ chunk }
+    requires some { 1 ≤ length shelf.now }
+    ensures turn { result ≡ turn chunk have.now shelf.now }
+    ensures within { result < length shelf.now }
+{
+    (held_in_all(have) / chunk % shelf.len() as u64) as usize
+}
+
+/// The first line in which the other is behind, from that on whose turn it is.
+#[tactic(auto, using(crate::proofs::ShelfLines::behind_empty))]
+pub fn next_behind(have: &[Shelf], shelf: &[Shelf], chunk: u64) -> Option<Shelf>
+    requires have { IsShelf have.now }
+    requires chunk { 1 ≤ chunk }
+    ensures { result ≡ next_behind chunk have.now shelf.now }
+{
+    if shelf.is_empty() {
+        return None;
+    }
+    let place = turn(have, shelf, chunk);
+    match first_behind(have, &shelf[place..]) {
+        Some(line) => Some(line),
+        None => first_behind(have, &shelf[..place]),
+    }
 }

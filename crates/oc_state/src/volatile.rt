@@ -12,6 +12,10 @@ pub struct Volatile {
     pub due: Option<u64>,
     /// No node has refused since the tries were last set.
     pub silent: bool,
+    /// A node has refused since the last check in time.
+    pub refused: bool,
+    /// When the parent was last told what is new, in seconds.
+    pub checked: Option<u64>,
     pub search: Option<Search>,
     /// The clients served that are not in the node's own count yet.
     pub served: u64,
@@ -26,6 +30,8 @@ impl Volatile {
             clock: 0,
             due: None,
             silent: false,
+            refused: false,
+            checked: None,
             search: None,
             served: 0,
         }

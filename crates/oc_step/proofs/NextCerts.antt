@@ -1,8 +1,11 @@
 -- The certificates of the next check-in, one record after another.
-use Rattle.std.proofs.Common.{◌≡◌, ℕ, ◌+◌, ◌<◌, ◌≤◌, zero, suc, List, [], ◌∷◌, ◌++◌, length, take, drop, get_or, refl, ap, sym, ◌∙◌, append_assoc, append-nil, arith, length-append}
+use Rattle.std.proofs.Common.{◌≡◌, ℕ, ◌+◌, ◌<◌, ◌≤◌, zero, suc, Bool, ◌||◌, nat_lt, List, [], ◌∷◌, ◌++◌, length, take, drop, get_or, refl, ap, sym, ◌∙◌, append_assoc, append-nil, arith, length-append}
+use Rattle.std.specs.List.{list_any}
+use Rattle.std.proofs.lemmas.Bool.{lt-ltb, le-ltb}
 use Rattle.std.proofs.Math.ListN.{drop_of_length-le}
 use Rattle.oc_base.specs.declared.cert.Cert.{Cert}
 use Rattle.oc_model.specs.declared.record.Record.{Record}
+use Rattle.oc_model.specs.ChangeLog.{waits}
 use Rattle.oc_step.specs.Since.{certs_of, certs_in}
 use Rattle.oc_state.proofs.Lists.{drop_at, take_again, take_all}
 
@@ -47,3 +50,18 @@ certs_end n rs i cs whole few over so =
 -- the certificates that wait, and those of the records, no more than may be
 pub take_twice : (n : ℕ) (first rest made all : List Cert) → all ≡ first ++ rest → made ≡ take n (([] ++ take n first) ++ rest) → made ≡ take n all
 take_twice n first rest made all e put = put ∙ take_again n first rest ∙ ap (λ (zs : List Cert). take n zs) (sym e)
+
+-- some wait where the log is longer than what is acknowledged
+pub waits_length : (cs : List Cert) (acked length_of : ℕ) → length_of ≡ acked + length cs → nat_lt acked length_of ≡ waits cs
+waits_length [] acked length_of e = le-ltb acked length_of (omega (arith, e))
+waits_length (c ∷ cs) acked length_of e = lt-ltb acked length_of (omega (arith, e))
+
+-- some wait in two lists where some wait in one of them
+pub waits-append : (cs ds : List Cert) → waits (cs ++ ds) ≡ (waits cs || waits ds)
+waits-append [] ds = refl
+waits-append (c ∷ cs) ds = refl
+
+-- some wait among those of records where one of these has one
+pub any_waits : (rs : List Record) → list_any (λ r. waits (certs_of r)) rs ≡ waits (certs_in rs)
+any_waits [] = refl
+any_waits (r ∷ rs) = ap (λ (b : Bool). waits (certs_of r) || b) (any_waits rs) ∙ sym (waits-append (certs_of r) (certs_in rs))

@@ -1,16 +1,19 @@
 -- What records say of one part of a node is what folding them makes of it.
-use Rattle.std.proofs.Common.{◌≡◌, ℕ, Bool, true, false, ◌==◌, if◌then◌else◌, Option, Some, List, [], ◌∷◌, ◌++◌, refl, sym, ◌∙◌, ap, eqb-true, append_assoc, append-nil, true≢false}
+use Rattle.std.proofs.Common.{◌≡◌, ℕ, Bool, true, false, ◌||◌, ◌==◌, if◌then◌else◌, Option, Some, List, [], ◌∷◌, ◌++◌, refl, sym, ◌∙◌, ap, eqb-true, append_assoc, append-nil, true≢false}
 use Rattle.std.proofs.lemmas.Bool.{eqb-false}
+use Rattle.std.specs.List.{list_any}
 use Rattle.oc_base.specs.declared.cert.Cert.{Cert}
 use Rattle.oc_model.specs.declared.record.Record.{Record}
 use Rattle.oc_model.specs.declared.record.Record.TheVariants as records
 use Rattle.oc_model.specs.declared.mode.Mode.{Mode}
 use Rattle.oc_model.specs.declared.mode.Mode.TheVariants as modes
+use Rattle.oc_model.specs.ChangeLog.{waits}
 use Rattle.oc_model.specs.Node.{Durable, Log}
 use Rattle.oc_model.specs.Records.{fold_one, folded, is_joined, noted}
 use Rattle.oc_model.specs.Table.{newest, is_news, is_news_to, merge}
 use Rattle.oc_laws_step.proofs.Tables.{newest-put_same, newest-put_other, newest-subject}
-use Rattle.oc_step.specs.Since.{ancestors_by, ancestors_over, entry_with, entry_by, entry_over, AreTold, certs_in}
+use Rattle.oc_step.specs.Since.{ancestors_by, ancestors_over, entry_with, entry_by, entry_over, AreTold, certs_of, certs_in}
+use Rattle.oc_step.proofs.NextCerts.{waits-append, any_waits}
 
 -- a choice of two states with these ancestors
 either_ancestors : (b : Bool) (d e : Durable) (xs : List ℕ) → d.ancestors ≡ xs → e.ancestors ≡ xs → (if b then d else e).ancestors ≡ xs
@@ -129,3 +132,18 @@ acked_told d [] told = refl
 acked_told d (records.Entry c ∷ rs) told = acked_told (fold_one d (records.Entry c)) rs told.1 ∙ noted_acked d.mode d.log c
 acked_told d (records.Info number clients ∷ rs) told = acked_told (fold_one d (records.Info number clients)) rs told.1
 acked_told d (r ∷ rs) told = absurd (told.0)
+
+-- some wait where some did, or where one of the records has a certificate
+waits_told : (d : Durable) (rs : List Record) → AreTold rs → is_joined (folded d rs).mode ≡ true → waits (folded d rs).log.waiting ≡ (waits d.log.waiting || list_any (λ r. waits (certs_of r)) rs)
+waits_told d rs told joined =
+    ap waits (waiting_told d rs told (sym (ap is_joined (mode_told d rs told)) ∙ joined))
+    ∙ waits-append d.log.waiting (certs_in rs)
+    ∙ ap (λ (b : Bool). waits d.log.waiting || b) (sym (any_waits rs))
+
+pub waits_still : (d : Durable) (rs : List Record) (first : Bool) → AreTold rs → is_joined (folded d rs).mode ≡ true → first ≡ waits d.log.waiting → first ≡ true → first ≡ waits (folded d rs).log.waiting
+waits_still d rs first told joined is some =
+    some ∙ sym (waits_told d rs told joined ∙ ap (λ (b : Bool). b || list_any (λ r. waits (certs_of r)) rs) (sym is ∙ some))
+
+pub waits_now : (d : Durable) (rs : List Record) (first rest : Bool) → AreTold rs → is_joined (folded d rs).mode ≡ true → first ≡ waits d.log.waiting → first ≡ false → rest ≡ list_any (λ r. waits (certs_of r)) rs → rest ≡ waits (folded d rs).log.waiting
+waits_now d rs first rest told joined is none more =
+    more ∙ sym (waits_told d rs told joined ∙ ap (λ (b : Bool). b || list_any (λ r. waits (certs_of r)) rs) (sym is ∙ none))

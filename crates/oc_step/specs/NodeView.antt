@@ -13,11 +13,12 @@ pub record NodeView : Type 0 where
   pub room : ℕ
 
 -- the control state of these parts
-abbrev pub control_of : ℕ → ℕ → ℕ → List ℕ → Durable → Soft → List (Option ℕ) → List ℕ → List ℕ → Control
-control_of me nodes chain areas kept soft leases rates counts = record {
+abbrev pub control_of : ℕ → ℕ → ℕ → ℕ → List ℕ → Durable → Soft → List (Option ℕ) → List ℕ → List ℕ → Control
+control_of me nodes chain chunk areas kept soft leases rates counts = record {
   me = me;
   nodes = nodes;
   chain = chain;
+  chunk = chunk;
   areas = areas;
   kept = kept;
   soft = soft;
@@ -28,7 +29,7 @@ control_of me nodes chain areas kept soft leases rates counts = record {
 
 -- a node as every input and every start leaves it: sound, and its numbers within their ranges
 pub record IsReached (n : Control) : Type 0 where
-  pub header : IsHeader (record { nodes = n.nodes; chain = n.chain; areas = n.areas })
+  pub header : IsHeader (record { nodes = n.nodes; chain = n.chain; chunk = n.chunk; areas = n.areas })
   pub me : IsNode n.nodes n.me
   pub sound : IsSound n
   pub lawful : IsLawfulControl n.nodes n

@@ -1,6 +1,6 @@
 ghost use Rattle.std.specs.Prelude.{◌≡◌, ◌≤◌, IfOk, IfSome};
 ghost use Rattle.oc_base.specs.Lawful.{IsNode};
-ghost use Rattle.oc_base.specs.declared.limits.TheConstants.{LAST_SECOND};
+ghost use Rattle.oc_base.specs.declared.limits.TheConstants.{LAST_SECOND, MAX_CHUNK_BYTES};
 ghost use Rattle.oc_model.specs.Leases.{next_ended};
 ghost use Rattle.oc_model.specs.Looking.{children};
 ghost use Rattle.oc_model.specs.Selected.{selected};
@@ -21,6 +21,8 @@ pub struct Before<'a> {
     pub id: NodeId,
     pub nodes: u32,
     pub chain: u32,
+    /// The greatest number of bytes of a chunk.
+    pub chunk: u32,
     /// The area of each node, by its number.
     pub areas: &'a [u8],
     pub durable: &'a Durable,
@@ -42,10 +44,10 @@ impl<'a> Model for Before<'a> {
 
     ghost Value = { Control };
 
-    ghost view = { λ b. control_of b.id b.nodes b.chain b.areas.now b.durable.now.kept (soft_of b.volatile b.tries.now) b.leases.now.ends b.rates.now.items b.counts.now.items };
+    ghost view = { λ b. control_of b.id b.nodes b.chain b.chunk b.areas.now b.durable.now.kept (soft_of b.volatile b.tries.now) b.leases.now.ends b.rates.now.items b.counts.now.items };
 
     ghost invariant = { λ b. (b.durable.now.nodes ≡ b.nodes)
-        × IsReached (control_of b.id b.nodes b.chain b.areas.now b.durable.now.kept (soft_of b.volatile b.tries.now) b.leases.now.ends b.rates.now.items b.counts.now.items) };
+        × IsReached (control_of b.id b.nodes b.chain b.chunk b.areas.now b.durable.now.kept (soft_of b.volatile b.tries.now) b.leases.now.ends b.rates.now.items b.counts.now.items) };
 }
 
 impl Before<'_> {
@@ -60,6 +62,15 @@ impl Before<'_> {
         ensures { result ≡ self.now.chain }
     {
         self.chain
+    }
+
+    /// The greatest number of bytes of a chunk.
+    pub(crate) fn chunk(&self) -> u32
+        ensures chunk { result ≡ self.now.chunk }
+        ensures some { 1 ≤ result }
+        ensures few { result ≤ MAX_CHUNK_BYTES }
+    {
+        self.chunk
     }
 
     pub(crate) fn alloc(&self) -> Global {

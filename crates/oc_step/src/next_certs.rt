@@ -1,10 +1,13 @@
 ghost use Rattle.std.specs.Prelude.{◌≡◌, ◌≤◌, [], ◌∷◌, ◌++◌, vec_len, take, OnOk};
+ghost use Rattle.std.specs.List.{list_any};
 ghost use Rattle.std.specs.Option.{option_to_list};
 ghost use Rattle.oc_base.specs.declared.limits.TheConstants.{MAX_CHECK_IN_CERTS};
+ghost use Rattle.oc_model.specs.ChangeLog.{waits};
 ghost use Rattle.oc_step.specs.Since.{certs_of, certs_in};
 
 use oc_base::{Cert, MAX_CHECK_IN_CERTS, Memory};
 use oc_model::Record;
+use oc_updown::ChangeLog;
 
 /// The certificate of a record, if it has one.
 fn cert_of(change: &Record) -> Option<Cert>
@@ -41,4 +44,26 @@ pub(crate) fn push_certs(certs: &mut Vec<Cert>, records: &[Record]) -> Result<()
         push_cert(certs, cert_of(change))?;
     }
     Ok(())
+}
+
+/// Whether a record has a certificate.
+fn has_cert(change: &Record) -> bool
+    ensures { result ≡ waits (certs_of change.now) }
+{
+    matches!(change, Record::Entry { .. })
+}
+
+/// Whether any of these records has one.
+pub(crate) fn have_certs(records: &[Record]) -> bool
+    ensures { result ≡ list_any (λ r. waits (certs_of r)) records.now }
+{
+    records.iter().any(|change| has_cert(change))
+}
+
+/// Whether a log has certificates that are not acknowledged.
+#[tactic(auto, using(crate::proofs::NextCerts::waits_length))]
+pub(crate) fn has_waiting(log: &ChangeLog) -> bool
+    ensures { result ≡ waits log.now.log.waiting }
+{
+    log.acked() < log.length()
 }

@@ -93,6 +93,13 @@ impl Plan {
         &self.sends
     }
 
+    /// What the step answers.
+    pub fn answer(&self) -> Answer
+        ensures { result ≡ self.now.answer }
+    {
+        self.answer
+    }
+
     /// The bytes that the step sends in a chunk, if it sends any: the group, the place and the number.
     pub fn wants(&self) -> Option<Want>
         ensures { result ≡ self.now.wants }

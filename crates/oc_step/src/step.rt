@@ -3,8 +3,8 @@ ghost use Rattle.oc_model.specs.Plan.{begun, write, send, answers, ignored, with
 ghost use Rattle.oc_model.specs.Adoption.{chain_child};
 ghost use Rattle.std.specs.List.{AllByRecursion};
 ghost use Rattle.oc_base.specs.Lawful.{IsNode};
-ghost use Rattle.oc_base.specs.declared.limits.TheConstants.{LAST_SECOND, MAX_CHECK_IN_CERTS};
-ghost use Rattle.oc_model.specs.ChangeLog.{next_certs, is_ahead};
+ghost use Rattle.oc_base.specs.declared.limits.TheConstants.{LAST_SECOND, MAX_CHECK_IN_CERTS, MAX_CHUNK_BYTES};
+ghost use Rattle.oc_model.specs.ChangeLog.{next_certs, is_ahead, waits};
 ghost use Rattle.oc_model.specs.Content.{keeps};
 ghost use Rattle.oc_model.specs.Leases.{next_ended};
 ghost use Rattle.oc_model.specs.Looking.{children};
@@ -23,7 +23,7 @@ ghost use Rattle.oc_state.specs.Tries.{first_of};
 ghost use Rattle.oc_state.specs.Volatile.{soft_of, volatile_of};
 
 use crate::before::Before;
-use crate::next_certs::push_certs;
+use crate::next_certs::{has_waiting, have_certs, push_certs};
 use crate::plan::Plan;
 use crate::since::{ancestors_since, entry_since, is_news_to};
 use oc_base::{Cert, Child, IdList, MAX_CHECK_IN_CERTS, Memory, NodeId};
@@ -96,6 +96,15 @@ impl<'a> Step<'a> {
         ensures { result ≡ self.now.plan.node.chain }
     {
         self.node.chain()
+    }
+
+    /// The greatest number of bytes of a chunk that the node sends.
+    pub fn chunk(&self) -> u32
+        ensures chunk { result ≡ self.now.plan.node.chunk }
+        ensures some { 1 ≤ result }
+        ensures few { result ≤ MAX_CHUNK_BYTES }
+    {
+        self.node.chunk()
     }
 
     /// Whether the node is a member of the chain.
@@ -198,6 +207,15 @@ impl<'a> Step<'a> {
         self.node.log().take(MAX_CHECK_IN_CERTS, &mut certs)?;
         push_certs(&mut certs, self.plan.records())?;
         Ok(certs)
+    }
+
+    /// Whether the log has certificates that are not acknowledged.
+    pub fn is_waiting(&self) -> bool
+        requires told { AreTold self.now.plan.records }
+        requires joined { is_joined self.now.plan.node.kept.mode ≡ true }
+        ensures { result ≡ waits self.now.plan.node.kept.log.waiting }
+    {
+        has_waiting(self.node.log()) || have_certs(self.plan.records())
     }
 
     /// How many certificates of the log are acknowledged.

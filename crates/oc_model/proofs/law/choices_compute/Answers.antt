@@ -12,3 +12,9 @@ returns-clause-certificate_race c = record { told = (refl, refl); death_second =
 
 pub returns-clause-merged_counts : goal.returns-clause-merged_counts
 returns-clause-merged_counts c = refl
+
+pub returns-clause-refused_review : goal.returns-clause-refused_review
+returns-clause-refused_review c = refl
+
+pub returns-clause-chain_review : goal.returns-clause-chain_review
+returns-clause-chain_review c = refl

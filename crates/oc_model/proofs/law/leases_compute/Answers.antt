@@ -9,3 +9,6 @@ returns-clause-quash c = refl
 
 pub returns-clause-failed_parent : goal.returns-clause-failed_parent
 returns-clause-failed_parent c = refl
+
+pub returns-clause-early_check_in : goal.returns-clause-early_check_in
+returns-clause-early_check_in c = refl

@@ -12,13 +12,13 @@ use Rattle.oc_node.proofs.Applying.{control_applied, soft_applied}
 use Rattle.oc_node.proofs.node.Node.apply.Goals as goal
 
 -- the control state at the end
-control_at_end : (c : goal.After-drop-updates) → control_of c.self.inside.id c.self.inside.nodes c.self.inside.chain c.self.inside.areas.items c.fold_all.new.self.kept (soft_of c.into_changes-records.result.volatile c.step.new.self) c.update_all.new.leases.ends c.update_all.new.rates.items c.update_all.new.counts.items ≡ control_after c.args.self.now.control c.args.plan
+control_at_end : (c : goal.After-drop-updates) → control_of c.self.inside.id c.self.inside.nodes c.self.inside.chain c.self.inside.chunk c.self.inside.areas.items c.fold_all.new.self.kept (soft_of c.into_changes-records.result.volatile c.step.new.self) c.update_all.new.leases.ends c.update_all.new.rates.items c.update_all.new.counts.items ≡ control_after c.args.self.now.control c.args.plan
 control_at_end c =
     let n = c.self.inside in
     let p = c.args.plan in
     let changes = c.into_changes-records in
     let updates : c.deref.result.now ≡ p.updates = c.deref.ensures.value ∙ changes.ensures.updates in
-    control_applied n.id n.nodes n.chain n.areas.items n.durable.kept c.fold_all.new.self.kept (soft_of n.volatile n.tries) (soft_of changes.result.volatile c.step.new.self) n.leases.ends c.update_all.new.leases.ends n.rates.items c.update_all.new.rates.items n.counts.items c.update_all.new.counts.items c.args.self.now.control p
+    control_applied n.id n.nodes n.chain n.chunk n.areas.items n.durable.kept c.fold_all.new.self.kept (soft_of n.volatile n.tries) (soft_of changes.result.volatile c.step.new.self) n.leases.ends c.update_all.new.leases.ends n.rates.items c.update_all.new.rates.items n.counts.items c.update_all.new.counts.items c.args.self.now.control p
     (ap (λ (v : NodeView). v.control) c.self.view_is)
     (ap (λ (d : DurableView). d.kept) c.fold_all.ensures ∙ ap (λ (rs : List Record). folded n.durable.kept rs) changes.ensures.records)
     (soft_applied (soft_of n.volatile n.tries) p changes.result.volatile changes.result.tries changes.result.taken c.step.new.self changes.ensures.volatile changes.ensures.tries changes.ensures.taken c.step.ensures)

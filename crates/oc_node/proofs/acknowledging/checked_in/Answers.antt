@@ -1,5 +1,5 @@
 use Rattle.std.proofs.Common.{rules, tests}
-use Rattle.oc_node.proofs.checking.checked_in.Goals as goal
+use Rattle.oc_node.proofs.acknowledging.checked_in.Goals as goal
 
 -- what the child tells is merged, and then acknowledged
 pub returns-in_ok-merge_all : goal.returns-in_ok-merge_all

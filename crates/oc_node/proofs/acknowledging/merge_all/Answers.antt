@@ -5,7 +5,7 @@ use Rattle.oc_model.specs.Checking.{merges_all}
 use Rattle.oc_step.specs.StepView.{StepView}
 use Rattle.oc_node.proofs.Steps.{both}
 use Rattle.oc_node.proofs.MergeAll.{merges_go_on}
-use Rattle.oc_node.proofs.checking.merge_all.Goals as goal
+use Rattle.oc_node.proofs.acknowledging.merge_all.Goals as goal
 
 pub loop-cert-preserved : goal.loop-cert-preserved
 loop-cert-preserved c = (

@@ -1,0 +1,137 @@
+ghost use Rattle.std.specs.Prelude.{◌≡◌, OnOk};
+ghost use Rattle.oc_base.specs.Lawful.{IsNode};
+ghost use Rattle.oc_model.specs.Checking.{merges_all, acknowledges, checked_in, takes_place, takes_rank, takes_ancestors, took_ack, took_rejoin};
+ghost use Rattle.oc_step.specs.StepView.{goes};
+
+use crate::adopting::{has_lease, send_rejoin};
+use crate::asking::ask_before;
+use crate::check_in::CheckIn;
+use crate::checking::merge;
+use oc_base::{Cert, IdList, Memory, NodeId, Rank};
+use oc_model::{Body, Record};
+use oc_state::ListUpdate;
+use oc_state::modes::{is_joined_to, is_peer};
+use oc_state::ranks::{ancestors_by, better_rank, rank_or_last};
+use oc_step::Step;
+
+// The rule Check-ins: how a check-in is acknowledged, and an acknowledgement is taken.
+
+fn merge_all(step: &mut Step, certs: &[Cert]) -> Result<(), Memory>
+    ensures { OnOk result (step.new ≡ goes step.old (merges_all certs.now step.old.plan)) }
+{
+    for cert in certs {
+        merge(step, cert)?;
+    }
+    Ok(())
+}
+
+/// A check-in of a child is acknowledged.
+fn acknowledge(step: &mut Step, child: NodeId, seq: u64, upto: u64, rate: u64) -> Result<(), Memory>
+    requires { IsNode step.old.base.nodes child }
+    ensures { OnOk result (step.new ≡ goes step.old (acknowledges step.old.plan child seq upto rate)) }
+{
+    let now = step.volatile().clock;
+    step.update(ListUpdate::Renew { child, now })?;
+    step.update(ListUpdate::Tell { child, rate })?;
+    let rank = rank_or_last(step.position().rank);
+    let ancestors = step.ancestor_list()?;
+    step.send(
+        child,
+        Body::CheckAck {
+            seq,
+            upto,
+            rank,
+            ancestors,
+        },
+    )
+}
+
+/// A check-in came: what it tells is merged, where the child has a lease at that number.
+pub fn checked_in(step: &mut Step, child: NodeId, told: &CheckIn) -> Result<(), Memory>
+    requires { IsNode step.old.base.nodes child }
+    ensures { OnOk result (step.new ≡ goes step.old (checked_in step.old.plan child told.now.seq told.now.upto
+        told.now.rate told.now.number told.now.clients told.now.certs.now)) }
+{
+    if has_lease(step, child, told.seq) {
+        let life = Cert {
+            subject: child,
+            seq: told.seq,
+            parent: step.id(),
+            dead: false,
+            number: told.number,
+            clients: told.clients,
+        };
+        merge(step, &life)?;
+        merge_all(step, told.certs)?;
+        acknowledge(step, child, told.seq, told.upto, told.rate)
+    } else {
+        send_rejoin(step, child, told.seq)
+    }
+}
+
+fn take_place(step: &mut Step, upto: u64) -> Result<(), Memory>
+    requires { step.old.plan.node.kept.log ≡ step.old.base.kept.log }
+    ensures { OnOk result (step.new ≡ goes step.old (takes_place step.old.plan upto)) }
+{
+    if step.is_ahead(upto) {
+        step.write(Record::Acked { upto })
+    } else {
+        Ok(())
+    }
+}
+
+#[tactic(auto, using(crate::proofs::ByMode::rank_taken, crate::proofs::ByMode::rank_left))]
+fn take_rank(step: &mut Step, told: Rank) -> Result<(), Memory>
+    ensures { OnOk result (step.new ≡ goes step.old (takes_rank step.old.plan told)) }
+{
+    match better_rank(step.position().rank, told) {
+        Some(rank) => step.write(Record::Ranked { rank }),
+        None => Ok(()),
+    }
+}
+
+#[tactic(auto, using(crate::proofs::SameIds::same_ids_is))]
+fn take_ancestors(step: &mut Step, ids: IdList) -> Result<(), Memory>
+    ensures { OnOk result (step.new ≡ goes step.old (takes_ancestors step.old.plan ids)) }
+{
+    if ids.items() == step.ancestors() {
+        Ok(())
+    } else {
+        step.write(Record::Ancestors { ids })
+    }
+}
+
+/// An acknowledgement came.
+pub fn took_ack(
+    step: &mut Step,
+    from: NodeId,
+    seq: u64,
+    upto: u64,
+    told: Rank,
+    above: &[NodeId],
+) -> Result<(), Memory>
+    requires { step.old.plan.node.kept.log ≡ step.old.base.kept.log }
+    ensures { OnOk result (step.new ≡ goes step.old (took_ack step.old.plan from seq upto told above.now)) }
+{
+    let position = step.position();
+    if is_joined_to(position.mode, from) && seq == position.seq {
+        take_place(step, upto)?;
+        take_rank(step, told)?;
+        let ids = ancestors_by(step.alloc(), from, above)?;
+        take_ancestors(step, ids)
+    } else {
+        step.ignore()
+    }
+}
+
+/// A node has no lease at that number.
+pub fn took_rejoin(step: &mut Step, from: NodeId, seq: u64) -> Result<(), Memory>
+    ensures { OnOk result (step.new ≡ goes step.old (took_rejoin step.old.plan from seq)) }
+{
+    let position = step.position();
+    if is_peer(position.mode, from) && seq == position.seq {
+        ask_before(step, from)
+    } else {
+        step.ignore()
+    }
+}

@@ -19,7 +19,7 @@ pub enum ContentError {
     /// The file is no journal.
     NotJournal,
     /// The frame of this number, counted from 0, is the first that is no content body, that does not
-    /// begin where its group ends or adds nothing to it, that would be a 65th group or pass 2^30
+    /// begin where its group ends or adds nothing to it, that would be a 65th group or pass 2^40
     /// bytes, or whose group is sealed.
     BadFrame(u64),
     /// Memory ran out.
@@ -35,7 +35,7 @@ pub enum PutError {
     Sealed,
     /// The group is new, and 64 are held.
     TooManyGroups,
-    /// The group would have more than 2^30 bytes.
+    /// The group would have more than 2^40 bytes.
     TooLong,
     /// Memory ran out.
     Memory,

@@ -91,7 +91,7 @@ impl Index {
 
     /// Finds a byte of the group at an index: the spans from the one that holds it on, and the offset of
     /// the byte among those of the first.
-    pub fn find(&self, at: usize, start: u64) -> Option<(&[Span], u32)>
+    pub fn find(&self, at: usize, start: u64) -> Option<(&[Span], u64)>
         requires within { at < length self.now.shelves.items }
         requires rows { length self.now.tracks.items ≡ length self.now.shelves.items }
         requires short { All (λ s. s.held ≤ MAX_GROUP_BYTES) self.now.shelves.items }

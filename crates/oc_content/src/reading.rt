@@ -47,7 +47,7 @@ pub fn read_group<D: Disk>(
 pub fn read_spans<D: Disk>(
     journal: &mut Journal<D>,
     spans: &[Span],
-    mut skip: u32,
+    mut skip: u64,
     buf: &mut [u8],
 ) -> Result<usize, Failed>
     requires { skip < MAX_GROUP_BYTES }
@@ -75,7 +75,7 @@ pub fn read_spans<D: Disk>(
 fn read_span<D: Disk>(
     journal: &mut Journal<D>,
     span: &Span,
-    skip: u32,
+    skip: u64,
     buf: &mut [u8],
     count: usize,
 ) -> Result<usize, Failed>
@@ -91,6 +91,6 @@ fn read_span<D: Disk>(
     ensures none_failed { OnOk result (NoneFailed D.view journal.old journal.new) }
     ensures same { OnlyReads D.view journal.old journal.new }
 {
-    let more = journal.peek(span.frame, u32::from(span.skip) + skip, &mut buf[count..])?;
+    let more = journal.peek(span.frame, u64::from(span.skip) + skip, &mut buf[count..])?;
     Ok(count + more)
 }

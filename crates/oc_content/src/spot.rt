@@ -4,5 +4,5 @@ pub struct Spot {
     /// The number of the frame that holds it.
     pub frame: u64,
     /// The offset of the byte among those of the frame.
-    pub skip: u32,
+    pub skip: u64,
 }

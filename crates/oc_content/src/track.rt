@@ -71,7 +71,7 @@ pub struct Found {
     /// The index of its span among those of the group.
     pub span: usize,
     /// The offset of the byte among those of the span.
-    pub skip: u32,
+    pub skip: u64,
 }
 
 /// Finds a byte of a group by halving.
@@ -84,10 +84,7 @@ pub fn find_byte(spans: &[Span], start: u64) -> Option<Found>
 {
     let span = last_before(spans, start)?;
     let skip = start.checked_sub(spans[span].start)?;
-    Some(Found {
-        span,
-        skip: skip as u32,
-    })
+    Some(Found { span, skip })
 }
 
 /// The index of the last span that begins at this byte or before it.

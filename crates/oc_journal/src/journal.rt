@@ -211,7 +211,7 @@ impl<D: Disk> Journal<D> {
 
     /// Copies the body of a frame from the offset `skip` on into the buffer, as many bytes as fit,
     /// and answers how many. It takes no memory. After `Failed` the journal is closed.
-    pub fn peek(&mut self, index: u64, skip: u32, buf: &mut [u8]) -> Result<usize, Failed>
+    pub fn peek(&mut self, index: u64, skip: u64, buf: &mut [u8]) -> Result<usize, Failed>
         ensures within { IfOk result (λ n. n ≤ length buf.old) }
         ensures count { IfOk result (λ n. IsTrue (D.view self.old.disk).honest
             → n ≡ min (length buf.old) (length (get_or self.old.frames index []) - skip)) }
@@ -228,11 +228,12 @@ impl<D: Disk> Journal<D> {
             return Ok(0);
         }
         let extent = self.extents[index as usize];
-        if skip >= extent.len {
+        let len = u64::from(extent.len);
+        if skip >= len {
             return Ok(0);
         }
-        let count = buf.len().min((extent.len - skip) as usize);
-        let at = extent.at + u64::from(skip);
+        let count = buf.len().min((len - skip) as usize);
+        let at = extent.at + skip;
         let Ok(count) = read_part(&mut self.disk, at, count, buf) else {
             self.closed = true;
             return Err(Failed);

@@ -27,7 +27,7 @@ use Rattle.oc_model.specs.Content.{unless, keeps, grows, publish_to, seal_line, 
 use Rattle.oc_model.specs.Lawful.{IsBody, IsInput}
 use Rattle.oc_model.specs.Node.{Control}
 use Rattle.oc_model.specs.Plan.{Plan, answers, begun, ignored}
-use Rattle.oc_model.specs.Shelves.{line_or_none, line_at, with_line, limit, first_behind}
+use Rattle.oc_model.specs.Shelves.{line_or_none, line_at, with_line, limit, next_behind}
 use Rattle.oc_model.specs.Step.{Piece, kept_at, piece_in, piece_of, plan, received}
 use Rattle.oc_laws_step.proofs.Adopts.{goes_asked}
 use Rattle.oc_laws_step.proofs.Asks.{goes_took_yes, goes_took_no, goes_unreachable, goes_relocate}
@@ -255,7 +255,7 @@ received_fits nodes n ls p (bodies.No seq why) body ok = nothing_kept ls none 0 
 received_fits nodes n ls p (bodies.CheckIn seq upto rate number clients certs) body ok = nothing_kept ls none (length certs + 1) 0 n _ (goes_checked_in (begun n) p seq upto rate number clients certs)
 received_fits nodes n ls p (bodies.CheckAck seq upto rank ancestors) body ok = nothing_kept ls none 0 3 n _ (goes_took_ack (begun n) p seq upto rank ancestors)
 received_fits nodes n ls p (bodies.Rejoin seq) body ok = nothing_kept ls none 0 1 n _ (goes_took_rejoin (begun n) p seq)
-received_fits nodes n ls p (bodies.Fetch have) body ok = fetch_keeps ls have none n p (first_behind have ls)
+received_fits nodes n ls p (bodies.Fetch have) body ok = fetch_keeps ls have none n p (next_behind n.chunk have ls)
 received_fits nodes n ls p (bodies.Chunk g start bytes last) body ok =
     either (n.me == 1) (λ (q : Plan). CanKeep ls (record { group = g; bytes = bytes }) q.keeps q.seals) (ignored (begun n)) (chunk_to (begun n) ls p (line_at g ls) start (start + length bytes) last)
     tt (chunk_keeps ls g bytes body.0 (omega (arith, body.2)) ok (begun n) p start last refl)

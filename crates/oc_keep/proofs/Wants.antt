@@ -1,6 +1,7 @@
 -- What a step wants to send of the content is there.
-use Rattle.std.proofs.Common.{◌≡◌, ◌⊎◌, inl, inr, ⊎_elim, ℕ, ◌+◌, ◌<◌, Bool, true, false, ◌==◌, nat_lt, if◌then◌else◌, Option, Some, None, List, [], ◌∷◌, length, Less, nat_cmp, refl, sym, subst, ◌∙◌, arith}
+use Rattle.std.proofs.Common.{◌≡◌, ◌⊎◌, inl, inr, ⊎_elim, ℕ, ◌+◌, ◌<◌, ◌≤◌, IfSome, Bool, true, false, ◌==◌, nat_lt, if◌then◌else◌, Option, Some, None, List, [], ◌∷◌, length, Less, nat_cmp, refl, sym, subst, ◌∙◌, arith}
 use Rattle.std.specs.Cmp.Lexicographic.{slice_cmp}
+use Rattle.std.proofs.lemmas.Bool.{cond_both}
 use Rattle.std.proofs.lemmas.Bool.Decides.{nat_tests}
 use Rattle.oc_base.specs.declared.shelf.Shelf.{Shelf}
 use Rattle.oc_base.specs.Named.{same_name}
@@ -17,9 +18,11 @@ use Rattle.oc_model.specs.declared.want.Want.{Want}
 use Rattle.oc_model.specs.declared.answer.Answer.{Answer}
 use Rattle.oc_model.specs.Content.{unless, keeps, grows, publish_to, seal_line, count_from, wanted, answers_fetch, adds_seal, adds, grown_line, asks_on, chunk_to}
 use Rattle.oc_model.specs.Node.{Control}
+use Rattle.oc_model.specs.Numbers as numbers
 use Rattle.oc_model.specs.Plan.{Plan, answers, begun, ignored}
-use Rattle.oc_model.specs.Shelves.{line_at, with_line, limit, is_behind, first_behind}
+use Rattle.oc_model.specs.Shelves.{line_at, with_line, limit, next_behind}
 use Rattle.oc_model.specs.Step.{plan, received}
+use Rattle.oc_model.proofs.Shelves.{next-among}
 use Rattle.oc_laws_step.proofs.Adopts.{goes_asked}
 use Rattle.oc_laws_step.proofs.Asks.{goes_took_yes, goes_took_no, goes_unreachable, goes_relocate}
 use Rattle.oc_laws_step.proofs.Checks.{goes_checks, goes_tick, goes_checked_in, goes_took_ack, goes_took_rejoin}
@@ -47,31 +50,46 @@ among_more k ls (Some l) up h =
     let other : same_name l.group k.group ≡ false = names_apart k.group l.group (h.above k.group up) in
     record { its = rw other h.its; above = λ g all. h.above g all.1 }
 
-behind_among : (have ls : List Shelf) → AreLines ls → IfAmong ls (first_behind have ls)
-behind_among have [] all = tt
-behind_among have (k ∷ ks) all = by_test (behind_among have ks all.2) (is_behind (line_of k.group have) k) where
-  by_test : IfAmong ks (first_behind have ks) → (b : Bool) → IfAmong (k ∷ ks) (if b then Some k else first_behind have ks)
-  by_test rest true = record { its = rw (same_name-itself k.group) refl; above = λ g above. above.0 }
-  by_test rest false = among_more k ks (first_behind have ks) all.1 rest
+line_among : (l : Shelf) (ls : List Shelf) → AreLines ls → numbers.IsAmong l ls → IsAmong ls l
+line_among l [] all h = absurd h
+line_among l (k ∷ ks) all (inl e) = subst (IsAmong (k ∷ ks)) e record { its = rw (same_name-itself k.group) refl; above = λ g above. above.0 }
+line_among l (k ∷ ks) all (inr h) = among_more k ks (Some l) all.1 (line_among l ks all.2 h)
+
+behind_among : (chunk : ℕ) (have ls : List Shelf) → AreLines ls → IfAmong ls (next_behind chunk have ls)
+behind_among chunk have ls all = by_found (next_behind chunk have ls) refl where
+  by_found : (found : Option Shelf) → next_behind chunk have ls ≡ found → IfAmong ls found
+  by_found None e = tt
+  by_found (Some l) e = line_among l ls all (next-among chunk have ls l e)
 
 -- what is wanted of a line is within it
-want_held : (ls : List Shelf) (l : Shelf) (start : ℕ) → IsAmong ls l → CanWant ls (wanted l start (count_from l start))
-want_held ls l start among = by_test (count_from l start == 0) refl where
-  by_test : (b : Bool) → (count_from l start == 0) ≡ b → CanWant ls (if b then None else Some (record { group = l.group; start = start; count = count_from l start }))
+want_held : (most : ℕ) (ls : List Shelf) (l : Shelf) (start : ℕ) → IsAmong ls l → CanWant ls (wanted l start (count_from most l start))
+want_held most ls l start among = by_test (count_from most l start == 0) refl where
+  by_test : (b : Bool) → (count_from most l start == 0) ≡ b → CanWant ls (if b then None else Some (record { group = l.group; start = start; count = count_from most l start }))
   by_test true e = tt
   by_test false e =
-      let some : 0 < count_from l start = grind (arith, nat_tests) in
-      record { line = l; there = among.its; within = omega (arith, some); few = omega arith }
+      let some : 0 < count_from most l start = grind (arith, nat_tests) in
+      record { line = l; there = among.its; within = omega (arith, some) }
+
+-- it is no more than a chunk has at most
+abbrev IsFew : ℕ → Option Want → Type 0
+IsFew most w = IfSome w (λ x. x.count ≤ most)
+
+want_few : (most : ℕ) (l : Shelf) (start : ℕ) → IsFew most (wanted l start (count_from most l start))
+want_few most l start = cond_both (count_from most l start == 0) None (Some (record { group = l.group; start = start; count = count_from most l start })) (IsFew most) (λ _. tt) (λ _. omega arith)
 
 -- a step that answers a fetch from a node that has these
 record AnswersFetch (ls : List Shelf) (n : Control) (q : Plan) : Type 0 where
   to : ℕ
   have : List Shelf
-  is : q ≡ answers_fetch (begun n) to have (first_behind have ls)
+  is : q ≡ answers_fetch (begun n) to have (next_behind n.chunk have ls)
 
 fetch_wants : (ls have : List Shelf) (n : Control) (p : ℕ) (l : Option Shelf) → IfAmong ls l → CanWant ls (answers_fetch (begun n) p have l).wants
 fetch_wants ls have n p None among = tt
-fetch_wants ls have n p (Some l) among = want_held ls l (line_at l.group have).held among
+fetch_wants ls have n p (Some l) among = want_held n.chunk ls l (line_at l.group have).held among
+
+fetch_few : (have : List Shelf) (n : Control) (p : ℕ) (l : Option Shelf) → IsFew n.chunk (answers_fetch (begun n) p have l).wants
+fetch_few have n p None = tt
+fetch_few have n p (Some l) = want_few n.chunk l (line_at l.group have).held
 
 -- it writes nothing
 fetch_alone : (have : List Shelf) (n : Control) (p : ℕ) (l : Option Shelf) → ((answers_fetch (begun n) p have l).records ≡ []) × ((answers_fetch (begun n) p have l).keeps ≡ None)
@@ -154,7 +172,16 @@ wants_held n ls i ok = ⊎_elim none fetch (step_wants n ls i) where
   none h = subst (λ (w : Option Want). CanWant ls w) (sym h) tt
 
   fetch : AnswersFetch ls n (plan n ls i) → CanWant ls (plan n ls i).wants
-  fetch f = subst (λ (q : Plan). CanWant ls q.wants) (sym f.is) (fetch_wants ls f.have n f.to (first_behind f.have ls) (behind_among f.have ls ok.0))
+  fetch f = subst (λ (q : Plan). CanWant ls q.wants) (sym f.is) (fetch_wants ls f.have n f.to (next_behind n.chunk f.have ls) (behind_among n.chunk f.have ls ok.0))
+
+-- and is no more than the node's chunk has
+pub wants_few : (n : Control) (ls : List Shelf) (i : Input) → IfSome (plan n ls i).wants (λ w. w.count ≤ n.chunk)
+wants_few n ls i = ⊎_elim none fetch (step_wants n ls i) where
+  none : (plan n ls i).wants ≡ None → IsFew n.chunk (plan n ls i).wants
+  none h = subst (λ (w : Option Want). IsFew n.chunk w) (sym h) tt
+
+  fetch : AnswersFetch ls n (plan n ls i) → IsFew n.chunk (plan n ls i).wants
+  fetch f = subst (λ (q : Plan). IsFew n.chunk q.wants) (sym f.is) (fetch_few f.have n f.to (next_behind n.chunk f.have ls))
 
 -- and a step that wants anything writes nothing
 pub wants_alone : (n : Control) (ls : List Shelf) (i : Input) (w : Want) → (plan n ls i).wants ≡ Some w → ((plan n ls i).records ≡ []) × ((plan n ls i).keeps ≡ None)
@@ -163,4 +190,4 @@ wants_alone n ls i w wants = ⊎_elim none fetch (step_wants n ls i) where
   none h = let no : None ≡ Some w = sym h ∙ wants in absurd cc
 
   fetch : AnswersFetch ls n (plan n ls i) → ((plan n ls i).records ≡ []) × ((plan n ls i).keeps ≡ None)
-  fetch f = subst (λ (q : Plan). (q.records ≡ []) × (q.keeps ≡ None)) (sym f.is) (fetch_alone f.have n f.to (first_behind f.have ls))
+  fetch f = subst (λ (q : Plan). (q.records ≡ []) × (q.keeps ≡ None)) (sym f.is) (fetch_alone f.have n f.to (next_behind n.chunk f.have ls))

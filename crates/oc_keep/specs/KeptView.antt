@@ -31,13 +31,13 @@ pub record KeptView (D : Type 0) : Type 0 where
   pub content : ContentView D
   pub closed : Bool
 
--- among `nodes` nodes, with a chain of this length and these areas
-abbrev pub header : ℕ → ℕ → List ℕ → Header
-header nodes chain areas = record { nodes = nodes; chain = chain; areas = areas }
+-- among `nodes` nodes, with a chain of this length, chunks of at most that many bytes, and these areas
+abbrev pub header : ℕ → ℕ → ℕ → List ℕ → Header
+header nodes chain chunk areas = record { nodes = nodes; chain = chain; chunk = chunk; areas = areas }
 
 -- the same for a seat
 abbrev pub header_in : Seat → Header
-header_in s = header s.nodes s.chain s.areas.items
+header_in s = header s.nodes s.chain s.chunk s.areas.items
 
 -- one of these parts
 abbrev pub kept_of : {D : Type 0} → NodeView → StoreView D → ContentView D → Bool → KeptView D
@@ -45,7 +45,7 @@ kept_of node store content closed = record { node = node; store = store; content
 
 -- among which nodes a node is
 abbrev pub header_of : Control → Header
-header_of n = record { nodes = n.nodes; chain = n.chain; areas = n.areas }
+header_of n = record { nodes = n.nodes; chain = n.chain; chunk = n.chunk; areas = n.areas }
 
 -- the disks of its files
 abbrev pub disks_of : {D : Type 0} → KeptView D → Disks D

@@ -1,6 +1,6 @@
 -- What a step keeps of its input's bytes, as the content log puts it.
 use Rattle.std.specs.Prelude.{◌≡◌, ℕ, ◌+◌, ◌≤◌, Bool, true, not, ◌||◌, nat_lt, Option, Some, None, is_some, List, length}
-use Rattle.oc_base.specs.declared.limits.TheConstants.{MAX_CHUNK_BYTES, MAX_GROUP_BYTES, MAX_PUBLISH_BYTES}
+use Rattle.oc_base.specs.declared.limits.TheConstants.{MAX_GROUP_BYTES, MAX_PUBLISH_BYTES}
 use Rattle.oc_base.specs.declared.shelf.Shelf.{Shelf}
 use Rattle.oc_base.specs.Names.{IsGroupName}
 use Rattle.oc_base.specs.Shelves.{line_of}
@@ -31,12 +31,11 @@ abbrev pub CanKeep : List Shelf → Piece → Option ℕ → Bool → Type 0
 CanKeep shelf p None closes = Unit {0}
 CanKeep shelf p (Some at) closes = CanPut shelf p at closes
 
--- bytes that a step wants are held, and are no more than a chunk has
+-- bytes that a step wants are held
 pub record IsHeldWant (shelf : List Shelf) (w : Want) : Type 0 where
   pub line : Shelf
   pub there : line_of w.group shelf ≡ Some line
   pub within : w.start + w.count ≤ line.held
-  pub few : w.count ≤ MAX_CHUNK_BYTES
 
 -- the same for what a step wants, if it wants anything
 abbrev pub CanWant : List Shelf → Option Want → Type 0

@@ -38,7 +38,7 @@ pub enum KeepError {
     Closed,
     /// Memory ran out, and nothing was changed.
     Memory,
-    /// The file would pass 2^40 bytes, and nothing was changed.
+    /// The file would pass 2^48 bytes, and nothing was changed.
     Full,
     /// A disk failed. The files recover the node before the input or after it.
     Disk,
@@ -58,7 +58,7 @@ pub enum ReadyError {
 /// Why an input that was made ready was not taken.
 #[derive(Clone, Copy)]
 pub enum CommitError {
-    /// The file would pass 2^40 bytes, and nothing was changed.
+    /// The file would pass 2^48 bytes, and nothing was changed.
     Full,
     /// A disk failed. The files recover the node before the input or after it.
     Disk,

@@ -1,4 +1,4 @@
-ghost use Rattle.std.specs.Prelude.{◌≡◌, ℕ, Bool, true, false, Option, Some, None, List, length};
+ghost use Rattle.std.specs.Prelude.{◌≡◌, ℕ, ◌≤◌, Bool, true, false, Option, Some, None, IfSome, List, length};
 ghost use Rattle.oc_base.specs.declared.group.Group.{Group};
 ghost use Rattle.oc_base.specs.declared.shelf.Shelf.{Shelf};
 ghost use Rattle.oc_base.specs.Groups.{shelf};
@@ -20,4 +20,6 @@ pub fn prepare_refuses_nothing_that_is_kept()
         → kept_at (Some at) groups p closes ≡ with_entry (entry_for (shelf groups) p at closes) groups }
     ensures wants { (n : Control) (lines : List Shelf) (i : Input) → IsShelf lines
         → CanWant lines (plan n lines i).wants }
+    ensures few { (n : Control) (lines : List Shelf) (i : Input)
+        → IfSome (plan n lines i).wants (λ w. w.count ≤ n.chunk) }
 {}

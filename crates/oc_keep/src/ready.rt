@@ -2,7 +2,7 @@ ghost use Rattle.std.specs.Prelude.{◌≡◌};
 ghost use Rattle.oc_keep.specs.ReadyView.{is_written};
 
 use oc_content::Piece;
-use oc_model::Message;
+use oc_model::{Answer, Message};
 use oc_node::Plan;
 use oc_store::Frame;
 use std::marker::Model;
@@ -39,6 +39,13 @@ impl Ready {
         ensures { result.now ≡ self.now.plan.sends }
     {
         self.plan.sends()
+    }
+
+    /// What the step will answer.
+    pub fn answer(&self) -> Answer
+        ensures { result ≡ self.now.plan.answer }
+    {
+        self.plan.answer()
     }
 
     /// Whether the step writes a frame: exactly where something durable changes.

@@ -8,6 +8,8 @@ pub struct Seat {
     pub nodes: u32,
     /// The length of the chain: its members are the nodes from 1 to this one.
     pub chain: u32,
+    /// The greatest number of bytes of a chunk that the node sends.
+    pub chunk: u32,
     /// The area of each node, by its number.
     pub areas: Vec<u8>,
 }

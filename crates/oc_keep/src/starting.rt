@@ -32,9 +32,10 @@ pub fn start(alloc: Global, seat: Seat, list: &[Record], end: u64) -> Result<Nod
         id,
         nodes,
         chain,
+        chunk,
         areas,
     } = seat;
-    let mut node = Node::new(alloc, id, nodes, chain, areas)?;
+    let mut node = Node::new(alloc, id, nodes, chain, chunk, areas)?;
     match node.recover(list) {
         Ok(()) => Ok(node),
         Err(Memory) => {

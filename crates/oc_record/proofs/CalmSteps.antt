@@ -25,7 +25,7 @@ use Rattle.oc_model.specs.Adopting.{is_acting, raises, host, birth, has_lease, g
 use Rattle.oc_model.specs.Adoption.{rank_or_last, precedes, precedes_any, is_better, adoption_refusal}
 use Rattle.oc_model.specs.Asking.{lost_from, lost, next_try, round, ask_before, is_asking, ancestors_by, joins, took_yes, refused, took_no, descend, not_seen, not_reached, relocate}
 use Rattle.oc_model.specs.ChangeLog.{is_ahead, begun_with}
-use Rattle.oc_model.specs.Checking.{counts_clients, checks_as, next_check, checks, merges, merges_all, at_time, starts_leases, dies, ends_each, ends_leases, looks_at_each, looks_round, is_due, checks_if_due, fetches_as, tick, acknowledges, life, checked_in, is_joined_to, takes_place, takes_rank, same_ids, takes_ancestors, took_ack, is_peer, took_rejoin}
+use Rattle.oc_model.specs.Checking.{counts_clients, notes_time, reports, checks_as, next_check, checks, merges, merges_all, at_time, starts_leases, dies, ends_each, ends_leases, looks_at_each, looks_round, is_due, forgets_refusal, checks_in_time, has_news, reports_news_as, reports_news, checks_if_due, fetches_as, tick, acknowledges, life, checked_in, is_joined_to, takes_place, takes_rank, same_ids, takes_ancestors, took_ack, is_peer, took_rejoin}
 use Rattle.oc_model.specs.Choice.{below, chosen, reviewed}
 use Rattle.oc_model.specs.Content.{published, sealed_at, fetched, took_chunk}
 use Rattle.oc_model.specs.Leases.{ended}
@@ -118,7 +118,7 @@ calm_refused o refusals.Depth other calm = calm_next_try o other calm
 calm_refused o refusals.Rank other calm = calm_next_try o other calm
 
 abbrev heard : Plan → Plan
-heard o = with_soft (lost o) (record o.node.soft { silent = false })
+heard o = with_soft (lost o) (record o.node.soft { silent = false; refused = true })
 
 -- to lose a parent leaves the search as it was
 lost_soft_from : (m : Mode) (o : Plan) → (lost_from m o).node.soft ≡ o.node.soft
@@ -129,7 +129,7 @@ lost_soft_from modes.Acting o = refl
 
 calm_heard : (o : Plan) → Calm o → Calm (heard o)
 calm_heard o calm =
-    calm_soft (lost o) (record o.node.soft { silent = false }) (λ none. subst (λ s. NoDescent s.search) (lost_soft_from o.node.kept.mode o) none) (calm_lost o calm)
+    calm_soft (lost o) (record o.node.soft { silent = false; refused = true }) (λ none. subst (λ s. NoDescent s.search) (lost_soft_from o.node.kept.mode o) none) (calm_lost o calm)
 
 calm_took_no : (o : Plan) (p seq : ℕ) (why : Refusal) → Calm o → Calm (took_no o p seq why)
 calm_took_no o p seq why calm =
@@ -167,8 +167,11 @@ calm_counts o calm =
     (calm_keep o (records.Info (o.node.kept.number + 1) (capped (o.node.kept.clients + o.node.soft.served))) refl calm))
     calm
 
+calm_noted : (o : Plan) → Calm o → Calm (notes_time o)
+calm_noted o calm = calm_soft o (record o.node.soft { checked = Some o.node.soft.clock }) (λ none. none) calm
+
 calm_checks_as : (m : Mode) (o : Plan) → o.node.kept.mode ≡ m → Calm o → Calm (checks_as m o)
-calm_checks_as (modes.Joined p) o is calm = calm_counts o calm
+calm_checks_as (modes.Joined p) o is calm = calm_counts (notes_time o) (calm_noted o calm)
 calm_checks_as modes.Acting o is calm = calm_raises o (raise (rank_or_last o.node.kept.rank).epoch) calm
 calm_checks_as modes.Idle o is calm = calm_round o None (not_acting o is) calm
 calm_checks_as (modes.Asking p) o is calm = calm
@@ -198,14 +201,30 @@ calm_looks_at_each (x ∷ xs) o calm = calm_looks_at_each xs (send o x bodies.Lo
 
 calm_looks_round : (m : Mode) (o : Plan) → Calm o → Calm (looks_round m o)
 calm_looks_round (modes.Joined p) o calm =
-    either (is_member o.node) Calm (looks_at_each (filter (λ x. nat_lt p x) (below o.node.me)) o) (send (searching o (Some Reviewing)) p bodies.Look)
-    (calm_looks_at_each (filter (λ x. nat_lt p x) (below o.node.me)) o calm) (calm_soft o (record o.node.soft { search = Some Reviewing }) (λ none. tt) calm)
+    either (is_member o.node) Calm (looks_at_each (filter (λ x. nat_lt p x) (below o.node.me)) o) (if o.node.soft.refused then o else send (searching o (Some Reviewing)) p bodies.Look)
+    (calm_looks_at_each (filter (λ x. nat_lt p x) (below o.node.me)) o calm)
+    (either o.node.soft.refused Calm o (send (searching o (Some Reviewing)) p bodies.Look) calm (calm_soft o (record o.node.soft { search = Some Reviewing }) (λ none. tt) calm))
 calm_looks_round modes.Acting o calm = either (is_member o.node) Calm (looks_at_each (below o.node.me) o) o (calm_looks_at_each (below o.node.me) o calm) calm
 calm_looks_round modes.Idle o calm = calm
 calm_looks_round (modes.Asking p) o calm = calm
 
+calm_forgets : (due : Option ℕ) (o : Plan) → Calm o → Calm (forgets_refusal due o)
+calm_forgets None o calm = calm
+calm_forgets (Some t) o calm = calm_soft o (record o.node.soft { refused = false }) (λ none. none) calm
+
+calm_checks_in_time : (o : Plan) → Calm o → Calm (checks_in_time o)
+calm_checks_in_time o calm =
+    let begins : Plan = forgets_refusal o.node.soft.due o in
+    calm_looks_round o.node.kept.mode (checks begins) (calm_checks begins (calm_forgets o.node.soft.due o calm))
+
+calm_reports_news_as : (m : Mode) (o : Plan) → Calm o → Calm (reports_news_as m o)
+calm_reports_news_as (modes.Joined p) o calm = either (has_news o.node) Calm (reports o p) o (calm_counts (notes_time o) (calm_noted o calm)) calm
+calm_reports_news_as modes.Idle o calm = calm
+calm_reports_news_as (modes.Asking p) o calm = calm
+calm_reports_news_as modes.Acting o calm = calm
+
 calm_checks_if_due : (o : Plan) → Calm o → Calm (checks_if_due o)
-calm_checks_if_due o calm = either (is_due o.node.soft.due o.node.soft.clock) Calm (looks_round o.node.kept.mode (checks o)) o (calm_looks_round o.node.kept.mode (checks o) (calm_checks o calm)) calm
+calm_checks_if_due o calm = either (is_due o.node.soft.due o.node.soft.clock) Calm (checks_in_time o) (reports_news o) (calm_checks_in_time o calm) (calm_reports_news_as o.node.kept.mode o calm)
 
 calm_fetches_as : (m : Mode) (o : Plan) (shelf : List Shelf) → Calm o → Calm (fetches_as m o shelf)
 calm_fetches_as (modes.Joined p) o shelf calm = calm

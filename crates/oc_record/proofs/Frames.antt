@@ -18,7 +18,7 @@ use Rattle.oc_model.specs.declared.mode.Mode.TheVariants as modes
 use Rattle.oc_model.specs.Content.{unless, keeps, grows, publish_to, published, seal_line, sealed_at, answers_fetch, adds, adds_seal, grown_line, asks_on, keeps_chunk, chunk_to, took_chunk}
 use Rattle.oc_model.specs.Node.{Durable, Node}
 use Rattle.oc_model.specs.Plan.{Plan, begun, answers, ignored}
-use Rattle.oc_model.specs.Shelves.{line_at, with_line, limit, first_behind}
+use Rattle.oc_model.specs.Shelves.{line_at, with_line, limit, next_behind}
 use Rattle.oc_model.specs.Step.{piece_of, grown, kept_at, plan, received, step}
 use Rattle.oc_model.proofs.Groups.{group_of-with_group_same, group_or_empty-name}
 use Rattle.oc_model.proofs.Shelves.{line_of-shelf, line_at-shelf, is_some-shelf}
@@ -228,7 +228,7 @@ keeping_received n m (bodies.No seq why) is = inl (goes_took_no (begun n.control
 keeping_received n m (bodies.CheckIn seq upto rate number clients certs) is = inl (goes_checked_in (begun n.control) m.from seq upto rate number clients certs).by.keeps
 keeping_received n m (bodies.CheckAck seq upto rank ancestors) is = inl (goes_took_ack (begun n.control) m.from seq upto rank ancestors).by.keeps
 keeping_received n m (bodies.Rejoin seq) is = inl (goes_took_rejoin (begun n.control) m.from seq).by.keeps
-keeping_received n m (bodies.Fetch have) is = inl (fetch_keeps (first_behind have (shelf n.groups))) where
+keeping_received n m (bodies.Fetch have) is = inl (fetch_keeps (next_behind n.control.chunk have (shelf n.groups))) where
   fetch_keeps : (l : Option Shelf) → (answers_fetch (begun n.control) m.from have l).keeps ≡ None
   fetch_keeps None = refl
   fetch_keeps (Some l) = refl

@@ -21,7 +21,7 @@ use Rattle.oc_model.specs.Adopting.{is_acting, raises, host, birth, has_lease, g
 use Rattle.oc_model.specs.Adoption.{rank_or_last, precedes, precedes_any, is_better, adoption_refusal}
 use Rattle.oc_model.specs.Asking.{lost, next_try, round, ask_before, is_asking, ancestors_by, joins, took_yes, refused, took_no, descend, not_seen, not_reached, unreachable, relocate}
 use Rattle.oc_model.specs.ChangeLog.{ack, is_ahead}
-use Rattle.oc_model.specs.Checking.{counts_clients, checks_in, checks_as, next_check, checks, merges, merges_all, at_time, starts_leases, dies, ends_each, ends_leases, looks_at_each, looks_round, is_due, checks_if_due, fetches_as, tick, acknowledges, life, checked_in, is_joined_to, takes_place, takes_rank, same_ids, takes_ancestors, took_ack, is_peer, took_rejoin}
+use Rattle.oc_model.specs.Checking.{counts_clients, notes_time, reports, checks_as, next_check, checks, merges, merges_all, at_time, starts_leases, dies, ends_each, ends_leases, looks_at_each, looks_round, is_due, forgets_refusal, checks_in_time, has_news, reports_news_as, reports_news, checks_if_due, fetches_as, tick, acknowledges, life, checked_in, is_joined_to, takes_place, takes_rank, same_ids, takes_ancestors, took_ack, is_peer, took_rejoin}
 use Rattle.oc_model.specs.Choice.{below, chosen, reviewed}
 use Rattle.oc_model.specs.Leases.{ended}
 use Rattle.oc_model.specs.Measures.{reading_of, with_reading, same_reading}
@@ -234,12 +234,12 @@ module _ (Q : Type 0) (n : Control) (sound : Q → (p : ℕ) → n.kept.mode ≡
   moved_refused o refusals.Rank other b = moved_next_try Q n.kept o other b
 
   abbrev heard : Plan
-  heard = with_soft (lost (begun n)) (record n.soft { silent = false })
+  heard = with_soft (lost (begun n)) (record n.soft { silent = false; refused = true })
 
   begins_heard : Begins n.kept heard
   begins_heard = by_lost (begins_lost n.kept (begun n) begins_start) where
-    by_lost : Begins n.kept (lost (begun n)) → Begins n.kept (with_soft (lost (begun n)) (record (begun n).node.soft { silent = false }))
-    by_lost b = begins_along n.kept (lost (begun n)) (with_soft (lost (begun n)) (record (begun n).node.soft { silent = false })) refl refl b
+    by_lost : Begins n.kept (lost (begun n)) → Begins n.kept (with_soft (lost (begun n)) (record (begun n).node.soft { silent = false; refused = true }))
+    by_lost b = begins_along n.kept (lost (begun n)) (with_soft (lost (begun n)) (record (begun n).node.soft { silent = false; refused = true })) refl refl b
 
   pub moves_took_no : (p seq : ℕ) (why : Refusal) → M (took_no (begun n) p seq why)
   moves_took_no p seq why =
@@ -294,9 +294,11 @@ module _ (Q : Type 0) (n : Control) (sound : Q → (p : ℕ) → n.kept.mode ≡
   moved_raises o None other f = fresh_moved Q n.kept o f
   moved_raises o (Some k) other f = fresh_part Q n.kept o (records.Epoch k) refl refl refl refl (λ q back. other k refl (ap (λ e. e.rank) back)) f
 
+  moved_reports : (o : Plan) (p : ℕ) → Fresh n.kept o → M (reports o p)
+  moved_reports o p f = along (counts_clients (notes_time o)) (reports o p) refl refl (moved_counts (notes_time o) (fresh_along o (notes_time o) refl refl f))
+
   moved_checks_as : (m : Mode) (o : Plan) → o.node.kept.mode ≡ m → Fresh n.kept o → M (checks_as m o)
-  moved_checks_as (modes.Joined p) o is f =
-      along (counts_clients o) (checks_in (counts_clients o) p) refl refl (moved_counts o f)
+  moved_checks_as (modes.Joined p) o is f = moved_reports o p f
   moved_checks_as modes.Acting o is f = moved_raises o (raise (rank_or_last o.node.kept.rank).epoch) (λ k e. raised_other o.node.kept.rank k e) f
   moved_checks_as modes.Idle o is f = moved_round Q n.kept o None (not_acting modes.Idle (sym (fresh_mode n.kept o f) ∙ is) (λ a. absurd (cc a))) (fresh f)
   moved_checks_as (modes.Asking p) o is f = fresh_moved Q n.kept (send o p (bodies.Ask o.node.kept.seq o.node.kept.rank)) (fresh_along o (send o p (bodies.Ask o.node.kept.seq o.node.kept.rank)) refl refl f)
@@ -333,15 +335,31 @@ module _ (Q : Type 0) (n : Control) (sound : Q → (p : ℕ) → n.kept.mode ≡
 
   moved_looks_round : (m : Mode) (o : Plan) → M o → M (looks_round m o)
   moved_looks_round (modes.Joined p) o here =
-      either (is_member o.node) M (looks_at_each (filter (λ x. nat_lt p x) (below o.node.me)) o) (send (searching o (Some Review)) p bodies.Look)
-      (moved_looks_at_each (filter (λ x. nat_lt p x) (below o.node.me)) o here) (along o (send (searching o (Some Review)) p bodies.Look) refl refl here)
+      either (is_member o.node) M (looks_at_each (filter (λ x. nat_lt p x) (below o.node.me)) o) (if o.node.soft.refused then o else send (searching o (Some Review)) p bodies.Look)
+      (moved_looks_at_each (filter (λ x. nat_lt p x) (below o.node.me)) o here)
+      (either o.node.soft.refused M o (send (searching o (Some Review)) p bodies.Look) here (along o (send (searching o (Some Review)) p bodies.Look) refl refl here))
   moved_looks_round modes.Acting o here = either (is_member o.node) M (looks_at_each (below o.node.me) o) o (moved_looks_at_each (below o.node.me) o here) here
   moved_looks_round modes.Idle o here = here
   moved_looks_round (modes.Asking p) o here = here
 
+  fresh_forgets : (due : Option ℕ) (o : Plan) → Fresh n.kept o → Fresh n.kept (forgets_refusal due o)
+  fresh_forgets None o f = f
+  fresh_forgets (Some t) o f = fresh_along o (with_soft o (record o.node.soft { refused = false })) refl refl f
+
+  moved_checks_in_time : (o : Plan) → Fresh n.kept o → M (checks_in_time o)
+  moved_checks_in_time o f =
+      let begins : Plan = forgets_refusal o.node.soft.due o in
+      moved_looks_round o.node.kept.mode (checks begins) (moved_checks begins (fresh_forgets o.node.soft.due o f))
+
+  moved_reports_news_as : (m : Mode) (o : Plan) → Fresh n.kept o → M (reports_news_as m o)
+  moved_reports_news_as (modes.Joined p) o f = either (has_news o.node) M (reports o p) o (moved_reports o p f) (fresh_moved Q n.kept o f)
+  moved_reports_news_as modes.Idle o f = fresh_moved Q n.kept o f
+  moved_reports_news_as (modes.Asking p) o f = fresh_moved Q n.kept o f
+  moved_reports_news_as modes.Acting o f = fresh_moved Q n.kept o f
+
   moved_checks_if_due : (o : Plan) → Fresh n.kept o → M (checks_if_due o)
   moved_checks_if_due o f =
-      either (is_due o.node.soft.due o.node.soft.clock) M (looks_round o.node.kept.mode (checks o)) o (moved_looks_round o.node.kept.mode (checks o) (moved_checks o f)) (fresh_moved Q n.kept o f)
+      either (is_due o.node.soft.due o.node.soft.clock) M (checks_in_time o) (reports_news o) (moved_checks_in_time o f) (moved_reports_news_as o.node.kept.mode o f)
 
   moved_fetches_as : (m : Mode) (o : Plan) (shelf : List Shelf) → M o → M (fetches_as m o shelf)
   moved_fetches_as (modes.Joined p) o shelf here = along o (send o p (bodies.Fetch shelf)) refl refl here

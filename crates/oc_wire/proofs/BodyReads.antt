@@ -1,5 +1,5 @@
 -- The body of a code is read exactly where its text is there.
-use Rattle.std.proofs.Common.{◌≡◌, ℕ, ◌^◌, ◌<◌, ◌==◌, true, List, Result, Ok, Err, sym, ap, subst, arith}
+use Rattle.std.proofs.Common.{◌≡◌, ℕ, ◌^◌, ◌<◌, ◌==◌, Bool, true, false, List, Result, Ok, Err, refl, sym, ap, subst, arith}
 use Rattle.std.proofs.lemmas.Bool.{eqb-true}
 use Rattle.oc_base.specs.Reading.{Reading}
 use Rattle.oc_base.proofs.TextsAt.{IsBytes, Takes, takes_nothing, tested}
@@ -8,7 +8,7 @@ use Rattle.oc_model.specs.declared.message.Body.{Body}
 use Rattle.oc_model.specs.declared.message.Body.TheVariants.{Look, LookIs, Ask, Yes, No, CheckIn, CheckAck, Rejoin, Fetch, Chunk}
 use Rattle.oc_wire.specs.declared.fault.WireFault.{WireFault}
 use Rattle.oc_wire.specs.MessageFaults.{of_field}
-use Rattle.oc_wire.specs.Spelling.{code_of, fields_bytes, HasSpelling}
+use Rattle.oc_wire.specs.Spelling.{is_large, chunk_code, code_of, fields_bytes, HasSpelling}
 use Rattle.oc_wire.specs.FieldReading.{look_is_at, ask_at, yes_at, no_at, check_in_at, check_ack_at, rejoin_at, fetch_at, chunk_at}
 use Rattle.oc_wire.specs.MessageReading.{body_at}
 use Rattle.oc_wire.proofs.KindReads.{IsTaken, Taken, look_is, ask, yes, no, check_in, check_ack, rejoin, fetch, chunk}
@@ -52,7 +52,8 @@ body_takes nodes code bytes fits at b next e =
     tested (code == 7) _ _ (b, next) Q e (λ is e. by_code nodes code 7 bytes (check_ack_at nodes bytes) at b next (check_ack nodes bytes).0 fits is e) (λ e.
     tested (code == 8) _ _ (b, next) Q e (λ is e. by_code nodes code 8 bytes (rejoin_at bytes) at b next (rejoin nodes bytes).0 fits is e) (λ e.
     tested (code == 12) _ _ (b, next) Q e (λ is e. by_code nodes code 12 bytes (fetch_at bytes) at b next (fetch nodes bytes).0 fits is e) (λ e.
-    tested (code == 13) _ _ (b, next) Q e (λ is e. by_code nodes code 13 bytes (chunk_at bytes) at b next (chunk nodes bytes).0 fits is e) (λ e. absurd cc))))))))))
+    tested (code == 13) _ _ (b, next) Q e (λ is e. by_code nodes code 13 bytes (chunk_at false bytes) at b next (chunk false nodes bytes).0 fits is e) (λ e.
+    tested (code == 14) _ _ (b, next) Q e (λ is e. by_code nodes code 14 bytes (chunk_at true bytes) at b next (chunk true nodes bytes).0 fits is e) (λ e. absurd cc)))))))))))
 
 -- a body whose text is there is read
 pub body_again : (nodes : ℕ) (bytes : List ℕ) → nodes < 2 ^ 32 → (at : ℕ) (b : Body) (next : ℕ) → IsBody nodes b → HasSpelling b → Takes bytes at (fields_bytes b) next → body_at (code_of b) nodes bytes at ≡ Ok (b, next)
@@ -66,4 +67,7 @@ body_again nodes bytes few at (CheckIn seq upto rate number clients certs) next 
 body_again nodes bytes few at (CheckAck seq upto rank ancestors) next h s t = ap of_field ((check_ack nodes bytes).1 seq upto rank ancestors few at next h s t)
 body_again nodes bytes few at (Rejoin seq) next h s t = ap of_field ((rejoin nodes bytes).1 seq few at next h s t)
 body_again nodes bytes few at (Fetch have) next h s t = ap of_field ((fetch nodes bytes).1 have few at next h s t)
-body_again nodes bytes few at (Chunk group start piece last) next h s t = ap of_field ((chunk nodes bytes).1 group start piece last few at next h s t)
+body_again nodes bytes few at (Chunk group start piece last) next h s t = by_size (is_large piece) refl where
+  by_size : (large : Bool) → is_large piece ≡ large → body_at (chunk_code (is_large piece)) nodes bytes at ≡ Ok (Chunk group start piece last, next)
+  by_size true is = rw is (ap of_field ((chunk true nodes bytes).1 group start piece last is few at next h s t))
+  by_size false is = rw is (ap of_field ((chunk false nodes bytes).1 group start piece last is few at next h s t))

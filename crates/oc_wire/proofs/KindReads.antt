@@ -1,5 +1,5 @@
 -- The fields of each kind are read exactly where their texts are there.
-use Rattle.std.proofs.Common.{◌≡◌, ℕ, ◌^◌, ◌<◌, Bool, Option, List, Ok, refl, sym, ◌∙◌, arith}
+use Rattle.std.proofs.Common.{◌≡◌, ℕ, ◌^◌, ◌<◌, Bool, Option, List, Ok, refl, sym, ap, ◌∙◌, arith}
 use Rattle.std.specs.Int.{w64}
 use Rattle.oc_base.specs.declared.cert.Cert.{Cert}
 use Rattle.oc_base.specs.declared.cert.Child.{Child}
@@ -15,7 +15,7 @@ use Rattle.oc_base.proofs.ListReads.{reads_ancestors}
 use Rattle.oc_model.specs.Lawful.{IsBody}
 use Rattle.oc_model.specs.declared.message.Body.{Body}
 use Rattle.oc_model.specs.declared.message.Body.TheVariants.{LookIs, Ask, Yes, No, CheckIn, CheckAck, Rejoin, Fetch, Chunk}
-use Rattle.oc_wire.specs.Spelling.{code_of, fields_bytes, HasSpelling}
+use Rattle.oc_wire.specs.Spelling.{is_large, chunk_code, code_of, fields_bytes, HasSpelling}
 use Rattle.oc_wire.specs.FieldReading.{parent_at, rank_or_none_at, refusal_at, name_at, children_at, certs_at, chunk_bytes_at, look_is_at, ask_at, yes_at, no_at, check_in_at, check_ack_at, rejoin_at, fetch_at, chunk_at}
 use Rattle.oc_wire.proofs.FieldReads.{reads_parent, reads_rank_or_none, reads_refusal}
 use Rattle.oc_wire.proofs.NameReads.{reads_name}
@@ -114,14 +114,15 @@ fetch nodes bytes =
       λ have few at next h fits t. made_again parts Fetch few at have next h t,
     )
 
-pub chunk : (nodes : ℕ) (bytes : List ℕ)
-    → Taken nodes 13 bytes (chunk_at bytes) × ((group : List ℕ) (start : ℕ) (piece : List ℕ) (last : Bool) → Again nodes bytes (chunk_at bytes) (Chunk group start piece last))
+-- of many bytes or of few
+pub chunk : (large : Bool) (nodes : ℕ) (bytes : List ℕ)
+    → Taken nodes (chunk_code large) bytes (chunk_at large bytes) × ((group : List ℕ) (start : ℕ) (piece : List ℕ) (last : Bool) → is_large piece ≡ large → Again nodes bytes (chunk_at large bytes) (Chunk group start piece last))
 unfolding chunk_at
-chunk nodes bytes =
+chunk large nodes bytes =
     let start = reads_within w64 (2 ^ 64) wide64 0 MAX_GROUP_BYTES nodes bytes (λ few. omega arith) in
-    let parts = reads_pair (reads_pair (reads_pair (reads_name nodes bytes) start) (reads_flag nodes bytes)) (reads_chunk_bytes nodes bytes) in
+    let parts = reads_pair (reads_pair (reads_pair (reads_name nodes bytes) start) (reads_flag nodes bytes)) (reads_chunk_bytes large nodes bytes) in
     let make : (((List ℕ × ℕ) × Bool) × List ℕ) → Body = λ x. Chunk x.0.0.0 x.0.0.1 x.1 x.0.1 in
-    let are = four_are (name_at bytes) (within_at w64 0 MAX_GROUP_BYTES bytes) (flag_at bytes) (chunk_bytes_at bytes) (λ group start last piece. Chunk group start piece last) in (
-      λ valid at b next e. made_takes parts make (IsTaken nodes 13 bytes at) valid at b next (λ x next h t. record { lawful = (h.0.0.0, h.0.0.1.1, h.1); fits = omega (arith, h.1); kind = refl; text = t }) (sym (are at) ∙ e),
-      λ group start piece last few at next h fits t. are at ∙ made_again parts make few at (((group, start), last), piece) next (((h.0, (omega arith, h.1)), tt), h.2) t,
+    let are = four_are (name_at bytes) (within_at w64 0 MAX_GROUP_BYTES bytes) (flag_at bytes) (chunk_bytes_at large bytes) (λ group start last piece. Chunk group start piece last) in (
+      λ valid at b next e. made_takes parts make (IsTaken nodes (chunk_code large) bytes at) valid at b next (λ x next h t. record { lawful = (h.0.0.0, h.0.0.1.1, h.1.1); fits = omega (arith, h.1.1); kind = ap chunk_code h.1.0; text = t }) (sym (are at) ∙ e),
+      λ group start piece last is few at next h fits t. are at ∙ made_again parts make few at (((group, start), last), piece) next (((h.0, (omega arith, h.1)), tt), (is, h.2)) t,
     )

@@ -1,24 +1,25 @@
 -- The least lengths of the fields of the kinds, and the lengths of what follows the refusals' codes.
-use Rattle.std.proofs.Common.{◌≡◌, ℕ, ◌≤◌, Bool, true, false, ◌&&◌, ◌==◌, cond, Option, Some, None, List, [], ◌∷◌, length, refl, ap, subst, ◌∙◌, arith}
+use Rattle.std.proofs.Common.{◌≡◌, ℕ, ◌+◌, ◌^◌, ◌≤◌, ◌++◌, Bool, true, false, ◌&&◌, ◌==◌, cond, Option, Some, None, List, [], ◌∷◌, length, replicate, refl, sym, ap, subst, ◌∙◌, arith}
 use Rattle.std.specs.List.{AllByRecursion}
-use Rattle.std.proofs.lemmas.Bool.{and_parts, eqb-true}
-use Rattle.std.proofs.lemmas.List.{length-append}
+use Rattle.std.proofs.lemmas.Bool.{and_parts, eqb-true, le-leb, leb-true}
+use Rattle.std.proofs.lemmas.List.{length-append, length-replicate}
 use Rattle.oc_base.specs.declared.code_row.CodeRow.{CodeRow}
 use Rattle.oc_base.specs.declared.rank.Rank.{Rank}
 use Rattle.oc_base.specs.declared.refusal.Refusal.{Refusal}
 use Rattle.oc_base.specs.declared.refusal.Refusal.TheVariants as refusals
+use Rattle.oc_base.specs.Spelling.{eight, flag}
 use Rattle.oc_model.specs.Lawful.{IsBody}
 use Rattle.oc_model.specs.declared.message.Body.{Body}
 use Rattle.oc_model.specs.declared.message.Body.TheVariants.{Look, LookIs, Ask, Yes, No, CheckIn, CheckAck, Rejoin, Fetch, Chunk}
 use Rattle.oc_wire.specs.Rows.{HasLeast, HasLength}
-use Rattle.oc_wire.specs.Spelling.{parent_bytes, rank_or_none_bytes, why_code, why_fields, code_of, fields_bytes}
+use Rattle.oc_wire.specs.Spelling.{parent_bytes, rank_or_none_bytes, why_code, why_fields, name_bytes, is_large, length_bytes, chunk_code, code_of, fields_bytes}
 use Rattle.oc_wire.proofs.NameReads.{name_size}
 
 -- the least length of the fields of a code
 abbrev least_of : ℕ → ℕ
 least_of code =
     cond (code == 2) 15 (cond (code == 3) 9 (cond (code == 4) 22 (cond (code == 5) 9 (cond (code == 7) 30
-    (cond (code == 8) 8 (cond (code == 11) 41 (cond (code == 12) 1 (cond (code == 13) 14 0))))))))
+    (cond (code == 8) 8 (cond (code == 11) 41 (cond (code == 12) 1 (cond (code == 13) 14 (cond (code == 14) 65552 0)))))))))
 
 parent_size : (parent : Option ℕ) → length (parent_bytes parent) ≡ 4
 parent_size None = refl
@@ -27,6 +28,14 @@ parent_size (Some id) = refl
 rank_size : (rank : Option Rank) → 1 ≤ length (rank_or_none_bytes rank)
 rank_size None = omega arith
 rank_size (Some rank) = omega arith
+
+-- the length of a chunk's fields
+chunk_size : (group piece : List ℕ) (start : ℕ) (last large : Bool) → length (name_bytes group ++ eight start ++ flag last ++ (length_bytes large (length piece) ++ piece)) ≡ length group + 10 + (length (length_bytes large (length piece)) + length piece)
+chunk_size group piece start last large =
+    let front = name_bytes group ++ eight start in
+    let middle = front ++ flag last in
+    let size = length_bytes large (length piece) in
+    omega (arith, length-append middle (size ++ piece), length-append front (flag last), length-append (name_bytes group) (eight start), length-append size piece)
 
 -- no lawful body has shorter fields
 no_shorter_at : (nodes : ℕ) (b : Body) → IsBody nodes b → least_of (code_of b) ≤ length (fields_bytes b)
@@ -40,7 +49,10 @@ no_shorter_at nodes (CheckIn seq upto rate number clients certs) h = omega arith
 no_shorter_at nodes (CheckAck seq upto rank ancestors) h = omega arith
 no_shorter_at nodes (Rejoin seq) h = omega arith
 no_shorter_at nodes (Fetch have) h = omega arith
-no_shorter_at nodes (Chunk group start piece last) h = simp length-append (omega (arith, (name_size group h.0).0))
+no_shorter_at nodes (Chunk group start piece last) h = by_size (is_large piece) refl where
+  by_size : (large : Bool) → is_large piece ≡ large → least_of (chunk_code large) ≤ length (name_bytes group ++ eight start ++ flag last ++ (length_bytes large (length piece) ++ piece))
+  by_size true is = omega (arith, chunk_size group piece start last true, (name_size group h.0).0, leb-true (2 ^ 16) (length piece) is)
+  by_size false is = omega (arith, chunk_size group piece start last false, (name_size group h.0).0)
 
 -- whether a body has the code of this row, and fields of its least length, which is that of the kind
 abbrev is_shortest : CodeRow → Body → Bool
@@ -82,6 +94,21 @@ shortest =
 -- each is lawful for one node
 pub are_lawful : AllByRecursion (IsBody 1) shortest
 are_lawful = search arith
+
+-- a chunk of the fewest bytes with the last code
+large_of : (piece : List ℕ) → length piece ≡ 2 ^ 16 → HasLeast (record { code = 14; least = 65552 })
+large_of piece size =
+    let large : is_large piece ≡ true = le-leb (2 ^ 16) (length piece) (omega (arith, size)) in
+    record {
+      no_shorter = λ nodes s h is. subst (λ (n : ℕ). n ≤ length (fields_bytes s)) (ap least_of is) (no_shorter_at nodes s h);
+      shortest = Chunk (47 ∷ 97 ∷ []) 0 piece false;
+      lawful = (refl, omega arith, omega (arith, size));
+      kind = ap chunk_code large;
+      exact = subst (λ (b : Bool). length (name_bytes (47 ∷ 97 ∷ []) ++ eight 0 ++ flag false ++ (length_bytes b (length piece) ++ piece)) ≡ 65552) (sym large) (omega (arith, chunk_size (47 ∷ 97 ∷ []) piece 0 false true, size));
+    }
+
+pub large_least : HasLeast (record { code = 14; least = 65552 })
+large_least = let zero : ℕ = 0 in large_of (replicate (2 ^ 16) zero) (length-replicate (2 ^ 16) zero)
 
 -- what follows the code of a refusal
 abbrev length_of : ℕ → ℕ

@@ -1,5 +1,6 @@
 -- Children, certificates, shelves and chunks are read exactly where their texts are there.
-use Rattle.std.proofs.Common.{ℕ, ◌+◌, ◌-◌, ◌^◌, ◌<◌, ◌≤◌, Bool, Option, Some, None, List, [], ◌∷◌, length, sym, ◌∙◌, arith}
+use Rattle.std.proofs.Common.{ℕ, ◌+◌, ◌-◌, ◌^◌, ◌<◌, ◌≤◌, ◌≡◌, ◌++◌, Bool, true, false, Option, Some, None, List, [], ◌∷◌, length, sym, subst, ◌∙◌, arith}
+use Rattle.std.proofs.lemmas.Bool.{le-leb, lt-leb, leb-true, leb-false}
 use Rattle.std.specs.List.{flat_map}
 use Rattle.std.specs.Int.{w8, w16, w32, w64}
 use Rattle.oc_base.specs.declared.cert.Child.{Child}
@@ -13,8 +14,8 @@ use Rattle.oc_base.proofs.TextsAt.{Takes, wide16, wide32, wide64}
 use Rattle.oc_base.proofs.FieldReads.{Reads, reads_within, reads_byte_within, reads_rate, reads_flag, reads_text}
 use Rattle.oc_base.proofs.PairReads.{reads_pair, two_are, three_are, made_takes, made_again, reads_cert}
 use Rattle.oc_base.proofs.ListReads.{Follow, reads_items, reads_each, reads_list}
-use Rattle.oc_wire.specs.Spelling.{child_bytes, children_bytes, certs_bytes, line_bytes, have_bytes, text_bytes}
-use Rattle.oc_wire.specs.FieldReading.{next_name_at, child_at, children_at, certs_at, line_at, have_at, chunk_bytes_at}
+use Rattle.oc_wire.specs.Spelling.{child_bytes, children_bytes, certs_bytes, line_bytes, have_bytes, is_large, length_bytes, text_bytes}
+use Rattle.oc_wire.specs.FieldReading.{next_name_at, child_at, children_at, certs_at, line_at, have_at, chunk_length_at, chunk_bytes_at}
 use Rattle.oc_wire.proofs.Ascending.{IsNextChild, are_children, children_are_next, IsNextLine, are_lines, lines_are_next}
 use Rattle.oc_wire.proofs.NameReads.{reads_next_name}
 
@@ -81,13 +82,38 @@ reads_have nodes bytes =
       again = λ few at ls next h t. all.again few at ls next ((omega arith, h.1), lines_are_next ls h.0) t;
     }
 
--- the bytes of a chunk
-pub reads_chunk_bytes : (nodes : ℕ) (bytes : List ℕ) → Reads nodes bytes (chunk_bytes_at bytes) text_bytes (λ text. length text ≤ MAX_CHUNK_BYTES)
+-- how many bytes a chunk has, of many or of few
+abbrev IsChunkLength : Bool → ℕ → Type 0
+IsChunkLength true n = (2 ^ 16 ≤ n) × (n ≤ MAX_CHUNK_BYTES)
+IsChunkLength false n = (0 ≤ n) × (n ≤ 2 ^ 16 - 1)
+
+reads_chunk_length : (large : Bool) (nodes : ℕ) (bytes : List ℕ) → Reads nodes bytes (chunk_length_at large bytes) (length_bytes large) (IsChunkLength large)
+reads_chunk_length true nodes bytes = reads_within w32 (2 ^ 32) wide32 (2 ^ 16) MAX_CHUNK_BYTES nodes bytes (λ few. omega arith)
+reads_chunk_length false nodes bytes = reads_within w16 (2 ^ 16) wide16 0 (2 ^ 16 - 1) nodes bytes (λ few. omega arith)
+
+length_some : (large : Bool) (n : ℕ) → 0 < length (length_bytes large n)
+length_some true n = omega arith
+length_some false n = omega arith
+
+-- a length is that of many bytes or of few, and of no more than a chunk has
+length_is : (large : Bool) (text : List ℕ) → IsChunkLength large (length text) → (is_large text ≡ large) × (length text ≤ MAX_CHUNK_BYTES)
+length_is true text h = (le-leb (2 ^ 16) (length text) h.0, h.1)
+length_is false text h = (lt-leb (2 ^ 16) (length text) (omega (arith, h.1)), omega (arith, h.1))
+
+is_length : (large : Bool) (text : List ℕ) → is_large text ≡ large → length text ≤ MAX_CHUNK_BYTES → IsChunkLength large (length text)
+is_length true text is few = (leb-true (2 ^ 16) (length text) is, few)
+is_length false text is few = (omega arith, omega (arith, leb-false (2 ^ 16) (length text) is))
+
+-- the bytes of a chunk, of many bytes or of few
+pub reads_chunk_bytes : (large : Bool) (nodes : ℕ) (bytes : List ℕ) → Reads nodes bytes (chunk_bytes_at large bytes) text_bytes (λ text. (is_large text ≡ large) × (length text ≤ MAX_CHUNK_BYTES))
 unfolding chunk_bytes_at
-reads_chunk_bytes nodes bytes =
-    let size = reads_within w16 (2 ^ 16) wide16 0 MAX_CHUNK_BYTES nodes bytes (λ few. omega arith) in
-    let all = reads_list nodes bytes (within_at w16 0 MAX_CHUNK_BYTES bytes) two (λ n. (0 ≤ n) × (n ≤ MAX_CHUNK_BYTES)) (text_at bytes) (λ text. text) (λ text. Unit {0}) (λ n. omega arith) size (reads_text nodes bytes) in
+reads_chunk_bytes large nodes bytes =
+    let all = reads_list nodes bytes (chunk_length_at large bytes) (length_bytes large) (IsChunkLength large) (text_at bytes) (λ text. text) (λ text. Unit {0}) (length_some large) (reads_chunk_length large nodes bytes) (reads_text nodes bytes) in
     record {
-      takes = λ fits at text next e. let t = all.takes fits at text next e in (t.0.0.1, t.1);
-      again = λ few at text next h t. all.again few at text next ((omega arith, h), tt) t;
+      takes = λ fits at text next e.
+          let t = all.takes fits at text next e in
+          let is = length_is large text t.0.0 in
+          (is, subst (λ (b : Bool). Takes bytes at (length_bytes b (length text) ++ text) next) (sym is.0) t.1);
+      again = λ few at text next h t.
+          all.again few at text next (is_length large text h.0 h.1, tt) (subst (λ (b : Bool). Takes bytes at (length_bytes b (length text) ++ text) next) h.0 t);
     }

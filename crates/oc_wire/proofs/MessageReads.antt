@@ -1,5 +1,5 @@
 -- A message is read exactly where the bytes are its spelling.
-use Rattle.std.proofs.Common.{◌≡◌, ℕ, ◌^◌, ◌<◌, ◌≤◌, ◌&&◌, ◌==◌, true, cond, nat_le, List, [], ◌∷◌, ◌++◌, length, Result, Ok, Err, IfOk, refl, sym, ap, subst, ◌∙◌, arith}
+use Rattle.std.proofs.Common.{◌≡◌, ℕ, ◌^◌, ◌<◌, ◌≤◌, ◌&&◌, ◌==◌, Bool, true, false, cond, nat_le, List, [], ◌∷◌, ◌++◌, length, Result, Ok, Err, IfOk, refl, sym, ap, subst, ◌∙◌, arith}
 use Rattle.std.specs.Int.{w32}
 use Rattle.std.proofs.lemmas.Bool.{and_parts, eqb-true, eq-eqb, leb-true, le-leb}
 use Rattle.std.proofs.lemmas.List.{append-nil, length-append, nil_from_length}
@@ -20,7 +20,7 @@ use Rattle.oc_wire.specs.declared.fault.WireFault.TheVariants as faults
 use Rattle.oc_wire.specs.MessageFaults.{of_field}
 use Rattle.oc_wire.specs.Messages.{Spells}
 use Rattle.oc_wire.specs.MessageReading.{body_at, is_node, closed, decoded, Gives}
-use Rattle.oc_wire.specs.Spelling.{code_of, fields_bytes, spelling, HasSpelling}
+use Rattle.oc_wire.specs.Spelling.{is_large, chunk_code, code_of, fields_bytes, spelling, HasSpelling}
 use Rattle.oc_wire.proofs.Ascending.{few_children}
 use Rattle.oc_wire.proofs.KindReads.{IsTaken}
 use Rattle.oc_wire.proofs.BodyReads.{given, given_is, field_given, body_takes, body_again}
@@ -97,7 +97,10 @@ code_fits (CheckIn seq upto rate number clients certs) = omega arith
 code_fits (CheckAck seq upto rank ancestors) = omega arith
 code_fits (Rejoin seq) = omega arith
 code_fits (Fetch have) = omega arith
-code_fits (Chunk group start piece last) = omega arith
+code_fits (Chunk group start piece last) = by_size (is_large piece) where
+  by_size : (large : Bool) → chunk_code large < 256
+  by_size true = omega arith
+  by_size false = omega arith
 
 -- what is spelled so is read
 pub is_read : (nodes : ℕ) (bytes : List ℕ) (m : Message) → nodes < 2 ^ 32 → Spells nodes bytes m → decoded nodes bytes ≡ Ok m

@@ -31,17 +31,18 @@ body_in_row code (suc (suc (suc (suc (suc (suc zero)))))) nodes bytes at h = sub
 body_in_row code (suc (suc (suc (suc (suc (suc (suc zero))))))) nodes bytes at h = subst (λ (n : ℕ). body_at n nodes bytes at ≡ of_field (fields_at 7 nodes bytes at)) (code_in_row code 7 h) refl
 body_in_row code (suc (suc (suc (suc (suc (suc (suc (suc zero)))))))) nodes bytes at h = subst (λ (n : ℕ). body_at n nodes bytes at ≡ of_field (fields_at 8 nodes bytes at)) (code_in_row code 8 h) refl
 body_in_row code (suc (suc (suc (suc (suc (suc (suc (suc (suc zero))))))))) nodes bytes at h = subst (λ (n : ℕ). body_at n nodes bytes at ≡ of_field (fields_at 9 nodes bytes at)) (code_in_row code 9 h) refl
-body_in_row code (suc (suc (suc (suc (suc (suc (suc (suc (suc (suc row)))))))))) nodes bytes at h = let behind : ℕ = (suc (suc (suc (suc (suc (suc (suc (suc (suc (suc row)))))))))) in absurd (omega (arith, (position-Some (λ (r : CodeRow). r.code == code) CODES behind no_row h).0))
+body_in_row code (suc (suc (suc (suc (suc (suc (suc (suc (suc (suc zero)))))))))) nodes bytes at h = subst (λ (n : ℕ). body_at n nodes bytes at ≡ of_field (fields_at 10 nodes bytes at)) (code_in_row code 10 h) refl
+body_in_row code (suc (suc (suc (suc (suc (suc (suc (suc (suc (suc (suc row))))))))))) nodes bytes at h = let behind : ℕ = (suc (suc (suc (suc (suc (suc (suc (suc (suc (suc (suc row))))))))))) in absurd (omega (arith, (position-Some (λ (r : CodeRow). r.code == code) CODES behind no_row h).0))
 
 -- where no row has the code, all rows are before the first with it
-all_before : (n : ℕ) → cond (nat_lt n 10) (Some n) None ≡ None → 10 ≤ n
-all_before n none = by_test (nat_lt n 10) refl none where
-  by_test : (t : Bool) → nat_lt n 10 ≡ t → cond t (Some n) None ≡ None → 10 ≤ n
+all_before : (n : ℕ) → cond (nat_lt n 11) (Some n) None ≡ None → 11 ≤ n
+all_before n none = by_test (nat_lt n 11) refl none where
+  by_test : (t : Bool) → nat_lt n 11 ≡ t → cond t (Some n) None ≡ None → 11 ≤ n
   by_test true is e = cc
-  by_test false is e = ltb-false n 10 is
+  by_test false is e = ltb-false n 11 is
 
 -- a code that is in no row is none of these
-other_code : (code k : ℕ) → row_of code CODES ≡ None → k < 10 → (code == (get_or CODES k no_row).code) ≡ false
+other_code : (code k : ℕ) → row_of code CODES ≡ None → k < 11 → (code == (get_or CODES k no_row).code) ≡ false
 other_code code k none within =
     let behind = all_before (position_or_len (λ (r : CodeRow). r.code == code) CODES) none in
     let fails = fails_before_first (λ (r : CodeRow). r.code == code) CODES k no_row (omega (arith, behind, within)) in
@@ -61,4 +62,5 @@ body_in_no_row code nodes bytes at none =
     let not_8 : (code == 8) ≡ false = other_code code 7 none (omega arith) in
     let not_12 : (code == 12) ≡ false = other_code code 8 none (omega arith) in
     let not_13 : (code == 13) ≡ false = other_code code 9 none (omega arith) in
-    rw (not_1, not_2, not_3, not_4, not_5, not_11, not_7, not_8, not_12, not_13) refl
+    let not_14 : (code == 14) ≡ false = other_code code 10 none (omega arith) in
+    rw (not_1, not_2, not_3, not_4, not_5, not_11, not_7, not_8, not_12, not_13, not_14) refl

@@ -1,5 +1,5 @@
 -- A lawful message fits in the body of a request.
-use Rattle.std.proofs.Common.{◌≡◌, ℕ, ◌*◌, ◌≤◌, Some, None, List, [], ◌∷◌, length, refl, ap, ◌∙◌, arith}
+use Rattle.std.proofs.Common.{◌≡◌, ℕ, ◌*◌, ◌≤◌, Bool, true, false, Some, None, List, [], ◌∷◌, length, refl, ap, ◌∙◌, arith}
 use Rattle.std.specs.List.{flat_map}
 use Rattle.std.proofs.lemmas.List.{length-append}
 use Rattle.std.proofs.lemmas.List.Concat.{flat_map-cons}
@@ -14,7 +14,7 @@ use Rattle.oc_model.specs.Lawful.{IsBody, IsMessage}
 use Rattle.oc_model.specs.declared.message.Body.{Body}
 use Rattle.oc_model.specs.declared.message.Body.TheVariants.{Look, LookIs, Ask, Yes, No, CheckIn, CheckAck, Rejoin, Fetch, Chunk}
 use Rattle.oc_model.specs.declared.message.Message.{Message}
-use Rattle.oc_wire.specs.Spelling.{child_bytes, line_bytes, fields_bytes, spelling}
+use Rattle.oc_wire.specs.Spelling.{child_bytes, line_bytes, is_large, length_bytes, fields_bytes, spelling}
 use Rattle.oc_wire.proofs.Ascending.{few_children}
 use Rattle.oc_wire.proofs.NameReads.{name_size}
 
@@ -38,8 +38,13 @@ lines_size : (ls : List Shelf) → AreLines ls → length (flat_map line_bytes l
 lines_size [] h = omega arith
 lines_size (l ∷ ls) h = omega (arith, ap (λ (x : List ℕ). length x) (flat_map-cons line_bytes l ls), length-append (line_bytes l) (flat_map line_bytes ls), line_size l h.0, lines_size ls h.2)
 
--- the fields of a lawful body have at most 16,000 bytes
-fields_size : (nodes : ℕ) (b : Body) → nodes ≤ MAX_NODES → IsBody nodes b → length (fields_bytes b) ≤ 16000
+-- the length of a text has at most four
+length_size : (large : Bool) (n : ℕ) → length (length_bytes large n) ≤ 4
+length_size true n = omega arith
+length_size false n = omega arith
+
+-- the fields of a lawful body have at most 600,000 bytes
+fields_size : (nodes : ℕ) (b : Body) → nodes ≤ MAX_NODES → IsBody nodes b → length (fields_bytes b) ≤ 600000
 fields_size nodes Look few h = omega arith
 fields_size nodes (LookIs in_tree None rate children) few h = omega (arith, children_size children, few_children nodes children h.2, few)
 fields_size nodes (LookIs in_tree (Some id) rate children) few h = omega (arith, children_size children, few_children nodes children h.2, few)
@@ -56,7 +61,7 @@ fields_size nodes (CheckIn seq upto rate number clients certs) few h = omega (ar
 fields_size nodes (CheckAck seq upto rank ancestors) few h = omega (arith, ids_size ancestors, h.3.1)
 fields_size nodes (Rejoin seq) few h = omega arith
 fields_size nodes (Fetch have) few h = omega (arith, lines_size have h.0, h.1)
-fields_size nodes (Chunk group start piece last) few h = simp length-append (omega (arith, (name_size group h.0).1, h.2))
+fields_size nodes (Chunk group start piece last) few h = simp length-append (omega (arith, (name_size group h.0).1, length_size (is_large piece) (length piece), h.2))
 
 -- so a message fits in a request
 pub fits_a_request : (nodes : ℕ) (m : Message) → nodes ≤ MAX_NODES → IsMessage nodes m → length (spelling m) ≤ MAX_BODY_BYTES

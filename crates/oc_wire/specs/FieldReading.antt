@@ -104,9 +104,14 @@ line_at before bytes at =
 unfoldable pub have_at : List ℕ → ℕ → Reading (List Shelf)
 have_at bytes at = list_at (within_at w8 0 MAX_GROUPS bytes) (items_at (λ before. line_at before bytes) (λ line. Some line.group) None) at
 
+-- how many bytes a chunk has: more than two bytes can count, or no more
+abbrev pub chunk_length_at : Bool → List ℕ → ℕ → Reading ℕ
+chunk_length_at true bytes = within_at w32 (2 ^ 16) MAX_CHUNK_BYTES bytes
+chunk_length_at false bytes = within_at w16 0 (2 ^ 16 - 1) bytes
+
 -- the bytes of a chunk
-unfoldable pub chunk_bytes_at : List ℕ → ℕ → Reading (List ℕ)
-chunk_bytes_at bytes at = list_at (within_at w16 0 MAX_CHUNK_BYTES bytes) (text_at bytes) at
+unfoldable pub chunk_bytes_at : Bool → List ℕ → ℕ → Reading (List ℕ)
+chunk_bytes_at large bytes at = list_at (chunk_length_at large bytes) (text_at bytes) at
 
 -- The fields of each kind, in the order of the bytes
 
@@ -134,7 +139,7 @@ rejoin_at bytes at = one_field (count_at bytes) Rejoin at
 unfoldable pub fetch_at : List ℕ → ℕ → Reading Body
 fetch_at bytes at = one_field (have_at bytes) Fetch at
 
-unfoldable pub chunk_at : List ℕ → ℕ → Reading Body
-chunk_at bytes at =
-    four_fields (name_at bytes) (within_at w64 0 MAX_GROUP_BYTES bytes) (flag_at bytes) (chunk_bytes_at bytes)
+unfoldable pub chunk_at : Bool → List ℕ → ℕ → Reading Body
+chunk_at large bytes at =
+    four_fields (name_at bytes) (within_at w64 0 MAX_GROUP_BYTES bytes) (flag_at bytes) (chunk_bytes_at large bytes)
     (λ group start last bytes. Chunk group start bytes last) at

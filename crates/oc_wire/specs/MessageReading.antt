@@ -1,5 +1,5 @@
 -- What bytes stand for as a message, with the first fault.
-use Rattle.std.specs.Prelude.{◌≡◌, ℕ, Bool, ◌&&◌, ◌==◌, nat_le, if◌then◌else◌, Result, Ok, Err, List, length}
+use Rattle.std.specs.Prelude.{◌≡◌, ℕ, Bool, true, false, ◌&&◌, ◌==◌, nat_le, if◌then◌else◌, Result, Ok, Err, List, length}
 use Rattle.std.specs.Int.{w32}
 use Rattle.oc_base.specs.Fields.{number_at}
 use Rattle.oc_base.specs.Steps.{◌>>=◌}
@@ -24,7 +24,8 @@ fields_at row nodes bytes at =
     else if row == 6 then check_ack_at nodes bytes at
     else if row == 7 then rejoin_at bytes at
     else if row == 8 then fetch_at bytes at
-    else chunk_at bytes at
+    else if row == 9 then chunk_at false bytes at
+    else chunk_at true bytes at
 
 -- the body of the kind with this code
 unfoldable pub body_at : ℕ → ℕ → List ℕ → ℕ → Result (Body × ℕ) WireFault
@@ -38,7 +39,8 @@ body_at code nodes bytes at =
     else if code == 7 then of_field (check_ack_at nodes bytes at)
     else if code == 8 then of_field (rejoin_at bytes at)
     else if code == 12 then of_field (fetch_at bytes at)
-    else if code == 13 then of_field (chunk_at bytes at)
+    else if code == 13 then of_field (chunk_at false bytes at)
+    else if code == 14 then of_field (chunk_at true bytes at)
     else Err (faults.Kind code)
 
 -- Messages

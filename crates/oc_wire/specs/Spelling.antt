@@ -1,5 +1,5 @@
 -- The one spelling of each message. Numbers are big-endian.
-use Rattle.std.specs.Prelude.{ℕ, ◌^◌, ◌<◌, Option, Some, None, List, [], ◌∷◌, ◌++◌, length}
+use Rattle.std.specs.Prelude.{ℕ, ◌^◌, ◌<◌, Bool, true, false, nat_le, Option, Some, None, List, [], ◌∷◌, ◌++◌, length}
 use Rattle.std.specs.List.{flat_map}
 use Rattle.oc_base.specs.declared.cert.Cert.{Cert}
 use Rattle.oc_base.specs.declared.cert.Child.{Child}
@@ -64,9 +64,23 @@ line_bytes line = name_bytes line.group ++ eight line.held ++ flag line.sealed
 abbrev pub have_bytes : List Shelf → List ℕ
 have_bytes have = length have ∷ flat_map line_bytes have
 
+-- whether the length of a text takes more than two bytes
+abbrev pub is_large : List ℕ → Bool
+is_large text = nat_le (2 ^ 16) (length text)
+
+-- the length of a text, in four bytes or in two
+abbrev pub length_bytes : Bool → ℕ → List ℕ
+length_bytes true n = four n
+length_bytes false n = two n
+
 -- the length of a text, and the text
 abbrev pub text_bytes : List ℕ → List ℕ
-text_bytes text = two (length text) ++ text
+text_bytes text = length_bytes (is_large text) (length text) ++ text
+
+-- the code of a chunk, of many bytes or of few
+abbrev pub chunk_code : Bool → ℕ
+chunk_code true = 14
+chunk_code false = 13
 
 -- the code of a kind
 abbrev pub code_of : Body → ℕ
@@ -79,7 +93,7 @@ code_of (CheckIn seq upto rate number clients certs) = 11
 code_of (CheckAck seq upto rank ancestors) = 7
 code_of (Rejoin seq) = 8
 code_of (Fetch have) = 12
-code_of (Chunk group start bytes last) = 13
+code_of (Chunk group start bytes last) = chunk_code (is_large bytes)
 
 -- its fields, one after the other
 abbrev pub fields_bytes : Body → List ℕ
@@ -105,5 +119,5 @@ HasSpelling (Yes seq rank ancestors) = length ancestors < 2 ^ 16
 HasSpelling (CheckIn seq upto rate number clients certs) = length certs < 2 ^ 8
 HasSpelling (CheckAck seq upto rank ancestors) = length ancestors < 2 ^ 16
 HasSpelling (Fetch have) = length have < 2 ^ 8
-HasSpelling (Chunk group start bytes last) = length bytes < 2 ^ 16
+HasSpelling (Chunk group start bytes last) = length bytes < 2 ^ 32
 HasSpelling _ = Unit {0}

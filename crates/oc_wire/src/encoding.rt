@@ -1,6 +1,6 @@
-ghost use Rattle.std.specs.Prelude.{◌≡◌, ◌<◌, ◌^◌, ◌∷◌, ◌++◌, length, OnOk, IfOk};
+ghost use Rattle.std.specs.Prelude.{◌≡◌, ◌<◌, ◌^◌, ◌∷◌, ◌++◌, false, length, OnOk, IfOk};
 ghost use Rattle.oc_base.specs.Spelling.{eight, flag, rank_bytes, ids_bytes};
-ghost use Rattle.oc_wire.specs.Spelling.{parent_bytes, rank_or_none_bytes, why_code, why_bytes, child_bytes, children_bytes, certs_bytes, name_bytes, line_bytes, have_bytes, text_bytes, code_of, fields_bytes, spelling, HasSpelling};
+ghost use Rattle.oc_wire.specs.Spelling.{parent_bytes, rank_or_none_bytes, why_code, why_bytes, child_bytes, children_bytes, certs_bytes, name_bytes, line_bytes, have_bytes, is_large, length_bytes, text_bytes, code_of, fields_bytes, spelling, HasSpelling};
 
 use crate::{CODES, REFUSALS};
 use oc_base::writing::{put_cert, put_flag, put_id, put_ids, put_long, put_rank};
@@ -49,7 +49,13 @@ fn code_of(body: &Body) -> u8
         Body::CheckAck { .. } => CODES[6].code,
         Body::Rejoin { .. } => CODES[7].code,
         Body::Fetch { .. } => CODES[8].code,
-        Body::Chunk { .. } => CODES[9].code,
+        Body::Chunk { bytes, .. } => {
+            if is_large(bytes) {
+                CODES[10].code
+            } else {
+                CODES[9].code
+            }
+        }
     }
 }
 
@@ -170,7 +176,7 @@ fn put_chunk(
     last: &bool,
     bytes: &Bytes,
 ) -> Result<(), AllocError>
-    requires { length bytes.now < 2 ^ 16 }
+    requires { length bytes.now < 2 ^ 32 }
     ensures { OnOk result (out.new.items
         ≡ out.old.items ++ (name_bytes group.now ++ eight start.now ++ flag last.now ++ text_bytes bytes.now)) }
 {
@@ -299,12 +305,32 @@ fn name_length(name: GroupName) -> u8
     name.bytes().len() as u8
 }
 
-/// The length of a text in two bytes, and the text.
+/// The length of a text in two bytes, or in four where it is a large one, and the text.
 fn put_text(out: &mut Vec<u8>, text: &Bytes) -> Result<(), AllocError>
-    requires { length text.now < 2 ^ 16 }
+    requires { length text.now < 2 ^ 32 }
     ensures { OnOk result (out.new.items ≡ out.old.items ++ text_bytes text.now) }
 {
+    let large = is_large(text);
     let text = text.items();
-    out.extend_from_slice(&(text.len() as u16).to_be_bytes())?;
+    put_length(out, large, text.len() as u32)?;
     out.extend_from_slice(text)
+}
+
+/// Whether the length of a text takes more than two bytes.
+fn is_large(text: &Bytes) -> bool
+    ensures { result ≡ is_large text.now }
+{
+    text.items().len() >= 65_536
+}
+
+/// The length of a text, in four bytes or in two.
+fn put_length(out: &mut Vec<u8>, large: bool, length: u32) -> Result<(), AllocError>
+    requires { large ≡ false → length < 2 ^ 16 }
+    ensures { OnOk result (out.new.items ≡ out.old.items ++ length_bytes large length) }
+{
+    if large {
+        out.extend_from_slice(&length.to_be_bytes())
+    } else {
+        out.extend_from_slice(&(length as u16).to_be_bytes())
+    }
 }

@@ -3,7 +3,7 @@
 
 ghost use Rattle.std.specs.Prelude.{◌≡◌};
 ghost use Rattle.oc_base.specs.Reading.{each_at, items_at, cert_at, Gives};
-ghost use Rattle.oc_wire.specs.FieldReading.{node_or_none, parent_at, rank_or_none_at, refusal_with, refusal_at, name_at, is_after, next_name_at, certs_at, line_at, have_at, chunk_bytes_at};
+ghost use Rattle.oc_wire.specs.FieldReading.{node_or_none, parent_at, rank_or_none_at, refusal_with, refusal_at, name_at, is_after, next_name_at, certs_at, line_at, have_at, chunk_length_at, chunk_bytes_at};
 
 use crate::refusals::REFUSALS;
 use oc_base::reading::{
@@ -222,12 +222,25 @@ fn line_at(before: Option<GroupName>, bytes: &[u8], at: usize) -> Result<(Shelf,
 #[tactic(auto, unfolding(crate::specs::FieldReading::chunk_bytes_at, oc_base::specs::Reading::text_at))]
 pub(crate) fn chunk_bytes_at(
     alloc: Global,
+    large: bool,
     bytes: &[u8],
     at: usize,
 ) -> Result<(Bytes, usize), FieldFault>
-    ensures { Gives result (chunk_bytes_at bytes.now at) }
+    ensures { Gives result (chunk_bytes_at large bytes.now at) }
 {
-    let (count, next) = u16_within_at(0, MAX_CHUNK_BYTES as u16, bytes, at)?;
-    let (chunk, next) = take_bytes(bytes, next, usize::from(count))?;
+    let (count, next) = chunk_length_at(large, bytes, at)?;
+    let (chunk, next) = take_bytes(bytes, next, count as usize)?;
     Ok((Bytes::of(chunk.to_vec(alloc)?), next))
+}
+
+/// How many bytes a chunk has: more than two bytes can count, or no more.
+fn chunk_length_at(large: bool, bytes: &[u8], at: usize) -> Result<(u32, usize), FieldFault>
+    ensures { result ≡ chunk_length_at large bytes.now at }
+{
+    if large {
+        u32_within_at(65_536, MAX_CHUNK_BYTES as u32, bytes, at)
+    } else {
+        let (count, next) = u16_within_at(0, u16::MAX, bytes, at)?;
+        Ok((u32::from(count), next))
+    }
 }

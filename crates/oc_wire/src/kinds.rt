@@ -120,15 +120,21 @@ pub(crate) fn fetch_at(alloc: Global, bytes: &[u8], at: usize) -> Result<(Body, 
     Ok((Body::Fetch { have }, next))
 }
 
-/// The fields of a `Chunk`: the group, the start, whether it is the last, and the bytes.
+/// The fields of a `Chunk`, of many bytes or of few: the group, the start, whether it is the last, and the
+/// bytes.
 #[tactic(auto, unfolding(crate::specs::FieldReading::chunk_at))]
-pub(crate) fn chunk_at(alloc: Global, bytes: &[u8], at: usize) -> Result<(Body, usize), FieldFault>
-    ensures { Gives result (chunk_at bytes.now at) }
+pub(crate) fn chunk_at(
+    alloc: Global,
+    large: bool,
+    bytes: &[u8],
+    at: usize,
+) -> Result<(Body, usize), FieldFault>
+    ensures { Gives result (chunk_at large bytes.now at) }
 {
     let (group, next) = name_at(bytes, at)?;
     let (start, next) = u64_within_at(0, MAX_GROUP_BYTES, bytes, next)?;
     let (last, next) = flag_at(bytes, next)?;
-    let (bytes, next) = chunk_bytes_at(alloc, bytes, next)?;
+    let (bytes, next) = chunk_bytes_at(alloc, large, bytes, next)?;
     let body = Body::Chunk {
         group,
         start,

@@ -118,6 +118,7 @@ fn fields_at(
         6 => check_ack_at(alloc, nodes, bytes, at),
         7 => rejoin_at(bytes, at),
         8 => fetch_at(alloc, bytes, at),
-        _ => chunk_at(alloc, bytes, at),
+        9 => chunk_at(alloc, false, bytes, at),
+        _ => chunk_at(alloc, true, bytes, at),
     }
 }

@@ -10,7 +10,7 @@ pub returns-clause-step : goal.returns-clause-step
 returns-clause-step c = λ n i calm. calm_planned n.control (shelf n.groups) i calm
 
 pub returns-clause-start : goal.returns-clause-start
-returns-clause-start c = λ n calm. calm_started (record { nodes = n.control.nodes; chain = n.control.chain; areas = n.control.areas }) n.control.me n.control.kept calm.line
+returns-clause-start c = λ n calm. calm_started (record { nodes = n.control.nodes; chain = n.control.chain; chunk = n.control.chunk; areas = n.control.areas }) n.control.me n.control.kept calm.line
 
 pub returns-clause-recovery : goal.returns-clause-recovery
 returns-clause-recovery c = λ h x kept header. calm_started h x kept header.chain

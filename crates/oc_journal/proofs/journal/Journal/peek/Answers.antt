@@ -14,8 +14,7 @@ returns-clause-bytes g c = λ honest.
     let n = c.in-Ok.count in
     let frames = ap (λ (j : JournalView g.row.D.Denot). j.frames) c.self.view_is in
     let body : get_or c.args.self.now.frames c.args.index [] ≡ at_extent file extent = ap (λ (fs : List (List ℕ)). get_or fs c.args.index []) (sym frames) ∙ get_or-map (at_extent file) c.self.inside.extents.items c.args.index extent [] (omega (arith, c.if-index-len.false, c.len.ensures, c.self.inside.extents.ok.0)) ∙ ap (at_extent file) (sym c.index-extent.ensures) in
-    let at = ap (λ (k : ℕ). drop k file) (ap (λ (k : ℕ). extent.at + k) c.from.ensures) in
-    c.in-Ok.ensures.bytes inside ∙ ap (take n) at ∙ peeked file extent.at extent.len c.args.skip n (omega arith) (omega (arith, c.in-Ok.ensures.count, c.min-count.ensures))
+    c.in-Ok.ensures.bytes inside ∙ peeked file extent.at extent.len c.args.skip n (omega arith) (omega (arith, c.in-Ok.ensures.count, c.min-count.ensures))
     ∙ ap (λ (l : List ℕ). take n (drop c.args.skip l)) (sym body)
 
 pub returns-then-index-len-clause-within : goal.returns-then-index-len-clause-within
@@ -36,23 +35,23 @@ returns-then-index-len-clause-same g c = OnlyReads-none g.D.Disk.view _
 pub returns-then-index-len-clause-works : goal.returns-then-index-len-clause-works
 returns-then-index-len-clause-works g c = λ _. refl
 
-pub returns-then-skip-extent-clause-within : goal.returns-then-skip-extent-clause-within
-returns-then-skip-extent-clause-within g c = omega arith
+pub returns-then-skip-len-clause-within : goal.returns-then-skip-len-clause-within
+returns-then-skip-len-clause-within g c = omega arith
 
-pub returns-then-skip-extent-clause-bytes : goal.returns-then-skip-extent-clause-bytes
-returns-then-skip-extent-clause-bytes g c = λ _. refl
+pub returns-then-skip-len-clause-bytes : goal.returns-then-skip-len-clause-bytes
+returns-then-skip-len-clause-bytes g c = λ _. refl
 
-pub returns-then-skip-extent-clause-disk : goal.returns-then-skip-extent-clause-disk
-returns-then-skip-extent-clause-disk g c = tt
+pub returns-then-skip-len-clause-disk : goal.returns-then-skip-len-clause-disk
+returns-then-skip-len-clause-disk g c = tt
 
-pub returns-then-skip-extent-clause-none_failed : goal.returns-then-skip-extent-clause-none_failed
-returns-then-skip-extent-clause-none_failed g c = NoneFailed-none g.D.Disk.view _
+pub returns-then-skip-len-clause-none_failed : goal.returns-then-skip-len-clause-none_failed
+returns-then-skip-len-clause-none_failed g c = NoneFailed-none g.D.Disk.view _
 
-pub returns-then-skip-extent-clause-same : goal.returns-then-skip-extent-clause-same
-returns-then-skip-extent-clause-same g c = OnlyReads-none g.D.Disk.view _
+pub returns-then-skip-len-clause-same : goal.returns-then-skip-len-clause-same
+returns-then-skip-len-clause-same g c = OnlyReads-none g.D.Disk.view _
 
-pub returns-then-skip-extent-clause-works : goal.returns-then-skip-extent-clause-works
-returns-then-skip-extent-clause-works g c = λ _. refl
+pub returns-then-skip-len-clause-works : goal.returns-then-skip-len-clause-works
+returns-then-skip-len-clause-works g c = λ _. refl
 
 pub invariant_of-self : goal.invariant_of-self
 invariant_of-self g c = IsIndexed-read (g.D.Disk.view c.self.inside.disk) (g.D.Disk.view c.read_part.new.disk) c.self.inside.extents.items c.self.inside.end c.self.inside.closed c.self.invariant c.read_part.ensures.stays c.read_part.ensures.size

@@ -8,3 +8,7 @@ pub mod Said
 pub mod Settled
 pub mod Walks
 pub mod Lawful
+mod Pads
+mod Lines
+mod Keys
+mod Splits

@@ -2,31 +2,32 @@
 use Rattle.std.specs.Prelude.{ℕ, Bool, if◌then◌else◌, Option, Some, None, Result, Ok, List, [], ◌∷◌, ◌++◌, codes}
 use Rattle.std.specs.Result.{result_ok}
 use Rattle.std.specs.Str.{bytes_eq}
-use Rattle.toml.specs.Data.{Data, Members, as_str, as_bool}
+use Rattle.toml.specs.Data.{Data, as_str, as_bool}
 use Rattle.oc_base.specs.Steps.{◌>>=◌}
 use Rattle.oc_policy.specs.Prefixes.{parsed_prefix}
 use Rattle.oc_policy.specs.declared.deciding.TheConstants.{MAX_RULES}
 use Rattle.oc_policy.specs.declared.rule.Action.{Action}
 use Rattle.oc_policy.specs.declared.rule.Action.TheVariants.{Get, Post}
 use Rattle.oc_policy.specs.declared.rule.Rule.{Rule}
-use Rattle.oc_config.specs.Values.{value_in, required, read_as, read_if, area_in, tables_in}
+use Rattle.oc_config.specs.Values.{Section, value_in, required, read_as, read_if, area_in, tables_in}
 use Rattle.oc_config.specs.declared.fault.ConfigFault.{ConfigFault}
 use Rattle.oc_config.specs.declared.key.Key.TheVariants.{Rule as RuleKey, Allow, Prefix, Method}
+use Rattle.oc_config.specs.declared.place.Kind.TheVariants as kinds
 
-abbrev pub allow_in : Members → Result Bool ConfigFault
-allow_in members = do
-  d ← required Allow members
-  read_as Allow (as_bool d)
+abbrev pub allow_in : Section → Result Bool ConfigFault
+allow_in s = do
+  d ← required Allow s
+  read_as Allow s (as_bool d)
 
 -- the text, where it is a prefix
 abbrev pub prefix_of : Option (List ℕ) → Option (List ℕ)
 prefix_of None = None
 prefix_of (Some text) = result_ok (parsed_prefix text)
 
-abbrev pub prefix_in : Members → Result (List ℕ) ConfigFault
-prefix_in members = do
-  d ← required Prefix members
-  read_as Prefix (prefix_of (as_str d))
+abbrev pub prefix_in : Section → Result (List ℕ) ConfigFault
+prefix_in s = do
+  d ← required Prefix s
+  read_as Prefix s (prefix_of (as_str d))
 
 -- the action that a text names
 abbrev pub action_of : Option (List ℕ) → Option Action
@@ -39,31 +40,29 @@ action_of (Some text) =
 abbrev pub method_of : Data → Option Action
 method_of d = action_of (as_str d)
 
-abbrev pub method_in : Members → Result (Option Action) ConfigFault
-method_in members = read_if Method method_of (value_in Method members)
+abbrev pub method_in : Section → Result (Option Action) ConfigFault
+method_in s = read_if Method s method_of (value_in Method s)
 
 -- the rule of a table
-abbrev pub rule_in : Members → Result Rule ConfigFault
-rule_in members = do
-  allow ← allow_in members
-  prefix ← prefix_in members
-  action ← method_in members
-  area ← area_in members
+abbrev pub rule_in : Section → Result Rule ConfigFault
+rule_in s = do
+  allow ← allow_in s
+  prefix ← prefix_in s
+  action ← method_in s
+  area ← area_in s
   Ok (record { allow = allow; action = action; prefix = prefix; area = area })
 
 -- the rules so far and those of these tables, in their order
-abbrev pub rules_from : List Rule → List Members → Result (List Rule) ConfigFault
+abbrev pub rules_from : List Rule → List Section → Result (List Rule) ConfigFault
 rules_from so_far [] = Ok so_far
-rules_from so_far (members ∷ rest) = do
-  rule ← rule_in members
+rules_from so_far (s ∷ rest) = do
+  rule ← rule_in s
   rules_from (so_far ++ rule ∷ []) rest
 
--- the rules of an array of tables; none where there is no such key
-abbrev pub rules_at : Option Data → Result (List Rule) ConfigFault
-rules_at None = Ok []
-rules_at (Some d) = do
-  tables ← read_as RuleKey (tables_in 0 MAX_RULES d)
-  rules_from [] tables
+-- the tables of an array of rules; none where there is no such key
+abbrev pub rule_tables_at : Section → Option Data → Result (List Section) ConfigFault
+rule_tables_at s None = Ok []
+rule_tables_at s (Some d) = read_as RuleKey s (tables_in kinds.Rule 0 MAX_RULES d)
 
-abbrev pub rules_in : Members → Result (List Rule) ConfigFault
-rules_in members = rules_at (value_in RuleKey members)
+abbrev pub rule_tables_in : Section → Result (List Section) ConfigFault
+rule_tables_in s = rule_tables_at s (value_in RuleKey s)

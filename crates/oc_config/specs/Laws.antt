@@ -1,14 +1,15 @@
 -- What a configuration says of each node.
 use Rattle.std.specs.Prelude.{◌≡◌, ℕ, ◌-◌, Some, Ok, slice_get}
-use Rattle.toml.specs.Data.{Members}
 use Rattle.oc_config.specs.Nodes.{id_in, entry_in}
 use Rattle.oc_config.specs.Settings.{NodeSettings, Settings}
+use Rattle.oc_config.specs.Values.{Section}
 
 -- the settings say of the node with this table's id, one of `nodes` nodes, what the table says
-pub record IsSaid (s : Settings) (nodes : ℕ) (table : Members) : Type 0 where
+pub record IsSaid (s : Settings) (nodes : ℕ) (table : Section) : Type 0 where
   pub id : ℕ
   pub place : NodeSettings
   pub id_is : id_in nodes table ≡ Ok id
   pub place_is : entry_in table ≡ Ok place
   pub address : slice_get s.addresses (id - 1) ≡ Some place.address
+  pub listen : slice_get s.listens (id - 1) ≡ Some place.listen
   pub area : slice_get s.areas (id - 1) ≡ Some place.area

@@ -1,8 +1,10 @@
+pub mod Padding
 pub mod Keys
 pub mod Settings
 pub mod Values
 pub mod Addresses
 pub mod Nodes
 pub mod AccessRules
+pub mod Known
 pub mod Reading
 pub mod Laws

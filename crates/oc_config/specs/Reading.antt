@@ -1,6 +1,6 @@
 -- What a text says as a configuration, or its first fault.
-use Rattle.std.specs.Prelude.{◌≡◌, ℕ, ◌≤◌, true, nat_lt, if◌then◌else◌, Option, Some, None, Result, Ok, Err, String, List, [], length, replicate, All}
-use Rattle.std.specs.Str.{is_utf8}
+use Rattle.std.specs.Prelude.{◌≡◌, ℕ, ◌+◌, ◌≤◌, ◌==◌, true, nat_lt, if◌then◌else◌, Option, Some, None, Result, Ok, Err, String, List, [], length, replicate, take, filter, All}
+use Rattle.std.specs.Str.{byte, is_utf8}
 use Rattle.std.specs.BTreeMap.{BTreeMap}
 use Rattle.std.specs.declared.alloc.Global.{Global}
 use Rattle.toml.specs.Data.{Data, Members, as_str}
@@ -14,30 +14,42 @@ use Rattle.oc_updown.specs.declared.measure_fault.MeasureFault.{MeasureFault}
 use Rattle.oc_updown.specs.declared.measure_lines.Measure.{Measure}
 use Rattle.oc_policy.specs.declared.deciding.TheConstants.{MAX_RULES}
 use Rattle.oc_policy.specs.declared.rule.Rule.{Rule}
-use Rattle.oc_config.specs.AccessRules.{rules_in}
-use Rattle.oc_config.specs.Addresses.{is_address}
-use Rattle.oc_config.specs.Nodes.{nodes_in, addresses_of, areas_of}
+use Rattle.oc_config.specs.AccessRules.{rules_from, rule_tables_in}
+use Rattle.oc_config.specs.Addresses.{is_address, is_reachable}
+use Rattle.oc_config.specs.Known.{known_in, all_known}
+use Rattle.oc_config.specs.Nodes.{nodes_in, addresses_of, listens_of, areas_of}
 use Rattle.oc_config.specs.Settings.{NodeSettings, Settings}
-use Rattle.oc_config.specs.Values.{value_in, required, read_as, whole_in, tables_in, fault_of, GivesBy}
+use Rattle.oc_config.specs.Values.{Section, top, value_in, required, read_as, whole_in, tables_in, fault_of, Gives, GivesBy}
+use Rattle.oc_config.specs.declared.config.TheConstants.{MAX_CHUNK, FIRST_CHUNK}
 use Rattle.oc_config.specs.declared.fault.ConfigFault.{ConfigFault}
 use Rattle.oc_config.specs.declared.fault.ConfigFault.TheVariants.{Toml, Value}
-use Rattle.oc_config.specs.declared.key.Key.TheVariants.{Chain, Node, Measures}
+use Rattle.oc_config.specs.declared.key.Key.TheVariants.{Chain, Chunk, Node, Measures}
+use Rattle.oc_config.specs.declared.place.Kind.TheVariants as kinds
+use Rattle.oc_config.specs.declared.reading.Numbers.{Numbers}
 
 -- the number of chain members
-abbrev pub chain_in : Members → Result ℕ ConfigFault
-chain_in members = do
-  d ← required Chain members
-  read_as Chain (whole_in 1 MAX_CHAIN d)
+abbrev pub chain_in : Section → Result ℕ ConfigFault
+chain_in s = do
+  d ← required Chain s
+  read_as Chain s (whole_in 1 MAX_CHAIN d)
+
+-- the greatest number of bytes of a chunk
+abbrev pub chunk_at : Section → Option Data → Result ℕ ConfigFault
+chunk_at s None = Ok FIRST_CHUNK
+chunk_at s (Some d) = read_as Chunk s (whole_in 1 MAX_CHUNK d)
+
+abbrev pub chunk_in : Section → Result ℕ ConfigFault
+chunk_in s = chunk_at s (value_in Chunk s)
 
 -- the tables of the nodes
-abbrev pub node_tables_in : Members → Result (List Members) ConfigFault
-node_tables_in members = do
-  d ← required Node members
-  read_as Node (tables_in 1 MAX_NODES d)
+abbrev pub node_tables_in : Section → Result (List Section) ConfigFault
+node_tables_in s = do
+  d ← required Node s
+  read_as Node s (tables_in kinds.Node 1 MAX_NODES d)
 
 -- no more chain members than nodes
-abbrev pub chain_within : ℕ → ℕ → Result (Unit {0}) ConfigFault
-chain_within nodes chain = if nat_lt nodes chain then Err (Value Chain) else Ok tt
+abbrev pub chain_within : Section → ℕ → ℕ → Result (Unit {0}) ConfigFault
+chain_within s nodes chain = if nat_lt nodes chain then Err (Value s.place Chain) else Ok tt
 
 -- the measures, or their fault
 abbrev pub or_measure_fault : Result (List Measure) MeasureFault → Result (List Measure) ConfigFault
@@ -45,85 +57,146 @@ or_measure_fault (Ok measures) = Ok measures
 or_measure_fault (Err fault) = Err (fault_of fault)
 
 -- the measures of a text; none where there is no such key
-abbrev pub measures_at : ℕ → Option Data → Result (List Measure) ConfigFault
-measures_at nodes None = Ok []
-measures_at nodes (Some d) = do
-  text ← read_as Measures (as_str d)
+abbrev pub measures_at : ℕ → Section → Option Data → Result (List Measure) ConfigFault
+measures_at nodes s None = Ok []
+measures_at nodes s (Some d) = do
+  text ← read_as Measures s (as_str d)
   or_measure_fault (lines.measures_in nodes text)
 
-abbrev pub measures_in : ℕ → Members → Result (List Measure) ConfigFault
-measures_in nodes members = measures_at nodes (value_in Measures members)
+abbrev pub measures_in : ℕ → Section → Result (List Measure) ConfigFault
+measures_in nodes s = measures_at nodes s (value_in Measures s)
 
--- What a table says, with the first fault in the order of these steps:
+-- What a text says, with the first fault in the order of these steps:
 
 -- all of it
-abbrev pub settings_with : ℕ → List (Option NodeSettings) → List Measure → List Rule → Result Settings ConfigFault
-settings_with chain places measures rules =
-    Ok (record { chain = chain; addresses = addresses_of places; areas = areas_of places; measures = measures; rules = rules })
+abbrev pub settings_with : Numbers → List (Option NodeSettings) → List Measure → List Rule → Result Settings ConfigFault
+settings_with numbers places measures rules = Ok (record {
+  chain = numbers.chain;
+  chunk = numbers.chunk;
+  addresses = addresses_of places;
+  listens = listens_of places;
+  areas = areas_of places;
+  measures = measures;
+  rules = rules;
+})
 
--- the rules, where all before them is read
-abbrev pub with_rules : Members → ℕ → List (Option NodeSettings) → List Measure → Result Settings ConfigFault
-with_rules members chain places measures = do
-  rules ← rules_in members
-  settings_with chain places measures rules
+-- the keys of the tables of nodes and of rules, in the order of the text, behind those at the top
+abbrev pub tables_known : List Section → List Section → Result (Unit {0}) ConfigFault
+tables_known nodes rules = do
+  done ← all_known nodes
+  all_known rules
+
+abbrev pub keys_known : Section → List Section → List Section → Result (Unit {0}) ConfigFault
+keys_known s nodes rules = do
+  done ← known_in s
+  tables_known nodes rules
+
+-- the keys, where all before them is read
+abbrev pub with_keys : Section → Numbers → List Section → List (Option NodeSettings) → List Measure → List Section → List Rule → Result Settings ConfigFault
+with_keys s numbers nodes places measures tables rules = do
+  done ← keys_known s nodes tables
+  settings_with numbers places measures rules
+
+-- the tables of rules, one after another
+abbrev pub with_rule_tables : Section → Numbers → List Section → List (Option NodeSettings) → List Measure → List Section → Result Settings ConfigFault
+with_rule_tables s numbers nodes places measures tables = do
+  rules ← rules_from [] tables
+  with_keys s numbers nodes places measures tables rules
+
+-- the array of the rules
+abbrev pub with_rules : Section → Numbers → List Section → List (Option NodeSettings) → List Measure → Result Settings ConfigFault
+with_rules s numbers nodes places measures = do
+  tables ← rule_tables_in s
+  with_rule_tables s numbers nodes places measures tables
 
 -- the measures
-abbrev pub with_measures : Members → ℕ → ℕ → List (Option NodeSettings) → Result Settings ConfigFault
-with_measures members chain nodes places = do
-  measures ← measures_in nodes members
-  with_rules members chain places measures
+abbrev pub with_measures : Section → Numbers → List Section → List (Option NodeSettings) → Result Settings ConfigFault
+with_measures s numbers nodes places = do
+  measures ← measures_in (length nodes) s
+  with_rules s numbers nodes places measures
 
 -- the chain against the number of nodes
-abbrev pub with_chain : Members → ℕ → ℕ → List (Option NodeSettings) → Result Settings ConfigFault
-with_chain members chain nodes places = do
-  done ← chain_within nodes chain
-  with_measures members chain nodes places
+abbrev pub with_chain : Section → Numbers → List Section → List (Option NodeSettings) → Result Settings ConfigFault
+with_chain s numbers nodes places = do
+  done ← chain_within s (length nodes) numbers.chain
+  with_measures s numbers nodes places
 
 -- the tables of nodes, one after another
-abbrev pub with_tables : Members → ℕ → List Members → Result Settings ConfigFault
-with_tables members chain tables = do
-  places ← nodes_in (replicate (length tables) None) tables
-  with_chain members chain (length tables) places
+abbrev pub with_tables : Section → Numbers → List Section → Result Settings ConfigFault
+with_tables s numbers nodes = do
+  places ← nodes_in (replicate (length nodes) None) nodes
+  with_chain s numbers nodes places
 
 -- the array of the nodes
-abbrev pub with_nodes : Members → ℕ → Result Settings ConfigFault
-with_nodes members chain = do
-  tables ← node_tables_in members
-  with_tables members chain tables
+abbrev pub with_nodes : Section → Numbers → Result Settings ConfigFault
+with_nodes s numbers = do
+  nodes ← node_tables_in s
+  with_tables s numbers nodes
 
--- and the chain before all
-abbrev pub settings_in : Members → Result Settings ConfigFault
-settings_in members = do
-  chain ← chain_in members
-  with_nodes members chain
+-- the chunk
+abbrev pub numbers_with : Section → ℕ → Result Numbers ConfigFault
+numbers_with s chain = do
+  chunk ← chunk_in s
+  Ok (record { chain = chain; chunk = chunk })
+
+-- the numbers at the top
+abbrev pub numbers_in : Section → Result Numbers ConfigFault
+numbers_in s = do
+  chain ← chain_in s
+  numbers_with s chain
+
+-- and these before all
+abbrev pub settings_in : Section → Result Settings ConfigFault
+settings_in s = do
+  numbers ← numbers_in s
+  with_nodes s numbers
 
 -- the table that a text is, if it is one
 abbrev pub document : List ℕ → Option Members
 document bytes = if is_utf8 bytes then parse_document bytes else None
 
--- what a text that is this table says
-abbrev pub settings_from : Option Members → Result Settings ConfigFault
-settings_from None = Err Toml
-settings_from (Some members) = settings_in members
+-- what a text that is this table says; of a text that is none, this is the line that `toml` tells
+abbrev pub settings_from : ℕ → Option Members → Result Settings ConfigFault
+settings_from line None = Err (Toml line)
+settings_from line (Some members) = settings_in (top members)
 
--- what a text says
-abbrev pub settings_of : List ℕ → Result Settings ConfigFault
-settings_of bytes = settings_from (document bytes)
+abbrev pub settings_of : ℕ → List ℕ → Result Settings ConfigFault
+settings_of line bytes = settings_from line (document bytes)
+
+-- the line, counted from 1, of a place in a text
+abbrev pub line_at : List ℕ → ℕ → ℕ
+line_at bytes place = length (filter (λ b. b == byte "\n") (take place bytes)) + 1
+
+-- a text has a place in this line
+pub record IsLineOf (bytes : List ℕ) (line : ℕ) : Type 0 where
+  pub place : ℕ
+  pub within : place ≤ length bytes
+  pub line_is : line ≡ line_at bytes place
+
+-- what was read is what the text says; which line of it `toml` tells is its own affair
+pub record Reads (bytes : List ℕ) (result : Result Settings ConfigFault) : Type 0 where
+  pub line : ℕ
+  pub in_text : IsLineOf bytes line
+  pub gives : Gives result (settings_of line bytes)
 
 -- the table that the text is, or that it is no table
-abbrev pub table_or_fault : Option Members → Result Members ConfigFault
-table_or_fault None = Err Toml
-table_or_fault (Some members) = Ok members
+abbrev pub table_or_fault : ℕ → Option Members → Result Members ConfigFault
+table_or_fault line None = Err (Toml line)
+table_or_fault line (Some members) = Ok members
 
-abbrev pub GivesTable : Result (BTreeMap (String Global) TomlValue) ConfigFault → Option Members → Type 0
-GivesTable result found = GivesBy table_view result (table_or_fault found)
+pub record ReadsTable (bytes : List ℕ) (result : Result (BTreeMap (String Global) TomlValue) ConfigFault) : Type 0 where
+  pub line : ℕ
+  pub in_text : IsLineOf bytes line
+  pub gives : GivesBy table_view result (table_or_fault line (document bytes))
 
 -- settings within their ranges
 pub record IsConfig (s : Settings) : Type 0 where
   pub chain : (1 ≤ s.chain) × (s.chain ≤ MAX_CHAIN)
+  pub chunk : (1 ≤ s.chunk) × (s.chunk ≤ MAX_CHUNK)
   pub nodes : (1 ≤ length s.addresses) × (length s.addresses ≤ MAX_NODES)
   pub within : s.chain ≤ length s.addresses
-  pub addresses : All (λ address. is_address address ≡ true) s.addresses
+  pub addresses : All (λ address. is_reachable address ≡ true) s.addresses
+  pub listens : (length s.listens ≡ length s.addresses) × All (λ address. is_address address ≡ true) s.listens
   pub areas : length s.areas ≡ length s.addresses
   pub measures : All (lines.IsMeasure (length s.addresses)) s.measures
   pub rules : length s.rules ≤ MAX_RULES

@@ -1,11 +1,8 @@
 -- The values of a table.
-use Rattle.std.specs.Prelude.{◌≡◌, ℕ, ℤ, pos, ◌+◌, ◌&&◌, nat_le, if◌then◌else◌, Option, Some, None, Result, Ok, Err, ok_or, Vec, String, List, [], ◌∷◌, map}
-use Rattle.std.specs.Borrow.{Bor}
-use Rattle.std.specs.BTreeMap.{BTreeMap}
+use Rattle.std.specs.Prelude.{◌≡◌, ℕ, ℤ, pos, ◌+◌, ◌&&◌, nat_le, if◌then◌else◌, Option, Some, None, Result, Ok, Err, ok_or, Vec, List, [], ◌∷◌, map}
 use Rattle.std.specs.declared.alloc.Global.{Global}
 use Rattle.toml.specs.Data.{Data, Items, no_items, item, Members, get_member, as_integer, as_array, as_table}
 use Rattle.toml.specs.View.{table_view}
-use Rattle.toml.specs.declared.value.Value.{Value as TomlValue}
 use Rattle.oc_base.specs.Steps.{◌>>=◌}
 use Rattle.oc_base.specs.declared.limits.TheConstants.{MAX_AREA}
 use Rattle.oc_updown.specs.declared.measure_fault.MeasureFault.{MeasureFault}
@@ -14,25 +11,42 @@ use Rattle.oc_config.specs.declared.fault.ConfigFault.{ConfigFault}
 use Rattle.oc_config.specs.declared.fault.ConfigFault.TheVariants.{Missing, Value, Measure, Memory}
 use Rattle.oc_config.specs.declared.key.Key.{Key}
 use Rattle.oc_config.specs.declared.key.Key.TheVariants.{Area}
-use Rattle.oc_config.specs.Keys.{key_text}
+use Rattle.oc_config.specs.declared.place.Kind.{Kind}
+use Rattle.oc_config.specs.declared.place.Place.{Place}
+use Rattle.oc_config.specs.declared.place.Place.TheVariants as places
+use Rattle.oc_config.specs.declared.section.Section.{Section as CodeSection}
+use Rattle.oc_config.specs.Keys.{key_text, place_in}
+
+-- a table of the text, and which one it is
+pub record Section : Type 0 where
+  pub place : Place
+  pub members : Members
+
+-- the whole text
+abbrev pub top : Members → Section
+top members = record { place = places.Top; members = members }
+
+-- the table of this number among those of a kind
+abbrev pub section_in : Kind → ℕ → Members → Section
+section_in kind number members = record { place = place_in kind number; members = members }
 
 -- the value of a key
-abbrev pub value_in : Key → Members → Option Data
-value_in key members = get_member (key_text key) members
+abbrev pub value_in : Key → Section → Option Data
+value_in key s = get_member (key_text key) s.members
 
 -- the value of a key that has to be there
-abbrev pub required : Key → Members → Result Data ConfigFault
-required key members = ok_or (value_in key members) (Missing key)
+abbrev pub required : Key → Section → Result Data ConfigFault
+required key s = ok_or (value_in key s) (Missing s.place key)
 
 -- what a value is read as, where it is read
-abbrev pub read_as : {A : Type 0} → Key → Option A → Result A ConfigFault
-read_as key o = ok_or o (Value key)
+abbrev pub read_as : {A : Type 0} → Key → Section → Option A → Result A ConfigFault
+read_as key s o = ok_or o (Value s.place key)
 
 -- what the value of a key is read as, if the key is there
-abbrev pub read_if : {A : Type 0} → Key → (Data → Option A) → Option Data → Result (Option A) ConfigFault
-read_if key read None = Ok None
-read_if key read (Some d) = do
-  x ← read_as key (read d)
+abbrev pub read_if : {A : Type 0} → Key → Section → (Data → Option A) → Option Data → Result (Option A) ConfigFault
+read_if key s read None = Ok None
+read_if key s read (Some d) = do
+  x ← read_as key s (read d)
   Ok (Some x)
 
 -- a number from the least to the most
@@ -44,8 +58,8 @@ abbrev pub whole_in : ℕ → ℕ → Data → Option ℕ
 whole_in least most d = within least most (as_integer d)
 
 -- the area that a table says, if it says one
-abbrev pub area_in : Members → Result (Option ℕ) ConfigFault
-area_in members = read_if Area (whole_in 0 MAX_AREA) (value_in Area members)
+abbrev pub area_in : Section → Result (Option ℕ) ConfigFault
+area_in s = read_if Area s (whole_in 0 MAX_AREA) (value_in Area s)
 
 -- how many items there are
 abbrev pub count_items : Items → ℕ
@@ -53,22 +67,22 @@ count_items no_items = 0
 count_items (item d ds) = count_items ds + 1
 
 -- a table before others
-abbrev pub table_before : Option Members → Option (List Members) → Option (List Members)
-table_before (Some first) (Some others) = Some (first ∷ others)
-table_before first others = None
+abbrev pub table_before : Kind → ℕ → Option Members → Option (List Section) → Option (List Section)
+table_before kind number (Some first) (Some others) = Some (section_in kind number first ∷ others)
+table_before kind number first others = None
 
--- the tables, where each item is one
-abbrev pub all_tables : Items → Option (List Members)
-all_tables no_items = Some []
-all_tables (item d ds) = table_before (as_table d) (all_tables ds)
+-- the tables of a kind from this number on, where each item is one
+abbrev pub all_tables : Kind → ℕ → Items → Option (List Section)
+all_tables kind number no_items = Some []
+all_tables kind number (item d ds) = table_before kind number (as_table d) (all_tables kind (number + 1) ds)
 
 -- the tables of an array of from the least to the most of them
-abbrev pub tables_of : ℕ → ℕ → Option Items → Option (List Members)
-tables_of least most (Some ds) = if nat_le least (count_items ds) && nat_le (count_items ds) most then all_tables ds else None
-tables_of least most None = None
+abbrev pub tables_of : Kind → ℕ → ℕ → Option Items → Option (List Section)
+tables_of kind least most (Some ds) = if nat_le least (count_items ds) && nat_le (count_items ds) most then all_tables kind 1 ds else None
+tables_of kind least most None = None
 
-abbrev pub tables_in : ℕ → ℕ → Data → Option (List Members)
-tables_in least most d = tables_of least most (as_array d)
+abbrev pub tables_in : Kind → ℕ → ℕ → Data → Option (List Section)
+tables_in kind least most d = tables_of kind least most (as_array d)
 
 -- what a call gave, seen by view, is what is said, unless memory ran out
 abbrev pub GivesBy : {X A : Type 0} → (X → A) → Result X ConfigFault → Result A ConfigFault → Type 0
@@ -80,13 +94,16 @@ GivesBy view (Err fault) said = said ≡ Err fault
 abbrev pub Gives : {A : Type 0} → Result A ConfigFault → Result A ConfigFault → Type 0
 Gives = GivesBy (λ x. x)
 
--- the tables that references lead to
-abbrev pub tables_at : List (Bor (BTreeMap (String Global) TomlValue)) → List Members
-tables_at refs = map (λ t. table_view t.now) refs
+-- the table that code has by a reference
+abbrev pub section_of : CodeSection → Section
+section_of s = record { place = s.place; members = table_view s.table.now }
+
+abbrev pub sections_of : List CodeSection → List Section
+sections_of ss = map section_of ss
 
 -- the tables that were found, or the fault where there are none
-abbrev pub GivesTables : Result (Vec (Bor (BTreeMap (String Global) TomlValue)) Global) ConfigFault → Option (List Members) → ConfigFault → Type 0
-GivesTables result tables fault = GivesBy (λ v. tables_at v.items) result (ok_or tables fault)
+abbrev pub GivesTables : Result (Vec CodeSection Global) ConfigFault → Option (List Section) → ConfigFault → Type 0
+GivesTables result tables fault = GivesBy (λ v. sections_of v.items) result (ok_or tables fault)
 
 -- a fault of measure lines
 abbrev pub fault_of : MeasureFault → ConfigFault

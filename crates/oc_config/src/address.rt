@@ -1,11 +1,18 @@
 ghost use Rattle.std.specs.Prelude.{◌≡◌, ◌==◌, position};
 ghost use Rattle.std.specs.List.{list_all, before_first, after_first};
-ghost use Rattle.oc_config.specs.Addresses.{is_address, is_host, is_host_byte, is_port, is_colon};
+ghost use Rattle.oc_config.specs.Addresses.{is_address, is_colon, is_everywhere, is_host, is_host_byte, is_port, is_reachable};
 
 use oc_base::words::number;
 
 /// The greatest number of bytes of an address.
 const MAX_ADDRESS_BYTES: usize = 255;
+
+/// Whether a text is an address at which others can reach a node: one whose host is not `0.0.0.0`.
+pub(crate) fn is_reachable(text: &[u8]) -> bool
+    ensures { result ≡ is_reachable text.now }
+{
+    is_address(text) && !is_everywhere(text)
+}
 
 /// Whether a text is an address: a host of letters, digits, `.` and `-`, then `:` and a port.
 pub(crate) fn is_address(text: &[u8]) -> bool
@@ -13,6 +20,13 @@ pub(crate) fn is_address(text: &[u8]) -> bool
 {
     let (host, port) = cut_at_colon(text);
     text.len() <= MAX_ADDRESS_BYTES && is_host(host) && is_port(port)
+}
+
+/// Whether the host of an address is all addresses of a machine.
+fn is_everywhere(text: &[u8]) -> bool
+    ensures { result ≡ is_everywhere text.now }
+{
+    text.starts_with(b"0.0.0.0:")
 }
 
 /// The bytes up to the first colon, and what follows it.

@@ -4,6 +4,7 @@ use std::marker::Model;
 #[derive(Drop)]
 pub(crate) struct Entry {
     pub(crate) address: String,
+    pub(crate) listen: String,
     pub(crate) area: u8,
 }
 
@@ -13,5 +14,9 @@ impl Model for Entry {
 
     ghost Value = { NodeSettings };
 
-    ghost view = { λ e. record { address = string_bytes e.address; area = e.area } };
+    ghost view = { λ e. record {
+      address = string_bytes e.address;
+      listen = string_bytes e.listen;
+      area = e.area;
+    } };
 }

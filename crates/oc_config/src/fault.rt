@@ -2,6 +2,8 @@ ghost use Rattle.std.specs.Prelude.{◌≡◌};
 ghost use Rattle.oc_config.specs.Values.{fault_of};
 
 use crate::key::Key;
+use crate::key_name::KeyName;
+use crate::place::Place;
 use oc_base::{Memory, Why};
 use oc_updown::MeasureFault;
 use std::alloc::{AllocError, AllocFailed};
@@ -11,16 +13,18 @@ use std::fmt;
 /// Why a text is no configuration.
 #[derive(Clone, Copy, Debug)]
 pub enum ConfigFault {
-    /// It is no TOML.
-    Toml,
+    /// It is no TOML; what is wrong begins in this line, counted from 1.
+    Toml(u64),
     /// A table lacks this key.
-    Missing(Key),
-    /// This key has a value that it may not have.
-    Value(Key),
-    /// Two nodes have this id.
-    Repeat(u32),
+    Missing(Place, Key),
+    /// This key of a table has a value that it may not have.
+    Value(Place, Key),
+    /// This id, which a table has, is that of a table before it.
+    Repeat(Place, u32),
     /// This line of the measures, counted from 1, is refused for this cause.
     Measure { line: u32, why: Why },
+    /// A table has a key that it cannot have.
+    Unknown(Place, KeyName),
     /// Memory ran out.
     Memory,
 }
@@ -28,11 +32,12 @@ pub enum ConfigFault {
 impl fmt::Display for ConfigFault {
     fn fmt<W: fmt::Write>(&self, f: &mut fmt::Formatter<W>) -> fmt::Result {
         match self {
-            ConfigFault::Toml => f.write_str("toml"),
-            ConfigFault::Missing(key) => write!(f, "missing {key}"),
-            ConfigFault::Value(key) => write!(f, "value {key}"),
-            ConfigFault::Repeat(id) => write!(f, "repeat {id}"),
+            ConfigFault::Toml(line) => write!(f, "toml line {line}"),
+            ConfigFault::Missing(place, key) => write!(f, "{place}missing {key}"),
+            ConfigFault::Value(place, key) => write!(f, "{place}value {key}"),
+            ConfigFault::Repeat(place, id) => write!(f, "{place}repeat {id}"),
             ConfigFault::Measure { line, why } => write!(f, "measure {line}: {why}"),
+            ConfigFault::Unknown(place, name) => write!(f, "{place}unknown {name}"),
             ConfigFault::Memory => f.write_str("out of memory"),
         }
     }

@@ -7,9 +7,11 @@ use std::fmt;
 #[derive(Clone, Copy, Debug)]
 pub enum Key {
     Chain,
+    Chunk,
     Node,
     Id,
     Address,
+    Listen,
     /// Of a node or of a rule.
     Area,
     Measures,
@@ -26,9 +28,11 @@ impl Key {
     {
         match self {
             Key::Chain => "chain",
+            Key::Chunk => "chunk",
             Key::Node => "node",
             Key::Id => "id",
             Key::Address => "address",
+            Key::Listen => "listen",
             Key::Area => "area",
             Key::Measures => "measures",
             Key::Rule => "rule",

@@ -2,12 +2,12 @@
 //!
 //! A configuration is a TOML text. [`read`] is what the layers above use: it gives exactly what
 //! `settings_of` makes of the bytes, the settings or the first fault, unless memory runs out. What is
-//! read is within the ranges (`IsConfig`), and [`each_node_has_its_table`] says that each address and
-//! area is that of the table with the node's id.
+//! read is within the ranges (`IsConfig`), and [`each_node_has_its_table`] says that what is said of a node is
+//! what the table with its id says.
 //!
 //! What the text is as a table is said by `toml` (`parse_document`); `specs/Reading` says what a table
-//! means, with its faults in their order, `specs/Nodes` what the table of a node means, and
-//! `specs/AccessRules` what that of a rule does.
+//! means, with its faults in their order, `specs/Nodes` what the table of a node means,
+//! `specs/AccessRules` what that of a rule does, and `specs/Known` which keys are none.
 #![tactic(auto)]
 
 mod address;
@@ -15,17 +15,23 @@ mod config;
 mod entry;
 mod fault;
 mod key;
+mod key_name;
+mod known;
 mod law;
 mod nodes;
+mod place;
 mod reading;
 mod rules;
+mod section;
 mod values;
 
-pub use config::Config;
+pub use config::{Config, FIRST_CHUNK, MAX_CHUNK};
 pub use fault::ConfigFault;
 pub use key::Key;
+pub use key_name::KeyName;
 pub use law::each_node_has_its_table;
 pub use oc_base::Why;
 pub use oc_policy::{Action, Prefix, Rule};
 pub use oc_updown::Measure;
+pub use place::Place;
 pub use reading::read;

@@ -1,122 +1,190 @@
 ghost use Rattle.std.specs.Prelude.{◌≡◌, ◌≤◌, IfOk, OnOk, All, length, vec_len};
 ghost use Rattle.toml.specs.View.{table_view};
 ghost use Rattle.oc_updown.specs.MeasureLines.{IsMeasure};
-ghost use Rattle.oc_config.specs.Values.{Gives, GivesBy, tables_at};
-ghost use Rattle.oc_config.specs.Reading.{IsConfig, settings_of, settings_in, with_tables, chain_in, node_tables_in, measures_in, document, chain_within, GivesTable};
+ghost use Rattle.oc_config.specs.Values.{Gives, GivesBy, section_of, sections_of};
+ghost use Rattle.oc_config.specs.Reading.{IsConfig, Reads, ReadsTable, settings_in, with_tables, chain_in, chunk_in, numbers_in};
+ghost use Rattle.oc_config.specs.Reading.{chain_within, keys_known, line_at, measures_in, node_tables_in};
 
-use crate::config::Config;
+use crate::config::{Config, FIRST_CHUNK, MAX_CHUNK};
 use crate::fault::ConfigFault;
 use crate::key::Key;
-use crate::nodes::{nodes, split};
-use crate::rules::rules;
-use crate::values::{required, tables, value_at, whole};
+use crate::known::{check, check_all};
+use crate::nodes::{Split, nodes};
+use crate::place::Kind;
+use crate::rules::{rule_tables, rules};
+use crate::section::Section;
+use crate::values::{tables, whole};
 use oc_base::{MAX_CHAIN, MAX_NODES};
 use oc_updown::{Measure, read_lines};
 use std::alloc::Global;
 use toml::{Table, table_from_slice};
 
+/// The numbers at the top of a configuration.
+#[derive(Clone, Copy)]
+pub(crate) struct Numbers {
+    pub(crate) chain: u32,
+    pub(crate) chunk: u32,
+}
+
 /// Reads the text of a configuration, any bytes: what it says, or its first fault.
 ///
-/// The text is TOML. Keys that have no meaning here are ignored. The faults come in this order: the
-/// text, the chain, the array of nodes, then table for table what is wrong with a node, whether the
-/// chain has more members than there are nodes, the measures, the array of rules, and then table for
-/// table what is wrong with a rule.
+/// The text is TOML. The faults come in this order: the text, the chain, the chunk, the array of nodes, then
+/// table for table what is wrong with a node, whether the chain has more members than there are nodes, the
+/// measures, the array of rules, then table for table what is wrong with a rule, and then a key that is none:
+/// at the top, in a table of a node, in a table of a rule.
 pub fn read(alloc: Global, bytes: &[u8]) -> Result<Config, ConfigFault>
-    ensures exact { Gives result (settings_of bytes.now) }
+    ensures exact { Reads bytes.now result }
     ensures lawful { IfOk result IsConfig }
 {
     let table = parse(alloc, bytes)?;
-    read_table(alloc, &table)
+    read_table(alloc, &Section::top(&table))
 }
 
 /// The table that a text is.
 fn parse(alloc: Global, bytes: &[u8]) -> Result<Table, ConfigFault>
-    ensures { GivesTable result (document bytes.now) }
+    ensures { ReadsTable bytes.now result }
 {
     match table_from_slice(alloc, bytes) {
         Ok(table) => Ok(table),
-        Err(error) if error.is_memory() => Err(ConfigFault::Memory),
-        Err(_) => Err(ConfigFault::Toml),
+        Err(error) => match error.span() {
+            Some(place) => Err(ConfigFault::Toml(line_at(bytes, place.start))),
+            None => Err(ConfigFault::Memory),
+        },
     }
 }
 
-/// What the table of a configuration says.
-fn read_table(alloc: Global, table: &Table) -> Result<Config, ConfigFault>
-    ensures exact { Gives result (settings_in (table_view table.now)) }
-    ensures lawful { IfOk result IsConfig }
+/// The line of a place in a text, counted from 1.
+fn line_at(bytes: &[u8], place: usize) -> u64
+    requires { place ≤ length bytes.now }
+    ensures { result ≡ line_at bytes.now place }
 {
-    let chain = chain(table)?;
-    let tables = node_tables(alloc, table)?;
-    read_parts(alloc, table, chain, &tables)
+    let mut line = 1;
+    for byte in &bytes[..place] {
+        if *byte == b'\n' {
+            line += 1;
+        }
+    }
+    line
 }
 
-/// The same, with this chain and these tables of nodes.
+/// What the table of a configuration says.
+fn read_table(alloc: Global, top: &Section<'_>) -> Result<Config, ConfigFault>
+    ensures exact { Gives result (settings_in (section_of top.now)) }
+    ensures lawful { IfOk result IsConfig }
+{
+    let numbers = read_numbers(top)?;
+    let tables = node_tables(alloc, top)?;
+    read_parts(alloc, top, numbers, &tables)
+}
+
+/// The same, with these numbers and these tables of nodes.
 fn read_parts(
     alloc: Global,
-    table: &Table,
-    chain: u32,
-    tables: &[&Table],
+    top: &Section<'_>,
+    numbers: Numbers,
+    tables: &[Section<'_>],
 ) -> Result<Config, ConfigFault>
-    requires chain { (1 ≤ chain) × (chain ≤ MAX_CHAIN) }
+    requires chain { (1 ≤ numbers.chain) × (numbers.chain ≤ MAX_CHAIN) }
+    requires chunk { (1 ≤ numbers.chunk) × (numbers.chunk ≤ MAX_CHUNK) }
     requires count { (1 ≤ length tables.now) × (length tables.now ≤ MAX_NODES) }
-    ensures exact { Gives result (with_tables (table_view table.now) chain (tables_at tables.now)) }
+    ensures exact { Gives result (with_tables (section_of top.now) numbers (sections_of tables.now)) }
     ensures lawful { IfOk result IsConfig }
 {
     let places = nodes(alloc, tables)?;
     let nodes = tables.len() as u32;
-    check_chain(chain, nodes)?;
-    let measures = measures(alloc, table, nodes)?;
-    let rules = rules(alloc, table)?;
-    let (addresses, areas) = split(alloc, places)?;
+    check_chain(top, numbers.chain, nodes)?;
+    let measures = measures(alloc, top, nodes)?;
+    let rule_tables = rule_tables(alloc, top)?;
+    let rules = rules(alloc, &rule_tables)?;
+    check_keys(top, tables, &rule_tables)?;
+    let split = Split::of(alloc, places)?;
     Ok(Config {
-        chain,
-        addresses,
-        areas,
+        chain: numbers.chain,
+        chunk: numbers.chunk,
+        addresses: split.addresses,
+        listens: split.listens,
+        areas: split.areas,
         measures,
         rules,
     })
 }
 
+/// The numbers at the top.
+fn read_numbers(top: &Section<'_>) -> Result<Numbers, ConfigFault>
+    ensures said { result ≡ numbers_in (section_of top.now) }
+    ensures chain { IfOk result (λ n. (1 ≤ n.chain) × (n.chain ≤ MAX_CHAIN)) }
+    ensures chunk { IfOk result (λ n. (1 ≤ n.chunk) × (n.chunk ≤ MAX_CHUNK)) }
+{
+    Ok(Numbers {
+        chain: chain(top)?,
+        chunk: chunk(top)?,
+    })
+}
+
 /// The number of chain members.
-fn chain(table: &Table) -> Result<u32, ConfigFault>
-    ensures said { result ≡ chain_in (table_view table.now) }
+fn chain(top: &Section<'_>) -> Result<u32, ConfigFault>
+    ensures said { result ≡ chain_in (section_of top.now) }
     ensures range { IfOk result (λ chain. (1 ≤ chain) × (chain ≤ MAX_CHAIN)) }
 {
-    let value = required(table, Key::Chain)?;
-    whole(value, 1, MAX_CHAIN).ok_or(ConfigFault::Value(Key::Chain))
+    let value = top.required(Key::Chain)?;
+    whole(value, 1, MAX_CHAIN).ok_or(top.refuses(Key::Chain))
+}
+
+/// The greatest number of bytes of a chunk.
+fn chunk(top: &Section<'_>) -> Result<u32, ConfigFault>
+    ensures said { result ≡ chunk_in (section_of top.now) }
+    ensures range { IfOk result (λ chunk. (1 ≤ chunk) × (chunk ≤ MAX_CHUNK)) }
+{
+    match top.value_at(Key::Chunk) {
+        None => Ok(FIRST_CHUNK),
+        Some(value) => whole(value, 1, MAX_CHUNK).ok_or(top.refuses(Key::Chunk)),
+    }
 }
 
 /// The tables of the nodes.
-fn node_tables(alloc: Global, table: &Table) -> Result<Vec<&Table>, ConfigFault>
-    ensures said { GivesBy (λ v. tables_at v.items) result (node_tables_in (table_view table.now)) }
+fn node_tables<'a>(alloc: Global, top: &Section<'a>) -> Result<Vec<Section<'a>>, ConfigFault>
+    ensures said { GivesBy (λ v. sections_of v.items) result (node_tables_in (section_of top.now)) }
     ensures count { IfOk result (λ v. (1 ≤ vec_len v) × (vec_len v ≤ MAX_NODES)) }
 {
-    let value = required(table, Key::Node)?;
-    let fault = ConfigFault::Value(Key::Node);
-    tables(alloc, value, 1, MAX_NODES as usize, fault)
+    let value = top.required(Key::Node)?;
+    let fault = top.refuses(Key::Node);
+    tables(alloc, value, Kind::Node, 1, MAX_NODES, fault)
 }
 
 /// Refuses a chain of more members than there are nodes.
-fn check_chain(chain: u32, nodes: u32) -> Result<(), ConfigFault>
-    ensures said { result ≡ chain_within nodes chain }
+fn check_chain(top: &Section<'_>, chain: u32, nodes: u32) -> Result<(), ConfigFault>
+    ensures said { result ≡ chain_within (section_of top.now) nodes chain }
     ensures within { OnOk result (chain ≤ nodes) }
 {
     if chain > nodes {
-        return Err(ConfigFault::Value(Key::Chain));
+        return Err(top.refuses(Key::Chain));
     }
     Ok(())
 }
 
+/// Refuses a key that its table cannot have.
+fn check_keys(
+    top: &Section<'_>,
+    nodes: &[Section<'_>],
+    rules: &[Section<'_>],
+) -> Result<(), ConfigFault>
+    ensures { result ≡ keys_known (section_of top.now) (sections_of nodes.now) (sections_of rules.now) }
+{
+    check(top)?;
+    check_all(nodes)?;
+    check_all(rules)
+}
+
 /// What was measured, in a network of this many nodes.
-fn measures(alloc: Global, table: &Table, nodes: u32) -> Result<Vec<Measure>, ConfigFault>
-    ensures said { GivesBy (λ v. v.items) result (measures_in nodes (table_view table.now)) }
+fn measures(alloc: Global, top: &Section<'_>, nodes: u32) -> Result<Vec<Measure>, ConfigFault>
+    ensures said { GivesBy (λ v. v.items) result (measures_in nodes (section_of top.now)) }
     ensures lawful { IfOk result (λ v. All (IsMeasure nodes) v.items) }
 {
-    match value_at(table, Key::Measures) {
+    match top.value_at(Key::Measures) {
         None => Ok(Vec::new(alloc)),
         Some(value) => match value.as_str() {
             Some(text) => Ok(read_lines(alloc, text.as_bytes(), nodes)?),
-            None => Err(ConfigFault::Value(Key::Measures)),
+            None => Err(top.refuses(Key::Measures)),
         },
     }
 }

@@ -1,35 +1,43 @@
 //! The tables of access rules.
 
 ghost use Rattle.std.specs.Prelude.{◌≡◌, ◌≤◌, [], IfOk, length, vec_len};
-ghost use Rattle.toml.specs.View.{view, table_view};
-ghost use Rattle.oc_config.specs.Values.{GivesBy, tables_at};
-ghost use Rattle.oc_config.specs.AccessRules.{rules_in, rules_from, rule_in, allow_in, prefix_in, method_in, method_of};
+ghost use Rattle.toml.specs.View.{view};
+ghost use Rattle.oc_config.specs.Values.{GivesBy, section_of, sections_of};
+ghost use Rattle.oc_config.specs.AccessRules.{rule_tables_in, rules_from, rule_in, allow_in, prefix_in, method_in, method_of};
 
 use crate::fault::ConfigFault;
 use crate::key::Key;
-use crate::values::{area, required, tables, value_at};
+use crate::place::Kind;
+use crate::section::Section;
+use crate::values::tables;
 use oc_policy::{Action, MAX_RULES, Prefix, Rule};
 use std::alloc::Global;
-use toml::{Table, Value};
+use toml::Value;
 
-/// The access rules, in their order; none where the configuration has no such key.
-pub(crate) fn rules(alloc: Global, table: &Table) -> Result<Vec<Rule>, ConfigFault>
-    ensures said { GivesBy (λ v. v.items) result (rules_in (table_view table.now)) }
+/// The tables of the access rules; none where the configuration has no such key.
+pub(crate) fn rule_tables<'a>(
+    alloc: Global,
+    top: &Section<'a>,
+) -> Result<Vec<Section<'a>>, ConfigFault>
+    ensures said { GivesBy (λ v. sections_of v.items) result (rule_tables_in (section_of top.now)) }
     ensures count { IfOk result (λ v. vec_len v ≤ MAX_RULES) }
 {
-    match value_at(table, Key::Rule) {
+    match top.value_at(Key::Rule) {
         None => Ok(Vec::new(alloc)),
-        Some(value) => {
-            let fault = ConfigFault::Value(Key::Rule);
-            let tables = tables(alloc, value, 0, MAX_RULES, fault)?;
-            read_rules(alloc, &tables)
-        }
+        Some(value) => tables(
+            alloc,
+            value,
+            Kind::Rule,
+            0,
+            MAX_RULES as u32,
+            top.refuses(Key::Rule),
+        ),
     }
 }
 
-/// The rules of these tables.
-fn read_rules(alloc: Global, tables: &[&Table]) -> Result<Vec<Rule>, ConfigFault>
-    ensures said { GivesBy (λ v. v.items) result (rules_from [] (tables_at tables.now)) }
+/// The rules of these tables, in their order.
+pub(crate) fn rules(alloc: Global, tables: &[Section<'_>]) -> Result<Vec<Rule>, ConfigFault>
+    ensures said { GivesBy (λ v. v.items) result (rules_from [] (sections_of tables.now)) }
     ensures count { IfOk result (λ v. vec_len v ≡ length tables.now) }
 {
     let mut rules = Vec::new(alloc);
@@ -40,42 +48,42 @@ fn read_rules(alloc: Global, tables: &[&Table]) -> Result<Vec<Rule>, ConfigFault
 }
 
 /// The rule of a table.
-fn rule(table: &Table) -> Result<Rule, ConfigFault>
-    ensures { result ≡ rule_in (table_view table.now) }
+fn rule(table: &Section<'_>) -> Result<Rule, ConfigFault>
+    ensures { result ≡ rule_in (section_of table.now) }
 {
     Ok(Rule {
         allow: allow(table)?,
         prefix: prefix(table)?,
         action: method(table)?,
-        area: area(table)?,
+        area: table.area()?,
     })
 }
 
-fn allow(table: &Table) -> Result<bool, ConfigFault>
-    ensures { result ≡ allow_in (table_view table.now) }
+fn allow(table: &Section<'_>) -> Result<bool, ConfigFault>
+    ensures { result ≡ allow_in (section_of table.now) }
 {
-    let value = required(table, Key::Allow)?;
-    value.as_bool().ok_or(ConfigFault::Value(Key::Allow))
+    let value = table.required(Key::Allow)?;
+    value.as_bool().ok_or(table.refuses(Key::Allow))
 }
 
-fn prefix(table: &Table) -> Result<Prefix, ConfigFault>
-    ensures { result ≡ prefix_in (table_view table.now) }
+fn prefix(table: &Section<'_>) -> Result<Prefix, ConfigFault>
+    ensures { result ≡ prefix_in (section_of table.now) }
 {
-    let fault = ConfigFault::Value(Key::Prefix);
-    match required(table, Key::Prefix)?.as_str() {
+    let fault = table.refuses(Key::Prefix);
+    match table.required(Key::Prefix)?.as_str() {
         Some(text) => Prefix::parse(text.as_bytes()).map_err(|_| fault),
         None => Err(fault),
     }
 }
 
-fn method(table: &Table) -> Result<Option<Action>, ConfigFault>
-    ensures { result ≡ method_in (table_view table.now) }
+fn method(table: &Section<'_>) -> Result<Option<Action>, ConfigFault>
+    ensures { result ≡ method_in (section_of table.now) }
 {
-    match value_at(table, Key::Method) {
+    match table.value_at(Key::Method) {
         None => Ok(None),
         Some(value) => match action(value) {
             Some(action) => Ok(Some(action)),
-            None => Err(ConfigFault::Value(Key::Method)),
+            None => Err(table.refuses(Key::Method)),
         },
     }
 }

@@ -2,13 +2,13 @@ use Rattle.std.proofs.Common.{ap, ◌∙◌, arith, length}
 use Rattle.std.proofs.lemmas.List.{length-replicate}
 use Rattle.std.proofs.lemmas.Result.{err_from_is_err_and}
 use Rattle.oc_config.specs.Nodes.{nodes_in}
-use Rattle.oc_config.specs.Values.{tables_at}
+use Rattle.oc_config.specs.Values.{sections_of}
 use Rattle.oc_config.proofs.Walks.{node_put, node_fault}
 use Rattle.oc_config.proofs.nodes.nodes.Goals as goal
 
 pub loop-table-init : goal.loop-table-init
 loop-table-init c = record {
-  rest = ap (λ places. nodes_in places (tables_at c.args.tables.now)) c.in_ok-places.ensures;
+  rest = ap (λ places. nodes_in places (sections_of c.args.tables.now)) c.in_ok-places.ensures;
   len = let count = ap length c.in_ok-places.ensures ∙ length-replicate _ _ in omega (arith, c.in_ok-places.places.ok.0, count);
 }
 

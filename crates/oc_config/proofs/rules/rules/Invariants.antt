@@ -1,11 +1,11 @@
 use Rattle.std.proofs.Common.{◌≡◌, [], drop, vec_len}
 use Rattle.oc_config.specs.AccessRules.{rules_from}
-use Rattle.oc_config.specs.Values.{tables_at}
-use Rattle.oc_config.proofs.rules.read_rules.Given as goal
+use Rattle.oc_config.specs.Values.{sections_of}
+use Rattle.oc_config.proofs.rules.rules.Given as goal
 
 -- what is left of the tables gives what all of them give
 abbrev pub invariant-loop-table : goal.invariant-loop-table
 invariant-loop-table l = record {
-  rest : rules_from l.rules.items (tables_at (drop l.table-index l.tables)) ≡ rules_from [] (tables_at l.tables);
+  rest : rules_from l.rules.items (sections_of (drop l.table-index l.tables)) ≡ rules_from [] (sections_of l.tables);
   count : vec_len l.rules ≡ l.table-index;
 }

@@ -1,13 +1,13 @@
 use Rattle.std.proofs.Common.{◌+◌, ap, sym, drop, ◌∙◌, arith}
 use Rattle.std.proofs.lemmas.Result.{err_from_is_err_and}
 use Rattle.oc_config.specs.AccessRules.{rules_from}
-use Rattle.oc_config.specs.Values.{tables_at}
+use Rattle.oc_config.specs.Values.{sections_of}
 use Rattle.oc_config.proofs.Walks.{rule_put, rule_fault, rules_end}
-use Rattle.oc_config.proofs.rules.read_rules.Goals as goal
+use Rattle.oc_config.proofs.rules.rules.Goals as goal
 
 pub loop-table-init : goal.loop-table-init
 loop-table-init c = record {
-  rest = ap (λ rules. rules_from rules (tables_at c.args.tables.now)) c.new-rules.ensures.items;
+  rest = ap (λ rules. rules_from rules (sections_of c.args.tables.now)) c.new-rules.ensures.items;
   count = c.new-rules.ensures.len;
 }
 
@@ -15,7 +15,7 @@ pub loop-table-preserved : goal.loop-table-preserved
 loop-table-preserved c =
     let m = c.loop-table in record {
       rest =
-          ap (λ rules. rules_from rules (tables_at (drop (m.table-index + 1) c.args.tables.now))) c.in_ok-push.ensures.items
+          ap (λ rules. rules_from rules (sections_of (drop (m.table-index + 1) c.args.tables.now))) c.in_ok-push.ensures.items
           ∙ rule_put m.rules.items c.in_ok-rule.field-0 c.args.tables.now m.table-index c.table-item.result c.loop-table-test.true c.table-item.is c.in_ok-rule.ensures
           ∙ m.invariant.rest;
       count = omega (arith, c.in_ok-push.ensures.len, m.invariant.count);

@@ -3,9 +3,9 @@ use Rattle.std.proofs.Common.{List, ℕ, ap, ◌∙◌}
 use Rattle.toml.specs.Data.{get_member}
 use Rattle.toml.specs.View.{table_view}
 use Rattle.toml.proofs.Views.{table_get}
-use Rattle.oc_config.proofs.values.value_at.Goals as goal
+use Rattle.oc_config.proofs.section.Section.value_at.Goals as goal
 
 pub returns : goal.returns
 returns c =
-    table_get c.get.result c.word.result.now c.args.table.now.entries c.get.ensures.value
-    ∙ ap (λ (k : List ℕ). get_member k (table_view c.args.table.now)) c.word.ensures
+    table_get c.get.result c.word.result.now c.args.self.now.table.now.entries c.get.ensures.value
+    ∙ ap (λ (k : List ℕ). get_member k (table_view c.args.self.now.table.now)) c.word.ensures

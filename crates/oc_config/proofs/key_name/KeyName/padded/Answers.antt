@@ -1,0 +1,5 @@
+use Rattle.oc_config.proofs.Pads.{padded_is}
+use Rattle.oc_config.proofs.key_name.KeyName.padded.Goals as goal
+
+pub invariant_of-result : goal.invariant_of-result
+invariant_of-result c = padded_is c.args.key.now c.put_in_front.new.bytes c.requires c.put_in_front.ensures

@@ -40,7 +40,7 @@ short_bytes (k ∷ ks) all = omega (arith, sum_by-cons (λ (line : Shelf). line.
 
 -- what a node holds at most
 abbrev pub MOST_HELD : ℕ
-MOST_HELD = 68719476736
+MOST_HELD = 70368744177664
 
 -- groups within the limits hold no more
 pub within_bytes : (ks : List Group) → AreWithinLimits ks → bytes_in (shelf ks) ≤ MOST_HELD

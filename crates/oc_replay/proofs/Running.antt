@@ -1,7 +1,8 @@
 -- A stage's world while a run is under way.
-use Rattle.std.proofs.Common.{◌≡◌, ℕ, ◌+◌, ◌*◌, ◌<◌, ◌≤◌, List, [], ◌∷◌, length, take, drop, get_or, fold, refl, sym, ap, ◌∙◌, subst, arith}
+use Rattle.std.proofs.Common.{◌≡◌, ℕ, ◌+◌, ◌*◌, ◌<◌, ◌≤◌, List, [], ◌∷◌, length, take, drop, get_or, slice_get, Some, fold, refl, sym, ap, ◌∙◌, subst, arith}
 use Rattle.std.specs.List.{AllByRecursion}
 use Rattle.std.proofs.lemmas.List.{drop_more, take_all}
+use Rattle.std.proofs.lemmas.Option.{get_or_from_slice_get, slice_get-get_or}
 use Rattle.std.proofs.lemmas.List.Sums.{fold_more}
 use Rattle.oc_base.specs.declared.limits.TheConstants.{MAX_SCHEDULE_LINES, MAX_TIME}
 use Rattle.oc_model.specs.declared.event.Event.{Event}
@@ -20,6 +21,20 @@ pub All-drop : {A : Type 0} (P : A → Type 0) (xs : List A) (i : ℕ) (x : A) �
 All-drop P xs i x within read all =
     let both : P (get_or xs i x) × AllByRecursion P (drop (i + 1) xs) = subst (AllByRecursion P) (drop_more xs i x within) all in
     (subst P (sym read) both.0, both.1)
+
+-- the event at a place
+abbrev pub event_at : List Event → ℕ → Event
+event_at es i = get_or es i events.Settle
+
+pub found : (es : List Event) (i : ℕ) → i < length es → slice_get es i ≡ Some (event_at es i)
+found es i within = slice_get-get_or es i events.Settle within
+
+-- an event that is found at a place is the one that is read there
+pub as_found : (es : List Event) (i : ℕ) (e : Event) → slice_get es i ≡ Some e → e ≡ get_or es i e
+as_found es i e is = sym (get_or_from_slice_get es i e e is)
+
+pub as_read : (es : List Event) (i : ℕ) → i < length es → event_at es i ≡ get_or es i (event_at es i)
+as_read es i within = as_found es i (event_at es i) (found es i within)
 
 -- the world after events, as a fold
 after_fold : (w : World) (es : List Event) → world_after w es ≡ fold next_world w es

@@ -1,6 +1,7 @@
 //! Events that are given to a stage.
 
-ghost use Rattle.std.specs.Prelude.{◌≡◌, ◌++◌, length, OnOk, IfOk};
+ghost use Rattle.std.specs.Prelude.{◌≡◌, ◌<◌, ◌++◌, Some, length, slice_get, OnOk, IfOk};
+ghost use Rattle.oc_model.specs.declared.event.Event.{Event as EventValue};
 ghost use Rattle.oc_model.specs.Lawful.{IsEvent};
 ghost use Rattle.oc_model.specs.NextWorld.{next_world, word_of, world_after};
 ghost use Rattle.oc_model.specs.World.{ids};
@@ -13,6 +14,7 @@ use crate::lines::put_event;
 use crate::{Said, Stage};
 use oc_base::Memory;
 use oc_model::Event;
+use oc_schedule::EventList;
 
 /// Gives the stage the event of this number, puts the line of its word, and answers what the stage said of it.
 pub fn play_one<T: Stage>(
@@ -32,8 +34,23 @@ pub fn play_one<T: Stage>(
     Ok(said)
 }
 
+/// Gives the stage the event at a place, and answers what the stage said of it.
+fn give_at<T: Stage>(stage: &mut T, events: &EventList, place: usize) -> Result<Said, Memory>
+    requires within { place < length events.now }
+    requires event { (e : EventValue) → slice_get events.now place ≡ Some e → IsEvent (length (ids (T.world stage.old))) e }
+    requires time { (e : EventValue) → slice_get events.now place ≡ Some e → HasTimeFor (T.world stage.old) e }
+    ensures world { (e : EventValue) → slice_get events.now place ≡ Some e → OnOk result (T.world stage.new ≡ next_world (T.world stage.old) e) }
+    ensures said { (e : EventValue) → slice_get events.now place ≡ Some e → IfOk result (λ said. IsSaid (word_of (T.world stage.old) e) (T.world stage.old) (T.world stage.new) said) }
+{
+    let event = events.event(place);
+    let said = stage.event(event.get());
+    // Dropped by a call, the event costs one proof; out of scope it costs one for each kind.
+    drop(event);
+    said
+}
+
 /// Gives the stage each event once, in order, and answers how many messages were sent.
-pub fn play<T: Stage>(stage: &mut T, events: &[Event]) -> Result<u64, Memory>
+pub fn play<T: Stage>(stage: &mut T, events: &EventList) -> Result<u64, Memory>
     requires { IsOpening (T.world stage.old) events.now }
     ensures played { OnOk result (T.world stage.new ≡ world_after (T.world stage.old) events.now) }
     ensures ids { OnOk result (ids (T.world stage.new) ≡ ids (T.world stage.old)) }
@@ -41,8 +58,8 @@ pub fn play<T: Stage>(stage: &mut T, events: &[Event]) -> Result<u64, Memory>
     ensures sent { IfOk result (λ sent. sent ≡ length (T.world stage.new).net) }
 {
     let mut sent = 0;
-    for event in events {
-        let told = stage.event(event)?;
+    for place in 0..events.len() {
+        let told = give_at(stage, events, place)?;
         sent = told.first + told.count - 1;
     }
     Ok(sent)

@@ -18,8 +18,7 @@ use crate::reporting::report;
 use crate::summing::summarize;
 use crate::{ReplayEnd, Stage};
 use oc_io::{Sink, Source, read_all};
-use oc_model::Event;
-use oc_schedule::{Schedule, What, read};
+use oc_schedule::{EventList, Schedule, What, read};
 use std::alloc::Global;
 
 /// Reads a schedule from the source, plays it on the stage, and writes its report to the sink, or with
@@ -123,7 +122,12 @@ fn play<K: Sink, T: Stage>(
     ensures count { NoFall (K.faults sink.old) (K.faults sink.new) }
     ensures cause { IsErrOf result ReportFault.Sink → Rose (K.faults sink.old) (K.faults sink.new) }
 {
-    stage.open(schedule.nodes, schedule.chain, &schedule.areas)?;
+    stage.open(
+        schedule.nodes,
+        schedule.chain,
+        schedule.chunk,
+        &schedule.areas,
+    )?;
     tell(
         alloc,
         sink,
@@ -140,7 +144,7 @@ fn tell<K: Sink, T: Stage>(
     alloc: Global,
     sink: &mut K,
     stage: &mut T,
-    events: &[Event],
+    events: &EventList,
     nodes: u32,
     summary: bool,
 ) -> Result<(), ReportFault>

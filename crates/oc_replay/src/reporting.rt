@@ -1,6 +1,7 @@
 //! A run of events on a stage, reported while it happens.
 
-ghost use Rattle.std.specs.Prelude.{◌≡◌, ◌+◌, ◌-◌, ◌^◌, ◌<◌, ◌++◌, length, OnOk, IfOk, IsErrOf};
+ghost use Rattle.std.specs.Prelude.{◌≡◌, ◌+◌, ◌-◌, ◌^◌, ◌<◌, ◌++◌, Some, length, slice_get, OnOk, IfOk, IsErrOf};
+ghost use Rattle.oc_model.specs.declared.event.Event.{Event as EventValue};
 ghost use Rattle.oc_model.specs.Lawful.{IsEvent};
 ghost use Rattle.oc_model.specs.NextWorld.{next_world, word_of, world_after};
 ghost use Rattle.oc_model.specs.World.{ids, message_at};
@@ -19,6 +20,7 @@ use crate::{Said, Stage};
 use oc_base::Memory;
 use oc_io::Sink;
 use oc_model::Event;
+use oc_schedule::EventList;
 use std::alloc::Global;
 
 /// Gives the stage each event once, in order, and writes the report of the run, which opens with
@@ -27,7 +29,7 @@ pub(crate) fn report<K: Sink, T: Stage>(
     alloc: Global,
     sink: &mut K,
     stage: &mut T,
-    events: &[Event],
+    events: &EventList,
 ) -> Result<(), ReportFault>
     requires { IsOpening (T.world stage.old) events.now }
 
@@ -54,11 +56,35 @@ pub(crate) fn report<K: Sink, T: Stage>(
 {
     let mut out = Vec::new(alloc);
     let mut sent = 0;
-    for (place, event) in events.iter().enumerate() {
-        sent = tell(&mut out, stage, place as u64 + 1, event)?;
+    for place in 0..events.len() {
+        sent = tell_at(&mut out, stage, events, place, place as u64 + 1)?;
         pass_on(sink, &mut out)?;
     }
     write_last(sink, &mut out, events.len() as u64, sent)
+}
+
+/// Gives the stage the event at a place, which has this number, puts what is reported of it, and answers how
+/// many messages were sent so far.
+fn tell_at<T: Stage>(
+    out: &mut Vec<u8>,
+    stage: &mut T,
+    events: &EventList,
+    place: usize,
+    number: u64,
+) -> Result<u64, Memory>
+    requires within { place < length events.now }
+    requires event { (e : EventValue) → slice_get events.now place ≡ Some e → IsEvent (length (ids (T.world stage.old))) e }
+    requires time { (e : EventValue) → slice_get events.now place ≡ Some e → HasTimeFor (T.world stage.old) e }
+    ensures text { (e : EventValue) → slice_get events.now place ≡ Some e → OnOk result (out.new.items ≡ out.old.items
+        ++ event_text number (word_of (T.world stage.old) e) (T.world stage.old) (T.world stage.new) e) }
+    ensures world { (e : EventValue) → slice_get events.now place ≡ Some e → OnOk result (T.world stage.new ≡ next_world (T.world stage.old) e) }
+    ensures sent { IfOk result (λ sent. sent ≡ length (T.world stage.new).net) }
+{
+    let event = events.event(place);
+    let sent = tell(out, stage, number, event.get());
+    // Dropped by a call, the event costs one proof; out of scope it costs one for each kind.
+    drop(event);
+    sent
 }
 
 /// Gives the stage the event of this number, puts what is reported of it, and answers how many messages

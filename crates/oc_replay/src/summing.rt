@@ -17,7 +17,7 @@ use crate::fault::ReportFault;
 use crate::playing::play;
 use oc_base::{Memory, NodeId, Shelf, put, put_with_number};
 use oc_io::{Sink, write_all};
-use oc_model::Event;
+use oc_schedule::EventList;
 use std::alloc::Global;
 
 /// What is counted of some nodes: those that are up, those of them that are joined and that act as
@@ -59,7 +59,7 @@ pub(crate) fn summarize<K: Sink, T: Stage>(
     alloc: Global,
     sink: &mut K,
     stage: &mut T,
-    events: &[Event],
+    events: &EventList,
     nodes: u32,
 ) -> Result<(), ReportFault>
     requires opened { IsOpening (T.world stage.old) events.now }
@@ -92,7 +92,7 @@ pub(crate) fn summarize<K: Sink, T: Stage>(
 fn play_and_sum<T: Stage>(
     alloc: Global,
     stage: &mut T,
-    events: &[Event],
+    events: &EventList,
     nodes: u32,
 ) -> Result<Vec<u8>, Memory>
     requires opened { IsOpening (T.world stage.old) events.now }

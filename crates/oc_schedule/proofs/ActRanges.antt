@@ -18,7 +18,7 @@ use Rattle.oc_schedule.proofs.Steps.{steps, behind_guard, within_guard}
 use Rattle.oc_base.specs.Words.{one, two, three, four, is_number, number_in, node_in}
 use Rattle.oc_base.specs.declared.limits.TheConstants.{MAX_RATE, MAX_START, MAX_TIME}
 use Rattle.oc_schedule.specs.Fields.{group_in, bytes_in}
-use Rattle.oc_schedule.specs.Acts.{tick_in, check_in, pair_in, move_in, fail_in, pull_in, measure_in, publish_in, seal_in, client_in, deliver_in, act_in, bytes_of_act, most_byte}
+use Rattle.oc_schedule.specs.Acts.{ticked_in, tick_in, check_in, pair_in, move_in, fail_in, pull_in, measure_in, publish_in, seal_in, client_in, delivered_in, deliver_in, act_in, bytes_of_act, most_byte}
 use Rattle.oc_base.specs.Steps.{with_fault}
 
 -- a number is from least to most
@@ -45,13 +45,21 @@ group_range field g h =
 abbrev pub IsActIfFew : ℕ → Act → Type 0
 IsActIfFew nodes act = bytes_of_act act ≤ 1000000 → IsAct nodes act
 
-tick_range : (nodes : ℕ) (fields : List (List ℕ)) (act : Act) → tick_in nodes fields ≡ Ok act → IsActIfFew nodes act
-tick_range nodes fields act h =
+-- a node and a second
+ticked_range : (nodes : ℕ) (fields : List (List ℕ)) (ticked : ℕ × ℕ) → ticked_in nodes fields ≡ Ok ticked → IsNode nodes ticked.0 × (ticked.1 ≤ MAX_TIME)
+ticked_range nodes fields ticked h =
     steps (two fields) _ _ h λ f is_two then.
     steps (node_in nodes f.0) _ _ then λ node is_node then.
     steps (number_in 0 MAX_TIME f.1) _ _ then λ now is_now end.
-    let same : At node (Tick now) ≡ act = cc end in
-    subst (IsActIfFew nodes) same λ few. (number_range 1 nodes f.0 node is_node, (number_range 0 MAX_TIME f.1 now is_now).1)
+    let same : (node, now) ≡ ticked = cc end in
+    subst (λ (x : ℕ × ℕ). IsNode nodes x.0 × (x.1 ≤ MAX_TIME)) same
+    (number_range 1 nodes f.0 node is_node, (number_range 0 MAX_TIME f.1 now is_now).1)
+
+tick_range : (nodes : ℕ) (fields : List (List ℕ)) (act : Act) → tick_in nodes fields ≡ Ok act → IsActIfFew nodes act
+tick_range nodes fields act h =
+    steps (ticked_in nodes fields) _ _ h λ ticked is_ticked end.
+    let same : At ticked.0 (Tick ticked.1) ≡ act = cc end in
+    subst (IsActIfFew nodes) same λ few. ticked_range nodes fields ticked is_ticked
 
 check_range : (nodes : ℕ) (fields : List (List ℕ)) (act : Act) → check_in nodes fields ≡ Ok act → IsActIfFew nodes act
 check_range nodes fields act h =
@@ -127,12 +135,15 @@ client_range nodes fields act h =
     subst (IsActIfFew nodes) same λ few.
     (number_range 1 nodes f.0 node is_node, ((number_range 0 most_byte f.1 area is_area).1, (number_range 0 MAX_START f.2 start is_start).1, group_range f.3 group is_group))
 
+-- the number of a message
+delivered_range : (fields : List (List ℕ)) (number : ℕ) → delivered_in fields ≡ Ok number → (1 ≤ number) × (number ≤ number_end)
+delivered_range fields number h = steps (one fields) _ _ h λ k is_one then. number_range 1 number_end k number then
+
 deliver_range : (nodes : ℕ) (fields : List (List ℕ)) (act : Act) → deliver_in fields ≡ Ok act → IsActIfFew nodes act
 deliver_range nodes fields act h =
-    steps (one fields) _ _ h λ k is_one then.
-    steps (number_in 1 number_end k) _ _ then λ number is_number end.
+    steps (delivered_in fields) _ _ h λ number is_delivered end.
     let same : Deliver number ≡ act = cc end in
-    let range = number_range 1 number_end k number is_number in
+    let range = delivered_range fields number is_delivered in
     subst (IsActIfFew nodes) same λ few. (range.0, omega arith)
 
 -- one of two readings, by a test of the word
@@ -144,6 +155,7 @@ pub act_range : (nodes : ℕ) (word : List ℕ) (fields : List (List ℕ)) (act 
 act_range nodes word fields act h =
     let P = IsActIfFew nodes act in
     either P (bytes_eq word (codes "tick")) _ _ _ h (tick_range nodes fields act) λ h.
+    either P (bytes_eq word (codes "deliver")) _ _ _ h (deliver_range nodes fields act) λ h.
     either P (bytes_eq word (codes "check")) _ _ _ h (check_range nodes fields act) λ h.
     either P (bytes_eq word (codes "move")) _ _ _ h (move_range nodes fields act) λ h.
     either P (bytes_eq word (codes "fail")) _ _ _ h (fail_range nodes fields act) λ h.
@@ -151,5 +163,4 @@ act_range nodes word fields act h =
     either P (bytes_eq word (codes "measure")) _ _ _ h (measure_range nodes fields act) λ h.
     either P (bytes_eq word (codes "publish")) _ _ _ h (publish_range nodes fields act) λ h.
     either P (bytes_eq word (codes "seal")) _ _ _ h (seal_range nodes fields act) λ h.
-    either P (bytes_eq word (codes "client")) _ _ _ h (client_range nodes fields act) λ h.
-    either P (bytes_eq word (codes "deliver")) _ _ _ h (deliver_range nodes fields act) λ h. absurd (cc h)
+    either P (bytes_eq word (codes "client")) _ _ _ h (client_range nodes fields act) λ h. absurd (cc h)

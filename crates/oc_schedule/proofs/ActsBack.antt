@@ -12,7 +12,7 @@ use Rattle.oc_model.specs.Lawful.{IsAct, IsGiven}
 use Rattle.oc_model.specs.Numbers.{number_end}
 use Rattle.oc_schedule.proofs.FieldsBack.{bytes_back, bytes_word, decimal_word, group_back, name_word, number_back}
 use Rattle.oc_schedule.proofs.LineBack.{AreWords}
-use Rattle.oc_schedule.specs.Acts.{act_fields, act_in, act_word, act_words, input_fields, input_word, pair_in, most_byte, PublishesBytes}
+use Rattle.oc_schedule.specs.Acts.{act_fields, act_in, act_word, act_words, input_fields, input_word, pair_in, ticked_in, most_byte, PublishesBytes}
 use Rattle.oc_schedule.specs.Fields.{group_in}
 
 -- the first step gives x, and the next gives y
@@ -37,10 +37,15 @@ pair_back : (nodes x p : ℕ) → nodes ≤ MAX_NODES → IsNode nodes x → IsN
 pair_back nodes x p few node peer =
     then (node_in nodes (decimal x)) _ x _ (node_back nodes x few node) (then (node_in nodes (decimal p)) _ p _ (node_back nodes p few peer) refl)
 
+-- a node and a second
+ticked_back : (nodes x t : ℕ) → nodes ≤ MAX_NODES → IsNode nodes x → t ≤ MAX_TIME → ticked_in nodes (decimal x ∷ decimal t ∷ []) ≡ Ok (x, t)
+ticked_back nodes x t few node least =
+    then (node_in nodes (decimal x)) _ x _ (node_back nodes x few node)
+    (then (number_in 0 MAX_TIME (decimal t)) _ t _ (number_back 0 MAX_TIME t (omega (arith, least)) (omega arith) least) refl)
+
 input_back : (nodes x : ℕ) (i : Input) → nodes ≤ MAX_NODES → IsNode nodes x → IsGiven nodes x i → PublishesBytes (acts.At x i) → act_in nodes (input_word i) (decimal x ∷ input_fields i) ≡ Ok (acts.At x i)
 input_back nodes x (inputs.Tick t) few node h bytes =
-    then (node_in nodes (decimal x)) _ x _ (node_back nodes x few node)
-    (then (number_in 0 MAX_TIME (decimal t)) _ t _ (number_back 0 MAX_TIME t (omega (arith, h)) (omega arith) h) refl)
+    then (ticked_in nodes (decimal x ∷ decimal t ∷ [])) _ (x, t) _ (ticked_back nodes x t few node h) refl
 input_back nodes x inputs.CheckNow few node h bytes = then (node_in nodes (decimal x)) _ x _ (node_back nodes x few node) refl
 input_back nodes x (inputs.Relocate p) few node h bytes = then (pair_in nodes (decimal x ∷ decimal p ∷ [])) _ (x, p) _ (pair_back nodes x p few node h) refl
 input_back nodes x (inputs.Unreachable p) few node h bytes = then (pair_in nodes (decimal x ∷ decimal p ∷ [])) _ (x, p) _ (pair_back nodes x p few node h) refl

@@ -84,7 +84,7 @@ generated_is_schedule seed nodes more some few last =
     let published = sum_by-append published_by starts drawn in
     let settles = sum_by-append settles_by starts drawn in
     record {
-      header = record { some = some; few = few; chain = omega (arith, some); short = omega arith; within = omega arith; areas = length-replicate nodes 0; bytes = zeros_are_areas nodes };
+      header = record { some = some; few = few; chain = omega (arith, some); short = omega arith; within = omega arith; chunk = omega arith; fits = omega arith; areas = length-replicate nodes 0; bytes = zeros_are_areas nodes };
       events = all_append (IsEvent nodes) starts drawn a.lawful c.lawful;
       few = omega (arith, length-append starts drawn, a.count, c.count, last);
       published = omega (arith, published, a.published, c.published, last);

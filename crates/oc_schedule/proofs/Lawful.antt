@@ -68,6 +68,8 @@ said_area i s fields t before h =
       chain = old.chain;
       short = old.short;
       within = old.within;
+      chunk = old.chunk;
+      fits = old.fits;
       areas = length-set s.header.areas (area.0 - 1) area.1 ∙ old.areas;
       bytes = set_keeps_areas s.header.areas (area.0 - 1) area.1 old.bytes (area_range s.header.nodes fields area is_area).1;
     } in

@@ -10,3 +10,4 @@ pub mod LineBack
 pub mod FieldsBack
 pub mod ActsBack
 pub mod ActRanges
+pub mod Listed

@@ -12,15 +12,13 @@ use Rattle.oc_model.specs.Lawful.{IsHeader, IsEvent}
 use Rattle.oc_model.specs.Node.{Header}
 use Rattle.oc_schedule.proofs.ActRanges.{act_range, either, number_range}
 use Rattle.oc_schedule.proofs.Steps.{steps, within_guard}
-use Rattle.oc_base.specs.Words.{one, two, six, number_in, node_in}
-use Rattle.oc_base.specs.declared.limits.TheConstants.{MAX_AREA, MAX_NODES, MAX_CHAIN}
+use Rattle.oc_base.specs.Words.{one, two, number_in, node_in}
+use Rattle.oc_base.specs.declared.limits.TheConstants.{MAX_AREA, MAX_NODES, MAX_CHAIN, MAX_CHUNK_BYTES, USUAL_CHUNK_BYTES}
+use Rattle.oc_schedule.specs.declared.lines.Sizes.{Sizes}
 use Rattle.oc_schedule.specs.Acts.{act_in, most_byte}
-use Rattle.oc_schedule.specs.Lines.{sizes_in, opening_in, header_in, area_in, first_three, node_alone_in, up_in, crash_in, held_in, show_in, alone, stop_in, act_alone_in, event_in, most_calls}
+use Rattle.oc_schedule.specs.Lines.{with_sizes, sizes_in, named_in, chunk_in, opening_in, header_in, area_in, first_three, node_alone_in, up_in, crash_in, held_in, show_in, alone, stop_in, act_alone_in, event_in, most_calls}
 use Rattle.oc_base.specs.Steps.{with_fault}
 use Rattle.oc_schedule.specs.Script.{published_by}
-
-abbrev with_sizes : ℕ × ℕ → Header
-with_sizes (nodes, chain) = record { nodes = nodes; chain = chain; areas = replicate nodes 0 }
 
 -- areas that are 0 are areas
 pub zeros_are_areas : (n : ℕ) → AllByRecursion (λ a. a ≤ MAX_AREA) (replicate n 0)
@@ -33,21 +31,32 @@ set_keeps_areas [] i a all small = tt
 set_keeps_areas (x ∷ areas) zero a all small = (small, all.1)
 set_keeps_areas (x ∷ areas) (suc i) a all small = (all.0, set_keeps_areas areas i a all.1 small)
 
-sizes_range : (n c : List ℕ) (sizes : ℕ × ℕ) → sizes_in n c ≡ Ok sizes → IsHeader (with_sizes sizes)
-sizes_range n c sizes h =
+sizes_range : (n c : List ℕ) (chunk : ℕ) (sizes : Sizes) → 1 ≤ chunk → chunk ≤ MAX_CHUNK_BYTES → sizes_in n c chunk ≡ Ok sizes → IsHeader (with_sizes sizes)
+sizes_range n c chunk sizes some fits h =
     steps (number_in 1 MAX_NODES n) _ _ h λ nodes is_nodes then.
     steps (number_in 1 (min MAX_CHAIN nodes) c) _ _ then λ chain is_chain end.
     let a = number_range 1 MAX_NODES n nodes is_nodes in
     let b = number_range 1 (min MAX_CHAIN nodes) c chain is_chain in
-    let same : (nodes, chain) ≡ sizes = cc end in
-    subst (λ (s : ℕ × ℕ). IsHeader (with_sizes s)) same
-    (record { some = a.0; few = a.1; chain = b.0; short = omega arith; within = omega arith; areas = length-replicate nodes 0; bytes = zeros_are_areas nodes })
+    let made : Sizes = record { nodes = nodes; chain = chain; chunk = chunk } in
+    let same : made ≡ sizes = cc end in
+    subst (λ (s : Sizes). IsHeader (with_sizes s)) same
+    (record { some = a.0; few = a.1; chain = b.0; short = omega arith; within = omega arith; chunk = some; fits = fits; areas = length-replicate nodes 0; bytes = zeros_are_areas nodes })
 
-opening_range : (words : List (List ℕ)) (sizes : ℕ × ℕ) → opening_in words ≡ Ok sizes → IsHeader (with_sizes sizes)
+-- what a chunk's number is
+chunk_range : (words : List (List ℕ)) (chunk : ℕ) → chunk_in words ≡ Ok chunk → (1 ≤ chunk) × (chunk ≤ MAX_CHUNK_BYTES)
+chunk_range [] chunk h = let same : USUAL_CHUNK_BYTES ≡ chunk = cc h in (omega (arith, same), omega (arith, same))
+chunk_range (name ∷ fields) chunk h =
+    steps (one fields) _ _ h λ b is_one then.
+    number_range 1 MAX_CHUNK_BYTES b chunk (within_guard (bytes_eq name (codes "chunk")) causes.Word _ chunk then).1
+
+opening_range : (words : List (List ℕ)) (sizes : Sizes) → opening_in words ≡ Ok sizes → IsHeader (with_sizes sizes)
 opening_range words sizes h =
-    steps (six words) _ _ h λ w is_six then.
-    sizes_range w.3 w.5 sizes
-    (within_guard (bytes_eq w.0 (codes "overcast") && bytes_eq w.1 (codes "1") && bytes_eq w.2 (codes "nodes") && bytes_eq w.4 (codes "chain")) causes.Word _ sizes then).1
+    steps (named_in (codes "overcast") words) _ _ h λ version is_version then.
+    steps (named_in (codes "nodes") version.1) _ _ then λ n is_nodes then.
+    steps (named_in (codes "chain") n.1) _ _ then λ c is_chain then.
+    steps (chunk_in c.1) _ _ then λ chunk is_chunk then.
+    let range = chunk_range c.1 chunk is_chunk in
+    sizes_range n.0 c.0 chunk sizes range.0 range.1 (within_guard (bytes_eq version.0 (codes "1")) causes.Word _ sizes then).1
 
 without_fault : {A E F : Type 0} (fault : F) (r : Result A E) (y : A) → with_fault fault r ≡ Ok y → r ≡ Ok y
 without_fault fault (Ok x) y h = cc h

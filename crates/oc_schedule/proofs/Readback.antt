@@ -1,13 +1,14 @@
 -- A schedule that is printed is read as the same one.
-use Rattle.std.proofs.Common.{◌≡◌, ℕ, zero, suc, ◌+◌, ◌-◌, ◌^◌, ◌<◌, ◌≤◌, false, cond, ◌&&◌, ◌==◌, nat_lt, min, Option, Some, None, Ok, Err, List, [], ◌∷◌, ◌++◌, length, refl, ap, sym, ◌∙◌, arith, codes, decimal, append_assoc, replicate, length-append}
+use Rattle.std.proofs.Common.{◌≡◌, ℕ, zero, suc, ◌+◌, ◌-◌, ◌^◌, ◌<◌, ◌≤◌, Bool, true, false, cond, ◌&&◌, ◌==◌, nat_lt, min, Option, Some, None, Ok, Err, List, [], ◌∷◌, ◌++◌, length, refl, ap, sym, ◌∙◌, arith, codes, decimal, append_assoc, replicate, length-append}
 use Rattle.std.specs.List.{AllByRecursion}
 use Rattle.std.specs.Str.Lines.{lines}
+use Rattle.std.proofs.lemmas.Bool.{cond_both, eqb-true}
 use Rattle.std.proofs.lemmas.Bool.Decides.{nat_tests}
 use Rattle.std.proofs.lemmas.List.{append-nil, set_at}
 use Rattle.std.proofs.lemmas.List.Sums.{sum_by-append}
 use Rattle.oc_base.specs.Steps.{◌>>=◌, with_fault}
 use Rattle.oc_base.specs.Words.{node_in, number_in, words}
-use Rattle.oc_base.specs.declared.limits.TheConstants.{MAX_AREA, MAX_CHAIN, MAX_NODES, MAX_SCHEDULE_BYTES, MAX_SCHEDULE_LINES, MAX_SCHEDULE_PUBLISHED, MAX_SCHEDULE_SETTLES}
+use Rattle.oc_base.specs.declared.limits.TheConstants.{MAX_AREA, MAX_CHAIN, MAX_CHUNK_BYTES, MAX_NODES, MAX_SCHEDULE_BYTES, MAX_SCHEDULE_LINES, MAX_SCHEDULE_PUBLISHED, MAX_SCHEDULE_SETTLES, USUAL_CHUNK_BYTES}
 use Rattle.oc_base.specs.declared.why.Why.TheVariants as causes
 use Rattle.oc_model.specs.declared.event.Event.{Event}
 use Rattle.oc_model.specs.Lawful.{IsEvent}
@@ -18,7 +19,7 @@ use Rattle.oc_schedule.proofs.LineBack.{AreWords, line_back, words_back}
 use Rattle.oc_schedule.specs.declared.fault.ScheduleFault.TheVariants.{Limit}
 use Rattle.oc_schedule.specs.declared.fault.What.TheVariants as limits
 use Rattle.oc_schedule.specs.Acts.{most_byte}
-use Rattle.oc_schedule.specs.Lines.{area_in, area_words, event_fields, event_in, event_word, event_words, header_words, sizes_in}
+use Rattle.oc_schedule.specs.Lines.{area_in, area_words, event_fields, event_in, event_word, event_words, chunk_in, chunk_words, header_words, opening_in, sizes_in, with_sizes}
 use Rattle.oc_schedule.specs.Texts.{line_text, spaced}
 use Rattle.oc_schedule.specs.Printing.{IsOfBytes, IsPrintable, area_lines, areas_text, events_text, script_text}
 use Rattle.oc_schedule.specs.Reading.{at_line}
@@ -74,8 +75,8 @@ events_read i s (e ∷ es) few lawful bytes short published settles =
 -- Areas
 
 -- a schedule before its events
-abbrev opened : ℕ → ℕ → List ℕ → Script
-opened nodes chain areas = record { header = record { nodes = nodes; chain = chain; areas = areas }; events = [] }
+abbrev opened : ℕ → ℕ → ℕ → List ℕ → Script
+opened nodes chain chunk areas = record { header = record { nodes = nodes; chain = chain; chunk = chunk; areas = areas }; events = [] }
 
 area_are_words : (nodes x a : ℕ) → nodes ≤ MAX_NODES → (1 ≤ x) × (x ≤ nodes) → a ≤ MAX_AREA → AreWords (area_words x a)
 area_are_words nodes x a few node small = (refl, ((node_word nodes x few node).0, (decimal_word a (omega (arith, small)), tt)))
@@ -86,58 +87,72 @@ area_back nodes x a few node small =
     (then (number_in 0 most_byte (decimal a)) _ a _ (number_back 0 most_byte a (omega (arith, small)) (omega arith) small) refl)
 
 -- an area line sets its node's area
-area_says : (nodes chain x a : ℕ) (front behind : List ℕ) → nodes ≤ MAX_NODES → (1 ≤ x) × (x ≤ nodes) → a ≤ MAX_AREA → length front + 1 ≡ x →
-    script_after (Some (opened nodes chain (front ++ 0 ∷ behind))) (codes "area") (decimal x ∷ decimal a ∷ []) ≡ Ok (opened nodes chain (front ++ a ∷ behind))
-area_says nodes chain x a front behind few node small at =
+area_says : (nodes chain chunk x a : ℕ) (front behind : List ℕ) → nodes ≤ MAX_NODES → (1 ≤ x) × (x ≤ nodes) → a ≤ MAX_AREA → length front + 1 ≡ x →
+    script_after (Some (opened nodes chain chunk (front ++ 0 ∷ behind))) (codes "area") (decimal x ∷ decimal a ∷ []) ≡ Ok (opened nodes chain chunk (front ++ a ∷ behind))
+area_says nodes chain chunk x a front behind few node small at =
     then (area_in nodes (decimal x ∷ decimal a ∷ [])) _ (x, a) _ (area_back nodes x a few node small)
-    (ap (λ areas. Ok (opened nodes chain areas)) (set_at front 0 behind a (x - 1) (omega (arith, at))))
+    (ap (λ areas. Ok (opened nodes chain chunk areas)) (set_at front 0 behind a (x - 1) (omega (arith, at))))
 
-areas_read : (i x nodes chain : ℕ) (front areas : List ℕ) (rest : List ℕ) → nodes ≤ MAX_NODES → length front + 1 ≡ x → length front + length areas ≤ nodes →
+areas_read : (i x nodes chain chunk : ℕ) (front areas : List ℕ) (rest : List ℕ) → nodes ≤ MAX_NODES → length front + 1 ≡ x → length front + length areas ≤ nodes →
     AllByRecursion (λ area. area ≤ MAX_AREA) areas → i + area_lines areas ≤ MAX_SCHEDULE_LINES + 1 →
-    read_lines i (Some (opened nodes chain (front ++ replicate (length areas) 0))) (lines (areas_text x areas ++ rest))
-    ≡ read_lines (i + area_lines areas) (Some (opened nodes chain (front ++ areas))) (lines rest)
-areas_read i x nodes chain front [] rest few at within small short =
+    read_lines i (Some (opened nodes chain chunk (front ++ replicate (length areas) 0))) (lines (areas_text x areas ++ rest))
+    ≡ read_lines (i + area_lines areas) (Some (opened nodes chain chunk (front ++ areas))) (lines rest)
+areas_read i x nodes chain chunk front [] rest few at within small short =
     let same : i ≡ i + 0 = omega arith in
-    ap (λ n. read_lines n (Some (opened nodes chain (front ++ []))) (lines rest)) same
-areas_read i x nodes chain front (zero ∷ areas) rest few at within small short =
+    ap (λ n. read_lines n (Some (opened nodes chain chunk (front ++ []))) (lines rest)) same
+areas_read i x nodes chain chunk front (zero ∷ areas) rest few at within small short =
     let longer = length-append front (0 ∷ []) in
-    ap (λ l. read_lines i (Some (opened nodes chain l)) (lines (areas_text (x + 1) areas ++ rest))) (sym (append_assoc front (0 ∷ []) (replicate (length areas) 0)))
-    ∙ areas_read i (x + 1) nodes chain (front ++ 0 ∷ []) areas rest few (omega (arith, at, longer)) (omega (arith, within, longer)) small.1 short
-    ∙ ap (λ l. read_lines (i + area_lines areas) (Some (opened nodes chain l)) (lines rest)) (append_assoc front (0 ∷ []) areas)
-areas_read i x nodes chain front (suc a ∷ areas) rest few at within small short =
+    ap (λ l. read_lines i (Some (opened nodes chain chunk l)) (lines (areas_text (x + 1) areas ++ rest))) (sym (append_assoc front (0 ∷ []) (replicate (length areas) 0)))
+    ∙ areas_read i (x + 1) nodes chain chunk (front ++ 0 ∷ []) areas rest few (omega (arith, at, longer)) (omega (arith, within, longer)) small.1 short
+    ∙ ap (λ l. read_lines (i + area_lines areas) (Some (opened nodes chain chunk l)) (lines rest)) (append_assoc front (0 ∷ []) areas)
+areas_read i x nodes chain chunk front (suc a ∷ areas) rest few at within small short =
     let longer = length-append front (suc a ∷ []) in
     let other : (suc a == 0) ≡ false = grind (arith, nat_tests) in
     let one_more : area_lines (suc a ∷ areas) ≡ area_lines areas + 1 = ap (λ b. cond b (area_lines areas) (area_lines areas + 1)) other in
     let node : (1 ≤ x) × (x ≤ nodes) = (omega (arith, at), omega (arith, at, within)) in
     let zeros = replicate (length areas) 0 in
     let are = area_are_words nodes x (suc a) few node small.0 in
-    let first = line_read i (Some (opened nodes chain (front ++ 0 ∷ zeros))) (codes "area") (decimal x ∷ decimal (suc a) ∷ []) (opened nodes chain (front ++ suc a ∷ zeros)) (omega (arith, short, one_more)) are refl
-    (area_says nodes chain x (suc a) front zeros few node small.0 at) refl in
+    let first = line_read i (Some (opened nodes chain chunk (front ++ 0 ∷ zeros))) (codes "area") (decimal x ∷ decimal (suc a) ∷ []) (opened nodes chain chunk (front ++ suc a ∷ zeros)) (omega (arith, short, one_more)) are refl
+    (area_says nodes chain chunk x (suc a) front zeros few node small.0 at) refl in
     let count : (i + 1) + area_lines areas ≡ i + area_lines (suc a ∷ areas) = omega (arith, one_more) in
-    ap (λ b. read_lines i (Some (opened nodes chain (front ++ 0 ∷ zeros))) (lines ((cond b [] (line_text (area_words x (suc a))) ++ areas_text (x + 1) areas) ++ rest))) other
-    ∙ ap (λ t. read_lines i (Some (opened nodes chain (front ++ 0 ∷ zeros))) (lines t)) (append_assoc (line_text (area_words x (suc a))) (areas_text (x + 1) areas) rest)
-    ∙ ap (read_lines i (Some (opened nodes chain (front ++ 0 ∷ zeros)))) (line_back (area_words x (suc a)) (areas_text (x + 1) areas ++ rest) are)
+    ap (λ b. read_lines i (Some (opened nodes chain chunk (front ++ 0 ∷ zeros))) (lines ((cond b [] (line_text (area_words x (suc a))) ++ areas_text (x + 1) areas) ++ rest))) other
+    ∙ ap (λ t. read_lines i (Some (opened nodes chain chunk (front ++ 0 ∷ zeros))) (lines t)) (append_assoc (line_text (area_words x (suc a))) (areas_text (x + 1) areas) rest)
+    ∙ ap (read_lines i (Some (opened nodes chain chunk (front ++ 0 ∷ zeros)))) (line_back (area_words x (suc a)) (areas_text (x + 1) areas ++ rest) are)
     ∙ ap (λ r. r >>= λ next. read_lines (i + 1) next (lines (areas_text (x + 1) areas ++ rest))) first
-    ∙ ap (λ l. read_lines (i + 1) (Some (opened nodes chain l)) (lines (areas_text (x + 1) areas ++ rest))) (sym (append_assoc front (suc a ∷ []) zeros))
-    ∙ areas_read (i + 1) (x + 1) nodes chain (front ++ suc a ∷ []) areas rest few (omega (arith, at, longer)) (omega (arith, within, longer)) small.1 (omega (arith, short, one_more))
-    ∙ ap (λ l. read_lines ((i + 1) + area_lines areas) (Some (opened nodes chain l)) (lines rest)) (append_assoc front (suc a ∷ []) areas)
-    ∙ ap (λ n. read_lines n (Some (opened nodes chain (front ++ suc a ∷ areas))) (lines rest)) count
+    ∙ ap (λ l. read_lines (i + 1) (Some (opened nodes chain chunk l)) (lines (areas_text (x + 1) areas ++ rest))) (sym (append_assoc front (suc a ∷ []) zeros))
+    ∙ areas_read (i + 1) (x + 1) nodes chain chunk (front ++ suc a ∷ []) areas rest few (omega (arith, at, longer)) (omega (arith, within, longer)) small.1 (omega (arith, short, one_more))
+    ∙ ap (λ l. read_lines ((i + 1) + area_lines areas) (Some (opened nodes chain chunk l)) (lines rest)) (append_assoc front (suc a ∷ []) areas)
+    ∙ ap (λ n. read_lines n (Some (opened nodes chain chunk (front ++ suc a ∷ areas))) (lines rest)) count
 
 -- The header
 
-sizes_back : (n c : ℕ) → 1 ≤ n → n ≤ MAX_NODES → 1 ≤ c → c ≤ MAX_CHAIN → c ≤ n → sizes_in (decimal n) (decimal c) ≡ Ok (n, c)
-sizes_back n c some few one short within =
+sizes_back : (n c b : ℕ) → 1 ≤ n → n ≤ MAX_NODES → 1 ≤ c → c ≤ MAX_CHAIN → c ≤ n → sizes_in (decimal n) (decimal c) b ≡ Ok (record { nodes = n; chain = c; chunk = b })
+sizes_back n c b some few one short within =
     then (number_in 1 MAX_NODES (decimal n)) _ n _ (number_back 1 MAX_NODES n (omega (arith, few)) some few)
     (then (number_in 1 (min MAX_CHAIN n) (decimal c)) _ c _ (number_back 1 (min MAX_CHAIN n) c (omega (arith, short)) one (omega (arith, short, within))) refl)
 
-header_are_words : (n c : ℕ) → n < 2 ^ 64 → c < 2 ^ 64 → AreWords (header_words n c)
-header_are_words n c small short = (refl, (refl, (refl, (decimal_word n small, (refl, (decimal_word c short, tt))))))
+-- the number of a chunk, which is left out where it is the usual one
+chunk_back : (b : ℕ) → 1 ≤ b → b ≤ MAX_CHUNK_BYTES → chunk_in (chunk_words b) ≡ Ok b
+chunk_back b some fits = by_test (b == USUAL_CHUNK_BYTES) refl where
+  by_test : (t : Bool) → (b == USUAL_CHUNK_BYTES) ≡ t → chunk_in (cond t [] (codes "chunk" ∷ decimal b ∷ [])) ≡ Ok b
+  by_test true e = ap Ok (sym (eqb-true b USUAL_CHUNK_BYTES e))
+  by_test false e = number_back 1 MAX_CHUNK_BYTES b (omega (arith, fits)) some fits
 
-header_says : (n c : ℕ) → 1 ≤ n → n ≤ MAX_NODES → 1 ≤ c → c ≤ MAX_CHAIN → c ≤ n →
-    script_after None (codes "overcast") (codes "1" ∷ codes "nodes" ∷ decimal n ∷ codes "chain" ∷ decimal c ∷ []) ≡ Ok (opened n c (replicate n 0))
-header_says n c some few one short within =
-    ap (λ sizes. (with_fault causes.Header sizes >>= λ pair. Ok (record { nodes = pair.0; chain = pair.1; areas = replicate pair.0 0 })) >>= λ header. Ok (record { header = header; events = [] }))
-    (sizes_back n c some few one short within)
+chunk_are_words : (b : ℕ) → b < 2 ^ 64 → AreWords (chunk_words b)
+chunk_are_words b fits = cond_both (b == USUAL_CHUNK_BYTES) [] (codes "chunk" ∷ decimal b ∷ []) AreWords (λ _. tt) (λ _. (refl, (decimal_word b fits, tt)))
+
+header_are_words : (n c b : ℕ) → n < 2 ^ 64 → c < 2 ^ 64 → b < 2 ^ 64 → AreWords (header_words n c b)
+header_are_words n c b small short fits = (refl, (refl, (refl, (decimal_word n small, (refl, (decimal_word c short, chunk_are_words b fits))))))
+
+opening_back : (n c b : ℕ) → 1 ≤ n → n ≤ MAX_NODES → 1 ≤ c → c ≤ MAX_CHAIN → c ≤ n → 1 ≤ b → b ≤ MAX_CHUNK_BYTES →
+    opening_in (header_words n c b) ≡ Ok (record { nodes = n; chain = c; chunk = b })
+opening_back n c b some few one short within chunk fits = then (chunk_in (chunk_words b)) _ b _ (chunk_back b chunk fits) (sizes_back n c b some few one short within)
+
+header_says : (n c b : ℕ) → 1 ≤ n → n ≤ MAX_NODES → 1 ≤ c → c ≤ MAX_CHAIN → c ≤ n → 1 ≤ b → b ≤ MAX_CHUNK_BYTES →
+    script_after None (codes "overcast") (codes "1" ∷ codes "nodes" ∷ decimal n ∷ codes "chain" ∷ decimal c ∷ chunk_words b) ≡ Ok (opened n c b (replicate n 0))
+header_says n c b some few one short within chunk fits =
+    ap (λ opening. (with_fault causes.Header opening >>= λ sizes. Ok (with_sizes sizes)) >>= λ header. Ok (record { header = header; events = [] }))
+    (opening_back n c b some few one short within chunk fits)
 
 -- All of it
 
@@ -152,15 +167,16 @@ read_back s p =
     let h = p.lawful.header in
     let n = s.header.nodes in
     let c = s.header.chain in
+    let b = s.header.chunk in
     let areas = s.header.areas in
     let behind = areas_text 1 areas ++ events_text s.events in
-    let are = header_are_words n c (omega (arith, h.few)) (omega (arith, h.short)) in
-    let first = line_read 1 None (codes "overcast") (codes "1" ∷ codes "nodes" ∷ decimal n ∷ codes "chain" ∷ decimal c ∷ []) (opened n c (replicate n 0)) (omega arith) are refl
-    (header_says n c h.some h.few h.chain h.short h.within) refl in
+    let are = header_are_words n c b (omega (arith, h.few)) (omega (arith, h.short)) (omega (arith, h.fits)) in
+    let first = line_read 1 None (codes "overcast") (codes "1" ∷ codes "nodes" ∷ decimal n ∷ codes "chain" ∷ decimal c ∷ chunk_words b) (opened n c b (replicate n 0)) (omega arith) are refl
+    (header_says n c b h.some h.few h.chain h.short h.within h.chunk h.fits) refl in
     text_read (script_text s) p.short
-    ∙ ap (λ t. read_lines 1 None (lines t)) (append_assoc (line_text (header_words n c)) (areas_text 1 areas) (events_text s.events))
-    ∙ ap (read_lines 1 None) (line_back (header_words n c) behind are)
+    ∙ ap (λ t. read_lines 1 None (lines t)) (append_assoc (line_text (header_words n c b)) (areas_text 1 areas) (events_text s.events))
+    ∙ ap (read_lines 1 None) (line_back (header_words n c b) behind are)
     ∙ ap (λ r. r >>= λ next. read_lines 2 next (lines behind)) first
-    ∙ ap (λ k. read_lines 2 (Some (opened n c (replicate k 0))) (lines behind)) (sym h.areas)
-    ∙ areas_read 2 1 n c [] areas (events_text s.events) h.few refl (omega (arith, h.areas)) h.bytes (omega (arith, p.lines))
-    ∙ events_read (2 + area_lines areas) (opened n c areas) s.events h.few p.lawful.events p.bytes (omega (arith, p.lines)) p.lawful.published p.lawful.settles
+    ∙ ap (λ k. read_lines 2 (Some (opened n c b (replicate k 0))) (lines behind)) (sym h.areas)
+    ∙ areas_read 2 1 n c b [] areas (events_text s.events) h.few refl (omega (arith, h.areas)) h.bytes (omega (arith, p.lines))
+    ∙ events_read (2 + area_lines areas) (opened n c b areas) s.events h.few p.lawful.events p.bytes (omega (arith, p.lines)) p.lawful.published p.lawful.settles

@@ -18,12 +18,18 @@ use Rattle.oc_schedule.specs.Fields.{group_in, bytes_in, bytes_text}
 abbrev pub most_byte : ℕ
 most_byte = 255
 
--- `tick N T`
-abbrev pub tick_in : ℕ → List (List ℕ) → Result Act Why
-tick_in nodes fields = do
+-- the node and the second of `tick N T`
+abbrev pub ticked_in : ℕ → List (List ℕ) → Result (ℕ × ℕ) Why
+ticked_in nodes fields = do
   (n, t) ← two fields
   node ← node_in nodes n
   now ← number_in 0 MAX_TIME t
+  Ok (node, now)
+
+-- `tick N T`
+abbrev pub tick_in : ℕ → List (List ℕ) → Result Act Why
+tick_in nodes fields = do
+  (node, now) ← ticked_in nodes fields
   Ok (At node (Tick now))
 
 -- `check N`
@@ -96,17 +102,23 @@ client_in nodes fields = do
   group ← group_in g
   Ok (At node (Client area start group))
 
+-- the number of `deliver K`
+abbrev pub delivered_in : List (List ℕ) → Result ℕ Why
+delivered_in fields = do
+  k ← one fields
+  number_in 1 number_end k
+
 -- `deliver K`
 abbrev pub deliver_in : List (List ℕ) → Result Act Why
 deliver_in fields = do
-  k ← one fields
-  number ← number_in 1 number_end k
+  number ← delivered_in fields
   Ok (Deliver number)
 
--- an act line, by its word
+-- an act line, by its word; ticks and deliveries come first, since long schedules are full of them
 abbrev pub act_in : ℕ → List ℕ → List (List ℕ) → Result Act Why
 act_in nodes word fields =
     if bytes_eq word (codes "tick") then tick_in nodes fields
+    else if bytes_eq word (codes "deliver") then deliver_in fields
     else if bytes_eq word (codes "check") then check_in nodes fields
     else if bytes_eq word (codes "move") then move_in nodes fields
     else if bytes_eq word (codes "fail") then fail_in nodes fields
@@ -115,7 +127,6 @@ act_in nodes word fields =
     else if bytes_eq word (codes "publish") then publish_in nodes fields
     else if bytes_eq word (codes "seal") then seal_in nodes fields
     else if bytes_eq word (codes "client") then client_in nodes fields
-    else if bytes_eq word (codes "deliver") then deliver_in fields
     else Err causes.Word
 
 -- the word of an input's line

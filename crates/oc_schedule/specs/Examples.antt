@@ -15,7 +15,7 @@ two_nodes = codes "overcast 1 nodes 2 chain 1\n"
 
 -- two nodes in the area 0, and these events
 abbrev says : List ℕ → List Event → Type 0
-says text events = schedule_of text ≡ Ok (record { header = record { nodes = 2; chain = 1; areas = 0 ∷ 0 ∷ [] }; events = events })
+says text events = schedule_of text ≡ Ok (record { header = record { nodes = 2; chain = 1; chunk = 4096; areas = 0 ∷ 0 ∷ [] }; events = events })
 
 abbrev refuses : List ℕ → ℕ → Why → Type 0
 refuses text line why = schedule_of text ≡ Err (Line line why)
@@ -37,10 +37,14 @@ pub record AreRead : Type 0 where
   pub skipped_lines : says (codes "\n  # a comment\n" ++ two_nodes ++ codes "# another\n\nup 1") (Up 1 ∷ [])
   pub spaces_and_returns : says (codes "  overcast 1  nodes 2 chain 1 \r\nup 1\r\n") (Up 1 ∷ [])
   pub areas : schedule_of (two_nodes ++ codes "area 2 7\narea 1 9\narea 2 255\n")
-      ≡ Ok (record { header = record { nodes = 2; chain = 1; areas = 9 ∷ 255 ∷ [] }; events = [] })
+      ≡ Ok (record { header = record { nodes = 2; chain = 1; chunk = 4096; areas = 9 ∷ 255 ∷ [] }; events = [] })
+  pub chunk : schedule_of (codes "overcast 1 nodes 1 chain 1 chunk 524288\n")
+      ≡ Ok (record { header = record { nodes = 1; chain = 1; chunk = 524288; areas = 0 ∷ [] }; events = [] })
   pub empty : refuses [] 1 causes.Header
   pub no_header : refuses (codes "# nothing\n\n") 3 causes.Header
   pub chain_too_long : refuses (codes "overcast 1 nodes 2 chain 3\n") 1 causes.Header
+  pub chunk_too_great : refuses (codes "overcast 1 nodes 2 chain 1 chunk 524289\n") 1 causes.Header
+  pub chunk_without_number : refuses (codes "overcast 1 nodes 2 chain 1 chunk\n") 1 causes.Header
   pub lone_return : refuses (two_nodes ++ codes "up 1\r") 2 causes.Number
   pub late_area : refuses (two_nodes ++ codes "up 1\narea 1 9\n") 3 causes.Word
   pub message_nought : refuses (two_nodes ++ codes "deliver 0\n") 2 causes.Range

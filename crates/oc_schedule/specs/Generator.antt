@@ -1,6 +1,7 @@
 -- The generator: a schedule that follows from a seed.
 use Rattle.std.specs.Prelude.{ℕ, zero, suc, ◌+◌, ◌*◌, ◌/◌, ◌%◌, ◌^◌, ◌==◌, nat_le, min, if◌then◌else◌, List, [], ◌∷◌, ◌++◌, map, replicate, codes}
 use Rattle.std.specs.List.{range_with_len}
+use Rattle.oc_base.specs.declared.limits.TheConstants.{USUAL_CHUNK_BYTES}
 use Rattle.oc_model.specs.declared.event.Act.TheVariants.{At, Deliver}
 use Rattle.oc_model.specs.declared.event.Event.{Event}
 use Rattle.oc_model.specs.declared.event.Event.TheVariants.{Up, Crash, Do}
@@ -47,6 +48,6 @@ events_from seed nodes i at (suc n) =
 -- the schedule of a seed: all nodes start, and then what the draws make
 abbrev pub generated : ℕ → ℕ → ℕ → Script
 generated seed nodes more = record {
-  header = record { nodes = nodes; chain = min 3 nodes; areas = replicate nodes 0 };
+  header = record { nodes = nodes; chain = min 3 nodes; chunk = USUAL_CHUNK_BYTES; areas = replicate nodes 0 };
   events = map (λ x. Up x) (range_with_len 1 nodes) ++ events_from seed nodes (nodes + 1) 0 more;
 }

@@ -1,40 +1,65 @@
 -- The header, areas and event lines: for each kind what its fields say, and beside it the words that say it.
-use Rattle.std.specs.Prelude.{ℕ, ◌&&◌, if◌then◌else◌, Result, Ok, Err, List, [], ◌∷◌, min, replicate, codes, decimal}
+use Rattle.std.specs.Prelude.{ℕ, ◌==◌, if◌then◌else◌, Result, Ok, Err, List, [], ◌∷◌, min, replicate, codes, decimal}
 use Rattle.std.specs.Str.{bytes_eq}
 use Rattle.oc_base.specs.Steps.{◌>>=◌, with_fault}
-use Rattle.oc_base.specs.Words.{one, two, six, number_in, node_in}
-use Rattle.oc_base.specs.declared.limits.TheConstants.{MAX_NODES, MAX_CHAIN}
+use Rattle.oc_base.specs.Words.{one, two, number_in, node_in}
+use Rattle.oc_base.specs.declared.limits.TheConstants.{MAX_NODES, MAX_CHAIN, MAX_CHUNK_BYTES, USUAL_CHUNK_BYTES}
 use Rattle.oc_base.specs.declared.why.Why.{Why}
 use Rattle.oc_base.specs.declared.why.Why.TheVariants as causes
 use Rattle.oc_model.specs.declared.event.Event.{Event}
 use Rattle.oc_model.specs.declared.event.Event.TheVariants.{Up, Crash, Stop, Do, Held, Show, Settle, Heal}
 use Rattle.oc_model.specs.Node.{Header}
+use Rattle.oc_schedule.specs.declared.lines.Sizes.{Sizes}
 use Rattle.oc_schedule.specs.Acts.{act_in, act_word, act_fields, act_words, most_byte}
 
--- the numbers of nodes and of chain members
-abbrev pub sizes_in : List ℕ → List ℕ → Result (ℕ × ℕ) Why
-sizes_in n c = do
+-- the numbers of nodes and of chain members, beside that of a chunk
+abbrev pub sizes_in : List ℕ → List ℕ → ℕ → Result Sizes Why
+sizes_in n c chunk = do
   nodes ← number_in 1 MAX_NODES n
   chain ← number_in 1 (min MAX_CHAIN nodes) c
-  Ok (nodes, chain)
+  Ok (record { nodes = nodes; chain = chain; chunk = chunk })
 
--- `overcast 1 nodes N chain C`
-abbrev pub opening_in : List (List ℕ) → Result (ℕ × ℕ) Why
+-- the field behind this word, with which the fields begin, and the rest of them
+abbrev pub named_in : List ℕ → List (List ℕ) → Result (List ℕ × List (List ℕ)) Why
+named_in name (word ∷ field ∷ rest) = if bytes_eq word name then Ok (field, rest) else Err causes.Word
+named_in name fields = Err causes.Count
+
+-- the greatest number of bytes of a chunk: `chunk B`, or nothing
+abbrev pub chunk_in : List (List ℕ) → Result ℕ Why
+chunk_in [] = Ok USUAL_CHUNK_BYTES
+chunk_in (name ∷ fields) = do
+  b ← one fields
+  if bytes_eq name (codes "chunk") then number_in 1 MAX_CHUNK_BYTES b else Err causes.Word
+
+-- `overcast 1 nodes N chain C`, and perhaps `chunk B`
+abbrev pub opening_in : List (List ℕ) → Result Sizes Why
 opening_in words = do
-  (overcast, version, nodes, n, chain, c) ← six words
-  if bytes_eq overcast (codes "overcast") && bytes_eq version (codes "1") && bytes_eq nodes (codes "nodes") && bytes_eq chain (codes "chain")
-      then sizes_in n c
-      else Err causes.Word
+  (version, after_version) ← named_in (codes "overcast") words
+  (n, after_nodes) ← named_in (codes "nodes") after_version
+  (c, after_chain) ← named_in (codes "chain") after_nodes
+  chunk ← chunk_in after_chain
+  if bytes_eq version (codes "1") then sizes_in n c chunk else Err causes.Word
 
--- the header, each fault of which is `header`; areas are 0
+-- a header with these numbers, where areas are 0
+abbrev pub with_sizes : Sizes → Header
+with_sizes s = record { nodes = s.nodes; chain = s.chain; chunk = s.chunk; areas = replicate s.nodes 0 }
+
+-- the header, each fault of which is `header`
 abbrev pub header_in : List (List ℕ) → Result Header Why
 header_in words = do
-  (nodes, chain) ← with_fault causes.Header (opening_in words)
-  Ok (record { nodes = nodes; chain = chain; areas = replicate nodes 0 })
+  sizes ← with_fault causes.Header (opening_in words)
+  Ok (with_sizes sizes)
 
-abbrev pub header_words : ℕ → ℕ → List (List ℕ)
-header_words nodes chain =
-    codes "overcast" ∷ codes "1" ∷ codes "nodes" ∷ decimal nodes ∷ codes "chain" ∷ decimal chain ∷ []
+-- the words of a chunk's number, unless it is the usual one
+abbrev pub chunk_words : ℕ → List (List ℕ)
+chunk_words chunk = if chunk == USUAL_CHUNK_BYTES then [] else codes "chunk" ∷ decimal chunk ∷ []
+
+-- the words of a header that ends with these
+abbrev pub header_with : ℕ → ℕ → List (List ℕ) → List (List ℕ)
+header_with nodes chain rest = codes "overcast" ∷ codes "1" ∷ codes "nodes" ∷ decimal nodes ∷ codes "chain" ∷ decimal chain ∷ rest
+
+abbrev pub header_words : ℕ → ℕ → ℕ → List (List ℕ)
+header_words nodes chain chunk = header_with nodes chain (chunk_words chunk)
 
 -- `area N A`
 abbrev pub area_in : ℕ → List (List ℕ) → Result (ℕ × ℕ) Why

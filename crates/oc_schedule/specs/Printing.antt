@@ -26,7 +26,7 @@ events_text (event ∷ events) = line_text (event_words event) ++ events_text ev
 
 -- the text of a schedule
 abbrev pub script_text : Script → List ℕ
-script_text s = line_text (header_words s.header.nodes s.header.chain) ++ areas_text 1 s.header.areas ++ events_text s.events
+script_text s = line_text (header_words s.header.nodes s.header.chain s.header.chunk) ++ areas_text 1 s.header.areas ++ events_text s.events
 
 -- how many areas have a line
 abbrev pub area_lines : List ℕ → ℕ

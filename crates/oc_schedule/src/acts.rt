@@ -6,7 +6,7 @@
 ghost use Rattle.std.specs.Prelude.{◌≡◌, [], ◌∷◌, ◌++◌, OnOk, decimal};
 ghost use Rattle.oc_base.specs.Words.{words};
 ghost use Rattle.oc_model.specs.declared.event.Act.TheVariants.{At};
-ghost use Rattle.oc_schedule.specs.Acts.{tick_in, check_in, pair_in, move_in, fail_in, pull_in, measure_in, publish_in, seal_in, client_in, deliver_in, act_in, act_words, input_fields, input_word};
+ghost use Rattle.oc_schedule.specs.Acts.{ticked_in, check_in, pair_in, move_in, fail_in, pull_in, measure_in, publish_in, seal_in, client_in, delivered_in, act_in, act_words, input_fields, input_word};
 ghost use Rattle.oc_schedule.specs.Fields.{bytes_text};
 ghost use Rattle.oc_schedule.specs.Texts.{fields_text, spaced};
 ghost use Rattle.oc_schedule.specs.Reading.{GivesLine};
@@ -19,15 +19,14 @@ use oc_base::{MAX_RATE, MAX_START, MAX_TIME, Memory, NodeId, Why, put};
 use oc_model::{Act, Input};
 use std::alloc::Global;
 
-/// `tick N T`
-fn tick(nodes: u32, fields: &[u8]) -> Result<Act, LineFault>
-    ensures { GivesLine result (tick_in nodes (words fields.now)) }
+/// The node and the second of `tick N T`.
+pub(crate) fn tick(nodes: u32, fields: &[u8]) -> Result<(NodeId, u64), Why>
+    ensures { result ≡ ticked_in nodes (words fields.now) }
 {
     let (n, t) = two_fields(fields)?;
-    Ok(Act::At {
-        node: node(n, nodes)?,
-        input: Input::Tick(number(t, 0, MAX_TIME)?),
-    })
+    let node_id = node(n, nodes)?;
+    let now = number(t, 0, MAX_TIME)?;
+    Ok((node_id, now))
 }
 
 /// `check N`
@@ -146,14 +145,12 @@ fn client(nodes: u32, fields: &[u8]) -> Result<Act, LineFault>
     })
 }
 
-/// `deliver K`
-fn deliver(fields: &[u8]) -> Result<Act, LineFault>
-    ensures { GivesLine result (deliver_in (words fields.now)) }
+/// The number of `deliver K`.
+pub(crate) fn deliver(fields: &[u8]) -> Result<u64, Why>
+    ensures { result ≡ delivered_in (words fields.now) }
 {
     let k = one_field(fields)?;
-    Ok(Act::Deliver {
-        number: number(k, 1, u64::MAX)?,
-    })
+    number(k, 1, u64::MAX)
 }
 
 /// The act that a line of this word and these fields says, in a run of `nodes` nodes, or the first
@@ -162,7 +159,15 @@ pub(crate) fn act(alloc: Global, nodes: u32, word: &[u8], fields: &[u8]) -> Resu
     ensures { GivesLine result (act_in nodes word.now (words fields.now)) }
 {
     if is(word, "tick") {
-        tick(nodes, fields)
+        let (node, now) = tick(nodes, fields)?;
+        Ok(Act::At {
+            node,
+            input: Input::Tick(now),
+        })
+    } else if is(word, "deliver") {
+        Ok(Act::Deliver {
+            number: deliver(fields)?,
+        })
     } else if is(word, "check") {
         check(nodes, fields)
     } else if is(word, "move") {
@@ -179,8 +184,6 @@ pub(crate) fn act(alloc: Global, nodes: u32, word: &[u8], fields: &[u8]) -> Resu
         seal(nodes, fields)
     } else if is(word, "client") {
         client(nodes, fields)
-    } else if is(word, "deliver") {
-        deliver(fields)
     } else {
         Err(LineFault::Cause(Why::Word))
     }

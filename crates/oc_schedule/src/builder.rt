@@ -4,15 +4,15 @@ ghost use Rattle.oc_base.specs.Words.{words};
 ghost use Rattle.oc_base.specs.declared.limits.TheConstants.{MAX_SCHEDULE_PUBLISHED, MAX_SCHEDULE_SETTLES};
 ghost use Rattle.oc_schedule.specs.Reading.{GivesBy, GivesLineBy};
 ghost use Rattle.oc_schedule.specs.Schedule.{first_script, read_statement, with_area, with_event, within_limits};
-ghost use Rattle.oc_schedule.specs.Acts.{bytes_of_act};
-ghost use Rattle.oc_schedule.specs.Script.{published_by, published_in, settles_by, settles_in};
+ghost use Rattle.oc_schedule.specs.Events.{event_of};
+ghost use Rattle.oc_schedule.specs.Script.{published_in, settles_in};
 
 use crate::fault::LineFault;
 use crate::fields::is;
+use crate::kept_event::KeptEvent;
 use crate::lines::{area, event, opening};
-use crate::{Schedule, ScheduleFault, What};
+use crate::{EventList, Schedule, ScheduleFault, What};
 use oc_base::{MAX_SCHEDULE_PUBLISHED, MAX_SCHEDULE_SETTLES, NodeId, Why};
-use oc_model::{Act, Event, Input};
 use std::alloc::Global;
 
 /// The schedule of the lines so far, from the header on.
@@ -35,16 +35,17 @@ impl ScheduleBuilder {
     pub fn from_header(alloc: Global, line: &[u8]) -> Result<ScheduleBuilder, LineFault>
         ensures { GivesLineBy (λ d. d.schedule) result (first_script (words line.now)) }
     {
-        let Ok((nodes, chain)) = opening(line) else {
+        let Ok(sizes) = opening(line) else {
             return Err(LineFault::Cause(Why::Header));
         };
-        let areas = vec![in alloc; 0; nodes as usize]?;
+        let areas = vec![in alloc; 0; sizes.nodes as usize]?;
         Ok(ScheduleBuilder {
             schedule: Schedule {
-                nodes,
-                chain,
+                nodes: sizes.nodes,
+                chain: sizes.chain,
+                chunk: sizes.chunk,
                 areas,
-                events: Vec::new(alloc),
+                events: EventList::new(alloc),
             },
             published: 0,
             settles: 0,
@@ -104,20 +105,20 @@ impl ScheduleBuilder {
     }
 
     /// The builder with one more event, where it passes no limit.
-    fn with_event(self, event: Event) -> Result<ScheduleBuilder, ScheduleFault>
+    fn with_event(self, event: KeptEvent) -> Result<ScheduleBuilder, ScheduleFault>
         ensures { GivesBy (λ d. d.schedule) result
-            (within_limits (with_event self.schedule event)) }
+            (within_limits (with_event self.schedule (event_of event))) }
     {
         let ScheduleBuilder {
             mut schedule,
             published,
             settles,
         } = self;
-        let more = published_by(&event);
+        let more = event.published();
         if more > MAX_SCHEDULE_PUBLISHED - published {
             return Err(ScheduleFault::Limit(What::Published));
         }
-        let once = settles_by(&event);
+        let once = event.settles();
         if once > MAX_SCHEDULE_SETTLES - settles {
             return Err(ScheduleFault::Limit(What::Settles));
         }
@@ -127,39 +128,5 @@ impl ScheduleBuilder {
             published: published + more,
             settles: settles + once,
         })
-    }
-}
-
-/// The bytes that an event publishes, also where a stop cuts it off.
-fn published_by(event: &Event) -> usize
-    ensures { result ≡ published_by event.now }
-{
-    match event {
-        Event::Do(act) | Event::Stop { act, .. } => bytes_of(act),
-        _ => 0,
-    }
-}
-
-/// The bytes that an act publishes.
-fn bytes_of(act: &Act) -> usize
-    ensures { result ≡ bytes_of_act act.now }
-{
-    match act {
-        Act::At {
-            input: Input::Publish { bytes, .. },
-            ..
-        } => bytes.items().len(),
-        _ => 0,
-    }
-}
-
-/// 1 for an event that settles or heals.
-fn settles_by(event: &Event) -> u32
-    ensures value { result ≡ settles_by event.now }
-    ensures few { result ≤ 1 }
-{
-    match event {
-        Event::Settle | Event::Heal => 1,
-        _ => 0,
     }
 }

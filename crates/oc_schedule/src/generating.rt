@@ -7,10 +7,12 @@ ghost use Rattle.oc_model.specs.declared.event.Act.TheVariants.{At};
 ghost use Rattle.oc_model.specs.declared.event.Event.TheVariants.{Up};
 ghost use Rattle.oc_model.specs.declared.input.Input.TheVariants.{Publish};
 ghost use Rattle.oc_schedule.specs.declared.generating.TheConstants.{MAX_GENERATED_EVENTS};
+ghost use Rattle.oc_schedule.specs.Events.{event_of};
 ghost use Rattle.oc_schedule.specs.Generator.{draw_at, draws_of, events_from, generated, made, next_state, state_after};
 
-use crate::Schedule;
-use oc_base::{Bytes, GroupName, Memory, NodeId};
+use crate::kept_event::KeptEvent;
+use crate::{EventList, Schedule};
+use oc_base::{Bytes, GroupName, Memory, NodeId, USUAL_CHUNK_BYTES};
 use oc_model::{Act, Event, Input};
 use std::alloc::Global;
 
@@ -30,24 +32,25 @@ pub fn generate(alloc: Global, seed: u64, nodes: u32, events: u32) -> Result<Sch
     requires not_more { events ≤ MAX_GENERATED_EVENTS }
     ensures exact { IfOk result (λ schedule. schedule ≡ generated seed nodes (events - nodes)) }
 {
-    let mut made = Vec::new(alloc);
+    let mut made = EventList::new(alloc);
     put_starts(&mut made, nodes)?;
     put_drawn(alloc, &mut made, Draws { state: seed }, nodes, events)?;
     Ok(Schedule {
         nodes,
         chain: CHAIN.min(nodes),
+        chunk: USUAL_CHUNK_BYTES,
         areas: vec![in alloc; 0; nodes as usize]?,
         events: made,
     })
 }
 
 /// Puts the starts of all nodes.
-fn put_starts(events: &mut Vec<Event>, nodes: u32) -> Result<(), Memory>
+fn put_starts(events: &mut EventList, nodes: u32) -> Result<(), Memory>
     requires { nodes ≤ MAX_NODES }
-    ensures { OnOk result (events.new.items ≡ events.old.items ++ map (λ x. Up x) (range_with_len 1 nodes)) }
+    ensures { OnOk result (events.new ≡ events.old ++ map (λ x. Up x) (range_with_len 1 nodes)) }
 {
     for node in 1..nodes + 1 {
-        events.push(Event::Up(NodeId(node)))?;
+        events.push(KeptEvent::Up(NodeId(node)))?;
     }
     Ok(())
 }
@@ -55,7 +58,7 @@ fn put_starts(events: &mut Vec<Event>, nodes: u32) -> Result<(), Memory>
 /// Puts the events that are drawn, up to this number.
 fn put_drawn(
     alloc: Global,
-    events: &mut Vec<Event>,
+    events: &mut EventList,
     draws: Draws,
     nodes: u32,
     last: u32,
@@ -64,7 +67,7 @@ fn put_drawn(
     requires few { nodes ≤ MAX_NODES }
     requires all_start { nodes ≤ last }
     requires not_more { last ≤ MAX_GENERATED_EVENTS }
-    ensures { OnOk result (events.new.items ≡ events.old.items ++ events_from draws.state nodes (nodes + 1) 0 (last - nodes)) }
+    ensures { OnOk result (events.new ≡ events.old ++ events_from draws.state nodes (nodes + 1) 0 (last - nodes)) }
 {
     let mut draws = draws;
     for number in nodes + 1..last + 1 {
@@ -94,26 +97,29 @@ impl Draws {
     }
 
     /// The next event, which has this number.
-    fn event(&mut self, alloc: Global, nodes: u32, number: u32) -> Result<Event, Memory>
+    fn event(&mut self, alloc: Global, nodes: u32, number: u32) -> Result<KeptEvent, Memory>
         requires nodes { 1 ≤ nodes }
         requires number { 1 ≤ number }
-        ensures event { IfOk result (λ event. event ≡ made number (draw_at self.old.state 0 % 16)
+        ensures event { IfOk result (λ event. event_of event ≡ made number (draw_at self.old.state 0 % 16)
             (1 + draw_at self.old.state 1 % nodes) (draw_at self.old.state 2)) }
         ensures state { OnOk result (self.new.state ≡ state_after self.old.state (draws_of (draw_at self.old.state 0 % 16))) }
     {
         let kind = self.next() % 16;
         let node = NodeId((1 + self.next() % u64::from(nodes)) as u32);
         match kind {
-            0..=5 => Ok(Event::Do(Act::At {
+            0..=5 => Ok(KeptEvent::Tick {
                 node,
-                input: Input::Tick(u64::from(number)),
-            })),
-            6..=12 => Ok(Event::Do(Act::Deliver {
+                now: u64::from(number),
+            }),
+            6..=12 => Ok(KeptEvent::Deliver {
                 number: 1 + self.next() % u64::from(number),
-            })),
-            13 => Ok(Event::Do(publish(alloc, (self.next() % 256) as u8)?)),
-            14 => Ok(Event::Crash(node)),
-            _ => Ok(Event::Up(node)),
+            }),
+            13 => {
+                let act = publish(alloc, (self.next() % 256) as u8)?;
+                Ok(KeptEvent::other(alloc, Event::Do(act))?)
+            }
+            14 => Ok(KeptEvent::Crash(node)),
+            _ => Ok(KeptEvent::Up(node)),
         }
     }
 }

@@ -19,20 +19,25 @@
 mod act_lines;
 mod acts;
 mod builder;
+mod event_list;
 mod fault;
 mod fields;
 mod generating;
+mod kept_event;
 mod law;
 mod lines;
+mod listed_event;
 mod printing;
 mod reading;
 mod schedule;
 mod texts;
 
 pub use act_lines::{put_act_line, put_recv_line};
+pub use event_list::EventList;
 pub use fault::{ScheduleFault, What};
 pub use generating::{MAX_GENERATED_EVENTS, generate};
 pub use law::{examples_are_read, generated_schedules_are_lawful};
+pub use listed_event::ListedEvent;
 pub use printing::print;
 pub use reading::read;
 pub use schedule::Schedule;

@@ -6,43 +6,96 @@
 ghost use Rattle.std.specs.Prelude.{◌≡◌, ◌≤◌, ◌++◌, OnOk, IfOk, codes, decimal};
 ghost use Rattle.oc_base.specs.Lawful.{IsNode};
 ghost use Rattle.oc_base.specs.Words.{words, number_in, GivesFields};
+ghost use Rattle.oc_base.specs.declared.limits.TheConstants.{MAX_CHUNK_BYTES};
 ghost use Rattle.oc_model.specs.declared.event.Event.TheVariants.{Settle, Heal};
-ghost use Rattle.oc_schedule.specs.Lines.{sizes_in, opening_in, area_in, first_three, node_alone_in, alone, stop_in, act_alone_in, event_in, event_words};
+ghost use Rattle.oc_schedule.specs.Lines.{sizes_in, named_in, chunk_in, opening_in, area_in, first_three, node_alone_in, alone, stop_in, act_alone_in, event_in, event_words};
 ghost use Rattle.oc_schedule.specs.Acts.{most_byte};
 ghost use Rattle.oc_schedule.specs.Texts.{spaced};
-ghost use Rattle.oc_schedule.specs.Reading.{GivesLine};
+ghost use Rattle.oc_schedule.specs.Events.{event_of};
+ghost use Rattle.oc_schedule.specs.Reading.{GivesLine, GivesLineBy};
 
-use crate::acts::{act, put_act};
+use crate::acts::{act, deliver, put_act, tick};
 use crate::fault::LineFault;
 use crate::fields::is;
+use crate::kept_event::KeptEvent;
 use crate::texts::put_number_field;
-use oc_base::words::{first_word, node, number, one_field, six_fields, two_fields};
-use oc_base::{MAX_CHAIN, MAX_NODES, Memory, NodeId, Why, put};
+use oc_base::words::{first_word, node, number, one_field, two_fields};
+use oc_base::{MAX_CHAIN, MAX_CHUNK_BYTES, MAX_NODES, Memory, NodeId, USUAL_CHUNK_BYTES, Why, put};
 use oc_model::Event;
 use std::alloc::Global;
 
 /// The greatest number of device calls that a stop lets work.
 const MAX_CALLS: u64 = 4;
 
-/// `overcast 1 nodes N chain C`: the numbers of nodes and of chain members.
-pub(crate) fn opening(line: &[u8]) -> Result<(u32, u32), Why>
+/// The numbers of a network.
+#[derive(Clone, Copy)]
+pub(crate) struct Sizes {
+    pub nodes: u32,
+    /// The length of the chain.
+    pub chain: u32,
+    /// The greatest number of bytes of a chunk.
+    pub chunk: u32,
+}
+
+/// `overcast 1 nodes N chain C`, and behind it perhaps `chunk B`: the numbers of the network.
+pub(crate) fn opening(line: &[u8]) -> Result<Sizes, Why>
     ensures { result ≡ opening_in (words line.now) }
 {
-    let (overcast, version, nodes, n, chain, c) = six_fields(line)?;
-    if is(overcast, "overcast") && is(version, "1") && is(nodes, "nodes") && is(chain, "chain") {
-        sizes(n, c)
+    let (version, rest) = named(line, "overcast")?;
+    let (n, rest) = named(rest, "nodes")?;
+    let (c, rest) = named(rest, "chain")?;
+    let chunk = chunk(rest)?;
+    if is(version, "1") {
+        sizes_of(n, c, chunk)
     } else {
         Err(Why::Word)
     }
 }
 
-/// The numbers of nodes and of chain members.
-fn sizes(n: &[u8], c: &[u8]) -> Result<(u32, u32), Why>
-    ensures { result ≡ sizes_in n.now c.now }
+/// The field behind this word, with which a line begins, and what follows both.
+fn named<'a>(line: &'a [u8], name: &str) -> Result<(&'a [u8], &'a [u8]), Why>
+    ensures { GivesFields (λ f. (f.0.now, words f.1.now)) result (named_in name.now (words line.now)) }
+{
+    let Some((word, rest)) = first_word(line) else {
+        return Err(Why::Count);
+    };
+    let Some((field, rest)) = first_word(rest) else {
+        return Err(Why::Count);
+    };
+    if is(word, name) {
+        Ok((field, rest))
+    } else {
+        Err(Why::Word)
+    }
+}
+
+/// The greatest number of bytes of a chunk that the end of a header says.
+fn chunk(line: &[u8]) -> Result<u32, Why>
+    ensures said { result ≡ chunk_in (words line.now) }
+    ensures range { IfOk result (λ chunk. (1 ≤ chunk) × (chunk ≤ MAX_CHUNK_BYTES)) }
+{
+    let Some((name, rest)) = first_word(line) else {
+        return Ok(USUAL_CHUNK_BYTES);
+    };
+    let b = one_field(rest)?;
+    if is(name, "chunk") {
+        Ok(number(b, 1, MAX_CHUNK_BYTES as u64)? as u32)
+    } else {
+        Err(Why::Word)
+    }
+}
+
+/// The numbers of nodes and of chain members, beside that of a chunk.
+fn sizes_of(n: &[u8], c: &[u8], chunk: u32) -> Result<Sizes, Why>
+    ensures { result ≡ sizes_in n.now c.now chunk }
 {
     let nodes = number(n, 1, u64::from(MAX_NODES))?;
     let chain = number(c, 1, nodes.min(u64::from(MAX_CHAIN)))?;
-    Ok((nodes as u32, chain as u32))
+    Ok(Sizes {
+        nodes: nodes as u32,
+        chain: chain as u32,
+        chunk,
+    })
 }
 
 /// `area N A`
@@ -131,33 +184,43 @@ pub(crate) fn event(
     nodes: u32,
     word: &[u8],
     fields: &[u8],
-) -> Result<Event, LineFault>
-    ensures { GivesLine result (event_in nodes word.now (words fields.now)) }
+) -> Result<KeptEvent, LineFault>
+    ensures { GivesLineBy event_of result (event_in nodes word.now (words fields.now)) }
 {
     if is(word, "up") {
-        Ok(Event::Up(node_alone(nodes, fields)?))
+        Ok(KeptEvent::Up(node_alone(nodes, fields)?))
     } else if is(word, "crash") {
-        Ok(Event::Crash(node_alone(nodes, fields)?))
+        Ok(KeptEvent::Crash(node_alone(nodes, fields)?))
     } else if is(word, "stop") {
-        stop(alloc, nodes, fields)
+        Ok(KeptEvent::other(alloc, stop(alloc, nodes, fields)?)?)
     } else if is(word, "held") {
-        Ok(Event::Held(node_alone(nodes, fields)?))
+        Ok(KeptEvent::other(alloc, Event::Held(node_alone(nodes, fields)?))?)
     } else if is(word, "show") {
-        Ok(Event::Show(node_alone(nodes, fields)?))
+        Ok(KeptEvent::other(alloc, Event::Show(node_alone(nodes, fields)?))?)
     } else if is(word, "settle") {
-        settle(fields)
+        Ok(KeptEvent::other(alloc, settle(fields)?)?)
     } else if is(word, "heal") {
-        heal(fields)
+        Ok(KeptEvent::other(alloc, heal(fields)?)?)
     } else {
         act_alone(alloc, nodes, word, fields)
     }
 }
 
-/// An act line by itself.
-fn act_alone(alloc: Global, nodes: u32, word: &[u8], fields: &[u8]) -> Result<Event, LineFault>
-    ensures { GivesLine result (act_alone_in nodes word.now (words fields.now)) }
+/// An act line by itself. Ticks and deliveries are kept as what they say.
+fn act_alone(alloc: Global, nodes: u32, word: &[u8], fields: &[u8]) -> Result<KeptEvent, LineFault>
+    ensures { GivesLineBy event_of result (act_alone_in nodes word.now (words fields.now)) }
 {
-    Ok(Event::Do(act(alloc, nodes, word, fields)?))
+    if is(word, "tick") {
+        let (node, now) = tick(nodes, fields)?;
+        Ok(KeptEvent::Tick { node, now })
+    } else if is(word, "deliver") {
+        Ok(KeptEvent::Deliver {
+            number: deliver(fields)?,
+        })
+    } else {
+        let act = act(alloc, nodes, word, fields)?;
+        Ok(KeptEvent::other(alloc, Event::Do(act))?)
+    }
 }
 
 /// Puts the words of an event line.

@@ -1,15 +1,16 @@
 //! The text of a schedule.
 
-ghost use Rattle.std.specs.Prelude.{◌≡◌, ◌++◌, Ok, OnOk, IfOk};
-ghost use Rattle.oc_schedule.specs.Lines.{area_words, header_words};
-ghost use Rattle.oc_schedule.specs.Texts.{line_text};
+ghost use Rattle.std.specs.Prelude.{◌≡◌, ◌<◌, [], ◌∷◌, ◌++◌, Ok, Some, OnOk, IfOk, length, slice_get, codes, decimal};
+ghost use Rattle.oc_model.specs.declared.event.Event.{Event};
+ghost use Rattle.oc_schedule.specs.Lines.{area_words, event_words, header_with, header_words};
+ghost use Rattle.oc_schedule.specs.Texts.{line_text, spaced};
 ghost use Rattle.oc_schedule.specs.Printing.{IsPrintable, area_text, areas_text, events_text, script_text};
 ghost use Rattle.oc_schedule.specs.Schedule.{schedule_of};
 
-use crate::Schedule;
 use crate::lines::put_event;
 use crate::texts::put_number_field;
-use oc_base::{Memory, put};
+use crate::{EventList, Schedule};
+use oc_base::{Memory, USUAL_CHUNK_BYTES, put};
 use oc_model::Event;
 use std::alloc::Global;
 
@@ -28,20 +29,48 @@ pub fn print(alloc: Global, schedule: &Schedule) -> Result<Vec<u8>, Memory>
 fn put_schedule(out: &mut Vec<u8>, schedule: &Schedule) -> Result<(), Memory>
     ensures { OnOk result (out.new.items ≡ out.old.items ++ script_text schedule.now) }
 {
-    put_header(out, schedule.nodes, schedule.chain)?;
+    put_header(out, schedule.nodes, schedule.chain, schedule.chunk)?;
     put_areas(out, &schedule.areas)?;
     put_events(out, &schedule.events)?;
     Ok(())
 }
 
-fn put_header(out: &mut Vec<u8>, nodes: u32, chain: u32) -> Result<(), Memory>
-    ensures { OnOk result (out.new.items ≡ out.old.items ++ line_text (header_words nodes chain)) }
+fn put_header(out: &mut Vec<u8>, nodes: u32, chain: u32, chunk: u32) -> Result<(), Memory>
+    ensures { OnOk result (out.new.items ≡ out.old.items ++ line_text (header_words nodes chain chunk)) }
+{
+    if chunk != USUAL_CHUNK_BYTES {
+        put_long_header(out, nodes, chain, chunk)
+    } else {
+        put_short_header(out, nodes, chain)
+    }
+}
+
+/// Puts a header that says how many bytes a chunk has at most.
+fn put_long_header(out: &mut Vec<u8>, nodes: u32, chain: u32, chunk: u32) -> Result<(), Memory>
+    ensures { OnOk result (out.new.items ≡ out.old.items ++ line_text (header_with nodes chain (codes "chunk" ∷ decimal chunk ∷ []))) }
+{
+    put_front(out, nodes, chain)?;
+    put(out, b" chunk")?;
+    put_number_field(out, u64::from(chunk))?;
+    put(out, b"\n")
+}
+
+/// Puts a header that does not.
+fn put_short_header(out: &mut Vec<u8>, nodes: u32, chain: u32) -> Result<(), Memory>
+    ensures { OnOk result (out.new.items ≡ out.old.items ++ line_text (header_with nodes chain [])) }
+{
+    put_front(out, nodes, chain)?;
+    put(out, b"\n")
+}
+
+/// Puts what both begin with.
+fn put_front(out: &mut Vec<u8>, nodes: u32, chain: u32) -> Result<(), Memory>
+    ensures { OnOk result (out.new.items ≡ out.old.items ++ spaced (header_with nodes chain [])) }
 {
     put(out, b"overcast 1 nodes")?;
     put_number_field(out, u64::from(nodes))?;
     put(out, b" chain")?;
-    put_number_field(out, u64::from(chain))?;
-    put(out, b"\n")
+    put_number_field(out, u64::from(chain))
 }
 
 /// Puts the lines of areas that are not 0.
@@ -75,13 +104,32 @@ fn put_area_line(out: &mut Vec<u8>, node: u64, area: u8) -> Result<(), Memory>
     put(out, b"\n")
 }
 
+/// Puts the line of the event at a place.
+fn put_event_at(out: &mut Vec<u8>, events: &EventList, place: usize) -> Result<(), Memory>
+    requires { place < length events.now }
+    ensures { (e : Event) → slice_get events.now place ≡ Some e → OnOk result (out.new.items ≡ out.old.items ++ line_text (event_words e)) }
+{
+    let event = events.event(place);
+    let done = put_line(out, event.get());
+    // Dropped by a call, the event costs one proof; out of scope it costs one for each kind.
+    drop(event);
+    done
+}
+
+/// Puts the line of an event.
+fn put_line(out: &mut Vec<u8>, event: &Event) -> Result<(), Memory>
+    ensures { OnOk result (out.new.items ≡ out.old.items ++ line_text (event_words event.now)) }
+{
+    put_event(out, event)?;
+    put(out, b"\n")
+}
+
 /// Puts the lines of events.
-fn put_events(out: &mut Vec<u8>, events: &[Event]) -> Result<(), Memory>
+fn put_events(out: &mut Vec<u8>, events: &EventList) -> Result<(), Memory>
     ensures { OnOk result (out.new.items ≡ out.old.items ++ events_text events.now) }
 {
-    for event in events {
-        put_event(out, event)?;
-        put(out, b"\n")?;
+    for place in 0..events.len() {
+        put_event_at(out, events, place)?;
     }
     Ok(())
 }

@@ -1,4 +1,4 @@
-use oc_model::Event;
+use crate::EventList;
 use std::marker::Model;
 
 /// What a schedule says: how the world opens, and what happens in it. Contracts see it as the
@@ -9,10 +9,12 @@ pub struct Schedule {
     pub nodes: u32,
     /// The number of chain members, from 1 to 16 and at most the nodes.
     pub chain: u32,
+    /// The greatest number of bytes of a chunk, from 1 to 524,288.
+    pub chunk: u32,
     /// The area of each node, ascending by id.
     pub areas: Vec<u8>,
     /// The events, in their order.
-    pub events: Vec<Event>,
+    pub events: EventList,
 }
 
 impl Model for Schedule {
@@ -21,7 +23,7 @@ impl Model for Schedule {
     ghost Value = { Script };
 
     ghost view = { λ s. record {
-      header = record { nodes = s.nodes; chain = s.chain; areas = s.areas.items };
-      events = s.events.items;
+      header = record { nodes = s.nodes; chain = s.chain; chunk = s.chunk; areas = s.areas.items };
+      events = s.events;
     } };
 }

@@ -8,4 +8,5 @@ pub mod Loaded
 pub mod States
 pub mod Cuts
 mod ReadBack
+mod Shared
 mod NetLists

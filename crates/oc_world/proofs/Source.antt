@@ -17,7 +17,7 @@ use Rattle.oc_model.specs.declared.message.Body.TheVariants as bodies
 use Rattle.oc_model.specs.Content.{answers_fetch, fetched, grows, keeps, publish_to, published, seal_line, sealed_at, took_chunk, unless}
 use Rattle.oc_model.specs.Node.{Node}
 use Rattle.oc_model.specs.Plan.{Plan, begun, ignored, answers as says}
-use Rattle.oc_model.specs.Shelves.{first_behind, limit, line_at}
+use Rattle.oc_model.specs.Shelves.{next_behind, limit, line_at}
 use Rattle.oc_model.specs.Step.{grown, kept_at, piece_of, plan, step}
 use Rattle.oc_model.specs.World.{source_after}
 use Rattle.oc_model.proofs.Rules.{IsClosed, either, keeps_asked, keeps_checked_in, keeps_checks, keeps_client, keeps_looked, keeps_measured, keeps_pulled, keeps_relocate, keeps_sees, keeps_tick, keeps_took_ack, keeps_took_no, keeps_took_rejoin, keeps_took_yes, keeps_unreachable}
@@ -203,7 +203,7 @@ abbrev comes : ℕ → ℕ → Body → Input
 comes x p b = Delivered (record { from = p; to = x; body = b })
 
 fetch_none : (n : Node) (p : ℕ) (have : List Shelf) → KeepsNone (fetched (begun n.control) (shelf n.groups) p have)
-fetch_none n p have = by_found (first_behind have (shelf n.groups)) where
+fetch_none n p have = by_found (next_behind n.control.chunk have (shelf n.groups)) where
   by_found : (found : Option Shelf) → KeepsNone (answers_fetch (begun n.control) p have found)
   by_found None = refl
   by_found (Some l) = refl

@@ -8,6 +8,8 @@ use Rattle.oc_model.specs.Lawful.{IsMessage}
 use Rattle.oc_wire.specs.declared.fault.WireFault.{WireFault}
 use Rattle.oc_wire.specs.MessageReading.{decoded}
 use Rattle.oc_wire.specs.Spelling.{spelling}
+use Rattle.oc_world.specs.declared.letter.Letter.{Letter}
+use Rattle.oc_world.specs.Letters.{IsPlaced, whole}
 
 -- the host of a node: `node` and its id
 abbrev pub host_of : ℕ → List ℕ
@@ -45,15 +47,23 @@ pub record IsText (nodes : ℕ) (text : List ℕ) : Type 0 where
   pub lawful : IsMessage nodes (message_in nodes text)
   pub exact : text ≡ text_of (message_in nodes text)
 
--- the number of nodes, every message in the order of sending, and how many more there is room for
+-- the message between `nodes` nodes that a letter brings
+abbrev pub brought : ℕ → List (List ℕ) → Letter → Message
+brought nodes pools l = message_in nodes (whole pools l)
+
+-- a letter is that of a lawful message
+pub record IsLetter (nodes : ℕ) (pools : List (List ℕ)) (l : Letter) : Type 0 where
+  pub placed : IsPlaced pools l
+  pub text : IsText nodes (whole pools l)
+
+-- the number of nodes, and every message in the order of sending
 pub record NetView : Type 0 where
   pub nodes : ℕ
   pub messages : List Message
-  pub room : ℕ
 
--- the net of these texts, where the list has room for `room` more
-abbrev pub net_of : ℕ → List (List ℕ) → ℕ → NetView
-net_of nodes texts room = record { nodes = nodes; messages = map (message_in nodes) texts; room = room }
+-- the net of these letters, which share the bytes of these pools
+abbrev pub net_of : ℕ → List (List ℕ) → List Letter → NetView
+net_of nodes pools letters = record { nodes = nodes; messages = map (brought nodes pools) letters }
 
 -- whether this acknowledges a check-in
 abbrev pub is_ack_body : Body → Bool

@@ -11,16 +11,10 @@ use crate::net::Net;
 use crate::process::Process;
 use oc_base::Memory;
 use oc_model::{Answer, Input};
-use std::alloc::Global;
 
 /// An input comes to a node that is up. What it sends goes into the net. If memory runs out, the node
 /// and the net are as they were; the files may have been turned over.
-pub(crate) fn act(
-    alloc: Global,
-    process: &mut Process,
-    net: &mut Net,
-    input: Input,
-) -> Result<Answer, Memory>
+pub(crate) fn act(process: &mut Process, net: &mut Net, input: Input) -> Result<Answer, Memory>
     requires up { process.old.process.up ≡ true }
     requires input { IsInput process.old.process.node.control.nodes process.old.process.node.control.me input }
     requires nodes { net.old.nodes ≡ process.old.process.node.control.nodes }
@@ -35,9 +29,7 @@ pub(crate) fn act(
     ensures err { OnErr result ((process.new.process ≡ process.old.process) × (net.new.messages ≡ net.old.messages)) }
 {
     let ready = process.ready(input)?;
-    let sent = Net::of(alloc, net.nodes(), ready.sends())?;
-    net.make_room(sent.len())?;
+    net.send_all(ready.sends())?;
     let outcome = process.commit(ready);
-    net.append(sent);
     Ok(outcome.answer)
 }

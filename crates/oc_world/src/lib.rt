@@ -16,7 +16,10 @@
 mod acting;
 mod arrivals;
 mod cluster;
+mod letter;
 mod net;
+mod network;
+mod pools;
 mod process;
 mod process_acts;
 mod process_state;

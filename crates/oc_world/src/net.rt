@@ -1,14 +1,16 @@
 //! Every message that was ever sent, each as the text of the request that brings it.
 
-ghost use Rattle.std.specs.Prelude.{◌≡◌, ◌==◌, ◌<◌, ◌≤◌, false, [], ◌∷◌, ◌++◌, length, slice_get, IfOk, OnOk};
+ghost use Rattle.std.specs.Prelude.{◌≡◌, ◌<◌, ◌≤◌, false, [], ◌∷◌, ◌++◌, length, take, slice_get, Some, IfOk, OnOk, OnErr};
 ghost use Rattle.std.specs.List.{AllByRecursion};
 ghost use Rattle.oc_base.specs.declared.limits.TheConstants.{MAX_NODES};
 ghost use Rattle.oc_model.specs.Lawful.{IsMessage};
 ghost use Rattle.oc_model.specs.declared.message.Message.{Message as Sent};
 ghost use Rattle.oc_world.specs.Net.{ends_with_ack, is_ack_body, text_of};
 
-use crate::texts::{message_in, text_of};
-use oc_base::{Memory, Text};
+use crate::letter::Letter;
+use crate::pools::Pools;
+use crate::texts::text_of;
+use oc_base::Memory;
 use oc_model::{Body, Message};
 use std::alloc::Global;
 use std::marker::Model;
@@ -16,30 +18,32 @@ use std::marker::Model;
 /// The most messages that are ever sent: their numbers stay below 2^63.
 pub const MOST_SENT: usize = (1 << 63) - 2;
 
-/// The messages between `nodes` nodes, in the order of sending. Contracts see the messages, and for how
-/// many more there is room.
+/// The messages between `nodes` nodes, in the order of sending. What chunks bring is kept once for all of them,
+/// so that the net takes little more memory for these than the source published. Contracts see the messages.
 #[derive(Drop)]
 pub struct Net {
     alloc: Global,
     nodes: u32,
-    texts: Vec<Text>,
+    letters: Vec<Letter>,
+    /// The bytes that letters share.
+    pools: Pools,
     /// Whether the last message acknowledges a check-in.
     acks: bool,
 }
 
 impl Model for Net {
-    ghost use Rattle.std.specs.Prelude.{◌≡◌, ◌-◌, ◌≤◌, false, min, vec_len, vec_capacity};
+    ghost use Rattle.std.specs.Prelude.{◌≡◌, ◌≤◌, false, vec_len};
     ghost use Rattle.std.specs.List.{AllByRecursion};
     ghost use Rattle.oc_base.specs.declared.limits.TheConstants.{MAX_NODES};
     ghost use Rattle.oc_world.specs.declared.net.TheConstants.{MOST_SENT};
-    ghost use Rattle.oc_world.specs.Net.{IsText, NetView, ends_with_ack, net_of};
+    ghost use Rattle.oc_world.specs.Net.{IsLetter, NetView, ends_with_ack, net_of};
 
     ghost Value = { NetView };
 
-    ghost view = { λ n. net_of n.nodes n.texts.items (min (vec_capacity n.texts - vec_len n.texts) (MOST_SENT - vec_len n.texts)) };
+    ghost view = { λ n. net_of n.nodes n.pools n.letters.items };
 
-    ghost invariant = { λ n. (n.nodes ≤ MAX_NODES) × (vec_len n.texts ≤ MOST_SENT) × AllByRecursion (IsText n.nodes) n.texts.items
-        × (n.acks ≡ ends_with_ack false (net_of n.nodes n.texts.items 0).messages) };
+    ghost invariant = { λ n. (n.nodes ≤ MAX_NODES) × (vec_len n.letters ≤ MOST_SENT) × AllByRecursion (IsLetter n.nodes n.pools) n.letters.items
+        × (n.acks ≡ ends_with_ack false (net_of n.nodes n.pools n.letters.items).messages) };
 }
 
 impl Net {
@@ -52,77 +56,60 @@ impl Net {
         Net {
             alloc,
             nodes,
-            texts: Vec::new(alloc),
+            letters: Vec::new(alloc),
+            pools: Pools::new(alloc),
             acks: false,
         }
     }
 
-    /// A net of these messages.
-    pub fn of(alloc: Global, nodes: u32, messages: &[Message]) -> Result<Net, Memory>
-        requires few { nodes ≤ MAX_NODES }
-        requires lawful { AllByRecursion (IsMessage nodes) messages.now }
-        ensures nodes { IfOk result (λ net. net.nodes ≡ nodes) }
-        ensures messages { IfOk result (λ net. net.messages ≡ messages.now) }
+    /// Adds messages: all of them, or none where memory runs out. It answers `Memory` also where there would be
+    /// more than `MOST_SENT`.
+    pub fn send_all(&mut self, messages: &[Message]) -> Result<(), Memory>
+        requires { AllByRecursion (IsMessage self.old.nodes) messages.now }
+        ensures nodes { self.new.nodes ≡ self.old.nodes }
+        ensures ok { OnOk result (self.new.messages ≡ self.old.messages ++ messages.now) }
+        ensures err { OnErr result (self.new.messages ≡ self.old.messages) }
     {
-        let mut net = Net::new(alloc, nodes);
-        for message in messages {
-            net.send(message)?;
+        let before = self.letters.len();
+        let acks = self.acks;
+        match self.send_each(messages) {
+            Ok(()) => Ok(()),
+            Err(Memory) => {
+                self.letters.truncate(before);
+                self.acks = acks;
+                Err(Memory)
+            }
         }
-        Ok(net)
+    }
+
+    /// Adds messages, the first of them where memory runs out.
+    fn send_each(&mut self, messages: &[Message]) -> Result<(), Memory>
+        requires { AllByRecursion (IsMessage self.old.nodes) messages.now }
+        ensures nodes { self.new.nodes ≡ self.old.nodes }
+        ensures ok { OnOk result (self.new.messages ≡ self.old.messages ++ messages.now) }
+        ensures before { take (length self.old.messages) self.new.messages ≡ self.old.messages }
+    {
+        for message in messages {
+            self.send(message)?;
+        }
+        Ok(())
     }
 
     /// Adds a message.
     fn send(&mut self, message: &Message) -> Result<(), Memory>
         requires { IsMessage self.old.nodes message.now }
         ensures nodes { self.new.nodes ≡ self.old.nodes }
-        ensures messages { OnOk result (self.new.messages ≡ self.old.messages ++ message.now ∷ []) }
+        ensures ok { OnOk result (self.new.messages ≡ self.old.messages ++ message.now ∷ []) }
+        ensures err { OnErr result (self.new.messages ≡ self.old.messages) }
     {
-        if self.texts.len() >= MOST_SENT {
+        if self.letters.len() >= MOST_SENT {
             return Err(Memory);
         }
         let text = text_of(self.alloc, self.nodes, message)?;
-        self.texts.push(Text::of(text))?;
+        let letter = Letter::of(self.alloc, &mut self.pools, text, &message.body)?;
+        self.letters.push(letter)?;
         self.acks = is_ack_body(&message.body);
         Ok(())
-    }
-
-    /// Makes room for `more` further messages. It answers `Memory` also where there would be more than `MOST_SENT`.
-    pub fn make_room(&mut self, more: usize) -> Result<(), Memory>
-        ensures nodes { self.new.nodes ≡ self.old.nodes }
-        ensures messages { self.new.messages ≡ self.old.messages }
-        ensures room { OnOk result (more ≤ self.new.room) }
-    {
-        if more > MOST_SENT || self.texts.len() > MOST_SENT - more {
-            return Err(Memory);
-        }
-        self.texts.reserve(more)?;
-        Ok(())
-    }
-
-    /// Puts the messages of another net after these, for which there is room. It takes no memory.
-    pub fn append(&mut self, mut sent: Net)
-        requires nodes { sent.nodes ≡ self.old.nodes }
-        requires room { length sent.messages ≤ self.old.room }
-        ensures nodes { self.new.nodes ≡ self.old.nodes }
-        ensures messages { self.new.messages ≡ self.old.messages ++ sent.messages }
-    {
-        let acks = sent.acks_behind(self.acks);
-        self.texts.append(&mut sent.texts).unwrap();
-        self.acks = acks;
-    }
-
-    /// Whether the last message acknowledges a check-in; `before` where there is no message.
-    fn acks_behind(&self, before: bool) -> bool
-        ensures { result ≡ ends_with_ack before self.now.messages }
-    {
-        if self.is_empty() { before } else { self.acks }
-    }
-
-    /// Whether there is no message.
-    fn is_empty(&self) -> bool
-        ensures { result ≡ (length self.now.messages == 0) }
-    {
-        self.len() == 0
     }
 
     /// How many nodes there are.
@@ -138,7 +125,7 @@ impl Net {
         ensures length { result ≡ length self.now.messages }
         ensures few { result ≤ MOST_SENT }
     {
-        self.texts.len()
+        self.letters.len()
     }
 
     /// Whether the last message acknowledges a check-in.
@@ -149,11 +136,11 @@ impl Net {
     }
 
     /// The text of the message at an index.
-    pub fn text(&self, at: usize) -> &[u8]
+    pub fn text(&self, at: usize) -> Result<Vec<u8>, Memory>
         requires { at < length self.now.messages }
-        ensures { (m : Sent) → slice_get self.now.messages at ≡ Some m → result.now ≡ text_of m }
+        ensures { IfOk result (λ text. (m : Sent) → slice_get self.now.messages at ≡ Some m → text.items ≡ text_of m) }
     {
-        self.texts[at].items()
+        self.letters[at].text(self.alloc, &self.pools)
     }
 
     /// The message at an index, which its text is read as.
@@ -162,7 +149,7 @@ impl Net {
         ensures message { IfOk result (λ message. slice_get self.now.messages at ≡ Some message) }
         ensures lawful { IfOk result (λ message. IsMessage self.now.nodes message) }
     {
-        message_in(self.alloc, self.texts[at].items(), self.nodes)
+        self.letters[at].message(self.alloc, &self.pools, self.nodes)
     }
 }
 

@@ -19,6 +19,7 @@ ghost use Rattle.oc_model.specs.Status.{status_of};
 ghost use Rattle.oc_world.specs.ProcessView.{CanCommitTo, Renews, generation_of, resting};
 ghost use Rattle.oc_world.specs.ProcessState.{IsOpen, IsRunning};
 
+use crate::network::Network;
 use crate::process_state::{Files, ProcessState};
 use crate::process_status::{groups_of, groups_recovered, lawful_node};
 use crate::{process_acts, starting, stopping};
@@ -37,8 +38,7 @@ use std::marker::Model;
 pub struct Process {
     alloc: Global,
     id: NodeId,
-    nodes: u32,
-    chain: u32,
+    network: Network,
     /// The area of each node, by its number.
     areas: Vec<u8>,
     state: ProcessState<MemDisk>,
@@ -53,31 +53,24 @@ impl Model for Process {
 
     ghost Value = { ProcessView };
 
-    ghost view = { λ p. process_of (header p.nodes p.chain p.areas.items) p.id p.state };
+    ghost view = { λ p. process_of (header p.network.nodes p.network.chain p.network.chunk p.areas.items) p.id p.state };
 
-    ghost invariant = { λ p. IsHeader (header p.nodes p.chain p.areas.items) × IsNode p.nodes p.id
-        × IsStateOf (header p.nodes p.chain p.areas.items) p.id p.state };
+    ghost invariant = { λ p. IsHeader (header p.network.nodes p.network.chain p.network.chunk p.areas.items) × IsNode p.network.nodes p.id
+        × IsStateOf (header p.network.nodes p.network.chain p.network.chunk p.areas.items) p.id p.state };
 }
 
 impl Process {
     /// A new node that is down, on empty files.
-    pub fn new(
-        alloc: Global,
-        id: NodeId,
-        nodes: u32,
-        chain: u32,
-        areas: &[u8],
-    ) -> Result<Process, Memory>
-        requires header { IsHeader (header nodes chain areas.now) }
-        requires id { IsNode nodes id }
-        ensures { IfOk result (λ process. process ≡ resting (down (new_node (header nodes chain areas.now) id))) }
+    pub fn new(alloc: Global, id: NodeId, network: Network, areas: &[u8]) -> Result<Process, Memory>
+        requires header { IsHeader (header network.nodes network.chain network.chunk areas.now) }
+        requires id { IsNode network.nodes id }
+        ensures { IfOk result (λ process. process ≡ resting (down (new_node (header network.nodes network.chain network.chunk areas.now) id))) }
     {
         let areas = areas.to_vec(alloc)?;
         Ok(Process {
             alloc,
             id,
-            nodes,
-            chain,
+            network,
             areas,
             state: ProcessState::Stopped(Files::empty(alloc)),
         })
@@ -135,14 +128,7 @@ impl Process {
             ProcessState::Running(_) => unreachable!(),
             ProcessState::Stopped(files) => {
                 let copy = files.copy()?;
-                starting::load(
-                    self.alloc,
-                    copy,
-                    self.id,
-                    self.nodes,
-                    self.chain,
-                    &self.areas,
-                )
+                starting::load(self.alloc, copy, self.id, self.network, &self.areas)
             }
         }
     }
@@ -219,8 +205,7 @@ impl Process {
         let Process {
             alloc: _,
             id: _,
-            nodes: _,
-            chain: _,
+            network: _,
             areas: _,
             state,
         } = self;

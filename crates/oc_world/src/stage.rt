@@ -13,12 +13,12 @@ impl Stage for World {
     ghost world = { λ w. w.world };
 
     /// If memory runs out, the world stays as it was.
-    fn open(&mut self, nodes: u32, chain: u32, areas: &[u8]) -> Result<(), Memory>
-        requires { IsHeader (record { nodes = nodes; chain = chain; areas = areas.now }) }
-        ensures opened { OnOk result (self.new.world ≡ new_world (record { nodes = nodes; chain = chain; areas = areas.now })) }
+    fn open(&mut self, nodes: u32, chain: u32, chunk: u32, areas: &[u8]) -> Result<(), Memory>
+        requires { IsHeader (record { nodes = nodes; chain = chain; chunk = chunk; areas = areas.now }) }
+        ensures opened { OnOk result (self.new.world ≡ new_world (record { nodes = nodes; chain = chain; chunk = chunk; areas = areas.now })) }
         ensures err { OnErr result (self.new ≡ self.old) }
     {
-        *self = World::new(self.alloc, nodes, chain, areas)?;
+        *self = World::new(self.alloc, nodes, chain, chunk, areas)?;
         Ok(())
     }
 

@@ -9,6 +9,7 @@ ghost use Rattle.oc_keep.specs.Trials.{first_node};
 ghost use Rattle.oc_model.specs.Lawful.{IsHeader};
 ghost use Rattle.oc_world.specs.ProcessState.{IsRunning, disks_in};
 
+use crate::network::Network;
 use crate::process_state::Files;
 use oc_base::{Memory, NodeId};
 use oc_io::Disk;
@@ -21,17 +22,16 @@ pub(crate) fn load<D: Disk + Drop>(
     alloc: Global,
     files: Files<D>,
     id: NodeId,
-    nodes: u32,
-    chain: u32,
+    network: Network,
     areas: &[u8],
 ) -> Result<Kept<D>, Memory>
-    requires header { IsHeader (header nodes chain areas.now) }
-    requires id { IsNode nodes id }
+    requires header { IsHeader (header network.nodes network.chain network.chunk areas.now) }
+    requires id { IsNode network.nodes id }
     requires honest { AreHonest D.view (disks_in files) }
     requires reliable { AreReliable D.view (disks_in files) }
-    requires files { HoldFiles D.view nodes (disks_in files) }
-    ensures running { IfOk result (λ kept. IsRunning D.view (header nodes chain areas.now) id kept) }
-    ensures node { IfOk result (λ kept. node_of kept ≡ first_node D.view (header nodes chain areas.now) id (disks_in files)) }
+    requires files { HoldFiles D.view network.nodes (disks_in files) }
+    ensures running { IfOk result (λ kept. IsRunning D.view (header network.nodes network.chain network.chunk areas.now) id kept) }
+    ensures node { IfOk result (λ kept. node_of kept ≡ first_node D.view (header network.nodes network.chain network.chunk areas.now) id (disks_in files)) }
 {
     let areas = copy_of(alloc, areas)?;
     let Files {
@@ -46,8 +46,9 @@ pub(crate) fn load<D: Disk + Drop>(
     };
     let seat = Seat {
         id,
-        nodes,
-        chain,
+        nodes: network.nodes,
+        chain: network.chain,
+        chunk: network.chunk,
         areas,
     };
     match Kept::load(alloc, files, seat) {

@@ -25,6 +25,7 @@ ghost use Rattle.oc_world.specs.World.{RenewsAt, RenewsBy, processes_of};
 use crate::acting::act;
 use crate::arrivals::{arrival, message_place};
 use crate::net::Net;
+use crate::network::Network;
 use crate::process::Process;
 use oc_base::{Memory, NodeId, Shelf};
 use oc_calm::{heal, is_settled, settle};
@@ -74,15 +75,27 @@ impl World {
     }
 
     /// The world of a header, where all nodes are down on empty files, and nothing was sent. There are 1
-    /// to 1,024 nodes, a chain of 1 to 16 members and at most all nodes, and an area for each node.
-    pub fn new(alloc: Global, nodes: u32, chain: u32, areas: &[u8]) -> Result<World, Memory>
-        requires { IsHeader (header nodes chain areas.now) }
-        ensures { IfOk result (λ world. world.world ≡ new_world (header nodes chain areas.now)) }
+    /// to 1,024 nodes, a chain of 1 to 16 members and at most all nodes, chunks of 1 to 524,288 bytes, and an area for
+    /// each node.
+    pub fn new(
+        alloc: Global,
+        nodes: u32,
+        chain: u32,
+        chunk: u32,
+        areas: &[u8],
+    ) -> Result<World, Memory>
+        requires { IsHeader (header nodes chain chunk areas.now) }
+        ensures { IfOk result (λ world. world.world ≡ new_world (header nodes chain chunk areas.now)) }
     {
+        let network = Network {
+            nodes,
+            chain,
+            chunk,
+        };
         Ok(World {
             alloc,
             chain,
-            processes: new_processes(alloc, nodes, chain, areas)?,
+            processes: new_processes(alloc, network, areas)?,
             net: Net::new(alloc, nodes),
         })
     }
@@ -204,7 +217,7 @@ impl World {
             return Ok(Word::Down);
         }
         let process = &mut self.processes[at];
-        let answer = act(self.alloc, process, &mut self.net, input)?;
+        let answer = act(process, &mut self.net, input)?;
         Ok(Word::Node(answer))
     }
 
@@ -253,11 +266,13 @@ impl World {
 
     /// The text of the message of this number, the request that brings it to its receiver; none where
     /// there is no such message.
-    pub fn text(&self, number: u64) -> Option<&[u8]>
-        ensures { IsTextOf (message_at self.now.world.net number) (option_map (λ t. t.now) result) }
+    pub fn text(&self, number: u64) -> Result<Option<Vec<u8>>, Memory>
+        ensures { IfOk result (λ found. IsTextOf (message_at self.now.world.net number) (option_map (λ t. t.items) found)) }
     {
-        let at = message_place(number, self.net.len())?;
-        Some(self.net.text(at))
+        match message_place(number, self.net.len()) {
+            None => Ok(None),
+            Some(at) => Ok(Some(self.net.text(at)?)),
+        }
     }
 
     /// The groups of a node with their lengths and seals, ascending by name; those that the files recover,
@@ -386,18 +401,14 @@ fn stop_word(kept_new: bool) -> Word
 }
 
 /// The processes of a new world.
-fn new_processes(
-    alloc: Global,
-    nodes: u32,
-    chain: u32,
-    areas: &[u8],
-) -> Result<Vec<Process>, Memory>
-    requires { IsHeader (header nodes chain areas.now) }
-    ensures { IfOk result (λ processes. processes_of processes.items ≡ (new_world (header nodes chain areas.now)).processes) }
+fn new_processes(alloc: Global, network: Network, areas: &[u8]) -> Result<Vec<Process>, Memory>
+    requires { IsHeader (header network.nodes network.chain network.chunk areas.now) }
+    ensures { IfOk result (λ processes. processes_of processes.items
+        ≡ (new_world (header network.nodes network.chain network.chunk areas.now)).processes) }
 {
-    let mut processes = Vec::with_capacity(alloc, nodes as usize)?;
-    for before in 0..nodes {
-        processes.push(Process::new(alloc, NodeId(before + 1), nodes, chain, areas)?)?;
+    let mut processes = Vec::with_capacity(alloc, network.nodes as usize)?;
+    for before in 0..network.nodes {
+        processes.push(Process::new(alloc, NodeId(before + 1), network, areas)?)?;
     }
     Ok(processes)
 }

@@ -8,16 +8,16 @@ use Rattle.oc_replay.proofs.replaying.play.Goals as goal
 pub tell-requires-clause-opened : goal.tell-requires-clause-opened
 tell-requires-clause-opened g c =
     let inside = c.schedule.inside in
-    let opened = λ (areas : List ℕ). let h : Header = record { nodes = inside.nodes; chain = inside.chain; areas = areas } in h in
-    opened-opening c.args.schedule.now (opened c.deref.result.now) (g.T.Stage.world c.open.new.self) c.deref-2.result.now
+    let opened = λ (areas : List ℕ). let h : Header = record { nodes = inside.nodes; chain = inside.chain; chunk = inside.chunk; areas = areas } in h in
+    opened-opening c.args.schedule.now (opened c.deref.result.now) (g.T.Stage.world c.open.new.self) inside.events
     (ap opened c.deref.ensures.value ∙ ap (λ (s : Script). s.header) c.schedule.view_is)
-    (c.deref-2.ensures.value ∙ ap (λ (s : Script). s.events) c.schedule.view_is)
+    (ap (λ (s : Script). s.events) c.schedule.view_is)
     c.in_ok-open.ensures c.requires
 
 pub tell-requires-clause-nodes : goal.tell-requires-clause-nodes
 tell-requires-clause-nodes g c =
     let inside = c.schedule.inside in
-    let opened = λ (areas : List ℕ). let h : Header = record { nodes = inside.nodes; chain = inside.chain; areas = areas } in h in
+    let opened = λ (areas : List ℕ). let h : Header = record { nodes = inside.nodes; chain = inside.chain; chunk = inside.chunk; areas = areas } in h in
     opened-nodes (opened c.deref.result.now) (g.T.Stage.world c.open.new.self) c.in_ok-open.ensures
 
 pub tell-requires-clause-few : goal.tell-requires-clause-few

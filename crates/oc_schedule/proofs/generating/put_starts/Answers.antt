@@ -10,5 +10,5 @@ loop-node-preserved c =
     let x = c.loop-node.node in
     let k = c.args.nodes + 1 - (x + 1) in
     let more : c.args.nodes + 1 - x ≡ suc k = omega (arith, c.loop-node-test.true) in
-    ap (λ items. items ++ map (λ y. Up y) (range_with_len (x + 1) k)) c.in_ok-push.ensures.items
-    ∙ one_start_more c.loop-node.events.items x (c.args.nodes + 1 - x) k more ∙ c.loop-node.invariant
+    ap (λ items. items ++ map (λ y. Up y) (range_with_len (x + 1) k)) c.in_ok-push.ensures
+    ∙ one_start_more c.loop-node.events x (c.args.nodes + 1 - x) k more ∙ c.loop-node.invariant

@@ -6,4 +6,4 @@ use Rattle.oc_schedule.proofs.generating.put_starts.Given as goal
 
 abbrev pub invariant-loop-node : goal.invariant-loop-node
 invariant-loop-node l =
-    l.events.items ++ map (λ x. Up x) (range_with_len l.node (l.nodes + 1 - l.node)) ≡ l.initial.events.items ++ map (λ x. Up x) (range_with_len 1 l.nodes)
+    l.events ++ map (λ x. Up x) (range_with_len l.node (l.nodes + 1 - l.node)) ≡ l.initial.events ++ map (λ x. Up x) (range_with_len 1 l.nodes)

@@ -3,5 +3,5 @@ use Rattle.std.proofs.Common.{◌≡◌, ◌++◌, drop}
 use Rattle.oc_schedule.specs.Printing.{events_text}
 use Rattle.oc_schedule.proofs.printing.put_events.Given as goal
 
-abbrev pub invariant-loop-event : goal.invariant-loop-event
-invariant-loop-event l = l.out.items ++ events_text (drop l.event-index l.events) ≡ l.initial.out.items ++ events_text l.events
+abbrev pub invariant-loop-place : goal.invariant-loop-place
+invariant-loop-place l = l.out.items ++ events_text (drop l.place l.events) ≡ l.initial.out.items ++ events_text l.events

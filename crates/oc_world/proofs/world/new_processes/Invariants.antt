@@ -8,5 +8,5 @@ use Rattle.oc_world.proofs.world.new_processes.Given as goal
 -- the processes so far and those to come are all
 abbrev pub invariant-loop-before : goal.invariant-loop-before
 invariant-loop-before l =
-    processes_of l.processes.items ++ map (new_process (header l.nodes l.chain l.areas)) (range_with_len (1 + l.before) (l.nodes - l.before))
-    ≡ map (new_process (header l.nodes l.chain l.areas)) (range_with_len 1 l.nodes)
+    processes_of l.processes.items ++ map (new_process (header l.network.nodes l.network.chain l.network.chunk l.areas)) (range_with_len (1 + l.before) (l.network.nodes - l.before))
+    ≡ map (new_process (header l.network.nodes l.network.chain l.network.chunk l.areas)) (range_with_len 1 l.network.nodes)

@@ -12,17 +12,17 @@ use Rattle.oc_world.proofs.process.Process.crash.Goals as goal
 pub take_running-kept-requires : goal.take_running-kept-requires
 take_running-kept-requires c =
     let s = c.self.inside in
-    is_up (header s.nodes s.chain s.areas.items) s.id s.state (ap (λ (p : ProcessView). p.process.up) c.self.view_is ∙ c.requires)
+    is_up (header s.network.nodes s.network.chain s.network.chunk s.areas.items) s.id s.state (ap (λ (p : ProcessView). p.process.up) c.self.view_is ∙ c.requires)
 
 pub crash-files-requires : goal.crash-files-requires
 crash-files-requires c =
     let s = c.self.inside in
-    (running_is (header s.nodes s.chain s.areas.items) s.id s.state c.take_running-kept.result c.take_running-kept.ensures c.self.invariant.2).is_open
+    (running_is (header s.network.nodes s.network.chain s.network.chunk s.areas.items) s.id s.state c.take_running-kept.result c.take_running-kept.ensures c.self.invariant.2).is_open
 
 pub invariant_of-self : goal.invariant_of-self
 invariant_of-self c =
     let s = c.self.inside in
-    let h = header s.nodes s.chain s.areas.items in
+    let h = header s.network.nodes s.network.chain s.network.chunk s.areas.items in
     let k = c.take_running-kept.result in
     let runs = running_is h s.id s.state k c.take_running-kept.ensures c.self.invariant.2 in
     (c.self.invariant.0, c.self.invariant.1, subst (IsStateOf h s.id) (sym c.set.ensures) (left_as h s.id k (node_of k) c.crash-files.result runs c.crash-files.ensures))
@@ -30,7 +30,7 @@ invariant_of-self c =
 pub returns : goal.returns
 returns c =
     let s = c.self.inside in
-    let h = header s.nodes s.chain s.areas.items in
+    let h = header s.network.nodes s.network.chain s.network.chunk s.areas.items in
     let k = c.take_running-kept.result in
     let runs = running_is h s.id s.state k c.take_running-kept.ensures c.self.invariant.2 in
     let same : node_of k ≡ c.args.self.now.process.node = ap (λ (p : ProcessView). p.process.node) (sym (ap (process_of h s.id) c.take_running-kept.ensures) ∙ c.self.view_is) in

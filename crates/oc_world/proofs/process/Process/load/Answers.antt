@@ -6,7 +6,7 @@ use Rattle.oc_world.proofs.process.Process.load.Goals as goal
 pub load-requires-clause-files : goal.load-requires-clause-files
 load-requires-clause-files c =
     let s = c.self.inside in
-    let h = header s.nodes s.chain s.areas.items in
+    let h = header s.network.nodes s.network.chain s.network.chunk s.areas.items in
     let files = c.in-Stopped.files in
     let copied = c.in_ok-copy-in-Stopped.ensures in
     copies_hold h s.id files c.in_ok-copy-in-Stopped.copy (record { control = copied.control; alternate = copied.alternate; content = copied.content }) (stopped_is h s.id s.state files c.in-Stopped.is c.self.invariant.2)

@@ -12,14 +12,14 @@ use Rattle.oc_world.proofs.process.Process.start.Goals as goal
 pub invariant_of-self : goal.invariant_of-self
 invariant_of-self c =
     let s = c.self.inside in
-    let h = header s.nodes s.chain s.areas.items in
+    let h = header s.network.nodes s.network.chain s.network.chunk s.areas.items in
     let runs = rw (← c.self.view_is) at c.in_ok-kept.ensures.running in
     (c.self.invariant.0, c.self.invariant.1, subst (IsStateOf h s.id) (sym c.set.ensures) (runs_as h s.id s.state c.in_ok-kept.kept c.self.invariant.2 runs))
 
 pub returns-clause-ok : goal.returns-clause-ok
 returns-clause-ok c =
     let s = c.self.inside in
-    let h = header s.nodes s.chain s.areas.items in
+    let h = header s.network.nodes s.network.chain s.network.chunk s.areas.items in
     let anew : restarted c.args.self.now.process.node ≡ c.args.self.now.process.node =
     subst (λ (p : ProcessView). p.process.up ≡ false → restarted p.process.node ≡ p.process.node) c.self.view_is (down_anew h s.id s.state) c.requires in
     let new : Node → Process = λ (n : Node). record { node = n; up = true } in

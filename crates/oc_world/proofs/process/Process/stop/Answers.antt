@@ -16,23 +16,23 @@ use Rattle.oc_world.proofs.process.Process.stop.Goals as goal
 pub take_running-kept-requires : goal.take_running-kept-requires
 take_running-kept-requires c =
     let s = c.self.inside in
-    is_up (header s.nodes s.chain s.areas.items) s.id s.state (ap (λ (p : ProcessView). p.process.up) c.self.view_is ∙ (ap (λ (p : Process). p.up) c.in_ok-ready.ensures.process ∙ c.requires.up))
+    is_up (header s.network.nodes s.network.chain s.network.chunk s.areas.items) s.id s.state (ap (λ (p : ProcessView). p.process.up) c.self.view_is ∙ (ap (λ (p : Process). p.up) c.in_ok-ready.ensures.process ∙ c.requires.up))
 
 pub stop-files-requires-clause-open : goal.stop-files-requires-clause-open
 stop-files-requires-clause-open c =
     let s = c.self.inside in
-    (running_is (header s.nodes s.chain s.areas.items) s.id s.state c.take_running-kept.result c.take_running-kept.ensures c.self.invariant.2).is_open
+    (running_is (header s.network.nodes s.network.chain s.network.chunk s.areas.items) s.id s.state c.take_running-kept.result c.take_running-kept.ensures c.self.invariant.2).is_open
 
 pub stop-files-requires-clause-ready : goal.stop-files-requires-clause-ready
 stop-files-requires-clause-ready c =
     let s = c.self.inside in
-    can_commit (header s.nodes s.chain s.areas.items) s.id s.state c.take_running-kept.result c.in_ok-ready.ready c.take_running-kept.ensures
+    can_commit (header s.network.nodes s.network.chain s.network.chunk s.areas.items) s.id s.state c.take_running-kept.result c.in_ok-ready.ready c.take_running-kept.ensures
     (subst (λ (p : ProcessView). CanCommitTo p.kept c.in_ok-ready.ready) (sym c.self.view_is) c.in_ok-ready.ensures.commits)
 
 pub invariant_of-self : goal.invariant_of-self
 invariant_of-self c =
     let s = c.self.inside in
-    let h = header s.nodes s.chain s.areas.items in
+    let h = header s.network.nodes s.network.chain s.network.chunk s.areas.items in
     let k = c.take_running-kept.result in
     let r = c.in_ok-ready.ready in
     let runs = running_is h s.id s.state k c.take_running-kept.ensures c.self.invariant.2 in
@@ -42,7 +42,7 @@ invariant_of-self c =
 pub returns-clause-process : goal.returns-clause-process
 returns-clause-process c =
     let s = c.self.inside in
-    let h = header s.nodes s.chain s.areas.items in
+    let h = header s.network.nodes s.network.chain s.network.chunk s.areas.items in
     let k = c.take_running-kept.result in
     let r = c.in_ok-ready.ready in
     let runs = running_is h s.id s.state k c.take_running-kept.ensures c.self.invariant.2 in

@@ -8,4 +8,4 @@ pub invariant_of-result : goal.invariant_of-result
 invariant_of-result c =
     let ps = processes_of c.in_ok-new_processes.field-0.items in
     subst (λ (n : ℕ). IsNetwork c.args.chain ps n) (sym c.new.ensures.nodes)
-    (new_network (header c.args.nodes c.args.chain c.args.areas.now) ps c.requires.few c.in_ok-new_processes.ensures)
+    (new_network (header c.args.nodes c.args.chain c.args.chunk c.args.areas.now) ps c.requires.few c.in_ok-new_processes.ensures)

@@ -1,5 +1,6 @@
 -- What is shown of a node's files.
-use Rattle.std.specs.Prelude.{◌≡◌, ℕ, false, List, ◌++◌, replicate}
+use Rattle.std.specs.Prelude.{◌≡◌, ◌≤◌, ℕ, false, List, ◌++◌, replicate}
+use Rattle.oc_base.specs.declared.limits.TheConstants.{MAX_CHAIN, MAX_CHUNK_BYTES, MAX_NODES}
 use Rattle.oc_base.specs.Groups.{shelf}
 use Rattle.oc_base.specs.declared.shelf.Shelf.{Shelf}
 use Rattle.oc_keep.specs.Files.{Disks, AreHonest}
@@ -10,10 +11,21 @@ use Rattle.oc_io.specs.DiskView.{DiskView}
 use Rattle.oc_replay.specs.Lines.{held_text}
 use Rattle.oc_replay.specs.Shows.{show_text}
 use Rattle.oc_model.specs.Status.{status_of}
+use Rattle.oc_check.specs.declared.network.Network.{Network}
 
--- among `nodes` nodes, with a chain of this length, and areas of 0
-abbrev pub header_without_areas : ℕ → ℕ → Header
-header_without_areas nodes chain = header nodes chain (replicate nodes 0)
+-- the numbers are within their ranges
+pub record IsNetwork (n : Network) : Type 0 where
+  pub some : 1 ≤ n.nodes
+  pub few : n.nodes ≤ MAX_NODES
+  pub chained : 1 ≤ n.chain
+  pub short : n.chain ≤ MAX_CHAIN
+  pub within : n.chain ≤ n.nodes
+  pub sends : 1 ≤ n.chunk
+  pub fits : n.chunk ≤ MAX_CHUNK_BYTES
+
+-- in this network, with areas of 0
+abbrev pub header_without_areas : Network → Header
+header_without_areas n = header n.nodes n.chain n.chunk (replicate n.nodes 0)
 
 -- a text is the block of `show` of a node that is down, and its block of `held`: over honest disks, of the node that their files recover
 pub record Shows {D : Type 0} (view : D → DiskView) (h : Header) (me : ℕ) (d : Disks D) (text : List ℕ) : Type 0 where

@@ -8,6 +8,8 @@
 
 mod lending;
 mod loading;
+mod network;
 mod showing;
 
 pub use lending::recovered_text;
+pub use network::Network;

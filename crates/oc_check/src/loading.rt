@@ -1,9 +1,8 @@
 //! A node loaded from its files, to be shown.
 
-ghost use Rattle.std.specs.Prelude.{◌≡◌, ◌≤◌, ◌++◌, false, IfErr, IfOk, replicate};
+ghost use Rattle.std.specs.Prelude.{◌≡◌, ◌++◌, false, IfErr, IfOk, replicate};
 ghost use Rattle.oc_base.specs.Lawful.{IsNode};
-ghost use Rattle.oc_base.specs.declared.limits.TheConstants.{MAX_CHAIN, MAX_NODES};
-ghost use Rattle.oc_check.specs.Checks.{Shows, header_without_areas};
+ghost use Rattle.oc_check.specs.Checks.{IsNetwork, Shows, header_without_areas};
 ghost use Rattle.oc_keep.specs.Files.{disks};
 ghost use Rattle.oc_base.specs.Groups.{shelf};
 ghost use Rattle.oc_keep.specs.KeptView.{IsHonest, node_of};
@@ -12,6 +11,7 @@ ghost use Rattle.oc_replay.specs.Lines.{held_text};
 ghost use Rattle.oc_replay.specs.Shows.{show_text};
 ghost use Rattle.oc_model.specs.Status.{status_of};
 
+use crate::network::Network;
 use crate::showing::show;
 use oc_base::{Memory, NodeId};
 use oc_io::Disk;
@@ -32,24 +32,20 @@ pub(crate) struct Shown<D: Disk> {
 pub(crate) fn load_and_show<D: Disk>(
     alloc: Global,
     id: NodeId,
-    nodes: u32,
-    chain: u32,
+    network: Network,
     control: D,
     alternate: D,
     content: D,
 ) -> Shown<D>
-    requires few { nodes ≤ MAX_NODES }
-    requires chained { 1 ≤ chain }
-    requires short { chain ≤ MAX_CHAIN }
-    requires within { chain ≤ nodes }
-    requires id { IsNode nodes id }
-    ensures shows { IfOk result.text (λ text. Shows D.view (header_without_areas nodes chain) id (disks control alternate content) text.items) }
-    ensures refuses { IfErr result.text (λ error. RefusesNode D.view nodes
+    requires network { IsNetwork network }
+    requires id { IsNode network.nodes id }
+    ensures shows { IfOk result.text (λ text. Shows D.view (header_without_areas network) id (disks control alternate content) text.items) }
+    ensures refuses { IfErr result.text (λ error. RefusesNode D.view network.nodes
         (disks control alternate content) (disks result.control result.alternate result.content) error) }
-    ensures safely { LoadsSafely D.view (header_without_areas nodes chain) id
+    ensures safely { LoadsSafely D.view (header_without_areas network) id
         (disks control alternate content) (disks result.control result.alternate result.content) }
 {
-    let areas = match no_areas(alloc, nodes) {
+    let areas = match no_areas(alloc, network.nodes) {
         Ok(areas) => areas,
         Err(Memory) => {
             return Shown {
@@ -67,8 +63,9 @@ pub(crate) fn load_and_show<D: Disk>(
     };
     let seat = Seat {
         id,
-        nodes,
-        chain,
+        nodes: network.nodes,
+        chain: network.chain,
+        chunk: network.chunk,
         areas,
     };
     match Kept::load(alloc, files, seat) {

@@ -33,7 +33,7 @@ text_is (bodies.CheckIn seq upto rate number clients certs) has = lt-ltb (length
 text_is (bodies.CheckAck seq upto rank ancestors) has = lt-ltb (length ancestors) 65536 (omega (arith, has))
 text_is (bodies.Rejoin seq) has = refl
 text_is (bodies.Fetch have) has = lt-ltb (length have) 256 (omega (arith, has))
-text_is (bodies.Chunk group start bytes last) has = lt-ltb (length bytes) 65536 (omega (arith, has))
+text_is (bodies.Chunk group start bytes last) has = lt-ltb (length bytes) 4294967296 (omega (arith, has))
 
 has_spelling : (body : Body) → has_text body ≡ true → HasSpelling body
 has_spelling bodies.Look has = tt
@@ -45,7 +45,7 @@ has_spelling (bodies.CheckIn seq upto rate number clients certs) has = omega (ar
 has_spelling (bodies.CheckAck seq upto rank ancestors) has = omega (arith, ltb-true (length ancestors) 65536 has)
 has_spelling (bodies.Rejoin seq) has = tt
 has_spelling (bodies.Fetch have) has = omega (arith, ltb-true (length have) 256 has)
-has_spelling (bodies.Chunk group start bytes last) has = omega (arith, ltb-true (length bytes) 65536 has)
+has_spelling (bodies.Chunk group start bytes last) has = omega (arith, ltb-true (length bytes) 4294967296 has)
 
 -- a message that can be sent has a text
 pub text_of_sendable : (nodes : ℕ) (m : Message) → can_send nodes m ≡ true → HasSpelling m.body

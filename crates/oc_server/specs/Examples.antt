@@ -33,7 +33,7 @@ example = record { me = 1; addresses = codes "a:1" ∷ codes "b:2" ∷ [] }
 
 -- node 1, new, with these messages to send
 abbrev started : List Message → Running
-started outbox = record { node = new_node (record { nodes = 2; chain = 1; areas = 0 ∷ 0 ∷ [] }) 1; outbox = outbox; works = []; dials = [] }
+started outbox = record { node = new_node (record { nodes = 2; chain = 1; chunk = 4096; areas = 0 ∷ 0 ∷ [] }) 1; outbox = outbox; works = []; dials = [] }
 
 -- a request of a connection has come
 abbrev came : ℕ → Event

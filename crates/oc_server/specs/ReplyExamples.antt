@@ -17,7 +17,7 @@ node_one = record { me = 1; addresses = codes "a:1" ∷ codes "b:2" ∷ [] }
 
 abbrev holds_three : Running
 holds_three = record {
-  node = record (new_node (record { nodes = 2; chain = 1; areas = 0 ∷ 0 ∷ [] }) 1) { groups = record { name = codes "/a"; bytes = codes "abc"; sealed = false } ∷ [] };
+  node = record (new_node (record { nodes = 2; chain = 1; chunk = 4096; areas = 0 ∷ 0 ∷ [] }) 1) { groups = record { name = codes "/a"; bytes = codes "abc"; sealed = false } ∷ [] };
   outbox = [];
   works = [];
   dials = [];

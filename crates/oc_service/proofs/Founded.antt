@@ -143,5 +143,6 @@ ends_go_on view takes fails count s nodes me probes turns (Turned ends.Sink) old
 ends_go_on view takes fails count s nodes me probes turns (Turned ends.Memory) old new sink after before out h = h.3.goes_on
 
 -- the header of a node that was loaded with what the settings say
-pub settings_header : (s : Settings) (nodes chain : ℕ) (areas : List ℕ) → nodes ≡ length s.addresses → chain ≡ s.chain → areas ≡ s.areas → header nodes chain areas ≡ header_of_settings (length s.addresses) s
-settings_header s nodes chain areas count links same = ap (λ n. header n chain areas) count ∙ ap₂ (λ x a. header (length s.addresses) x a) links same
+pub settings_header : (s : Settings) (nodes chain chunk : ℕ) (areas : List ℕ) → nodes ≡ length s.addresses → chain ≡ s.chain → chunk ≡ s.chunk → areas ≡ s.areas → header nodes chain chunk areas ≡ header_of_settings (length s.addresses) s
+settings_header s nodes chain chunk areas count links most same =
+    ap (λ n. header n chain chunk areas) count ∙ ap (λ b. header (length s.addresses) chain b areas) most ∙ ap₂ (λ x a. header (length s.addresses) x s.chunk a) links same

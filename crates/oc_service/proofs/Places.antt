@@ -105,5 +105,7 @@ module _ (text : List ℕ) (is : config.is_address text ≡ true) where
 pub placed : (s : Settings) → IsConfig s → IsPlaced (length s.addresses) s.addresses
 placed s c = record {
   count = refl;
-  hosts = λ x node. host_of (get_or s.addresses (x - 1) []) (All-get_or (λ address. config.is_address address ≡ true) s.addresses (x - 1) [] (omega (arith, node)) c.addresses);
+  hosts = λ x node.
+      let address = get_or s.addresses (x - 1) [] in
+      host_of address (both (config.is_address address) (not (config.is_everywhere address)) (All-get_or (λ address. config.is_reachable address ≡ true) s.addresses (x - 1) [] (omega (arith, node)) c.addresses)).0;
 }

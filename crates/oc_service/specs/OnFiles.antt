@@ -24,7 +24,7 @@ use Rattle.oc_turn.specs.declared.ends.TurnEnd.TheVariants as ends
 
 -- the nodes of a configuration
 abbrev pub header_of_settings : ℕ → Settings → Header
-header_of_settings nodes c = header nodes c.chain c.areas
+header_of_settings nodes c = header nodes c.chain c.chunk c.areas
 
 -- The deeds were done by the node that the files recovered: the link and the clock are as they leave them, every crash leaves the node
 -- after them, and so it answered the connections that came. Its link waited at its address, and nothing was to be sent at first.

@@ -1,4 +1,4 @@
-//! A node that runs for a number of turns: it is loaded from its files, waits at its address, takes what was
+//! A node that runs for a number of turns: it is loaded from its files, waits where it listens, takes what was
 //! measured before, and serves its turns.
 //!
 //! [`run_node`] is what the layer above uses. Its contract names the deeds of the run (`IsRun`): the

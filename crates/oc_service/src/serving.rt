@@ -1,6 +1,6 @@
 //! The run of a node that was loaded.
 
-ghost use Rattle.std.specs.Prelude.{◌≡◌, ◌≤◌, List, [], false, true, All, IfErr, IfOk, OnOk, length};
+ghost use Rattle.std.specs.Prelude.{◌≡◌, ◌-◌, ◌≤◌, List, [], Some, false, true, All, IfErr, IfOk, OnOk, length, slice_get};
 ghost use Rattle.oc_base.specs.Lawful.{IsNode};
 ghost use Rattle.oc_keep.specs.KeptView.{IsHonest, NodeSurvives, node_of};
 ghost use Rattle.oc_updown.specs.MeasureLines.{IsMeasure};
@@ -26,7 +26,7 @@ use oc_serve::serve;
 use oc_turn::{Outbox, TurnEnd};
 use std::alloc::Global;
 
-/// Waits at the address of the node, takes the measures of the configuration that are its own, and serves
+/// Waits where the node listens, takes the measures of the configuration that are its own, and serves
 /// `turns` turns.
 #[allow(clippy::too_many_arguments)]
 pub(crate) fn run_loaded<D: Disk, L: Link, C: Clock, K: Sink>(
@@ -41,6 +41,7 @@ pub(crate) fn run_loaded<D: Disk, L: Link, C: Clock, K: Sink>(
 ) -> Result<(), TurnEnd>
     requires open { kept.old.closed ≡ false }
     requires placed { IsPlaced kept.old.node.control.nodes config.now.addresses }
+    requires listens { length config.now.listens ≡ kept.old.node.control.nodes }
     requires rules { length config.now.rules ≤ MOST_RULES }
     requires measures { All (IsMeasure kept.old.node.control.nodes) config.now.measures }
     ensures did { OnOk result ((deeds : List Deed) × IsRun kept.old.node.control.me kept.old.node.control.nodes config.now.measures probes turns deeds
@@ -65,16 +66,16 @@ pub(crate) fn run_loaded<D: Disk, L: Link, C: Clock, K: Sink>(
     )
 }
 
-/// Has the link wait at the address of the node.
+/// Has the link wait where the node listens, which others may know by another address.
 fn wait<D: Disk, L: Link>(kept: &Kept<D>, config: &Config, link: &mut L) -> Result<(), TurnEnd>
-    requires placed { IsPlaced kept.now.node.control.nodes config.now.addresses }
+    requires listens { length config.now.listens ≡ kept.now.node.control.nodes }
     ensures waits { OnOk result (L.story link.new ≡ L.story link.old) }
     ensures fails { IfErr result (λ end. (end ≡ TurnEnd.Link) × Rose (L.faults link.old).listening (L.faults link.new).listening) }
     ensures count { CountsListening (L.faults link.old) (L.faults link.new) }
     ensures survives { kept.now.closed ≡ false → IsHonest D.view kept.now → NodeSurvives D.view kept.now (node_of kept.now) }
 {
     let me = id_of(kept);
-    match link.listen(address_of(config, me)) {
+    match link.listen(listen_of(config, me)) {
         Ok(()) => Ok(()),
         Err(_) => Err(TurnEnd::Link),
     }
@@ -89,12 +90,13 @@ fn id_of<D: Disk>(kept: &Kept<D>) -> NodeId
     kept.node().id()
 }
 
-/// The address of a node.
-fn address_of(config: &Config, node: NodeId) -> &str
+/// Where a node listens: its `listen` in the configuration, or its address where it has none.
+fn listen_of(config: &Config, node: NodeId) -> &str
     requires first { 1 ≤ node }
-    requires last { node ≤ length config.now.addresses }
+    requires last { node ≤ length config.now.listens }
+    ensures { Some result.now ≡ slice_get config.now.listens (node - 1) }
 {
-    config.addresses[node.index()].as_str()
+    config.listens[node.index()].as_str()
 }
 
 /// Nothing to be sent.

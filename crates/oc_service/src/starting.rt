@@ -43,7 +43,7 @@ struct Left<D: Disk> {
     end: NodeEnd,
 }
 
-/// Runs a node of a configuration on its three files, which are lent: loads it, waits at its address, takes
+/// Runs a node of a configuration on its three files, which are lent: loads it, waits where it listens, takes
 /// what was measured before, and serves `turns` turns, with probes where they are wanted.
 #[allow(clippy::too_many_arguments)]
 pub fn run_node<D: Disk, L: Link, C: Clock, K: Sink>(
@@ -164,6 +164,7 @@ fn load_and_run<D: Disk, L: Link, C: Clock, K: Sink>(
         id: me,
         nodes,
         chain: config.chain,
+        chunk: config.chunk(),
         areas,
     };
     match Kept::load(alloc, files, seat) {
@@ -227,6 +228,7 @@ fn run_to_end<D: Disk, L: Link, C: Clock, K: Sink>(
 ) -> TurnEnd
     requires open { kept.old.closed ≡ false }
     requires placed { IsPlaced kept.old.node.control.nodes config.now.addresses }
+    requires listens { length config.now.listens ≡ kept.old.node.control.nodes }
     requires rules { length config.now.rules ≤ MOST_RULES }
     requires measures { All (IsMeasure kept.old.node.control.nodes) config.now.measures }
     ensures ends { RunEnds D.view K.takes K.fails K.faults config.now probes turns result

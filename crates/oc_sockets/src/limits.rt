@@ -16,8 +16,8 @@ pub(crate) const LARGE_BYTES: usize = 65_536;
 
 pub(crate) const MOST_LARGE: usize = 64;
 
-/// The most bytes that a connection was given and that did not go out.
-pub(crate) const MOST_UNSENT: usize = 524_288;
+/// The most bytes that a connection was given and that did not go out: a chunk of 524,288 bytes and what is about it.
+pub(crate) const MOST_UNSENT: usize = 589_824;
 
 /// The send buffer that the system is asked for. The system's own choice grows to several MB, which hide for
 /// minutes whether a slow reader takes anything.

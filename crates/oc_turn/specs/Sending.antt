@@ -12,7 +12,7 @@ has_text (bodies.Yes seq rank ancestors) = nat_lt (length ancestors) 65536
 has_text (bodies.CheckIn seq upto rate number clients certs) = nat_lt (length certs) 256
 has_text (bodies.CheckAck seq upto rank ancestors) = nat_lt (length ancestors) 65536
 has_text (bodies.Fetch have) = nat_lt (length have) 256
-has_text (bodies.Chunk group start bytes last) = nat_lt (length bytes) 65536
+has_text (bodies.Chunk group start bytes last) = nat_lt (length bytes) 4294967296
 has_text body = true
 
 -- the receiver is one of the nodes, and the body has a text

@@ -45,7 +45,7 @@ fn has_text(body: &Body) -> bool
         }
         Body::CheckIn { certs, .. } => certs.items().len() < 256,
         Body::Fetch { have } => have.items().len() < 256,
-        Body::Chunk { bytes, .. } => bytes.items().len() < 65_536,
+        Body::Chunk { bytes, .. } => bytes.items().len() < 4_294_967_296,
         Body::Look | Body::Ask { .. } | Body::No { .. } | Body::Rejoin { .. } => true,
     }
 }

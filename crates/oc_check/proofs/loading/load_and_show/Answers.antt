@@ -1,4 +1,4 @@
-use Rattle.std.proofs.Common.{subst, arith, rules}
+use Rattle.std.proofs.Common.{subst, rules}
 use Rattle.std.proofs.lemmas.Result.{IfOk-weaker}
 use Rattle.oc_check.specs.Checks.{header_without_areas}
 use Rattle.oc_keep.specs.Files.{disks}
@@ -11,16 +11,17 @@ use Rattle.oc_check.proofs.loading.load_and_show.Goals as goal
 
 pub returns-in-Err-clause-safely : goal.returns-in-Err-clause-safely
 returns-in-Err-clause-safely g c =
-    safely_same g.D.Disk.view g.met.D.Disk.consistent (header_without_areas c.args.nodes c.args.chain) c.args.id (disks c.args.control c.args.alternate c.args.content)
+    safely_same g.D.Disk.view g.met.D.Disk.consistent (header_without_areas c.args.network) c.args.id (disks c.args.control c.args.alternate c.args.content)
 
 pub load-requires-clause-header : goal.load-requires-clause-header
 load-requires-clause-header g c =
-    lawful_header c.args.nodes c.args.chain c.in-Ok.areas.items c.in-Ok.ensures (omega (arith, c.requires.chained, c.requires.within)) c.requires.few c.requires.chained c.requires.short c.requires.within
+    lawful_header c.args.network c.in-Ok.areas.items c.in-Ok.ensures c.requires.network
 
 pub returns-in-Ok-load-clause-shows : goal.returns-in-Ok-load-clause-shows
 returns-in-Ok-load-clause-shows g c =
-    let h = header_without_areas c.args.nodes c.args.chain in
+    let n = c.args.network in
+    let h = header_without_areas n in
     let d = disks c.args.control c.args.alternate c.args.content in
-    let loaded : IsNodeOf g.D.Disk.view h c.args.id d c.in-Ok-load.kept = subst (λ areas. IsNodeOf g.D.Disk.view (header c.args.nodes c.args.chain areas) c.args.id d c.in-Ok-load.kept) c.in-Ok.ensures c.in-Ok-load.ensures.loaded in
+    let loaded : IsNodeOf g.D.Disk.view h c.args.id d c.in-Ok-load.kept = subst (λ areas. IsNodeOf g.D.Disk.view (header n.nodes n.chain n.chunk areas) c.args.id d c.in-Ok-load.kept) c.in-Ok.ensures c.in-Ok-load.ensures.loaded in
     let groups = c.text_of-text.ensures.groups in
     IfOk-weaker c.text_of-text.result _ _ (λ text is. shown g.D.Disk.view h c.args.id d c.in-Ok-load.kept loaded (search rules) groups text.items is) c.text_of-text.ensures.text

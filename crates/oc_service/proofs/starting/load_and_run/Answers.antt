@@ -30,9 +30,10 @@ returns-in-Err-clause-goes_on g c =
 pub load-requires-clause-header : goal.load-requires-clause-header
 load-requires-clause-header g c =
     let a = c.args in
-    subst (λ n. IsHeader (header n c.config.inside.chain c.in-Ok.areas.items)) (sym c.nodes_of-nodes.ensures)
-    (subst (λ x. IsHeader (header (length a.config.now.addresses) x c.in-Ok.areas.items)) (sym (ap (λ (s : Settings). s.chain) c.config.view_is))
-    (lawful_header a.config.now c.requires.config c.in-Ok.areas.items (c.in-Ok.ensures.same ∙ c.deref.ensures.value ∙ ap (λ (s : Settings). s.areas) c.config.view_is) c.in-Ok.ensures.bytes))
+    subst (λ n. IsHeader (header n c.config.inside.chain c.chunk.result c.in-Ok.areas.items)) (sym c.nodes_of-nodes.ensures)
+    (subst (λ b. IsHeader (header (length a.config.now.addresses) c.config.inside.chain b c.in-Ok.areas.items)) (sym c.chunk.ensures)
+    (subst (λ x. IsHeader (header (length a.config.now.addresses) x a.config.now.chunk c.in-Ok.areas.items)) (sym (ap (λ (s : Settings). s.chain) c.config.view_is))
+    (lawful_header a.config.now c.requires.config c.in-Ok.areas.items (c.in-Ok.ensures.same ∙ c.deref.ensures.value ∙ ap (λ (s : Settings). s.areas) c.config.view_is) c.in-Ok.ensures.bytes)))
 
 pub run_to_end-end-requires-clause-open : goal.run_to_end-end-requires-clause-open
 run_to_end-end-requires-clause-open g c = c.in-Ok-load.ensures.loaded.unclosed
@@ -41,6 +42,10 @@ pub run_to_end-end-requires-clause-placed : goal.run_to_end-end-requires-clause-
 run_to_end-end-requires-clause-placed g c =
     let a = c.args in
     subst (λ n. IsPlaced n a.config.now.addresses) (sym (ap (λ (h : Header). h.nodes) c.in-Ok-load.ensures.loaded.header ∙ c.nodes_of-nodes.ensures)) (placed a.config.now c.requires.config)
+
+pub run_to_end-end-requires-clause-listens : goal.run_to_end-end-requires-clause-listens
+run_to_end-end-requires-clause-listens g c =
+    c.requires.config.listens.0 ∙ sym (ap (λ (h : Header). h.nodes) c.in-Ok-load.ensures.loaded.header ∙ c.nodes_of-nodes.ensures)
 
 pub run_to_end-end-requires-clause-measures : goal.run_to_end-end-requires-clause-measures
 run_to_end-end-requires-clause-measures g c =
@@ -60,7 +65,7 @@ returns-in-Ok-load-clause-ends g c =
     let millis = g.C.Clock.milliseconds in
     let before = outside_of (story a.link.now) (faults a.link.now) (seconds a.clock.now) (millis a.clock.now) in
     let out = outside_of (story t.link) (faults t.link) (seconds t.clock) (millis t.clock) in
-    let same = settings_header s c.nodes_of-nodes.result c.config.inside.chain c.in-Ok.areas.items c.nodes_of-nodes.ensures (ap (λ (s : Settings). s.chain) c.config.view_is) (c.in-Ok.ensures.same ∙ c.deref.ensures.value ∙ ap (λ (s : Settings). s.areas) c.config.view_is) in
+    let same = settings_header s c.nodes_of-nodes.result c.config.inside.chain c.chunk.result c.in-Ok.areas.items c.nodes_of-nodes.ensures (ap (λ (s : Settings). s.chain) c.config.view_is) c.chunk.ensures (c.in-Ok.ensures.same ∙ c.deref.ensures.value ∙ ap (λ (s : Settings). s.areas) c.config.view_is) in
     let loaded = subst (λ (h : Header). IsNodeOf g.D.Disk.view h a.me d k) same c.in-Ok-load.ensures.loaded in
     let safely = subst (λ (h : Header). LoadsSafely g.D.Disk.view h a.me d (disks_of k)) same c.in-Ok-load.ensures.safely in
     subst (λ (e : Disks g.row.D.Denot). NodeEnds g.D.Disk.view g.K.Sink.takes g.K.Sink.fails g.K.Sink.faults s (length s.addresses) a.me a.probes a.turns (Turned c.run_to_end-end.result) d e a.sink.now t.sink before out)

@@ -15,7 +15,8 @@ use Rattle.oc_words.specs.declared.request.Member.{Member}
 use Rattle.oc_words.specs.declared.request.Request.{Request}
 use Rattle.oc_words.specs.declared.request.Request.TheVariants.{Check, Get}
 use Rattle.oc_commands.specs.AtGet.{HappenedAtGet}
-use Rattle.oc_commands.specs.AtCheck.{HappenedAtCheck}
+use Rattle.oc_check.specs.declared.network.Network.{Network}
+use Rattle.oc_commands.specs.AtCheck.{HappenedAtCheck, network_of}
 use Rattle.oc_commands.specs.Complete.{IsDoneOrMemory, IsServed, once}
 use Rattle.oc_commands.specs.Ends.{status_of, status_of_check, status_of_get, status_of_load}
 use Rattle.oc_commands.specs.Outside.{Input, OnClock, OnFiles, OnLink, OnNode, OnStage, Output, at_files, at_link}
@@ -24,41 +25,44 @@ use Rattle.oc_words.specs.Status.{number_of}
 use Rattle.oc_commands.specs.declared.checking.CheckEnd.{CheckEnd}
 use Rattle.oc_commands.specs.declared.checking.CheckEnd.TheVariants as checks
 use Rattle.oc_commands.specs.declared.ending.End.{End}
-use Rattle.oc_commands.specs.declared.ending.End.TheVariants.{Helped, HelpFailed, Misused, NoMemory, Replayed, Generated, Listed, Checked, Got, Served}
+use Rattle.oc_commands.specs.declared.ending.End.TheVariants.{Helped, HelpFailed, Versioned, VersionFailed, Misused, NoMemory, Replayed, Generated, Listed, Checked, CheckedConfigured, Got, Served}
 
 -- the output did not fail
 abbrev pub IsSound : Output → Type 0
 IsSound output = (text : List ℕ) → output.cut_off text → ⊥
 
 -- a request for one node or for one download is for no other
-same_member : (asked : Option Request) (m n : Member) → asked ≡ Some (Check m) → asked ≡ Some (Check n) → n ≡ m
-same_member asked m n is also = cc
+same_member : (asked : Option Request) (m n : Member) (f g : Option (List ℕ)) → asked ≡ Some (Check m f) → asked ≡ Some (Check n g) → n ≡ m
+same_member asked m n f g is also = cc
 
 same_download : (asked : Option Request) (d e : Download) → asked ≡ Some (Get d) → asked ≡ Some (Get e) → e ≡ d
 same_download asked d e is also = cc
 
 module _ {D : Type 0} (view : D → DiskView) (old new : Disks D) (output : Output) (sound : IsSound output) (honest : AreHonest view old) (unfailed : OneRose view old new → ⊥) where
-  check_done : (m : Member) (end : CheckEnd) → HoldFiles view m.nodes old → HappenedAtCheck (at_files view old new) output m end → IsDoneOrMemory (number_of (status_of_check end))
-  check_done m checks.Done files h = inl refl
-  check_done m checks.Sink files h = let (text, shows, cut) = h.0 in absurd (sound _ cut.1)
-  check_done m (checks.Load error) files h =
-      inr (ap (λ e. number_of (status_of_load e)) (only_memory view m.nodes old new honest files unfailed error h.0.0))
+  check_done : (n : Network) (id : ℕ) (end : CheckEnd) → HoldFiles view n.nodes old → HappenedAtCheck (at_files view old new) output n id end → IsDoneOrMemory (number_of (status_of_check end))
+  check_done n id checks.Done files h = inl refl
+  check_done n id checks.Sink files h = let (text, shows, cut) = h.0 in absurd (sound _ cut.1)
+  check_done n id (checks.Load error) files h =
+      inr (ap (λ e. number_of (status_of_load e)) (only_memory view n.nodes old new honest files unfailed error h.0.0))
 
-  pub checked : (input : Input) (stage : OnStage) (link : OnLink) (clock : OnClock) (node : OnNode) (asked : Option Request) (m : Member) (end : End) → asked ≡ Some (Check m) → HoldFiles view m.nodes old
+  pub checked : (input : Input) (stage : OnStage) (link : OnLink) (clock : OnClock) (node : OnNode) (asked : Option Request) (m : Member) (f : Option (List ℕ)) (end : End) → asked ≡ Some (Check m f) → HoldFiles view m.nodes old
       → Happened (record { asked = asked; input = input; output = output; stage = stage; files = at_files view old new; link = link; clock = clock; node = node }) end
       → IsDoneOrMemory (number_of (status_of end))
-  checked input stage link clock node asked m Helped is files h = let also = h.0 in cc
-  checked input stage link clock node asked m HelpFailed is files h = let also = h.0 in cc
-  checked input stage link clock node asked m Misused is files h = let also = h.0 in cc
-  checked input stage link clock node asked m NoMemory is files h = inr refl
-  checked input stage link clock node asked m (Replayed end) is files h = let also = h.0.1 in cc
-  checked input stage link clock node asked m (Generated end) is files h = let also = h.0.1 in cc
-  checked input stage link clock node asked m (Listed end) is files h = let also = h.0 in cc
-  checked input stage link clock node asked m (Checked end) is files h =
-      let (n, also, at) = h.0 in
-      check_done m end files (subst (λ x. HappenedAtCheck (at_files view old new) output x end) (same_member asked m n is also) at)
-  checked input stage link clock node asked m (Got end) is files h = let also = h.0.1 in cc
-  checked input stage link clock node asked m (Served end) is files h = let also = h.0.1 in cc
+  checked input stage link clock node asked m f Helped is files h = let also = h.0 in cc
+  checked input stage link clock node asked m f HelpFailed is files h = let also = h.0 in cc
+  checked input stage link clock node asked m f Versioned is files h = let also = h.0 in cc
+  checked input stage link clock node asked m f VersionFailed is files h = let also = h.0 in cc
+  checked input stage link clock node asked m f Misused is files h = let also = h.0 in cc
+  checked input stage link clock node asked m f NoMemory is files h = inr refl
+  checked input stage link clock node asked m f (Replayed end) is files h = let also = h.0.2 in cc
+  checked input stage link clock node asked m f (Generated end) is files h = let also = h.0.1 in cc
+  checked input stage link clock node asked m f (Listed end) is files h = let also = h.0.1 in cc
+  checked input stage link clock node asked m f (Checked end) is files h =
+      let (n, g, also, at) = h.0 in
+      check_done (network_of m) m.id end files (subst (λ (x : Member). HappenedAtCheck (at_files view old new) output (network_of x) x.id end) (same_member asked m n f g is also) at)
+  checked input stage link clock node asked m f (CheckedConfigured end) is files h = let also = h.0.2 in cc
+  checked input stage link clock node asked m f (Got end) is files h = let also = h.0.1 in cc
+  checked input stage link clock node asked m f (Served end) is files h = let also = h.0.2 in cc
 
 module _ {L : Type 0} (story : L → Option Story) (faults : L → LinkFaults) (old new : L) (output : Output) (sound : IsSound output) (unfailed : Rose (faults old).dialling (faults new).dialling → ⊥) where
   unrefused : (address : List ℕ) (end : GetEnd) → IsServed address (story old) (story new) → HappenedAtGet (at_link story faults old new) output (once address) end → IsUnrefused end
@@ -81,14 +85,17 @@ module _ {L : Type 0} (story : L → Option Story) (faults : L → LinkFaults) (
       → IsDoneOrMemory (number_of (status_of end))
   fetched input stage files clock node asked address Helped is s h = let also = h.0 in cc
   fetched input stage files clock node asked address HelpFailed is s h = let also = h.0 in cc
+  fetched input stage files clock node asked address Versioned is s h = let also = h.0 in cc
+  fetched input stage files clock node asked address VersionFailed is s h = let also = h.0 in cc
   fetched input stage files clock node asked address Misused is s h = let also = h.0 in cc
   fetched input stage files clock node asked address NoMemory is s h = inr refl
-  fetched input stage files clock node asked address (Replayed end) is s h = let also = h.0.1 in cc
+  fetched input stage files clock node asked address (Replayed end) is s h = let also = h.0.2 in cc
   fetched input stage files clock node asked address (Generated end) is s h = let also = h.0.1 in cc
-  fetched input stage files clock node asked address (Listed end) is s h = let also = h.0 in cc
-  fetched input stage files clock node asked address (Checked end) is s h = let also = h.0.1 in cc
+  fetched input stage files clock node asked address (Listed end) is s h = let also = h.0.1 in cc
+  fetched input stage files clock node asked address (Checked end) is s h = let also = h.0.2 in cc
+  fetched input stage files clock node asked address (CheckedConfigured end) is s h = let also = h.0.2 in cc
   fetched input stage files clock node asked address (Got end) is s h =
       let (d, also, at) = h.0 in
       let same = subst (λ x. HappenedAtGet (at_link story faults old new) output x end) (same_download asked (once address) d is also) at in
       get_done address end (unrefused address end s same) same
-  fetched input stage files clock node asked address (Served end) is s h = let also = h.0.1 in cc
+  fetched input stage files clock node asked address (Served end) is s h = let also = h.0.2 in cc

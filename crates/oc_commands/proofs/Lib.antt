@@ -4,7 +4,9 @@ mod SettleAndHealEvents
 pub mod Statuses
 mod Replayed
 pub mod Completes
+pub mod Configured
 mod Gotten
 mod Noded
+mod AnyLine
 pub mod Works
 pub mod Serves

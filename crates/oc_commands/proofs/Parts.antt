@@ -3,10 +3,8 @@ use Rattle.std.proofs.Common.{◌≡◌, ℕ, suc, ◌+◌, ◌<◌, List, [], �
 use Rattle.std.specs.Borrow.{Bor}
 use Rattle.std.proofs.lemmas.List.{take_more, take-append-le, take-append-drop, get_or_default}
 use Rattle.std.proofs.Math.Seq.{drop-cons, take-append-add}
-use Rattle.std.specs.Prelude.{Result, Ok, Err, OnOk, OnErr}
-use Rattle.oc_io.specs.Faults.{Rose}
+use Rattle.std.specs.Prelude.{Result, Ok, Err, OnErr}
 use Rattle.oc_http.specs.Parts.{joined}
-use Rattle.oc_commands.specs.Run.{IsWrittenOrCut}
 
 -- parts behind parts
 joined-append : (xs ys : List (Bor (List ℕ))) → joined (xs ++ ys) ≡ joined xs ++ joined ys
@@ -23,15 +21,7 @@ joined_front parts i n d inside few =
     ap (λ (l : List ℕ). joined (take i parts) ++ l) (sym (take-append-le n part (joined (drop (suc i) parts)) (omega (arith, few))))
     ∙ (sym (take-append-add (joined (take i parts)) (part ++ joined (drop (suc i) parts)) n) ∙ ap (take (length (joined (take i parts)) + n)) (sym whole))
 
--- the parts of a line that names a place
-pub line_joined : (before number colon why line_end : List ℕ) → before ++ (number ++ (colon ++ (why ++ line_end))) ≡ before ++ number ++ colon ++ why ++ line_end
-line_joined before number colon why line_end =
-    sym (append_assoc (before ++ number ++ colon) why line_end
-    ∙ (append_assoc (before ++ number) colon (why ++ line_end) ∙ append_assoc before number (colon ++ (why ++ line_end))))
-
--- what was written in one piece is told
-pub told_of : {E : Type 0} {A : Type 0} {B : Type 0} (takes fails : E → List ℕ → E → Type 0) (faults : E → ℕ) (old new : E) (text : List ℕ) (r : Result A B)
-    → OnOk r (takes old text new) → OnErr r ((n : ℕ) × (n < length text) × fails old (take n text) new) → OnErr r (Rose (faults old) (faults new))
-    → IsWrittenOrCut takes fails faults old new text
-told_of takes fails faults old new text (Ok v) taken failed cause = inl taken
-told_of takes fails faults old new text (Err e) taken failed cause = let (n, few, fails_there) = failed in inr ((n, fails_there), cause)
+-- what holds holds where a call failed
+pub on_err : {A E : Type 0} (r : Result A E) (P : Type 0) → P → OnErr r P
+on_err (Ok v) P holds = tt
+on_err (Err e) P holds = holds

@@ -13,6 +13,7 @@ use Rattle.oc_service.specs.declared.starting.NodeEnd.{NodeEnd}
 use Rattle.oc_service.specs.declared.starting.NodeEnd.TheVariants as nodes
 use Rattle.oc_turn.specs.Deeds as deeds
 use Rattle.oc_turn.specs.declared.ends.TurnEnd.TheVariants as turns
+use Rattle.oc_words.specs.declared.request.Paths.{Paths}
 use Rattle.oc_words.specs.declared.request.Request.{Request}
 use Rattle.oc_words.specs.declared.request.Request.TheVariants.{Node}
 use Rattle.oc_words.specs.declared.request.Service.{Service}
@@ -23,14 +24,15 @@ use Rattle.oc_commands.specs.Run.{Happened}
 use Rattle.oc_words.specs.Status.{number_of}
 use Rattle.oc_commands.specs.declared.configuring.ConfigEnd.TheVariants as configs
 use Rattle.oc_commands.specs.declared.ending.End.{End}
-use Rattle.oc_commands.specs.declared.ending.End.TheVariants.{Helped, HelpFailed, Misused, NoMemory, Replayed, Generated, Listed, Checked, Got, Served}
+use Rattle.oc_commands.specs.declared.ending.End.TheVariants.{Helped, HelpFailed, Versioned, VersionFailed, Misused, NoMemory, Replayed, Generated, Listed, Checked, CheckedConfigured, Got, Served}
 use Rattle.oc_commands.specs.declared.serving.ServiceEnd.{ServiceEnd}
 use Rattle.oc_commands.specs.declared.serving.ServiceEnd.TheVariants as services
+use Rattle.oc_commands.proofs.AnyLine.{status_over}
 use Rattle.oc_commands.proofs.Completes.{IsSound}
 
 -- a request for one node is for no other
-same_service : (asked : Option Request) (v w : Service) → asked ≡ Some (Node v) → asked ≡ Some (Node w) → w ≡ v
-same_service asked v w is also = cc
+same_service : (asked : Option Request) (v w : Service) (p q : Paths) → asked ≡ Some (Node v p) → asked ≡ Some (Node w q) → w ≡ v
+same_service asked v w p q is also = cc
 
 module _ {S D : Type 0} (gives fails : S → List ℕ → S → Type 0) (ended : S → Type 0) (faulty : S → ℕ) (old new : S) (view : D → DiskView) (d e : Disks D) (before out : deeds.Outside) (output : Output)
     (honest : AreHonest view d) (unfailed : OneRose view d e → ⊥) (waiting : Rose before.faults.listening out.faults.listening → ⊥) (sourced : Rose (faulty old) (faulty new) → ⊥) (sound : IsSound output) where
@@ -57,39 +59,43 @@ module _ {S D : Type 0} (gives fails : S → List ℕ → S → Type 0) (ended :
   run_has s v (nodes.Turned turns.Sink) node h = let (ds, under, wrote, stops) = h in absurd (sound _ wrote.2)
 
   -- by what all bytes of the input say
-  told : (v : Service) (said : Result Settings ConfigFault) (status : ℕ) (bytes : List ℕ) → gives old bytes new → ended new → settings_of bytes ≡ said → OrMemory (IsStatusOf view d v said) status
+  told : (v : Service) (said : Result Settings ConfigFault) (status : ℕ) (bytes : List ℕ) → gives old bytes new → ended new → (line : ℕ) → settings_of line bytes ≡ said → OrMemory (IsStatusOf view d v said) status
       → OrMemory (HasServiceStatus gives ended view d v old new) status
-  told v said status bytes came whole is (inl has) = inl (record { bytes = bytes; came = came; status_is = inl (whole, subst (λ r. IsStatusOf view d v r status) (sym is) has) })
-  told v said status bytes came whole is (inr memory) = inr memory
+  told v said status bytes came whole line is (inl has) = inl (record { bytes = bytes; came = came; status_is = inl (whole, status_over view d v line bytes status (subst (λ r. IsStatusOf view d v r status) (sym is) has)) })
+  told v said status bytes came whole line is (inr memory) = inr memory
 
   service_has : (v : Service) (end : ServiceEnd) → HappenedAtNode (at_source gives fails ended faulty old new) (at_files view d e) (at_node view d e before out) output v end
       → OrMemory (HasServiceStatus gives ended view d v old new) (number_of (status_of_service end))
   service_has v (services.Config configs.Source) h = absurd (sourced h.0.1)
   service_has v (services.Config configs.Long) h = let (bytes, came, long) = h.0 in inl (record { bytes = bytes; came = came; status_is = inr (long, refl) })
   service_has v (services.Config (configs.Fault faults.Memory)) h = inr refl
-  service_has v (services.Config (configs.Fault faults.Toml)) h = let (bytes, whole, is) = h.0 in told v (Err faults.Toml) 3 bytes whole.0 whole.1 is (inl refl)
-  service_has v (services.Config (configs.Fault (faults.Missing key))) h = let (bytes, whole, is) = h.0 in told v (Err (faults.Missing key)) 3 bytes whole.0 whole.1 is (inl refl)
-  service_has v (services.Config (configs.Fault (faults.Value key))) h = let (bytes, whole, is) = h.0 in told v (Err (faults.Value key)) 3 bytes whole.0 whole.1 is (inl refl)
-  service_has v (services.Config (configs.Fault (faults.Repeat id))) h = let (bytes, whole, is) = h.0 in told v (Err (faults.Repeat id)) 3 bytes whole.0 whole.1 is (inl refl)
-  service_has v (services.Config (configs.Fault (faults.Measure number why))) h = let (bytes, whole, is) = h.0 in told v (Err (faults.Measure number why)) 3 bytes whole.0 whole.1 is (inl refl)
-  service_has v services.Stranger h = let (s, read, rest) = h in let (bytes, whole, is) = read in told v (Ok s) 3 bytes whole.0 whole.1 is (inl (inl (rest.0, refl)))
+  service_has v (services.Config (configs.Fault (faults.Toml line))) h = let (bytes, whole, is) = h.0 in told v (Err (faults.Toml line)) 3 bytes whole.0 whole.1 is.line is.gives (inl refl)
+  service_has v (services.Config (configs.Fault (faults.Missing place key))) h = let (bytes, whole, is) = h.0 in told v (Err (faults.Missing place key)) 3 bytes whole.0 whole.1 is.line is.gives (inl refl)
+  service_has v (services.Config (configs.Fault (faults.Value place key))) h = let (bytes, whole, is) = h.0 in told v (Err (faults.Value place key)) 3 bytes whole.0 whole.1 is.line is.gives (inl refl)
+  service_has v (services.Config (configs.Fault (faults.Repeat place id))) h = let (bytes, whole, is) = h.0 in told v (Err (faults.Repeat place id)) 3 bytes whole.0 whole.1 is.line is.gives (inl refl)
+  service_has v (services.Config (configs.Fault (faults.Measure number why))) h = let (bytes, whole, is) = h.0 in told v (Err (faults.Measure number why)) 3 bytes whole.0 whole.1 is.line is.gives (inl refl)
+  service_has v (services.Config (configs.Fault (faults.Unknown place key))) h = let (bytes, whole, is) = h.0 in told v (Err (faults.Unknown place key)) 3 bytes whole.0 whole.1 is.line is.gives (inl refl)
+  service_has v services.Stranger h = let (s, read, rest) = h in let (bytes, whole, is) = read in told v (Ok s) 3 bytes whole.0 whole.1 is.line is.gives (inl (inl (rest.0, refl)))
   service_has v (services.Ran end) h =
       let (s, read, rest) = h in
       let (bytes, whole, is) = read in
-      told v (Ok s) (number_of (status_of_run end)) bytes whole.0 whole.1 is (run_has s v end rest.0 rest.1)
+      told v (Ok s) (number_of (status_of_run end)) bytes whole.0 whole.1 is.line is.gives (run_has s v end rest.0 rest.1)
 
-  pub served : (stage : OnStage) (link : OnLink) (clock : OnClock) (asked : Option Request) (v : Service) (end : End) → asked ≡ Some (Node v)
+  pub served : (stage : OnStage) (link : OnLink) (clock : OnClock) (asked : Option Request) (v : Service) (p : Paths) (end : End) → asked ≡ Some (Node v p)
       → Happened (record { asked = asked; input = at_source gives fails ended faulty old new; output = output; stage = stage; files = at_files view d e; link = link; clock = clock; node = at_node view d e before out }) end
       → HasServiceStatus gives ended view d v old new (number_of (status_of end)) ⊎ (number_of (status_of end) ≡ 4)
-  served stage link clock asked v Helped is h = let also = h.0 in cc
-  served stage link clock asked v HelpFailed is h = let also = h.0 in cc
-  served stage link clock asked v Misused is h = let also = h.0 in cc
-  served stage link clock asked v NoMemory is h = inr refl
-  served stage link clock asked v (Replayed end) is h = let also = h.0.1 in cc
-  served stage link clock asked v (Generated end) is h = let also = h.0.1 in cc
-  served stage link clock asked v (Listed end) is h = let also = h.0 in cc
-  served stage link clock asked v (Checked end) is h = let also = h.0.1 in cc
-  served stage link clock asked v (Got end) is h = let also = h.0.1 in cc
-  served stage link clock asked v (Served end) is h =
-      let (w, also, at) = h.0 in
-      service_has v end (subst (λ x. HappenedAtNode (at_source gives fails ended faulty old new) (at_files view d e) (at_node view d e before out) output x end) (same_service asked v w is also) at)
+  served stage link clock asked v p Helped is h = let also = h.0 in cc
+  served stage link clock asked v p HelpFailed is h = let also = h.0 in cc
+  served stage link clock asked v p Versioned is h = let also = h.0 in cc
+  served stage link clock asked v p VersionFailed is h = let also = h.0 in cc
+  served stage link clock asked v p Misused is h = let also = h.0 in cc
+  served stage link clock asked v p NoMemory is h = inr refl
+  served stage link clock asked v p (Replayed end) is h = let also = h.0.2 in cc
+  served stage link clock asked v p (Generated end) is h = let also = h.0.1 in cc
+  served stage link clock asked v p (Listed end) is h = let also = h.0.1 in cc
+  served stage link clock asked v p (Checked end) is h = let also = h.0.2 in cc
+  served stage link clock asked v p (CheckedConfigured end) is h = let also = h.0.2 in cc
+  served stage link clock asked v p (Got end) is h = let also = h.0.1 in cc
+  served stage link clock asked v p (Served end) is h =
+      let (w, q, also, at) = h.0 in
+      service_has v end (subst (λ x. HappenedAtNode (at_source gives fails ended faulty old new) (at_files view d e) (at_node view d e before out) output x end) (same_service asked v w p q is also) at)

@@ -6,16 +6,18 @@ use Rattle.oc_config.specs.declared.fault.ConfigFault.TheVariants as faults
 use Rattle.oc_fetch.specs.declared.end.GetEnd.{GetEnd}
 use Rattle.oc_fetch.specs.declared.end.GetEnd.TheVariants as gets
 use Rattle.oc_keep.specs.declared.errors.KeepLoad.TheVariants as loads
-use Rattle.oc_commands.specs.Ends.{status_of, status_of_check, status_of_gen, status_of_get, status_of_replay, status_of_rules, status_of_service, status_of_turns}
+use Rattle.oc_commands.specs.Ends.{status_of, status_of_check, status_of_configured, status_of_gen, status_of_get, status_of_replay, status_of_rules, status_of_service, status_of_turns}
 use Rattle.oc_commands.specs.Outside.{Outside}
 use Rattle.oc_commands.specs.Run.{Happened}
 use Rattle.oc_words.specs.Status.{number_of}
 use Rattle.oc_commands.specs.declared.ending.End.{End}
-use Rattle.oc_commands.specs.declared.ending.End.TheVariants.{Helped, HelpFailed, Misused, NoMemory, Replayed, Generated, Listed, Checked, Got, Served}
+use Rattle.oc_commands.specs.declared.ending.End.TheVariants.{Helped, HelpFailed, Versioned, VersionFailed, Misused, NoMemory, Replayed, Generated, Listed, Checked, CheckedConfigured, Got, Served}
 use Rattle.oc_commands.specs.declared.generating.GenEnd.{GenEnd}
 use Rattle.oc_commands.specs.declared.generating.GenEnd.TheVariants as gens
 use Rattle.oc_commands.specs.declared.checking.CheckEnd.{CheckEnd}
 use Rattle.oc_commands.specs.declared.checking.CheckEnd.TheVariants as checks
+use Rattle.oc_commands.specs.declared.checking.ConfiguredEnd.{ConfiguredEnd}
+use Rattle.oc_commands.specs.declared.checking.ConfiguredEnd.TheVariants as configured
 use Rattle.oc_commands.specs.declared.configuring.ConfigEnd.TheVariants as configs
 use Rattle.oc_commands.specs.declared.listing.RulesEnd.{RulesEnd}
 use Rattle.oc_commands.specs.declared.listing.RulesEnd.TheVariants as lists
@@ -45,11 +47,12 @@ rules_are_other : (end : RulesEnd) → number_of (status_of_rules end) ≡ 2 →
 rules_are_other lists.Done is = absurd (omega (arith, is))
 rules_are_other (lists.Config configs.Source) is = absurd (omega (arith, is))
 rules_are_other (lists.Config configs.Long) is = absurd (omega (arith, is))
-rules_are_other (lists.Config (configs.Fault faults.Toml)) is = absurd (omega (arith, is))
-rules_are_other (lists.Config (configs.Fault (faults.Missing key))) is = absurd (omega (arith, is))
-rules_are_other (lists.Config (configs.Fault (faults.Value key))) is = absurd (omega (arith, is))
-rules_are_other (lists.Config (configs.Fault (faults.Repeat id))) is = absurd (omega (arith, is))
+rules_are_other (lists.Config (configs.Fault (faults.Toml line))) is = absurd (omega (arith, is))
+rules_are_other (lists.Config (configs.Fault (faults.Missing place key))) is = absurd (omega (arith, is))
+rules_are_other (lists.Config (configs.Fault (faults.Value place key))) is = absurd (omega (arith, is))
+rules_are_other (lists.Config (configs.Fault (faults.Repeat place id))) is = absurd (omega (arith, is))
 rules_are_other (lists.Config (configs.Fault (faults.Measure number why))) is = absurd (omega (arith, is))
+rules_are_other (lists.Config (configs.Fault (faults.Unknown place key))) is = absurd (omega (arith, is))
 rules_are_other (lists.Config (configs.Fault faults.Memory)) is = absurd (omega (arith, is))
 rules_are_other lists.Sink is = absurd (omega (arith, is))
 rules_are_other lists.Memory is = absurd (omega (arith, is))
@@ -62,6 +65,11 @@ check_is_other (checks.Load (loads.NotJournal which)) is = absurd (omega (arith,
 check_is_other (checks.Load (loads.BadFrame which number)) is = absurd (omega (arith, is))
 check_is_other (checks.Load loads.Memory) is = absurd (omega (arith, is))
 check_is_other checks.Sink is = absurd (omega (arith, is))
+
+configured_is_other : (end : ConfiguredEnd) → number_of (status_of_configured end) ≡ 2 → ⊥
+configured_is_other (configured.Config end) is = rules_are_other (lists.Config end) is
+configured_is_other configured.Stranger is = absurd (omega (arith, is))
+configured_is_other (configured.Checked end) is = check_is_other end is
 
 -- and `get`
 get_is_other : (end : GetEnd) → number_of (status_of_get end) ≡ 2 → ⊥
@@ -95,11 +103,14 @@ module _ (o : Outside) where
   pub only_misused : (end : End) → number_of (status_of end) ≡ 2 → Happened o end → o.asked ≡ None
   only_misused Helped is h = absurd (omega (arith, is))
   only_misused HelpFailed is h = absurd (omega (arith, is))
+  only_misused Versioned is h = absurd (omega (arith, is))
+  only_misused VersionFailed is h = absurd (omega (arith, is))
   only_misused Misused is h = h.0
   only_misused NoMemory is h = absurd (omega (arith, is))
   only_misused (Replayed end) is h = absurd (replay_is_other end is)
   only_misused (Generated end) is h = absurd (gen_is_other end is)
   only_misused (Listed end) is h = absurd (rules_are_other end is)
   only_misused (Checked end) is h = absurd (check_is_other end is)
+  only_misused (CheckedConfigured end) is h = absurd (configured_is_other end is)
   only_misused (Got end) is h = absurd (get_is_other end is)
   only_misused (Served end) is h = absurd (service_is_other end is)

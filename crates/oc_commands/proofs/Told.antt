@@ -10,25 +10,29 @@ use Rattle.oc_schedule.specs.Script.{Script}
 use Rattle.oc_schedule.specs.declared.fault.ScheduleFault.{ScheduleFault}
 use Rattle.oc_schedule.specs.declared.fault.What.{What}
 use Rattle.oc_words.specs.declared.request.Download.{Download}
-use Rattle.oc_words.specs.declared.request.Member.{Member}
+use Rattle.oc_check.specs.declared.network.Network.{Network}
 use Rattle.oc_words.specs.declared.request.Request.{Request}
 use Rattle.oc_words.specs.declared.request.Sample.{Sample}
 use Rattle.oc_words.specs.declared.request.Service.{Service}
-use Rattle.oc_commands.specs.AtCheck.{HappenedAtCheck}
+use Rattle.oc_commands.specs.AtCheck.{HappenedAtCheck, network_in, network_of}
 use Rattle.oc_commands.specs.AtConfig.{ReadsConfig}
+use Rattle.oc_commands.specs.AtConfigured.{HappenedAtConfigured}
 use Rattle.oc_commands.specs.AtGen.{HappenedAtGen}
 use Rattle.oc_commands.specs.AtGet.{HappenedAtGet, Wrote}
 use Rattle.oc_commands.specs.AtNode.{HappenedAtNode, RunsNode}
 use Rattle.oc_commands.specs.AtReplay.{HappenedAtReplay}
 use Rattle.oc_commands.specs.AtRules.{HappenedAtRules}
+use Rattle.oc_commands.specs.Lines.{version_line}
 use Rattle.oc_commands.specs.Outside.{Input, Output, OnClock, OnFiles, OnLink, OnNode, OnStage, Outside}
 use Rattle.oc_commands.specs.Run.{Happened, IsAlone, IsUnplayed}
 use Rattle.oc_commands.specs.declared.checking.CheckEnd.{CheckEnd}
 use Rattle.oc_commands.specs.declared.checking.CheckEnd.TheVariants as checks
+use Rattle.oc_commands.specs.declared.checking.ConfiguredEnd.{ConfiguredEnd}
+use Rattle.oc_commands.specs.declared.checking.ConfiguredEnd.TheVariants as configured
 use Rattle.oc_commands.specs.declared.configuring.ConfigEnd.{ConfigEnd}
 use Rattle.oc_commands.specs.declared.configuring.ConfigEnd.TheVariants as configs
 use Rattle.oc_commands.specs.declared.ending.End.{End}
-use Rattle.oc_commands.specs.declared.ending.End.TheVariants.{Helped, HelpFailed, Misused, NoMemory, Replayed, Generated, Listed, Checked, Got, Served}
+use Rattle.oc_commands.specs.declared.ending.End.TheVariants.{Helped, HelpFailed, Versioned, VersionFailed, Misused, NoMemory, Replayed, Generated, Listed, Checked, CheckedConfigured, Got, Served}
 use Rattle.oc_commands.specs.declared.generating.GenEnd.{GenEnd}
 use Rattle.oc_commands.specs.declared.generating.GenEnd.TheVariants as gens
 use Rattle.oc_commands.specs.declared.listing.RulesEnd.{RulesEnd}
@@ -77,11 +81,12 @@ module _ (i j : Input) (o p : Output) (stage : OnStage) (input : TellsInput i j)
   config_told (Err configs.Source) h = input.failed h
   config_told (Err configs.Long) h = input.long h
   config_told (Err (configs.Fault faults.Memory)) h = input.came h
-  config_told (Err (configs.Fault faults.Toml)) h = (h.0, input.whole _ h.1, h.2)
-  config_told (Err (configs.Fault (faults.Missing key))) h = (h.0, input.whole _ h.1, h.2)
-  config_told (Err (configs.Fault (faults.Value key))) h = (h.0, input.whole _ h.1, h.2)
-  config_told (Err (configs.Fault (faults.Repeat id))) h = (h.0, input.whole _ h.1, h.2)
+  config_told (Err (configs.Fault (faults.Toml line))) h = (h.0, input.whole _ h.1, h.2)
+  config_told (Err (configs.Fault (faults.Missing place key))) h = (h.0, input.whole _ h.1, h.2)
+  config_told (Err (configs.Fault (faults.Value place key))) h = (h.0, input.whole _ h.1, h.2)
+  config_told (Err (configs.Fault (faults.Repeat place id))) h = (h.0, input.whole _ h.1, h.2)
   config_told (Err (configs.Fault (faults.Measure number why))) h = (h.0, input.whole _ h.1, h.2)
+  config_told (Err (configs.Fault (faults.Unknown place key))) h = (h.0, input.whole _ h.1, h.2)
 
   -- at the end of `rules`
   rules_told : (end : RulesEnd) → HappenedAtRules i o end → HappenedAtRules j p end
@@ -91,10 +96,16 @@ module _ (i j : Input) (o p : Output) (stage : OnStage) (input : TellsInput i j)
   rules_told (lists.Config end) h = (config_told (Err end) h.0, output.written _ h.1)
 
   -- at the end of `check`
-  check_told : (files : OnFiles) (member : Member) (end : CheckEnd) → HappenedAtCheck files o member end → HappenedAtCheck files p member end
-  check_told files member checks.Done h = let (shown, safely) = h in ((shown.0, shown.1, output.written _ shown.2), safely)
-  check_told files member checks.Sink h = let (shown, safely) = h in let (text, shows, cut) = shown in ((text, shows, (cut.0, output.cut_off (take cut.0 text) cut.1)), safely)
-  check_told files member (checks.Load error) h = let (refused, safely) = h in ((refused.0, output.written _ refused.1), safely)
+  check_told : (files : OnFiles) (n : Network) (id : ℕ) (end : CheckEnd) → HappenedAtCheck files o n id end → HappenedAtCheck files p n id end
+  check_told files n id checks.Done h = let (shown, safely) = h in ((shown.0, shown.1, output.written _ shown.2), safely)
+  check_told files n id checks.Sink h = let (shown, safely) = h in let (text, shows, cut) = shown in ((text, shows, (cut.0, output.cut_off (take cut.0 text) cut.1)), safely)
+  check_told files n id (checks.Load error) h = let (refused, safely) = h in ((refused.0, output.written _ refused.1), safely)
+
+  -- and so of a node of a configuration
+  configured_told : (files : OnFiles) (id : ℕ) (end : ConfiguredEnd) → HappenedAtConfigured i files o id end → HappenedAtConfigured j files p id end
+  configured_told files id (configured.Config end) h = (config_told (Err end) h.0, output.written _ h.1)
+  configured_told files id configured.Stranger h = let (settings, read, rest) = h in (settings, config_told (Ok settings) read, (rest.0, output.written _ rest.1))
+  configured_told files id (configured.Checked end) h = let (settings, read, rest) = h in (settings, config_told (Ok settings) read, (rest.0, check_told files (network_in settings) id end rest.1))
 
   -- at the end of `get`
   wrote_told : (bytes : List ℕ) (end : GetEnd) → Wrote o bytes end → Wrote p bytes end
@@ -152,11 +163,14 @@ module _ (i j : Input) (o p : Output) (stage : OnStage) (input : TellsInput i j)
     pub happened_told : (end : End) → Happened before end → Happened after end
     happened_told Helped h = let (a, (text, some, written), u, n) = h in (a, (text, some, output.written _ written), unplayed_told u, alone_told n)
     happened_told HelpFailed h = let (a, (text, cut), u, n) = h in (a, (text, output.cut_off _ cut), unplayed_told u, alone_told n)
+    happened_told Versioned h = let (a, written, u, n) = h in (a, output.written _ written, unplayed_told u, alone_told n)
+    happened_told VersionFailed h = let (a, cut, u, n) = h in (a, (cut.0, output.cut_off (take cut.0 version_line) cut.1), unplayed_told u, alone_told n)
     happened_told Misused h = let (a, written, u, n) = h in (a, output.written _ written, unplayed_told u, alone_told n)
     happened_told NoMemory h = let (written, u, n) = h in (output.written _ written, unplayed_told u, alone_told n)
-    happened_told (Replayed end) h = let ((summary, a, at), n) = h in ((summary, a, replay_told summary end at), alone_told n)
+    happened_told (Replayed end) h = let ((summary, file, a, at), n) = h in ((summary, file, a, replay_told summary end at), alone_told n)
     happened_told (Generated end) h = let ((sample, a, at), u, n) = h in ((sample, a, gen_told sample end at), unplayed_told u, alone_told n)
     happened_told (Listed end) h = let (a, at, unplayed, n) = h in (a, rules_told end at, unplayed, alone_told n)
-    happened_told (Checked end) h = let ((member, a, at), u, n) = h in ((member, a, check_told files member end at), unplayed_told u, record { link = n.link; clock = n.clock })
+    happened_told (Checked end) h = let ((member, folder, a, at), u, n) = h in ((member, folder, a, check_told files (network_of member) member.id end at), unplayed_told u, record { link = n.link; clock = n.clock })
+    happened_told (CheckedConfigured end) h = let ((id, paths, a, at), unplayed, n, f) = h in ((id, paths, a, configured_told files id end at), unplayed, record { link = n.link; clock = n.clock }, f)
     happened_told (Got end) h = let ((download, a, at), u, n) = h in ((download, a, get_told link download end at), unplayed_told u, record { files = n.files; clock = n.clock })
-    happened_told (Served end) h = let ((service, a, at), unplayed, f, l, c) = h in ((service, a, node_told files node service end at), unplayed, f, l, c)
+    happened_told (Served end) h = let ((service, paths, a, at), unplayed, f, l, c) = h in ((service, paths, a, node_told files node service end at), unplayed, f, l, c)

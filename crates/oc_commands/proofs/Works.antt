@@ -1,4 +1,4 @@
--- What had happened leaves no other end to `--help`, to `replay` and to `rules` than their work, or want of memory.
+-- What had happened leaves no other end to `--help`, to `--version`, to `gen`, to `replay` and to `rules` than their work, or want of memory.
 use Rattle.std.proofs.Common.{◌≡◌, ℕ, ◌≤◌, ◌<◌, ◌⊎◌, Bool, true, false, cond, List, length, Option, Some, None, Err, inl, inr, refl, sym, ap, arith}
 use Rattle.std.specs.Prelude.{nat_lt}
 use Rattle.std.specs.Str.Lines.{lines}
@@ -12,19 +12,24 @@ use Rattle.oc_schedule.specs.Schedule.{read_lines, schedule_of}
 use Rattle.oc_schedule.specs.declared.fault.ScheduleFault.TheVariants as faults
 use Rattle.oc_schedule.specs.declared.fault.What.TheVariants as limits
 use Rattle.oc_words.specs.declared.request.Request.{Request}
-use Rattle.oc_words.specs.declared.request.Request.TheVariants.{Help, Replay, Rules}
+use Rattle.oc_words.specs.declared.request.Request.TheVariants.{Help, Version, Gen, Replay, Rules}
+use Rattle.oc_words.specs.declared.request.Sample.{Sample}
+use Rattle.oc_commands.specs.AtGen.{HappenedAtGen}
 use Rattle.oc_commands.specs.AtReplay.{HappenedAtReplay, HasStatus, status_for}
-use Rattle.oc_commands.specs.AtRules.{HappenedAtRules, HasConfigStatus, status_of_settings}
+use Rattle.oc_commands.specs.AtRules.{HappenedAtRules, HasConfigStatus}
 use Rattle.oc_commands.specs.Complete.{IsDoneOrMemory}
-use Rattle.oc_commands.specs.Ends.{status_of, status_of_replay, status_of_rules}
+use Rattle.oc_commands.specs.Ends.{status_of, status_of_gen, status_of_replay, status_of_rules}
 use Rattle.oc_commands.specs.Outside.{OnClock, OnFiles, OnLink, OnNode, OnStage, Outside, Output, at_source}
 use Rattle.oc_commands.specs.Run.{Happened}
 use Rattle.oc_words.specs.Status.{number_of}
 use Rattle.oc_commands.specs.declared.configuring.ConfigEnd.TheVariants as configs
 use Rattle.oc_commands.specs.declared.ending.End.{End}
-use Rattle.oc_commands.specs.declared.ending.End.TheVariants.{Helped, HelpFailed, Misused, NoMemory, Replayed, Generated, Listed, Checked, Got, Served}
+use Rattle.oc_commands.specs.declared.ending.End.TheVariants.{Helped, HelpFailed, Versioned, VersionFailed, Misused, NoMemory, Replayed, Generated, Listed, Checked, CheckedConfigured, Got, Served}
+use Rattle.oc_commands.specs.declared.generating.GenEnd.{GenEnd}
+use Rattle.oc_commands.specs.declared.generating.GenEnd.TheVariants as gens
 use Rattle.oc_commands.specs.declared.listing.RulesEnd.{RulesEnd}
 use Rattle.oc_commands.specs.declared.listing.RulesEnd.TheVariants as lists
+use Rattle.oc_commands.proofs.AnyLine.{status_read}
 use Rattle.oc_commands.proofs.Completes.{IsSound}
 
 -- a text that is too long has the status of a limit
@@ -38,14 +43,54 @@ long_status bytes long = by_test (nat_lt MAX_SCHEDULE_BYTES (length bytes)) refl
 pub helped : (o : Outside) → IsSound o.output → (end : End) → o.asked ≡ Some Help → Happened o end → IsDoneOrMemory (number_of (status_of end))
 helped o sound Helped is h = inl refl
 helped o sound HelpFailed is h = let (a, (text, cut), u, n) = h in absurd (sound text cut)
+helped o sound Versioned is h = let also = h.0 in cc
+helped o sound VersionFailed is h = let also = h.0 in cc
 helped o sound Misused is h = let also = h.0 in cc
 helped o sound NoMemory is h = inr refl
-helped o sound (Replayed end) is h = let also = h.0.1 in cc
+helped o sound (Replayed end) is h = let also = h.0.2 in cc
 helped o sound (Generated end) is h = let also = h.0.1 in cc
-helped o sound (Listed end) is h = let also = h.0 in cc
-helped o sound (Checked end) is h = let also = h.0.1 in cc
+helped o sound (Listed end) is h = let also = h.0.1 in cc
+helped o sound (Checked end) is h = let also = h.0.2 in cc
+helped o sound (CheckedConfigured end) is h = let also = h.0.2 in cc
 helped o sound (Got end) is h = let also = h.0.1 in cc
-helped o sound (Served end) is h = let also = h.0.1 in cc
+helped o sound (Served end) is h = let also = h.0.2 in cc
+
+-- and the version
+pub versioned : (o : Outside) → IsSound o.output → (end : End) → o.asked ≡ Some Version → Happened o end → IsDoneOrMemory (number_of (status_of end))
+versioned o sound Helped is h = let also = h.0 in cc
+versioned o sound HelpFailed is h = let also = h.0 in cc
+versioned o sound Versioned is h = inl refl
+versioned o sound VersionFailed is h = let (a, (n, cut), u, m) = h in absurd (sound _ cut)
+versioned o sound Misused is h = let also = h.0 in cc
+versioned o sound NoMemory is h = inr refl
+versioned o sound (Replayed end) is h = let also = h.0.2 in cc
+versioned o sound (Generated end) is h = let also = h.0.1 in cc
+versioned o sound (Listed end) is h = let also = h.0.1 in cc
+versioned o sound (Checked end) is h = let also = h.0.2 in cc
+versioned o sound (CheckedConfigured end) is h = let also = h.0.2 in cc
+versioned o sound (Got end) is h = let also = h.0.1 in cc
+versioned o sound (Served end) is h = let also = h.0.2 in cc
+
+-- and `gen`
+gen_done : (output : Output) → IsSound output → (sample : Sample) (end : GenEnd) → HappenedAtGen output sample end → IsDoneOrMemory (number_of (status_of_gen end))
+gen_done output sound sample gens.Done h = inl refl
+gen_done output sound sample gens.Sink h = absurd (sound _ h.1)
+gen_done output sound sample gens.Memory h = inr refl
+
+pub generated : (o : Outside) → IsSound o.output → (sample : Sample) (end : End) → o.asked ≡ Some (Gen sample) → Happened o end → IsDoneOrMemory (number_of (status_of end))
+generated o sound sample Helped is h = let also = h.0 in cc
+generated o sound sample HelpFailed is h = let also = h.0 in cc
+generated o sound sample Versioned is h = let also = h.0 in cc
+generated o sound sample VersionFailed is h = let also = h.0 in cc
+generated o sound sample Misused is h = let also = h.0 in cc
+generated o sound sample NoMemory is h = inr refl
+generated o sound sample (Replayed end) is h = let also = h.0.2 in cc
+generated o sound sample (Generated end) is h = gen_done o.output sound h.0.0 end h.0.2
+generated o sound sample (Listed end) is h = let also = h.0.1 in cc
+generated o sound sample (Checked end) is h = let also = h.0.2 in cc
+generated o sound sample (CheckedConfigured end) is h = let also = h.0.2 in cc
+generated o sound sample (Got end) is h = let also = h.0.1 in cc
+generated o sound sample (Served end) is h = let also = h.0.2 in cc
 
 module _ {S : Type 0} (gives fails : S → List ℕ → S → Type 0) (ended : S → Type 0) (faulty : S → ℕ) (old new : S) (output : Output) (stage : OnStage)
     (unfailed : Rose (faulty old) (faulty new) → ⊥) (sound : IsSound output) where
@@ -65,44 +110,51 @@ module _ {S : Type 0} (gives fails : S → List ℕ → S → Type 0) (ended : S
   -- and that of `rules`
   rules_have : (end : RulesEnd) → HappenedAtRules (at_source gives fails ended faulty old new) output end
       → HasConfigStatus gives ended old new (number_of (status_of_rules end)) ⊎ (number_of (status_of_rules end) ≡ 4)
-  rules_have lists.Done h = let (settings, read, wrote) = h in let (bytes, whole, is) = read in inl (record { bytes = bytes; came = whole.0; status_is = inl (whole.1, sym (ap status_of_settings is)) })
+  rules_have lists.Done h = let (settings, read, wrote) = h in let (bytes, whole, is) = read in inl (record { bytes = bytes; came = whole.0; status_is = inl (whole.1, sym (status_read is.line bytes _ is.gives)) })
   rules_have lists.Sink h = let (settings, read, wrote) = h in let (text, listing, cut) = wrote in absurd (sound _ cut.1)
   rules_have lists.Memory h = inr refl
   rules_have (lists.Config configs.Source) h = absurd (unfailed h.0.1)
   rules_have (lists.Config configs.Long) h = let (bytes, came, long) = h.0 in inl (record { bytes = bytes; came = came; status_is = inr (long, refl) })
   rules_have (lists.Config (configs.Fault config_faults.Memory)) h = inr refl
-  rules_have (lists.Config (configs.Fault config_faults.Toml)) h = let (bytes, whole, is) = h.0 in inl (record { bytes = bytes; came = whole.0; status_is = inl (whole.1, sym (ap status_of_settings is)) })
-  rules_have (lists.Config (configs.Fault (config_faults.Missing key))) h = let (bytes, whole, is) = h.0 in inl (record { bytes = bytes; came = whole.0; status_is = inl (whole.1, sym (ap status_of_settings is)) })
-  rules_have (lists.Config (configs.Fault (config_faults.Value key))) h = let (bytes, whole, is) = h.0 in inl (record { bytes = bytes; came = whole.0; status_is = inl (whole.1, sym (ap status_of_settings is)) })
-  rules_have (lists.Config (configs.Fault (config_faults.Repeat id))) h = let (bytes, whole, is) = h.0 in inl (record { bytes = bytes; came = whole.0; status_is = inl (whole.1, sym (ap status_of_settings is)) })
-  rules_have (lists.Config (configs.Fault (config_faults.Measure line why))) h = let (bytes, whole, is) = h.0 in inl (record { bytes = bytes; came = whole.0; status_is = inl (whole.1, sym (ap status_of_settings is)) })
+  rules_have (lists.Config (configs.Fault (config_faults.Toml line))) h = let (bytes, whole, is) = h.0 in inl (record { bytes = bytes; came = whole.0; status_is = inl (whole.1, sym (status_read is.line bytes _ is.gives)) })
+  rules_have (lists.Config (configs.Fault (config_faults.Missing place key))) h = let (bytes, whole, is) = h.0 in inl (record { bytes = bytes; came = whole.0; status_is = inl (whole.1, sym (status_read is.line bytes _ is.gives)) })
+  rules_have (lists.Config (configs.Fault (config_faults.Value place key))) h = let (bytes, whole, is) = h.0 in inl (record { bytes = bytes; came = whole.0; status_is = inl (whole.1, sym (status_read is.line bytes _ is.gives)) })
+  rules_have (lists.Config (configs.Fault (config_faults.Repeat place id))) h = let (bytes, whole, is) = h.0 in inl (record { bytes = bytes; came = whole.0; status_is = inl (whole.1, sym (status_read is.line bytes _ is.gives)) })
+  rules_have (lists.Config (configs.Fault (config_faults.Measure number why))) h = let (bytes, whole, is) = h.0 in inl (record { bytes = bytes; came = whole.0; status_is = inl (whole.1, sym (status_read is.line bytes _ is.gives)) })
+  rules_have (lists.Config (configs.Fault (config_faults.Unknown place key))) h = let (bytes, whole, is) = h.0 in inl (record { bytes = bytes; came = whole.0; status_is = inl (whole.1, sym (status_read is.line bytes _ is.gives)) })
 
   module _ (asked : Option Request) (files : OnFiles) (link : OnLink) (clock : OnClock) (node : OnNode) where
     abbrev outside : Outside
     outside = record { asked = asked; input = at_source gives fails ended faulty old new; output = output; stage = stage; files = files; link = link; clock = clock; node = node }
 
-    pub replayed : (summary : Bool) (end : End) → asked ≡ Some (Replay summary) → Happened outside end
+    pub replayed : (summary : Bool) (file : Option (List ℕ)) (end : End) → asked ≡ Some (Replay summary file) → Happened outside end
         → HasStatus gives ended old new (number_of (status_of end)) ⊎ (number_of (status_of end) ≡ 4)
-    replayed summary Helped is h = let also = h.0 in cc
-    replayed summary HelpFailed is h = let also = h.0 in cc
-    replayed summary Misused is h = let also = h.0 in cc
-    replayed summary NoMemory is h = inr refl
-    replayed summary (Replayed end) is h = replay_has h.0.0 end h.0.2
-    replayed summary (Generated end) is h = let also = h.0.1 in cc
-    replayed summary (Listed end) is h = let also = h.0 in cc
-    replayed summary (Checked end) is h = let also = h.0.1 in cc
-    replayed summary (Got end) is h = let also = h.0.1 in cc
-    replayed summary (Served end) is h = let also = h.0.1 in cc
+    replayed summary file Helped is h = let also = h.0 in cc
+    replayed summary file HelpFailed is h = let also = h.0 in cc
+    replayed summary file Versioned is h = let also = h.0 in cc
+    replayed summary file VersionFailed is h = let also = h.0 in cc
+    replayed summary file Misused is h = let also = h.0 in cc
+    replayed summary file NoMemory is h = inr refl
+    replayed summary file (Replayed end) is h = replay_has h.0.0 end h.0.3
+    replayed summary file (Generated end) is h = let also = h.0.1 in cc
+    replayed summary file (Listed end) is h = let also = h.0.1 in cc
+    replayed summary file (Checked end) is h = let also = h.0.2 in cc
+    replayed summary file (CheckedConfigured end) is h = let also = h.0.2 in cc
+    replayed summary file (Got end) is h = let also = h.0.1 in cc
+    replayed summary file (Served end) is h = let also = h.0.2 in cc
 
-    pub listed : (end : End) → asked ≡ Some Rules → Happened outside end
+    pub listed : (file : Option (List ℕ)) (end : End) → asked ≡ Some (Rules file) → Happened outside end
         → HasConfigStatus gives ended old new (number_of (status_of end)) ⊎ (number_of (status_of end) ≡ 4)
-    listed Helped is h = let also = h.0 in cc
-    listed HelpFailed is h = let also = h.0 in cc
-    listed Misused is h = let also = h.0 in cc
-    listed NoMemory is h = inr refl
-    listed (Replayed end) is h = let also = h.0.1 in cc
-    listed (Generated end) is h = let also = h.0.1 in cc
-    listed (Listed end) is h = rules_have end h.1
-    listed (Checked end) is h = let also = h.0.1 in cc
-    listed (Got end) is h = let also = h.0.1 in cc
-    listed (Served end) is h = let also = h.0.1 in cc
+    listed file Helped is h = let also = h.0 in cc
+    listed file HelpFailed is h = let also = h.0 in cc
+    listed file Versioned is h = let also = h.0 in cc
+    listed file VersionFailed is h = let also = h.0 in cc
+    listed file Misused is h = let also = h.0 in cc
+    listed file NoMemory is h = inr refl
+    listed file (Replayed end) is h = let also = h.0.2 in cc
+    listed file (Generated end) is h = let also = h.0.1 in cc
+    listed file (Listed end) is h = rules_have end h.1
+    listed file (Checked end) is h = let also = h.0.2 in cc
+    listed file (CheckedConfigured end) is h = let also = h.0.2 in cc
+    listed file (Got end) is h = let also = h.0.1 in cc
+    listed file (Served end) is h = let also = h.0.2 in cc

@@ -1,6 +1,6 @@
 -- The result of reading the input as a configuration.
-use Rattle.std.specs.Prelude.{◌≡◌, ℕ, Result, Ok, Err, List}
-use Rattle.oc_config.specs.Reading.{settings_of}
+use Rattle.std.specs.Prelude.{ℕ, Result, Ok, Err, List}
+use Rattle.oc_config.specs.Reading.{Reads}
 use Rattle.oc_config.specs.Settings.{Settings}
 use Rattle.oc_config.specs.declared.fault.ConfigFault.TheVariants as faults
 use Rattle.oc_commands.specs.Outside.{Input}
@@ -9,9 +9,8 @@ use Rattle.oc_commands.specs.declared.configuring.ConfigEnd.TheVariants.{Source,
 
 -- these bytes say these settings, or have this first fault
 abbrev pub GivesConfig : Result Settings ConfigEnd → List ℕ → Type 0
-GivesConfig (Ok settings) bytes = settings_of bytes ≡ Ok settings
-GivesConfig (Err (Fault faults.Memory)) bytes = Unit {0}
-GivesConfig (Err (Fault fault)) bytes = settings_of bytes ≡ Err fault
+GivesConfig (Ok settings) bytes = Reads bytes (Ok settings)
+GivesConfig (Err (Fault fault)) bytes = Reads bytes (Err fault)
 GivesConfig (Err Source) bytes = ⊥
 GivesConfig (Err Long) bytes = ⊥
 

@@ -76,7 +76,7 @@ abbrev pub IsStatusOver : {D : Type 0} → (D → DiskView) → Disks D → Sett
 IsStatusOver view d s v status =
     ((HasNode s v → ⊥) × (status ≡ 3)) ⊎ (HasNode s v × (HoldFiles view (length s.addresses) d → (status ≡ 0) ⊎ (status ≡ 5)))
 
--- the status of what a text says
+-- the status of what a text says; which line `toml` tells makes no difference
 abbrev pub IsStatusOf : {D : Type 0} → (D → DiskView) → Disks D → Service → Result Settings ConfigFault → ℕ → Type 0
 IsStatusOf view d v (Ok s) status = IsStatusOver view d s v status
 IsStatusOf view d v (Err fault) status = status ≡ status_of_settings (Err fault)
@@ -85,4 +85,4 @@ IsStatusOf view d v (Err fault) status = status ≡ status_of_settings (Err faul
 pub record HasServiceStatus {S D : Type 0} (gives : S → List ℕ → S → Type 0) (ended : S → Type 0) (view : D → DiskView) (d : Disks D) (v : Service) (old new : S) (status : ℕ) : Type 0 where
   pub bytes : List ℕ
   pub came : gives old bytes new
-  pub status_is : (ended new × IsStatusOf view d v (settings_of bytes) status) ⊎ ((MAX_SCHEDULE_BYTES < length bytes) × (status ≡ 5))
+  pub status_is : (ended new × IsStatusOf view d v (settings_of 1 bytes) status) ⊎ ((MAX_SCHEDULE_BYTES < length bytes) × (status ≡ 5))

@@ -31,8 +31,12 @@ status_of_settings (Ok settings) = 0
 status_of_settings (Err faults.Memory) = 4
 status_of_settings (Err fault) = 3
 
+-- and of these bytes; which line `toml` tells of a text that it refuses makes no difference
+abbrev pub status_of_text : List ℕ → ℕ
+status_of_text bytes = status_of_settings (settings_of 1 bytes)
+
 -- these bytes came, which are all that the input had; or more came than a configuration may have
 pub record HasConfigStatus {S : Type 0} (gives : S → List ℕ → S → Type 0) (ended : S → Type 0) (old new : S) (status : ℕ) : Type 0 where
   pub bytes : List ℕ
   pub came : gives old bytes new
-  pub status_is : (ended new × (status ≡ status_of_settings (settings_of bytes))) ⊎ ((MAX_SCHEDULE_BYTES < length bytes) × (status ≡ 5))
+  pub status_is : (ended new × (status ≡ status_of_text bytes)) ⊎ ((MAX_SCHEDULE_BYTES < length bytes) × (status ≡ 5))

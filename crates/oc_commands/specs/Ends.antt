@@ -13,10 +13,12 @@ use Rattle.oc_turn.specs.declared.ends.TurnEnd.{TurnEnd}
 use Rattle.oc_turn.specs.declared.ends.TurnEnd.TheVariants as turns
 use Rattle.oc_commands.specs.declared.checking.CheckEnd.{CheckEnd}
 use Rattle.oc_commands.specs.declared.checking.CheckEnd.TheVariants as checks
+use Rattle.oc_commands.specs.declared.checking.ConfiguredEnd.{ConfiguredEnd}
+use Rattle.oc_commands.specs.declared.checking.ConfiguredEnd.TheVariants as configured
 use Rattle.oc_commands.specs.declared.configuring.ConfigEnd.{ConfigEnd}
 use Rattle.oc_commands.specs.declared.configuring.ConfigEnd.TheVariants as configs
 use Rattle.oc_commands.specs.declared.ending.End.{End}
-use Rattle.oc_commands.specs.declared.ending.End.TheVariants.{Helped, HelpFailed, Misused, NoMemory, Replayed, Generated, Listed, Checked, Got, Served}
+use Rattle.oc_commands.specs.declared.ending.End.TheVariants.{Helped, HelpFailed, Versioned, VersionFailed, Misused, NoMemory, Replayed, Generated, Listed, Checked, CheckedConfigured, Got, Served}
 use Rattle.oc_commands.specs.declared.generating.GenEnd.{GenEnd}
 use Rattle.oc_commands.specs.declared.generating.GenEnd.TheVariants as gens
 use Rattle.oc_commands.specs.declared.listing.RulesEnd.{RulesEnd}
@@ -65,6 +67,11 @@ status_of_check checks.Done = statuses.Done
 status_of_check (checks.Load error) = status_of_load error
 status_of_check checks.Sink = statuses.Failed
 
+abbrev pub status_of_configured : ConfiguredEnd → Status
+status_of_configured (configured.Config end) = status_of_config end
+status_of_configured configured.Stranger = statuses.BadText
+status_of_configured (configured.Checked end) = status_of_check end
+
 abbrev pub status_of_get : GetEnd → Status
 status_of_get gets.Done = statuses.Done
 status_of_get gets.BadUrl = statuses.NotGot
@@ -97,11 +104,14 @@ status_of_service (services.Ran end) = status_of_run end
 abbrev pub status_of : End → Status
 status_of Helped = statuses.Done
 status_of HelpFailed = statuses.Failed
+status_of Versioned = statuses.Done
+status_of VersionFailed = statuses.Failed
 status_of Misused = statuses.Usage
 status_of NoMemory = statuses.Memory
 status_of (Replayed end) = status_of_replay end
 status_of (Generated end) = status_of_gen end
 status_of (Listed end) = status_of_rules end
 status_of (Checked end) = status_of_check end
+status_of (CheckedConfigured end) = status_of_configured end
 status_of (Got end) = status_of_get end
 status_of (Served end) = status_of_service end

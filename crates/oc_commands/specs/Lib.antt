@@ -6,6 +6,7 @@ pub mod AtGen
 pub mod AtConfig
 pub mod AtRules
 pub mod AtCheck
+pub mod AtConfigured
 pub mod AtGet
 pub mod AtNode
 pub mod Complete

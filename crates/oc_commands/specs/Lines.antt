@@ -1,8 +1,10 @@
 -- The line on the error output that reports each end.
-use Rattle.std.specs.Prelude.{ℕ, List, [], ◌++◌, codes, decimal}
+use Rattle.std.specs.Prelude.{ℕ, Option, Some, None, List, [], ◌++◌, codes, decimal}
 use Rattle.oc_base.specs.Why.{why_text}
 use Rattle.oc_config.specs.Keys.{key_text}
 use Rattle.oc_config.specs.declared.key.Key.TheVariants.{Id}
+use Rattle.oc_config.specs.declared.place.Place.{Place}
+use Rattle.oc_config.specs.declared.place.Place.TheVariants as places
 use Rattle.oc_config.specs.declared.fault.ConfigFault.{ConfigFault}
 use Rattle.oc_config.specs.declared.fault.ConfigFault.TheVariants as faults
 use Rattle.oc_fetch.specs.declared.end.GetEnd.{GetEnd}
@@ -20,12 +22,15 @@ use Rattle.oc_service.specs.declared.starting.NodeEnd.{NodeEnd}
 use Rattle.oc_service.specs.declared.starting.NodeEnd.TheVariants as nodes
 use Rattle.oc_turn.specs.declared.ends.TurnEnd.{TurnEnd}
 use Rattle.oc_turn.specs.declared.ends.TurnEnd.TheVariants as turns
+use Rattle.oc_words.specs.declared.command.TheConstants.{VERSION}
 use Rattle.oc_commands.specs.declared.checking.CheckEnd.{CheckEnd}
 use Rattle.oc_commands.specs.declared.checking.CheckEnd.TheVariants as checks
+use Rattle.oc_commands.specs.declared.checking.ConfiguredEnd.{ConfiguredEnd}
+use Rattle.oc_commands.specs.declared.checking.ConfiguredEnd.TheVariants as configured
 use Rattle.oc_commands.specs.declared.configuring.ConfigEnd.{ConfigEnd}
 use Rattle.oc_commands.specs.declared.configuring.ConfigEnd.TheVariants as configs
 use Rattle.oc_commands.specs.declared.ending.End.{End}
-use Rattle.oc_commands.specs.declared.ending.End.TheVariants.{Helped, HelpFailed, Misused, NoMemory, Replayed, Generated, Listed, Checked, Got, Served}
+use Rattle.oc_commands.specs.declared.ending.End.TheVariants.{Helped, HelpFailed, Versioned, VersionFailed, Misused, NoMemory, Replayed, Generated, Listed, Checked, CheckedConfigured, Got, Served}
 use Rattle.oc_commands.specs.declared.generating.GenEnd.{GenEnd}
 use Rattle.oc_commands.specs.declared.generating.GenEnd.TheVariants as gens
 use Rattle.oc_commands.specs.declared.lines.ErrorLine.{ErrorLine}
@@ -34,21 +39,29 @@ use Rattle.oc_commands.specs.declared.listing.RulesEnd.TheVariants as lists
 use Rattle.oc_commands.specs.declared.serving.ServiceEnd.{ServiceEnd}
 use Rattle.oc_commands.specs.declared.serving.ServiceEnd.TheVariants as services
 
+-- the answer to `--version`
+abbrev pub version_line : List ℕ
+version_line = codes "overcast " ++ (VERSION.now ++ (codes "\n" ++ []))
+
 -- the text of a line in parts
 abbrev pub text_of : ErrorLine → List ℕ
-text_of l = l.first.now ++ (l.second.now ++ (l.third.now ++ (l.fourth.now ++ (l.end.now ++ []))))
+text_of l = l.first.now ++ (l.second.now ++ (l.third.now ++ (l.fourth.now ++ (l.fifth.now ++ (l.end.now ++ [])))))
 
 -- these parts, and the end of a line
 abbrev pub line : List ℕ → List ℕ → List ℕ → List ℕ → List ℕ
 line first second third fourth = first ++ (second ++ (third ++ (fourth ++ codes "\n")))
 
+abbrev pub long_line : List ℕ → List ℕ → List ℕ → List ℕ → List ℕ → List ℕ
+long_line first second third fourth fifth = first ++ (second ++ (third ++ (fourth ++ (fifth ++ codes "\n"))))
+
 -- one part, and the end of a line
 abbrev pub short_line : List ℕ → List ℕ
 short_line text = line text [] [] []
 
--- the objects that failed
-abbrev pub input_failed : List ℕ
-input_failed = short_line (codes "overcast: input failed")
+-- the objects that failed; the input is named where it is a file
+abbrev pub input_failed : Option (List ℕ) → List ℕ
+input_failed None = short_line (codes "overcast: input failed")
+input_failed (Some file) = line (codes "overcast: input failed: ") file [] []
 
 abbrev pub output_failed : List ℕ
 output_failed = short_line (codes "overcast: output failed")
@@ -66,38 +79,45 @@ out_of_memory = short_line (codes "overcast: out of memory")
 abbrev pub limit_line : What → List ℕ
 limit_line what = line (codes "overcast: limit ") (what_text what) (codes " ") (decimal (most_of what))
 
-abbrev pub line_of_replay : ReplayEnd → List ℕ
-line_of_replay replays.Done = []
-line_of_replay (replays.Text number why) = line (codes "overcast: line ") (decimal number) (codes ": ") (why_text why)
-line_of_replay (replays.Limit what) = limit_line what
-line_of_replay replays.Source = input_failed
-line_of_replay replays.Sink = output_failed
-line_of_replay replays.Memory = out_of_memory
+abbrev pub line_of_replay : Option (List ℕ) → ReplayEnd → List ℕ
+line_of_replay file replays.Done = []
+line_of_replay file (replays.Text number why) = line (codes "overcast: line ") (decimal number) (codes ": ") (why_text why)
+line_of_replay file (replays.Limit what) = limit_line what
+line_of_replay file replays.Source = input_failed file
+line_of_replay file replays.Sink = output_failed
+line_of_replay file replays.Memory = out_of_memory
 
 abbrev pub line_of_gen : GenEnd → List ℕ
 line_of_gen gens.Done = []
 line_of_gen gens.Sink = output_failed
 line_of_gen gens.Memory = out_of_memory
 
+-- a fault of a table, and of what; a table of an array is named
+abbrev pub line_in : Place → List ℕ → List ℕ → List ℕ
+line_in places.Top fault text = line (codes "overcast: config: ") fault text []
+line_in (places.Node number) fault text = long_line (codes "overcast: config: node ") (decimal number) (codes ": ") fault text
+line_in (places.Rule number) fault text = long_line (codes "overcast: config: rule ") (decimal number) (codes ": ") fault text
+
 -- the fault of a configuration
 abbrev pub line_of_fault : ConfigFault → List ℕ
-line_of_fault faults.Toml = short_line (codes "overcast: config: toml")
-line_of_fault (faults.Missing key) = line (codes "overcast: config: missing ") (key_text key) [] []
-line_of_fault (faults.Value key) = line (codes "overcast: config: value ") (key_text key) [] []
-line_of_fault (faults.Repeat id) = line (codes "overcast: config: repeat ") (decimal id) [] []
+line_of_fault (faults.Toml number) = line (codes "overcast: config: toml line ") (decimal number) [] []
+line_of_fault (faults.Missing place key) = line_in place (codes "missing ") (key_text key)
+line_of_fault (faults.Value place key) = line_in place (codes "value ") (key_text key)
+line_of_fault (faults.Repeat place id) = line_in place (codes "repeat ") (decimal id)
 line_of_fault (faults.Measure number why) = line (codes "overcast: config: measure ") (decimal number) (codes ": ") (why_text why)
+line_of_fault (faults.Unknown place key) = line_in place (codes "unknown ") key
 line_of_fault faults.Memory = out_of_memory
 
-abbrev pub line_of_config : ConfigEnd → List ℕ
-line_of_config configs.Source = input_failed
-line_of_config configs.Long = limit_line Bytes
-line_of_config (configs.Fault fault) = line_of_fault fault
+abbrev pub line_of_config : Option (List ℕ) → ConfigEnd → List ℕ
+line_of_config file configs.Source = input_failed file
+line_of_config file configs.Long = limit_line Bytes
+line_of_config file (configs.Fault fault) = line_of_fault fault
 
-abbrev pub line_of_rules : RulesEnd → List ℕ
-line_of_rules lists.Done = []
-line_of_rules (lists.Config end) = line_of_config end
-line_of_rules lists.Sink = output_failed
-line_of_rules lists.Memory = out_of_memory
+abbrev pub line_of_rules : Option (List ℕ) → RulesEnd → List ℕ
+line_of_rules file lists.Done = []
+line_of_rules file (lists.Config end) = line_of_config file end
+line_of_rules file lists.Sink = output_failed
+line_of_rules file lists.Memory = out_of_memory
 
 -- the word of a file
 abbrev pub file_text : Which → List ℕ
@@ -117,6 +137,15 @@ line_of_check checks.Done = []
 line_of_check (checks.Load error) = line_of_load error
 line_of_check checks.Sink = output_failed
 
+-- the id is the value to blame where no node of the configuration has it
+abbrev pub stranger_line : List ℕ
+stranger_line = line (codes "overcast: config: value ") (key_text Id) [] []
+
+abbrev pub line_of_configured : Option (List ℕ) → ConfiguredEnd → List ℕ
+line_of_configured file (configured.Config end) = line_of_config file end
+line_of_configured file configured.Stranger = stranger_line
+line_of_configured file (configured.Checked end) = line_of_check end
+
 abbrev pub line_of_get : GetEnd → List ℕ
 line_of_get gets.Done = []
 line_of_get gets.BadUrl = short_line (codes "overcast: get: url")
@@ -132,7 +161,7 @@ line_of_turns turns.Served = []
 line_of_turns turns.Quiet = []
 line_of_turns turns.Link = link_failed
 line_of_turns turns.Disk = disk_failed
-line_of_turns turns.Full = short_line (codes "overcast: limit journal 1099511627776")
+line_of_turns turns.Full = short_line (codes "overcast: limit journal 281474976710656")
 line_of_turns turns.Sink = output_failed
 line_of_turns turns.Memory = out_of_memory
 
@@ -140,21 +169,23 @@ abbrev pub line_of_run : NodeEnd → List ℕ
 line_of_run (nodes.Load error) = line_of_load error
 line_of_run (nodes.Turned end) = line_of_turns end
 
--- the id is the value to blame where no node of the configuration has it
-abbrev pub line_of_service : ServiceEnd → List ℕ
-line_of_service (services.Config end) = line_of_config end
-line_of_service services.Stranger = line (codes "overcast: config: value ") (key_text Id) [] []
-line_of_service (services.Ran end) = line_of_run end
+abbrev pub line_of_service : Option (List ℕ) → ServiceEnd → List ℕ
+line_of_service file (services.Config end) = line_of_config file end
+line_of_service file services.Stranger = stranger_line
+line_of_service file (services.Ran end) = line_of_run end
 
--- the line of each end; that of bad words is followed by a text on usage
-abbrev pub line_of : End → List ℕ → List ℕ
-line_of Helped usage = []
-line_of HelpFailed usage = output_failed
-line_of Misused usage = codes "overcast: usage\n" ++ usage
-line_of NoMemory usage = out_of_memory
-line_of (Replayed end) usage = line_of_replay end
-line_of (Generated end) usage = line_of_gen end
-line_of (Listed end) usage = line_of_rules end
-line_of (Checked end) usage = line_of_check end
-line_of (Got end) usage = line_of_get end
-line_of (Served end) usage = line_of_service end
+-- the line of each end, where this file takes the place of the input; that of bad words is followed by a text on usage
+abbrev pub line_of : End → Option (List ℕ) → List ℕ → List ℕ
+line_of Helped file usage = []
+line_of HelpFailed file usage = output_failed
+line_of Versioned file usage = []
+line_of VersionFailed file usage = output_failed
+line_of Misused file usage = codes "overcast: usage\n" ++ usage
+line_of NoMemory file usage = out_of_memory
+line_of (Replayed end) file usage = line_of_replay file end
+line_of (Generated end) file usage = line_of_gen end
+line_of (Listed end) file usage = line_of_rules file end
+line_of (Checked end) file usage = line_of_check end
+line_of (CheckedConfigured end) file usage = line_of_configured file end
+line_of (Got end) file usage = line_of_get end
+line_of (Served end) file usage = line_of_service file end

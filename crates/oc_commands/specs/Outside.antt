@@ -1,5 +1,10 @@
 -- What can be said of the outside once a run has ended: of the words, of the input, of the output, of the
 -- stage, of the files, of the link and of the clock.
+--
+-- The input is one object, whatever the words name: the file that they name, else the standard input. Who calls `run` hands in that
+-- object, which he finds by `Request::file`; and the three files are those of the folder that `Request::folder` gives. So nothing that is
+-- said here depends on whether a file was named, but the line on the error output where the input failed (`Lines`), which names it. A
+-- file is opened at the first call on its object, as a node's files are: an opening that is refused is a call that failed, no more.
 use Rattle.std.specs.Prelude.{◌≡◌, ℕ, ◌<◌, Bool, Option, Result, List, length}
 use Rattle.oc_base.specs.declared.limits.TheConstants.{MAX_SCHEDULE_BYTES}
 use Rattle.oc_check.specs.Checks.{Shows}

@@ -4,19 +4,22 @@ use Rattle.oc_io.specs.Faults.{Rose}
 use Rattle.oc_replay.specs.Pieces.{SomeFront}
 use Rattle.oc_words.specs.declared.request.Download.{Download}
 use Rattle.oc_words.specs.declared.request.Member.{Member}
+use Rattle.oc_words.specs.declared.request.Paths.{Paths}
 use Rattle.oc_words.specs.declared.request.Request.{Request}
-use Rattle.oc_words.specs.declared.request.Request.TheVariants.{Help, Replay, Gen, Check, Get, Node, Rules}
+use Rattle.oc_words.specs.declared.request.Request.TheVariants.{Help, Version, Replay, Gen, Check, CheckConfigured, Get, Node, Rules}
 use Rattle.oc_words.specs.declared.request.Sample.{Sample}
 use Rattle.oc_words.specs.declared.request.Service.{Service}
-use Rattle.oc_commands.specs.AtCheck.{HappenedAtCheck}
+use Rattle.oc_commands.specs.AtCheck.{HappenedAtCheck, network_of}
+use Rattle.oc_commands.specs.AtConfigured.{HappenedAtConfigured, UnlessChecked}
 use Rattle.oc_commands.specs.AtGen.{HappenedAtGen}
 use Rattle.oc_commands.specs.AtGet.{HappenedAtGet}
 use Rattle.oc_commands.specs.AtNode.{HappenedAtNode, UnlessRan}
 use Rattle.oc_commands.specs.AtReplay.{HappenedAtReplay}
 use Rattle.oc_commands.specs.AtRules.{HappenedAtRules}
+use Rattle.oc_commands.specs.Lines.{version_line}
 use Rattle.oc_commands.specs.Outside.{Outside}
 use Rattle.oc_commands.specs.declared.ending.End.{End}
-use Rattle.oc_commands.specs.declared.ending.End.TheVariants.{Helped, HelpFailed, Misused, NoMemory, Replayed, Generated, Listed, Checked, Got, Served}
+use Rattle.oc_commands.specs.declared.ending.End.TheVariants.{Helped, HelpFailed, Versioned, VersionFailed, Misused, NoMemory, Replayed, Generated, Listed, Checked, CheckedConfigured, Got, Served}
 
 -- the text was taken, or a prefix of it and then a call failed
 abbrev pub IsWrittenOrCut : {E : Type 0} → (E → List ℕ → E → Type 0) → (E → List ℕ → E → Type 0) → (E → ℕ) → E → E → List ℕ → Type 0
@@ -24,7 +27,7 @@ IsWrittenOrCut takes fails count old new text = takes old text new ⊎ (SomeFron
 
 -- the words ask for no node
 abbrev pub IsNoNode : Option Request → Type 0
-IsNoNode (Some (Node service)) = ⊥
+IsNoNode (Some (Node service paths)) = ⊥
 IsNoNode asked = ⊤
 
 -- nothing was read, and nothing was played
@@ -52,12 +55,16 @@ pub record IsFileless (o : Outside) : Type 0 where
 abbrev pub Happened : Outside → End → Type 0
 Happened o Helped = (o.asked ≡ Some Help) × ((text : List ℕ) × (0 < length text) × o.output.written text) × IsUnplayed o × IsAlone o
 Happened o HelpFailed = (o.asked ≡ Some Help) × ((text : List ℕ) × o.output.cut_off text) × IsUnplayed o × IsAlone o
+Happened o Versioned = (o.asked ≡ Some Version) × o.output.written version_line × IsUnplayed o × IsAlone o
+Happened o VersionFailed = (o.asked ≡ Some Version) × SomeFront version_line o.output.cut_off × IsUnplayed o × IsAlone o
 Happened o Misused = (o.asked ≡ None) × o.output.written [] × IsUnplayed o × IsAlone o
 Happened o NoMemory = o.output.written [] × IsUnplayed o × IsAlone o
-Happened o (Replayed end) = ((summary : Bool) × (o.asked ≡ Some (Replay summary)) × HappenedAtReplay o.input o.output o.stage summary end) × IsAlone o
+Happened o (Replayed end) = ((summary : Bool) × (file : Option (List ℕ)) × (o.asked ≡ Some (Replay summary file)) × HappenedAtReplay o.input o.output o.stage summary end) × IsAlone o
 Happened o (Generated end) = ((sample : Sample) × (o.asked ≡ Some (Gen sample)) × HappenedAtGen o.output sample end) × IsUnplayed o × IsAlone o
-Happened o (Listed end) = (o.asked ≡ Some Rules) × HappenedAtRules o.input o.output end × o.stage.unplayed × IsAlone o
-Happened o (Checked end) = ((member : Member) × (o.asked ≡ Some (Check member)) × HappenedAtCheck o.files o.output member end) × IsUnplayed o × IsOffline o
+Happened o (Listed end) = ((file : Option (List ℕ)) × (o.asked ≡ Some (Rules file))) × HappenedAtRules o.input o.output end × o.stage.unplayed × IsAlone o
+Happened o (Checked end) = ((member : Member) × (folder : Option (List ℕ)) × (o.asked ≡ Some (Check member folder)) × HappenedAtCheck o.files o.output (network_of member) member.id end) × IsUnplayed o × IsOffline o
+Happened o (CheckedConfigured end) = ((id : ℕ) × (paths : Paths) × (o.asked ≡ Some (CheckConfigured id paths)) × HappenedAtConfigured o.input o.files o.output id end) × o.stage.unplayed × IsOffline o
+    × UnlessChecked end o.files.untouched
 Happened o (Got end) = ((download : Download) × (o.asked ≡ Some (Get download)) × HappenedAtGet o.link o.output download end) × IsUnplayed o × IsFileless o
-Happened o (Served end) = ((service : Service) × (o.asked ≡ Some (Node service)) × HappenedAtNode o.input o.files o.node o.output service end) × o.stage.unplayed
+Happened o (Served end) = ((service : Service) × (paths : Paths) × (o.asked ≡ Some (Node service paths)) × HappenedAtNode o.input o.files o.node o.output service end) × o.stage.unplayed
     × UnlessRan end o.files.untouched × UnlessRan end o.link.untouched × UnlessRan end o.clock.untouched

@@ -1,13 +1,21 @@
 //! The command `check`, which shows what the files of a node recover.
+ghost use Rattle.std.specs.Prelude.{◌≡◌, length};
+ghost use Rattle.oc_base.specs.Lawful.{IsNode};
+ghost use Rattle.oc_check.specs.Checks.{IsNetwork};
+ghost use Rattle.oc_config.specs.Reading.{IsConfig};
 ghost use Rattle.oc_keep.specs.Files.{disks};
 ghost use Rattle.oc_io.specs.Faults.{NoFall};
-ghost use Rattle.oc_commands.specs.AtCheck.{HappenedAtCheck};
-ghost use Rattle.oc_commands.specs.Outside.{at_files, at_sink};
+ghost use Rattle.oc_commands.specs.AtCheck.{HappenedAtCheck, network_in, network_of};
+ghost use Rattle.oc_commands.specs.AtConfigured.{ChecksOne, HappenedAtConfigured, UnlessChecked};
+ghost use Rattle.oc_commands.specs.Outside.{at_files, at_sink, at_source};
 ghost use Rattle.oc_words.specs.Requests.{IsMember};
 
-use oc_base::NodeId;
-use oc_check::recovered_text;
-use oc_io::{Disk, Sink, write_all};
+use crate::configuring::{ConfigEnd, read_config};
+use crate::serving::member_of;
+use oc_base::{NodeId, USUAL_CHUNK_BYTES};
+use oc_check::{Network, recovered_text};
+use oc_config::Config;
+use oc_io::{Disk, Sink, Source, write_all};
 use oc_keep::KeepLoad;
 use oc_words::Member;
 use std::alloc::Global;
@@ -23,9 +31,18 @@ pub enum CheckEnd {
     Sink,
 }
 
-/// Writes what the files of a node recover: the block of `show` and the block of `held`. All memory is taken
-/// before anything is written.
-#[allow(clippy::too_many_arguments)]
+/// How `check` ended, of a node of a configuration.
+#[derive(Clone, Copy)]
+pub enum ConfiguredEnd {
+    /// There is no configuration, and nothing was written.
+    Config(ConfigEnd),
+    /// No node of the configuration has this id, and nothing was written.
+    Stranger,
+    /// The files of the node were looked at, which ended in this way.
+    Checked(CheckEnd),
+}
+
+/// Writes what the files of a node recover, one of a network with these numbers.
 pub fn check_files<K: Sink, D: Disk>(
     alloc: Global,
     member: Member,
@@ -37,19 +54,116 @@ pub fn check_files<K: Sink, D: Disk>(
     requires { IsMember member }
     ensures happened { HappenedAtCheck
         (at_files D.view (disks control.old alternate.old content.old) (disks control.new alternate.new content.new))
-        (at_sink K.takes K.fails K.faults out.old out.new) member result }
+        (at_sink K.takes K.fails K.faults out.old out.new) (network_of member) member.id result }
     ensures count { NoFall (K.faults out.old) (K.faults out.new) }
 {
-    let id = NodeId(member.id);
-    match recovered_text(
+    let network = network_of(member);
+    show_files(
         alloc,
-        id,
-        member.nodes,
-        member.chain,
+        NodeId(member.id),
+        network,
+        out,
         control,
         alternate,
         content,
-    ) {
+    )
+}
+
+/// The network of these numbers, with the usual chunk.
+fn network_of(member: Member) -> Network
+    requires { IsMember member }
+    ensures same { result ≡ network_of member }
+    ensures lawful { IsNetwork result }
+{
+    Network {
+        nodes: member.nodes,
+        chain: member.chain,
+        chunk: USUAL_CHUNK_BYTES,
+    }
+}
+
+/// Writes what the files of a node recover, one of the configuration on the input.
+pub fn check_configured<S: Source, K: Sink, D: Disk>(
+    alloc: Global,
+    id: u64,
+    input: &mut S,
+    out: &mut K,
+    control: &mut D,
+    alternate: &mut D,
+    content: &mut D,
+) -> ConfiguredEnd
+    ensures happened { HappenedAtConfigured
+        (at_source S.gives S.fails S.ended S.faults input.old input.new)
+        (at_files D.view (disks control.old alternate.old content.old) (disks control.new alternate.new content.new))
+        (at_sink K.takes K.fails K.faults out.old out.new) id result }
+    ensures files { UnlessChecked result (disks control.new alternate.new content.new ≡ disks control.old alternate.old content.old) }
+    ensures input_count { NoFall (S.faults input.old) (S.faults input.new) }
+    ensures count { NoFall (K.faults out.old) (K.faults out.new) }
+{
+    match read_config(alloc, input) {
+        Ok(config) => check_one(alloc, id, &config, out, control, alternate, content),
+        Err(end) => ConfiguredEnd::Config(end),
+    }
+}
+
+/// Writes what the files of a node recover, one of this configuration.
+fn check_one<K: Sink, D: Disk>(
+    alloc: Global,
+    id: u64,
+    config: &Config,
+    out: &mut K,
+    control: &mut D,
+    alternate: &mut D,
+    content: &mut D,
+) -> ConfiguredEnd
+    requires { IsConfig config.now }
+    ensures happened { ChecksOne
+        (at_files D.view (disks control.old alternate.old content.old) (disks control.new alternate.new content.new))
+        (at_sink K.takes K.fails K.faults out.old out.new) config.now id result }
+    ensures files { UnlessChecked result (disks control.new alternate.new content.new ≡ disks control.old alternate.old content.old) }
+    ensures count { NoFall (K.faults out.old) (K.faults out.new) }
+{
+    match member_of(config, id) {
+        Some(me) => {
+            let network = network_in(config);
+            ConfiguredEnd::Checked(show_files(alloc, me, network, out, control, alternate, content))
+        }
+        None => ConfiguredEnd::Stranger,
+    }
+}
+
+/// The network of a configuration.
+fn network_in(config: &Config) -> Network
+    requires { IsConfig config.now }
+    ensures same { result ≡ network_in config.now }
+    ensures lawful { IsNetwork result }
+{
+    Network {
+        nodes: config.addresses.len() as u32,
+        chain: config.chain,
+        chunk: config.chunk(),
+    }
+}
+
+/// Writes what the files of a node recover: the block of `show` and the block of `held`. All memory is taken
+/// before anything is written.
+fn show_files<K: Sink, D: Disk>(
+    alloc: Global,
+    id: NodeId,
+    network: Network,
+    out: &mut K,
+    control: &mut D,
+    alternate: &mut D,
+    content: &mut D,
+) -> CheckEnd
+    requires network { IsNetwork network }
+    requires id { IsNode network.nodes id }
+    ensures happened { HappenedAtCheck
+        (at_files D.view (disks control.old alternate.old content.old) (disks control.new alternate.new content.new))
+        (at_sink K.takes K.fails K.faults out.old out.new) network id result }
+    ensures count { NoFall (K.faults out.old) (K.faults out.new) }
+{
+    match recovered_text(alloc, id, network, control, alternate, content) {
         Ok(text) => match write_all(out, &text) {
             Ok(()) => CheckEnd::Done,
             Err(_) => CheckEnd::Sink,

@@ -8,18 +8,20 @@ pub(crate) fn replay_help() -> &'static str
     "\
 overcast replay: plays a schedule over nodes and a network in memory
 
-Usage: overcast replay [--summary] < SCHEDULE > REPORT
+Usage: overcast replay [FILE] [--summary] > REPORT
 
-Reads the schedule on standard input to its end, plays its events one by one, and
-writes the report on standard output: what came of each event, and each message
-sent. It touches no file and no network.
+Reads a schedule to its end, plays its events one by one, and writes the report on
+standard output: what came of each event, and each message sent. It writes no file
+and touches no network.
 
+  FILE       the schedule; standard input where none is named
   --summary  writes six lines on the last world in place of the report: the
              events, the messages, the nodes that are up, those of them that are
              joined, those that act as root, and the bytes that all nodes hold
 
 A schedule is text, with one event on a line. Its first line is
-`overcast 1 nodes N chain C`: N nodes, of which nodes 1 to C can act as root.
+`overcast 1 nodes N chain C`: N nodes, of which nodes 1 to C can act as root. With
+`chunk B` behind it, a message has at most B bytes of a group; else 4096.
 Empty lines, and lines that begin with `#`, are skipped.
 
 Example: node 2 pulls from node 1 what was published there. The report says that
@@ -97,17 +99,19 @@ pub(crate) fn node_help() -> &'static str
     "\
 overcast node: runs a node of a network
 
-Usage: overcast node ID --turns N [--probe] < CONFIGURATION > LINES
+Usage: overcast node ID [--turns N] [--probe] [--config FILE] [--dir FOLDER]
 
-Reads the configuration on standard input, loads the node with this id from its
-three files in the folder where it runs, waits for connections at the address
-that the configuration gives it, and serves N turns. In a turn it answers the
-connection that waits, if one does, takes the time, and dials up to 16 messages.
-A quiet turn ends within about a fifth of a second.
+Reads the configuration, loads the node with this id from its three files, waits
+for connections where the configuration says that it listens, and serves turns
+until it is ended. In a turn it answers the connection that waits, if one does,
+takes the time, and dials up to 16 messages. A quiet turn ends within about a
+fifth of a second. Where it listens it says on standard error.
 
-  ID       the node, one of the configuration
-  --turns  the number of turns, 0 to 1000000000
-  --probe  measures the rate to a peer in each turn in which nobody came
+  ID        the node, one of the configuration
+  --turns   ends it after this number of turns, 0 to 1000000000
+  --probe   measures the rate to a peer in each turn in which nobody came
+  --config  the file of the configuration; standard input where none is named
+  --dir     the folder of the three files; the present one where none is named
 
 Files: `control.log` and `control.alt` hold what it remembers of the tree,
 `content.log` the groups. They are made where there are none. Whatever was
@@ -120,7 +124,7 @@ refused, and why.
 Example: the first of three nodes (examples/three_nodes.toml), which then answers
 requests at 127.0.0.1:7001. A POST to the source publishes bytes in a group.
 
-  $ overcast node 1 --turns 100000 < three_nodes.toml &
+  $ overcast node 1 --config three_nodes.toml > lines &
   $ curl --data-binary hello http://127.0.0.1:7001/news/today
   $ curl http://127.0.0.1:7001/news/today
   hello
@@ -132,7 +136,7 @@ Exit status:
   3  the configuration has a fault, in the key that is named, or lacks the id; or
      a file is no journal, or has a bad frame
   4  out of memory
-  5  the configuration is too long, or a file would pass 2^40 bytes
+  5  the configuration is too long, or a file would pass 2^48 bytes
 "
 }
 
@@ -142,17 +146,20 @@ pub(crate) fn check_help() -> &'static str
     "\
 overcast check: shows what the files of a node hold
 
-Usage: overcast check ID NODES CHAIN
+Usage: overcast check ID [--config FILE] [--dir FOLDER]
+       overcast check ID NODES CHAIN [--dir FOLDER]
 
-Loads `control.log`, `control.alt` and `content.log` of the folder where it runs,
-as those of the node with this id, and writes how the node stands in the tree,
-its ancestors, its table of the nodes beneath it, and the listing of that table;
-then each group that it holds, with its bytes. The node must not be running. A
-file that is missing is made, with nothing in it.
+Loads `control.log`, `control.alt` and `content.log` as those of the node with
+this id, and writes how the node stands in the tree, its ancestors, its table of
+the nodes beneath it, and the listing of that table; then each group that it
+holds, with its bytes. The node must not be running. A file that is missing is
+made, with nothing in it.
 
-  ID     the node, 1 to NODES
-  NODES  the number of nodes, 1 to 1024
-  CHAIN  the number of nodes that can act as root, 1 to 16 and at most NODES
+  ID        the node, one of the configuration, or 1 to NODES
+  NODES     the number of nodes, 1 to 1024, where no configuration is read
+  CHAIN     the number of nodes that can act as root, 1 to 16 and at most NODES
+  --config  the file of the configuration; standard input where none is named
+  --dir     the folder of the three files; the present one where none is named
 
 Example: a folder with no files.
 
@@ -164,10 +171,13 @@ Example: a folder with no files.
 
 Exit status:
   0  all was written
-  1  the output or a disk failed; a disk fails too where a node runs on the files
+  1  the input, the output or a disk failed; a disk fails too where a node runs on
+     the files
   2  the words are not as under Usage, or a number is not in its range
-  3  a file is no journal, or has a bad frame, which is named
+  3  the configuration has a fault, in the key that is named, or lacks the id; or
+     a file is no journal, or has a bad frame
   4  out of memory
+  5  the configuration is too long
 "
 }
 
@@ -206,13 +216,15 @@ pub(crate) fn rules_help() -> &'static str
     "\
 overcast rules: lists the access rules of a configuration
 
-Usage: overcast rules < CONFIGURATION
+Usage: overcast rules [--config FILE]
 
-Reads the configuration on standard input, and writes a line for each of its
-access rules: its number, whether it allows or denies, the method, the prefix of
-the groups and the area of which it speaks, `any` for each that it leaves out. The
-first rule that matches a request decides. Behind a rule that can decide nothing
-stands the number of a rule before it that matches all that it matches.
+Reads a configuration, and writes a line for each of its access rules: its number,
+whether it allows or denies, the method, the prefix of the groups and the area of
+which it speaks, `any` for each that it leaves out. The first rule that matches a
+request decides. Behind a rule that can decide nothing stands the number of a rule
+before it that matches all that it matches.
+
+  --config  the file of the configuration; standard input where none is named
 
 Example: a rule that the first one leaves nothing to.
 

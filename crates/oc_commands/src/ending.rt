@@ -1,9 +1,9 @@
 //! How a run ends.
 ghost use Rattle.std.specs.Prelude.{◌≡◌};
-ghost use Rattle.oc_commands.specs.Ends.{status_of, status_of_check, status_of_config, status_of_fault, status_of_gen};
+ghost use Rattle.oc_commands.specs.Ends.{status_of, status_of_check, status_of_config, status_of_configured, status_of_fault, status_of_gen};
 ghost use Rattle.oc_commands.specs.Ends.{status_of_get, status_of_load, status_of_replay, status_of_rules, status_of_run, status_of_service, status_of_turns};
 
-use crate::checking::CheckEnd;
+use crate::checking::{CheckEnd, ConfiguredEnd};
 use crate::configuring::ConfigEnd;
 use crate::generating::GenEnd;
 use crate::listing::RulesEnd;
@@ -22,6 +22,10 @@ pub enum End {
     Helped,
     /// The output failed while the help was written.
     HelpFailed,
+    /// The version was written.
+    Versioned,
+    /// The output failed while the version was written.
+    VersionFailed,
     /// The words are no words of the program.
     Misused,
     /// Memory ran out before the words were read.
@@ -34,6 +38,8 @@ pub enum End {
     Listed(RulesEnd),
     /// The command `check` ended in this way.
     Checked(CheckEnd),
+    /// The command `check` ended in this way, of a node of a configuration.
+    CheckedConfigured(ConfiguredEnd),
     /// The command `get` ended in this way.
     Got(GetEnd),
     /// The command `node` ended in this way.
@@ -48,12 +54,15 @@ impl End {
         match self {
             End::Helped => Status::Done,
             End::HelpFailed => Status::Failed,
+            End::Versioned => Status::Done,
+            End::VersionFailed => Status::Failed,
             End::Misused => Status::Usage,
             End::NoMemory => Status::Memory,
             End::Replayed(end) => replay_status(end),
             End::Generated(end) => gen_status(end),
             End::Listed(end) => rules_status(end),
             End::Checked(end) => check_status(end),
+            End::CheckedConfigured(end) => configured_status(end),
             End::Got(end) => get_status(end),
             End::Served(end) => service_status(end),
         }
@@ -119,6 +128,16 @@ fn check_status(end: CheckEnd) -> Status
         CheckEnd::Done => Status::Done,
         CheckEnd::Load(error) => load_status(error),
         CheckEnd::Sink => Status::Failed,
+    }
+}
+
+fn configured_status(end: ConfiguredEnd) -> Status
+    ensures { result ≡ status_of_configured end }
+{
+    match end {
+        ConfiguredEnd::Config(end) => config_status(end),
+        ConfiguredEnd::Stranger => Status::BadText,
+        ConfiguredEnd::Checked(end) => check_status(end),
     }
 }
 

@@ -1,7 +1,7 @@
 //! The commands of the program: what each does, how it ends, and with which status and which line.
 //!
 //! Each command is a file: `replaying`, `generating`, `listing` (`rules`), `checking`, `getting`
-//! and `serving` (`node`), besides `helping`, which answers `--help`. [`End`] is the end of any of them, from which
+//! and `serving` (`node`), besides `helping`, which answers `--help` and `--version`. [`End`] is the end of any of them, from which
 //! [`End::status`] and [`tell`] make the status and the line on the error output. `Outside` in `specs/` is all that
 //! their contracts speak of, and `Happened` says for each end what then holds.
 //!
@@ -26,13 +26,13 @@ mod serving;
 mod telling;
 mod texts;
 
-pub use checking::{CheckEnd, check_files};
+pub use checking::{CheckEnd, ConfiguredEnd, check_configured, check_files};
 pub use configuring::ConfigEnd;
 pub use ending::End;
 pub use generating::{GenEnd, write_sample};
 pub use getting::download;
 pub use headline::headline_holds;
-pub use helping::write_help;
+pub use helping::{write_help, write_version};
 pub use limits::limits_are_as_published;
 pub use listing::{RulesEnd, list_rules};
 pub use oc_words::Status;

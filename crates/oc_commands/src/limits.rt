@@ -17,6 +17,7 @@ ghost use Rattle.oc_base.specs.declared.limits.TheConstants.{
   MAX_GROUPS,
   MAX_GROUP_BYTES,
   MAX_CHUNK_BYTES,
+  USUAL_CHUNK_BYTES,
   MAX_START,
   MAX_FRAME_BYTES,
   MAX_FRAME_RECORDS,
@@ -31,6 +32,7 @@ ghost use Rattle.oc_base.specs.declared.limits.TheConstants.{
   MAX_BODY_BYTES,
   MAX_CONTENT_BYTES,
 };
+ghost use Rattle.oc_config.specs.declared.config.TheConstants.{FIRST_CHUNK};
 ghost use Rattle.oc_fetch.specs.declared.download.TheConstants.{MAX_REDIRECTIONS};
 ghost use Rattle.oc_fetch.specs.declared.extent.TheConstants.{MAX_OPEN_BYTES};
 ghost use Rattle.oc_policy.specs.declared.deciding.TheConstants.{MAX_RULES};
@@ -44,9 +46,9 @@ ghost use Rattle.oc_updown.specs.declared.leases.TheConstants.{LEASE_TIME};
 pub fn limits_are_as_published()
     ensures network { (MAX_NODES ≡ 1024) × (MAX_CHAIN ≡ 16) × (MAX_AREA ≡ 255) × (MAX_DEPTH ≡ 1000) × (MAX_ANCESTORS ≡ 1000) }
     ensures measures { (MAX_RATE ≡ 2 ^ 40) × (MAX_HOPS ≡ 255) × (MAX_TIME ≡ 2 ^ 40) × (LEASE_TIME ≡ 30) }
-    ensures content { (MIN_NAME_BYTES ≡ 2) × (MAX_NAME_BYTES ≡ 200) × (MAX_GROUPS ≡ 64) × (MAX_GROUP_BYTES ≡ 2 ^ 30) × (MAX_START ≡ 2 ^ 40) }
-    ensures messages { (MAX_CHUNK_BYTES ≡ 4096) × (MAX_CHECK_IN_CERTS ≡ 64) }
-    ensures files { (MAX_FRAME_BYTES ≡ 1048576) × (MAX_FRAME_RECORDS ≡ 4096) × (MAX_JOURNAL_BYTES ≡ 2 ^ 40) × (DUE_BYTES ≡ 262144) × (MAX_BASE_ACKED ≡ 2 ^ 62) }
+    ensures content { (MIN_NAME_BYTES ≡ 2) × (MAX_NAME_BYTES ≡ 200) × (MAX_GROUPS ≡ 64) × (MAX_GROUP_BYTES ≡ 2 ^ 40) × (MAX_START ≡ 2 ^ 40) }
+    ensures messages { (MAX_CHUNK_BYTES ≡ 524288) × (USUAL_CHUNK_BYTES ≡ 4096) × (FIRST_CHUNK ≡ 262144) × (MAX_CHECK_IN_CERTS ≡ 64) }
+    ensures files { (MAX_FRAME_BYTES ≡ 1048576) × (MAX_FRAME_RECORDS ≡ 4096) × (MAX_JOURNAL_BYTES ≡ 2 ^ 48) × (DUE_BYTES ≡ 262144) × (MAX_BASE_ACKED ≡ 2 ^ 62) }
     ensures schedules { (MAX_SCHEDULE_LINES ≡ 100000) × (MAX_SCHEDULE_BYTES ≡ 67108864) × (MAX_SCHEDULE_PUBLISHED ≡ 262144) × (MAX_SCHEDULE_SETTLES ≡ 16) }
     ensures requests { (MAX_HEAD_BYTES ≡ 8192) × (MAX_FIELDS ≡ 64) × (MAX_BODY_BYTES ≡ 1000000) × (MAX_REQUESTS ≡ 16) × (MAX_RULES ≡ 256) }
     ensures downloads { (MAX_REDIRECTIONS ≡ 2) × (MAX_CONTENT_BYTES ≡ 2 ^ 40) × (MAX_OPEN_BYTES ≡ 2 ^ 40) }

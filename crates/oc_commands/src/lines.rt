@@ -1,25 +1,41 @@
 //! The lines that say on the error output how a run ended. They take no memory, so that they can be written
 //! where there is none.
 
-ghost use Rattle.std.specs.Prelude.{◌≡◌, []};
+ghost use Rattle.std.specs.Prelude.{◌≡◌, [], option_map};
 ghost use Rattle.oc_config.specs.Keys.{key_text};
-ghost use Rattle.oc_commands.specs.Lines.{file_text, limit_line, line, line_of_check, line_of_config, line_of_fault, line_of_gen};
+ghost use Rattle.oc_commands.specs.Lines.{file_text, input_failed, limit_line, line, line_in, line_of_check, line_of_config, line_of_configured, line_of_fault, line_of_gen};
 ghost use Rattle.oc_commands.specs.Lines.{line_of_get, line_of_load, line_of_replay, line_of_rules, line_of_run};
-ghost use Rattle.oc_commands.specs.Lines.{line_of_service, line_of_turns, short_line, text_of};
+ghost use Rattle.oc_commands.specs.Lines.{line_of_service, line_of_turns, long_line, short_line, stranger_line, text_of};
 
-use crate::checking::CheckEnd;
+use crate::checking::{CheckEnd, ConfiguredEnd};
 use crate::configuring::ConfigEnd;
 use crate::generating::GenEnd;
 use crate::listing::RulesEnd;
 use crate::serving::ServiceEnd;
 use itoa::Buffer;
 use oc_base::Why;
-use oc_config::{ConfigFault, Key};
+use oc_config::{ConfigFault, Key, Place};
 use oc_fetch::GetEnd;
 use oc_keep::{KeepLoad, Which};
 use oc_replay::ReplayEnd;
 use oc_schedule::What;
 use oc_service::{NodeEnd, TurnEnd};
+
+/// The digits of the numbers of a line.
+#[derive(Drop)]
+pub(crate) struct Digits {
+    first: Buffer,
+    second: Buffer,
+}
+
+impl Digits {
+    pub(crate) fn new() -> Digits {
+        Digits {
+            first: Buffer::new(),
+            second: Buffer::new(),
+        }
+    }
+}
 
 /// A line in parts, some of which are empty.
 #[derive(Clone, Copy)]
@@ -28,6 +44,7 @@ pub(crate) struct ErrorLine<'a> {
     pub(crate) second: &'a str,
     pub(crate) third: &'a str,
     pub(crate) fourth: &'a str,
+    pub(crate) fifth: &'a [u8],
     /// The end of a line, or nothing.
     pub(crate) end: &'a str,
 }
@@ -41,6 +58,7 @@ pub(crate) fn no_line<'a>() -> ErrorLine<'a>
         second: "",
         third: "",
         fourth: "",
+        fifth: &[],
         end: "",
     }
 }
@@ -49,44 +67,54 @@ pub(crate) fn no_line<'a>() -> ErrorLine<'a>
 pub(crate) fn short_line(text: &str) -> ErrorLine<'_>
     ensures { text_of result ≡ short_line text.entry.now }
 {
-    ErrorLine {
-        first: text,
-        second: "",
-        third: "",
-        fourth: "",
-        end: "\n",
-    }
+    with_word(text, "")
 }
 
 /// The line of an end of a replay.
-pub(crate) fn line_of_replay(end: ReplayEnd, digits: &mut Buffer) -> ErrorLine<'_>
-    ensures { text_of result ≡ line_of_replay end }
+pub(crate) fn line_of_replay<'a>(
+    end: ReplayEnd,
+    file: Option<&'a str>,
+    digits: &'a mut Digits,
+) -> ErrorLine<'a>
+    ensures { text_of result ≡ line_of_replay (option_map (λ name. name.now) file.entry) end }
 {
     match end {
         ReplayEnd::Done => no_line(),
         ReplayEnd::Text { line, why } => ErrorLine {
             first: "overcast: line ",
-            second: digits.format(line),
+            second: digits.first.format(line),
             third: ": ",
             fourth: why.word(),
+            fifth: &[],
             end: "\n",
         },
         ReplayEnd::Limit(what) => limit_line(what, digits),
-        ReplayEnd::Source => short_line("overcast: input failed"),
+        ReplayEnd::Source => input_failed(file),
         ReplayEnd::Sink => short_line("overcast: output failed"),
         ReplayEnd::Memory => short_line("overcast: out of memory"),
     }
 }
 
+/// The line of an input that failed, which is named where it is a file.
+fn input_failed(file: Option<&str>) -> ErrorLine<'_>
+    ensures { text_of result ≡ input_failed (option_map (λ name. name.now) file.entry) }
+{
+    match file {
+        None => short_line("overcast: input failed"),
+        Some(name) => with_word("overcast: input failed: ", name),
+    }
+}
+
 /// The line of a limit that was passed.
-fn limit_line(what: What, digits: &mut Buffer) -> ErrorLine<'_>
+fn limit_line(what: What, digits: &mut Digits) -> ErrorLine<'_>
     ensures { text_of result ≡ limit_line what }
 {
     ErrorLine {
         first: "overcast: limit ",
         second: what.word(),
         third: " ",
-        fourth: digits.format(what.most()),
+        fourth: digits.first.format(what.most()),
+        fifth: &[],
         end: "\n",
     }
 }
@@ -103,60 +131,128 @@ pub(crate) fn line_of_gen<'a>(end: GenEnd) -> ErrorLine<'a>
 }
 
 /// The line of an end of `rules`.
-pub(crate) fn line_of_rules(end: RulesEnd, digits: &mut Buffer) -> ErrorLine<'_>
-    ensures { text_of result ≡ line_of_rules end }
+pub(crate) fn line_of_rules<'a>(
+    end: &'a RulesEnd,
+    file: Option<&'a str>,
+    digits: &'a mut Digits,
+) -> ErrorLine<'a>
+    ensures { text_of result ≡ line_of_rules (option_map (λ name. name.now) file.entry) end.now }
 {
     match end {
         RulesEnd::Done => no_line(),
-        RulesEnd::Config(end) => line_of_config(end, digits),
+        RulesEnd::Config(end) => line_of_config(end, file, digits),
         RulesEnd::Sink => short_line("overcast: output failed"),
         RulesEnd::Memory => short_line("overcast: out of memory"),
     }
 }
 
 /// The line where there is no configuration.
-pub(crate) fn line_of_config(end: ConfigEnd, digits: &mut Buffer) -> ErrorLine<'_>
-    ensures { text_of result ≡ line_of_config end }
+pub(crate) fn line_of_config<'a>(
+    end: &'a ConfigEnd,
+    file: Option<&'a str>,
+    digits: &'a mut Digits,
+) -> ErrorLine<'a>
+    ensures { text_of result ≡ line_of_config (option_map (λ name. name.now) file.entry) end.now }
 {
     match end {
-        ConfigEnd::Source => short_line("overcast: input failed"),
+        ConfigEnd::Source => input_failed(file),
         ConfigEnd::Long => limit_line(What::Bytes, digits),
         ConfigEnd::Fault(fault) => line_of_fault(fault, digits),
     }
 }
 
 /// The line of a fault of a configuration.
-fn line_of_fault(fault: ConfigFault, digits: &mut Buffer) -> ErrorLine<'_>
-    ensures { text_of result ≡ line_of_fault fault }
+fn line_of_fault<'a>(fault: &'a ConfigFault, digits: &'a mut Digits) -> ErrorLine<'a>
+    ensures { text_of result ≡ line_of_fault fault.now }
 {
+    let Digits { first, second } = digits;
     match fault {
-        ConfigFault::Toml => short_line("overcast: config: toml"),
-        ConfigFault::Missing(key) => key_line("overcast: config: missing ", key),
-        ConfigFault::Value(key) => key_line("overcast: config: value ", key),
-        ConfigFault::Repeat(id) => repeat_line(id, digits),
-        ConfigFault::Measure { line, why } => measure_line(line, why, digits),
+        ConfigFault::Toml(line) => toml_line(*line, first),
+        ConfigFault::Missing(place, key) => key_line(*place, "missing ", *key, first),
+        ConfigFault::Value(place, key) => key_line(*place, "value ", *key, first),
+        ConfigFault::Repeat(place, id) => {
+            line_in(*place, "repeat ", second.format(*id).as_bytes(), first)
+        }
+        ConfigFault::Measure { line, why } => measure_line(*line, *why, first),
+        ConfigFault::Unknown(place, name) => line_in(*place, "unknown ", name.bytes(), first),
         ConfigFault::Memory => short_line("overcast: out of memory"),
     }
 }
 
-/// The line of a text and a key after it.
-fn key_line(text: &str, key: Key) -> ErrorLine<'_>
-    ensures { text_of result ≡ line text.entry.now (key_text key) [] [] }
+/// The line of a fault of a table, and of what.
+fn line_in<'a>(
+    place: Place,
+    fault: &'a str,
+    text: &'a [u8],
+    digits: &'a mut Buffer,
+) -> ErrorLine<'a>
+    ensures { text_of result ≡ line_in place fault.entry.now text.entry.now }
 {
-    ErrorLine {
-        first: text,
-        second: key.word(),
-        third: "",
-        fourth: "",
-        end: "\n",
+    match place {
+        Place::Top => ErrorLine {
+            first: "overcast: config: ",
+            second: fault,
+            third: "",
+            fourth: "",
+            fifth: text,
+            end: "\n",
+        },
+        Place::Node(number) => ErrorLine {
+            first: "overcast: config: node ",
+            second: digits.format(number),
+            third: ": ",
+            fourth: fault,
+            fifth: text,
+            end: "\n",
+        },
+        Place::Rule(number) => ErrorLine {
+            first: "overcast: config: rule ",
+            second: digits.format(number),
+            third: ": ",
+            fourth: fault,
+            fifth: text,
+            end: "\n",
+        },
     }
 }
 
-/// The line of an id that two nodes have.
-fn repeat_line(id: u32, digits: &mut Buffer) -> ErrorLine<'_>
-    ensures { text_of result ≡ line_of_fault (ConfigFault.Repeat id) }
+/// The line of a fault of a key.
+fn key_line<'a>(place: Place, fault: &'a str, key: Key, digits: &'a mut Buffer) -> ErrorLine<'a>
+    ensures { text_of result ≡ line_in place fault.entry.now (key_text key) }
 {
-    with_word("overcast: config: repeat ", digits.format(id))
+    match place {
+        Place::Top => ErrorLine {
+            first: "overcast: config: ",
+            second: fault,
+            third: "",
+            fourth: key.word(),
+            fifth: &[],
+            end: "\n",
+        },
+        Place::Node(number) => ErrorLine {
+            first: "overcast: config: node ",
+            second: digits.format(number),
+            third: ": ",
+            fourth: fault,
+            fifth: key.word().as_bytes(),
+            end: "\n",
+        },
+        Place::Rule(number) => ErrorLine {
+            first: "overcast: config: rule ",
+            second: digits.format(number),
+            third: ": ",
+            fourth: fault,
+            fifth: key.word().as_bytes(),
+            end: "\n",
+        },
+    }
+}
+
+/// The line of a text that is no TOML.
+fn toml_line(line: u64, digits: &mut Buffer) -> ErrorLine<'_>
+    ensures { text_of result ≡ line_of_fault (ConfigFault.Toml line) }
+{
+    with_word("overcast: config: toml line ", digits.format(line))
 }
 
 /// The line of a bad line of the measures.
@@ -168,6 +264,7 @@ fn measure_line(line: u32, why: Why, digits: &mut Buffer) -> ErrorLine<'_>
         second: digits.format(line),
         third: ": ",
         fourth: why.word(),
+        fifth: &[],
         end: "\n",
     }
 }
@@ -181,12 +278,13 @@ fn with_word<'a>(text: &'a str, word: &'a str) -> ErrorLine<'a>
         second: word,
         third: "",
         fourth: "",
+        fifth: &[],
         end: "\n",
     }
 }
 
 /// The line of an end of `check`.
-pub(crate) fn line_of_check(end: CheckEnd, digits: &mut Buffer) -> ErrorLine<'_>
+pub(crate) fn line_of_check(end: CheckEnd, digits: &mut Digits) -> ErrorLine<'_>
     ensures { text_of result ≡ line_of_check end }
 {
     match end {
@@ -196,8 +294,37 @@ pub(crate) fn line_of_check(end: CheckEnd, digits: &mut Buffer) -> ErrorLine<'_>
     }
 }
 
+/// The line of an end of `check`, of a node of a configuration.
+pub(crate) fn line_of_configured<'a>(
+    end: &'a ConfiguredEnd,
+    file: Option<&'a str>,
+    digits: &'a mut Digits,
+) -> ErrorLine<'a>
+    ensures { text_of result ≡ line_of_configured (option_map (λ name. name.now) file.entry) end.now }
+{
+    match end {
+        ConfiguredEnd::Config(end) => line_of_config(end, file, digits),
+        ConfiguredEnd::Stranger => stranger_line(),
+        ConfiguredEnd::Checked(end) => line_of_check(*end, digits),
+    }
+}
+
+/// The line where no node of a configuration has the id.
+fn stranger_line<'a>() -> ErrorLine<'a>
+    ensures { text_of result ≡ stranger_line }
+{
+    ErrorLine {
+        first: "overcast: config: value ",
+        second: Key::Id.word(),
+        third: "",
+        fourth: "",
+        fifth: &[],
+        end: "\n",
+    }
+}
+
 /// The line where a node was not loaded.
-pub(crate) fn line_of_load(error: KeepLoad, digits: &mut Buffer) -> ErrorLine<'_>
+pub(crate) fn line_of_load(error: KeepLoad, digits: &mut Digits) -> ErrorLine<'_>
     ensures { text_of result ≡ line_of_load error }
 {
     match error {
@@ -207,13 +334,15 @@ pub(crate) fn line_of_load(error: KeepLoad, digits: &mut Buffer) -> ErrorLine<'_
             second: file_word(which),
             third: ": not a journal",
             fourth: "",
+            fifth: &[],
             end: "\n",
         },
         KeepLoad::BadFrame(which, number) => ErrorLine {
             first: "overcast: ",
             second: file_word(which),
             third: ": frame ",
-            fourth: digits.format(number),
+            fourth: digits.first.format(number),
+            fifth: &[],
             end: "\n",
         },
         KeepLoad::Memory => short_line("overcast: out of memory"),
@@ -232,13 +361,15 @@ fn file_word(which: Which) -> &'static str
 }
 
 /// The line of an end of `get`.
-pub(crate) fn line_of_get(end: GetEnd, digits: &mut Buffer) -> ErrorLine<'_>
+pub(crate) fn line_of_get(end: GetEnd, digits: &mut Digits) -> ErrorLine<'_>
     ensures { text_of result ≡ line_of_get end }
 {
     match end {
         GetEnd::Done => no_line(),
         GetEnd::BadUrl => short_line("overcast: get: url"),
-        GetEnd::Refused(status) => with_word("overcast: get: status ", digits.format(status)),
+        GetEnd::Refused(status) => {
+            with_word("overcast: get: status ", digits.first.format(status))
+        }
         GetEnd::Redirects => short_line("overcast: get: redirects"),
         GetEnd::Reply => short_line("overcast: get: reply"),
         GetEnd::Link => short_line("overcast: link failed"),
@@ -248,18 +379,22 @@ pub(crate) fn line_of_get(end: GetEnd, digits: &mut Buffer) -> ErrorLine<'_>
 }
 
 /// The line of an end of `node`.
-pub(crate) fn line_of_service(end: ServiceEnd, digits: &mut Buffer) -> ErrorLine<'_>
-    ensures { text_of result ≡ line_of_service end }
+pub(crate) fn line_of_service<'a>(
+    end: &'a ServiceEnd,
+    file: Option<&'a str>,
+    digits: &'a mut Digits,
+) -> ErrorLine<'a>
+    ensures { text_of result ≡ line_of_service (option_map (λ name. name.now) file.entry) end.now }
 {
     match end {
-        ServiceEnd::Config(end) => line_of_config(end, digits),
-        ServiceEnd::Stranger => key_line("overcast: config: value ", Key::Id),
-        ServiceEnd::Ran(end) => line_of_run(end, digits),
+        ServiceEnd::Config(end) => line_of_config(end, file, digits),
+        ServiceEnd::Stranger => stranger_line(),
+        ServiceEnd::Ran(end) => line_of_run(*end, digits),
     }
 }
 
 /// The line of the run of a node.
-fn line_of_run(end: NodeEnd, digits: &mut Buffer) -> ErrorLine<'_>
+fn line_of_run(end: NodeEnd, digits: &mut Digits) -> ErrorLine<'_>
     ensures { text_of result ≡ line_of_run end }
 {
     match end {
@@ -276,7 +411,7 @@ fn line_of_turns<'a>(end: TurnEnd) -> ErrorLine<'a>
         TurnEnd::Served | TurnEnd::Quiet => no_line(),
         TurnEnd::Link => short_line("overcast: link failed"),
         TurnEnd::Disk => short_line("overcast: disk failed"),
-        TurnEnd::Full => short_line("overcast: limit journal 1099511627776"),
+        TurnEnd::Full => short_line("overcast: limit journal 281474976710656"),
         TurnEnd::Sink => short_line("overcast: output failed"),
         TurnEnd::Memory => short_line("overcast: out of memory"),
     }

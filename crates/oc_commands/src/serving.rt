@@ -106,7 +106,7 @@ fn serve_config<K: Sink, D: Disk, L: Link, C: Clock>(
 }
 
 /// The node of a configuration with this id, if there is one.
-fn member_of(config: &Config, id: u64) -> Option<NodeId>
+pub(crate) fn member_of(config: &Config, id: u64) -> Option<NodeId>
     requires { IsConfig config.now }
     ensures { IsMemberOf (length config.now.addresses) id result }
 {

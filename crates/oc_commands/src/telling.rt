@@ -1,24 +1,26 @@
 //! The line that says on the error output how a run ended, written.
 
-ghost use Rattle.std.specs.Prelude.{◌≡◌, ℕ, List, OnOk};
-ghost use Rattle.oc_io.specs.Faults.{NoFall};
+ghost use Rattle.std.specs.Prelude.{◌≡◌, ℕ, List, OnErr, OnOk, option_map};
+ghost use Rattle.oc_io.specs.Faults.{NoFall, Rose};
+ghost use Rattle.oc_replay.specs.Pieces.{SomeFront};
 ghost use Rattle.oc_commands.specs.Lines.{line_of, text_of};
 ghost use Rattle.oc_commands.specs.Run.{IsWrittenOrCut};
 ghost use Rattle.oc_http.specs.Parts.{joined};
 
 use crate::ending::End;
 use crate::lines::{
-    ErrorLine, line_of_check, line_of_gen, line_of_get, line_of_replay, line_of_rules,
-    line_of_service, no_line, short_line,
+    Digits, ErrorLine, line_of_check, line_of_configured, line_of_gen, line_of_get, line_of_replay,
+    line_of_rules, line_of_service, no_line, short_line,
 };
 use crate::texts::usage;
-use itoa::Buffer;
 use oc_io::{Failed, Sink, write_all};
 
 /// Has the sink take these parts, one after the other.
-fn write_parts<K: Sink>(sink: &mut K, parts: &[&[u8]]) -> Result<(), Failed>
+pub(crate) fn write_parts<K: Sink>(sink: &mut K, parts: &[&[u8]]) -> Result<(), Failed>
     ensures told { IsWrittenOrCut K.takes K.fails K.faults sink.old sink.new (joined parts.now) }
     ensures takes { OnOk result (K.takes sink.old (joined parts.now) sink.new) }
+    ensures fails { OnErr result (SomeFront (joined parts.now) (λ front. K.fails sink.old front sink.new)) }
+    ensures cause { OnErr result (Rose (K.faults sink.old) (K.faults sink.new)) }
     ensures count { NoFall (K.faults sink.old) (K.faults sink.new) }
 {
     for part in parts {
@@ -27,13 +29,15 @@ fn write_parts<K: Sink>(sink: &mut K, parts: &[&[u8]]) -> Result<(), Failed>
     Ok(())
 }
 
-/// Writes the line of an end on the error output. Where that output fails, a prefix of it is written.
-pub fn tell<E: Sink>(err: &mut E, end: End)
-    ensures told { (usage : List ℕ) × IsWrittenOrCut E.takes E.fails E.faults err.old err.new (line_of end usage) }
+/// Writes the line of an end on the error output, where `file` takes the place of the input, if any does. Where
+/// that output fails, a prefix of the line is written.
+pub fn tell<E: Sink>(err: &mut E, end: &End, file: Option<&str>)
+    ensures told { (usage : List ℕ) × IsWrittenOrCut E.takes E.fails E.faults err.old err.new
+        (line_of end.now (option_map (λ name. name.now) file.entry) usage) }
     ensures count { NoFall (E.faults err.old) (E.faults err.new) }
 {
-    let mut digits = Buffer::new();
-    let line = line_of(end, &mut digits);
+    let mut digits = Digits::new();
+    let line = line_of(end, file, &mut digits);
     write_line(err, line);
 }
 
@@ -49,31 +53,36 @@ fn write_line<E: Sink>(err: &mut E, line: ErrorLine<'_>)
             line.second.as_bytes(),
             line.third.as_bytes(),
             line.fourth.as_bytes(),
+            line.fifth,
             line.end.as_bytes(),
         ],
     );
 }
 
 /// The line of an end.
-fn line_of(end: End, digits: &mut Buffer) -> ErrorLine<'_>
-    ensures { (usage : List ℕ) × (text_of result ≡ line_of end usage) }
+fn line_of<'a>(end: &'a End, file: Option<&'a str>, digits: &'a mut Digits) -> ErrorLine<'a>
+    ensures { (usage : List ℕ) × (text_of result ≡ line_of end.now (option_map (λ name. name.now) file.entry) usage) }
 {
     match end {
         End::Helped => no_line(),
         End::HelpFailed => short_line("overcast: output failed"),
+        End::Versioned => no_line(),
+        End::VersionFailed => short_line("overcast: output failed"),
         End::Misused => ErrorLine {
             first: "overcast: usage\n",
             second: usage(),
             third: "",
             fourth: "",
+            fifth: &[],
             end: "",
         },
         End::NoMemory => short_line("overcast: out of memory"),
-        End::Replayed(end) => line_of_replay(end, digits),
-        End::Generated(end) => line_of_gen(end),
-        End::Listed(end) => line_of_rules(end, digits),
-        End::Checked(end) => line_of_check(end, digits),
-        End::Got(end) => line_of_get(end, digits),
-        End::Served(end) => line_of_service(end, digits),
+        End::Replayed(end) => line_of_replay(*end, file, digits),
+        End::Generated(end) => line_of_gen(*end),
+        End::Listed(end) => line_of_rules(end, file, digits),
+        End::Checked(end) => line_of_check(*end, digits),
+        End::CheckedConfigured(end) => line_of_configured(end, file, digits),
+        End::Got(end) => line_of_get(*end, digits),
+        End::Served(end) => line_of_service(end, file, digits),
     }
 }

@@ -39,13 +39,15 @@ overcast: multicast from one source over nodes that keep what they get
 Node 1 is the source, and publishes bytes in groups. The other nodes form a tree
 beneath it, and each passes on what it gets. Clients read groups over HTTP.
 
-Usage: overcast node ID --turns N [--probe] < CONFIGURATION > LINES
-       overcast check ID NODES CHAIN
+Usage: overcast node ID [--turns N] [--probe] [--config FILE] [--dir FOLDER]
+       overcast check ID [--config FILE] [--dir FOLDER]
+       overcast check ID NODES CHAIN [--dir FOLDER]
        overcast get URL [--follow N] > CONTENT
-       overcast rules < CONFIGURATION
-       overcast replay [--summary] < SCHEDULE > REPORT
+       overcast rules [--config FILE]
+       overcast replay [FILE] [--summary] > REPORT
        overcast gen SEED NODES EVENTS > SCHEDULE
        overcast [COMMAND] --help
+       overcast --version
 
 Commands:
   node    runs a node of a network on its three files
@@ -76,12 +78,14 @@ With each status but 0, one line on standard error says why.
 /// The text after the line `overcast: usage`, which says what the words may be.
 pub fn usage() -> &'static str {
     "\
-Usage: overcast node ID --turns N [--probe] < CONFIGURATION > LINES
-       overcast check ID NODES CHAIN
+Usage: overcast node ID [--turns N] [--probe] [--config FILE] [--dir FOLDER]
+       overcast check ID [--config FILE] [--dir FOLDER]
+       overcast check ID NODES CHAIN [--dir FOLDER]
        overcast get URL [--follow N] > CONTENT
-       overcast rules < CONFIGURATION
-       overcast replay [--summary] < SCHEDULE > REPORT
+       overcast rules [--config FILE]
+       overcast replay [FILE] [--summary] > REPORT
        overcast gen SEED NODES EVENTS > SCHEDULE
        overcast [COMMAND] --help
+       overcast --version
 "
 }

@@ -11,7 +11,7 @@ use Rattle.oc_commands.specs.Outside.{OnClock, OnFiles, OnLink, OnNode, OnStage,
 use Rattle.oc_commands.specs.Run.{Happened}
 use Rattle.oc_words.specs.Status.{number_of}
 use Rattle.oc_commands.specs.declared.ending.End.{End}
-use Rattle.oc_commands.specs.declared.ending.End.TheVariants.{Helped, HelpFailed, Misused, NoMemory, Replayed, Generated, Listed, Checked, Got, Served}
+use Rattle.oc_commands.specs.declared.ending.End.TheVariants.{Helped, HelpFailed, Versioned, VersionFailed, Misused, NoMemory, Replayed, Generated, Listed, Checked, CheckedConfigured, Got, Served}
 use Rattle.oc_program.specs.Streams.{at_bytes}
 
 module _ (bytes : List ℕ) (read : ℕ) (output : Output) (stage : OnStage) where
@@ -27,16 +27,19 @@ module _ (bytes : List ℕ) (read : ℕ) (output : Output) (stage : OnStage) whe
   replay_is_right_of summary replays.Sink h = inr (inl refl)
   replay_is_right_of summary replays.Memory h = inr (inr refl)
 
-  pub replayed_of : (files : OnFiles) (link : OnLink) (clock : OnClock) (node : OnNode) (summary : Bool) (asked : Option Request) (end : End) → asked ≡ Some (Replay summary)
+  pub replayed_of : (files : OnFiles) (link : OnLink) (clock : OnClock) (node : OnNode) (summary : Bool) (file : Option (List ℕ)) (asked : Option Request) (end : End) → asked ≡ Some (Replay summary file)
       → Happened (record { asked = asked; input = at_bytes bytes read; output = output; stage = stage; files = files; link = link; clock = clock; node = node }) end
       → IsRightOf (number_of (status_of end))
-  replayed_of files link clock node summary asked Helped is h = let asks = h.0 in cc
-  replayed_of files link clock node summary asked HelpFailed is h = let asks = h.0 in cc
-  replayed_of files link clock node summary asked Misused is h = let asks = h.0 in cc
-  replayed_of files link clock node summary asked NoMemory is h = inr (inr refl)
-  replayed_of files link clock node summary asked (Replayed end) is h = replay_is_right_of h.0.0 end h.0.2
-  replayed_of files link clock node summary asked (Generated end) is h = let asks = h.0.1 in cc
-  replayed_of files link clock node summary asked (Listed end) is h = let asks = h.0 in cc
-  replayed_of files link clock node summary asked (Checked end) is h = let asks = h.0.1 in cc
-  replayed_of files link clock node summary asked (Got end) is h = let asks = h.0.1 in cc
-  replayed_of files link clock node summary asked (Served end) is h = let asks = h.0.1 in cc
+  replayed_of files link clock node summary file asked Helped is h = let asks = h.0 in cc
+  replayed_of files link clock node summary file asked HelpFailed is h = let asks = h.0 in cc
+  replayed_of files link clock node summary file asked Versioned is h = let asks = h.0 in cc
+  replayed_of files link clock node summary file asked VersionFailed is h = let asks = h.0 in cc
+  replayed_of files link clock node summary file asked Misused is h = let asks = h.0 in cc
+  replayed_of files link clock node summary file asked NoMemory is h = inr (inr refl)
+  replayed_of files link clock node summary file asked (Replayed end) is h = replay_is_right_of h.0.0 end h.0.3
+  replayed_of files link clock node summary file asked (Generated end) is h = let asks = h.0.1 in cc
+  replayed_of files link clock node summary file asked (Listed end) is h = let asks = h.0.1 in cc
+  replayed_of files link clock node summary file asked (Checked end) is h = let asks = h.0.2 in cc
+  replayed_of files link clock node summary file asked (CheckedConfigured end) is h = let asks = h.0.2 in cc
+  replayed_of files link clock node summary file asked (Got end) is h = let asks = h.0.1 in cc
+  replayed_of files link clock node summary file asked (Served end) is h = let asks = h.0.2 in cc

@@ -1,2 +1,3 @@
 mod Passed
 mod InMemory
+mod Named

@@ -17,10 +17,12 @@ mod running;
 mod streams;
 
 pub use oc_commands::{
-    CheckEnd, ConfigEnd, End, GenEnd, RulesEnd, ServiceEnd, Status, headline_holds, help, tell,
-    usage,
+    CheckEnd, ConfigEnd, ConfiguredEnd, End, GenEnd, RulesEnd, ServiceEnd, Status, headline_holds,
+    help, tell, usage,
 };
 pub use oc_io::{ReaderSource, Traffic, WriterSink};
-pub use oc_words::{Request, Sample, WordsFault, read_words, rows_ask};
+pub use oc_words::{
+    Name, Paths, Request, Sample, VERSION, WordsFault, places_ask, read_words, rows_ask,
+};
 pub use running::run;
 pub use streams::{MemoryRun, StreamsRun, run_in_memory, run_on_streams};

@@ -1,13 +1,14 @@
 //! The program over readers and writers, through the adapters of `oc_io`: over bytes in memory,
-//! and over the standard streams.
+//! and over streams.
 
-ghost use Rattle.std.specs.Prelude.{◌≡◌, ℕ, Bool, ◌⊎◌, List, Some};
+ghost use Rattle.std.specs.Prelude.{◌≡◌, ℕ, Bool, ◌⊎◌, List, Option, Some};
 ghost use Rattle.oc_commands.specs.AtReplay.{status_for};
 ghost use Rattle.oc_keep.specs.Files.{disks};
 ghost use Rattle.oc_commands.specs.Ends.{status_of};
 ghost use Rattle.oc_commands.specs.Lines.{line_of};
 ghost use Rattle.oc_commands.specs.Outside.{at_clock, at_files, at_link, at_node, at_stage, seen};
 ghost use Rattle.oc_commands.specs.Run.{Happened};
+ghost use Rattle.oc_words.specs.Paths.{file_asked};
 ghost use Rattle.oc_words.specs.Status.{number_of};
 ghost use Rattle.oc_program.specs.Streams.{IsCountOfLineOrFront, IsLineOrFront, at_bytes, at_input, at_output, at_text};
 ghost use Rattle.oc_words.specs.Words.{asked, texts_of};
@@ -20,7 +21,7 @@ use oc_link::{Clock, Link};
 use oc_replay::Stage;
 use oc_words::Request;
 use std::alloc::Global;
-use std::io::{Stderr, Stdin, Stdout};
+use std::io::{Read, Stderr, Stdout};
 
 /// What a run over bytes in memory left.
 #[derive(Drop)]
@@ -52,7 +53,7 @@ pub fn run_in_memory<T: Stage, D: Disk, L: Link, C: Clock>(
 ) -> MemoryRun
     ensures ended { (end : End) × (usage : List ℕ)
         × (result.status ≡ number_of (status_of end))
-        × IsLineOrFront result.error.items (line_of end usage)
+        × IsLineOrFront result.error.items (line_of end (file_asked (asked (texts_of words.now))) usage)
         × Happened (record {
           asked = asked (texts_of words.now);
           input = at_bytes input.now result.read;
@@ -67,7 +68,7 @@ pub fn run_in_memory<T: Stage, D: Disk, L: Link, C: Clock>(
         }) end }
 
     // The status of a replay is that of what these bytes say, or the output failed, or memory runs out.
-    ensures replayed { (summary : Bool) → asked (texts_of words.now) ≡ Some (Request.Replay summary)
+    ensures replayed { (summary : Bool) (file : Option (List ℕ)) → asked (texts_of words.now) ≡ Some (Request.Replay summary file)
         → (result.status ≡ status_for (schedule_of input.now)) ⊎ (result.status ≡ 1) ⊎ (result.status ≡ 4) }
 {
     let mut source = ReaderSource::new(input);
@@ -99,7 +100,7 @@ pub fn run_in_memory<T: Stage, D: Disk, L: Link, C: Clock>(
 pub struct StreamsRun {
     /// The status.
     pub status: u8,
-    /// What was read on standard input.
+    /// What was read on the input.
     pub input: Traffic,
     /// What was written on standard output.
     pub output: Traffic,
@@ -107,15 +108,16 @@ pub struct StreamsRun {
     pub error: Traffic,
 }
 
-/// [`run`] over the standard streams. No contract can say which bytes pass there; how many, this one does: as
+/// [`run`] over streams: an input, which is the standard one or a file, and the standard outputs. No contract can say
+/// which bytes pass there; how many, this one does: as
 /// many were read as some text has that says what the end tells, and exactly as many were written as the
 /// text that had to be written has, for `node` as many as the lines of its deeds have. Where
 /// no end blames the input or the output, no call on it failed.
 #[allow(clippy::too_many_arguments)]
-pub fn run_on_streams<T: Stage, D: Disk, L: Link, C: Clock>(
+pub fn run_on_streams<R: Read + Drop, T: Stage, D: Disk, L: Link, C: Clock>(
     alloc: Global,
     words: &[String],
-    input: Stdin,
+    input: R,
     output: Stdout,
     error: Stderr,
     stage: &mut T,
@@ -127,7 +129,7 @@ pub fn run_on_streams<T: Stage, D: Disk, L: Link, C: Clock>(
 ) -> StreamsRun
     ensures ended { (end : End) × (usage : List ℕ)
         × (result.status ≡ number_of (status_of end))
-        × IsCountOfLineOrFront result.error (line_of end usage)
+        × IsCountOfLineOrFront result.error (line_of end (file_asked (asked (texts_of words.now))) usage)
         × Happened (record {
           asked = asked (texts_of words.now);
           input = at_input result.input;

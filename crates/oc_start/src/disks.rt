@@ -10,6 +10,7 @@ ghost use Rattle.oc_commands.specs.Ends.{status_of};
 ghost use Rattle.oc_commands.specs.Lines.{line_of};
 ghost use Rattle.oc_commands.specs.Outside.{at_clock, at_files, at_link, at_node, at_sink, at_source, at_stage, seen};
 ghost use Rattle.oc_commands.specs.Run.{Happened, IsWrittenOrCut};
+ghost use Rattle.oc_words.specs.Paths.{file_asked};
 ghost use Rattle.oc_words.specs.Status.{number_of};
 ghost use Rattle.oc_commands.specs.declared.ending.End.{End};
 ghost use Rattle.oc_words.specs.Words.{asked, texts_of};
@@ -43,7 +44,7 @@ pub fn run_to_disks<S: Source, K: Sink, E: Sink, D: Disk, L: Link, C: Clock>(
 ) -> (u8, Option<(MemDisk, MemDisk, MemDisk)>)
     ensures { (end : End) × (usage : List ℕ) × (last : WorldView)
         × (result.0 ≡ number_of (status_of end))
-        × IsWrittenOrCut E.takes E.fails E.faults err.old err.new (line_of end usage)
+        × IsWrittenOrCut E.takes E.fails E.faults err.old err.new (line_of end (file_asked (asked (texts_of words.now))) usage)
         × Happened (record {
           asked = asked (texts_of words.now);
           input = at_source S.gives S.fails S.ended S.faults input.old input.new;

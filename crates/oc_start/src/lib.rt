@@ -1,14 +1,16 @@
-//! The program over the real things: the standard streams, three files of the folder that it runs in,
+//! The program over the real things: the standard streams, or a file in the place of the input, three files of a folder,
 //! sockets, the system's clock, and a world in memory for a replay.
 //!
-//! [`start`] makes these and calls [`run_on_streams`](oc_program::run_on_streams).
-//! [`given_words`] reads the words that the process was given.
+//! [`start`] makes these and calls [`run_on_streams`](oc_program::run_on_streams); [`Places::of`] finds which files they
+//! are. [`given_words`] reads the words that the process was given.
 #![tactic(auto)]
 
 mod disks;
+mod places;
 mod starting;
 mod words;
 
 pub use disks::run_to_disks;
-pub use starting::start;
+pub use places::Places;
+pub use starting::{end_early, run_words, start};
 pub use words::given_words;

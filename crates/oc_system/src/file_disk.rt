@@ -1,6 +1,7 @@
 ghost use Rattle.std.specs.Prelude.{◌≡◌, ◌-◌, ◌≤◌, min};
 ghost use Rattle.oc_io.specs.Faults.{Rose};
 
+use crate::trouble::Trouble;
 use oc_io::{Disk, Failed};
 use std::alloc::AllocError;
 use std::fs::{File, OpenOptions};
@@ -10,37 +11,60 @@ use std::rt::Files;
 
 /// A file as a disk.
 ///
-/// The file is opened at the first call, and made where there is none; then the folder is synced, so that the
+/// The file is opened at the first call, and made where there is none; then its folder is synced, so that the
 /// file is still there after a crash. It is locked as long as it is open, so that two programs never write to
 /// one file. A call that cannot open or lock it fails, and the next one tries again.
 #[derive(Drop)]
 pub struct FileDisk<'a, R> {
     rt: &'a R,
-    path: &'a str,
+    place: Place<'a>,
     file: Option<File>,
     size: u64,
     faults: u64,
+    /// Why the last call that failed did.
+    error: Option<io::Error>,
+}
+
+/// Where a file is: its path, which begins with that of its folder, and its name in it.
+#[derive(Clone, Copy)]
+pub struct Place<'a> {
+    pub folder: &'a str,
+    pub path: &'a str,
+    pub name: &'a str,
 }
 
 impl<'a, R: Files<File = File>> FileDisk<'a, R> {
-    /// The disk of the file with this name in the folder that the program runs in.
-    pub fn new(rt: &'a R, path: &'a str) -> FileDisk<'a, R> {
+    /// The disk of the file at this place.
+    pub fn new(rt: &'a R, place: Place<'a>) -> FileDisk<'a, R> {
         FileDisk {
             rt,
-            path,
+            place,
             file: None,
             size: 0,
             faults: 0,
+            error: None,
         }
     }
 
-    /// Counts a failure.
-    fn fault(&mut self) -> Failed
+    /// Why a call failed, if one did.
+    pub fn trouble(&self) -> Option<Trouble<'a>> {
+        match self.error {
+            Some(error) => Some(Trouble {
+                place: self.place.name,
+                error,
+            }),
+            None => None,
+        }
+    }
+
+    /// Counts a failure, and keeps why.
+    fn fault(&mut self, error: io::Error) -> Failed
         ensures count { Rose self.old.faults self.new.faults }
         ensures faults { self.old.faults ≤ self.new.faults }
         ensures size { self.new.size ≡ self.old.size }
     {
         self.faults = self.faults.saturating_add(1);
+        self.error = Some(error);
         Failed
     }
 }
@@ -48,11 +72,11 @@ impl<'a, R: Files<File = File>> FileDisk<'a, R> {
 /// The file, opened and locked if it was not open yet.
 fn opened<'f, R: Files<File = File>>(
     rt: &R,
-    path: &str,
+    place: Place<'_>,
     file: &'f mut Option<File>,
 ) -> io::Result<&'f File> {
     if file.is_none() {
-        *file = Some(open_locked(rt, path)?);
+        *file = Some(open_locked(rt, place)?);
     }
     match file {
         Some(file) => Ok(file),
@@ -62,12 +86,12 @@ fn opened<'f, R: Files<File = File>>(
 
 /// Opens the file and takes its lock; makes it where there is none. The folder is synced each time: an
 /// earlier program may have made the file and been stopped before it had done so.
-fn open_locked<R: Files<File = File>>(rt: &R, path: &str) -> io::Result<File> {
+fn open_locked<R: Files<File = File>>(rt: &R, place: Place<'_>) -> io::Result<File> {
     let mut how = OpenOptions::new();
     how.read(true).write(true).create(true);
-    let file = how.open(rt, path)?;
+    let file = how.open(rt, place.path)?;
     file.try_lock()?;
-    File::open(rt, ".")?.sync_all()?;
+    File::open(rt, place.folder)?.sync_all()?;
     Ok(file)
 }
 
@@ -82,20 +106,20 @@ impl<R: Files<File = File>> Disk for FileDisk<'_, R> {
     ghost reliable_keeps = { λ disk reliable. absurd (false≢true reliable) };
 
     fn size(&mut self) -> Result<u64, Failed> {
-        match size_of(self.rt, self.path, &mut self.file) {
+        match size_of(self.rt, self.place, &mut self.file) {
             Ok(size) => {
                 self.size = size;
                 Ok(size)
             }
-            Err(_) => Err(self.fault()),
+            Err(error) => Err(self.fault(error)),
         }
     }
 
     fn read_at(&mut self, at: u64, buf: &mut [u8]) -> Result<usize, Failed> {
         let count = within(at, self.size, buf.len());
-        match read_whole(self.rt, self.path, &mut self.file, at, &mut buf[..count]) {
+        match read_whole(self.rt, self.place, &mut self.file, at, &mut buf[..count]) {
             Ok(()) => Ok(count),
-            Err(_) => Err(self.fault()),
+            Err(error) => Err(self.fault(error)),
         }
     }
 
@@ -105,21 +129,21 @@ impl<R: Files<File = File>> Disk for FileDisk<'_, R> {
 
     fn write_at(&mut self, at: u64, bytes: &[u8]) -> Result<(), Failed> {
         let Some(end) = at.checked_add(bytes.len() as u64) else {
-            return Err(self.fault());
+            return Err(self.fault(io::Error::from(io::ErrorKind::FileTooLarge)));
         };
-        match write_whole(self.rt, self.path, &mut self.file, at, bytes) {
+        match write_whole(self.rt, self.place, &mut self.file, at, bytes) {
             Ok(()) => {
                 self.size = self.size.max(end);
                 Ok(())
             }
-            Err(_) => Err(self.fault()),
+            Err(error) => Err(self.fault(error)),
         }
     }
 
     fn sync(&mut self) -> Result<(), Failed> {
-        match sync_data(self.rt, self.path, &mut self.file) {
+        match sync_data(self.rt, self.place, &mut self.file) {
             Ok(()) => Ok(()),
-            Err(_) => Err(self.fault()),
+            Err(error) => Err(self.fault(error)),
         }
     }
 }
@@ -131,13 +155,17 @@ fn within(at: u64, size: u64, most: usize) -> usize
     usize::try_from(size.saturating_sub(at)).map_or(most, |left| left.min(most))
 }
 
-fn size_of<R: Files<File = File>>(rt: &R, path: &str, file: &mut Option<File>) -> io::Result<u64> {
-    Ok(opened(rt, path, file)?.metadata()?.len())
+fn size_of<R: Files<File = File>>(
+    rt: &R,
+    place: Place<'_>,
+    file: &mut Option<File>,
+) -> io::Result<u64> {
+    Ok(opened(rt, place, file)?.metadata()?.len())
 }
 
 fn read_whole<R: Files<File = File>>(
     rt: &R,
-    path: &str,
+    place: Place<'_>,
     file: &mut Option<File>,
     at: u64,
     buf: &mut [u8],
@@ -145,19 +173,23 @@ fn read_whole<R: Files<File = File>>(
     if buf.is_empty() {
         return Ok(());
     }
-    opened(rt, path, file)?.read_exact_at(buf, at)
+    opened(rt, place, file)?.read_exact_at(buf, at)
 }
 
 fn write_whole<R: Files<File = File>>(
     rt: &R,
-    path: &str,
+    place: Place<'_>,
     file: &mut Option<File>,
     at: u64,
     bytes: &[u8],
 ) -> io::Result<()> {
-    opened(rt, path, file)?.write_all_at(bytes, at)
+    opened(rt, place, file)?.write_all_at(bytes, at)
 }
 
-fn sync_data<R: Files<File = File>>(rt: &R, path: &str, file: &mut Option<File>) -> io::Result<()> {
-    opened(rt, path, file)?.sync_data()
+fn sync_data<R: Files<File = File>>(
+    rt: &R,
+    place: Place<'_>,
+    file: &mut Option<File>,
+) -> io::Result<()> {
+    opened(rt, place, file)?.sync_data()
 }

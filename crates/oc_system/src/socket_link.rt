@@ -2,9 +2,11 @@ ghost use Rattle.std.specs.Prelude.{◌≡◌};
 
 use crate::dials::Dials;
 use crate::sockets::Sockets;
+use crate::trouble::Trouble;
 use oc_io::Failed;
 use oc_link::{Arrival, Link};
 use std::alloc::Global;
+use std::io;
 use std::net::{Net, TcpStream};
 use std::rt::Clock;
 
@@ -29,11 +31,16 @@ pub struct SocketLink<'a, R> {
     listening: u64,
     talking: u64,
     dialling: u64,
+    /// The node that waits for connections, if one does.
+    node: Option<u64>,
+    /// Where the last call that ends a run failed, and why.
+    place: String,
+    error: Option<io::Error>,
 }
 
-impl<'a, R: Net<Stream = TcpStream> + Clock> SocketLink<'a, R> {
-    /// A link over the sockets of this runtime.
-    pub fn new(rt: &'a R, alloc: Global) -> SocketLink<'a, R>
+impl<'a, R: Net<Stream = TcpStream> + Clock + Eprint> SocketLink<'a, R> {
+    /// A link over the sockets of this runtime, for the node of this id if one runs.
+    pub fn new(rt: &'a R, alloc: Global, node: Option<u64>) -> SocketLink<'a, R>
         ensures listening { result.listening ≡ 0 }
         ensures talking { result.talking ≡ 0 }
         ensures dialling { result.dialling ≡ 0 }
@@ -48,6 +55,20 @@ impl<'a, R: Net<Stream = TcpStream> + Clock> SocketLink<'a, R> {
             listening: 0,
             talking: 0,
             dialling: 0,
+            node,
+            place: String::new(alloc),
+            error: None,
+        }
+    }
+
+    /// Why a call failed that ends a run, if one did: to wait for connections, or a dial where none are waited for.
+    pub fn trouble(&self) -> Option<Trouble<'_>> {
+        match self.error {
+            Some(error) => Some(Trouble {
+                place: self.place.as_str(),
+                error,
+            }),
+            None => None,
         }
     }
 
@@ -70,7 +91,23 @@ impl<'a, R: Net<Stream = TcpStream> + Clock> SocketLink<'a, R> {
     }
 }
 
-impl<R: Net<Stream = TcpStream> + Clock> Link for SocketLink<'_, R> {
+/// Keeps where a call failed, and why, if there is the memory.
+fn keep(kept: &mut Option<io::Error>, place: &mut String, address: &str, error: io::Error) {
+    place.clear();
+    *kept = match place.push_str(address) {
+        Ok(()) => Some(error),
+        Err(_) => None,
+    };
+}
+
+/// Says on the error output where a node waits for connections. Where that fails, nothing else happens.
+fn announce<R: Eprint>(rt: &R, node: Option<u64>, address: &str) {
+    if let Some(id) = node {
+        let _ = eprintln!(rt; "overcast: node {id} listens at {address}");
+    }
+}
+
+impl<R: Net<Stream = TcpStream> + Clock + Eprint> Link for SocketLink<'_, R> {
     ghost use Rattle.std.specs.Prelude.{None};
 
     ghost story = { λ link. None };
@@ -81,9 +118,11 @@ impl<R: Net<Stream = TcpStream> + Clock> Link for SocketLink<'_, R> {
         match Sockets::listen(self.rt, self.alloc, address) {
             Ok(sockets) => {
                 self.sockets = Some(sockets);
+                announce(self.rt, self.node, address);
                 Ok(())
             }
-            Err(_) => {
+            Err(error) => {
+                keep(&mut self.error, &mut self.place, address, error);
                 self.listening = self.listening.saturating_add(1);
                 Err(Failed)
             }
@@ -143,7 +182,10 @@ impl<R: Net<Stream = TcpStream> + Clock> Link for SocketLink<'_, R> {
                 self.went = self.went.saturating_add(bytes.len() as u64);
                 Ok(())
             }
-            Err(_) => {
+            Err(error) => {
+                if self.sockets.is_none() {
+                    keep(&mut self.error, &mut self.place, address, error);
+                }
                 self.dials.hang_up();
                 self.dials.give_up(&mut self.sockets);
                 self.dialling = self.dialling.saturating_add(1);

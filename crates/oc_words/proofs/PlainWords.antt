@@ -1,5 +1,5 @@
 -- What plain words ask for: words that are no flags go to the arguments in their order.
-use Rattle.std.proofs.Common.{◌≡◌, ◌≢◌, ◌∙◌, ℕ, Bool, ap, ap₂, refl, codes, true, false, cond, not, ◌&&◌, List, [], ◌∷◌, Some, None, Result, Ok, Err, subst, ◌^◌, ◌-◌}
+use Rattle.std.proofs.Common.{◌≡◌, ◌≢◌, ◌∙◌, ℕ, Bool, ap, ap₂, refl, codes, true, false, cond, not, ◌&&◌, List, [], ◌∷◌, Option, Some, None, Result, Ok, Err, subst, ◌^◌, ◌-◌}
 use Rattle.std.specs.Prelude.{nat_le, unwrap_or}
 use Rattle.std.specs.Result.{result_ok}
 use Rattle.std.specs.Str.Parse.{digits_value}
@@ -14,17 +14,17 @@ use Rattle.oc_base.specs.Steps.{◌>>=◌}
 use Rattle.oc_base.specs.declared.limits.TheConstants.{MAX_NODES}
 use Rattle.oc_base.specs.declared.why.Why.TheVariants.{Number, Range}
 use Rattle.oc_words.specs.Arguments.{IsNoFlag}
-use Rattle.oc_words.specs.Command.{bare_command, check_shape, command, gen_shape, get_shape, node_shape}
-use Rattle.oc_words.specs.Requests.{download_in, member_in, sample_in, service_in, times_in}
-use Rattle.oc_words.specs.Words.{IsPlain, plain_replay, plain_summary, plain_gen, plain_node, plain_probing, plain_check, plain_get, plain_follow, plain_rules}
-use Rattle.oc_words.specs.Words.{asked, asked_by, asking, request_by, verdict_among, verdict_of}
+use Rattle.oc_words.specs.Command.{bare_command, check_shape, command, gen_shape, get_shape, node_shape, replay_shape, rules_shape}
+use Rattle.oc_words.specs.Requests.{download_in, id_in, member_in, sample_in, service_in, times_in, turns_in}
+use Rattle.oc_words.specs.Words.{IsPlain, plain_replay, plain_summary, plain_file, plain_gen, plain_endless, plain_placed, plain_node, plain_probing, plain_check, plain_configured, plain_configured_there, plain_checked, plain_get, plain_follow, plain_rules, plain_listed, plain_version}
+use Rattle.oc_words.specs.Words.{asked, asked_by, asking, check_at, check_in, node_at, request_by, verdict_among, verdict_of}
 use Rattle.oc_words.specs.declared.request.Download.{Download}
 use Rattle.oc_words.specs.declared.request.Member.{Member}
 use Rattle.oc_words.specs.declared.request.Request.{Request}
-use Rattle.oc_words.specs.declared.request.Request.TheVariants.{Replay, Gen, Node, Check, Get, Rules}
+use Rattle.oc_words.specs.declared.request.Request.TheVariants.{Replay, Gen, Get, Rules, Version}
 use Rattle.oc_words.specs.declared.request.Sample.{Sample}
 use Rattle.oc_words.specs.declared.request.Service.{Service}
-use Rattle.oc_words.specs.declared.request.TheConstants.{MAX_EVENTS, MAX_FOLLOWED, MAX_TURNS}
+use Rattle.oc_words.specs.declared.request.TheConstants.{MAX_EVENTS, MAX_FOLLOWED}
 use Rattle.oc_words.proofs.Tokens.{Token, free, fixed, texts, AreFree, rows_of_tokens, fault_of_tokens, level_is, rows_are}
 
 -- ---- the words of a row
@@ -51,19 +51,19 @@ asked_by_gen seed nodes events s n e =
     row_asks (codes "gen") (built_of gen_shape) (free seed ∷ free nodes ∷ free events ∷ []) (s, (n, (e, tt))) refl refl refl
 
 pub asked_by_check : (id nodes chain : Text) → IsNoFlag id → IsNoFlag nodes → IsNoFlag chain
-    → asked (codes "check" ∷ id ∷ nodes ∷ chain ∷ []) ≡ result_ok (asking Check (member_in id nodes chain))
+    → asked (codes "check" ∷ id ∷ nodes ∷ chain ∷ []) ≡ result_ok (asking (check_at None) (member_in id nodes chain))
 unfolding command clap_on_literals
 asked_by_check id nodes chain i n c =
     row_asks (codes "check") (built_of check_shape) (free id ∷ free nodes ∷ free chain ∷ []) (i, (n, (c, tt))) refl refl refl
 
 pub asked_by_node : (id turns : Text) → IsNoFlag id → IsNoFlag turns
-    → asked (codes "node" ∷ id ∷ codes "--turns" ∷ turns ∷ []) ≡ result_ok (asking Node (service_in id turns false))
+    → asked (codes "node" ∷ id ∷ codes "--turns" ∷ turns ∷ []) ≡ result_ok (asking (node_at None None) (service_in id (Some turns) false))
 unfolding command clap_on_literals
 asked_by_node id turns i t =
     row_asks (codes "node") (built_of node_shape) (free id ∷ fixed (codes "--turns") ∷ free turns ∷ []) (i, (tt, (t, tt))) refl refl refl
 
 pub asked_by_probing : (id turns : Text) → IsNoFlag id → IsNoFlag turns
-    → asked (codes "node" ∷ id ∷ codes "--turns" ∷ turns ∷ codes "--probe" ∷ []) ≡ result_ok (asking Node (service_in id turns true))
+    → asked (codes "node" ∷ id ∷ codes "--turns" ∷ turns ∷ codes "--probe" ∷ []) ≡ result_ok (asking (node_at None None) (service_in id (Some turns) true))
 unfolding command clap_on_literals
 asked_by_probing id turns i t =
     row_asks (codes "node") (built_of node_shape) (free id ∷ fixed (codes "--turns") ∷ free turns ∷ fixed (codes "--probe") ∷ []) (i, (tt, (t, (tt, tt)))) refl refl refl
@@ -79,15 +79,64 @@ unfolding command clap_on_literals
 asked_by_follow url times u t =
     row_asks (codes "get") (built_of get_shape) (free url ∷ fixed (codes "--follow") ∷ free times ∷ []) (u, (tt, (t, tt))) refl refl refl
 
-pub asked_by_replay : asked (codes "replay" ∷ []) ≡ Some (Replay false)
+pub asked_by_endless : (id : Text) → IsNoFlag id
+    → asked (codes "node" ∷ id ∷ []) ≡ result_ok (asking (node_at None None) (service_in id None false))
+unfolding command clap_on_literals
+asked_by_endless id i = row_asks (codes "node") (built_of node_shape) (free id ∷ []) (i, tt) refl refl refl
+
+pub asked_by_placed : (id config folder : Text) → IsNoFlag id → IsNoFlag config → IsNoFlag folder
+    → asked (codes "node" ∷ id ∷ codes "--config" ∷ config ∷ codes "--dir" ∷ folder ∷ []) ≡ result_ok (asking (node_at (Some config) (Some folder)) (service_in id None false))
+unfolding command clap_on_literals
+asked_by_placed id config folder i c f =
+    row_asks (codes "node") (built_of node_shape) (free id ∷ fixed (codes "--config") ∷ free config ∷ fixed (codes "--dir") ∷ free folder ∷ []) (i, (tt, (c, (tt, (f, tt))))) refl refl refl
+
+pub asked_by_checked : (id nodes chain folder : Text) → IsNoFlag id → IsNoFlag nodes → IsNoFlag chain → IsNoFlag folder
+    → asked (codes "check" ∷ id ∷ nodes ∷ chain ∷ codes "--dir" ∷ folder ∷ []) ≡ result_ok (asking (check_at (Some folder)) (member_in id nodes chain))
+unfolding command clap_on_literals
+asked_by_checked id nodes chain folder i n c f =
+    row_asks (codes "check") (built_of check_shape) (free id ∷ free nodes ∷ free chain ∷ fixed (codes "--dir") ∷ free folder ∷ []) (i, (n, (c, (tt, (f, tt))))) refl refl refl
+
+pub asked_by_configured : (id : Text) → IsNoFlag id → asked (codes "check" ∷ id ∷ []) ≡ result_ok (asking (check_in None None) (id_in id))
+unfolding command clap_on_literals
+asked_by_configured id i = row_asks (codes "check") (built_of check_shape) (free id ∷ []) (i, tt) refl refl refl
+
+pub asked_by_configured_there : (id config folder : Text) → IsNoFlag id → IsNoFlag config → IsNoFlag folder
+    → asked (codes "check" ∷ id ∷ codes "--config" ∷ config ∷ codes "--dir" ∷ folder ∷ []) ≡ result_ok (asking (check_in (Some config) (Some folder)) (id_in id))
+unfolding command clap_on_literals
+asked_by_configured_there id config folder i c f =
+    row_asks (codes "check") (built_of check_shape) (free id ∷ fixed (codes "--config") ∷ free config ∷ fixed (codes "--dir") ∷ free folder ∷ []) (i, (tt, (c, (tt, (f, tt))))) refl refl refl
+
+pub asked_unchained : (id nodes : Text) → IsNoFlag id → IsNoFlag nodes → asked (codes "check" ∷ id ∷ nodes ∷ []) ≡ None
+unfolding command clap_on_literals
+asked_unchained id nodes i n = row_asks (codes "check") (built_of check_shape) (free id ∷ free nodes ∷ []) (i, (n, tt)) refl refl refl
+
+pub asked_twice : (id nodes chain config : Text) → IsNoFlag id → IsNoFlag nodes → IsNoFlag chain → IsNoFlag config
+    → asked (codes "check" ∷ id ∷ nodes ∷ chain ∷ codes "--config" ∷ config ∷ []) ≡ None
+unfolding command clap_on_literals
+asked_twice id nodes chain config i n c f =
+    row_asks (codes "check") (built_of check_shape) (free id ∷ free nodes ∷ free chain ∷ fixed (codes "--config") ∷ free config ∷ []) (i, (n, (c, (tt, (f, tt))))) refl refl refl
+
+pub asked_by_version : asked (codes "--version" ∷ []) ≡ Some Version
+unfolding asked verdict_of command clap_on_literals
+asked_by_version = refl
+
+pub asked_by_file : (file : Text) → IsNoFlag file → asked (codes "replay" ∷ file ∷ []) ≡ Some (Replay false (Some file))
+unfolding command clap_on_literals
+asked_by_file file f = row_asks (codes "replay") (built_of replay_shape) (free file ∷ []) (f, tt) refl refl refl
+
+pub asked_by_listed : (config : Text) → IsNoFlag config → asked (codes "rules" ∷ codes "--config" ∷ config ∷ []) ≡ Some (Rules (Some config))
+unfolding command clap_on_literals
+asked_by_listed config c = row_asks (codes "rules") (built_of rules_shape) (fixed (codes "--config") ∷ free config ∷ []) (tt, (c, tt)) refl refl refl
+
+pub asked_by_replay : asked (codes "replay" ∷ []) ≡ Some (Replay false None)
 unfolding asked verdict_of command clap_on_literals
 asked_by_replay = refl
 
-pub asked_by_summary : asked (codes "replay" ∷ codes "--summary" ∷ []) ≡ Some (Replay true)
+pub asked_by_summary : asked (codes "replay" ∷ codes "--summary" ∷ []) ≡ Some (Replay true None)
 unfolding asked verdict_of command clap_on_literals
 asked_by_summary = refl
 
-pub asked_by_rules : asked (codes "rules" ∷ []) ≡ Some Rules
+pub asked_by_rules : asked (codes "rules" ∷ []) ≡ Some (Rules None)
 unfolding asked verdict_of command clap_on_literals
 asked_by_rules = refl
 
@@ -120,12 +169,15 @@ sample_words seed nodes events sample is =
     let (c, third, last) = both_gave (number_in b MAX_EVENTS events) _ sample more in
     (no_flag _ _ seed a first, no_flag _ _ nodes b second, no_flag _ _ events c third)
 
-service_words : (id turns : Text) (probes : Bool) (service : Service) → service_in id turns probes ≡ Ok service
-    → IsNoFlag id × IsNoFlag turns
-service_words id turns probes service is =
+service_word : (id : Text) (turns : Option Text) (probes : Bool) (service : Service) → service_in id turns probes ≡ Ok service → IsNoFlag id
+service_word id turns probes service is =
+    let (a, first, rest) = both_gave (number_in 0 (2 ^ 64 - 1) id) _ service is in no_flag _ _ id a first
+
+turns_word : (id turns : Text) (probes : Bool) (service : Service) → service_in id (Some turns) probes ≡ Ok service → IsNoFlag turns
+turns_word id turns probes service is =
     let (a, first, rest) = both_gave (number_in 0 (2 ^ 64 - 1) id) _ service is in
-    let (b, second, last) = both_gave (number_in 0 MAX_TURNS turns) _ service rest in
-    (no_flag _ _ id a first, no_flag _ _ turns b second)
+    let (b, second, last) = both_gave (turns_in (Some turns)) _ service rest in
+    no_flag _ _ turns b second
 
 member_words : (id nodes chain : Text) (member : Member) → member_in id nodes chain ≡ Ok member
     → IsNoFlag id × IsNoFlag nodes × IsNoFlag chain
@@ -152,19 +204,31 @@ something words row request is asks = λ none. let asks_too : asked words ≡ So
 pub plain_asks : (words : List Text) → IsPlain words → asked words ≢ None
 plain_asks words (plain_replay is) = something words _ _ is asked_by_replay
 plain_asks words (plain_summary is) = something words _ _ is asked_by_summary
+plain_asks words (plain_file file is f) = something words _ _ is (asked_by_file file f)
 plain_asks words (plain_rules is) = something words _ _ is asked_by_rules
+plain_asks words (plain_listed config is c) = something words _ _ is (asked_by_listed config c)
 plain_asks words (plain_gen seed nodes events sample is said) =
     let free = sample_words seed nodes events sample said in
     something words _ (Gen sample) is (asked_by_gen seed nodes events free.0 free.1 free.2 ∙ of_fields Gen _ sample said)
+plain_asks words (plain_endless id service is said) =
+    something words _ (node_at None None service) is (asked_by_endless id (service_word id None false service said) ∙ of_fields (node_at None None) _ service said)
+plain_asks words (plain_placed id config folder service is c f said) =
+    something words _ (node_at (Some config) (Some folder) service) is (asked_by_placed id config folder (service_word id None false service said) c f ∙ of_fields (node_at (Some config) (Some folder)) _ service said)
 plain_asks words (plain_node id turns service is said) =
-    let free = service_words id turns false service said in
-    something words _ (Node service) is (asked_by_node id turns free.0 free.1 ∙ of_fields Node _ service said)
+    something words _ (node_at None None service) is (asked_by_node id turns (service_word id (Some turns) false service said) (turns_word id turns false service said) ∙ of_fields (node_at None None) _ service said)
 plain_asks words (plain_probing id turns service is said) =
-    let free = service_words id turns true service said in
-    something words _ (Node service) is (asked_by_probing id turns free.0 free.1 ∙ of_fields Node _ service said)
+    something words _ (node_at None None service) is (asked_by_probing id turns (service_word id (Some turns) true service said) (turns_word id turns true service said) ∙ of_fields (node_at None None) _ service said)
 plain_asks words (plain_check id nodes chain member is said) =
     let free = member_words id nodes chain member said in
-    something words _ (Check member) is (asked_by_check id nodes chain free.0 free.1 free.2 ∙ of_fields Check _ member said)
+    something words _ (check_at None member) is (asked_by_check id nodes chain free.0 free.1 free.2 ∙ of_fields (check_at None) _ member said)
+plain_asks words (plain_configured id number is said) =
+    something words _ (check_in None None number) is (asked_by_configured id (no_flag _ _ id number said) ∙ of_fields (check_in None None) _ number said)
+plain_asks words (plain_configured_there id config folder number is c f said) =
+    something words _ (check_in (Some config) (Some folder) number) is (asked_by_configured_there id config folder (no_flag _ _ id number said) c f ∙ of_fields (check_in (Some config) (Some folder)) _ number said)
+plain_asks words (plain_version is) = something words _ _ is asked_by_version
+plain_asks words (plain_checked id nodes chain folder member is f said) =
+    let free = member_words id nodes chain member said in
+    something words _ (check_at (Some folder) member) is (asked_by_checked id nodes chain folder free.0 free.1 free.2 f ∙ of_fields (check_at (Some folder)) _ member said)
 plain_asks words (plain_get url is u) =
     something words _ (Get (record { address = url; times = None })) is (asked_by_get url u)
 plain_asks words (plain_follow url times download is u said) =

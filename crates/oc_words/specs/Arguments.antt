@@ -6,9 +6,12 @@ use Rattle.clap.specs.Words.{Row, Text, first_of}
 use Rattle.oc_base.specs.Steps.{◌>>=◌}
 use Rattle.oc_base.specs.declared.why.Why.{Why}
 use Rattle.oc_base.specs.declared.why.Why.TheVariants.{Count}
-use Rattle.oc_words.specs.Requests.{download_in, member_in, sample_in, service_in}
+use Rattle.oc_words.specs.Requests.{download_in, member_without, sample_in, service_in}
 use Rattle.oc_words.specs.declared.request.Download.{Download}
 use Rattle.oc_words.specs.declared.request.Member.{Member}
+use Rattle.oc_words.specs.declared.request.Paths.{Paths}
+use Rattle.oc_words.specs.declared.request.Request.{Request}
+use Rattle.oc_words.specs.declared.request.Request.TheVariants.{Replay}
 use Rattle.oc_words.specs.declared.request.Sample.{Sample}
 use Rattle.oc_words.specs.declared.request.Service.{Service}
 
@@ -32,20 +35,23 @@ sample_of rows = do
   events_word ← word_of (codes "EVENTS") rows
   sample_in seed_word nodes_word events_word
 
+-- what the arguments of `replay` ask for
+abbrev pub replay_of : List Row → Request
+replay_of rows = Replay (is_flagged (codes "summary") rows) (first_of (codes "FILE") rows)
+
 -- what the arguments of `node` ask for
 abbrev pub service_of : List Row → Result Service Why
 service_of rows = do
   id_word ← word_of (codes "ID") rows
-  turns_word ← word_of (codes "turns") rows
-  service_in id_word turns_word (is_flagged (codes "probe") rows)
+  service_in id_word (first_of (codes "turns") rows) (is_flagged (codes "probe") rows)
 
--- what the arguments of `check` ask for
-abbrev pub member_of : List Row → Result Member Why
-member_of rows = do
-  id_word ← word_of (codes "ID") rows
-  nodes_word ← word_of (codes "NODES") rows
-  chain_word ← word_of (codes "CHAIN") rows
-  member_in id_word nodes_word chain_word
+-- where the arguments of `node` and `check` say that it reads and keeps
+abbrev pub paths_of : List Row → Paths
+paths_of rows = record { config = first_of (codes "config") rows; folder = first_of (codes "dir") rows }
+
+-- what the arguments of `check` ask for, with its id and the number of nodes
+abbrev pub member_of : Text → Text → List Row → Result Member Why
+member_of id nodes rows = member_without id nodes (first_of (codes "CHAIN") rows) (first_of (codes "config") rows)
 
 -- what the arguments of `get` ask for
 abbrev pub download_of : List Row → Result Download Why

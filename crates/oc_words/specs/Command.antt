@@ -7,10 +7,11 @@ use Rattle.clap.specs.declared.builder.arg.Arg.{Arg}
 use Rattle.clap.specs.declared.builder.command.Command.{Command}
 use Rattle.clap.specs.declared.builder.command.Command.TheViews.{out-Command as fields_of}
 
--- the words begin after the program's name, one of them has to be a subcommand, and there is no
--- subcommand `help`
+-- the words begin after the program's name, one of them has to be a subcommand, unless they ask for the version, and there is
+-- no subcommand `help`
 abbrev pub bare_command : App
 bare_command = on_top (λ s. record s {
+  has_version = true;
   no_binary_name = true;
   disable_help_subcommand = true;
   subcommand_required = true;
@@ -28,17 +29,17 @@ flag_rule id = record (new_rule id) { long = Some id; action = Some SetTrue }
 abbrev pub option_rule : Text → Rule
 option_rule id = record (new_rule id) { long = Some id }
 
--- an option that has to be given
-abbrev pub required_option_rule : Text → Rule
-required_option_rule id = record (option_rule id) { required = true }
+-- an argument that may be given, by one word in its place
+abbrev pub optional_rule : Text → Rule
+optional_rule id = new_rule id
 
 -- a command with one more argument, the last
 abbrev pub with_argument : Shape → Rule → Shape
 with_argument shape rule = record shape { rules = shape.rules ++ rule ∷ [] }
 
--- `replay`, with the flag `--summary`
+-- `replay` and `replay FILE`, with the flag `--summary`
 abbrev pub replay_shape : Shape
-replay_shape = record (new_shape (codes "replay")) { rules = flag_rule (codes "summary") ∷ [] }
+replay_shape = record (new_shape (codes "replay")) { rules = flag_rule (codes "summary") ∷ optional_rule (codes "FILE") ∷ [] }
 
 -- `gen SEED NODES EVENTS`
 abbrev pub gen_shape : Shape
@@ -46,25 +47,25 @@ gen_shape = record (new_shape (codes "gen")) {
   rules = required_rule (codes "SEED") ∷ required_rule (codes "NODES") ∷ required_rule (codes "EVENTS") ∷ [];
 }
 
--- `node ID`, with the option `--turns N`, which has to be given, and the flag `--probe`
+-- `node ID`, with the options `--turns N`, `--config FILE` and `--dir FOLDER` and the flag `--probe`
 abbrev pub node_shape : Shape
 node_shape = record (new_shape (codes "node")) {
-  rules = required_rule (codes "ID") ∷ required_option_rule (codes "turns") ∷ flag_rule (codes "probe") ∷ [];
+  rules = required_rule (codes "ID") ∷ option_rule (codes "turns") ∷ flag_rule (codes "probe") ∷ option_rule (codes "config") ∷ option_rule (codes "dir") ∷ [];
 }
 
--- `check ID NODES CHAIN`
+-- `check ID` and `check ID NODES CHAIN`, with the options `--config FILE` and `--dir FOLDER`
 abbrev pub check_shape : Shape
 check_shape = record (new_shape (codes "check")) {
-  rules = required_rule (codes "ID") ∷ required_rule (codes "NODES") ∷ required_rule (codes "CHAIN") ∷ [];
+  rules = required_rule (codes "ID") ∷ optional_rule (codes "NODES") ∷ optional_rule (codes "CHAIN") ∷ option_rule (codes "config") ∷ option_rule (codes "dir") ∷ [];
 }
 
 -- `get URL`, with the option `--follow N`
 abbrev pub get_shape : Shape
 get_shape = record (new_shape (codes "get")) { rules = required_rule (codes "URL") ∷ option_rule (codes "follow") ∷ [] }
 
--- `rules`
+-- `rules`, with the option `--config FILE`
 abbrev pub rules_shape : Shape
-rules_shape = new_shape (codes "rules")
+rules_shape = record (new_shape (codes "rules")) { rules = option_rule (codes "config") ∷ [] }
 
 -- the command with the subcommands that take no part in a network
 abbrev pub stateless_command : App

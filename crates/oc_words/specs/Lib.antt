@@ -3,3 +3,4 @@ pub mod Command
 pub mod Words
 pub mod Requests
 pub mod Status
+pub mod Paths

@@ -1,15 +1,16 @@
 -- What the words of each command ask for.
-use Rattle.std.specs.Prelude.{ℕ, ◌-◌, ◌^◌, ◌≤◌, min, Bool, Option, Some, None, Result, Ok, List}
+use Rattle.std.specs.Prelude.{◌≡◌, ℕ, ◌-◌, ◌^◌, ◌≤◌, ◌⊎◌, min, Bool, Option, Some, None, Result, Ok, Err, List}
 use Rattle.std.specs.Option.{ForSome}
 use Rattle.oc_base.specs.Steps.{◌>>=◌}
 use Rattle.oc_base.specs.Words.{number_in}
 use Rattle.oc_base.specs.declared.limits.TheConstants.{MAX_CHAIN, MAX_NODES}
 use Rattle.oc_base.specs.declared.why.Why.{Why}
+use Rattle.oc_base.specs.declared.why.Why.TheVariants.{Count}
 use Rattle.oc_words.specs.declared.request.Download.{Download}
 use Rattle.oc_words.specs.declared.request.Member.{Member}
 use Rattle.oc_words.specs.declared.request.Sample.{Sample}
 use Rattle.oc_words.specs.declared.request.Service.{Service}
-use Rattle.oc_words.specs.declared.request.TheConstants.{MAX_EVENTS, MAX_FOLLOWED, MAX_TURNS}
+use Rattle.oc_words.specs.declared.request.TheConstants.{ENDLESS, MAX_EVENTS, MAX_FOLLOWED, MAX_TURNS}
 
 -- ---- `gen SEED NODES EVENTS`
 
@@ -28,20 +29,29 @@ pub record IsSample (s : Sample) : Type 0 where
   pub all_start : s.nodes ≤ s.events
   pub not_more : s.events ≤ MAX_EVENTS
 
--- ---- `node ID --turns N`
+-- ---- `node ID`, `node ID --turns N`
 
--- an id within 64 bits, and a number of turns
-abbrev pub service_in : List ℕ → List ℕ → Bool → Result Service Why
+-- the number of turns, or that of a node that serves until it is ended
+abbrev pub turns_in : Option (List ℕ) → Result ℕ Why
+turns_in None = Ok ENDLESS
+turns_in (Some word) = number_in 0 MAX_TURNS word
+
+-- an id within 64 bits
+abbrev pub id_in : List ℕ → Result ℕ Why
+id_in word = number_in 0 (2 ^ 64 - 1) word
+
+-- an id, and a number of turns
+abbrev pub service_in : List ℕ → Option (List ℕ) → Bool → Result Service Why
 service_in id_word turns_word probes = do
-  id ← number_in 0 (2 ^ 64 - 1) id_word
-  turns ← number_in 0 MAX_TURNS turns_word
+  id ← id_in id_word
+  turns ← turns_in turns_word
   Ok (record { id = id; turns = turns; probes = probes })
 
 -- the number of turns is within its range
 abbrev pub IsService : Service → Type 0
-IsService s = s.turns ≤ MAX_TURNS
+IsService s = (s.turns ≤ MAX_TURNS) ⊎ (s.turns ≡ ENDLESS)
 
--- ---- `check ID NODES CHAIN`
+-- ---- `check ID`, `check ID NODES CHAIN`
 
 -- a number of nodes, a chain of some of them, and the id of one
 abbrev pub member_in : List ℕ → List ℕ → List ℕ → Result Member Why
@@ -50,6 +60,12 @@ member_in id_word nodes_word chain_word = do
   chain ← number_in 1 (min nodes MAX_CHAIN) chain_word
   id ← number_in 1 nodes id_word
   Ok (record { id = id; nodes = nodes; chain = chain })
+
+-- a number of nodes has a length of the chain behind it, and no configuration
+abbrev pub member_without : List ℕ → List ℕ → Option (List ℕ) → Option (List ℕ) → Result Member Why
+member_without id nodes chain (Some config) = Err Count
+member_without id nodes None None = Err Count
+member_without id nodes (Some chain) None = member_in id nodes chain
 
 -- the numbers are within their ranges
 pub record IsMember (m : Member) : Type 0 where

@@ -1,21 +1,21 @@
 -- What the words of the program ask for: what `clap` makes of them by one command, and what the
 -- arguments of the subcommand say.
-use Rattle.std.specs.Prelude.{◌≡◌, ◌⊎◌, List, [], ◌∷◌, map, codes, Option, Some, None, true, false, Result, Ok, Err, ok_or, String, string_bytes, if◌then◌else◌}
+use Rattle.std.specs.Prelude.{◌≡◌, ℕ, ◌⊎◌, List, [], ◌∷◌, map, codes, Option, Some, None, true, false, Result, Ok, Err, ok_or, String, string_bytes, if◌then◌else◌}
 use Rattle.std.specs.Result.{result_ok}
 use Rattle.std.specs.Str.{bytes_eq}
-use Rattle.clap.specs.Words.{Kinds, Row, Text, fault_of, subcommand_of}
+use Rattle.clap.specs.Words.{Kinds, Row, Text, fault_of, first_of, subcommand_of}
 use Rattle.clap.specs.declared.error.kind.ErrorKind.{ErrorKind}
-use Rattle.clap.specs.declared.error.kind.ErrorKind.TheVariants.{DisplayHelp}
+use Rattle.clap.specs.declared.error.kind.ErrorKind.TheVariants.{DisplayHelp, DisplayVersion}
 use Rattle.oc_base.specs.Steps.{◌>>=◌}
 use Rattle.oc_base.specs.declared.why.Why.{Why}
 use Rattle.oc_base.specs.declared.why.Why.TheVariants.{Count}
-use Rattle.oc_words.specs.Requests.{IsDownload, IsMember, IsSample, IsService, download_in, member_in, sample_in, service_in}
-use Rattle.oc_words.specs.Arguments.{IsNoFlag, download_of, is_flagged, member_of, sample_of, service_of}
+use Rattle.oc_words.specs.Requests.{IsDownload, IsMember, IsSample, IsService, download_in, id_in, member_in, sample_in, service_in}
+use Rattle.oc_words.specs.Arguments.{IsNoFlag, download_of, member_of, paths_of, replay_of, sample_of, service_of, word_of}
 use Rattle.oc_words.specs.Command.{command}
 use Rattle.oc_words.specs.declared.request.Download.{Download}
 use Rattle.oc_words.specs.declared.request.Member.{Member}
 use Rattle.oc_words.specs.declared.request.Request.{Request}
-use Rattle.oc_words.specs.declared.request.Request.TheVariants.{Replay, Gen, Node, Check, Get, Rules, Help}
+use Rattle.oc_words.specs.declared.request.Request.TheVariants.{Gen, Node, Check, CheckConfigured, Get, Rules, Help, Version}
 use Rattle.oc_words.specs.declared.request.Sample.{Sample}
 use Rattle.oc_words.specs.declared.request.Service.{Service}
 use Rattle.oc_words.specs.declared.words.WordsFault.{WordsFault}
@@ -23,15 +23,17 @@ use Rattle.oc_words.specs.declared.words.WordsFault.TheVariants.{Usage, Memory}
 
 -- ---- what `clap` makes of the words
 
--- the words are accepted, answered by help, or refused
+-- the words are accepted, answered by help or by the version, or refused
 pub data Verdict : Type 0 where
   accepted : Verdict
   helped : Verdict
+  versioned : Verdict
   refused : Verdict
 
--- one kind of error is the answer by help, and each other is a refusal
+-- one kind of error is the answer by help, one that by the version, and each other is a refusal
 abbrev pub verdict_by : ErrorKind → Verdict
 verdict_by DisplayHelp = helped
+verdict_by DisplayVersion = versioned
 verdict_by _ = refused
 
 -- words at which no error may come are accepted; where several kinds may come at the same words,
@@ -52,14 +54,48 @@ asking make said = do
   fields ← said
   Ok (make fields)
 
+-- a node of the configuration in this file, on the files of this folder
+abbrev pub node_at : Option Text → Option Text → Service → Request
+node_at config folder service = Node service (record { config = config; folder = folder })
+
+-- a node whose files are in this folder
+abbrev pub check_at : Option Text → Member → Request
+check_at folder member = Check member folder
+
+-- and one of the configuration in this file
+abbrev pub check_in : Option Text → Option Text → ℕ → Request
+check_in config folder id = CheckConfigured id (record { config = config; folder = folder })
+
+-- what `node` asks for
+abbrev pub node_of : List Row → Result Request Why
+node_of rows = asking (node_at (first_of (codes "config") rows) (first_of (codes "dir") rows)) (service_of rows)
+
+-- what `check` asks for, with its id and the number of nodes
+abbrev pub check_by_numbers : Text → Text → List Row → Result Request Why
+check_by_numbers id nodes rows = asking (check_at (first_of (codes "dir") rows)) (member_of id nodes rows)
+
+-- and with its id alone
+abbrev pub check_by_config : Text → List Row → Result Request Why
+check_by_config id rows = asking (λ id. CheckConfigured id (paths_of rows)) (id_in id)
+
+abbrev pub check_by : Text → Option Text → List Row → Result Request Why
+check_by id None rows = check_by_config id rows
+check_by id (Some nodes) rows = check_by_numbers id nodes rows
+
+-- what `check` asks for
+abbrev pub check_of : List Row → Result Request Why
+check_of rows = do
+  id ← word_of (codes "ID") rows
+  check_by id (first_of (codes "NODES") rows) rows
+
 -- what a subcommand other than `get` asks for
 abbrev pub other_by : Text → List Row → Result Request Why
 other_by name rows =
-    if bytes_eq name (codes "replay") then Ok (Replay (is_flagged (codes "summary") rows))
+    if bytes_eq name (codes "replay") then Ok (replay_of rows)
     else if bytes_eq name (codes "gen") then asking Gen (sample_of rows)
-    else if bytes_eq name (codes "node") then asking Node (service_of rows)
-    else if bytes_eq name (codes "check") then asking Check (member_of rows)
-    else if bytes_eq name (codes "rules") then Ok Rules
+    else if bytes_eq name (codes "node") then node_of rows
+    else if bytes_eq name (codes "check") then check_of rows
+    else if bytes_eq name (codes "rules") then Ok (Rules (first_of (codes "config") rows))
     else Err Count
 
 -- what a subcommand of this name asks for, by what its arguments were given
@@ -75,29 +111,46 @@ request_of (Some named) = request_by named.0 named.1
 abbrev pub asked_by : Verdict → Option (Text × List Row) → Option Request
 asked_by accepted named = result_ok (request_of named)
 asked_by helped named = Some Help
+asked_by versioned named = Some Version
 asked_by refused named = None
 
 -- what these words ask for: nothing where `clap` refuses them or a number is misspelled or out of its range
 unfoldable pub asked : List Text → Option Request
 asked words = asked_by (verdict_of words) (subcommand_of command words)
 
--- The words are as in a row of the table of commands, with their numbers in range, and an address that does not begin with `-`.
+-- The words are as in a row of the table of commands, with their numbers in range, and addresses, files and folders that do not begin with
+-- `-`.
 pub data IsPlain (words : List Text) : Type 0 where
   plain_replay : words ≡ codes "replay" ∷ [] → IsPlain words
   plain_summary : words ≡ codes "replay" ∷ codes "--summary" ∷ [] → IsPlain words
+  plain_file : (file : Text) → words ≡ codes "replay" ∷ file ∷ [] → IsNoFlag file → IsPlain words
   plain_gen : (seed nodes events : Text) (sample : Sample) → words ≡ codes "gen" ∷ seed ∷ nodes ∷ events ∷ []
       → sample_in seed nodes events ≡ Ok sample → IsPlain words
+  plain_endless : (id : Text) (service : Service) → words ≡ codes "node" ∷ id ∷ []
+      → service_in id None false ≡ Ok service → IsPlain words
+  plain_placed : (id config folder : Text) (service : Service)
+      → words ≡ codes "node" ∷ id ∷ codes "--config" ∷ config ∷ codes "--dir" ∷ folder ∷ []
+      → IsNoFlag config → IsNoFlag folder → service_in id None false ≡ Ok service → IsPlain words
   plain_node : (id turns : Text) (service : Service) → words ≡ codes "node" ∷ id ∷ codes "--turns" ∷ turns ∷ []
-      → service_in id turns false ≡ Ok service → IsPlain words
+      → service_in id (Some turns) false ≡ Ok service → IsPlain words
   plain_probing : (id turns : Text) (service : Service)
       → words ≡ codes "node" ∷ id ∷ codes "--turns" ∷ turns ∷ codes "--probe" ∷ []
-      → service_in id turns true ≡ Ok service → IsPlain words
+      → service_in id (Some turns) true ≡ Ok service → IsPlain words
   plain_check : (id nodes chain : Text) (member : Member) → words ≡ codes "check" ∷ id ∷ nodes ∷ chain ∷ []
       → member_in id nodes chain ≡ Ok member → IsPlain words
+  plain_configured : (id : Text) (number : ℕ) → words ≡ codes "check" ∷ id ∷ [] → id_in id ≡ Ok number → IsPlain words
+  plain_configured_there : (id config folder : Text) (number : ℕ)
+      → words ≡ codes "check" ∷ id ∷ codes "--config" ∷ config ∷ codes "--dir" ∷ folder ∷ []
+      → IsNoFlag config → IsNoFlag folder → id_in id ≡ Ok number → IsPlain words
+  plain_checked : (id nodes chain folder : Text) (member : Member)
+      → words ≡ codes "check" ∷ id ∷ nodes ∷ chain ∷ codes "--dir" ∷ folder ∷ []
+      → IsNoFlag folder → member_in id nodes chain ≡ Ok member → IsPlain words
   plain_get : (url : Text) → words ≡ codes "get" ∷ url ∷ [] → IsNoFlag url → IsPlain words
   plain_follow : (url times : Text) (download : Download) → words ≡ codes "get" ∷ url ∷ codes "--follow" ∷ times ∷ []
       → IsNoFlag url → download_in url (Some times) ≡ Ok download → IsPlain words
   plain_rules : words ≡ codes "rules" ∷ [] → IsPlain words
+  plain_version : words ≡ codes "--version" ∷ [] → IsPlain words
+  plain_listed : (config : Text) → words ≡ codes "rules" ∷ codes "--config" ∷ config ∷ [] → IsNoFlag config → IsPlain words
 
 module _ {Z : Type 0} where
   -- the texts of the words
@@ -113,7 +166,7 @@ Answers asked result = (result ≡ ok_or asked Usage) ⊎ (result ≡ Err Memory
 -- the numbers of a request are within their ranges
 abbrev pub IsRequest : Request → Type 0
 IsRequest (Gen sample) = IsSample sample
-IsRequest (Node service) = IsService service
-IsRequest (Check member) = IsMember member
+IsRequest (Node service paths) = IsService service
+IsRequest (Check member folder) = IsMember member
 IsRequest (Get download) = IsDownload download
 IsRequest request = Unit {0}

@@ -1,13 +1,14 @@
 //! The arguments of a subcommand.
-ghost use Rattle.std.specs.Prelude.{◌≡◌, option_map};
+ghost use Rattle.std.specs.Prelude.{◌≡◌, IfOk, option_map};
 ghost use Rattle.clap.specs.Words.{first_of, found_of, rows_of};
 ghost use Rattle.oc_base.specs.Words.{GivesFields};
 ghost use Rattle.oc_words.specs.Arguments.{is_flagged, word_of};
-ghost use Rattle.oc_words.specs.Command.{IsArgument, flag_rule, option_rule, required_option_rule, required_rule};
+ghost use Rattle.oc_words.specs.Command.{IsArgument, flag_rule, option_rule, optional_rule, required_rule};
 
+use crate::name::Name;
 use clap::{Arg, ArgAction, ArgMatches};
 use oc_base::Why;
-use std::alloc::Global;
+use std::alloc::{AllocError, Global};
 
 /// An argument that has to be given, by one word in its place.
 pub(crate) fn required<'a>(alloc: Global, id: &'a str) -> Arg<'a>
@@ -30,11 +31,11 @@ pub(crate) fn option<'a>(alloc: Global, id: &'a str) -> Arg<'a>
     Arg::new(alloc, id).long(id)
 }
 
-/// An option that has to be given.
-pub(crate) fn required_option<'a>(alloc: Global, id: &'a str) -> Arg<'a>
-    ensures { IsArgument (required_option_rule id.entry.now) result }
+/// An argument that may be given, by one word in its place.
+pub(crate) fn optional<'a>(alloc: Global, id: &'a str) -> Arg<'a>
+    ensures { IsArgument (optional_rule id.entry.now) result }
 {
-    Arg::new(alloc, id).long(id).required(true)
+    Arg::new(alloc, id)
 }
 
 /// Whether a flag was given.
@@ -59,4 +60,18 @@ pub(crate) fn word<'a>(matches: &ArgMatches<'a>, id: &str) -> Result<&'a str, Wh
     ensures { GivesFields (λ word. word.now) result (word_of id.now (rows_of (found_of matches.now))) }
 {
     matches.get_str(id).ok_or(Why::Count)
+}
+
+/// A copy of the word of an argument, if it was given.
+pub(crate) fn copied(
+    alloc: Global,
+    matches: &ArgMatches<'_>,
+    id: &str,
+) -> Result<Option<Name>, AllocError>
+    ensures { IfOk result (λ name. name ≡ first_of id.now (rows_of (found_of matches.now))) }
+{
+    match given(matches, id) {
+        Some(word) => Ok(Some(Name::of(alloc, word)?)),
+        None => Ok(None),
+    }
 }

@@ -9,6 +9,9 @@ use crate::subcommands::{
 use clap::Command;
 use std::alloc::{AllocError, Global};
 
+/// The version of the program.
+pub const VERSION: &str = "1.0.0";
+
 /// The command, with each of its subcommands.
 pub fn command<'a>(alloc: Global) -> Result<Command<'a>, AllocError>
     ensures { IfOk result (λ c. app_of c ≡ command) }
@@ -49,6 +52,7 @@ fn bare_command<'a>(alloc: Global) -> Command<'a>
     ensures { app_of result ≡ bare_command }
 {
     Command::new(alloc, "overcast")
+        .version(VERSION)
         .no_binary_name(true)
         .disable_help_subcommand(true)
         .subcommand_required(true)

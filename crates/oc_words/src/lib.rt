@@ -9,9 +9,9 @@
 //! A [`Status`] is how the program ended, and its number is the exit status of the process.
 #![tactic(auto)]
 
-mod address;
 mod arguments;
 mod command;
+mod name;
 mod parsing;
 mod reading;
 mod request;
@@ -19,9 +19,10 @@ mod status;
 mod subcommands;
 mod words;
 
-pub use address::Address;
+pub use command::VERSION;
+pub use name::Name;
 pub use request::{
-    Download, MAX_EVENTS, MAX_FOLLOWED, MAX_TURNS, Member, Request, Sample, Service,
+    Download, ENDLESS, MAX_EVENTS, MAX_FOLLOWED, MAX_TURNS, Member, Paths, Request, Sample, Service,
 };
 pub use status::Status;
-pub use words::{WordsFault, read_words, rows_ask};
+pub use words::{WordsFault, places_ask, read_words, rows_ask};

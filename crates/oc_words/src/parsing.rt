@@ -1,8 +1,8 @@
 //! The numbers of a request, from the words that stand for them.
-ghost use Rattle.std.specs.Prelude.{◌≡◌, IfOk, option_map};
-ghost use Rattle.oc_words.specs.Requests.{IsMember, IsSample, IsService, IsTimes, member_in, sample_in, service_in, times_in};
+ghost use Rattle.std.specs.Prelude.{◌≡◌, ◌≤◌, ◌⊎◌, IfOk, option_map};
+ghost use Rattle.oc_words.specs.Requests.{IsMember, IsSample, IsService, IsTimes, id_in, member_in, member_without, sample_in, service_in, times_in, turns_in};
 
-use crate::request::{MAX_EVENTS, MAX_FOLLOWED, MAX_TURNS, Member, Sample, Service};
+use crate::request::{ENDLESS, MAX_EVENTS, MAX_FOLLOWED, MAX_TURNS, Member, Sample, Service};
 use oc_base::words::number;
 use oc_base::{MAX_CHAIN, MAX_NODES, Why};
 
@@ -21,20 +21,58 @@ pub(crate) fn sample_in(seed: &str, nodes: &str, events: &str) -> Result<Sample,
     })
 }
 
-/// The run that two words ask for, which probes or not.
-pub(crate) fn service_in(id: &str, turns: &str, probes: bool) -> Result<Service, Why>
-    ensures said { result ≡ service_in id.now turns.now probes }
+/// The run that a word and that of an option ask for, which probes or not.
+pub(crate) fn service_in(id: &str, turns: Option<&str>, probes: bool) -> Result<Service, Why>
+    ensures said { result ≡ service_in id.now (option_map (λ word. word.now) turns.entry) probes }
     ensures range { IfOk result IsService }
 {
     Ok(Service {
-        id: number(id.as_bytes(), 0, u64::MAX)?,
-        turns: number(turns.as_bytes(), 0, MAX_TURNS)?,
+        id: id_in(id)?,
+        turns: turns_in(turns)?,
         probes,
     })
 }
 
+/// How many turns are served, by the word of the option.
+fn turns_in(word: Option<&str>) -> Result<u64, Why>
+    ensures said { result ≡ turns_in (option_map (λ word. word.now) word.entry) }
+    ensures range { IfOk result (λ turns. (turns ≤ MAX_TURNS) ⊎ (turns ≡ ENDLESS)) }
+{
+    match word {
+        Some(word) => number(word.as_bytes(), 0, MAX_TURNS),
+        None => Ok(ENDLESS),
+    }
+}
+
+/// The id that a word asks for, any number.
+pub(crate) fn id_in(word: &str) -> Result<u64, Why>
+    ensures { result ≡ id_in word.now }
+{
+    number(word.as_bytes(), 0, u64::MAX)
+}
+
+/// The node that an id and a number of nodes ask for. They need a length of the chain, and leave nothing for a
+/// configuration to say.
+pub(crate) fn member_without(
+    id: &str,
+    nodes: &str,
+    chain: Option<&str>,
+    config: Option<&str>,
+) -> Result<Member, Why>
+    ensures said { result ≡ member_without id.now nodes.now (option_map (λ word. word.now) chain.entry) (option_map (λ word. word.now) config.entry) }
+    ensures range { IfOk result IsMember }
+{
+    match config {
+        Some(_) => Err(Why::Count),
+        None => match chain {
+            Some(chain) => member_in(id, nodes, chain),
+            None => Err(Why::Count),
+        },
+    }
+}
+
 /// The node that three words ask for.
-pub(crate) fn member_in(id: &str, nodes: &str, chain: &str) -> Result<Member, Why>
+fn member_in(id: &str, nodes: &str, chain: &str) -> Result<Member, Why>
     ensures said { result ≡ member_in id.now nodes.now chain.now }
     ensures range { IfOk result IsMember }
 {

@@ -3,16 +3,16 @@ ghost use Rattle.std.specs.Prelude.{◌≡◌, IfOk};
 ghost use Rattle.std.specs.Result.{result_ok};
 ghost use Rattle.clap.specs.Words.{found_of, rows_of};
 ghost use Rattle.oc_words.specs.Requests.{IsDownload, IsMember, IsSample, IsService};
-ghost use Rattle.oc_words.specs.Arguments.{download_of, member_of, sample_of, service_of};
+ghost use Rattle.oc_words.specs.Arguments.{download_of, member_of, paths_of, replay_of, sample_of, service_of};
 ghost use Rattle.oc_words.specs.Words.{Answers};
 
-use crate::arguments::{given, is_flagged, word};
-use crate::parsing::{member_in, sample_in, service_in, times_in};
+use crate::arguments::{copied, given, is_flagged, word};
+use crate::parsing::{member_without, sample_in, service_in, times_in};
 use crate::words::WordsFault;
-use crate::{Address, Download, Member, Sample, Service};
+use crate::{Download, Member, Name, Paths, Request, Sample, Service};
 use clap::ArgMatches;
 use oc_base::Why;
-use std::alloc::Global;
+use std::alloc::{AllocError, Global};
 
 /// The sample that the arguments of `gen` ask for.
 pub(crate) fn sample_of(matches: &ArgMatches<'_>) -> Result<Sample, Why>
@@ -31,19 +31,37 @@ pub(crate) fn service_of(matches: &ArgMatches<'_>) -> Result<Service, Why>
     ensures range { IfOk result IsService }
 {
     let id = word(matches, "ID")?;
-    let turns = word(matches, "turns")?;
+    let turns = given(matches, "turns");
     service_in(id, turns, is_flagged(matches, "probe"))
 }
 
-/// The node that the arguments of `check` ask for.
-pub(crate) fn member_of(matches: &ArgMatches<'_>) -> Result<Member, Why>
-    ensures said { result ≡ member_of (rows_of (found_of matches.now)) }
+/// Where the arguments of `node` and `check` say that it reads and keeps.
+pub(crate) fn paths_of(alloc: Global, matches: &ArgMatches<'_>) -> Result<Paths, AllocError>
+    ensures { IfOk result (λ paths. paths ≡ paths_of (rows_of (found_of matches.now))) }
+{
+    Ok(Paths {
+        config: copied(alloc, matches, "config")?,
+        folder: copied(alloc, matches, "dir")?,
+    })
+}
+
+/// What the arguments of `replay` ask for.
+pub(crate) fn replay_of(alloc: Global, matches: &ArgMatches<'_>) -> Result<Request, AllocError>
+    ensures { IfOk result (λ request. request ≡ replay_of (rows_of (found_of matches.now))) }
+{
+    Ok(Request::Replay {
+        summary: is_flagged(matches, "summary"),
+        file: copied(alloc, matches, "FILE")?,
+    })
+}
+
+/// The node that the arguments of `check` ask for, with its id and the number of nodes.
+pub(crate) fn member_of(matches: &ArgMatches<'_>, id: &str, nodes: &str) -> Result<Member, Why>
+    ensures said { result ≡ member_of id.now nodes.now (rows_of (found_of matches.now)) }
     ensures range { IfOk result IsMember }
 {
-    let id = word(matches, "ID")?;
-    let nodes = word(matches, "NODES")?;
-    let chain = word(matches, "CHAIN")?;
-    member_in(id, nodes, chain)
+    let chain = given(matches, "CHAIN");
+    member_without(id, nodes, chain, given(matches, "config"))
 }
 
 /// The download that the arguments of `get` ask for.
@@ -54,7 +72,7 @@ pub(crate) fn download_of(alloc: Global, matches: &ArgMatches<'_>) -> Result<Dow
     let url = word(matches, "URL")?;
     let times = times_in(given(matches, "follow"))?;
     Ok(Download {
-        address: Address::of(alloc, url)?,
+        address: Name::of(alloc, url)?,
         times,
     })
 }

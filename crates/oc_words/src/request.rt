@@ -1,4 +1,7 @@
-use crate::address::Address;
+ghost use Rattle.std.specs.Prelude.{◌≡◌, option_map};
+ghost use Rattle.oc_words.specs.Paths.{file_of, folder_of, node_of};
+
+use crate::name::Name;
 
 /// The most events of a schedule that is generated.
 pub const MAX_EVENTS: u32 = 99_999;
@@ -6,26 +9,103 @@ pub const MAX_EVENTS: u32 = 99_999;
 /// The most turns that one run of a node is asked for.
 pub const MAX_TURNS: u64 = 1_000_000_000;
 
+/// As many turns as no run comes to the end of: those of a node that serves until it is ended.
+pub const ENDLESS: u64 = u64::MAX;
+
 /// The most replies that one download is asked to follow.
 pub const MAX_FOLLOWED: u64 = 1_000_000;
 
 /// What the words ask for.
 #[derive(Debug, Drop)]
 pub enum Request {
-    /// To play the schedule on the input, and write its report or its summary.
-    Replay { summary: bool },
+    /// To play the schedule in this file, or on the input, and write its report or its summary.
+    Replay { summary: bool, file: Option<Name> },
     /// To write the schedule that follows from a seed.
     Gen(Sample),
     /// To run a node.
-    Node(Service),
-    /// To show what a node's files recover.
-    Check(Member),
+    Node(Service, Paths),
+    /// To show what a node's files recover, which are in this folder or in the present one.
+    Check(Member, Option<Name>),
+    /// To show what the files of the node with this id recover, one of a configuration. The id is any number.
+    CheckConfigured(u64, Paths),
     /// To download.
     Get(Download),
-    /// To list the access rules of the configuration on the input.
-    Rules,
+    /// To list the access rules of the configuration in this file, or on the input.
+    Rules(Option<Name>),
     /// To print the help.
     Help,
+    /// To print the version.
+    Version,
+}
+
+/// Where a node finds what it reads and keeps.
+#[derive(Debug, Drop)]
+pub struct Paths {
+    /// The file of its configuration; none where that is on the input.
+    pub config: Option<Name>,
+    /// The folder of its files; none for the present one.
+    pub folder: Option<Name>,
+}
+
+impl Request {
+    /// The id of the node that is to run; none where none is.
+    pub fn node(&self) -> Option<u64>
+        ensures { result ≡ node_of self.now }
+    {
+        match self {
+            Request::Node(service, _) => Some(service.id),
+            Request::Replay { .. }
+            | Request::Gen(_)
+            | Request::Check(..)
+            | Request::CheckConfigured(..)
+            | Request::Get(_)
+            | Request::Rules(_)
+            | Request::Help
+            | Request::Version => None,
+        }
+    }
+
+    /// The file that takes the place of the input; none where the input itself is read, or nothing.
+    pub fn file(&self) -> Option<&str>
+        ensures { option_map (λ name. name.now) result ≡ file_of self.now }
+    {
+        match self {
+            Request::Replay { file, .. } => text_of(file),
+            Request::Node(_, paths) | Request::CheckConfigured(_, paths) => text_of(&paths.config),
+            Request::Rules(config) => text_of(config),
+            Request::Gen(_)
+            | Request::Check(..)
+            | Request::Get(_)
+            | Request::Help
+            | Request::Version => None,
+        }
+    }
+
+    /// The folder of the three files of a node; none for the present one, or where no such files are asked for.
+    pub fn folder(&self) -> Option<&str>
+        ensures { option_map (λ name. name.now) result ≡ folder_of self.now }
+    {
+        match self {
+            Request::Node(_, paths) | Request::CheckConfigured(_, paths) => text_of(&paths.folder),
+            Request::Check(_, folder) => text_of(folder),
+            Request::Replay { .. }
+            | Request::Gen(_)
+            | Request::Get(_)
+            | Request::Rules(_)
+            | Request::Help
+            | Request::Version => None,
+        }
+    }
+}
+
+/// The text of a name, where there is one.
+fn text_of(name: &Option<Name>) -> Option<&str>
+    ensures { option_map (λ name. name.now) result ≡ name.now }
+{
+    match name {
+        Some(name) => Some(name.as_str()),
+        None => None,
+    }
 }
 
 /// The schedule that `gen` is asked for.
@@ -44,7 +124,7 @@ pub struct Sample {
 pub struct Service {
     /// The id of the node, any number.
     pub id: u64,
-    /// The number of turns, from 0 to 1,000,000,000.
+    /// The number of turns: 0 to 1,000,000,000, or [`ENDLESS`].
     pub turns: u64,
     /// Whether it probes its peers.
     pub probes: bool,
@@ -65,7 +145,7 @@ pub struct Member {
 #[derive(Debug, Drop)]
 pub struct Download {
     /// The address.
-    pub address: Address,
+    pub address: Name,
     /// How many replies are followed, from 1 to 1,000,000; none for a single download.
     pub times: Option<u64>,
 }

@@ -4,15 +4,16 @@ ghost use Rattle.clap.specs.Simple.{new_shape};
 ghost use Rattle.clap.specs.Words.{Rule, Shape};
 ghost use Rattle.oc_words.specs.Command.{IsArgument, IsSubcommand, check_shape, gen_shape, get_shape, node_shape, replay_shape, rules_shape, with_argument};
 
-use crate::arguments::{flag, option, required, required_option};
+use crate::arguments::{flag, option, optional, required};
 use clap::{Arg, Command};
 use std::alloc::{AllocError, Global};
 
-/// `replay`, with the flag `--summary`.
+/// `replay` and `replay FILE`, with the flag `--summary`.
 pub(crate) fn replay_command<'a>(alloc: Global) -> Result<Command<'a>, AllocError>
     ensures { IfOk result (IsSubcommand replay_shape) }
 {
-    with(named(alloc, "replay"), flag(alloc, "summary"))
+    let one = with(named(alloc, "replay"), flag(alloc, "summary"));
+    with(one, optional(alloc, "FILE"))
 }
 
 /// `gen SEED NODES EVENTS`.
@@ -26,26 +27,26 @@ pub(crate) fn gen_command<'a>(alloc: Global) -> Result<Command<'a>, AllocError>
     )
 }
 
-/// `node ID`, with the option `--turns N`, which has to be given, and the flag `--probe`.
+/// `node ID`, with the options `--turns N`, `--config FILE` and `--dir FOLDER` and the flag `--probe`.
 pub(crate) fn node_command<'a>(alloc: Global) -> Result<Command<'a>, AllocError>
     ensures { IfOk result (IsSubcommand node_shape) }
 {
     let one = with(named(alloc, "node"), required(alloc, "ID"));
-    with(
-        with(one, required_option(alloc, "turns")),
-        flag(alloc, "probe"),
-    )
+    let two = with(one, option(alloc, "turns"));
+    let three = with(two, flag(alloc, "probe"));
+    let four = with(three, option(alloc, "config"));
+    with(four, option(alloc, "dir"))
 }
 
-/// `check ID NODES CHAIN`.
+/// `check ID` and `check ID NODES CHAIN`, with the options `--config FILE` and `--dir FOLDER`.
 pub(crate) fn check_command<'a>(alloc: Global) -> Result<Command<'a>, AllocError>
     ensures { IfOk result (IsSubcommand check_shape) }
 {
     let one = with(named(alloc, "check"), required(alloc, "ID"));
-    with(
-        with(one, required(alloc, "NODES")),
-        required(alloc, "CHAIN"),
-    )
+    let two = with(one, optional(alloc, "NODES"));
+    let three = with(two, optional(alloc, "CHAIN"));
+    let four = with(three, option(alloc, "config"));
+    with(four, option(alloc, "dir"))
 }
 
 /// `get URL`, with the option `--follow N`.
@@ -56,11 +57,11 @@ pub(crate) fn get_command<'a>(alloc: Global) -> Result<Command<'a>, AllocError>
     with(one, option(alloc, "follow"))
 }
 
-/// `rules`.
+/// `rules`, with the option `--config FILE`.
 pub(crate) fn rules_command<'a>(alloc: Global) -> Result<Command<'a>, AllocError>
     ensures { IfOk result (IsSubcommand rules_shape) }
 {
-    named(alloc, "rules")
+    with(named(alloc, "rules"), option(alloc, "config"))
 }
 
 /// A command of this name, without arguments.

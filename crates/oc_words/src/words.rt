@@ -3,14 +3,15 @@ ghost use Rattle.std.specs.Prelude.{◌≡◌, ◌≢◌, ◌∷◌, [], List, S
 ghost use Rattle.std.specs.Result.{result_ok};
 ghost use Rattle.clap.specs.Words.{Text, found_of, rows_of, subcommand_rows_of};
 ghost use Rattle.oc_words.specs.Arguments.{IsNoFlag};
-ghost use Rattle.oc_words.specs.Requests.{download_in, member_in, sample_in, service_in};
-ghost use Rattle.oc_words.specs.Words.{Answers, IsPlain, IsRequest, asked, asked_by, asking, other_by};
-ghost use Rattle.oc_words.specs.Words.{request_by, request_of, texts_of, verdict_by};
+ghost use Rattle.oc_words.specs.Requests.{download_in, id_in, member_in, sample_in, service_in};
+ghost use Rattle.oc_words.specs.Words.{Answers, IsPlain, IsRequest, asked, asked_by, asking, check_at, check_by_config, check_by_numbers, check_in, check_of, node_at, node_of};
+ghost use Rattle.oc_words.specs.Words.{other_by, request_by, request_of, texts_of, verdict_by};
 
 use crate::Request;
-use crate::arguments::is_flagged;
+use crate::arguments::{copied, given, word};
 use crate::command::command;
-use crate::reading::{download_of, member_of, sample_of, service_of};
+use crate::parsing::id_in;
+use crate::reading::{download_of, member_of, paths_of, replay_of, sample_of, service_of};
 use clap::ArgMatches;
 use clap::error::ErrorKind;
 use oc_base::Why;
@@ -89,64 +90,110 @@ fn request_by(alloc: Global, name: &str, arguments: &ArgMatches<'_>) -> Result<R
     if name == "get" {
         Ok(Request::Get(download_of(alloc, arguments)?))
     } else {
-        Ok(other_by(name, arguments)?)
+        other_by(alloc, name, arguments)
     }
 }
 
-/// What a subcommand other than `get` asks for. It takes no memory.
-fn other_by(name: &str, arguments: &ArgMatches<'_>) -> Result<Request, Why>
-    ensures said { result ≡ other_by name.now (rows_of (found_of arguments.now)) }
+/// What a subcommand other than `get` asks for.
+fn other_by(alloc: Global, name: &str, arguments: &ArgMatches<'_>) -> Result<Request, WordsFault>
+    ensures answers { Answers (result_ok (other_by name.now (rows_of (found_of arguments.now)))) result }
     ensures range { IfOk result IsRequest }
 {
     if name == "replay" {
-        Ok(Request::Replay {
-            summary: is_flagged(arguments, "summary"),
-        })
+        Ok(replay_of(alloc, arguments)?)
     } else if name == "gen" {
         Ok(Request::Gen(sample_of(arguments)?))
     } else if name == "node" {
-        Ok(Request::Node(service_of(arguments)?))
+        node_of(alloc, arguments)
     } else if name == "check" {
-        Ok(Request::Check(member_of(arguments)?))
+        check_of(alloc, arguments)
     } else if name == "rules" {
-        Ok(Request::Rules)
+        Ok(Request::Rules(copied(alloc, arguments, "config")?))
     } else {
-        Err(Why::Count)
+        Err(WordsFault::Usage)
     }
+}
+
+/// What `node` asks for.
+fn node_of(alloc: Global, arguments: &ArgMatches<'_>) -> Result<Request, WordsFault>
+    ensures answers { Answers (result_ok (node_of (rows_of (found_of arguments.now)))) result }
+    ensures range { IfOk result IsRequest }
+{
+    let service = service_of(arguments)?;
+    Ok(Request::Node(service, paths_of(alloc, arguments)?))
+}
+
+/// What `check` asks for.
+fn check_of(alloc: Global, arguments: &ArgMatches<'_>) -> Result<Request, WordsFault>
+    ensures answers { Answers (result_ok (check_of (rows_of (found_of arguments.now)))) result }
+    ensures range { IfOk result IsRequest }
+{
+    let id = word(arguments, "ID")?;
+    match given(arguments, "NODES") {
+        Some(nodes) => check_by_numbers(alloc, id, nodes, arguments),
+        None => check_by_config(alloc, id, arguments),
+    }
+}
+
+/// What `check` asks for, with its id and the number of nodes.
+fn check_by_numbers(
+    alloc: Global,
+    id: &str,
+    nodes: &str,
+    arguments: &ArgMatches<'_>,
+) -> Result<Request, WordsFault>
+    ensures answers { Answers (result_ok (check_by_numbers id.now nodes.now (rows_of (found_of arguments.now)))) result }
+    ensures range { IfOk result IsRequest }
+{
+    let member = member_of(arguments, id, nodes)?;
+    Ok(Request::Check(member, copied(alloc, arguments, "dir")?))
+}
+
+/// What `check` asks for, with its id alone.
+fn check_by_config(
+    alloc: Global,
+    id: &str,
+    arguments: &ArgMatches<'_>,
+) -> Result<Request, WordsFault>
+    ensures answers { Answers (result_ok (check_by_config id.now (rows_of (found_of arguments.now)))) result }
+    ensures range { IfOk result IsRequest }
+{
+    let id = id_in(id)?;
+    Ok(Request::CheckConfigured(id, paths_of(alloc, arguments)?))
 }
 
 /// The answer to an error of `clap`.
 fn answer_to(kind: ErrorKind) -> Result<Request, WordsFault>
     ensures memory { kind ≡ ErrorKind.OutOfMemory → result ≡ Err WordsFault.Memory }
     ensures other { kind ≢ ErrorKind.OutOfMemory → result ≡ ok_or (asked_by (verdict_by kind) None) WordsFault.Usage }
-    ensures no_numbers { IfOk result (λ request. request ≡ Request.Help) }
+    ensures range { IfOk result IsRequest }
 {
     match kind {
         ErrorKind::OutOfMemory => Err(WordsFault::Memory),
         ErrorKind::DisplayHelp => Ok(Request::Help),
+        ErrorKind::DisplayVersion => Ok(Request::Version),
         _ => Err(WordsFault::Usage),
     }
 }
 
-/// What the words of each row of the table of commands ask for.
+/// What the words of each row of the table of commands ask for. Words that do not begin with `-` go to the
+/// arguments in their order, and ask for what these say.
 pub fn rows_ask()
-    ensures replaying { asked (codes "replay" ∷ []) ≡ Some (Request.Replay false) }
-    ensures summing { asked (codes "replay" ∷ codes "--summary" ∷ []) ≡ Some (Request.Replay true) }
-    ensures listing { asked (codes "rules" ∷ []) ≡ Some Request.Rules }
-
-    // Words that do not begin with `-` go to the arguments in their order, and ask for what these say.
+    ensures replaying { asked (codes "replay" ∷ []) ≡ Some (Request.Replay false None) }
+    ensures summing { asked (codes "replay" ∷ codes "--summary" ∷ []) ≡ Some (Request.Replay true None) }
+    ensures listing { asked (codes "rules" ∷ []) ≡ Some (Request.Rules None) }
     ensures generating { (seed nodes events : Text) → IsNoFlag seed → IsNoFlag nodes → IsNoFlag events
         → asked (codes "gen" ∷ seed ∷ nodes ∷ events ∷ [])
         ≡ result_ok (asking Request.Gen (sample_in seed nodes events)) }
     ensures serving { (id turns : Text) → IsNoFlag id → IsNoFlag turns
         → asked (codes "node" ∷ id ∷ codes "--turns" ∷ turns ∷ [])
-        ≡ result_ok (asking Request.Node (service_in id turns false)) }
+        ≡ result_ok (asking (node_at None None) (service_in id (Some turns) false)) }
     ensures probing { (id turns : Text) → IsNoFlag id → IsNoFlag turns
         → asked (codes "node" ∷ id ∷ codes "--turns" ∷ turns ∷ codes "--probe" ∷ [])
-        ≡ result_ok (asking Request.Node (service_in id turns true)) }
+        ≡ result_ok (asking (node_at None None) (service_in id (Some turns) true)) }
     ensures checking { (id nodes chain : Text) → IsNoFlag id → IsNoFlag nodes → IsNoFlag chain
         → asked (codes "check" ∷ id ∷ nodes ∷ chain ∷ [])
-        ≡ result_ok (asking Request.Check (member_in id nodes chain)) }
+        ≡ result_ok (asking (check_at None) (member_in id nodes chain)) }
     ensures getting { (url : Text) → IsNoFlag url
         → asked (codes "get" ∷ url ∷ [])
         ≡ result_ok (asking Request.Get (download_in url None)) }
@@ -155,4 +202,31 @@ pub fn rows_ask()
         ≡ result_ok (asking Request.Get (download_in url (Some times))) }
 
     ensures plain { (words : List Text) → IsPlain words → asked words ≢ None }
+{}
+
+/// What words ask for that name files and folders, or a node of a configuration, or that ask about the program.
+pub fn places_ask()
+    ensures versioned { asked (codes "--version" ∷ []) ≡ Some Request.Version }
+    ensures replaying { (file : Text) → IsNoFlag file
+        → asked (codes "replay" ∷ file ∷ []) ≡ Some (Request.Replay false (Some file)) }
+    ensures listing { (config : Text) → IsNoFlag config
+        → asked (codes "rules" ∷ codes "--config" ∷ config ∷ []) ≡ Some (Request.Rules (Some config)) }
+    ensures serving { (id : Text) → IsNoFlag id
+        → asked (codes "node" ∷ id ∷ []) ≡ result_ok (asking (node_at None None) (service_in id None false)) }
+    ensures serving_there { (id config folder : Text) → IsNoFlag id → IsNoFlag config → IsNoFlag folder
+        → asked (codes "node" ∷ id ∷ codes "--config" ∷ config ∷ codes "--dir" ∷ folder ∷ [])
+        ≡ result_ok (asking (node_at (Some config) (Some folder)) (service_in id None false)) }
+    ensures checking { (id : Text) → IsNoFlag id
+        → asked (codes "check" ∷ id ∷ []) ≡ result_ok (asking (check_in None None) (id_in id)) }
+    ensures checking_there { (id config folder : Text) → IsNoFlag id → IsNoFlag config → IsNoFlag folder
+        → asked (codes "check" ∷ id ∷ codes "--config" ∷ config ∷ codes "--dir" ∷ folder ∷ [])
+        ≡ result_ok (asking (check_in (Some config) (Some folder)) (id_in id)) }
+    ensures checking_numbers { (id nodes chain folder : Text) → IsNoFlag id → IsNoFlag nodes → IsNoFlag chain → IsNoFlag folder
+        → asked (codes "check" ∷ id ∷ nodes ∷ chain ∷ codes "--dir" ∷ folder ∷ [])
+        ≡ result_ok (asking (check_at (Some folder)) (member_in id nodes chain)) }
+
+    // A number of nodes has a length of the chain behind it, and no configuration.
+    ensures unchained { (id nodes : Text) → IsNoFlag id → IsNoFlag nodes → asked (codes "check" ∷ id ∷ nodes ∷ []) ≡ None }
+    ensures said_twice { (id nodes chain config : Text) → IsNoFlag id → IsNoFlag nodes → IsNoFlag chain → IsNoFlag config
+        → asked (codes "check" ∷ id ∷ nodes ∷ chain ∷ codes "--config" ∷ config ∷ []) ≡ None }
 {}

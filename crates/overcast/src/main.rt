@@ -1,17 +1,13 @@
 //! The program `overcast`.
 #![tactic(auto)]
 
-use oc_program::{WriterSink, tell};
-use oc_start::{given_words, start};
+use oc_start::{end_early, given_words, run_words};
 use std::process::ExitCode;
 
 fn main(rt: HostRuntime) -> ExitCode {
     let status = match given_words(&rt) {
-        Ok(words) => start(&rt, words.as_slice()).status,
-        Err(end) => {
-            tell(&mut WriterSink::new(rt.stderr()), end);
-            end.status().number()
-        }
+        Ok(words) => run_words(&rt, words.as_slice()),
+        Err(end) => end_early(&rt, end),
     };
     ExitCode::from(status)
 }

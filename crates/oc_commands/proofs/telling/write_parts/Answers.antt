@@ -3,7 +3,9 @@ use Rattle.std.specs.Borrow.{Bor}
 use Rattle.oc_io.proofs.Counts.{Rose-after}
 use Rattle.oc_http.specs.Parts.{joined}
 use Rattle.oc_http.proofs.Parts.{joined_more}
-use Rattle.oc_commands.proofs.Parts.{joined_front}
+use Rattle.oc_io.specs.Faults.{Rose}
+use Rattle.oc_replay.specs.Pieces.{SomeFront}
+use Rattle.oc_commands.proofs.Parts.{joined_front, on_err}
 use Rattle.oc_commands.proofs.telling.write_parts.Goals as goal
 
 -- what follows the last part
@@ -24,6 +26,23 @@ returns-in_err-write_all-clause-told g c =
       )),
       Rose-after (g.K.Sink.faults c.args.sink.now) (g.K.Sink.faults c.loop-part.sink) (g.K.Sink.faults c.write_all.new.sink) c.loop-part.invariant.count c.in_err-write_all.ensures.cause,
     )
+
+pub returns-in_err-write_all-clause-fails : goal.returns-in_err-write_all-clause-fails
+returns-in_err-write_all-clause-fails g c =
+    let parts : List (Bor (List ℕ)) = c.args.parts.now in
+    let i : ℕ = c.loop-part.part-index in
+    let before : List ℕ = joined (take i parts) in
+    let (n, few, fails) = c.in_err-write_all.ensures.fails in
+    on_err c.from_residual.result (SomeFront (joined parts) (λ front. g.K.Sink.fails c.args.sink.now front c.write_all.new.sink)) (
+      length before + n,
+      subst (λ (l : List ℕ). g.K.Sink.fails c.args.sink.now l c.write_all.new.sink) (joined_front parts i n no_part c.loop-part-test.true few)
+          (g.met.K.Sink.takes_fails c.args.sink.now c.loop-part.sink c.write_all.new.sink before (take n (get_or parts i no_part).now) c.loop-part.invariant.taken fails),
+    )
+
+pub returns-in_err-write_all-clause-cause : goal.returns-in_err-write_all-clause-cause
+returns-in_err-write_all-clause-cause g c =
+    on_err c.from_residual.result (Rose (g.K.Sink.faults c.args.sink.now) (g.K.Sink.faults c.write_all.new.sink))
+    (Rose-after (g.K.Sink.faults c.args.sink.now) (g.K.Sink.faults c.loop-part.sink) (g.K.Sink.faults c.write_all.new.sink) c.loop-part.invariant.count c.in_err-write_all.ensures.cause)
 
 pub loop-part-preserved : goal.loop-part-preserved
 loop-part-preserved g c =

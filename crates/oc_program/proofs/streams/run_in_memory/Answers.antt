@@ -29,5 +29,5 @@ returns g c =
     let told = happened_told _ _ _ _ stage input output words files link clock node end happened in
     record {
       ended = (end, usage, is, written, told);
-      replayed = λ summary asks. subst (λ n. (n ≡ status_for (schedule_of c.args.input.now)) ⊎ (n ≡ 1) ⊎ (n ≡ 4)) (sym is) (replayed_of c.args.input.now c.traffic.result.bytes _ stage files link clock node summary words end asks told);
+      replayed = λ summary file asks. subst (λ n. (n ≡ status_for (schedule_of c.args.input.now)) ⊎ (n ≡ 1) ⊎ (n ≡ 4)) (sym is) (replayed_of c.args.input.now c.traffic.result.bytes _ stage files link clock node summary file words end asks told);
     }

@@ -18,7 +18,7 @@ returns g c =
     let read : c.traffic.result.bytes ≤ 2 ^ 64 - 1 = search rules in
     let written : c.traffic-2.result.bytes ≤ 2 ^ 64 - 1 = search rules in
     let told : c.traffic-3.result.bytes ≤ 2 ^ 64 - 1 = search rules in
-    let input = input_told c.new-stdin.result c.run-status.new.input (λ r. None) c.new-stdin.ensures.passed c.new-stdin.ensures.faults
+    let input = input_told c.new-stdin.result c.run-status.new.input g.R.Read.remaining c.new-stdin.ensures.passed c.new-stdin.ensures.faults
     c.traffic.result c.traffic.ensures.bytes c.traffic.ensures.faults read in
     let output = output_told c.new-stdout.result c.run-status.new.out (λ w. None) c.new-stdout.ensures.passed c.new-stdout.ensures.faults
     c.traffic-2.result c.traffic-2.ensures.bytes c.traffic-2.ensures.faults written in

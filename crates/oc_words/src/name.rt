@@ -3,13 +3,13 @@ ghost use Rattle.std.specs.Prelude.{◌≡◌, IfOk};
 use std::alloc::{AllocError, Global};
 use std::marker::Model;
 
-/// The address of a download, as it was given. Contracts see it as its bytes.
+/// An address, or the path of a file or a folder, as it was given. Contracts see it as its bytes.
 #[derive(Debug, Drop)]
-pub struct Address {
+pub struct Name {
     text: String,
 }
 
-impl Model for Address {
+impl Model for Name {
     ghost use Rattle.std.specs.Prelude.{ℕ, List, string_bytes};
 
     ghost Value = { List ℕ };
@@ -17,12 +17,12 @@ impl Model for Address {
     ghost view = { λ a. string_bytes a.text };
 }
 
-impl Address {
+impl Name {
     /// A copy of this text.
-    pub fn of(alloc: Global, text: &str) -> Result<Address, AllocError>
-        ensures { IfOk result (λ address. address ≡ text.now) }
+    pub fn of(alloc: Global, text: &str) -> Result<Name, AllocError>
+        ensures { IfOk result (λ name. name ≡ text.now) }
     {
-        Ok(Address {
+        Ok(Name {
             text: String::from_str(alloc, text)?,
         })
     }

@@ -1,4 +1,4 @@
-use Rattle.oc_start.proofs.starting.start.Goals as goal
+use Rattle.oc_start.proofs.starting.start_at.Goals as goal
 
 pub returns : goal.returns
 returns c =

@@ -113,10 +113,10 @@ class Network:
         finally:
             it.close()
 
-    def check(self, node, nodes, chain):
-        """The lines of `overcast check` over the files of a node that does not run."""
+    def check(self, node, nodes, chain, home=None):
+        """The lines of `overcast check` over the files of a node that does not run, in its folder or another."""
         it = subprocess.run([PROGRAM, "check", str(node), str(nodes), str(chain)],
-                            cwd=self.home(node), capture_output=True, text=True)
+                            cwd=home or self.home(node), capture_output=True, text=True)
         assert it.returncode == 0, (it.returncode, it.stderr)
         return it.stdout.splitlines()
 

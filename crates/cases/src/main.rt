@@ -6,7 +6,7 @@
 //! A table is a file in `data`, whose first lines say how its rows are written.
 #![tactic(auto)]
 
-use oc_start::{given_words, start};
+use oc_start::{given_words, run_words};
 use std::io;
 use std::process::ExitCode;
 
@@ -18,7 +18,7 @@ fn main(rt: HostRuntime) -> io::Result<ExitCode> {
         play(&rt)?;
         return Ok(ExitCode::SUCCESS);
     }
-    Ok(ExitCode::from(start(&rt, words.as_slice()).status))
+    Ok(ExitCode::from(run_words(&rt, words.as_slice())))
 }
 
 /// Plays all tables.

@@ -11,7 +11,7 @@ pub struct Ending<'a> {
     status: Option<i32>,
     /// The file with the output, or nothing.
     output: Option<&'a str>,
-    /// The line on the error output; after `<` the file with all that is there; or nothing.
+    /// The lines on the error output, with ` // ` between them; after `<` the file with all that is there; or nothing.
     errors: Option<&'a str>,
 }
 
@@ -48,7 +48,8 @@ impl<'a> Ending<'a> {
         if let Some(file) = errors.strip_prefix("<") {
             return fs::read(rt, file);
         }
-        Ok(format!(in rt.alloc(); "{errors}\n")?.into_bytes())
+        let lines = errors.replace(rt.alloc(), " // ", "\n")?;
+        Ok(format!(in rt.alloc(); "{lines}\n")?.into_bytes())
     }
 
     /// Where the output differs from what has to come. A file `NAME.tail` has the end of the output, from the event

@@ -22,8 +22,11 @@ pub fn act_in<const NODES: u32>(
     let Ok(schedule) = read(alloc, text.as_str().as_bytes()) else {
         return Err(Fault::Field);
     };
-    match schedule.events.as_slice() {
-        [Event::Do(act)] if schedule.nodes == NODES => input_of::<NODES>(act),
+    if schedule.nodes != NODES || schedule.events.len() != 1 {
+        return Err(Fault::Field);
+    }
+    match schedule.events.event(0).get() {
+        Event::Do(act) => input_of::<NODES>(act),
         _ => Err(Fault::Field),
     }
 }

@@ -4,7 +4,7 @@
 //! scope.
 
 use crate::node::inputs::NODES;
-use oc_base::NodeId;
+use oc_base::{NodeId, USUAL_CHUNK_BYTES};
 use oc_io::Disk;
 use oc_keep::{Files, KeepLoad, Kept, Node, Seat};
 use std::alloc::Global;
@@ -23,6 +23,7 @@ pub fn load<D: Disk + Drop>(
         id: me,
         nodes: NODES,
         chain: 1,
+        chunk: USUAL_CHUNK_BYTES,
         areas: vec![in alloc; 0, 0, 0]?,
     };
     let NodeDisks {

@@ -13,7 +13,7 @@ mod spelled;
 
 use crate::node::steps::inputs::{NODES, input_in};
 use crate::node::steps::spelled::spelled;
-use oc_base::{MAX_BASE_ACKED, MAX_GROUP_BYTES, MAX_LOG_LENGTH, NodeId, Shelf};
+use oc_base::{MAX_BASE_ACKED, MAX_GROUP_BYTES, MAX_LOG_LENGTH, NodeId, Shelf, USUAL_CHUNK_BYTES};
 use oc_model::{Input, Record};
 use oc_node::{Node, Outcome, Plan};
 use oc_record::decode;
@@ -77,7 +77,7 @@ fn recovered(alloc: Global, me: NodeId, chain: u32, list: &[Record]) -> Result<N
         return Err(Fault::Field);
     }
     let areas = vec![in alloc; 0, 0, 4, 0, 0]?;
-    let mut node = Node::new(alloc, me, NODES, chain, areas)?;
+    let mut node = Node::new(alloc, me, NODES, chain, USUAL_CHUNK_BYTES, areas)?;
     match node.recover(list) {
         Ok(()) => Ok(node),
         Err(_) => {

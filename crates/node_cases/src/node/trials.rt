@@ -7,7 +7,7 @@ ghost use Rattle.oc_model.specs.Lawful.{IsInput};
 use crate::node::files::{handed_back, show};
 use crate::node::given::Given;
 use crate::node::inputs::{NODES, input_in};
-use oc_base::NodeId;
+use oc_base::{NodeId, USUAL_CHUNK_BYTES};
 use oc_io::Disk;
 use oc_keep::{Files, Seat, Trial, trial};
 use oc_model::Input;
@@ -47,6 +47,7 @@ fn tried<D: Disk + Drop>(
         id: me,
         nodes: NODES,
         chain: 1,
+        chunk: USUAL_CHUNK_BYTES,
         areas: vec![in alloc; 0, 0, 0]?,
     };
     let NodeDisks {

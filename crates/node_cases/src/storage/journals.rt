@@ -103,7 +103,7 @@ fn peek<D: Disk>(
     said: &mut String,
 ) -> Result<(), Fault> {
     let index = fields.number()?;
-    let skip = fields.small()?;
+    let skip = u64::from(fields.small()?);
     let mut part = vec![in alloc; 0; fields.byte()? as usize]?;
     put_part(journal, index, skip, &mut part, said)
 }
@@ -112,7 +112,7 @@ fn peek<D: Disk>(
 fn put_part<D: Disk>(
     journal: &mut Journal<D>,
     index: u64,
-    skip: u32,
+    skip: u64,
     part: &mut [u8],
     said: &mut String,
 ) -> Result<(), Fault> {

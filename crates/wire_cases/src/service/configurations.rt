@@ -3,7 +3,7 @@
 use crate::service::measure_lines::put_measure;
 use crate::service::rules::put_rules;
 use crate::service::texts::text_in;
-use oc_config::{Config, ConfigFault, read};
+use oc_config::{Config, ConfigFault, FIRST_CHUNK, read};
 use std::alloc::Global;
 use test_tools::Fault;
 
@@ -21,14 +21,16 @@ fn put_read(alloc: Global, text: &[u8], said: &mut String) -> Result<(), Fault> 
     }
 }
 
-/// Puts what a configuration says: the chain, the address and the area of each node, the measures and the
-/// rules.
+/// Puts what a configuration says: the chain, the chunk where it is not the first one, the address and the area of
+/// each node, the measures and the rules.
 fn put_config(said: &mut String, config: &Config) -> Result<(), Fault> {
     let chain = config.chain;
-    write!(said, "{chain} |")?;
-    for (address, area) in config.addresses.iter().zip(&config.areas) {
-        let address = address.as_str();
-        write!(said, " {address}/{area}")?;
+    write!(said, "{chain}")?;
+    put_chunk(said, config.chunk())?;
+    said.push_str(" |")?;
+    let listens = config.listens.iter();
+    for ((address, listen), area) in config.addresses.iter().zip(listens).zip(&config.areas) {
+        put_node(said, address.as_str(), listen.as_str(), *area)?;
     }
     said.push_str(" |")?;
     for measure in &config.measures {
@@ -37,4 +39,21 @@ fn put_config(said: &mut String, config: &Config) -> Result<(), Fault> {
     }
     said.push_str(" |")?;
     put_rules(said, &config.rules)
+}
+
+/// Puts the chunk, where it is not the first one.
+fn put_chunk(said: &mut String, chunk: u32) -> Result<(), Fault> {
+    if chunk != FIRST_CHUNK {
+        write!(said, " chunk {chunk}")?;
+    }
+    Ok(())
+}
+
+/// Puts the address of a node, where it listens if that is elsewhere, and its area.
+fn put_node(said: &mut String, address: &str, listen: &str, area: u8) -> Result<(), Fault> {
+    write!(said, " {address}")?;
+    if listen != address {
+        write!(said, "@{listen}")?;
+    }
+    Ok(write!(said, "/{area}")?)
 }

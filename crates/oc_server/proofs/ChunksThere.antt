@@ -1,6 +1,6 @@
 -- What a client is given as chunks is there, where the answer is that of its step.
-use Rattle.std.proofs.Common.{◌≡◌, ◌≤◌, ℕ, ◌+◌, ◌-◌, ◌^◌, Bool, true, false, Option, Some, None, List, [], ◌∷◌, length, refl, sym, ap, subst, ◌∙◌, arith}
-use Rattle.std.specs.Prelude.{if◌then◌else◌, nat_le, not}
+use Rattle.std.proofs.Common.{◌≡◌, ◌≤◌, ℕ, ◌+◌, ◌-◌, ◌^◌, Bool, true, false, Option, Some, None, List, length, refl, sym, ap, subst, ◌∙◌, arith}
+use Rattle.std.specs.Prelude.{if◌then◌else◌, nat_le}
 use Rattle.std.specs.Option.{option_map}
 use Rattle.std.proofs.lemmas.Bool.{false≢true}
 use Rattle.oc_base.specs.Groups.{bytes_of, group_of, or_empty, shelf, shelf_of}
@@ -15,12 +15,9 @@ use Rattle.oc_model.specs.Step.{kept_at, piece_of, plan, step}
 use Rattle.oc_model.specs.declared.answer.Answer.{Answer}
 use Rattle.oc_model.specs.declared.answer.Answer.TheVariants as answers
 use Rattle.oc_model.specs.declared.input.Input.TheVariants as inputs
-use Rattle.oc_model.specs.declared.message.Message.{Message}
-use Rattle.oc_reply.specs.Contents.{IsThere, begun}
-use Rattle.oc_reply.specs.Shown.{address_in, known_shown, of_shown, reply_at, response_for, shown, told_text}
+use Rattle.oc_reply.specs.Contents.{begun}
+use Rattle.oc_reply.specs.Shown.{address_in, known_shown, of_shown, reply_at, shown, told_text}
 use Rattle.oc_reply.specs.Waits.{holding}
-use Rattle.oc_reply.specs.declared.content.UnderWay.{UnderWay}
-use Rattle.oc_reply.specs.declared.hint.Asked.{Asked}
 use Rattle.oc_reply.specs.declared.hint.Hint.{Hint}
 use Rattle.oc_reply.specs.declared.hint.Hint.TheVariants.{Plain, Here, Of, Known}
 use Rattle.oc_reply.specs.declared.holding.Holding.{Holding}
@@ -28,12 +25,9 @@ use Rattle.oc_reply.specs.declared.showing.Shown.{Shown}
 use Rattle.oc_routes.specs.Responses.{client_response, served}
 use Rattle.oc_routes.specs.declared.manner.Manner.{Manner}
 use Rattle.oc_routes.specs.declared.manner.Manner.TheVariants.{HeadAlone, Once, Follow}
-use Rattle.oc_routes.specs.declared.response.GroupRange.{GroupRange}
-use Rattle.oc_routes.specs.declared.response.Response.{Response}
-use Rattle.oc_routes.specs.declared.routes.Operation.{Operation}
 use Rattle.oc_routes.specs.declared.routes.Operation.TheVariants as asks
 use Rattle.oc_server.proofs.Holdings.{held_is}
-use Rattle.oc_server.specs.Deeds.{content_at, content_in}
+use Rattle.oc_server.specs.Deeds.{content_at}
 use Rattle.oc_server.specs.Replying.{IsGivable, client_content}
 
 -- an answer serves no more than the node holds from there on

@@ -1,18 +1,25 @@
 -- Lists of what is lawful.
-use Rattle.std.proofs.Common.{◌≡◌, ◌<◌, ℕ, zero, suc, Option, None, Some, List, [], ◌∷◌, ◌++◌, length, take, drop, remove, slice_get, sym, subst, arith}
+use Rattle.std.proofs.Common.{◌≡◌, ◌<◌, ℕ, zero, suc, Option, None, Some, IfSome, List, [], ◌∷◌, ◌++◌, length, take, drop, remove, slice_get, is_some, true, refl, sym, subst, arith}
 use Rattle.std.specs.List.{AllByRecursion}
+use Rattle.std.specs.Option.{option_map}
 use Rattle.oc_keep.specs.Promises.{IsSameNode}
 use Rattle.oc_model.specs.Node.{Header}
 use Rattle.oc_events.specs.declared.event.Event.{Event}
 use Rattle.oc_events.specs.declared.event.Event.TheVariants as events
-use Rattle.oc_server.specs.Deeds.{dials_behind, with_content}
+use Rattle.oc_model.specs.Lawful.{IsInput}
+use Rattle.oc_routes.specs.Lawful.{IsAsked}
+use Rattle.oc_server.specs.Asks.{due_of}
+use Rattle.oc_server.specs.Deeds.{dials_behind, errand_in, with_content}
 use Rattle.oc_server.specs.Dials as dials
-use Rattle.oc_server.specs.Scenes.{IsLawful, IsLawfulDial, IsLawfulWork}
+use Rattle.oc_server.specs.Scenes.{IsLawful, IsLawfulDial, IsLawfulErrand, IsLawfulWaiting, IsLawfulWork}
 use Rattle.oc_server.specs.Sending.{AreSendable}
-use Rattle.oc_server.specs.Works.{place_on, without, without_at}
+use Rattle.oc_server.specs.Works.{client_input, pending, place_on, without, without_at}
+use Rattle.oc_server.specs.declared.taking_up.Due.TheVariants as dues
+use Rattle.oc_server.specs.declared.work.Pending.{Pending}
 use Rattle.oc_server.specs.declared.dials.Dialling.{Dialling}
 use Rattle.oc_server.specs.declared.server.Server.{Server}
 use Rattle.oc_server.specs.declared.work.Place.{Place}
+use Rattle.oc_server.specs.declared.work.Waiting.{Waiting}
 use Rattle.oc_server.specs.declared.work.Work.{Work}
 use Rattle.oc_server.specs.declared.work.Work.TheVariants as works
 
@@ -66,6 +73,27 @@ module _ (nodes me : ℕ) where
   works_with_content None ws all = all
   works_with_content (Some p) ws all = works_with ws (works.Content p) all tt
 
+  -- a client that waits is lawful
+  pub waiting_there : (ws : List Work) (place : ℕ) (w : Waiting) → AllByRecursion (IsLawfulWork nodes me) ws → slice_get ws place ≡ Some (works.Waits w) → IsLawfulWaiting nodes me w
+  waiting_there [] place w all there = absurd cc
+  waiting_there (x ∷ ws) zero w all there = let same : x ≡ works.Waits w = cc in subst (λ (y : Work). IsLawfulWork nodes me y) same all.0
+  waiting_there (x ∷ ws) (suc place) w all there = waiting_there ws place w all.1 there
+
+  due_by : (o : Option Work) (r : Pending) → ((w : Waiting) → o ≡ Some (works.Waits w) → IsLawfulWaiting nodes me w) → due_of o ≡ dues.Waits r
+      → IsAsked r.asked.operation × IfSome (client_input r.asked.operation r.asked.hint) (IsInput nodes me)
+  due_by None r lawful is = absurd cc
+  due_by (Some (works.Content p)) r lawful is = absurd cc
+  due_by (Some (works.Aside p)) r lawful is = absurd cc
+  due_by (Some (works.Waits w)) r lawful is =
+      let same : pending w.connection w.request (is_some (client_input w.request.operation w.request.hint)) true ≡ r = cc in
+      let held = lawful w refl in
+      subst (λ (x : Pending). IsAsked x.asked.operation × IfSome (client_input x.asked.operation x.asked.hint) (IsInput nodes me)) same (held.asks, held.input)
+
+  -- and so is what it is answered by
+  pub due_lawful : (ws : List Work) (place : ℕ) (r : Pending) → AllByRecursion (IsLawfulWork nodes me) ws → due_of (slice_get ws place) ≡ dues.Waits r
+      → IsAsked r.asked.operation × IfSome (client_input r.asked.operation r.asked.hint) (IsInput nodes me)
+  due_lawful ws place r all is = due_by (slice_get ws place) r (λ w there. waiting_there ws place w all there) is
+
 -- Dials
 
 dials_without_place : (nodes : ℕ) (place : Option ℕ) (ds : List Dialling) → AllByRecursion (IsLawfulDial nodes) ds → AllByRecursion (IsLawfulDial nodes) (dials.without_at ds place)
@@ -80,6 +108,23 @@ dials_without nodes d ds all = dials_without_place nodes (dials.place_of d ds) d
 pub dials_seen : (nodes : ℕ) (e : Event) (ds : List Dialling) → AllByRecursion (IsLawfulDial nodes) ds → AllByRecursion (IsLawfulDial nodes) (dials_behind e ds)
 dials_seen nodes (events.Reply d coming) ds all = dials_without nodes d ds all
 dials_seen nodes e ds all = all
+
+dial_there : (nodes : ℕ) (ds : List Dialling) (k : ℕ) → AllByRecursion (IsLawfulDial nodes) ds → IfSome (option_map (λ (d : Dialling). d.errand) (slice_get ds k)) (IsLawfulErrand nodes)
+dial_there nodes [] k all = tt
+dial_there nodes (d ∷ ds) zero all = all.0
+dial_there nodes (d ∷ ds) (suc k) all = dial_there nodes ds k all.1
+
+dial_placed : (nodes : ℕ) (ds : List Dialling) (place : Option ℕ) → AllByRecursion (IsLawfulDial nodes) ds → IfSome (option_map (λ (d : Dialling). d.errand) (dials.dial_at ds place)) (IsLawfulErrand nodes)
+dial_placed nodes ds None all = tt
+dial_placed nodes ds (Some k) all = dial_there nodes ds k all
+
+-- for what a dial was made whose reply an event is
+pub errand_seen : (nodes : ℕ) (e : Event) (ds : List Dialling) → AllByRecursion (IsLawfulDial nodes) ds → IfSome (errand_in e ds) (IsLawfulErrand nodes)
+errand_seen nodes (events.Reply d coming) ds all = dial_placed nodes ds (dials.place_of d ds) all
+errand_seen nodes (events.Request a) ds all = tt
+errand_seen nodes (events.Room c) ds all = tt
+errand_seen nodes (events.Gone c loss) ds all = tt
+errand_seen nodes events.Quiet ds all = tt
 
 -- with another one
 pub dials_with : (nodes : ℕ) (ds : List Dialling) (d : Dialling) → AllByRecursion (IsLawfulDial nodes) ds → IsLawfulDial nodes d → AllByRecursion (IsLawfulDial nodes) (ds ++ d ∷ [])

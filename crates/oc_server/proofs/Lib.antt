@@ -9,6 +9,13 @@ pub mod Turned
 pub mod Takes
 pub mod Dialled
 pub mod Pieces
+pub mod Parts
+pub mod Stopping
+pub mod Outgoing
+pub mod Responding
+pub mod Turning
+pub mod Probings
+pub mod Serves
 pub mod WorksOn
 pub mod Grown
 pub mod Givings

@@ -1,13 +1,13 @@
 -- Messages that can be sent.
-use Rattle.std.proofs.Common.{◌≡◌, ℕ, zero, suc, nat_le, true, false, Bool, ◌&&◌, Option, Some, None, List, [], ◌∷◌, ◌++◌, length, ◌-◌, take, drop, remove, slice_get, slice_set, refl, subst, arith, leb-true, ltb-true, le-leb, lt-ltb}
+use Rattle.std.proofs.Common.{◌≡◌, ℕ, zero, suc, nat_le, true, false, Bool, ◌&&◌, Option, Some, None, IfSome, List, [], ◌∷◌, ◌++◌, length, ◌-◌, take, drop, remove, slice_get, slice_set, refl, subst, arith, leb-true, ltb-true, le-leb, lt-ltb}
 use Rattle.std.specs.List.{AllByRecursion, list_all}
 use Rattle.oc_base.specs.Lawful.{IsNode}
 use Rattle.oc_model.specs.Lawful.{IsMessage}
 use Rattle.oc_model.specs.declared.message.Body.{Body}
 use Rattle.oc_model.specs.declared.message.Body.TheVariants as bodies
 use Rattle.oc_model.specs.declared.message.Message.{Message}
-use Rattle.oc_routes.specs.Replies.{others, reply_place, without}
-use Rattle.oc_server.specs.Deeds.{others_than}
+use Rattle.oc_routes.specs.Replies.{message_at, others, reply_place, without}
+use Rattle.oc_server.specs.Deeds.{back_to, others_than}
 use Rattle.oc_server.specs.Outboxes.{older_fetch, put_at, with_message, with_messages}
 use Rattle.oc_server.specs.declared.outbox.TheConstants.{MAX_OUTBOX}
 use Rattle.oc_server.specs.Sending.{AreSendable, can_send, has_text}
@@ -128,3 +128,19 @@ pub with_sendable : (nodes : ℕ) (ms more : List Message) → AreSendable nodes
 with_sendable nodes ms [] are all = are
 with_sendable nodes ms (m ∷ more) are all =
     with_sendable nodes (with_message ms m) more (with_one nodes ms (older_fetch ms m) m are (first_of nodes m more all)) (rest_of nodes m more all)
+
+-- What goes back
+
+-- the message at a place, if there is one, has a text
+text_at : (nodes : ℕ) (ms : List Message) (place : Option ℕ) → AreSendable nodes ms → IfSome (message_at ms place) (λ m. HasSpelling m.body)
+text_at nodes ms None are = tt
+text_at nodes ms (Some k) are = by_one (slice_get ms k) refl
+  where
+    by_one : (o : Option Message) → slice_get ms k ≡ o → IfSome o (λ m. HasSpelling m.body)
+    by_one None is = tt
+    by_one (Some m) is = text_of_sendable nodes m (one_sendable nodes ms k m is are)
+
+-- the message that goes back to a sender has a text
+pub back_has_text : (nodes : ℕ) (ms : List Message) (sender : Option ℕ) → AreSendable nodes ms → IfSome (back_to sender ms) (λ m. HasSpelling m.body)
+back_has_text nodes ms None are = tt
+back_has_text nodes ms (Some sender) are = text_at nodes ms (reply_place ms sender) are

@@ -5,6 +5,11 @@ pub ok_then : {X Y : Type 0} {P Q : X → Type 0} (r : Result X Y) → ((x : X) 
 ok_then (Ok x) so p = so x p
 ok_then (Err y) so p = tt
 
+-- two facts of an answer
+pub ok_with : {X Y : Type 0} (P : X → Type 0) (Q : Type 0) (r : Result X Y) → IfOk r P → OnOk r Q → IfOk r (λ x. P x × Q)
+ok_with P Q (Ok x) p q = (p, q)
+ok_with P Q (Err y) p q = tt
+
 pub done_then : {X Y : Type 0} {P Q : Type 0} (r : Result X Y) → (P → Q) → OnOk r P → OnOk r Q
 done_then (Ok x) so p = so p
 done_then (Err y) so p = tt

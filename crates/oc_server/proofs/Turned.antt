@@ -4,16 +4,19 @@ use Rattle.oc_content.specs.ContentFile.{groups_in}
 use Rattle.oc_content.specs.ContentView.{ContentView}
 use Rattle.oc_keep.specs.Files.{AllGoOn, SameDurable, Survives}
 use Rattle.oc_keep.specs.KeptView.{IsHonest, KeptView, NodeSurvives, disks_of, header_of, node_of}
-use Rattle.oc_keep.specs.Calls.{FailsToTidy, KeepsNode, StaysTheSame, Tidies}
+use Rattle.oc_keep.specs.Calls.{FailsToReady, FailsToTidy, KeepsNode, StaysTheSame, Tidies}
 use Rattle.oc_keep.specs.Promises.{Closes, IsSameNode}
+use Rattle.oc_keep.specs.declared.errors.ReadyError.{ReadyError}
+use Rattle.oc_keep.specs.declared.errors.ReadyError.TheVariants as readies
 use Rattle.oc_keep.specs.declared.errors.TidyError.{TidyError}
 use Rattle.oc_keep.specs.declared.errors.TidyError.TheVariants as tidies
 use Rattle.oc_keep.proofs.Stays.{Law, all_honest, leaves_now}
 use Rattle.oc_model.specs.Node.{Control, Node}
+use Rattle.oc_model.specs.declared.input.Input.{Input}
 use Rattle.oc_io.specs.DiskView.{DiskView}
 use Rattle.oc_io.specs.Faults.{NoFall}
 use Rattle.oc_server.specs.declared.ends.TurnEnd.TheVariants as ends
-use Rattle.oc_server.specs.Looks.{LooksOnly, LookStops, end_of_tidy}
+use Rattle.oc_server.specs.Looks.{LooksOnly, LookStops, end_of_ready, end_of_tidy}
 use Rattle.oc_server.proofs.Looking.{named}
 
 module _ {D : Type 0} (view : D → DiskView) (old new : KeptView D) where
@@ -75,3 +78,19 @@ module _ {D : Type 0} (view : D → DiskView) (law : Law view) (old new : KeptVi
     leaves = λ honest. leaves_now view (header_of old.node.control) old.node.control.me (disks_of old) (disks_of new) (SameDurable (node_of old)) law (all_honest view (disks_of old) (disks_of new) same.goes_on honest) (same.any_moment is_open honest);
     cause = closes.rose;
   }
+
+  -- the same of an input that was not made ready
+  pub ready_stops : (error : ReadyError) (i : Input) → old.closed ≡ false → StaysTheSame view old new → (error ≡ readies.Closed → IsTrue old.closed) → FailsToReady view error i old new
+      → (new.closed ≡ false → IsHonest view new → NodeSurvives view new (node_of new))
+      → LookStops view (end_of_ready error) old new
+  ready_stops readies.Closed i is_open same closed fails survives =
+      let yes : old.closed ≡ true = closed refl in let no = is_open in absurd cc
+  ready_stops readies.Memory i is_open same closed fails survives = record {
+    goes_on = same.goes_on;
+    leaves = λ honest.
+        subst (λ (n : Node). Survives view (header_of old.node.control) old.node.control.me (disks_of new) n) (same.node honest)
+        (named (λ h me. Survives view h me (disks_of new) (node_of new)) old new (same_id view old new same.nothing.control)
+        (survives (fails ∙ is_open) (all_honest view (disks_of old) (disks_of new) same.goes_on honest)));
+    cause = tt;
+  }
+  ready_stops readies.Disk i is_open same closed fails survives = read_stops is_open same fails.1

@@ -9,5 +9,16 @@ pub mod Scenes
 pub mod Noting
 pub mod Giving
 pub mod Examples
+pub mod Choices
+pub mod Parts
+pub mod Rooms
+pub mod Sends
+pub mod Brought
+pub mod Asks
+pub mod Hurries
+pub mod Turns
+pub mod Runs
+pub mod Lawful
+pub mod TurnExamples
 pub mod Replying
 pub mod ReplyExamples

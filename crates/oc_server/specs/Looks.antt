@@ -3,6 +3,8 @@ use Rattle.std.specs.Prelude.{◌≡◌, false}
 use Rattle.oc_keep.specs.Files.{AllGoOn, OneRose, Survives}
 use Rattle.oc_keep.specs.KeptView.{IsHonest, KeptView, disks_of, header_of, node_of}
 use Rattle.oc_keep.specs.Promises.{IsSameNode}
+use Rattle.oc_keep.specs.declared.errors.ReadyError.{ReadyError}
+use Rattle.oc_keep.specs.declared.errors.ReadyError.TheVariants as readies
 use Rattle.oc_keep.specs.declared.errors.TidyError.{TidyError}
 use Rattle.oc_keep.specs.declared.errors.TidyError.TheVariants as tidies
 use Rattle.oc_io.specs.DiskView.{DiskView}
@@ -35,3 +37,9 @@ abbrev pub end_of_tidy : TidyError → TurnEnd
 end_of_tidy tidies.Closed = ends.Disk
 end_of_tidy tidies.Memory = ends.Memory
 end_of_tidy tidies.Disk = ends.Disk
+
+-- why an input is not made ready
+abbrev pub end_of_ready : ReadyError → TurnEnd
+end_of_ready readies.Closed = ends.Disk
+end_of_ready readies.Memory = ends.Memory
+end_of_ready readies.Disk = ends.Disk

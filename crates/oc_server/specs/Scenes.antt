@@ -21,18 +21,19 @@ use Rattle.oc_model.specs.Node.{Node}
 use Rattle.oc_model.specs.Step.{step}
 use Rattle.oc_node.specs.OutcomeView.{OutcomeView}
 use Rattle.oc_policy.specs.declared.deciding.TheConstants.{MAX_RULES}
-use Rattle.oc_reply.specs.declared.verdict.Request.{Request}
 use Rattle.oc_routes.specs.Inputs.{input_line}
 use Rattle.oc_routes.specs.Lawful.{IsAsked}
 use Rattle.oc_server.specs.Deeds.{Deed, Sees, Running, Setting, after_all, calls_of, inputs_of, lines}
 use Rattle.oc_server.specs.Looks.{LooksOnly}
 use Rattle.oc_server.specs.Sending.{AreSendable}
+use Rattle.oc_server.specs.Works.{client_input}
 use Rattle.oc_server.specs.declared.dials.Dialling.{Dialling}
 use Rattle.oc_server.specs.declared.dials.Errand.{Errand}
 use Rattle.oc_server.specs.declared.dials.Errand.TheVariants as errands
 use Rattle.oc_server.specs.declared.ends.TurnEnd.{TurnEnd}
 use Rattle.oc_server.specs.declared.ends.TurnEnd.TheVariants as ends
 use Rattle.oc_server.specs.declared.server.Server.{Server}
+use Rattle.oc_server.specs.declared.work.Waiting.{Waiting}
 use Rattle.oc_server.specs.declared.work.Work.{Work}
 use Rattle.oc_server.specs.declared.work.Work.TheVariants as works
 
@@ -52,13 +53,13 @@ pub record IsPlaced (nodes : ℕ) (addresses : List (List ℕ)) : Type 0 where
   pub hosts : (x : ℕ) → IsNode nodes x → IsHost (slice_index_or addresses (x - 1) [])
 
 -- what is asked is within its ranges, and so is the input
-pub record IsLawfulRequest (nodes me : ℕ) (request : Request) : Type 0 where
-  pub asks : IsAsked request.operation
-  pub input : IfSome request.input (IsInput nodes me)
+pub record IsLawfulWaiting (nodes me : ℕ) (w : Waiting) : Type 0 where
+  pub asks : IsAsked w.request.operation
+  pub input : IfSome (client_input w.request.operation w.request.hint) (IsInput nodes me)
 
 -- a request that waits is lawful
 abbrev pub IsLawfulWork : ℕ → ℕ → Work → Type 0
-IsLawfulWork nodes me (works.Waits w) = IsLawfulRequest nodes me w.request
+IsLawfulWork nodes me (works.Waits w) = IsLawfulWaiting nodes me w
 IsLawfulWork nodes me work = Unit {0}
 
 -- the node that was dialled is one

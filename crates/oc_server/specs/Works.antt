@@ -1,5 +1,13 @@
 -- What is under way by connection.
-use Rattle.std.specs.Prelude.{ℕ, ◌==◌, Option, None, Some, List, position, remove, slice_get}
+use Rattle.std.specs.Prelude.{ℕ, ◌==◌, Bool, Option, None, Some, List, position, remove, slice_get}
+use Rattle.oc_model.specs.declared.input.Input.{Input}
+use Rattle.oc_model.specs.declared.input.Input.TheVariants as inputs
+use Rattle.oc_reply.specs.Verdicts.{input_for}
+use Rattle.oc_reply.specs.declared.hint.Hint.{Hint}
+use Rattle.oc_reply.specs.declared.verdict.Request.{Request}
+use Rattle.oc_routes.specs.declared.routes.Operation.{Operation}
+use Rattle.oc_routes.specs.declared.routes.Operation.TheVariants as asks
+use Rattle.oc_server.specs.declared.work.Pending.{Pending}
 use Rattle.oc_server.specs.declared.work.Work.{Work}
 use Rattle.oc_server.specs.declared.work.Work.TheVariants as works
 
@@ -30,3 +38,21 @@ work_on c ws = work_at ws (place_on c ws)
 -- all else
 abbrev pub without : ℕ → List Work → List Work
 without c ws = without_at ws (place_on c ws)
+
+-- Requests that wait
+
+-- the input of a client that asks for a group, where the node is not to answer itself
+abbrev pub client_input : Operation → Hint → Option Input
+client_input (asks.Client group area start manner) hint = input_for hint (Some (inputs.Client area start group))
+client_input other hint = None
+
+-- a request is to be answered on a connection: whether a line is written for it, and whether it was taken before
+abbrev pub pending : ℕ → Request → Bool → Bool → Pending
+pending c request told waited = record {
+  connection = c;
+  count = request.count;
+  asked = record { operation = request.operation; hint = request.hint };
+  last = request.last;
+  told = told;
+  waited = waited;
+}

@@ -10,7 +10,7 @@ ghost use Rattle.oc_server.specs.Deeds.{BreaksOff, Gives, LaysAside, Permits, Re
 ghost use Rattle.oc_server.specs.Deeds as deeds;
 ghost use Rattle.oc_server.specs.Giving.{LookBreaks};
 ghost use Rattle.oc_server.specs.Looks.{LooksOnly, LookStops};
-ghost use Rattle.oc_server.specs.Scenes.{Breaks, Did, IsLawfulRequest, IsServing, Idle};
+ghost use Rattle.oc_server.specs.Scenes.{Breaks, Did, IsLawfulWaiting, IsServing, Idle};
 
 use crate::ends::TurnEnd;
 use crate::server::Server;
@@ -48,7 +48,7 @@ impl<D: Disk, L: Link, K: Sink> Server<D, L, K> {
     /// Takes a request that waits.
     pub fn waits(&mut self, waiting: Waiting) -> Result<(), TurnEnd>
         requires serving { IsServing self.old }
-        requires request { IsLawfulRequest self.old.kept.node.control.nodes self.old.kept.node.control.me waiting.request }
+        requires waiting { IsLawfulWaiting self.old.kept.node.control.nodes self.old.kept.node.control.me waiting }
         ensures did { OnOk result (Did D.view K.takes K.faults L.story L.counts (Waits waiting ∷ []) self.old self.new) }
         ensures breaks { IfErr result (λ end. (end ≡ TurnEnd.Memory) × Breaks D.view K.takes K.fails K.faults L.story L.counts end Idle self.old self.new) }
     {

@@ -8,27 +8,43 @@
 //!
 //! A content under way is a place in a group and not bytes ([`Place`]): each piece is read when it is given, so nothing
 //! grows with its length. A follower that has all of a group waits ([`Waiting`]). [`connections_are_given_their_replies`]
-//! says that whatever is done in whatever order, each connection is given the replies to its requests. Which deeds make a
-//! turn is not said here yet.
+//! says that whatever is done in whatever order, each connection is given the replies to its requests.
+//!
+//! Which deeds make a turn is a function: `specs/Turns` says what a running node does in a turn by what the link and the
+//! clock tell ([`Turns::turn`], and [`Turns::serve`] for one turn after another). The contract of a turn says that these
+//! deeds were done, or that a front of them was done, what was under way behind it, and how it ended (`specs/Runs`). What
+//! came is what the bytes of the link say, read by the definitions of `oc_reply` and `oc_http`.
 #![tactic(auto)]
 
+mod answering;
 mod asking;
+mod came;
+mod choosing;
 mod dialling;
 mod dials;
 mod ends;
 mod giving;
+mod hearing;
 mod law;
 mod noting;
 mod outbox;
 mod pace;
+mod reading;
 mod sendable;
+mod sending;
 mod server;
+mod serving;
 mod taking;
+mod taking_up;
 mod tidying;
+mod turn_law;
+mod turns;
 mod work;
 mod works;
 
 pub use asking::Happened;
+pub use came::Came;
+pub use choosing::{MAX_DIALS, MAX_OTHER_DIALS};
 pub use dials::{Dialling, Dials, Errand};
 pub use ends::TurnEnd;
 pub use law::{
@@ -38,5 +54,7 @@ pub use outbox::Outbox;
 pub use pace::Pace;
 pub use server::Server;
 pub use taking::Accepted;
+pub use turn_law::turns_compute;
+pub use turns::Turns;
 pub use work::{Pending, Place, Waiting, Work};
 pub use works::Works;

@@ -1,6 +1,6 @@
 //! Lines that begin with `!`, and requests that are refused.
 
-ghost use Rattle.std.specs.Prelude.{◌≡◌, ◌++◌, ◌⊎◌, ◌∷◌, [], OnOk, IfErr, Some, codes, option_map};
+ghost use Rattle.std.specs.Prelude.{◌≡◌, ◌++◌, ◌⊎◌, ◌∷◌, [], OnOk, IfErr, Some, codes, option_map, true};
 ghost use Rattle.oc_routes.specs.Refusals.{refusal_text, why_text};
 ghost use Rattle.oc_events.specs.Told.{AddsAll};
 ghost use Rattle.oc_io.specs.Faults.{NoFall};
@@ -55,7 +55,7 @@ impl<D: Disk, L: Link, K: Sink> Server<D, L, K> {
     pub fn drops(&mut self, connection: ConnectionId, told: bool) -> Result<(), TurnEnd>
         requires { IsServing self.old }
         ensures did { OnOk result (Did D.view K.takes K.faults L.story L.counts (Drops connection told ∷ []) self.old self.new) }
-        ensures breaks { IfErr result (λ end. NoteBreaks D.view K.takes K.fails K.faults L.story L.counts end (note_line (codes "write")) self.old self.new) }
+        ensures breaks { IfErr result (λ end. (told ≡ true) × NoteBreaks D.view K.takes K.fails K.faults L.story L.counts end (note_line (codes "write")) self.old self.new) }
     {
         self.kept.recovers();
         write_told(&mut self.sink, told)?;
@@ -95,7 +95,7 @@ fn refuse_by<L: Link>(link: &mut L, connection: ConnectionId, count: u64, text: 
 fn write_told<K: Sink>(sink: &mut K, told: bool) -> Result<(), TurnEnd>
     ensures wrote { OnOk result (K.takes sink.old (drop_line told) sink.new) }
     ensures count { NoFall (K.faults sink.old) (K.faults sink.new) }
-    ensures stops { IfErr result (λ end. LineStops K.fails K.faults end (note_line (codes "write")) sink.old sink.new) }
+    ensures stops { IfErr result (λ end. (told ≡ true) × LineStops K.fails K.faults end (note_line (codes "write")) sink.old sink.new) }
 {
     if !told {
         return Ok(());

@@ -83,6 +83,13 @@ impl Outbox {
             .position(|older| asks_again(message, older))
     }
 
+    /// All of them, the oldest first.
+    pub fn messages(&self) -> &VecDeque<Message>
+        ensures { result.now.items ≡ self.now }
+    {
+        &self.messages
+    }
+
     /// Takes out the message at a place.
     pub fn take(&mut self, place: usize) -> Option<Message>
         requires { place < length self.old }

@@ -1,13 +1,11 @@
 use crate::dials::Dials;
 use crate::outbox::Outbox;
-use crate::pace::Pace;
 use crate::works::Works;
 use oc_config::Config;
 use oc_events::Link;
 use oc_http::HeadReader;
 use oc_io::{Disk, Sink};
 use oc_keep::Kept;
-use oc_probe::Probing;
 use std::alloc::Global;
 
 /// A running node: its files, what it has still to send and to answer, its configuration, and what it reaches the
@@ -22,10 +20,6 @@ pub struct Server<D: Disk, L: Link, K: Sink> {
     pub works: Works,
     /// What it has dialled.
     pub dials: Dials,
-    /// Whom it probes, if it does.
-    pub probing: Option<Probing>,
-    /// When its next tick is due.
-    pub pace: Pace,
     pub config: Config,
     pub link: L,
     /// Where its lines go.

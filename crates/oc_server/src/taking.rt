@@ -1,10 +1,11 @@
 //! Inputs that are taken.
 
-ghost use Rattle.std.specs.Prelude.{◌≡◌, List, [], ◌∷◌, false, IfOk, IfErr, OnOk};
+ghost use Rattle.std.specs.Prelude.{◌≡◌, List, [], ◌∷◌, false, IfOk, IfErr, IfSome, OnOk};
 ghost use Rattle.oc_model.specs.Lawful.{IsInput};
 ghost use Rattle.oc_model.specs.Step.{step};
 ghost use Rattle.oc_keep.specs.KeptView.{IsHonest, node_of};
 ghost use Rattle.oc_routes.specs.Inputs.{input_line};
+ghost use Rattle.oc_wire.specs.Spelling.{HasSpelling};
 ghost use Rattle.oc_server.specs.Deeds.{Accepts, Takes, back_to, others_than, sender_of};
 ghost use Rattle.oc_server.specs.Deeds as deeds;
 ghost use Rattle.oc_server.specs.Scenes as scenes;
@@ -58,6 +59,7 @@ impl<D: Disk, L: Link, K: Sink> Server<D, L, K> {
         ensures did { OnOk result (Did D.view K.takes K.faults L.story L.counts (Accepts input ∷ []) self.old self.new) }
         ensures answer { IfOk result (λ accepted. IsHonest D.view self.old.kept → accepted.answer ≡ (step (node_of self.old.kept) input).answer) }
         ensures back { IfOk result (λ accepted. IsHonest D.view self.old.kept → accepted.back ≡ back_to (sender_of input) (step (node_of self.old.kept) input).sends) }
+        ensures text { IfOk result (λ accepted. IfSome accepted.back (λ m. HasSpelling m.body)) }
         ensures breaks { IfErr result (λ end. Breaks D.view K.takes K.fails K.faults L.story L.counts end (Taking input) self.old self.new) }
     {
         self.kept.recovers();

@@ -1,7 +1,10 @@
 ghost use Rattle.std.specs.Prelude.{◌≡◌};
+ghost use Rattle.oc_server.specs.Works.{client_input, pending};
 
 use oc_events::ConnectionId;
-use oc_reply::{Asked, Request, UnderWay};
+use oc_model::Input;
+use oc_reply::{Asked, Hint, Request, UnderWay};
+use oc_routes::Operation;
 
 /// A content under way on a connection.
 #[derive(Clone, Copy, Debug)]
@@ -32,13 +35,60 @@ pub struct Pending {
     pub waited: bool,
 }
 
-/// A request of a client that follows a group and has all of it. Its input is not taken yet.
+/// A request of a client that follows a group and has all of it. Its input is not kept: it is made when it is taken.
 #[derive(Debug, Drop)]
 pub struct Waiting {
     pub connection: ConnectionId,
     pub request: Request,
     /// When it came, in milliseconds.
     pub since: u64,
+}
+
+/// A request is to be answered on a connection. `told` says that a line is written for it, and `waited` that it was taken
+/// before.
+pub(crate) fn pending_of(
+    connection: ConnectionId,
+    request: &Request,
+    told: bool,
+    waited: bool,
+) -> Pending
+    ensures { result ≡ pending connection request.now told waited }
+{
+    Pending {
+        connection,
+        count: request.count,
+        asked: Asked {
+            operation: request.operation,
+            hint: request.hint,
+        },
+        last: request.last,
+        told,
+        waited,
+    }
+}
+
+/// The input of a client that asks for a group; none where the node is to answer itself.
+pub(crate) fn client_input(operation: &Operation, hint: Hint) -> Option<Input>
+    ensures { result ≡ client_input operation.now hint }
+{
+    match operation {
+        Operation::Client {
+            group,
+            area,
+            start,
+            ..
+        } => {
+            if hint == Hint::Here {
+                return None;
+            }
+            Some(Input::Client {
+                area: *area,
+                start: *start,
+                group: *group,
+            })
+        }
+        _ => None,
+    }
 }
 
 /// What is under way on a connection.

@@ -1,7 +1,11 @@
-use Rattle.std.proofs.Common.{List, Option, ℕ, ap, refl, rules, subst, ◌∙◌}
+use Rattle.std.proofs.Common.{List, Option, IfSome, ℕ, ap, refl, rules, subst, sym, ◌∙◌}
+use Rattle.oc_model.specs.declared.message.Message.{Message}
 use Rattle.std.proofs.lemmas.Result.{err_from_is_err_and}
 use Rattle.oc_node.specs.OutcomeView.{OutcomeView}
 use Rattle.oc_server.specs.Deeds.{back_to, sender_of}
+use Rattle.oc_server.specs.Sending.{AreSendable}
+use Rattle.oc_wire.specs.Spelling.{HasSpelling}
+use Rattle.oc_server.proofs.Messages.{back_has_text}
 use Rattle.oc_server.proofs.Takes.{did_accept, keep_breaks, memory_before, write_breaks_as}
 use Rattle.oc_server.proofs.server.Server.accepts.Goals as goal
 
@@ -34,3 +38,10 @@ pub returns-clause-back : goal.returns-clause-back
 returns-clause-back g c = λ honest.
     c.held_back-back.ensures.back ∙ ap (λ (x : Option ℕ). back_to x c.outcome.inside.sends.items) c.sender_of-sender.ensures
     ∙ ap (λ (o : OutcomeView). back_to (sender_of c.args.input) o.sends) (c.outcome.view_is ∙ c.in_ok-outcome.ensures.kept.outcome_is honest)
+
+pub returns-clause-text : goal.returns-clause-text
+returns-clause-text g c =
+    let nodes = c.args.self.now.kept.node.control.nodes in
+    subst (λ (back : Option Message). IfSome back (λ m. HasSpelling m.body)) (sym c.held_back-back.ensures.back)
+    (back_has_text nodes c.outcome.inside.sends.items c.sender_of-sender.result
+    (subst (λ (o : OutcomeView). AreSendable nodes o.sends) (sym c.outcome.view_is) c.in_ok-outcome.ensures.kept.sendable))

@@ -25,4 +25,5 @@ returns-clause-did g c =
 pub returns-in_err-write_told-clause-breaks : goal.returns-in_err-write_told-clause-breaks
 returns-in_err-write_told-clause-breaks g c =
     let p = err_from_is_err_and c.from_residual.result c.from_residual.ensures.1 in
-    rw (p.1, p.2) (line_breaks g.D.Disk.view g.K.Sink.takes g.K.Sink.fails g.K.Sink.faults g.L.Link.story g.L.Link.counts c.in_err-write_told.field-0.0 (note_line (codes "write")) c.args.self.now _ refl refl refl c.in_err-write_told.ensures.stops (c.recovers.ensures.survives c.requires.is_open))
+    let stops = c.in_err-write_told.ensures.stops in
+    rw (p.1, p.2) (stops.0, line_breaks g.D.Disk.view g.K.Sink.takes g.K.Sink.fails g.K.Sink.faults g.L.Link.story g.L.Link.counts c.in_err-write_told.field-0.0 (note_line (codes "write")) c.args.self.now _ refl refl refl stops.1 (c.recovers.ensures.survives c.requires.is_open))

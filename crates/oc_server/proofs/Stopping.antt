@@ -1,0 +1,73 @@
+-- Single deeds that ended partway through.
+use Rattle.std.proofs.Common.{◌≡◌, ℕ, false, Option, List, [], ◌∷◌, refl, sym, subst}
+use Rattle.oc_events.specs.declared.call.Call.{Call}
+use Rattle.oc_events.specs.declared.counts.Counts.{Counts}
+use Rattle.oc_io.specs.DiskView.{DiskView}
+use Rattle.oc_keep.specs.KeptView.{IsHonest}
+use Rattle.oc_model.specs.declared.input.Input.{Input}
+use Rattle.oc_server.specs.Deeds.{Accepts, Deed, Takes}
+use Rattle.oc_server.specs.Giving.{LookBreaks}
+use Rattle.oc_server.specs.Noting.{NoteBreaks}
+use Rattle.oc_server.specs.Parts.{IsUnder, Part, Stops, under_of}
+use Rattle.oc_server.specs.Scenes.{Breaks, Idle, Noting, Taking, Under, running, setting}
+use Rattle.oc_server.specs.declared.ends.TurnEnd.{TurnEnd}
+use Rattle.oc_server.specs.declared.ends.TurnEnd.TheVariants as ends
+use Rattle.oc_server.specs.declared.server.Server.{Server}
+use Rattle.oc_server.proofs.Parts.{stops_first}
+
+module _ {D L K : Type 0} (view : D → DiskView) (takes fails : K → List ℕ → K → Type 0) (faults : K → ℕ) (story : L → Option (List Call)) (counts : L → Counts) (takes_nothing : (k : K) → takes k [] k) where
+  -- with nothing under way
+  pub stops_idle : (end : TurnEnd) (p : Part) (a c : Server D L K) → a.kept.closed ≡ false
+      → Breaks view takes fails faults story counts end Idle a c → Stops view takes fails faults story counts end p a c
+  stops_idle end p a c is_open breaks = stops_first view takes fails faults story counts takes_nothing end Idle p a c is_open (λ honest. tt) breaks
+
+  -- a look that ended has nothing under way
+  pub look_only : (end : TurnEnd) (a c : Server D L K) → LookBreaks view takes fails faults story counts end a c → Breaks view takes fails faults story counts end Idle a c
+  look_only ends.Memory a c breaks = breaks
+  look_only ends.Disk a c breaks = breaks
+  look_only ends.Sink a c breaks = absurd breaks
+  look_only ends.Full a c breaks = absurd breaks
+  look_only ends.Link a c breaks = absurd breaks
+  look_only ends.Served a c breaks = absurd breaks
+  look_only ends.Quiet a c breaks = absurd breaks
+
+  -- in a look
+  pub look_stops : (end : TurnEnd) (p : Part) (a c : Server D L K) → a.kept.closed ≡ false
+      → LookBreaks view takes fails faults story counts end a c → Stops view takes fails faults story counts end p a c
+  look_stops ends.Memory p a c is_open breaks = stops_idle ends.Memory p a c is_open breaks
+  look_stops ends.Disk p a c is_open breaks = stops_idle ends.Disk p a c is_open breaks
+  look_stops ends.Sink p a c is_open breaks = absurd breaks
+  look_stops ends.Full p a c is_open breaks = absurd breaks
+  look_stops ends.Link p a c is_open breaks = absurd breaks
+  look_stops ends.Served p a c is_open breaks = absurd breaks
+  look_stops ends.Quiet p a c is_open breaks = absurd breaks
+
+  -- with what its only deed has under way
+  pub stops_deed : (end : TurnEnd) (under : Under) (d : Deed) (p : Part) (a c : Server D L K) → a.kept.closed ≡ false
+      → (IsHonest view a.kept → p (setting a) (running a) ≡ d ∷ []) → IsUnder under (d ∷ [])
+      → Breaks view takes fails faults story counts end under a c → Stops view takes fails faults story counts end p a c
+  stops_deed end under d p a c is_open is next breaks =
+      stops_first view takes fails faults story counts takes_nothing end under p a c is_open (λ honest. subst (λ (ds : List Deed). IsUnder under ds) (sym (is honest)) next) breaks
+
+  -- in the line of its only deed
+  pub note_stops : (end : TurnEnd) (line : List ℕ) (d : Deed) (p : Part) (a c : Server D L K) → a.kept.closed ≡ false
+      → (IsHonest view a.kept → p (setting a) (running a) ≡ d ∷ []) → Noting line ≡ under_of d
+      → NoteBreaks view takes fails faults story counts end line a c → Stops view takes fails faults story counts end p a c
+  note_stops ends.Memory line d p a c is_open is next breaks = stops_idle ends.Memory p a c is_open breaks
+  note_stops ends.Sink line d p a c is_open is next breaks = stops_deed ends.Sink (Noting line) d p a c is_open is next breaks
+  note_stops ends.Disk line d p a c is_open is next breaks = absurd breaks
+  note_stops ends.Full line d p a c is_open is next breaks = absurd breaks
+  note_stops ends.Link line d p a c is_open is next breaks = absurd breaks
+  note_stops ends.Served line d p a c is_open is next breaks = absurd breaks
+  note_stops ends.Quiet line d p a c is_open is next breaks = absurd breaks
+
+  -- in its input
+  pub takes_stops : (end : TurnEnd) (i : Input) (p : Part) (a c : Server D L K) → a.kept.closed ≡ false
+      → (IsHonest view a.kept → p (setting a) (running a) ≡ Takes i ∷ [])
+      → Breaks view takes fails faults story counts end (Taking i) a c → Stops view takes fails faults story counts end p a c
+  takes_stops end i p a c is_open is breaks = stops_deed end (Taking i) (Takes i) p a c is_open is refl breaks
+
+  pub accepts_stops : (end : TurnEnd) (i : Input) (p : Part) (a c : Server D L K) → a.kept.closed ≡ false
+      → (IsHonest view a.kept → p (setting a) (running a) ≡ Accepts i ∷ [])
+      → Breaks view takes fails faults story counts end (Taking i) a c → Stops view takes fails faults story counts end p a c
+  accepts_stops end i p a c is_open is breaks = stops_deed end (Taking i) (Accepts i) p a c is_open is refl breaks

@@ -1,0 +1,413 @@
+-- One turn, part by part.
+use Rattle.std.proofs.Common.{◌≡◌, ◌≢◌, ℕ, Bool, true, false, cond, Option, None, Some, List, [], ◌∷◌, ◌++◌, length, slice_get, inl, inr, refl, sym, ap, subst, ◌∙◌, arith}
+use Rattle.std.proofs.lemmas.Bool.{eq-eqb, ne_eqb}
+use Rattle.oc_base.specs.Groups.{shelf}
+use Rattle.oc_config.specs.Settings.{Settings}
+use Rattle.oc_events.specs.Told.{AddsAll, Gives, Told as Telling}
+use Rattle.oc_events.specs.Traffic.{held}
+use Rattle.oc_events.specs.declared.call.Call.{Call}
+use Rattle.oc_events.specs.declared.call.Call.TheVariants as acts
+use Rattle.oc_events.specs.declared.counts.Counts.{Counts}
+use Rattle.oc_events.specs.declared.event.Event.{Event}
+use Rattle.oc_events.specs.declared.event.Event.TheVariants as events
+use Rattle.oc_events.proofs.Stories.{adds-then}
+use Rattle.oc_io.specs.DiskView.{DiskView}
+use Rattle.oc_keep.specs.KeptView.{IsHonest, node_of}
+use Rattle.oc_probe.specs.declared.probing.Probing.{Probing}
+use Rattle.oc_reply.specs.Verdicts.{NodeTerms, terms_of}
+use Rattle.oc_base.specs.declared.shelf.Shelf.{Shelf}
+use Rattle.oc_model.specs.Node.{Header}
+use Rattle.oc_server.specs.Choices.{due_place, wait_for}
+use Rattle.oc_server.specs.Deeds.{Deed, Reads, Running, Sees, Setting, after_all, after, calls_of, dials_behind, errand_in}
+use Rattle.oc_server.specs.Pace.{after_tick, wait_until}
+use Rattle.oc_server.specs.Parts.{Does, Part, Stops, nothing, one, ◌>>◌}
+use Rattle.oc_server.specs.Runs.{DealStops, Dealt, IsLent, IsMeasured, IsRead, MayRead, behind_reading, due_in, is_something, is_served, lent_in, reads_by, NextStops, NextTaken, Turned, TurnStops}
+use Rattle.oc_server.specs.Scenes.{Breaks, Did, Idle, IsServing, running, setting}
+use Rattle.oc_server.specs.Hurries.{came_hurries}
+use Rattle.oc_server.specs.Turns.{Means, Told, deals, happens, quickened, takes_due, ticks_and_sends, pace_behind, paced, probed, probing_behind, takes_at, takes_next, takes_one, ticked, ticks, turn}
+use Rattle.oc_server.specs.declared.came.Came.{Came}
+use Rattle.oc_server.specs.declared.came.Came.TheVariants as comes
+use Rattle.oc_server.specs.declared.dials.Errand.{Errand}
+use Rattle.oc_server.specs.declared.ends.TurnEnd.{TurnEnd}
+use Rattle.oc_server.specs.declared.pace.Pace.{Pace}
+use Rattle.oc_server.specs.declared.server.Server.{Server}
+use Rattle.oc_server.specs.declared.turns.Turns.{Turns}
+use Rattle.oc_server.proofs.Parts.{does_after, does_as, does_then, one_then, stops_after, stops_as, stops_in}
+use Rattle.oc_server.proofs.Scenes.{breaks_behind, breaks_first, still_honest}
+
+-- Ticks
+
+-- none is due
+pub no_tick : (pace : Pace) (now wait seconds : ℕ) (s : Setting) (a : Running) → wait ≡ wait_until pace now → wait ≢ 0 → ticks pace now seconds s a ≡ []
+no_tick pace now wait seconds s a is some =
+    ap (λ (b : Bool). cond b (ticked seconds) nothing s a) (ne_eqb (wait_until pace now) 0 (λ e. some (is ∙ e)))
+
+pub no_tick_paced : (pace : Pace) (now wait : ℕ) → wait ≡ wait_until pace now → wait ≢ 0 → pace ≡ paced pace now
+no_tick_paced pace now wait is some = sym (ap (λ (b : Bool). cond b (after_tick now pace) pace) (ne_eqb (wait_until pace now) 0 (λ e. some (is ∙ e))))
+
+-- one is due
+pub a_tick : (pace : Pace) (now wait seconds : ℕ) (s : Setting) (a : Running) → wait ≡ wait_until pace now → wait ≡ 0 → ticks pace now seconds s a ≡ ticked seconds s a
+a_tick pace now wait seconds s a is none =
+    ap (λ (b : Bool). cond b (ticked seconds) nothing s a) (eq-eqb (wait_until pace now) 0 (sym is ∙ none))
+
+pub a_tick_paced : (pace : Pace) (now wait : ℕ) → wait ≡ wait_until pace now → wait ≡ 0 → after_tick now pace ≡ paced pace now
+a_tick_paced pace now wait is none = sym (ap (λ (b : Bool). cond b (after_tick now pace) pace) (eq-eqb (wait_until pace now) 0 (sym is ∙ none)))
+
+-- What was lent
+
+-- what follows the same calls is the same
+cancel : (xs ys zs : List Call) → xs ++ ys ≡ xs ++ zs → ys ≡ zs
+cancel [] ys zs e = e
+cancel (x ∷ xs) ys zs e = let rest : xs ++ ys ≡ xs ++ zs = cc in cancel xs ys zs rest
+
+-- the bytes of an event that was told are those of its deed
+same_bytes : (event : Event) (calls now : List Call) (x y : List ℕ) → now ≡ calls ++ acts.Next event x ∷ [] → now ≡ calls ++ acts.Next event y ∷ [] → x ≡ y
+same_bytes event calls now x y p q =
+    let e : acts.Next event x ∷ [] ≡ acts.Next event y ∷ [] = cancel calls (acts.Next event x ∷ []) (acts.Next event y ∷ []) (sym p ∙ q) in cc
+
+-- what is lent is what the story says, as far as it is looked at
+pub record Lent (a z : Option (List Call)) (event : Event) (bytes lent : List ℕ) : Type 0 where
+  pub bytes_lent : List ℕ
+  pub is_lent : IsLent a z event bytes bytes_lent
+  pub means : (t : NodeTerms) (errand : Option Errand) (came : Came) → Means t lent errand event came → Means t bytes_lent errand event came
+
+lent_by : (event : Event) (calls now end : List Call) (bytes lent : List ℕ) → Gives event lent calls now → now ≡ calls ++ acts.Next event bytes ∷ [] → Lent (Some calls) (Some end) event bytes lent
+lent_by (events.Request a) calls now end bytes lent told is =
+    record { bytes_lent = lent; is_lent = told.lends ∙ ap (λ (cs : List Call). held a.connection cs) is; means = λ t errand came m. m }
+lent_by (events.Reply d coming) calls now end bytes lent told is =
+    record { bytes_lent = lent; is_lent = told.lends ∙ same_bytes (events.Reply d coming) calls now told.bytes bytes told.made is; means = λ t errand came m. m }
+lent_by (events.Room c) calls now end bytes lent told is = record { bytes_lent = bytes; is_lent = refl; means = λ t errand came m. m }
+lent_by (events.Gone c loss) calls now end bytes lent told is = record { bytes_lent = bytes; is_lent = refl; means = λ t errand came m. m }
+lent_by events.Quiet calls now end bytes lent told is = record { bytes_lent = bytes; is_lent = refl; means = λ t errand came m. m }
+
+pub lent_is : (event : Event) (bytes lent : List ℕ) (more : List Call) (a b z : Option (List Call)) → Telling (Gives event lent) a b → AddsAll (acts.Next event bytes ∷ []) a b → AddsAll more b z
+    → Lent a z event bytes lent
+lent_is event bytes lent more None b z told adds behind = record { bytes_lent = lent; is_lent = tt; means = λ t errand came m. m }
+lent_is event bytes lent more (Some calls) b None told adds behind = record { bytes_lent = lent; is_lent = tt; means = λ t errand came m. m }
+lent_is event bytes lent more (Some calls) None (Some end) told adds behind = absurd behind
+lent_is event bytes lent more (Some calls) (Some now) (Some end) told adds behind = lent_by event calls now end bytes lent told adds
+
+module _ {D L K : Type 0} (view : D → DiskView) (takes fails : K → List ℕ → K → Type 0) (faults : K → ℕ) (story : L → Option (List Call)) (counts : L → Counts) where
+  -- What is kept to read heads
+
+  pub did_heads : (ds : List Deed) (a b c : Server D L K) → c ≡ record b { heads = c.heads } → Did view takes faults story counts ds a b → Did view takes faults story counts ds a c
+  did_heads ds a b c same did = subst (λ (x : Server D L K). Did view takes faults story counts ds a x) (sym same) (record {
+    is_open = did.is_open;
+    same = did.same;
+    config = did.config;
+    goes_on = did.goes_on;
+    no_fall = did.no_fall;
+    counted = did.counted;
+    keeps = did.keeps;
+    lawful = λ lawful. let more = did.lawful lawful in record { sendable = more.sendable; works = more.works; dials = more.dials };
+    text = did.text;
+    done = λ honest. did.done honest;
+  })
+
+  pub serving_heads : (b c : Server D L K) → c ≡ record b { heads = c.heads } → IsServing b → IsServing c
+  serving_heads b c same serving = subst (λ (x : Server D L K). IsServing x) (sym same) (record {
+    is_open = serving.is_open;
+    placed = serving.placed;
+    rules = serving.rules;
+    lawful = record { sendable = serving.lawful.sendable; works = serving.lawful.works; dials = serving.lawful.dials };
+  })
+
+  -- What is told of a node at two moments
+
+  -- the story of the link behind deeds
+  told_behind : (ds : List Deed) (a b : Server D L K) → Did view takes faults story counts ds a b → IsHonest view a.kept → AddsAll (calls_of (setting a) ds (running a)) (story a.link) (story b.link)
+  told_behind ds a b did honest = (did.done honest).calls
+
+  -- by what requests are read
+  pub reads_same : (ds : List Deed) (a b : Server D L K) → Did view takes faults story counts ds a b → reads_by b ≡ reads_by a
+  reads_same ds a b did =
+      ap (λ (me : ℕ). terms_of me b.kept.node.control.nodes b.config.rules) did.same.me
+      ∙ ap (λ (h : Header). terms_of a.kept.node.control.me h.nodes b.config.rules) did.same.header
+      ∙ ap (λ (c : Settings). terms_of a.kept.node.control.me a.kept.node.control.nodes c.rules) did.config
+
+  -- Work that was due
+
+  module _ (takes_then : (a b c : K) (x y : List ℕ) → takes a x b → takes b y c → takes a (x ++ y) c) (before : ℕ) (a b c : Server D L K) (did : Did view takes faults story counts (Reads before ∷ []) a b) where
+    first : Does view takes faults story counts (one (Reads before)) a b
+    first = record { deeds = Reads before ∷ []; did = did; are = λ honest. refl }
+
+    -- the node when it was asked what is due
+    pub due_then : (lines : List Shelf) → (IsHonest view b.kept → lines ≡ shelf (node_of b.kept).groups) → IsHonest view a.kept
+        → due_in a before ≡ due_place b.works lines before
+    due_then lines held honest =
+        ap (λ (r : Running). due_place r.works (shelf r.node.groups) before) (sym (did.done honest).after)
+        ∙ ap (λ (ls : List Shelf). due_place b.works ls before) (sym (held (still_honest view takes fails faults story counts (Reads before ∷ []) a b did honest)))
+
+    -- what a turn does by what was due
+    one_by : (due : Option ℕ) (pace : Pace) (probing : Option Probing) (t : Told) → t.before ≡ before → (IsHonest view a.kept → due_in a before ≡ due) → IsHonest view a.kept
+        → takes_at due pace probing t (setting b) (running b) ≡ takes_one pace probing t (setting b) (running b)
+    one_by due pace probing t begins is honest =
+        ap (λ (o : Option ℕ). takes_at o pace probing t (setting b) (running b))
+        (sym (is honest) ∙ ap (λ (r : Running). due_place r.works (shelf r.node.groups) before) (sym (did.done honest).after)
+        ∙ ap (λ (n : ℕ). due_place b.works (shelf (node_of b.kept).groups) n) (sym begins))
+
+    pub does_turn : (due : Option ℕ) (pace : Pace) (probing : Option Probing) (t : Told) → t.before ≡ before → (IsHonest view a.kept → due_in a before ≡ due)
+        → Does view takes faults story counts (takes_at due pace probing t) b c → Does view takes faults story counts (turn pace probing t) a c
+    does_turn due pace probing t begins is does =
+        subst (λ (n : ℕ). Does view takes faults story counts (one (Reads n) >> takes_one pace probing t) a c) (sym begins)
+        (does_after view takes fails faults story counts takes_then (one (Reads before)) (takes_one pace probing t) (takes_at due pace probing t) a b c first (one_by due pace probing t begins is) does)
+
+    pub stops_turn : (end : TurnEnd) (due : Option ℕ) (pace : Pace) (probing : Option Probing) (t : Told) → t.before ≡ before → (IsHonest view a.kept → due_in a before ≡ due)
+        → (stops : Stops view takes fails faults story counts end (takes_at due pace probing t) b c)
+        → (whole : Stops view takes fails faults story counts end (turn pace probing t) a c) × (whole.deeds ≡ Reads before ∷ stops.deeds)
+    stops_turn end due pace probing t begins is stops =
+        one_then view takes fails faults story counts takes_then end (Reads before) (turn pace probing t) (takes_one pace probing t) (takes_at due pace probing t) a b c did
+        (λ honest. ap (λ (n : ℕ). (one (Reads n) >> takes_one pace probing t) (setting a) (running a)) begins) (one_by due pace probing t begins is) stops
+
+    -- the story when the link was asked
+    lent_then : (event : Event) (bytes lent : List ℕ) (more : List Call) (x y z : Option (List Call)) → AddsAll (acts.Millis before ∷ []) x y → AddsAll more y z
+        → IsLent y z event bytes lent → IsLent (behind_reading before x) z event bytes lent
+    lent_then event bytes lent more None y z made behind is = tt
+    lent_then event bytes lent more (Some calls) y None made behind is = tt
+    lent_then event bytes lent more (Some calls) None (Some end) made behind is = absurd behind
+    lent_then event bytes lent more (Some calls) (Some now) (Some end) made behind is =
+        is ∙ ap (λ (cs : List Call). lent_in event bytes (cs ++ acts.Next event bytes ∷ [])) made
+
+  -- One thing that happened
+
+  module _ (takes_nothing : (k : K) → takes k [] k) (takes_then : (a b c : K) (x y : List ℕ) → takes a x b → takes b y c → takes a (x ++ y) c) (old : Turns D L K) (before wait : ℕ) (event : Event) (bytes : List ℕ) (b : Server D L K)
+      (is : wait ≡ wait_for old.pace old.server.works before) (did : Did view takes faults story counts (Sees event wait bytes ∷ []) old.server b) where
+    abbrev sees : Deed
+    sees = Sees event (wait_for old.pace old.server.works before) bytes
+
+    abbrev told_with : Came → ℕ → ℕ → ℕ → ℕ → Told
+    told_with came now median started seconds =
+        record { before = before; event = event; bytes = bytes; came = came; now = now; median = median; started = started; seconds = seconds }
+
+    seen : Did view takes faults story counts (sees ∷ []) old.server b
+    seen = subst (λ (n : ℕ). Did view takes faults story counts (Sees event n bytes ∷ []) old.server b) is did
+
+    -- memory ran out before what came was understood
+    pub next_unread : (end : TurnEnd) (new : Turns D L K) → Breaks view takes fails faults story counts end Idle b new.server → NextStops view takes fails faults story counts end before old new
+    next_unread end new breaks = record {
+      told = told_with comes.Nothing 0 0 0 0;
+      begins = refl;
+      stops = record {
+        deeds = sees ∷ [];
+        under = Idle;
+        breaks = breaks_behind view takes fails faults story counts (sees ∷ []) Idle end old.server b new.server seen breaks;
+        cut = λ honest. record {
+          behind = (one (Reads 0) >> deals old.pace old.probing comes.Nothing 0 0 0 0) (setting old.server) (after_all (sees ∷ []) (running old.server));
+          front = refl;
+          next = tt;
+        };
+      };
+      read = λ honest. inl (omega arith);
+    }
+
+    module _ (errand : Option Errand) (lent : List ℕ) (came : Came) (now : ℕ) (c d : Server D L K) (new : Turns D L K)
+        (told : Telling (Gives event lent) (story old.server.link) (story b.link)) (errand_is : errand ≡ errand_in event old.server.dials) (means : Means (reads_by b) lent errand event came)
+        (heads : c ≡ record b { heads = c.heads }) (read : Did view takes faults story counts (Reads now ∷ []) c d) where
+      seen_whole : Did view takes faults story counts (sees ∷ []) old.server c
+      seen_whole = did_heads (sees ∷ []) old.server b c heads seen
+
+      -- the node when what came is dealt with
+      node_then : IsHonest view old.server.kept → running d ≡ after (Sees event (wait_for old.pace old.server.works before) bytes) (running old.server)
+      node_then honest = (read.done (still_honest view takes fails faults story counts (sees ∷ []) old.server c seen_whole honest)).after ∙ (seen_whole.done honest).after
+
+      abbrev rest_by : ℕ → ℕ → ℕ → Part
+      rest_by median started seconds = deals old.pace old.probing came now median started seconds
+
+      honest_then : IsHonest view old.server.kept → IsHonest view d.kept
+      honest_then honest = still_honest view takes fails faults story counts (Reads now ∷ []) c d read (still_honest view takes fails faults story counts (sees ∷ []) old.server c seen_whole honest)
+
+      -- what came is what the link told
+      pub is_read : (median started seconds : ℕ) (more : List Call) → AddsAll more (story b.link) (story new.server.link) → IsMeasured old.probing came now median → IsHonest view old.server.kept
+          → IsRead old (story old.server.link) (story new.server.link) (told_with came now median started seconds)
+      is_read median started seconds more behind measured honest =
+          let l = lent_is event bytes lent more (story old.server.link) (story b.link) (story new.server.link) told (seen.done honest).calls behind in
+          record {
+            lent = l.bytes_lent;
+            is_lent = l.is_lent;
+            means = l.means (reads_by old.server) (errand_in event old.server.dials) came
+                (subst (λ (t : NodeTerms). Means t lent (errand_in event old.server.dials) event came) (reads_same (sees ∷ []) old.server b seen)
+                (subst (λ (e : Option Errand). Means (reads_by b) lent e event came) errand_is means));
+            measured = measured;
+          }
+
+      link_same : c.link ≡ b.link
+      link_same = ap (λ (s : Server D L K). s.link) heads
+
+      -- the story of the link from there on
+      calls_behind : (more : List Call) (z : Option (List Call)) → AddsAll more (story c.link) z → AddsAll more (story b.link) z
+      calls_behind more z adds = subst (λ (x : L). AddsAll more (story x) z) link_same adds
+
+      pub next_taken : Dealt view takes faults story counts came now (record old { server = d }) new → NextTaken view takes faults story counts before (is_something came) old new
+      next_taken dealt = record {
+        told = told_with came now dealt.median dealt.started dealt.seconds;
+        begins = refl;
+        does = does_as view takes fails faults story counts (one sees >> (one (Reads now) >> rest_by dealt.median dealt.started dealt.seconds)) (takes_next old.pace old.probing (told_with came now dealt.median dealt.started dealt.seconds)) old.server new.server (λ honest. refl)
+            (does_then view takes fails faults story counts takes_then (one sees) (one (Reads now) >> rest_by dealt.median dealt.started dealt.seconds) old.server c new.server (record { deeds = sees ∷ []; did = seen_whole; are = λ honest. refl })
+            (does_then view takes fails faults story counts takes_then (one (Reads now)) (rest_by dealt.median dealt.started dealt.seconds) c d new.server (record { deeds = Reads now ∷ []; did = read; are = λ honest. refl }) dealt.does));
+        read = λ honest.
+            let c_honest = still_honest view takes fails faults story counts (sees ∷ []) old.server c seen_whole honest in
+            let d_honest = still_honest view takes fails faults story counts (Reads now ∷ []) c d read c_honest in
+            is_read dealt.median dealt.started dealt.seconds _
+            (calls_behind _ (story new.server.link) (adds-then _ _ (story c.link) (story d.link) (story new.server.link) (read.done c_honest).calls (dealt.does.did.done d_honest).calls)) dealt.measured honest;
+        serves = refl;
+        pace = λ honest.
+            dealt.pace (honest_then honest)
+            ∙ ap (λ (r : Running). paced (quickened (came_hurries came r.node) old.pace) now) (node_then honest);
+        probing = λ honest. dealt.probing ∙ ap (λ (r : Running). probed came now r.dials old.probing) (node_then honest);
+      }
+
+      pub next_stops : (end : TurnEnd) → DealStops view takes fails faults story counts end came now (record old { server = d }) new → NextStops view takes fails faults story counts end before old new
+      next_stops end dealt =
+          let inner = one_then view takes fails faults story counts takes_then end (Reads now) (one (Reads now) >> rest_by dealt.median dealt.started dealt.seconds) (rest_by dealt.median dealt.started dealt.seconds) (rest_by dealt.median dealt.started dealt.seconds) c d new.server read (λ honest. refl) (λ honest. refl) dealt.stops in
+          let whole = one_then view takes fails faults story counts takes_then end sees (takes_next old.pace old.probing (told_with came now dealt.median dealt.started dealt.seconds)) (one (Reads now) >> rest_by dealt.median dealt.started dealt.seconds) (one (Reads now) >> rest_by dealt.median dealt.started dealt.seconds) old.server c new.server seen_whole (λ honest. refl) (λ honest. refl) inner.0 in
+          record {
+            told = told_with came now dealt.median dealt.started dealt.seconds;
+            begins = refl;
+            stops = whole.0;
+            read = λ honest.
+                let c_honest = still_honest view takes fails faults story counts (sees ∷ []) old.server c seen_whole honest in
+                let at = dealt.stops.breaks in
+                let made = subst (λ (z : Option (List Call)). AddsAll (calls_of (setting d) dealt.stops.deeds (running d)) (story d.link) z) (sym at.2.told) (at.1.done (honest_then honest)).calls in
+                inr (is_read dealt.median dealt.started dealt.seconds _
+                (calls_behind _ (story new.server.link) (adds-then _ _ (story c.link) (story d.link) (story new.server.link) (read.done c_honest).calls made)) dealt.measured honest);
+          }
+
+  -- What came was dealt with
+
+  module _ (takes_then : (a b c : K) (x y : List ℕ) → takes a x b → takes b y c → takes a (x ++ y) c) (pace : Pace) (probing : Option Probing) (came : Came) (now median started : ℕ) (hurries : Bool) (a b c : Server D L K)
+      (does : Does view takes faults story counts (happens probing came now median started) a b) (is : IsHonest view a.kept → hurries ≡ came_hurries came (node_of a.kept)) where
+    abbrev ticks_by : Bool → ℕ → Part
+    ticks_by soon seconds = ticks_and_sends (quickened soon pace) now seconds
+
+    same_ticks : (seconds : ℕ) → IsHonest view a.kept → ticks_by hurries seconds (setting b) (running b) ≡ ticks_by (came_hurries came (node_of a.kept)) seconds (setting b) (running b)
+    same_ticks seconds honest = ap (λ (soon : Bool). ticks_by soon seconds (setting b) (running b)) (is honest)
+
+    pub does_deal : (seconds : ℕ) → Does view takes faults story counts (ticks_by hurries seconds) b c → Does view takes faults story counts (deals pace probing came now median started seconds) a c
+    does_deal seconds ticks =
+        does_as view takes fails faults story counts (happens probing came now median started >> ticks_by (came_hurries came (node_of a.kept)) seconds) (deals pace probing came now median started seconds) a c (λ honest. refl)
+        (does_after view takes fails faults story counts takes_then (happens probing came now median started) (ticks_by (came_hurries came (node_of a.kept)) seconds) (ticks_by hurries seconds) a b c does (same_ticks seconds) ticks)
+
+    pub stops_deal : (end : TurnEnd) (seconds : ℕ) → Stops view takes fails faults story counts end (ticks_by hurries seconds) b c → Stops view takes fails faults story counts end (deals pace probing came now median started seconds) a c
+    stops_deal end seconds stops =
+        stops_as view takes fails faults story counts end (happens probing came now median started >> ticks_by (came_hurries came (node_of a.kept)) seconds) (deals pace probing came now median started seconds) a c (λ honest. refl)
+        (stops_after view takes fails faults story counts takes_then end (happens probing came now median started) (ticks_by (came_hurries came (node_of a.kept)) seconds) (ticks_by hurries seconds) a b c does (same_ticks seconds) stops)
+
+  -- it ended so before a tick
+  pub stops_in_deal : (end : TurnEnd) (pace : Pace) (probing : Option Probing) (came : Came) (now median started : ℕ) (a c : Server D L K) → Stops view takes fails faults story counts end (happens probing came now median started) a c
+      → Stops view takes fails faults story counts end (deals pace probing came now median started 0) a c
+  stops_in_deal end pace probing came now median started a c stops =
+      stops_as view takes fails faults story counts end (happens probing came now median started >> ticks_and_sends (quickened (came_hurries came (node_of a.kept)) pace) now 0) (deals pace probing came now median started 0) a c (λ honest. refl)
+      (stops_in view takes fails faults story counts end (happens probing came now median started) (ticks_and_sends (quickened (came_hurries came (node_of a.kept)) pace) now 0) a c stops)
+
+  -- A turn
+
+  module _ (takes_nothing : (k : K) → takes k [] k) (takes_then : (a b c : K) (x y : List ℕ) → takes a x b → takes b y c → takes a (x ++ y) c) (old : Turns D L K) (before : ℕ) (b : Server D L K) (new : Turns D L K) (did : Did view takes faults story counts (Reads before ∷ []) old.server b) where
+    abbrev told_due : ℕ → Told
+    told_due seconds = record { before = before; event = events.Quiet; bytes = []; came = comes.Nothing; now = 0; median = 0; started = 0; seconds = seconds }
+
+    -- some work was due
+    module _ (place : ℕ) (is : IsHonest view old.server.kept → due_in old.server before ≡ Some place) where
+      pub turned_due : (seconds : ℕ) → Does view takes faults story counts (takes_due old.pace (slice_get b.works place) before seconds) b new.server → new.pace ≡ paced old.pace before → new.probing ≡ old.probing
+          → Turned view takes faults story counts true old new
+      turned_due seconds does pace probing = record {
+        told = told_due seconds;
+        does = does_turn takes_then before old.server b new.server did (Some place) old.pace old.probing
+            (told_due seconds) refl is
+            (record { deeds = does.deeds; did = does.did; are = does.are });
+        read = λ honest. subst (λ (o : Option ℕ). MayRead story o old new.server (told_due seconds)) (sym (is honest)) tt;
+        serves = λ honest. sym (ap (λ (o : Option ℕ). is_served o comes.Nothing) (is honest));
+        pace = λ honest. pace ∙ sym (ap (λ (o : Option ℕ). pace_behind o old.pace (told_due seconds) (node_of old.server.kept)) (is honest));
+        probing = λ honest. probing ∙ sym (ap (λ (o : Option ℕ). probing_behind o (told_due seconds) old.server.dials old.probing) (is honest));
+      }
+
+      pub stopped_due : (end : TurnEnd) (seconds : ℕ) → Stops view takes fails faults story counts end (takes_due old.pace (slice_get b.works place) before seconds) b new.server → TurnStops view takes fails faults story counts end old new
+      stopped_due end seconds stops = record {
+        told = told_due seconds;
+        stops = (stops_turn takes_then before old.server b new.server did end (Some place) old.pace old.probing (told_due seconds) refl is
+            (record { deeds = stops.deeds; under = stops.under; breaks = stops.breaks; cut = stops.cut })).0;
+        read = λ honest. inr (subst (λ (o : Option ℕ). MayRead story o old new.server (told_due seconds)) (sym (is honest)) tt);
+      }
+
+    -- none was due
+    module _ (is : IsHonest view old.server.kept → due_in old.server before ≡ None) where
+      -- what was read of the link is what it told in this turn
+      read_then : (t : Told) (more : List Call) → t.before ≡ before → IsHonest view old.server.kept → AddsAll more (story b.link) (story new.server.link)
+          → IsRead (record old { server = b }) (story b.link) (story new.server.link) t → MayRead story (due_in old.server t.before) old new.server t
+      read_then t more begins honest behind read =
+          subst (λ (n : ℕ). MayRead story (due_in old.server n) old new.server t) (sym begins)
+          (subst (λ (o : Option ℕ). MayRead story o old new.server t) (sym (is honest))
+          (subst (λ (n : ℕ). IsRead old (behind_reading n (story old.server.link)) (story new.server.link) t) (sym begins) (record {
+            lent = read.lent;
+            is_lent = lent_then takes_then before old.server b new.server did t.event t.bytes read.lent more (story old.server.link) (story b.link) (story new.server.link) (did.done honest).calls behind read.is_lent;
+            means = subst (λ (n : NodeTerms). Means n read.lent (errand_in t.event old.server.dials) t.event t.came) (reads_same (Reads before ∷ []) old.server b did)
+                (subst (λ (r : Running). Means (reads_by b) read.lent (errand_in t.event r.dials) t.event t.came) (did.done honest).after read.means);
+            measured = read.measured;
+          })))
+
+      b_honest : IsHonest view old.server.kept → IsHonest view b.kept
+      b_honest honest = still_honest view takes fails faults story counts (Reads before ∷ []) old.server b did honest
+
+      pub turned_next : (served : Bool) → NextTaken view takes faults story counts before served (record old { server = b }) new → Turned view takes faults story counts served old new
+      turned_next served taken = record {
+        told = taken.told;
+        does = does_turn takes_then before old.server b new.server did None old.pace old.probing taken.told taken.begins is
+            (record { deeds = taken.does.deeds; did = taken.does.did; are = taken.does.are });
+        read = λ honest. read_then taken.told _ taken.begins honest (taken.does.did.done (b_honest honest)).calls (taken.read (b_honest honest));
+        serves = λ honest. taken.serves ∙ ap (λ (o : Option ℕ). is_served o taken.told.came) (sym (due_told taken.told taken.begins honest));
+        pace = λ honest.
+            taken.pace (b_honest honest)
+            ∙ ap (λ (r : Running). paced (quickened (came_hurries taken.told.came r.node) old.pace) taken.told.now) (did.done honest).after
+            ∙ ap (λ (o : Option ℕ). pace_behind o old.pace taken.told (node_of old.server.kept)) (sym (due_told taken.told taken.begins honest));
+        probing = λ honest.
+            taken.probing (b_honest honest)
+            ∙ ap (λ (r : Running). probed taken.told.came taken.told.now (dials_behind taken.told.event r.dials) old.probing) (did.done honest).after
+            ∙ ap (λ (o : Option ℕ). probing_behind o taken.told old.server.dials old.probing) (sym (due_told taken.told taken.begins honest));
+      }
+        where
+          due_told : (t : Told) → t.before ≡ before → IsHonest view old.server.kept → due_in old.server t.before ≡ None
+          due_told t begins honest = ap (λ (n : ℕ). due_in old.server n) begins ∙ is honest
+
+      pub stopped_next : (end : TurnEnd) → NextStops view takes fails faults story counts end before (record old { server = b }) new → TurnStops view takes fails faults story counts end old new
+      stopped_next end taken =
+          let whole = stops_turn takes_then before old.server b new.server did end None old.pace old.probing taken.told taken.begins is
+          (record { deeds = taken.stops.deeds; under = taken.stops.under; breaks = taken.stops.breaks; cut = taken.stops.cut }) in
+          record {
+            told = taken.told;
+            stops = whole.0;
+            read = λ honest. elim (taken.read (b_honest honest)) [
+              | inl few ↦ inl (let longer : length (whole.0.deeds) ≡ length (Reads before ∷ taken.stops.deeds) = ap length whole.1 in omega (arith, longer, few))
+              | inr read ↦
+                  let at = taken.stops.breaks in
+                  inr (read_then taken.told _ taken.begins honest
+                  (subst (λ (z : Option (List Call)). AddsAll (calls_of (setting b) taken.stops.deeds (running b)) (story b.link) z) (sym at.2.told) (at.1.done (b_honest honest)).calls) read)
+            ];
+          }
+
+  -- it ended before it began
+  pub stopped_at_once : (takes_nothing : (k : K) → takes k [] k) (end : TurnEnd) (old new : Turns D L K) → old.server.kept.closed ≡ false → Breaks view takes fails faults story counts end Idle old.server new.server
+      → TurnStops view takes fails faults story counts end old new
+  stopped_at_once takes_nothing end old new is_open breaks = record {
+    told = record { before = 0; event = events.Quiet; bytes = []; came = comes.Nothing; now = 0; median = 0; started = 0; seconds = 0 };
+    stops = record {
+      deeds = [];
+      under = Idle;
+      breaks = breaks_first view takes fails faults story counts takes_nothing Idle end old.server new.server is_open breaks;
+      cut = λ honest. record { behind = _; front = refl; next = tt };
+    };
+    read = λ honest. inl (omega arith);
+  }
+
+  -- the link was asked in vain
+  pub next_unasked : (takes_nothing : (k : K) → takes k [] k) (end : TurnEnd) (before : ℕ) (old new : Turns D L K) → old.server.kept.closed ≡ false → Breaks view takes fails faults story counts end Idle old.server new.server
+      → NextStops view takes fails faults story counts end before old new
+  next_unasked takes_nothing end before old new is_open breaks = record {
+    told = record { before = before; event = events.Quiet; bytes = []; came = comes.Nothing; now = 0; median = 0; started = 0; seconds = 0 };
+    begins = refl;
+    stops = record {
+      deeds = [];
+      under = Idle;
+      breaks = breaks_first view takes fails faults story counts takes_nothing Idle end old.server new.server is_open breaks;
+      cut = λ honest. record { behind = _; front = refl; next = tt };
+    };
+    read = λ honest. inl (omega arith);
+  }

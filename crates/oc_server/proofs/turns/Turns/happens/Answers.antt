@@ -1,0 +1,201 @@
+use Rattle.std.proofs.Common.{ap, sym, subst, ◌∙◌}
+use Rattle.std.proofs.lemmas.Result.{err_from_is_err_and}
+use Rattle.oc_keep.specs.KeptView.{node_of}
+use Rattle.oc_server.specs.Asks.{obeys}
+use Rattle.oc_server.specs.Hurries.{came_hurries}
+use Rattle.oc_server.specs.Lawful.{IsLawfulCame}
+use Rattle.oc_server.specs.Rooms.{gone, room}
+use Rattle.oc_server.specs.Runs.{IsMeasured}
+use Rattle.oc_server.specs.Scenes.{running, setting}
+use Rattle.oc_server.specs.Turns.{brought, happens, measures, probed, probes_next}
+use Rattle.oc_server.specs.declared.came.Came.{Came}
+use Rattle.oc_server.proofs.Parts.{does_as, stops_as}
+use Rattle.oc_server.proofs.Results.{done_then, err_then, ok_then}
+use Rattle.oc_server.proofs.turns.Turns.happens.Goals as goal
+
+pub obeys-requires-clause-verdict : goal.obeys-requires-clause-verdict
+obeys-requires-clause-verdict g c =
+    let n = c.args.self.now.server.kept.node.control in
+    subst (λ (x : Came). IsLawfulCame n.nodes n.me x) c.in-Request.is c.requires.came
+
+pub returns-in-Request-clause-did : goal.returns-in-Request-clause-did
+returns-in-Request-clause-did g c =
+    let t = c.args.self.now in
+    done_then c.obeys.result (λ does. (
+      0,
+      0,
+      subst (λ (x : Came). IsMeasured t.probing x c.args.now 0) (sym c.in-Request.is) tt,
+      does_as g.D.Disk.view g.K.Sink.takes g.K.Sink.fails g.K.Sink.faults g.L.Link.story g.L.Link.counts (obeys c.in-Request.connection c.in-Request.count c.in-Request.verdict c.args.now) (happens t.probing c.args.came c.args.now 0 0) t.server c.obeys.new.self (λ honest. ap (λ (x : Came). happens t.probing x c.args.now 0 0 (setting t.server) (running t.server)) c.in-Request.is) does,
+    )) c.obeys.ensures.did
+
+pub returns-in-Request-clause-hurries : goal.returns-in-Request-clause-hurries
+returns-in-Request-clause-hurries g c =
+    ok_then c.obeys.result (λ b is honest. is honest ∙ sym (ap (λ (x : Came). came_hurries x (node_of c.args.self.now.server.kept)) c.in-Request.is)) c.obeys.ensures.hurries
+
+pub returns-in-Request-clause-breaks : goal.returns-in-Request-clause-breaks
+returns-in-Request-clause-breaks g c =
+    let t = c.args.self.now in
+    err_then c.obeys.result (λ end stops. (
+      0,
+      0,
+      subst (λ (x : Came). IsMeasured t.probing x c.args.now 0) (sym c.in-Request.is) tt,
+      stops_as g.D.Disk.view g.K.Sink.takes g.K.Sink.fails g.K.Sink.faults g.L.Link.story g.L.Link.counts end (obeys c.in-Request.connection c.in-Request.count c.in-Request.verdict c.args.now) (happens t.probing c.args.came c.args.now 0 0) t.server c.obeys.new.self (λ honest. ap (λ (x : Came). happens t.probing x c.args.now 0 0 (setting t.server) (running t.server)) c.in-Request.is) stops,
+    )) c.obeys.ensures.breaks
+
+pub returns-in-Request-clause-probing : goal.returns-in-Request-clause-probing
+returns-in-Request-clause-probing g c = sym (ap (λ (x : Came). probed x c.args.now c.args.self.now.server.dials c.args.self.now.probing) c.in-Request.is)
+
+pub returns-in_ok-has_room-in-Room-clause-did : goal.returns-in_ok-has_room-in-Room-clause-did
+returns-in_ok-has_room-in-Room-clause-did g c =
+    let t = c.args.self.now in
+    let does = c.in_ok-has_room-in-Room.ensures.did in (
+      0,
+      0,
+      subst (λ (x : Came). IsMeasured t.probing x c.args.now 0) (sym c.in-Room.is) tt,
+      does_as g.D.Disk.view g.K.Sink.takes g.K.Sink.fails g.K.Sink.faults g.L.Link.story g.L.Link.counts (room c.in-Room.connection c.args.now) (happens t.probing c.args.came c.args.now 0 0) t.server c.has_room.new.self (λ honest. ap (λ (x : Came). happens t.probing x c.args.now 0 0 (setting t.server) (running t.server)) c.in-Room.is) does,
+    )
+
+pub returns-in_ok-has_room-in-Room-clause-hurries : goal.returns-in_ok-has_room-in-Room-clause-hurries
+returns-in_ok-has_room-in-Room-clause-hurries g c = λ honest. sym (ap (λ (x : Came). came_hurries x (node_of c.args.self.now.server.kept)) c.in-Room.is)
+
+pub returns-in_ok-has_room-in-Room-clause-probing : goal.returns-in_ok-has_room-in-Room-clause-probing
+returns-in_ok-has_room-in-Room-clause-probing g c = sym (ap (λ (x : Came). probed x c.args.now c.args.self.now.server.dials c.args.self.now.probing) c.in-Room.is)
+
+pub returns-in_err-has_room-in-Room-clause-breaks : goal.returns-in_err-has_room-in-Room-clause-breaks
+returns-in_err-has_room-in-Room-clause-breaks g c =
+    let p = err_from_is_err_and c.from_residual.result c.from_residual.ensures.1 in
+    let t = c.args.self.now in
+    let stops = c.in_err-has_room-in-Room.ensures.breaks in
+    rw (p.1, p.2) (
+      0,
+      0,
+      subst (λ (x : Came). IsMeasured t.probing x c.args.now 0) (sym c.in-Room.is) tt,
+      stops_as g.D.Disk.view g.K.Sink.takes g.K.Sink.fails g.K.Sink.faults g.L.Link.story g.L.Link.counts c.in_err-has_room-in-Room.field-0.0 (room c.in-Room.connection c.args.now) (happens t.probing c.args.came c.args.now 0 0) t.server c.has_room.new.self (λ honest. ap (λ (x : Came). happens t.probing x c.args.now 0 0 (setting t.server) (running t.server)) c.in-Room.is) stops,
+    )
+
+pub returns-in_err-has_room-in-Room-clause-probing : goal.returns-in_err-has_room-in-Room-clause-probing
+returns-in_err-has_room-in-Room-clause-probing g c = sym (ap (λ (x : Came). probed x c.args.now c.args.self.now.server.dials c.args.self.now.probing) c.in-Room.is)
+
+pub returns-in_ok-loses-in-Gone-clause-did : goal.returns-in_ok-loses-in-Gone-clause-did
+returns-in_ok-loses-in-Gone-clause-did g c =
+    let t = c.args.self.now in
+    let does = c.in_ok-loses-in-Gone.ensures.did in (
+      0,
+      0,
+      subst (λ (x : Came). IsMeasured t.probing x c.args.now 0) (sym c.in-Gone.is) tt,
+      does_as g.D.Disk.view g.K.Sink.takes g.K.Sink.fails g.K.Sink.faults g.L.Link.story g.L.Link.counts (gone c.in-Gone.connection c.in-Gone.loss) (happens t.probing c.args.came c.args.now 0 0) t.server c.loses.new.self (λ honest. ap (λ (x : Came). happens t.probing x c.args.now 0 0 (setting t.server) (running t.server)) c.in-Gone.is) does,
+    )
+
+pub returns-in_ok-loses-in-Gone-clause-hurries : goal.returns-in_ok-loses-in-Gone-clause-hurries
+returns-in_ok-loses-in-Gone-clause-hurries g c = λ honest. sym (ap (λ (x : Came). came_hurries x (node_of c.args.self.now.server.kept)) c.in-Gone.is)
+
+pub returns-in_ok-loses-in-Gone-clause-probing : goal.returns-in_ok-loses-in-Gone-clause-probing
+returns-in_ok-loses-in-Gone-clause-probing g c = sym (ap (λ (x : Came). probed x c.args.now c.args.self.now.server.dials c.args.self.now.probing) c.in-Gone.is)
+
+pub returns-in_err-loses-in-Gone-clause-breaks : goal.returns-in_err-loses-in-Gone-clause-breaks
+returns-in_err-loses-in-Gone-clause-breaks g c =
+    let p = err_from_is_err_and c.from_residual-in_err-loses-in-Gone.result c.from_residual-in_err-loses-in-Gone.ensures.1 in
+    let t = c.args.self.now in
+    let stops = c.in_err-loses-in-Gone.ensures.breaks in
+    rw (p.1, p.2) (
+      0,
+      0,
+      subst (λ (x : Came). IsMeasured t.probing x c.args.now 0) (sym c.in-Gone.is) tt,
+      stops_as g.D.Disk.view g.K.Sink.takes g.K.Sink.fails g.K.Sink.faults g.L.Link.story g.L.Link.counts c.in_err-loses-in-Gone.field-0.0 (gone c.in-Gone.connection c.in-Gone.loss) (happens t.probing c.args.came c.args.now 0 0) t.server c.loses.new.self (λ honest. ap (λ (x : Came). happens t.probing x c.args.now 0 0 (setting t.server) (running t.server)) c.in-Gone.is) stops,
+    )
+
+pub returns-in_err-loses-in-Gone-clause-probing : goal.returns-in_err-loses-in-Gone-clause-probing
+returns-in_err-loses-in-Gone-clause-probing g c = sym (ap (λ (x : Came). probed x c.args.now c.args.self.now.server.dials c.args.self.now.probing) c.in-Gone.is)
+
+pub returns-in_ok-takes_brought-in-Reply-clause-did : goal.returns-in_ok-takes_brought-in-Reply-clause-did
+returns-in_ok-takes_brought-in-Reply-clause-did g c =
+    let t = c.args.self.now in
+    let does = c.in_ok-takes_brought-in-Reply.ensures.did in (
+      0,
+      0,
+      subst (λ (x : Came). IsMeasured t.probing x c.args.now 0) (sym c.in-Reply.is) tt,
+      does_as g.D.Disk.view g.K.Sink.takes g.K.Sink.fails g.K.Sink.faults g.L.Link.story g.L.Link.counts (brought c.in-Reply.input) (happens t.probing c.args.came c.args.now 0 0) t.server c.takes_brought.new.self (λ honest. ap (λ (x : Came). happens t.probing x c.args.now 0 0 (setting t.server) (running t.server)) c.in-Reply.is) does,
+    )
+
+pub returns-in_ok-takes_brought-in-Reply-clause-hurries : goal.returns-in_ok-takes_brought-in-Reply-clause-hurries
+returns-in_ok-takes_brought-in-Reply-clause-hurries g c = λ honest. sym (ap (λ (x : Came). came_hurries x (node_of c.args.self.now.server.kept)) c.in-Reply.is)
+
+pub returns-in_ok-takes_brought-in-Reply-clause-probing : goal.returns-in_ok-takes_brought-in-Reply-clause-probing
+returns-in_ok-takes_brought-in-Reply-clause-probing g c = sym (ap (λ (x : Came). probed x c.args.now c.args.self.now.server.dials c.args.self.now.probing) c.in-Reply.is)
+
+pub returns-in_err-takes_brought-in-Reply-clause-breaks : goal.returns-in_err-takes_brought-in-Reply-clause-breaks
+returns-in_err-takes_brought-in-Reply-clause-breaks g c =
+    let p = err_from_is_err_and c.from_residual-in_err-takes_brought-in-Reply.result c.from_residual-in_err-takes_brought-in-Reply.ensures.1 in
+    let t = c.args.self.now in
+    let stops = c.in_err-takes_brought-in-Reply.ensures.breaks in
+    rw (p.1, p.2) (
+      0,
+      0,
+      subst (λ (x : Came). IsMeasured t.probing x c.args.now 0) (sym c.in-Reply.is) tt,
+      stops_as g.D.Disk.view g.K.Sink.takes g.K.Sink.fails g.K.Sink.faults g.L.Link.story g.L.Link.counts c.in_err-takes_brought-in-Reply.field-0.0 (brought c.in-Reply.input) (happens t.probing c.args.came c.args.now 0 0) t.server c.takes_brought.new.self (λ honest. ap (λ (x : Came). happens t.probing x c.args.now 0 0 (setting t.server) (running t.server)) c.in-Reply.is) stops,
+    )
+
+pub returns-in_err-takes_brought-in-Reply-clause-probing : goal.returns-in_err-takes_brought-in-Reply-clause-probing
+returns-in_err-takes_brought-in-Reply-clause-probing g c = sym (ap (λ (x : Came). probed x c.args.now c.args.self.now.server.dials c.args.self.now.probing) c.in-Reply.is)
+
+pub returns-in_ok-measures-in-Probed-clause-did : goal.returns-in_ok-measures-in-Probed-clause-did
+returns-in_ok-measures-in-Probed-clause-did g c =
+    let t = c.args.self.now in
+    let does = c.in_ok-measures-in-Probed.ensures.did in (
+      does.0,
+      0,
+      subst (λ (x : Came). IsMeasured t.probing x c.args.now does.0) (sym c.in-Probed.is) does.1,
+      does_as g.D.Disk.view g.K.Sink.takes g.K.Sink.fails g.K.Sink.faults g.L.Link.story g.L.Link.counts (measures t.probing c.in-Probed.peer c.in-Probed.fault does.0) (happens t.probing c.args.came c.args.now does.0 0) t.server c.measures.new.self.server (λ honest. ap (λ (x : Came). happens t.probing x c.args.now does.0 0 (setting t.server) (running t.server)) c.in-Probed.is) does.2,
+    )
+
+pub returns-in_ok-measures-in-Probed-clause-hurries : goal.returns-in_ok-measures-in-Probed-clause-hurries
+returns-in_ok-measures-in-Probed-clause-hurries g c = λ honest. sym (ap (λ (x : Came). came_hurries x (node_of c.args.self.now.server.kept)) c.in-Probed.is)
+
+pub returns-in_ok-measures-in-Probed-clause-probing : goal.returns-in_ok-measures-in-Probed-clause-probing
+returns-in_ok-measures-in-Probed-clause-probing g c = c.measures.ensures.probing ∙ sym (ap (λ (x : Came). probed x c.args.now c.args.self.now.server.dials c.args.self.now.probing) c.in-Probed.is)
+
+pub returns-in_err-measures-in-Probed-clause-breaks : goal.returns-in_err-measures-in-Probed-clause-breaks
+returns-in_err-measures-in-Probed-clause-breaks g c =
+    let p = err_from_is_err_and c.from_residual-in_err-measures-in-Probed.result c.from_residual-in_err-measures-in-Probed.ensures.1 in
+    let t = c.args.self.now in
+    let stops = c.in_err-measures-in-Probed.ensures.breaks in
+    rw (p.1, p.2) (
+      stops.0,
+      0,
+      subst (λ (x : Came). IsMeasured t.probing x c.args.now stops.0) (sym c.in-Probed.is) stops.1,
+      stops_as g.D.Disk.view g.K.Sink.takes g.K.Sink.fails g.K.Sink.faults g.L.Link.story g.L.Link.counts c.in_err-measures-in-Probed.field-0.0 (measures t.probing c.in-Probed.peer c.in-Probed.fault stops.0) (happens t.probing c.args.came c.args.now stops.0 0) t.server c.measures.new.self.server (λ honest. ap (λ (x : Came). happens t.probing x c.args.now stops.0 0 (setting t.server) (running t.server)) c.in-Probed.is) stops.2,
+    )
+
+pub returns-in_err-measures-in-Probed-clause-probing : goal.returns-in_err-measures-in-Probed-clause-probing
+returns-in_err-measures-in-Probed-clause-probing g c = c.measures.ensures.probing ∙ sym (ap (λ (x : Came). probed x c.args.now c.args.self.now.server.dials c.args.self.now.probing) c.in-Probed.is)
+
+pub returns-in_ok-probes_next-in-Nothing-clause-did : goal.returns-in_ok-probes_next-in-Nothing-clause-did
+returns-in_ok-probes_next-in-Nothing-clause-did g c =
+    let t = c.args.self.now in
+    let does = c.in_ok-probes_next-in-Nothing.ensures.did in (
+      0,
+      does.0,
+      subst (λ (x : Came). IsMeasured t.probing x c.args.now 0) (sym c.in-Nothing.is) tt,
+      does_as g.D.Disk.view g.K.Sink.takes g.K.Sink.fails g.K.Sink.faults g.L.Link.story g.L.Link.counts (probes_next t.probing does.0) (happens t.probing c.args.came c.args.now 0 does.0) t.server c.probes_next.new.self.server (λ honest. ap (λ (x : Came). happens t.probing x c.args.now 0 does.0 (setting t.server) (running t.server)) c.in-Nothing.is) does.1,
+    )
+
+pub returns-in_ok-probes_next-in-Nothing-clause-hurries : goal.returns-in_ok-probes_next-in-Nothing-clause-hurries
+returns-in_ok-probes_next-in-Nothing-clause-hurries g c = λ honest. sym (ap (λ (x : Came). came_hurries x (node_of c.args.self.now.server.kept)) c.in-Nothing.is)
+
+pub returns-in_ok-probes_next-in-Nothing-clause-probing : goal.returns-in_ok-probes_next-in-Nothing-clause-probing
+returns-in_ok-probes_next-in-Nothing-clause-probing g c = c.probes_next.ensures.probing ∙ sym (ap (λ (x : Came). probed x c.args.now c.args.self.now.server.dials c.args.self.now.probing) c.in-Nothing.is)
+
+pub returns-in_err-probes_next-in-Nothing-clause-breaks : goal.returns-in_err-probes_next-in-Nothing-clause-breaks
+returns-in_err-probes_next-in-Nothing-clause-breaks g c =
+    let p = err_from_is_err_and c.from_residual-in_err-probes_next-in-Nothing.result c.from_residual-in_err-probes_next-in-Nothing.ensures.1 in
+    let t = c.args.self.now in
+    let stops = c.in_err-probes_next-in-Nothing.ensures.breaks in
+    rw (p.1, p.2) (
+      0,
+      stops.0,
+      subst (λ (x : Came). IsMeasured t.probing x c.args.now 0) (sym c.in-Nothing.is) tt,
+      stops_as g.D.Disk.view g.K.Sink.takes g.K.Sink.fails g.K.Sink.faults g.L.Link.story g.L.Link.counts c.in_err-probes_next-in-Nothing.field-0.0 (probes_next t.probing stops.0) (happens t.probing c.args.came c.args.now 0 stops.0) t.server c.probes_next.new.self.server (λ honest. ap (λ (x : Came). happens t.probing x c.args.now 0 stops.0 (setting t.server) (running t.server)) c.in-Nothing.is) stops.1,
+    )
+
+pub returns-in_err-probes_next-in-Nothing-clause-probing : goal.returns-in_err-probes_next-in-Nothing-clause-probing
+returns-in_err-probes_next-in-Nothing-clause-probing g c = c.probes_next.ensures.probing ∙ sym (ap (λ (x : Came). probed x c.args.now c.args.self.now.server.dials c.args.self.now.probing) c.in-Nothing.is)

@@ -1,0 +1,132 @@
+//! What came by an event, read from the bytes that the link lends.
+
+ghost use Rattle.std.specs.Prelude.{◌≡◌, ◌≤◌, IfErr, IfOk, IfSome, None, length};
+ghost use Rattle.oc_events.specs.declared.event.Event.TheVariants as events;
+ghost use Rattle.oc_policy.specs.declared.deciding.TheConstants.{MAX_RULES};
+ghost use Rattle.oc_reply.specs.Verdicts.{terms_of};
+ghost use Rattle.oc_server.specs.Lawful.{IsLawfulCame};
+ghost use Rattle.oc_server.specs.Runs.{reads_by};
+ghost use Rattle.oc_server.specs.Scenes.{Breaks, Idle, IsLawfulErrand, IsServing};
+ghost use Rattle.oc_server.specs.Turns.{Means, MeansBack};
+
+use crate::asking::Happened;
+use crate::came::Came;
+use crate::dials::Errand;
+use crate::ends::TurnEnd;
+use crate::reading::{Hearer, comes_back};
+use crate::server::Server;
+use oc_base::Memory;
+use oc_config::Config;
+use oc_events::{Arrival, Coming, Event, Link};
+use oc_http::HeadReader;
+use oc_io::{Disk, Sink};
+use oc_keep::Kept;
+use oc_reply::{Terms, judge};
+use std::alloc::Global;
+
+impl<D: Disk, L: Link, K: Sink> Server<D, L, K> {
+    /// What came by the event that the link told last. It is to be asked before any other call of the link.
+    pub fn understands(&mut self, happened: Happened) -> Result<Came, TurnEnd>
+        requires serving { IsServing self.old }
+        requires errand { IfSome happened.errand (IsLawfulErrand self.old.kept.node.control.nodes) }
+        ensures means { IfOk result (Means (reads_by self.old) (L.lends self.old.link) happened.errand happened.event) }
+        ensures lawful { IfOk result (IsLawfulCame self.old.kept.node.control.nodes self.old.kept.node.control.me) }
+        ensures same { self.new ≡ record self.old { heads = self.new.heads } }
+        ensures breaks { IfErr result (λ end. (end ≡ TurnEnd.Memory) × Breaks D.view K.takes K.fails K.faults L.story L.counts end Idle self.old self.new) }
+    {
+        self.kept.recovers();
+        Ok(self.meaning_of(happened)?)
+    }
+
+    /// What an event is, by what the link lends.
+    fn meaning_of(&mut self, happened: Happened) -> Result<Came, Memory>
+        requires rules { length self.old.config.rules ≤ MAX_RULES }
+        requires errand { IfSome happened.errand (IsLawfulErrand self.old.kept.node.control.nodes) }
+        ensures means { IfOk result (Means (reads_by self.old) (L.lends self.old.link) happened.errand happened.event) }
+        ensures lawful { IfOk result (IsLawfulCame self.old.kept.node.control.nodes self.old.kept.node.control.me) }
+        ensures same { self.new ≡ record self.old { heads = self.new.heads } }
+    {
+        match &happened.event {
+            Event::Request(arrival) => self.hears(*arrival),
+            Event::Room(connection) => Ok(Came::Room(*connection)),
+            Event::Gone(connection, loss) => Ok(Came::Gone(*connection, *loss)),
+            Event::Reply(_, coming) => self.hears_back(happened.errand, *coming),
+            Event::Quiet => Ok(Came::Nothing),
+        }
+    }
+
+    /// What is to be done with a request that came so far.
+    fn hears(&mut self, arrival: Arrival) -> Result<Came, Memory>
+        requires { length self.old.config.rules ≤ MAX_RULES }
+        ensures means { IfOk result (Means (reads_by self.old) (L.lends self.old.link) None (events.Request arrival)) }
+        ensures lawful { IfOk result (IsLawfulCame self.old.kept.node.control.nodes self.old.kept.node.control.me) }
+        ensures same { self.new ≡ record self.old { heads = self.new.heads } }
+    {
+        judged(
+            self.alloc,
+            &self.kept,
+            &self.config,
+            &mut self.heads,
+            arrival,
+            self.link.lent(),
+        )
+    }
+
+    /// What came back on a dial that was made for this; nothing where there is none.
+    fn hears_back(&mut self, errand: Option<Errand>, coming: Coming) -> Result<Came, Memory>
+        requires { IfSome errand (IsLawfulErrand self.old.kept.node.control.nodes) }
+        ensures means { IfOk result (MeansBack (reads_by self.old) (L.lends self.old.link) errand coming) }
+        ensures lawful { IfOk result (IsLawfulCame self.old.kept.node.control.nodes self.old.kept.node.control.me) }
+        ensures same { self.new ≡ record self.old { heads = self.new.heads } }
+    {
+        let Some(errand) = errand else {
+            return Ok(Came::Nothing);
+        };
+        let hearer = hearer_of(&self.kept);
+        comes_back(
+            self.alloc,
+            &mut self.heads,
+            hearer,
+            errand,
+            self.link.lent(),
+            coming,
+        )
+    }
+}
+
+/// What a node with this configuration is to do with a request that came so far.
+fn judged<D: Disk>(
+    alloc: Global,
+    kept: &Kept<D>,
+    config: &Config,
+    heads: &mut HeadReader,
+    arrival: Arrival,
+    bytes: &[u8],
+) -> Result<Came, Memory>
+    requires { length config.now.rules ≤ MAX_RULES }
+    ensures means { IfOk result (Means (terms_of kept.now.node.control.me kept.now.node.control.nodes config.now.rules) bytes.now None (events.Request arrival)) }
+    ensures lawful { IfOk result (IsLawfulCame kept.now.node.control.nodes kept.now.node.control.me) }
+{
+    let connection = arrival.connection;
+    let terms = Terms {
+        me: kept.node().id(),
+        nodes: kept.node().nodes(),
+        rules: &config.rules,
+    };
+    let verdict = judge(alloc, heads, &terms, arrival, bytes)?;
+    Ok(Came::Request {
+        connection,
+        count: bytes.len() as u64,
+        verdict,
+    })
+}
+
+/// A node, as one that hears back.
+fn hearer_of<D: Disk>(kept: &Kept<D>) -> Hearer
+    ensures { result ≡ record { me = kept.now.node.control.me; nodes = kept.now.node.control.nodes } }
+{
+    Hearer {
+        me: kept.node().id(),
+        nodes: kept.node().nodes(),
+    }
+}

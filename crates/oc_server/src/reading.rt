@@ -1,0 +1,173 @@
+//! What came back on a dial.
+
+ghost use Rattle.std.specs.Prelude.{◌≡◌, Result, IfOk, IfSome};
+ghost use Rattle.oc_base.specs.Lawful.{IsNode};
+ghost use Rattle.oc_http.specs.declared.fault.HttpFault.{HttpFault};
+ghost use Rattle.oc_http.specs.declared.reply.Reply.{Reply};
+ghost use Rattle.oc_model.specs.Lawful.{IsInput};
+ghost use Rattle.oc_server.specs.Brought.{IsReading, comes_back, delivered_or, fault_of, input_of, input_of_reply, is_answer, is_taken, message_in, message_to};
+ghost use Rattle.oc_server.specs.Lawful.{IsLawfulCame};
+ghost use Rattle.oc_server.specs.Scenes.{IsLawfulErrand};
+ghost use Rattle.oc_wire.specs.MessageReading.{decoded};
+
+use crate::came::Came;
+use crate::dials::Errand;
+use oc_base::{Memory, NodeId};
+use oc_events::{Arrived, Coming};
+use oc_http::{HeadReader, HttpFault, Reply};
+use oc_model::{Input, Message};
+use oc_probe::{PROBE_BYTES, ProbeFault};
+use oc_wire::{WireFault, decode};
+use std::alloc::Global;
+
+/// A node that hears back: its id, and among how many nodes it is.
+#[derive(Clone, Copy, Debug)]
+pub(crate) struct Hearer {
+    pub(crate) me: NodeId,
+    pub(crate) nodes: u32,
+}
+
+/// What came back on a dial that was made for this: these bytes, which end so.
+pub(crate) fn comes_back(
+    alloc: Global,
+    heads: &mut HeadReader,
+    hearer: Hearer,
+    errand: Errand,
+    bytes: &[u8],
+    coming: Coming,
+) -> Result<Came, Memory>
+    requires { IsLawfulErrand hearer.nodes errand }
+    ensures came { IfOk result (λ came. (reading : Result Reply HttpFault) × IsReading bytes.now coming reading
+        × (came ≡ comes_back hearer.me hearer.nodes errand reading)) }
+    ensures lawful { IfOk result (IsLawfulCame hearer.nodes hearer.me) }
+{
+    let reply = reply_in(heads, bytes, coming);
+    match errand {
+        Errand::Message { to, .. } => {
+            let taken = is_taken(&reply);
+            let input = input_of(alloc, hearer, to, reply)?;
+            Ok(Came::Reply { input, taken })
+        }
+        Errand::Probe { peer, since } => match fault_of(reply) {
+            Some(ProbeFault::Memory) => Err(Memory),
+            fault => Ok(Came::Probed { peer, since, fault }),
+        },
+    }
+}
+
+/// The response that these bytes are, which end so.
+fn reply_in(heads: &mut HeadReader, bytes: &[u8], coming: Coming) -> Result<Reply, HttpFault>
+    ensures { IsReading bytes.now coming result }
+{
+    let mut source = Arrived::new(bytes, coming);
+    heads.read_response(&mut source)
+}
+
+/// Whether a response has the status 200.
+fn is_taken(reply: &Result<Reply, HttpFault>) -> bool
+    ensures { result ≡ is_taken reply.now }
+{
+    match reply {
+        Ok(reply) => reply.status == 200,
+        Err(_) => false,
+    }
+}
+
+/// The input that results from what a peer replied to a message.
+fn input_of(
+    alloc: Global,
+    hearer: Hearer,
+    peer: NodeId,
+    reply: Result<Reply, HttpFault>,
+) -> Result<Option<Input>, Memory>
+    requires { IsNode hearer.nodes peer }
+    ensures input { IfOk result (λ input. input ≡ input_of hearer.me hearer.nodes peer reply) }
+    ensures lawful { IfOk result (λ input. IfSome input (IsInput hearer.nodes hearer.me)) }
+{
+    match reply {
+        Ok(reply) => input_of_reply(alloc, hearer, peer, &reply),
+        Err(HttpFault::Memory) => Err(Memory),
+        Err(_) => Ok(Some(Input::Unreachable(peer))),
+    }
+}
+
+/// The input that results from a response.
+fn input_of_reply(
+    alloc: Global,
+    hearer: Hearer,
+    peer: NodeId,
+    reply: &Reply,
+) -> Result<Option<Input>, Memory>
+    requires { IsNode hearer.nodes peer }
+    ensures input { IfOk result (λ input. input ≡ input_of_reply hearer.me hearer.nodes peer reply.now) }
+    ensures lawful { IfOk result (λ input. IfSome input (IsInput hearer.nodes hearer.me)) }
+{
+    if reply.status == 204 {
+        return Ok(None);
+    }
+    let message = message_in(alloc, hearer, reply)?;
+    Ok(Some(delivered_or(peer, message)))
+}
+
+/// A message that came, or else that the peer is not reached.
+fn delivered_or(peer: NodeId, message: Option<Message>) -> Input
+    ensures { result ≡ delivered_or peer message }
+{
+    match message {
+        Some(message) => Input::Delivered(message),
+        None => Input::Unreachable(peer),
+    }
+}
+
+/// The message of a response of 200 to this node, if it is one.
+fn message_in(alloc: Global, hearer: Hearer, reply: &Reply) -> Result<Option<Message>, Memory>
+    ensures message { IfOk result (λ message. message ≡ message_in hearer.me hearer.nodes reply.now) }
+    ensures lawful { IfOk result (λ message. IfSome message (λ m. IsInput hearer.nodes hearer.me (Input.Delivered m))) }
+{
+    if reply.status == 200 {
+        message_to(alloc, hearer, reply.body.items())
+    } else {
+        Ok(None)
+    }
+}
+
+/// The message to this node that these bytes are, if they are one.
+fn message_to(alloc: Global, hearer: Hearer, bytes: &[u8]) -> Result<Option<Message>, Memory>
+    ensures message { IfOk result (λ message. message ≡ message_to hearer.me (decoded hearer.nodes bytes.now)) }
+    ensures lawful { IfOk result (λ message. IfSome message (λ m. IsInput hearer.nodes hearer.me (Input.Delivered m))) }
+{
+    match decode(alloc, bytes, hearer.nodes) {
+        Ok(message) => {
+            if message.to == hearer.me {
+                Ok(Some(message))
+            } else {
+                Ok(None)
+            }
+        }
+        Err(WireFault::Memory) => Err(Memory),
+        Err(_) => Ok(None),
+    }
+}
+
+/// Why what came is no answer to a probe, if it is none.
+fn fault_of(reply: Result<Reply, HttpFault>) -> Option<ProbeFault>
+    ensures { result ≡ fault_of reply }
+{
+    match reply {
+        Ok(reply) => {
+            if is_answer(&reply) {
+                None
+            } else {
+                Some(ProbeFault::Reply)
+            }
+        }
+        Err(fault) => Some(ProbeFault::from(fault)),
+    }
+}
+
+/// Whether a response answers a probe.
+fn is_answer(reply: &Reply) -> bool
+    ensures { result ≡ is_answer reply.now }
+{
+    reply.status == 200 && reply.body.items().len() as u64 == PROBE_BYTES
+}

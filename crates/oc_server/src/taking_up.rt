@@ -1,0 +1,155 @@
+//! What is due by itself, and what came back on dials.
+
+ghost use Rattle.std.specs.Prelude.{◌≡◌, ℕ, IfErr, IfOk, IfSome, OnOk, Some, is_some, slice_get, true};
+ghost use Rattle.oc_base.specs.Lawful.{IsNode, IsRate};
+ghost use Rattle.oc_model.specs.Lawful.{IsInput};
+ghost use Rattle.oc_server.specs.Asks.{due_of, taken_up, takes_up};
+ghost use Rattle.oc_server.specs.Parts.{Does, Stops};
+ghost use Rattle.oc_server.specs.Scenes.{IsServing};
+ghost use Rattle.oc_server.specs.Works.{client_input, pending};
+ghost use Rattle.oc_routes.specs.Lawful.{IsAsked};
+ghost use Rattle.oc_server.specs.Turns.{brought, measured, notes_fault, probe_note, probes_it, ticked};
+
+use crate::choosing::free_number;
+use crate::ends::TurnEnd;
+use crate::server::Server;
+use crate::work::{Pending, Place, Waiting, Work, client_input, pending_of};
+use oc_base::{MAX_TIME, Memory, NodeId, put, put_number};
+use oc_events::Link;
+use oc_io::{Disk, Sink};
+use oc_model::Input;
+use oc_probe::ProbeFault;
+use std::alloc::Global;
+
+/// What is to be done with work that is due by itself.
+#[derive(Debug, Drop)]
+pub(crate) enum Due {
+    /// A content goes on.
+    Aside(Place),
+    /// A client that waits is answered.
+    Waits(Pending),
+    Nothing,
+}
+
+impl<D: Disk, L: Link, K: Sink> Server<D, L, K> {
+    /// Takes up the work at a place that is due by itself: a content goes on, and a client that waits is answered.
+    pub fn takes_up(&mut self, place: usize, now: u64) -> Result<(), TurnEnd>
+        requires { IsServing self.old }
+        ensures did { OnOk result (Does D.view K.takes K.faults L.story L.counts (takes_up (slice_get self.old.works place) now) self.old self.new) }
+        ensures breaks { IfErr result (λ end. Stops D.view K.takes K.fails K.faults L.story L.counts end (takes_up (slice_get self.old.works place) now) self.old self.new) }
+    {
+        match due_at(self.works.list(), place) {
+            Due::Aside(place) => self.goes_on(place, now),
+            Due::Waits(pending) => self.wakes(pending, now),
+            Due::Nothing => Ok(()),
+        }
+    }
+
+    /// Answers a client that waits.
+    fn wakes(&mut self, pending: Pending, now: u64) -> Result<(), TurnEnd>
+        requires serving { IsServing self.old }
+        requires asks { IsAsked pending.asked.operation }
+        requires input { IfSome (client_input pending.asked.operation pending.asked.hint) (IsInput self.old.kept.node.control.nodes self.old.kept.node.control.me) }
+        ensures did { OnOk result (Does D.view K.takes K.faults L.story L.counts (taken_up (Due.Waits pending) now) self.old self.new) }
+        ensures breaks { IfErr result (λ end. Stops D.view K.takes K.fails K.faults L.story L.counts end (taken_up (Due.Waits pending) now) self.old self.new) }
+    {
+        let input = client_input(&pending.asked.operation, pending.asked.hint);
+        // A request for content does not hurry the next tick.
+        let _hurries = self.answers(pending, input, now)?;
+        Ok(())
+    }
+
+    /// Takes the input that results from a message's reply, if there is one.
+    pub fn takes_brought(&mut self, input: Option<Input>) -> Result<(), TurnEnd>
+        requires serving { IsServing self.old }
+        requires input { IfSome input (IsInput self.old.kept.node.control.nodes self.old.kept.node.control.me) }
+        ensures did { OnOk result (Does D.view K.takes K.faults L.story L.counts (brought input) self.old self.new) }
+        ensures breaks { IfErr result (λ end. Stops D.view K.takes K.fails K.faults L.story L.counts end (brought input) self.old self.new) }
+    {
+        match input {
+            Some(input) => self.takes(input),
+            None => Ok(()),
+        }
+    }
+
+    /// Takes the rate that was measured of a peer, with the hops of its last record.
+    pub fn takes_measure(&mut self, peer: NodeId, rate: u64) -> Result<(), TurnEnd>
+        requires serving { IsServing self.old }
+        requires peer { IsNode self.old.kept.node.control.nodes peer }
+        requires rate { IsRate rate }
+        ensures did { OnOk result (Does D.view K.takes K.faults L.story L.counts (measured peer rate) self.old self.new) }
+        ensures breaks { IfErr result (λ end. Stops D.view K.takes K.fails K.faults L.story L.counts end (measured peer rate) self.old self.new) }
+    {
+        self.kept.recovers();
+        let (_rate, hops) = self.kept.node().measures().get(peer);
+        self.takes(Input::Measured { peer, rate, hops })
+    }
+
+    /// Begins the probe of a node now.
+    pub fn probes_it(&mut self, peer: NodeId) -> Result<(), TurnEnd>
+        requires serving { IsServing self.old }
+        requires peer { IsNode self.old.kept.node.control.nodes peer }
+        ensures did { OnOk result ((started : ℕ) × Does D.view K.takes K.faults L.story L.counts (probes_it (Some peer) started) self.old self.new) }
+        ensures breaks { IfErr result (λ end. (started : ℕ) × Stops D.view K.takes K.fails K.faults L.story L.counts end (probes_it (Some peer) started) self.old self.new) }
+    {
+        let now = self.reads();
+        let dial = free_number(self.dials.list());
+        self.probes(peer, dial, now)
+    }
+
+    /// Takes a tick.
+    pub fn ticks(&mut self) -> Result<(), TurnEnd>
+        requires { IsServing self.old }
+        ensures did { OnOk result ((seconds : ℕ) × Does D.view K.takes K.faults L.story L.counts (ticked seconds) self.old self.new) }
+        ensures breaks { IfErr result (λ end. (seconds : ℕ) × Stops D.view K.takes K.fails K.faults L.story L.counts end (ticked seconds) self.old self.new) }
+    {
+        let seconds = self.tells();
+        self.takes(Input::Tick(seconds.min(MAX_TIME)))
+    }
+
+    /// Tells why a probe took nothing.
+    pub fn notes_fault(&mut self, peer: NodeId, fault: ProbeFault) -> Result<(), TurnEnd>
+        requires { IsServing self.old }
+        ensures did { OnOk result (Does D.view K.takes K.faults L.story L.counts (notes_fault peer fault) self.old self.new) }
+        ensures breaks { IfErr result (λ end. Stops D.view K.takes K.fails K.faults L.story L.counts end (notes_fault peer fault) self.old self.new) }
+    {
+        self.kept.recovers();
+        let why = probe_note(self.alloc, peer, fault)?;
+        self.notes(&why)
+    }
+}
+
+/// What is to be done with the work at a place.
+fn due_at(works: &[Work], place: usize) -> Due
+    ensures { result ≡ due_of (slice_get works.now place) }
+{
+    match works.get(place) {
+        Some(Work::Aside(place)) => Due::Aside(*place),
+        Some(Work::Waits(waiting)) => Due::Waits(to_wake(waiting)),
+        Some(Work::Content(_)) => Due::Nothing,
+        None => Due::Nothing,
+    }
+}
+
+/// A request that waits is to be answered.
+fn to_wake(waiting: &Waiting) -> Pending
+    ensures { result ≡ pending waiting.now.connection waiting.now.request (is_some (client_input waiting.now.request.operation waiting.now.request.hint)) true }
+{
+    let request = &waiting.request;
+    let input = client_input(&request.operation, request.hint);
+    pending_of(waiting.connection, request, input.is_some(), true)
+}
+
+/// Why a probe took nothing.
+fn probe_note(alloc: Global, peer: NodeId, fault: ProbeFault) -> Result<Vec<u8>, Memory>
+    ensures { IfOk result (λ why. why.items ≡ probe_note peer fault) }
+{
+    let mut why = Vec::new(alloc);
+    put(&mut why, b"probe ")?;
+    put_number(&mut why, u64::from(peer.0))?;
+    match fault {
+        ProbeFault::Link => put(&mut why, b" link")?,
+        ProbeFault::Reply | ProbeFault::Memory => put(&mut why, b" reply")?,
+    }
+    Ok(why)
+}

@@ -3,10 +3,10 @@
 ghost use Rattle.std.specs.Prelude.{◌≡◌, ◌++◌, false, IfErr, IfOk, replicate};
 ghost use Rattle.oc_base.specs.Lawful.{IsNode};
 ghost use Rattle.oc_check.specs.Checks.{IsNetwork, Shows, header_without_areas};
-ghost use Rattle.oc_keep.specs.Files.{disks};
+ghost use Rattle.oc_keep.specs.Files.{AreHonest, OneRose, disks_in};
 ghost use Rattle.oc_base.specs.Groups.{shelf};
 ghost use Rattle.oc_keep.specs.KeptView.{IsHonest, node_of};
-ghost use Rattle.oc_keep.specs.Promises.{LoadsSafely, RefusesNode};
+ghost use Rattle.oc_keep.specs.Promises.{HoldFiles, LoadsSafely, RefusesNode};
 ghost use Rattle.oc_replay.specs.Lines.{held_text};
 ghost use Rattle.oc_replay.specs.Shows.{show_text};
 ghost use Rattle.oc_model.specs.Status.{status_of};
@@ -18,48 +18,48 @@ use oc_io::Disk;
 use oc_keep::{Files, KeepLoad, Kept, Seat};
 use std::alloc::Global;
 
-/// What the files of a node showed, and the disks.
+/// What the files of a node showed, and the files.
 #[derive(Drop)]
-pub(crate) struct Shown<D: Disk> {
-    pub(crate) control: D,
-    pub(crate) alternate: D,
-    pub(crate) content: D,
+pub struct Recovered<D: Disk> {
+    pub files: Files<D>,
     /// The text of the node, or why there is none.
-    pub(crate) text: Result<Vec<u8>, KeepLoad>,
+    pub text: Result<Vec<u8>, KeepLoad>,
 }
 
-/// The text of the node that these files recover.
-pub(crate) fn load_and_show<D: Disk>(
+/// The block of `show` and the block of `held` of the node with this id in this network, as its first control file,
+/// its second one and its content file recover it. Its areas are 0.
+pub fn recovered_text<D: Disk>(
     alloc: Global,
     id: NodeId,
     network: Network,
-    control: D,
-    alternate: D,
-    content: D,
-) -> Shown<D>
+    files: Files<D>,
+) -> Recovered<D>
     requires network { IsNetwork network }
     requires id { IsNode network.nodes id }
-    ensures shows { IfOk result.text (λ text. Shows D.view (header_without_areas network) id (disks control alternate content) text.items) }
-    ensures refuses { IfErr result.text (λ error. RefusesNode D.view network.nodes
-        (disks control alternate content) (disks result.control result.alternate result.content) error) }
-    ensures safely { LoadsSafely D.view (header_without_areas network) id
-        (disks control alternate content) (disks result.control result.alternate result.content) }
+
+    // The text is that of the node that the files recover.
+    ensures shows { IfOk result.text (λ text. Shows D.view (header_without_areas network) id (disks_in files) text.items) }
+
+    // When it refuses.
+    ensures refuses { IfErr result.text (λ error. RefusesNode D.view network.nodes (disks_in files) (disks_in result.files) error) }
+
+    // At every moment a crash leaves what a crash at the start would have left.
+    ensures safely { LoadsSafely D.view (header_without_areas network) id (disks_in files) (disks_in result.files) }
+
+    // The files of a node on honest disks are shown, where no disk fails and there is the memory.
+    ensures complete { IfErr result.text (λ error. AreHonest D.view (disks_in files)
+        → HoldFiles D.view network.nodes (disks_in files)
+        → (OneRose D.view (disks_in files) (disks_in result.files) → ⊥)
+        → error ≡ KeepLoad.Memory) }
 {
     let areas = match no_areas(alloc, network.nodes) {
         Ok(areas) => areas,
         Err(Memory) => {
-            return Shown {
-                control,
-                alternate,
-                content,
+            return Recovered {
+                files,
                 text: Err(KeepLoad::Memory),
             };
         }
-    };
-    let files = Files {
-        control,
-        alternate,
-        content,
     };
     let seat = Seat {
         id,
@@ -72,26 +72,17 @@ pub(crate) fn load_and_show<D: Disk>(
         Ok(kept) => {
             let text = text_of(alloc, &kept, id);
             let (control, alternate, content) = kept.into_disks();
-            Shown {
+            let files = Files {
                 control,
                 alternate,
                 content,
-                text,
-            }
+            };
+            Recovered { files, text }
         }
-        Err((files, error)) => {
-            let Files {
-                control,
-                alternate,
-                content,
-            } = files;
-            Shown {
-                control,
-                alternate,
-                content,
-                text: Err(error),
-            }
-        }
+        Err((files, error)) => Recovered {
+            files,
+            text: Err(error),
+        },
     }
 }
 

@@ -1,11 +1,12 @@
 -- The areas of a configuration, and its header.
-use Rattle.std.proofs.Common.{◌≡◌, ◌≤◌, ℕ, List, [], ◌∷◌, ◌++◌, length, ap, ◌∙◌, arith}
+use Rattle.std.proofs.Common.{◌≡◌, ◌≤◌, ℕ, List, [], ◌∷◌, ◌++◌, length, ap, ap₂, ◌∙◌, arith}
 use Rattle.std.specs.List.{AllByRecursion}
 use Rattle.oc_base.specs.declared.limits.TheConstants.{MAX_AREA}
 use Rattle.oc_config.specs.Reading.{IsConfig}
 use Rattle.oc_config.specs.Settings.{Settings}
 use Rattle.oc_keep.specs.KeptView.{header}
 use Rattle.oc_model.specs.Lawful.{IsHeader}
+use Rattle.oc_service.specs.OnSite.{header_of_settings}
 
 -- one area more
 pub areas_push : (areas : List ℕ) (area : ℕ) → AllByRecursion (λ a. a ≤ MAX_AREA) areas → area ≤ MAX_AREA → AllByRecursion (λ a. a ≤ MAX_AREA) (areas ++ area ∷ [])
@@ -24,3 +25,8 @@ lawful_header s c areas same bytes = record {
   areas = ap length same ∙ c.areas;
   bytes = bytes;
 }
+
+-- the header of a node that was loaded with what the settings say
+pub settings_header : (s : Settings) (nodes chain chunk : ℕ) (areas : List ℕ) → nodes ≡ length s.addresses → chain ≡ s.chain → chunk ≡ s.chunk → areas ≡ s.areas → header nodes chain chunk areas ≡ header_of_settings s
+settings_header s nodes chain chunk areas count links most same =
+    ap (λ n. header n chain chunk areas) count ∙ ap (λ b. header (length s.addresses) chain b areas) most ∙ ap₂ (λ x a. header (length s.addresses) x s.chunk a) links same

@@ -1,8 +1,10 @@
-mod Founded
-mod Headers
-mod Lent
+mod Stories
+mod Machines
 mod Measured
+mod Headers
 mod Places
 mod Probes
-mod Served
+mod Runs
+mod OnSite
 mod Unfailed
+mod Loaded

@@ -14,7 +14,7 @@ use Rattle.oc_config.specs.Reading.{IsConfig}
 use Rattle.oc_config.specs.Settings.{Settings}
 use Rattle.oc_http.specs.Writing.{IsHost}
 use Rattle.oc_http.specs.Writing as http
-use Rattle.oc_one_turn.specs.Sending.{IsPlaced}
+use Rattle.oc_server.specs.Scenes.{IsPlaced}
 
 both : (a b : Bool) → (a && b) ≡ true → (a ≡ true) × (b ≡ true)
 both true true is = (refl, refl)

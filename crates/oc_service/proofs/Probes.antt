@@ -5,8 +5,8 @@ use Rattle.std.specs.List.{AllByRecursion}
 use Rattle.oc_base.specs.Lawful.{IsNode}
 use Rattle.oc_probe.specs.Turns.{RotationView, ids, others}
 use Rattle.oc_probe.specs.declared.probing.Probing.{Probing}
-use Rattle.oc_one_turn.specs.Turns.{IsMadeFor}
-use Rattle.oc_service.specs.Runs.{first_probing}
+use Rattle.oc_server.specs.Lawful.{IsMadeFor}
+use Rattle.oc_service.specs.OnSite.{probing_of}
 
 -- what holds of each of two lists
 all_append : {A : Type 0} (P : A → Type 0) (xs ys : List A) → AllByRecursion P xs → AllByRecursion P ys → AllByRecursion P (xs ++ ys)
@@ -29,9 +29,9 @@ made_for me nodes p is gauge rotation = record {
   peers = subst (λ (r : RotationView). AllByRecursion (IsNode nodes) r.coming) (sym rotation) (all_others me nodes is);
 }
 
-abbrev probing_of : List (List ℕ) → RotationView → Probing
-probing_of gauge rotation = record { gauge = gauge; rotation = rotation }
+abbrev probing_from : List (List ℕ) → RotationView → Probing
+probing_from gauge rotation = record { gauge = gauge; rotation = rotation }
 
 -- and it is what a node begins with
-pub first_is : (me nodes : ℕ) (p : Probing) → p.gauge ≡ replicate nodes [] → p.rotation ≡ record { me = me; nodes = nodes; coming = others me nodes } → p ≡ first_probing me nodes
-first_is me nodes p gauge rotation = ap₂ probing_of gauge rotation
+pub first_is : (me nodes : ℕ) (p : Probing) → p.gauge ≡ replicate nodes [] → p.rotation ≡ record { me = me; nodes = nodes; coming = others me nodes } → p ≡ probing_of me nodes
+first_is me nodes p gauge rotation = ap₂ probing_from gauge rotation

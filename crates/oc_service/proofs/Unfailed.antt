@@ -1,25 +1,29 @@
 -- The run of a node ends well where nothing fails that may.
-use Rattle.std.proofs.Common.{ℕ, Bool, List}
+use Rattle.std.proofs.Common.{◌⊎◌, inl, inr, ℕ, Option, List, length}
 use Rattle.oc_check.proofs.Complete.{only_memory}
 use Rattle.oc_config.specs.Settings.{Settings}
-use Rattle.oc_keep.specs.Files.{Disks, AreHonest, OneRose}
-use Rattle.oc_keep.specs.Promises.{HoldFiles}
+use Rattle.oc_events.specs.declared.call.Call.{Call}
+use Rattle.oc_events.specs.declared.counts.Counts.{Counts}
 use Rattle.oc_io.specs.DiskView.{DiskView}
 use Rattle.oc_io.specs.Faults.{Rose}
-use Rattle.oc_turn.specs.Deeds.{Outside}
-use Rattle.oc_turn.specs.declared.ends.TurnEnd.TheVariants as ends
-use Rattle.oc_service.specs.OnFiles.{EndsUnfailed, NodeEnds}
-use Rattle.oc_service.specs.declared.starting.NodeEnd.{NodeEnd}
-use Rattle.oc_service.specs.declared.starting.NodeEnd.TheVariants.{Load, Turned}
+use Rattle.oc_keep.specs.Files.{Disks, AreHonest, OneRose}
+use Rattle.oc_keep.specs.Promises.{HoldFiles}
+use Rattle.oc_server.specs.declared.ends.TurnEnd.TheVariants as ends
+use Rattle.oc_service.specs.OnSite.{EndsUnfailed, NodeEnds, at_run}
+use Rattle.oc_service.specs.declared.running.NodeEnd.{NodeEnd}
+use Rattle.oc_service.specs.declared.running.NodeEnd.TheVariants.{Load, Turned}
+use Rattle.oc_service.specs.declared.running.Task.{Task}
 
-module _ {D K : Type 0} (view : D → DiskView) (takes fails : K → List ℕ → K → Type 0) (count : K → ℕ) (c : Settings) (nodes me : ℕ) (probes : Bool) (turns : ℕ) (old new : Disks D) (sink after : K) (before out : Outside)
-    (honest : AreHonest view old) (files : HoldFiles view nodes old) (waiting : Rose before.faults.listening out.faults.listening → ⊥) (sound : OneRose view old new → ⊥) (written : Rose (count sink) (count after) → ⊥) where
-  pub unfailed : (end : NodeEnd) → NodeEnds view takes fails count c nodes me probes turns end old new sink after before out → EndsUnfailed end
-  unfailed (Load error) h = only_memory view nodes old new honest files sound error h.0
+module _ {D L : Type 0} (view : D → DiskView) (story : L → Option (List Call)) (counts : L → Counts) (written cut_off : List ℕ → Type 0) (c : Settings) (task : Task) (old new : Disks D) (link after : L)
+    (honest : AreHonest view old) (files : HoldFiles view (length c.addresses) old) (sound : OneRose view old new → ⊥)
+    (asked : Rose (counts link).listening (counts after).listening → ⊥) (sink : (text : List ℕ) → cut_off text → ⊥) where
+  pub unfailed : (end : NodeEnd) → NodeEnds (at_run view story counts c task old new link after) written cut_off task.me end → EndsUnfailed end
+  unfailed (Load error) h = only_memory view (length c.addresses) old new honest files sound error h.0.0
   unfailed (Turned ends.Served) h = tt
-  unfailed (Turned ends.Quiet) h = absurd h.3.cause
-  unfailed (Turned ends.Link) h = absurd (waiting h.3.cause)
+  unfailed (Turned ends.Quiet) h = absurd h
+  unfailed (Turned ends.Link) (inl h) = absurd (asked h.1.counted.listening)
+  unfailed (Turned ends.Link) (inr h) = absurd (asked h.3.cause)
   unfailed (Turned ends.Disk) h = absurd (sound h.3.cause)
-  unfailed (Turned ends.Sink) h = absurd (written h.2.1)
+  unfailed (Turned ends.Sink) h = absurd (sink _ h.2.2)
   unfailed (Turned ends.Full) h = tt
   unfailed (Turned ends.Memory) h = tt

@@ -1,2 +1,6 @@
-pub mod Runs
-pub mod OnFiles
+pub mod WhatNodeDoes
+pub mod WhatNodeHears
+pub mod Running
+pub mod OnSite
+pub mod Loading
+pub mod Measuring

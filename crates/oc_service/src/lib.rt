@@ -1,17 +1,21 @@
-//! A node that runs for a number of turns: it is loaded from its files, waits where it listens, takes what was
-//! measured before, and serves its turns.
+//! A node from its files to the end of its turns.
 //!
-//! [`run_node`] is what the layer above uses. Its contract names the deeds of the run (`IsRun`): the
-//! measures of the configuration, in their order, and then the deeds of each turn. The lines of these deeds
-//! were written, the node and the link are what the deeds make of them, and every crash leaves the node
-//! after them; where it ended before, also with one more input under way. Where all turns were served, the
-//! connections that came were answered as `ServesRun` says, one turn after the other.
+//! [`run_node`] is what the layer above uses. It loads the node of a configuration from its three files, has its link
+//! listen, takes what was measured before, and turns: a number of times, or without an end. What it runs on, its
+//! [`Site`], is handed in and comes back.
+//!
+//! `specs/WhatNodeDoes` says on one page what a node does: a machine whose steps are turns, by what the link and the
+//! clock tell in each. The contract of [`run_node`] is that (`NodeEnds`): the lines that were written are those of the
+//! machine's deeds, the calls on the link are theirs, and every crash leaves the node behind them. Where it ended
+//! before, a front of these deeds was done, perhaps with one more input under way.
 #![tactic(auto)]
 
+mod loading;
 mod measuring;
 mod probing;
-mod serving;
-mod starting;
+mod running;
+mod site;
 
-pub use oc_turn::TurnEnd;
-pub use starting::{NodeEnd, run_node};
+pub use oc_server::TurnEnd;
+pub use running::{NodeEnd, Ran, Task, run_node};
+pub use site::Site;

@@ -1,65 +1,55 @@
 //! What was measured before a node runs.
 
-ghost use Rattle.std.specs.Prelude.{◌≡◌, ℕ, false, All, IfErr, List, OnOk};
+ghost use Rattle.std.specs.Prelude.{◌≡◌, ◌∷◌, [], All, IfErr, OnOk};
+ghost use Rattle.oc_server.specs.Deeds.{Takes};
+ghost use Rattle.oc_server.specs.Parts.{Stops};
+ghost use Rattle.oc_server.specs.Scenes.{Breaks, Did, IsServing, Taking};
+ghost use Rattle.oc_service.specs.Measuring.{input_of, takes_own_measures};
+ghost use Rattle.oc_service.specs.WhatNodeDoes.{own_measure, own_measures};
 ghost use Rattle.oc_updown.specs.MeasureLines.{IsMeasure};
-ghost use Rattle.oc_service.specs.Runs.{measure_deeds, measured};
-ghost use Rattle.oc_turn.specs.Deeds.{Outside};
-ghost use Rattle.oc_turn.specs.Scenes.{Did, Stopped, scene};
 
+use oc_events::Link;
 use oc_io::{Disk, Sink};
-use oc_keep::Kept;
 use oc_model::Input;
-use oc_turn::{Outbox, TurnEnd, input_entry, take_own};
+use oc_server::{Server, TurnEnd};
 use oc_updown::Measure;
-use std::alloc::Global;
 
-/// Takes each measure that is of the node itself as an input, in their order.
-pub(crate) fn take_measures<D: Disk, K: Sink>(
-    alloc: Global,
-    kept: &mut Kept<D>,
-    outbox: &mut Outbox,
-    measures: &[Measure],
-    sink: &mut K,
+/// Takes each measure of the configuration that is the node's own as an input, in their order.
+pub(crate) fn take_measures<D: Disk, L: Link, K: Sink>(
+    server: &mut Server<D, L, K>,
 ) -> Result<(), TurnEnd>
-    requires open { kept.old.closed ≡ false }
-    requires lawful { All (IsMeasure kept.old.node.control.nodes) measures.now }
-    ensures did { OnOk result ((addresses : List (List ℕ)) (out : Outside)
-        → Did D.view K.takes K.faults addresses (measured kept.old.node.control.me measures.now)
-        (scene kept.old outbox.old sink.old out) (scene kept.new outbox.new sink.new out)) }
-    ensures stops { IfErr result (λ end. Stopped D.view K.takes K.fails K.faults ⊥ end
-        kept.old kept.new sink.old sink.new) }
+    requires serving { IsServing server.old }
+    requires lawful { All (IsMeasure server.old.kept.node.control.nodes) server.old.config.measures }
+    ensures did { OnOk result (Did D.view K.takes K.faults L.story L.counts
+        (own_measures server.old.kept.node.control.me server.old.config.measures) server.old server.new) }
+    ensures stops { IfErr result (λ end. Stops D.view K.takes K.fails K.faults L.story L.counts end
+        (takes_own_measures server.old.config.measures) server.old server.new) }
 {
-    for measure in measures {
-        take_measure(alloc, kept, outbox, measure, sink)?;
+    'measures: for place in 0..server.config.measures.len() {
+        let measure = server.config.measures[place];
+        take_measure(server, measure)?;
     }
     Ok(())
 }
 
-/// Takes a measure as an input, if it is of the node itself.
-fn take_measure<D: Disk, K: Sink>(
-    alloc: Global,
-    kept: &mut Kept<D>,
-    outbox: &mut Outbox,
-    measure: &Measure,
-    sink: &mut K,
+/// Takes a measure as an input, if it is the node's own.
+fn take_measure<D: Disk, L: Link, K: Sink>(
+    server: &mut Server<D, L, K>,
+    measure: Measure,
 ) -> Result<(), TurnEnd>
-    requires open { kept.old.closed ≡ false }
-    requires lawful { IsMeasure kept.old.node.control.nodes measure.now }
-    ensures did { OnOk result ((addresses : List (List ℕ)) (out : Outside)
-        → Did D.view K.takes K.faults addresses (measure_deeds kept.old.node.control.me measure.now)
-        (scene kept.old outbox.old sink.old out) (scene kept.new outbox.new sink.new out)) }
-    ensures stops { IfErr result (λ end. Stopped D.view K.takes K.fails K.faults ⊥ end
-        kept.old kept.new sink.old sink.new) }
+    requires serving { IsServing server.old }
+    requires lawful { IsMeasure server.old.kept.node.control.nodes measure }
+    ensures did { OnOk result (Did D.view K.takes K.faults L.story L.counts (own_measure server.old.kept.node.control.me measure) server.old server.new) }
+    ensures breaks { IfErr result (λ end. (own_measure server.old.kept.node.control.me measure ≡ Takes (input_of measure) ∷ [])
+        × Breaks D.view K.takes K.fails K.faults L.story L.counts end (Taking (input_of measure)) server.old server.new) }
 {
-    kept.recovers();
-    if measure.from != kept.node().id() {
+    server.kept.recovers();
+    if measure.from != server.kept.node().id() {
         return Ok(());
     }
-    let input = Input::Measured {
+    server.takes(Input::Measured {
         peer: measure.peer,
         rate: measure.rate,
         hops: measure.hops,
-    };
-    let entry = input_entry(alloc, measure.from, input)?;
-    take_own(kept, outbox, sink, entry)
+    })
 }

@@ -37,11 +37,16 @@ pub struct SocketLink<'a, R> {
     lent: Vec<u8>,
     lender: Option<ConnectionId>,
     counts: Counts,
+    /// The node that waits for connections, if one does.
+    node: Option<u64>,
+    /// Where it could not wait, and why.
+    place: String,
+    error: Option<io::Error>,
 }
 
-impl<'a, R: Net<Stream = TcpStream> + Clock> SocketLink<'a, R> {
-    /// A link over the sockets of this runtime.
-    pub fn new(rt: &'a R, alloc: Global) -> SocketLink<'a, R>
+impl<'a, R: Net<Stream = TcpStream> + Clock + Eprint> SocketLink<'a, R> {
+    /// A link over the sockets of this runtime, for the node of this id if one runs.
+    pub fn new(rt: &'a R, alloc: Global, node: Option<u64>) -> SocketLink<'a, R>
         ensures counts { result.counts ≡ no_counts }
     {
         SocketLink {
@@ -53,6 +58,17 @@ impl<'a, R: Net<Stream = TcpStream> + Clock> SocketLink<'a, R> {
             lent: Vec::new(alloc),
             lender: None,
             counts: Counts::none(),
+            node,
+            place: String::new(alloc),
+            error: None,
+        }
+    }
+
+    /// At which address it could not wait for connections, and why, if it could not.
+    pub fn trouble(&self) -> Option<(&str, io::Error)> {
+        match self.error {
+            Some(error) => Some((self.place.as_str(), error)),
+            None => None,
         }
     }
 
@@ -104,7 +120,23 @@ impl<'a, R: Net<Stream = TcpStream> + Clock> SocketLink<'a, R> {
     }
 }
 
-impl<R: Net<Stream = TcpStream> + Clock> Link for SocketLink<'_, R> {
+/// Keeps where a call failed, and why, if there is the memory.
+fn keep(kept: &mut Option<io::Error>, place: &mut String, address: &str, error: io::Error) {
+    place.clear();
+    *kept = match place.push_str(address) {
+        Ok(()) => Some(error),
+        Err(_) => None,
+    };
+}
+
+/// Says on the error output where a node waits for connections. Where that fails, nothing else happens.
+fn announce<R: Eprint>(rt: &R, node: Option<u64>, address: &str) {
+    if let Some(id) = node {
+        let _ = eprintln!(rt; "overcast: node {id} listens at {address}");
+    }
+}
+
+impl<R: Net<Stream = TcpStream> + Clock + Eprint> Link for SocketLink<'_, R> {
     ghost use Rattle.std.specs.Prelude.{None};
 
     ghost story = { λ link. None };
@@ -117,9 +149,11 @@ impl<R: Net<Stream = TcpStream> + Clock> Link for SocketLink<'_, R> {
         match Sockets::listen(self.rt, self.alloc, address) {
             Ok(sockets) => {
                 self.sockets = Some(sockets);
+                announce(self.rt, self.node, address);
                 Ok(())
             }
-            Err(_) => {
+            Err(error) => {
+                keep(&mut self.error, &mut self.place, address, error);
                 self.counts = self.counts.with_failure();
                 Err(Failed)
             }

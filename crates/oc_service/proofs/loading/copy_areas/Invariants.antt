@@ -1,7 +1,7 @@
 use Rattle.std.proofs.Common.{◌≡◌, ◌≤◌, take}
 use Rattle.std.specs.List.{AllByRecursion}
 use Rattle.oc_base.specs.declared.limits.TheConstants.{MAX_AREA}
-use Rattle.oc_service.proofs.starting.copy_areas.Given as goal
+use Rattle.oc_service.proofs.loading.copy_areas.Given as goal
 
 -- those that were read are copied, and each is an area
 abbrev pub invariant-loop-area : goal.invariant-loop-area

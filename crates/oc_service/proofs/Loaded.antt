@@ -1,0 +1,69 @@
+-- A node that was loaded is ready to turn.
+use Rattle.std.proofs.Common.{◌≡◌, ◌≤◌, ◌∙◌, ℕ, Bool, Option, Some, None, List, [], length, refl, sym, ap, subst}
+use Rattle.std.specs.Prelude.{IfSome}
+use Rattle.std.specs.List.{AllByRecursion}
+use Rattle.oc_config.specs.Reading.{IsConfig}
+use Rattle.oc_config.specs.Settings.{Settings}
+use Rattle.oc_io.specs.DiskView.{DiskView}
+use Rattle.oc_keep.specs.Files.{AreHonest, Disks, disks_in}
+use Rattle.oc_keep.specs.KeptView.{KeptView, disks_of, node_of}
+use Rattle.oc_keep.specs.Promises.{IsNodeOf, LoadsSafely}
+use Rattle.oc_model.specs.Node.{Header, Node}
+use Rattle.oc_model.specs.declared.message.Message.{Message}
+use Rattle.oc_policy.specs.declared.deciding.TheConstants.{MAX_RULES}
+use Rattle.oc_probe.specs.declared.probing.Probing.{Probing}
+use Rattle.oc_server.specs.Deeds.{Running}
+use Rattle.oc_server.specs.Lawful.{IsMadeFor, IsReady}
+use Rattle.oc_server.specs.Pace.{first_pace}
+use Rattle.oc_server.specs.Scenes.{IsLawful, IsLawfulDial, IsLawfulWork, IsPlaced, IsServing}
+use Rattle.oc_server.specs.Sending.{AreSendable}
+use Rattle.oc_server.specs.declared.dials.Dialling.{Dialling}
+use Rattle.oc_server.specs.declared.pace.Pace.{Pace}
+use Rattle.oc_server.specs.declared.turns.Turns.{Turns}
+use Rattle.oc_server.specs.declared.work.Work.{Work}
+use Rattle.oc_service.specs.Loading.{IsLoaded}
+use Rattle.oc_service.specs.OnSite.{header_of_settings, machine_on, probing_at_first}
+use Rattle.oc_service.specs.Running.{machine}
+use Rattle.oc_service.specs.WhatNodeDoes.{Machine, at_first}
+use Rattle.oc_service.specs.declared.running.Task.{Task}
+use Rattle.oc_service.specs.declared.site.Site.{Site}
+use Rattle.oc_service.proofs.Places.{placed}
+
+module _ {D L K : Type 0} (view : D → DiskView) (c : Settings) (me : ℕ) (probes : Bool) (site : Site D L K) (turns : Turns D L K) (lawful : IsConfig c)
+    (node : IsNodeOf view (header_of_settings c) me (disks_in site.files) turns.server.kept)
+    (safely : LoadsSafely view (header_of_settings c) me (disks_in site.files) (disks_of turns.server.kept))
+    (outbox : turns.server.outbox ≡ []) (works : turns.server.works ≡ []) (dials : turns.server.dials ≡ [])
+    (probing : turns.probing ≡ probing_at_first probes me (length c.addresses)) (made : IfSome turns.probing (IsMadeFor (length c.addresses)))
+    (config : turns.server.config ≡ c) where
+  abbrev nodes : ℕ
+  nodes = turns.server.kept.node.control.nodes
+
+  nodes_are : nodes ≡ length c.addresses
+  nodes_are = ap (λ (h : Header). h.nodes) node.header
+
+  serving : IsServing turns.server
+  serving = record {
+    is_open = node.unclosed;
+    placed = subst (λ (n : ℕ). IsPlaced n turns.server.config.addresses) (sym nodes_are)
+        (subst (λ (x : Settings). IsPlaced (length c.addresses) x.addresses) (sym config) (placed c lawful));
+    rules = subst (λ (x : Settings). length x.rules ≤ MAX_RULES) (sym config) lawful.rules;
+    lawful = record {
+      sendable = subst (λ (ms : List Message). AreSendable nodes ms) (sym outbox) refl;
+      works = subst (λ (ws : List Work). AllByRecursion (IsLawfulWork nodes turns.server.kept.node.control.me) ws) (sym works) tt;
+      dials = subst (λ (ds : List Dialling). AllByRecursion (IsLawfulDial nodes) ds) (sym dials) tt;
+    };
+  }
+
+  pub ready : IsReady turns
+  ready = record { serving = serving; probing = subst (λ (n : ℕ). IfSome turns.probing (IsMadeFor n)) (sym nodes_are) made }
+
+-- as the machine of what a node does
+pub loaded_machine : {D L K : Type 0} (view : D → DiskView) (c : Settings) (task : Task) (site : Site D L K) (turns : Turns D L K) → IsLoaded view c task.me task.probes site turns → AreHonest view (disks_in site.files)
+    → machine turns ≡ machine_on view c task (disks_in site.files)
+loaded_machine view c task site turns loaded honest =
+    ap (λ (ms : List Message). record { running = record { node = node_of turns.server.kept; outbox = ms; works = turns.server.works; dials = turns.server.dials }; pace = turns.pace; probing = turns.probing }) loaded.outbox
+    ∙ ap (λ (ws : List Work). record { running = record { node = node_of turns.server.kept; outbox = []; works = ws; dials = turns.server.dials }; pace = turns.pace; probing = turns.probing }) loaded.works
+    ∙ ap (λ (ds : List Dialling). record { running = record { node = node_of turns.server.kept; outbox = []; works = []; dials = ds }; pace = turns.pace; probing = turns.probing }) loaded.dials
+    ∙ ap (λ (p : Pace). record { running = record { node = node_of turns.server.kept; outbox = []; works = []; dials = [] }; pace = p; probing = turns.probing }) loaded.pace
+    ∙ ap (λ (p : Option Probing). at_first p (node_of turns.server.kept)) loaded.probing
+    ∙ ap (λ (n : Node). at_first (probing_at_first task.probes task.me (length c.addresses)) n) (loaded.node.node honest)

@@ -1,0 +1,320 @@
+-- What a loaded node did, told of the files from which it was loaded, of its link and of its output.
+use Rattle.std.proofs.Common.{◌≡◌, ◌⊎◌, ◌∙◌, ℕ, ◌+◌, ◌<◌, Bool, false, Option, None, Some, List, [], ◌∷◌, ◌++◌, length, inl, inr, refl, sym, ap, ap₂, subst, arith}
+use Rattle.std.specs.Option.{option_map}
+use Rattle.oc_content.specs.ContentFile.{groups_in}
+use Rattle.oc_config.specs.Settings.{Settings}
+use Rattle.oc_events.specs.Told.{AddsAll}
+use Rattle.oc_events.specs.declared.call.Call.{Call}
+use Rattle.oc_events.specs.declared.call.Call.TheVariants as acts
+use Rattle.oc_events.specs.declared.counts.Counts.{Counts}
+use Rattle.oc_events.proofs.Stories.{adds-then}
+use Rattle.oc_io.specs.DiskView.{DiskView}
+use Rattle.oc_io.specs.Faults.{Rose}
+use Rattle.oc_keep.proofs.Runs.{all_go_on_then, one_rose_after}
+use Rattle.oc_keep.proofs.Stays.{all_honest}
+use Rattle.oc_keep.specs.Files.{Disks, AllGoOn, AreHonest, Leaves, SameAsEither, Survives, disks_in}
+use Rattle.oc_keep.specs.KeptView.{IsFullAt, IsHonest, KeptView, NodeSurvives, disks_of, header_of, node_of}
+use Rattle.oc_keep.specs.Promises.{ChangesNothing, IsNodeOf, LoadsSafely}
+use Rattle.oc_keep.specs.Trials.{after_inputs, first_node}
+use Rattle.oc_model.specs.declared.input.Input.{Input}
+use Rattle.oc_model.specs.Node.{Control, Header, Node}
+use Rattle.oc_model.specs.Step.{step}
+use Rattle.oc_reply.specs.Verdicts.{NodeTerms, terms_of}
+use Rattle.oc_server.specs.Deeds.{Deed, Running, Setting, calls_of, inputs_of, lines}
+use Rattle.oc_server.specs.Parts.{Cuts}
+use Rattle.oc_server.specs.Runs.{reads_by}
+use Rattle.oc_server.specs.Scenes.{Breaks, BreaksBehind, CountsAll, Did, HasCause, Idle, LeavesAt, LeavesUnder, Noting, Taking, Under, WritesAt, running, setting, under_line}
+use Rattle.oc_server.specs.Turns.{Told}
+use Rattle.oc_server.specs.declared.ends.TurnEnd.{TurnEnd}
+use Rattle.oc_server.specs.declared.ends.TurnEnd.TheVariants as ends
+use Rattle.oc_server.specs.declared.server.Server.{Server}
+use Rattle.oc_server.specs.declared.turns.Turns.{Turns}
+use Rattle.oc_server.proofs.Scenes.{broken_cause, broken_leaves, broken_text, did_node}
+use Rattle.oc_service.specs.OnSite.{DidOn, HasCauseOn, LeavesBehind, LeavesOne, NodeEnds, StoppedOn, Stops, WasDeaf, Writes, at_run, header_of_settings, heard_before, machine_on, node_calls, setting_of, terms_in}
+use Rattle.oc_service.specs.Loading.{IsLoaded}
+use Rattle.oc_service.specs.declared.site.Site.{Site}
+use Rattle.oc_service.proofs.Loaded.{loaded_machine}
+use Rattle.oc_service.specs.Running.{Halts, IsDeaf, Listens, RunEnds, Runs, listens_at, machine}
+use Rattle.oc_service.specs.WhatNodeDoes.{Machine, due_at, measured, node_behind, node_deeds, turn_deeds}
+use Rattle.oc_service.specs.WhatNodeHears.{AreHeard, MayHear, all_calls_behind, until}
+use Rattle.oc_service.specs.declared.running.NodeEnd.TheVariants.{Turned}
+use Rattle.oc_service.specs.declared.running.Task.{Task}
+use Rattle.oc_service.proofs.Stories.{Follows, follows_adds, until_then}
+
+module _ {D L K : Type 0} (view : D → DiskView) (takes fails : K → List ℕ → K → Type 0) (faults : K → ℕ) (story : L → Option (List Call)) (counts : L → Counts)
+    (takes_nothing : (k : K) → takes k [] k) (takes_then : (a b c : K) (x y : List ℕ) → takes a x b → takes b y c → takes a (x ++ y) c)
+    (takes_fails : (a b c : K) (x y : List ℕ) → takes a x b → fails b y c → fails a (x ++ y) c)
+    (task : Task) (d : Disks D) (first last : Turns D L K)
+    (loaded : IsNodeOf view (header_of_settings first.server.config) task.me d first.server.kept)
+    (safely : LoadsSafely view (header_of_settings first.server.config) task.me d (disks_of first.server.kept))
+    (begins : AreHonest view d → machine first ≡ machine_on view first.server.config task d)
+    (recovers : last.server.kept.closed ≡ false → IsHonest view last.server.kept → NodeSurvives view last.server.kept (node_of last.server.kept)) where
+  abbrev c : Settings
+  c = first.server.config
+
+  abbrev h : Header
+  h = header_of_settings c
+
+  abbrev me : ℕ
+  me = task.me
+
+  abbrev at_first_node : Node
+  at_first_node = first_node view h me d
+
+  abbrev m : Machine
+  m = machine_on view c task d
+
+  abbrev e : Disks D
+  e = disks_of last.server.kept
+
+  honest_kept : AreHonest view d → IsHonest view first.server.kept
+  honest_kept honest = all_honest view d (disks_of first.server.kept) safely.goes_on honest
+
+  setting_is : setting first.server ≡ setting_of c me
+  setting_is = ap (λ (x : ℕ). record { me = x; addresses = c.addresses }) loaded.id
+
+  terms_is : reads_by first.server ≡ terms_in c me
+  terms_is =
+      ap (λ (x : ℕ). terms_of x first.server.kept.node.control.nodes c.rules) loaded.id
+      ∙ ap (λ (x : Header). terms_of me x.nodes c.rules) loaded.header
+
+  -- what is said of every crash under its own name is said under that of the files
+  named : (P : Header → ℕ → Type 0) → P (header_of first.server.kept.node.control) first.server.kept.node.control.me → P h me
+  named P p = subst (λ (x : Header). P x me) loaded.header (subst (λ (x : ℕ). P (header_of first.server.kept.node.control) x) loaded.id p)
+
+  -- The server that listens, by its link
+
+  abbrev listening_by : L → Server D L K
+  listening_by link = record first.server { link = link }
+
+  module _ (link : L) (listens : Listens story counts first.server (listening_by link)) where
+    abbrev l : Server D L K
+    l = listening_by link
+
+    adds_listen : AddsAll (acts.Listen (listens_at c.listens me) ∷ []) (story first.server.link) (story link)
+    adds_listen = subst (λ (x : ℕ). AddsAll (acts.Listen (listens_at c.listens x) ∷ []) (story first.server.link) (story link)) loaded.id listens.calls
+
+    heard_is : (all : Option (List Call)) → Follows (story link) all → until (story link) all ≡ heard_before c me (story first.server.link) all
+    heard_is all follows = until_then (acts.Listen (listens_at c.listens me) ∷ []) (story first.server.link) (story link) all adds_listen follows
+
+    heard_on : AreHonest view d → (told : List Told) → Follows (story link) (story last.server.link)
+        → AreHeard (setting first.server) (reads_by first.server) (until (story link) (story last.server.link)) told (measured first.server.kept.node.control.me c.measures (machine first))
+        → AreHeard (setting_of c me) (terms_in c me) (heard_before c me (story first.server.link) (story last.server.link)) told (measured me c.measures m)
+    heard_on honest told follows heard =
+        subst (λ (calls : Option (List Call)). AreHeard (setting_of c me) (terms_in c me) calls told (measured me c.measures m)) (heard_is (story last.server.link) follows)
+        (subst (λ (x : Machine). AreHeard (setting_of c me) (terms_in c me) (until (story link) (story last.server.link)) told (measured me c.measures x)) (begins honest)
+        (subst (λ (x : NodeTerms). AreHeard (setting_of c me) x (until (story link) (story last.server.link)) told (measured me c.measures (machine first))) terms_is
+        (subst (λ (x : ℕ). AreHeard (setting_of c x) (reads_by first.server) (until (story link) (story last.server.link)) told (measured x c.measures (machine first))) loaded.id heard)))
+
+    calls_on : AreHonest view d → (deeds : List Deed) → AddsAll (calls_of (setting l) deeds (running l)) (story link) (story last.server.link)
+        → AddsAll (node_calls c me deeds m) (story first.server.link) (story last.server.link)
+    calls_on honest deeds adds =
+        adds-then (acts.Listen (listens_at c.listens me) ∷ []) (calls_of (setting_of c me) deeds m.running) (story first.server.link) (story link) (story last.server.link) adds_listen
+        (subst (λ (x : Machine). AddsAll (calls_of (setting_of c me) deeds x.running) (story link) (story last.server.link)) (begins honest)
+        (subst (λ (x : Setting). AddsAll (calls_of x deeds (running first.server)) (story link) (story last.server.link)) setting_is adds))
+
+    abbrev Choice : List Told → Told → List Deed → Setting → NodeTerms → ℕ → Machine → Option (List Call) → Type 0
+    Choice told next deeds s terms x y calls =
+        (length deeds < length (node_deeds s c.measures told y) + 3)
+        ⊎ MayHear terms (all_calls_behind s told (measured x c.measures y) calls) (due_at next (node_behind s c.measures told y)) next (node_behind s c.measures told y)
+
+    last_on : AreHonest view d → (told : List Told) (next : Told) (deeds : List Deed) → Follows (story link) (story last.server.link)
+        → (length deeds < length (node_deeds (setting first.server) c.measures told (machine first)) + 3)
+        ⊎ MayHear (reads_by first.server) (all_calls_behind (setting first.server) told (measured first.server.kept.node.control.me c.measures (machine first)) (until (story link) (story last.server.link)))
+        (due_at next (node_behind (setting first.server) c.measures told (machine first))) next (node_behind (setting first.server) c.measures told (machine first))
+        → (length deeds < length (node_deeds (setting_of c me) c.measures told m) + 3)
+        ⊎ MayHear (terms_in c me) (all_calls_behind (setting_of c me) told (measured me c.measures m) (heard_before c me (story first.server.link) (story last.server.link)))
+        (due_at next (node_behind (setting_of c me) c.measures told m)) next (node_behind (setting_of c me) c.measures told m)
+    last_on honest told next deeds follows heard =
+        subst (λ (calls : Option (List Call)). Choice told next deeds (setting_of c me) (terms_in c me) me m calls) (heard_is (story last.server.link) follows)
+        (subst (λ (x : Machine). Choice told next deeds (setting_of c me) (terms_in c me) me x (until (story link) (story last.server.link))) (begins honest)
+        (subst (λ (x : NodeTerms). Choice told next deeds (setting_of c me) x me (machine first) (until (story link) (story last.server.link))) terms_is
+        (subst (λ (x : ℕ). Choice told next deeds (setting_of c x) (reads_by first.server) x (machine first) (until (story link) (story last.server.link))) loaded.id heard)))
+
+    -- All turns
+
+    did_on : (told : List Told) (deeds : List Deed) → length told ≡ task.turns → Did view takes faults story counts deeds l last.server
+        → (IsHonest view first.server.kept → deeds ≡ node_deeds (setting first.server) c.measures told (machine first))
+        → (IsHonest view first.server.kept → AreHeard (setting first.server) (reads_by first.server) (until (story link) (story last.server.link)) told (measured first.server.kept.node.control.me c.measures (machine first)))
+        → DidOn view story counts c task deeds d e first.server.link last.server.link
+    did_on told deeds many did are heard = record {
+      told = told;
+      many = many;
+      are = λ honest. are (honest_kept honest) ∙ ap₂ (λ (x : Setting) (y : Machine). node_deeds x c.measures told y) setting_is (begins honest);
+      heard = λ honest. heard_on honest told (follows_adds (calls_of (setting l) deeds (running l)) (story link) (story last.server.link) (did.done (honest_kept honest)).calls) (heard (honest_kept honest));
+      calls = λ honest. calls_on honest deeds (did.done (honest_kept honest)).calls;
+      counted = subst (λ (x : Counts). CountsAll deeds x (counts last.server.link)) listens.counted did.counted;
+      goes_on = all_go_on_then view d (disks_of first.server.kept) e safely.goes_on did.goes_on;
+      survives = λ honest.
+          subst (λ (n : Node). Survives view h me e (after_inputs n (inputs_of deeds))) (loaded.node honest)
+          (subst (λ (n : Node). Survives view h me e n) (did_node view takes fails faults story counts deeds l last.server did (honest_kept honest))
+          (named (λ x y. Survives view x y e (node_of last.server.kept))
+          (subst (λ (x : Header). Survives view x first.server.kept.node.control.me e (node_of last.server.kept)) did.same.header
+          (subst (λ (y : ℕ). Survives view (header_of last.server.kept.node.control) y e (node_of last.server.kept)) did.same.me
+          (recovers did.is_open (all_honest view (disks_of first.server.kept) e did.goes_on (honest_kept honest)))))));
+    }
+
+    -- An early end
+
+    one_on : (n : Node) (under : Under) → LeavesUnder view first.server.kept last.server.kept n under → LeavesOne view h me e n under
+    one_on n (Taking i) p = named (λ x y. Leaves view x y e (SameAsEither n (step n i).node)) p
+    one_on n Idle p = named (λ x y. Survives view x y e n) p
+    one_on n (Noting line) p = named (λ x y. Survives view x y e n) p
+
+    behind_on : (end : TurnEnd) (n : Node) (under : Under) → LeavesAt view first.server.kept last.server.kept end n under → LeavesBehind view h me e end n under
+    behind_on ends.Disk n under p = one_on n under p
+    behind_on ends.Sink n under p = one_on n under p
+    behind_on ends.Served n under p = one_on n Idle p
+    behind_on ends.Quiet n under p = one_on n Idle p
+    behind_on ends.Link n under p = one_on n Idle p
+    behind_on ends.Full n under p = one_on n Idle p
+    behind_on ends.Memory n under p = one_on n Idle p
+
+    module _ (deeds : List Deed) (under : Under) where
+      -- the node behind the deeds
+      abbrev n : Node
+      n = after_inputs at_first_node (inputs_of deeds)
+
+      -- a file is full for the input under way at a node that nothing changed
+      full_on : (i : Input) → BreaksBehind view takes fails faults story counts ends.Full deeds (Taking i) l last.server
+          → (k : KeptView D) × (disks_of k ≡ e) × IsFullAt k i × (AreHonest view d → node_of k ≡ n)
+      full_on i (at, did, breaks) = (
+        last.server.kept,
+        refl,
+        breaks.cause,
+        λ honest. unchanged at.kept last.server.kept (all_honest view (disks_of first.server.kept) (disks_of at.kept) did.goes_on (honest_kept honest)) breaks.meets.1
+            ∙ did_node view takes fails faults story counts deeds l at did (honest_kept honest)
+            ∙ ap (λ (x : Node). after_inputs x (inputs_of deeds)) (loaded.node honest),
+      ) where
+        unchanged : (a b : KeptView D) → IsHonest view a → ChangesNothing view a b → node_of b ≡ node_of a
+        unchanged a b honest same = ap₂ (λ (x : Control) (y : List (List ℕ)). record { control = x; groups = groups_in y }) same.control (same.content.journal.frames honest.content)
+
+      cause_on : (end : TurnEnd) (u : Under) → BreaksBehind view takes fails faults story counts end deeds u l last.server
+          → HasCause view faults end u first.server.kept last.server.kept first.server.sink last.server.sink (counts link) (counts last.server.link)
+          → HasCauseOn view end u n d e (counts first.server.link) (counts last.server.link)
+      cause_on ends.Disk u breaks cause = one_rose_after view d (disks_of first.server.kept) e safely.goes_on cause
+      cause_on ends.Sink u breaks cause = tt
+      cause_on ends.Link u breaks cause = subst (λ (x : Counts). Rose x.listening (counts last.server.link).listening) listens.counted cause
+      cause_on ends.Full (Taking i) breaks cause = full_on i breaks
+      cause_on ends.Full Idle breaks cause = cause
+      cause_on ends.Full (Noting line) breaks cause = cause
+      cause_on ends.Served u breaks cause = cause
+      cause_on ends.Quiet u breaks cause = cause
+      cause_on ends.Memory u breaks cause = tt
+
+      goes_on_all : (end : TurnEnd) → BreaksBehind view takes fails faults story counts end deeds under l last.server → AllGoOn view d e
+      goes_on_all end (at, did, breaks) =
+          all_go_on_then view d (disks_of first.server.kept) e safely.goes_on
+          (all_go_on_then view (disks_of first.server.kept) (disks_of at.kept) e did.goes_on breaks.goes_on)
+
+      adds_all : (end : TurnEnd) → BreaksBehind view takes fails faults story counts end deeds under l last.server → AreHonest view d
+          → AddsAll (calls_of (setting l) deeds (running l)) (story link) (story last.server.link)
+      adds_all end (at, did, breaks) honest =
+          subst (λ (y : Option (List Call)). AddsAll (calls_of (setting l) deeds (running l)) (story link) y) (sym breaks.told) (did.done (honest_kept honest)).calls
+
+      writes_on : (end : TurnEnd) → BreaksBehind view takes fails faults story counts end deeds under l last.server
+          → Writes (λ text. takes first.server.sink text last.server.sink) (λ text. fails first.server.sink text last.server.sink × Rose (faults first.server.sink) (faults last.server.sink)) me end deeds under
+      writes_on end breaks =
+          by_end end (broken_cause view takes fails faults story counts deeds under end l last.server breaks)
+          (subst (λ (x : ℕ). WritesAt takes fails first.server.sink last.server.sink end (lines x deeds) (under_line x under)) loaded.id
+          (broken_text view takes fails faults story counts takes_then takes_fails deeds under end l last.server breaks)) where
+            by_end : (x : TurnEnd) → HasCause view faults x under first.server.kept last.server.kept first.server.sink last.server.sink (counts link) (counts last.server.link)
+                → WritesAt takes fails first.server.sink last.server.sink x (lines me deeds) (under_line me under)
+                → Writes (λ text. takes first.server.sink text last.server.sink) (λ text. fails first.server.sink text last.server.sink × Rose (faults first.server.sink) (faults last.server.sink)) me x deeds under
+            by_end ends.Sink cause text = (text.0, text.1, (text.2, cause))
+            by_end ends.Served cause text = text
+            by_end ends.Quiet cause text = text
+            by_end ends.Link cause text = text
+            by_end ends.Disk cause text = text
+            by_end ends.Full cause text = text
+            by_end ends.Memory cause text = text
+
+  runs_on : Runs view takes faults story counts task.turns first last
+      → (deeds : List Deed) × takes first.server.sink (lines me deeds) last.server.sink × DidOn view story counts c task deeds d e first.server.link last.server.link
+  runs_on r =
+      let link = r.listening.link in
+      let listens = subst (λ (x : Server D L K). Listens story counts first.server x) r.listens.rest r.listens in
+      let did = subst (λ (x : Server D L K). Did view takes faults story counts r.deeds x last.server) r.listens.rest r.did in (
+        r.deeds,
+        subst (λ (x : ℕ). takes first.server.sink (lines x r.deeds) last.server.sink) loaded.id did.text,
+        did_on link listens r.told r.deeds r.many did r.are r.heard,
+      )
+
+  halts_on : (end : TurnEnd) → Halts view takes fails faults story counts task.turns end first last
+      → Stops (at_run view story counts c task d e first.server.link last.server.link) (λ text. takes first.server.sink text last.server.sink) (λ text. fails first.server.sink text last.server.sink × Rose (faults first.server.sink) (faults last.server.sink)) me end
+  halts_on end r =
+      let link = r.listening.link in
+      let listens = subst (λ (x : Server D L K). Listens story counts first.server x) r.listens.rest r.listens in
+      let breaks = subst (λ (x : Server D L K). BreaksBehind view takes fails faults story counts end r.deeds r.under x last.server) r.listens.rest r.breaks in
+      let l = listening_by link in
+      let follows = λ (honest : AreHonest view d). follows_adds (calls_of (setting l) r.deeds (running l)) (story link) (story last.server.link) (adds_all link listens r.deeds r.under end breaks honest) in (
+        r.deeds,
+        r.under,
+        writes_on link listens r.deeds r.under end breaks,
+        record {
+          told = r.told;
+          last = r.last;
+          few = r.few;
+          cut = λ honest.
+              subst (λ (x : Machine). Cuts (node_deeds (setting_of c me) c.measures r.told x ++ turn_deeds (setting_of c me) r.last (node_behind (setting_of c me) c.measures r.told x)) r.deeds r.under) (begins honest)
+              (subst (λ (x : Setting). Cuts (node_deeds x c.measures r.told (machine first) ++ turn_deeds x r.last (node_behind x c.measures r.told (machine first))) r.deeds r.under) setting_is (r.cut (honest_kept honest)));
+          heard = λ honest. heard_on link listens honest r.told (follows honest) (r.heard (honest_kept honest));
+          last_heard = λ honest. last_on link listens honest r.told r.last r.deeds (follows honest) (r.last_heard (honest_kept honest));
+          calls = λ honest. calls_on link listens honest r.deeds (adds_all link listens r.deeds r.under end breaks honest);
+          goes_on = goes_on_all link listens r.deeds r.under end breaks;
+          leaves = λ honest.
+              subst (λ (x : Node). LeavesBehind view h me e end (after_inputs x (inputs_of r.deeds)) r.under) (loaded.node honest)
+              (behind_on link listens end _ r.under (broken_leaves view takes fails faults story counts r.deeds r.under end l last.server breaks (honest_kept honest)));
+          cause = cause_on link listens r.deeds r.under end r.under breaks (broken_cause view takes fails faults story counts r.deeds r.under end l last.server breaks);
+        },
+      )
+
+  deaf_on : IsDeaf story counts ends.Link first.server last.server → takes first.server.sink [] last.server.sink × WasDeaf view story counts c task d e first.server.link last.server.link
+  deaf_on deaf = (
+    subst (λ (x : Server D L K). takes first.server.sink [] x.sink) (sym deaf.rest) (takes_nothing first.server.sink),
+    record {
+      goes_on = subst (λ (x : Server D L K). AllGoOn view d (disks_of x.kept)) (sym deaf.rest) safely.goes_on;
+      survives = λ honest.
+          subst (λ (n : Node). Survives view h me e n) (loaded.node honest)
+          (subst (λ (x : Server D L K). Survives view h me (disks_of x.kept) (node_of first.server.kept)) (sym deaf.rest) (loaded.survives honest));
+      calls = deaf.calls;
+      counted = deaf.counted;
+    },
+  )
+
+  pub ends_on : (end : TurnEnd) → RunEnds view takes fails faults story counts task.turns end first last
+      → NodeEnds (at_run view story counts c task d e first.server.link last.server.link) (λ text. takes first.server.sink text last.server.sink) (λ text. fails first.server.sink text last.server.sink × Rose (faults first.server.sink) (faults last.server.sink)) me (Turned end)
+  ends_on ends.Served r = runs_on r
+  ends_on ends.Quiet r = absurd r
+  ends_on ends.Link (inl deaf) = inl (deaf_on deaf)
+  ends_on ends.Link (inr r) = inr (halts_on ends.Link r)
+  ends_on ends.Disk r = halts_on ends.Disk r
+  ends_on ends.Full r = halts_on ends.Full r
+  ends_on ends.Sink r = halts_on ends.Sink r
+  ends_on ends.Memory r = halts_on ends.Memory r
+
+-- how it ended, of these files, links and outputs
+abbrev pub EndsAs : {D L K : Type 0} → (D → DiskView) → (K → List ℕ → K → Type 0) → (K → List ℕ → K → Type 0) → (K → ℕ) → (L → Option (List Call)) → (L → Counts) → Settings → Task → Disks D → TurnEnd → Disks D → L → L → K → K → Type 0
+EndsAs view takes fails faults story counts s task d end e l m k j =
+    NodeEnds (at_run view story counts s task d e l m) (λ text. takes k text j) (λ text. fails k text j × Rose (faults k) (faults j)) task.me (Turned end)
+
+-- the same of what it was handed and what came back
+pub told_of : {D L K : Type 0} (view : D → DiskView) (takes fails : K → List ℕ → K → Type 0) (faults : K → ℕ) (story : L → Option (List Call)) (counts : L → Counts)
+    (takes_nothing : (k : K) → takes k [] k) (takes_then : (a b c : K) (x y : List ℕ) → takes a x b → takes b y c → takes a (x ++ y) c)
+    (takes_fails : (a b c : K) (x y : List ℕ) → takes a x b → fails b y c → fails a (x ++ y) c)
+    (s : Settings) (task : Task) (site back : Site D L K) (first last : Turns D L K) → IsLoaded view s task.me task.probes site first
+    → disks_in back.files ≡ disks_of last.server.kept → back.link ≡ last.server.link → back.sink ≡ last.server.sink
+    → (last.server.kept.closed ≡ false → IsHonest view last.server.kept → NodeSurvives view last.server.kept (node_of last.server.kept))
+    → (end : TurnEnd) → RunEnds view takes fails faults story counts task.turns end first last
+    → EndsAs view takes fails faults story counts s task (disks_in site.files) end (disks_in back.files) site.link back.link site.sink back.sink
+told_of {D} {L} {K} view takes fails faults story counts takes_nothing takes_then takes_fails s task site back first last loaded files link sink recovers end ends =
+    let d = disks_in site.files in
+    let e = disks_of last.server.kept in
+    let own = subst (λ (x : Settings). IsLoaded view x task.me task.probes site first) (sym loaded.config) loaded in
+    let told = ends_on view takes fails faults story counts takes_nothing takes_then takes_fails task d first last own.node own.safely (loaded_machine view first.server.config task site first own) recovers end ends in
+    subst (λ (j : K). EndsAs view takes fails faults story counts s task d end (disks_in back.files) site.link back.link site.sink j) (sym sink)
+    (subst (λ (k : K). EndsAs view takes fails faults story counts s task d end (disks_in back.files) site.link back.link k last.server.sink) loaded.sink
+    (subst (λ (m : L). EndsAs view takes fails faults story counts s task d end (disks_in back.files) site.link m first.server.sink last.server.sink) (sym link)
+    (subst (λ (l : L). EndsAs view takes fails faults story counts s task d end (disks_in back.files) l last.server.link first.server.sink last.server.sink) loaded.link
+    (subst (λ (x : Disks D). EndsAs view takes fails faults story counts s task d end x first.server.link last.server.link first.server.sink last.server.sink) (sym files)
+    (subst (λ (c : Settings). EndsAs view takes fails faults story counts c task d end e first.server.link last.server.link first.server.sink last.server.sink) loaded.config told)))))

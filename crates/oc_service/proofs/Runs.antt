@@ -1,0 +1,287 @@
+-- A loaded node that listens, takes what was measured, and turns.
+use Rattle.std.proofs.Common.{◌≡◌, ◌⊎◌, ◌∙◌, ℕ, ◌+◌, ◌<◌, Option, None, Some, List, [], ◌∷◌, ◌++◌, length, inl, inr, refl, sym, ap, ap₂, subst, arith, append_assoc, append-nil, length-append}
+use Rattle.std.specs.Prelude.{◌==◌, if◌then◌else◌, Bool, true, false}
+use Rattle.std.specs.Option.{option_map}
+use Rattle.oc_events.specs.declared.call.Call.{Call}
+use Rattle.oc_events.specs.declared.counts.Counts.{Counts}
+use Rattle.oc_events.specs.declared.event.Event.TheVariants as events
+use Rattle.oc_io.specs.DiskView.{DiskView}
+use Rattle.oc_keep.specs.KeptView.{IsHonest, KeptView, node_of}
+use Rattle.oc_model.specs.declared.input.Input.{Input}
+use Rattle.oc_model.specs.declared.input.Input.TheVariants.{Measured}
+use Rattle.oc_reply.specs.Verdicts.{NodeTerms}
+use Rattle.oc_server.specs.Deeds.{Deed, Running, Setting, Takes, after_all, calls_of}
+use Rattle.oc_server.specs.Parts.{Cuts, Stops}
+use Rattle.oc_server.specs.Runs.{MayRead, ServeEnds, Serves, ServesUpTo, TurnStops, due_in, reads_by}
+use Rattle.oc_server.specs.Scenes.{BreaksBehind, Did, Under, running, setting}
+use Rattle.oc_server.specs.Turns.{Told}
+use Rattle.oc_server.specs.declared.came.Came.TheVariants as comes
+use Rattle.oc_server.specs.declared.ends.TurnEnd.{TurnEnd}
+use Rattle.oc_server.specs.declared.ends.TurnEnd.TheVariants as ends
+use Rattle.oc_server.specs.declared.server.Server.{Server}
+use Rattle.oc_server.specs.declared.turns.Turns.{Turns}
+use Rattle.oc_updown.specs.declared.measure_lines.Measure.{Measure}
+use Rattle.oc_server.proofs.Chains.{calls_append}
+use Rattle.oc_server.proofs.Parts.{cuts_behind, cuts_more}
+use Rattle.oc_server.proofs.Scenes.{breaks_then, did_then, setting_stays, still_honest}
+use Rattle.oc_service.specs.Measuring.{takes_own_measures}
+use Rattle.oc_service.specs.Running.{Halts, IsDeaf, Listens, RunEnds, Runs, machine}
+use Rattle.oc_service.specs.WhatNodeDoes.{Machine, behind_turns, due_at, measured, node_behind, node_deeds, own_measure, own_measures, turn_deeds, turns_deeds}
+use Rattle.oc_service.specs.WhatNodeHears.{AreHeard, MayHear, all_calls_behind, until}
+use Rattle.oc_service.proofs.Machines.{Made, heard_at, machine_of, made, reads_stay}
+use Rattle.oc_service.proofs.Stories.{Follows, follows_adds, follows_self, follows_then, until_then}
+
+-- taking what was measured makes no call
+one_calls : (s : Setting) (i : Input) (a : Running) (b : Bool) → calls_of s (if b then Takes i ∷ [] else []) a ≡ []
+one_calls s i a true = refl
+one_calls s i a false = refl
+
+own_calls : (s : Setting) (me : ℕ) (ms : List Measure) (a : Running) → calls_of s (own_measures me ms) a ≡ []
+own_calls s me [] a = refl
+own_calls s me (x ∷ ms) a =
+    calls_append s (own_measure me x) (own_measures me ms) a
+    ∙ ap₂ (λ (p q : List Call). p ++ q) (one_calls s (Measured x.peer x.rate x.hops) a (x.from == me)) (own_calls s me ms (after_all (own_measure me x) a))
+
+none_more : (cs : List Call) → cs ≡ [] → (calls : Option (List Call)) → option_map (λ (c : List Call). c ++ cs) calls ≡ calls
+none_more cs is None = refl
+none_more cs is (Some p) = ap Some (ap (λ (x : List Call). p ++ x) is ∙ append-nil p)
+
+module _ {D L K : Type 0} (view : D → DiskView) (takes fails : K → List ℕ → K → Type 0) (faults : K → ℕ) (story : L → Option (List Call)) (counts : L → Counts)
+    (takes_nothing : (k : K) → takes k [] k) (takes_then : (a b c : K) (x y : List ℕ) → takes a x b → takes b y c → takes a (x ++ y) c)
+    (most : ℕ) (old : Turns D L K) (listening : Server D L K) (listens : Listens story counts old.server listening) where
+  abbrev me : ℕ
+  me = old.server.kept.node.control.me
+
+  abbrev own : List Deed
+  own = own_measures me old.server.config.measures
+
+  abbrev s : Setting
+  s = setting old.server
+
+  abbrev terms : NodeTerms
+  terms = reads_by old.server
+
+  abbrev m : Machine
+  m = measured me old.server.config.measures (machine old)
+
+  kept_is : listening.kept ≡ old.server.kept
+  kept_is = ap (λ (x : Server D L K). x.kept) listens.rest
+
+  -- the server that listens is the node as it was
+  listening_running : running listening ≡ running old.server
+  listening_running = ap (λ (x : Server D L K). running x) listens.rest
+
+  listening_setting : setting listening ≡ s
+  listening_setting = ap (λ (x : Server D L K). setting x) listens.rest
+
+  listening_terms : reads_by listening ≡ terms
+  listening_terms = ap (λ (x : Server D L K). reads_by x) listens.rest
+
+  honest_listening : IsHonest view old.server.kept → IsHonest view listening.kept
+  honest_listening honest = subst (λ (k : KeptView D). IsHonest view k) (sym kept_is) honest
+
+  module _ (at : Server D L K) (did : Did view takes faults story counts own listening at) where
+    -- the turns begin with this
+    abbrev first : Turns D L K
+    first = record old { server = at }
+
+    honest_at : IsHonest view old.server.kept → IsHonest view at.kept
+    honest_at honest = still_honest view takes fails faults story counts own listening at did (honest_listening honest)
+
+    setting_at : setting at ≡ s
+    setting_at = setting_stays view takes fails faults story counts listening at did.same did.config ∙ listening_setting
+
+    terms_at : reads_by at ≡ terms
+    terms_at = reads_stay listening at did.same did.config ∙ listening_terms
+
+    machine_at : IsHonest view old.server.kept → machine first ≡ m
+    machine_at honest =
+        ap (λ (r : Running). machine_of r old.pace old.probing)
+        ((did.done (honest_listening honest)).after ∙ ap (λ (r : Running). after_all own r) listening_running)
+
+    -- taking what was measured makes no call
+    calls_at : IsHonest view old.server.kept → (all : Option (List Call)) → Follows (story at.link) all → until (story at.link) all ≡ until (story listening.link) all
+    calls_at honest all follows =
+        until_then (calls_of (setting listening) own (running listening)) (story listening.link) (story at.link) all (did.done (honest_listening honest)).calls follows
+        ∙ none_more (calls_of (setting listening) own (running listening)) (own_calls (setting listening) me old.server.config.measures (running listening)) (until (story listening.link) all)
+
+    -- no turn was made, or some
+    module _ (n : ℕ) (last : Turns D L K) (turns : Made view takes fails faults story counts takes_nothing takes_then n first last) where
+      abbrev all_deeds : List Deed
+      all_deeds = own ++ turns.deeds
+
+      did_all : Did view takes faults story counts all_deeds listening last.server
+      did_all = did_then view takes fails faults story counts takes_then own turns.deeds listening at last.server did turns.did
+
+      deeds_are : IsHonest view old.server.kept → all_deeds ≡ node_deeds s old.server.config.measures turns.told (machine old)
+      deeds_are honest =
+          ap (λ (ds : List Deed). own ++ ds)
+          (turns.are (honest_at honest) ∙ ap₂ (λ (x : Setting) (y : Machine). turns_deeds x turns.told y) setting_at (machine_at honest))
+
+      machine_last : IsHonest view old.server.kept → machine last ≡ node_behind s old.server.config.measures turns.told (machine old)
+      machine_last honest = turns.behind (honest_at honest) ∙ ap₂ (λ (x : Setting) (y : Machine). behind_turns x turns.told y) setting_at (machine_at honest)
+
+      -- the story at the beginning of the turns
+      follows_at : IsHonest view old.server.kept → (all : Option (List Call)) → Follows (story last.server.link) all → Follows (story at.link) all
+      follows_at honest all follows =
+          follows_then (story at.link) (story last.server.link) all
+          (follows_adds (calls_of (setting at) turns.deeds (running at)) (story at.link) (story last.server.link) (turns.did.done (honest_at honest)).calls) follows
+
+      heard_all : IsHonest view old.server.kept → (all : Option (List Call)) → Follows (story last.server.link) all → AreHeard s terms (until (story listening.link) all) turns.told m
+      heard_all honest all follows =
+          subst (λ (calls : Option (List Call)). AreHeard s terms calls turns.told m) (calls_at honest all (follows_at honest all follows))
+          (subst (λ (x : Machine). AreHeard s terms (until (story at.link) all) turns.told x) (machine_at honest)
+          (subst (λ (x : NodeTerms). AreHeard s x (until (story at.link) all) turns.told (machine first)) terms_at
+          (subst (λ (x : Setting). AreHeard x (reads_by at) (until (story at.link) all) turns.told (machine first)) setting_at
+          (turns.heard (honest_at honest) all follows))))
+
+      calls_last : IsHonest view old.server.kept → (all : Option (List Call)) → Follows (story last.server.link) all
+          → until (story last.server.link) all ≡ all_calls_behind s turns.told m (until (story listening.link) all)
+      calls_last honest all follows =
+          turns.calls (honest_at honest) all follows
+          ∙ ap₂ (λ (x : Setting) (y : Machine). all_calls_behind x turns.told y (until (story at.link) all)) setting_at (machine_at honest)
+          ∙ ap (λ (calls : Option (List Call)). all_calls_behind s turns.told m calls) (calls_at honest all (follows_at honest all follows))
+
+      runs : n ≡ most → Runs view takes faults story counts most old last
+      runs is = record {
+        listening = listening;
+        listens = listens;
+        told = turns.told;
+        many = turns.many ∙ is;
+        deeds = all_deeds;
+        did = did_all;
+        are = deeds_are;
+        heard = λ honest. heard_all honest (story last.server.link) (follows_self (story last.server.link));
+      }
+
+      -- what a turn that ended partway through was told
+      module _ (end : TurnEnd) (new : Turns D L K) (few : n < most) (turn_stops : TurnStops view takes fails faults story counts end last new) where
+        abbrev last_told : Told
+        last_told = turn_stops.told
+
+        abbrev stop_deeds : List Deed
+        stop_deeds = turn_stops.stops.deeds
+
+        honest_last : IsHonest view old.server.kept → IsHonest view last.server.kept
+        honest_last honest = still_honest view takes fails faults story counts turns.deeds at last.server turns.did (honest_at honest)
+
+        setting_last : setting last.server ≡ s
+        setting_last = setting_stays view takes fails faults story counts at last.server turns.did.same turns.did.config ∙ setting_at
+
+        terms_last : reads_by last.server ≡ terms
+        terms_last = reads_stay at last.server turns.did.same turns.did.config ∙ terms_at
+
+        abbrev behind : Machine
+        behind = node_behind s old.server.config.measures turns.told (machine old)
+
+        abbrev whole : List Deed
+        whole = node_deeds s old.server.config.measures turns.told (machine old)
+
+        cut_all : IsHonest view old.server.kept → Cuts (whole ++ turn_deeds s last_told behind) (all_deeds ++ stop_deeds) turn_stops.stops.under
+        cut_all honest =
+            subst (λ (ds : List Deed). Cuts (whole ++ turn_deeds s last_told behind) (ds ++ stop_deeds) turn_stops.stops.under) (sym (deeds_are honest))
+            (cuts_behind whole (turn_deeds s last_told behind) stop_deeds turn_stops.stops.under
+            (subst (λ (x : Machine). Cuts (turn_deeds s last_told x) stop_deeds turn_stops.stops.under) (machine_last honest)
+            (subst (λ (x : Setting). Cuts (turn_deeds x last_told (machine last)) stop_deeds turn_stops.stops.under) setting_last
+            (turn_stops.stops.cut (honest_last honest)))))
+
+        -- the story is told until then where it is told now
+        follows_last : IsHonest view old.server.kept → Follows (story last.server.link) (story new.server.link)
+        follows_last honest = follows_broken turn_stops.stops.breaks where
+          follows_broken : BreaksBehind view takes fails faults story counts end stop_deeds turn_stops.stops.under last.server new.server → Follows (story last.server.link) (story new.server.link)
+          follows_broken (x, did, breaks) =
+              subst (λ (y : Option (List Call)). Follows (story last.server.link) y) (sym breaks.told)
+              (follows_adds (calls_of (setting last.server) stop_deeds (running last.server)) (story last.server.link) (story x.link) (did.done (honest_last honest)).calls)
+
+        last_heard : IsHonest view old.server.kept
+            → (length (all_deeds ++ stop_deeds) < length whole + 3) ⊎ MayHear terms (all_calls_behind s turns.told m (until (story listening.link) (story new.server.link))) (due_at last_told behind) last_told behind
+        last_heard honest = by_read (turn_stops.read (honest_last honest)) where
+          heard_now : (due : Option ℕ) → MayRead story due last new.server last_told → MayHear (reads_by last.server) (until (story last.server.link) (story new.server.link)) due last_told (machine last)
+          heard_now due read = heard_at view takes fails faults story counts takes_nothing takes_then due last new.server last_told (story new.server.link) (follows_self (story new.server.link)) read
+
+          by_read : (length stop_deeds < 3) ⊎ MayRead story (due_in last.server last_told.before) last new.server last_told
+              → (length (all_deeds ++ stop_deeds) < length whole + 3) ⊎ MayHear terms (all_calls_behind s turns.told m (until (story listening.link) (story new.server.link))) (due_at last_told behind) last_told behind
+          by_read (inl short) = inl (omega (arith, length-append all_deeds stop_deeds, ap length (deeds_are honest), short))
+          by_read (inr read) = inr
+              (subst (λ (calls : Option (List Call)). MayHear terms calls (due_at last_told behind) last_told behind) (calls_last honest (story new.server.link) (follows_last honest))
+              (subst (λ (x : Machine). MayHear terms (until (story last.server.link) (story new.server.link)) (due_at last_told x) last_told x) (machine_last honest)
+              (subst (λ (x : NodeTerms). MayHear x (until (story last.server.link) (story new.server.link)) (due_at last_told (machine last)) last_told (machine last)) terms_last
+              (heard_now (due_in last.server last_told.before) read))))
+
+        halts : Halts view takes fails faults story counts most end old new
+        halts = record {
+          listening = listening;
+          listens = listens;
+          told = turns.told;
+          last = last_told;
+          few = omega (arith, few, turns.many);
+          deeds = all_deeds ++ stop_deeds;
+          under = turn_stops.stops.under;
+          breaks = breaks_then view takes fails faults story counts takes_then all_deeds stop_deeds turn_stops.stops.under end listening last.server new.server did_all turn_stops.stops.breaks;
+          cut = cut_all;
+          heard = λ honest. heard_all honest (story new.server.link) (follows_last honest);
+          last_heard = last_heard;
+        }
+
+    halts_of : (end : TurnEnd) (new : Turns D L K) → ServesUpTo view takes fails faults story counts most end first new → Halts view takes fails faults story counts most end old new
+    halts_of end new up = halts up.done up.at (made view takes fails faults story counts takes_nothing takes_then up.done first up.at did.is_open up.serves) end new up.few up.stops
+
+    -- how the turns ended
+    pub serve_ends : (end : TurnEnd) (new : Turns D L K) → ServeEnds view takes fails faults story counts most end first new → RunEnds view takes fails faults story counts most end old new
+    serve_ends ends.Served new h = runs most new (made view takes fails faults story counts takes_nothing takes_then most first new did.is_open h) refl
+    serve_ends ends.Quiet new h = absurd h
+    serve_ends ends.Link new h = inr (halts_of ends.Link new h)
+    serve_ends ends.Disk new h = halts_of ends.Disk new h
+    serve_ends ends.Full new h = halts_of ends.Full new h
+    serve_ends ends.Sink new h = halts_of ends.Sink new h
+    serve_ends ends.Memory new h = halts_of ends.Memory new h
+
+  -- It ended before its first turn
+
+  -- that turn would be told something
+  abbrev no_told : Told
+  no_told = record { before = 0; event = events.Quiet; bytes = []; came = comes.Nothing; now = 0; median = 0; started = 0; seconds = 0 }
+
+  module _ (end : TurnEnd) (new : Turns D L K) (stops : Stops view takes fails faults story counts end (takes_own_measures old.server.config.measures) listening new.server) where
+    front : IsHonest view old.server.kept → Cuts own stops.deeds stops.under
+    front honest =
+        subst (λ (x : ℕ). Cuts (own_measures x old.server.config.measures) stops.deeds stops.under) (ap (λ (x : Setting). x.me) listening_setting) (stops.cut (honest_listening honest))
+
+    early : Halts view takes fails faults story counts most end old new
+    early = record {
+      listening = listening;
+      listens = listens;
+      told = [];
+      last = no_told;
+      few = omega arith;
+      deeds = stops.deeds;
+      under = stops.under;
+      breaks = stops.breaks;
+      cut = λ honest.
+          cuts_more (own ++ []) (turn_deeds s no_told (node_behind s old.server.config.measures [] (machine old))) stops.deeds stops.under
+          (cuts_more own [] stops.deeds stops.under (front honest));
+      heard = λ honest. tt;
+      last_heard = λ honest. inl (omega (arith, ap length (front honest).front, length-append stops.deeds (front honest).behind, length-append own []));
+    }
+
+  pub early_ends : (end : TurnEnd) (new : Turns D L K) → Stops view takes fails faults story counts end (takes_own_measures old.server.config.measures) listening new.server
+      → RunEnds view takes fails faults story counts most end old new
+  early_ends ends.Served new stops = absurd stops.breaks.2.cause
+  early_ends ends.Quiet new stops = absurd stops.breaks.2.cause
+  early_ends ends.Link new stops = inr (early ends.Link new stops)
+  early_ends ends.Disk new stops = early ends.Disk new stops
+  early_ends ends.Full new stops = early ends.Full new stops
+  early_ends ends.Sink new stops = early ends.Sink new stops
+  early_ends ends.Memory new stops = early ends.Memory new stops
+
+  -- and told of the measures of the server that listens
+
+  pub served_ends : (at : Server D L K) → Did view takes faults story counts (own_measures listening.kept.node.control.me listening.config.measures) listening at
+      → (end : TurnEnd) (new : Turns D L K) → ServeEnds view takes fails faults story counts most end (record old { server = at }) new → RunEnds view takes fails faults story counts most end old new
+  served_ends at did =
+      serve_ends at (subst (λ (ds : List Deed). Did view takes faults story counts ds listening at) (ap (λ (x : Server D L K). own_measures x.kept.node.control.me x.config.measures) listens.rest) did)
+
+  pub halted_ends : (end : TurnEnd) (new : Turns D L K) → Stops view takes fails faults story counts end (takes_own_measures listening.config.measures) listening new.server
+      → RunEnds view takes fails faults story counts most end old new
+  halted_ends end new stops =
+      early_ends end new (subst (λ (ms : List Measure). Stops view takes fails faults story counts end (takes_own_measures ms) listening new.server) (ap (λ (x : Server D L K). x.config.measures) listens.rest) stops)

@@ -1,0 +1,48 @@
+-- A node that was loaded from its files, or not.
+use Rattle.std.specs.Prelude.{◌≡◌, ◌≤◌, ℕ, Bool, Option, IfSome, List, [], length}
+use Rattle.std.specs.List.{AllByRecursion}
+use Rattle.oc_base.specs.declared.limits.TheConstants.{MAX_AREA}
+use Rattle.oc_config.specs.Settings.{Settings}
+use Rattle.oc_io.specs.DiskView.{DiskView}
+use Rattle.oc_keep.specs.Files.{disks_in}
+use Rattle.oc_keep.specs.KeptView.{disks_of}
+use Rattle.oc_keep.specs.Promises.{IsNodeOf, LoadsSafely, RefusesNode}
+use Rattle.oc_keep.specs.declared.errors.KeepLoad.{KeepLoad}
+use Rattle.oc_keep.specs.declared.errors.KeepLoad.TheVariants as loads
+use Rattle.oc_keep.specs.Files.{AreReliable}
+use Rattle.oc_model.specs.declared.message.Message.{Message}
+use Rattle.oc_probe.specs.declared.probing.Probing.{Probing}
+use Rattle.oc_server.specs.Lawful.{IsMadeFor, IsReady}
+use Rattle.oc_server.specs.Pace.{first_pace}
+use Rattle.oc_server.specs.declared.turns.Turns.{Turns}
+use Rattle.oc_service.specs.OnSite.{header_of_settings, probing_at_first}
+use Rattle.oc_service.specs.declared.site.Site.{Site}
+
+-- what a node keeps besides its files: the areas, nothing to be sent, and what it probes by
+pub record IsEquipped (c : Settings) (probes : Bool) (me : ℕ) (areas : List ℕ) (outbox : List Message) (probing : Option Probing) : Type 0 where
+  pub same : areas ≡ c.areas
+  pub bytes : AllByRecursion (λ a. a ≤ MAX_AREA) areas
+  pub empty : outbox ≡ []
+  pub first : probing ≡ probing_at_first probes me (length c.addresses)
+  pub made : IfSome probing (IsMadeFor (length c.addresses))
+
+-- It is the node that the files recover, ready to turn, with nothing to send and nothing under way.
+pub record IsLoaded {D L K : Type 0} (view : D → DiskView) (c : Settings) (me : ℕ) (probes : Bool) (site : Site D L K) (turns : Turns D L K) : Type 0 where
+  pub ready : IsReady turns
+  pub node : IsNodeOf view (header_of_settings c) me (disks_in site.files) turns.server.kept
+  pub safely : LoadsSafely view (header_of_settings c) me (disks_in site.files) (disks_of turns.server.kept)
+  pub outbox : turns.server.outbox ≡ []
+  pub works : turns.server.works ≡ []
+  pub dials : turns.server.dials ≡ []
+  pub pace : turns.pace ≡ first_pace
+  pub probing : turns.probing ≡ probing_at_first probes me (length c.addresses)
+  pub config : turns.server.config ≡ c
+  pub link : turns.server.link ≡ site.link
+  pub sink : turns.server.sink ≡ site.sink
+
+-- It was not loaded, for this cause, and what it was to run on came back.
+pub record IsUnloaded {D L K : Type 0} (view : D → DiskView) (c : Settings) (me : ℕ) (site back : Site D L K) (error : KeepLoad) : Type 0 where
+  pub refuses : RefusesNode view (length c.addresses) (disks_in site.files) (disks_in back.files) error
+  pub safely : LoadsSafely view (header_of_settings c) me (disks_in site.files) (disks_in back.files)
+  pub link : back.link ≡ site.link
+  pub sink : back.sink ≡ site.sink

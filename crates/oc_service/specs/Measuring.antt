@@ -1,0 +1,15 @@
+-- What was measured, as a part of what a node does.
+use Rattle.std.specs.Prelude.{List}
+use Rattle.oc_model.specs.declared.input.Input.{Input}
+use Rattle.oc_model.specs.declared.input.Input.TheVariants.{Measured}
+use Rattle.oc_server.specs.Parts.{Part}
+use Rattle.oc_service.specs.WhatNodeDoes.{own_measures}
+use Rattle.oc_updown.specs.declared.measure_lines.Measure.{Measure}
+
+-- the input that a measure is
+abbrev pub input_of : Measure → Input
+input_of m = Measured m.peer m.rate m.hops
+
+-- each of these is taken, if it is the node's own
+abbrev pub takes_own_measures : List Measure → Part
+takes_own_measures ms s a = own_measures s.me ms

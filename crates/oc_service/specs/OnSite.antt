@@ -1,0 +1,185 @@
+-- What the run of a node does to its three files, its link and its output.
+use Rattle.std.specs.Prelude.{◌≡◌, ◌⊎◌, ℕ, ◌+◌, ◌<◌, Bool, true, false, Option, Some, None, List, [], ◌∷◌, ◌++◌, length, replicate}
+use Rattle.std.specs.Option.{option_map}
+use Rattle.oc_config.specs.Settings.{Settings}
+use Rattle.oc_events.specs.Counts.{CountsFailure}
+use Rattle.oc_events.specs.Told.{AddsAll}
+use Rattle.oc_events.specs.declared.call.Call.{Call}
+use Rattle.oc_events.specs.declared.call.Call.TheVariants as acts
+use Rattle.oc_events.specs.declared.counts.Counts.{Counts}
+use Rattle.oc_io.specs.DiskView.{DiskView}
+use Rattle.oc_io.specs.Faults.{Rose}
+use Rattle.oc_keep.specs.Files.{Disks, AllGoOn, AreHonest, Leaves, OneRose, SameAsEither, Survives}
+use Rattle.oc_keep.specs.KeptView.{IsFullAt, KeptView, disks_of, header, node_of}
+use Rattle.oc_keep.specs.Promises.{LoadsSafely, RefusesNode}
+use Rattle.oc_keep.specs.Trials.{after_inputs, first_node}
+use Rattle.oc_keep.specs.declared.errors.KeepLoad.{KeepLoad}
+use Rattle.oc_keep.specs.declared.errors.KeepLoad.TheVariants as loads
+use Rattle.oc_model.specs.declared.input.Input.{Input}
+use Rattle.oc_model.specs.Node.{Header, Node}
+use Rattle.oc_model.specs.Step.{step}
+use Rattle.oc_probe.specs.Turns.{others}
+use Rattle.oc_probe.specs.declared.probing.Probing.{Probing}
+use Rattle.oc_reply.specs.Verdicts.{NodeTerms, terms_of}
+use Rattle.oc_server.specs.Deeds.{Deed, Setting, calls_of, inputs_of, lines}
+use Rattle.oc_server.specs.Parts.{Cuts}
+use Rattle.oc_server.specs.Scenes.{CountsAll, IsFront, Idle, Noting, Taking, Under, under_line}
+use Rattle.oc_server.specs.Turns.{Told}
+use Rattle.oc_server.specs.declared.ends.TurnEnd.{TurnEnd}
+use Rattle.oc_server.specs.declared.ends.TurnEnd.TheVariants as ends
+use Rattle.oc_service.specs.Running.{listens_at}
+use Rattle.oc_service.specs.WhatNodeDoes.{Machine, at_first, due_at, measured, node_behind, node_deeds, turn_deeds}
+use Rattle.oc_service.specs.WhatNodeHears.{AreHeard, MayHear, all_calls_behind, until}
+use Rattle.oc_service.specs.declared.running.NodeEnd.{NodeEnd}
+use Rattle.oc_service.specs.declared.running.NodeEnd.TheVariants.{Load, Turned}
+use Rattle.oc_service.specs.declared.running.Task.{Task}
+
+-- A node of a configuration
+
+-- among which nodes it is
+abbrev pub header_of_settings : Settings → Header
+header_of_settings c = header (length c.addresses) c.chain c.chunk c.areas
+
+-- which node it is, and the addresses of all
+abbrev pub setting_of : Settings → ℕ → Setting
+setting_of c me = record { me = me; addresses = c.addresses }
+
+-- by what it reads requests
+abbrev pub terms_in : Settings → ℕ → NodeTerms
+terms_in c me = terms_of me (length c.addresses) c.rules
+
+-- by what it probes at first: no rate of any peer, and all other nodes in turn
+abbrev pub probing_of : ℕ → ℕ → Probing
+probing_of me nodes = record { gauge = replicate nodes []; rotation = record { me = me; nodes = nodes; coming = others me nodes } }
+
+abbrev pub probing_at_first : Bool → ℕ → ℕ → Option Probing
+probing_at_first true me nodes = Some (probing_of me nodes)
+probing_at_first false me nodes = None
+
+-- the node that its files recover, as the machine of what a node does
+abbrev pub machine_on : {D : Type 0} → (D → DiskView) → Settings → Task → Disks D → Machine
+machine_on view c task d = at_first (probing_at_first task.probes task.me (length c.addresses)) (first_node view (header_of_settings c) task.me d)
+
+-- Its link
+
+-- it waits where the node listens, and then each deed makes its calls
+abbrev pub node_calls : Settings → ℕ → List Deed → Machine → List Call
+node_calls c me ds m = acts.Listen (listens_at c.listens me) ∷ calls_of (setting_of c me) ds m.running
+
+-- the calls before its first turn, if the link tells them to the end
+abbrev pub heard_before : Settings → ℕ → Option (List Call) → Option (List Call) → Option (List Call)
+heard_before c me old new = option_map (λ (cs : List Call). cs ++ acts.Listen (listens_at c.listens me) ∷ []) (until old new)
+
+-- All turns
+
+-- The deeds are those of what a node does, in this many turns, by what its link told. Each made its calls, and every crash leaves the node
+-- that took their inputs.
+pub record DidOn {D L : Type 0} (view : D → DiskView) (story : L → Option (List Call)) (counts : L → Counts) (c : Settings) (task : Task) (deeds : List Deed) (old new : Disks D) (link after : L) : Type 0 where
+  pub told : List Told
+  pub many : length told ≡ task.turns
+  pub are : AreHonest view old → deeds ≡ node_deeds (setting_of c task.me) c.measures told (machine_on view c task old)
+  pub heard : AreHonest view old
+      → AreHeard (setting_of c task.me) (terms_in c task.me) (heard_before c task.me (story link) (story after)) told (measured task.me c.measures (machine_on view c task old))
+  pub calls : AreHonest view old → AddsAll (node_calls c task.me deeds (machine_on view c task old)) (story link) (story after)
+  pub counted : CountsAll deeds (counts link) (counts after)
+  pub goes_on : AllGoOn view old new
+  pub survives : AreHonest view old → Survives view (header_of_settings c) task.me new (after_inputs (first_node view (header_of_settings c) task.me old) (inputs_of deeds))
+
+-- An early end
+
+-- what every crash leaves where it ended so with this under way: where a disk or the output failed, perhaps with one more input
+abbrev pub LeavesOne : {D : Type 0} → (D → DiskView) → Header → ℕ → Disks D → Node → Under → Type 0
+LeavesOne view h me d n (Taking i) = Leaves view h me d (SameAsEither n (step n i).node)
+LeavesOne view h me d n under = Survives view h me d n
+
+abbrev pub LeavesBehind : {D : Type 0} → (D → DiskView) → Header → ℕ → Disks D → TurnEnd → Node → Under → Type 0
+LeavesBehind view h me d ends.Disk n under = LeavesOne view h me d n under
+LeavesBehind view h me d ends.Sink n under = LeavesOne view h me d n under
+LeavesBehind view h me d end n under = LeavesOne view h me d n Idle
+
+-- the file of this input would pass its limit, at the node n as it is kept on these disks
+abbrev pub IsFullFor : {D : Type 0} → (D → DiskView) → Input → Node → Disks D → Disks D → Type 0
+IsFullFor {D} view i n old new = (k : KeptView D) × (disks_of k ≡ new) × IsFullAt k i × (AreHonest view old → node_of k ≡ n)
+
+-- why it ended, where its output is not to blame: a file is full for the input that is under way, and for nothing else
+abbrev pub HasCauseOn : {D : Type 0} → (D → DiskView) → TurnEnd → Under → Node → Disks D → Disks D → Counts → Counts → Type 0
+HasCauseOn view ends.Disk under n old new before behind = OneRose view old new
+HasCauseOn view ends.Link under n old new before behind = Rose before.listening behind.listening
+HasCauseOn view ends.Full (Taking i) n old new before behind = IsFullFor view i n old new
+HasCauseOn view ends.Full under n old new before behind = ⊥
+HasCauseOn view ends.Served under n old new before behind = ⊥
+HasCauseOn view ends.Quiet under n old new before behind = ⊥
+HasCauseOn view end under n old new before behind = Unit {0}
+
+-- It ended so behind these deeds, a front of what a node does: behind whole turns, in the midst of one that is told `last`, or before the
+-- first. What came in that one was read, where more was done in it than to ask the link.
+pub record StoppedOn {D L : Type 0} (view : D → DiskView) (story : L → Option (List Call)) (counts : L → Counts) (c : Settings) (task : Task) (end : TurnEnd) (deeds : List Deed) (under : Under) (old new : Disks D) (link after : L) : Type 0 where
+  pub told : List Told
+  pub last : Told
+  pub few : length told < task.turns + 1
+  pub cut : AreHonest view old
+      → Cuts (node_deeds (setting_of c task.me) c.measures told (machine_on view c task old) ++ turn_deeds (setting_of c task.me) last (node_behind (setting_of c task.me) c.measures told (machine_on view c task old))) deeds under
+  pub heard : AreHonest view old
+      → AreHeard (setting_of c task.me) (terms_in c task.me) (heard_before c task.me (story link) (story after)) told (measured task.me c.measures (machine_on view c task old))
+  pub last_heard : AreHonest view old
+      → (length deeds < length (node_deeds (setting_of c task.me) c.measures told (machine_on view c task old)) + 3)
+      ⊎ MayHear (terms_in c task.me)
+      (all_calls_behind (setting_of c task.me) told (measured task.me c.measures (machine_on view c task old)) (heard_before c task.me (story link) (story after)))
+      (due_at last (node_behind (setting_of c task.me) c.measures told (machine_on view c task old))) last (node_behind (setting_of c task.me) c.measures told (machine_on view c task old))
+  pub calls : AreHonest view old → AddsAll (node_calls c task.me deeds (machine_on view c task old)) (story link) (story after)
+  pub goes_on : AllGoOn view old new
+  pub leaves : AreHonest view old → LeavesBehind view (header_of_settings c) task.me new end (after_inputs (first_node view (header_of_settings c) task.me old) (inputs_of deeds)) under
+  pub cause : HasCauseOn view end under (after_inputs (first_node view (header_of_settings c) task.me old) (inputs_of deeds)) old new (counts link) (counts after)
+
+-- its link could not wait where the node listens: nothing was done
+pub record WasDeaf {D L : Type 0} (view : D → DiskView) (story : L → Option (List Call)) (counts : L → Counts) (c : Settings) (task : Task) (old new : Disks D) (link after : L) : Type 0 where
+  pub goes_on : AllGoOn view old new
+  pub survives : AreHonest view old → Survives view (header_of_settings c) task.me new (first_node view (header_of_settings c) task.me old)
+  pub calls : story after ≡ story link
+  pub counted : CountsFailure (counts link) (counts after)
+
+-- All ends
+
+-- the lines of these deeds were written; where the output is to blame, some prefix of the one under way behind them, and then it failed
+abbrev pub Writes : (List ℕ → Type 0) → (List ℕ → Type 0) → ℕ → TurnEnd → List Deed → Under → Type 0
+Writes written cut_off me ends.Sink deeds under = (front : List ℕ) × IsFront front (under_line me under) × cut_off (lines me deeds ++ front)
+Writes written cut_off me end deeds under = written (lines me deeds)
+
+-- what can be said of the files and the link of a run
+pub record OnRun : Type 1 where
+  -- the node was not loaded, for this cause, and nothing was done
+  pub refused : KeepLoad → Type 0
+  -- all its turns were made, by these deeds
+  pub did : List Deed → Type 0
+  -- it ended so behind these deeds, with this under way
+  pub stopped : TurnEnd → List Deed → Under → Type 0
+  -- its link could not wait where it listens
+  pub deaf : Type 0
+
+abbrev pub at_run : {D L : Type 0} → (D → DiskView) → (L → Option (List Call)) → (L → Counts) → Settings → Task → Disks D → Disks D → L → L → OnRun
+at_run view story counts c task old new link after = record {
+  refused = λ error. RefusesNode view (length c.addresses) old new error × LoadsSafely view (header_of_settings c) task.me old new × (after ≡ link);
+  did = λ deeds. DidOn view story counts c task deeds old new link after;
+  stopped = λ end deeds under. StoppedOn view story counts c task end deeds under old new link after;
+  deaf = WasDeaf view story counts c task old new link after;
+}
+
+module _ (run : OnRun) (written cut_off : List ℕ → Type 0) (me : ℕ) where
+  abbrev pub Stops : TurnEnd → Type 0
+  Stops end = (deeds : List Deed) × (under : Under) × Writes written cut_off me end deeds under × run.stopped end deeds under
+
+  -- How the run of the node `me` ended: it was not loaded, or made all its turns, or ended before.
+  abbrev pub NodeEnds : NodeEnd → Type 0
+  NodeEnds (Load error) = run.refused error × written []
+  NodeEnds (Turned ends.Served) = (deeds : List Deed) × written (lines me deeds) × run.did deeds
+  NodeEnds (Turned ends.Quiet) = ⊥
+  NodeEnds (Turned ends.Link) = (written [] × run.deaf) ⊎ Stops ends.Link
+  NodeEnds (Turned end) = Stops end
+
+-- all turns were made, or memory ran out, or a file was full
+abbrev pub EndsUnfailed : NodeEnd → Type 0
+EndsUnfailed (Load error) = error ≡ loads.Memory
+EndsUnfailed (Turned ends.Served) = Unit {0}
+EndsUnfailed (Turned ends.Full) = Unit {0}
+EndsUnfailed (Turned ends.Memory) = Unit {0}
+EndsUnfailed (Turned end) = ⊥

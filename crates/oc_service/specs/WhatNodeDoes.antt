@@ -1,0 +1,64 @@
+-- What a node does, on one page: a machine whose steps are turns, by what the link and the clock tell in each. What a turn does is said by
+-- `turn` of oc_server, and what a deed makes of the node, writes and calls by its `after`, `line` and `calls`.
+use Rattle.std.specs.Prelude.{ℕ, ◌==◌, if◌then◌else◌, Option, List, [], ◌∷◌, ◌++◌}
+use Rattle.oc_base.specs.Groups.{shelf}
+use Rattle.oc_model.specs.declared.input.Input.TheVariants.{Measured}
+use Rattle.oc_model.specs.Node.{Node}
+use Rattle.oc_probe.specs.declared.probing.Probing.{Probing}
+use Rattle.oc_server.specs.Choices.{due_place}
+use Rattle.oc_server.specs.Deeds.{Deed, Running, Setting, Takes, after_all}
+use Rattle.oc_server.specs.Pace.{first_pace}
+use Rattle.oc_server.specs.Turns.{Told, pace_behind, probing_behind, turn}
+use Rattle.oc_server.specs.declared.pace.Pace.{Pace}
+use Rattle.oc_updown.specs.declared.measure_lines.Measure.{Measure}
+
+-- a node between two turns
+pub record Machine : Type 0 where
+  pub running : Running
+  pub pace : Pace
+  pub probing : Option Probing
+
+-- at first: nothing to send, nothing under way, and no tick yet
+abbrev pub at_first : Option Probing → Node → Machine
+at_first probing n = record { running = record { node = n; outbox = []; works = []; dials = [] }; pace = first_pace; probing = probing }
+
+-- each measure that is its own is taken as an input
+abbrev pub own_measure : ℕ → Measure → List Deed
+own_measure me m = if m.from == me then Takes (Measured m.peer m.rate m.hops) ∷ [] else []
+
+abbrev pub own_measures : ℕ → List Measure → List Deed
+own_measures me [] = []
+own_measures me (m ∷ ms) = own_measure me m ++ own_measures me ms
+
+abbrev pub measured : ℕ → List Measure → Machine → Machine
+measured me ms m = record m { running = after_all (own_measures me ms) m.running }
+
+-- the deeds of a turn by what it is told, and the node behind it
+abbrev pub turn_deeds : Setting → Told → Machine → List Deed
+turn_deeds s t m = turn m.pace m.probing t s m.running
+
+abbrev pub due_at : Told → Machine → Option ℕ
+due_at t m = due_place m.running.works (shelf m.running.node.groups) t.before
+
+abbrev pub behind_turn : Setting → Told → Machine → Machine
+behind_turn s t m = record {
+  running = after_all (turn_deeds s t m) m.running;
+  pace = pace_behind (due_at t m) m.pace t m.running.node;
+  probing = probing_behind (due_at t m) t m.running.dials m.probing;
+}
+
+-- turn after turn
+abbrev pub turns_deeds : Setting → List Told → Machine → List Deed
+turns_deeds s [] m = []
+turns_deeds s (t ∷ ts) m = turn_deeds s t m ++ turns_deeds s ts (behind_turn s t m)
+
+abbrev pub behind_turns : Setting → List Told → Machine → Machine
+behind_turns s [] m = m
+behind_turns s (t ∷ ts) m = behind_turns s ts (behind_turn s t m)
+
+-- All that a node does: it takes what was measured, and turns.
+abbrev pub node_deeds : Setting → List Measure → List Told → Machine → List Deed
+node_deeds s ms ts m = own_measures s.me ms ++ turns_deeds s ts (measured s.me ms m)
+
+abbrev pub node_behind : Setting → List Measure → List Told → Machine → Machine
+node_behind s ms ts m = behind_turns s ts (measured s.me ms m)

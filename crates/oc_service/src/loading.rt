@@ -1,0 +1,117 @@
+//! A node that is loaded, with nothing to send and nothing under way.
+
+ghost use Rattle.std.specs.Prelude.{◌≡◌, ◌≤◌, [], IfErr, IfOk, IfSome, length};
+ghost use Rattle.std.specs.List.{AllByRecursion};
+ghost use Rattle.oc_base.specs.Lawful.{IsNode};
+ghost use Rattle.oc_base.specs.declared.limits.TheConstants.{MAX_AREA, MAX_NODES};
+ghost use Rattle.oc_config.specs.Reading.{IsConfig};
+ghost use Rattle.oc_keep.specs.Files.{disks_in};
+ghost use Rattle.oc_keep.specs.Promises.{LoadsSafely, RefusesNode};
+ghost use Rattle.oc_server.specs.Lawful.{IsMadeFor};
+ghost use Rattle.oc_service.specs.Loading.{IsEquipped, IsLoaded, IsUnloaded};
+ghost use Rattle.oc_service.specs.OnSite.{header_of_settings, probing_at_first};
+
+use crate::probing::first_probing;
+use crate::site::Site;
+use oc_base::{Memory, NodeId};
+use oc_config::Config;
+use oc_events::Link;
+use oc_http::HeadReader;
+use oc_io::{Disk, Sink};
+use oc_keep::{KeepLoad, Kept, Seat};
+use oc_probe::Probing;
+use oc_server::{Dials, Outbox, Pace, Server, Turns, Works};
+use std::alloc::Global;
+
+/// What a running node keeps besides its files. Its memory is taken before they are read.
+#[derive(Drop)]
+struct Equipment {
+    areas: Vec<u8>,
+    outbox: Outbox,
+    heads: HeadReader,
+    probing: Option<Probing>,
+}
+
+/// Loads the node `me` of a configuration. Where it is not loaded, what it runs on comes back.
+pub(crate) fn load<D: Disk, L: Link, K: Sink>(
+    alloc: Global,
+    config: Config,
+    me: NodeId,
+    probes: bool,
+    site: Site<D, L, K>,
+) -> Result<Turns<D, L, K>, (Site<D, L, K>, KeepLoad)>
+    requires config { IsConfig config }
+    requires me { IsNode (length config.addresses) me }
+    ensures loaded { IfOk result (IsLoaded D.view config me probes site) }
+    ensures unloaded { IfErr result (λ refused. IsUnloaded D.view config me site refused.0 refused.1) }
+{
+    let Equipment {
+        areas,
+        outbox,
+        heads,
+        probing,
+    } = match equip(alloc, &config, me, probes) {
+        Ok(equipment) => equipment,
+        Err(Memory) => return Err((site, KeepLoad::Memory)),
+    };
+    let Site { files, link, sink } = site;
+    let seat = Seat {
+        id: me,
+        nodes: nodes_of(&config),
+        chain: config.chain,
+        chunk: config.chunk(),
+        areas,
+    };
+    match Kept::load(alloc, files, seat) {
+        Ok(kept) => Ok(Turns {
+            server: Server {
+                alloc,
+                kept,
+                outbox,
+                works: Works::new(alloc),
+                dials: Dials::new(alloc),
+                config,
+                link,
+                sink,
+                heads,
+            },
+            pace: Pace::new(),
+            probing,
+        }),
+        Err((files, error)) => Err((Site { files, link, sink }, error)),
+    }
+}
+
+/// What the node keeps besides its files: the areas of all, nothing to be sent, and what it probes by.
+fn equip(alloc: Global, config: &Config, me: NodeId, probes: bool) -> Result<Equipment, Memory>
+    requires config { IsConfig config.now }
+    requires me { IsNode (length config.now.addresses) me }
+    ensures { IfOk result (λ equipment. IsEquipped config.now probes me equipment.areas.items equipment.outbox equipment.probing) }
+{
+    Ok(Equipment {
+        areas: copy_areas(alloc, &config.areas)?,
+        outbox: Outbox::new(alloc)?,
+        heads: HeadReader::new(alloc)?,
+        probing: first_probing(alloc, me, nodes_of(config), probes)?,
+    })
+}
+
+/// How many nodes a configuration has.
+fn nodes_of(config: &Config) -> u32
+    requires { length config.now.addresses ≤ MAX_NODES }
+    ensures { result ≡ length config.now.addresses }
+{
+    config.addresses.len() as u32
+}
+
+/// The areas of the nodes, one by one: each that is read is within its range.
+fn copy_areas(alloc: Global, areas: &[u8]) -> Result<Vec<u8>, Memory>
+    ensures same { IfOk result (λ copy. copy.items ≡ areas.now) }
+    ensures bytes { IfOk result (λ copy. AllByRecursion (λ a. a ≤ MAX_AREA) copy.items) }
+{
+    let mut copy = Vec::with_capacity(alloc, areas.len())?;
+    for area in areas {
+        copy.push(*area)?;
+    }
+    Ok(copy)
+}

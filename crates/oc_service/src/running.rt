@@ -1,0 +1,184 @@
+//! A node from its files to the end of its turns.
+
+ghost use Rattle.std.specs.Prelude.{◌≡◌, ◌≤◌, ◌⊎◌, All, IfErr, OnOk, false, length, slice_get, Some, ◌-◌};
+ghost use Rattle.oc_base.specs.Lawful.{IsNode};
+ghost use Rattle.oc_config.specs.Reading.{IsConfig};
+ghost use Rattle.oc_io.specs.Faults.{NoFall, Rose};
+ghost use Rattle.oc_keep.specs.Files.{AreHonest, OneRose, disks_in};
+ghost use Rattle.oc_keep.specs.KeptView.{IsHonest, NodeSurvives, disks_of, node_of};
+ghost use Rattle.oc_keep.specs.Promises.{HoldFiles};
+ghost use Rattle.oc_server.specs.Lawful.{IsReady};
+ghost use Rattle.oc_server.specs.Scenes.{IsServing};
+ghost use Rattle.oc_service.specs.OnSite.{EndsUnfailed, NodeEnds, at_run};
+ghost use Rattle.oc_service.specs.Running.{IsDeaf, Listens, RunEnds};
+ghost use Rattle.oc_updown.specs.MeasureLines.{IsMeasure};
+
+use crate::loading::load;
+use crate::measuring::take_measures;
+use crate::site::Site;
+use oc_base::NodeId;
+use oc_config::Config;
+use oc_events::Link;
+use oc_io::{Disk, Sink};
+use oc_keep::{Files, KeepLoad};
+use oc_server::{Server, TurnEnd, Turns};
+use std::alloc::Global;
+
+/// What a node is asked to do.
+#[derive(Clone, Copy)]
+pub struct Task {
+    /// The node.
+    pub me: NodeId,
+    /// How many turns it makes.
+    pub turns: u64,
+    /// Whether it probes its peers.
+    pub probes: bool,
+}
+
+/// How the run of a node ended.
+#[derive(Clone, Copy, Debug, PartialEq, Eq)]
+pub enum NodeEnd {
+    /// The node was not loaded from its files.
+    Load(KeepLoad),
+    /// It was loaded, and its turns ended so: `Served` where all were made.
+    Turned(TurnEnd),
+}
+
+/// How the run of a node ended, and what it ran on.
+#[derive(Drop)]
+pub struct Ran<D: Disk, L: Link, K: Sink> {
+    pub end: NodeEnd,
+    pub site: Site<D, L, K>,
+}
+
+/// Runs a node of a configuration: loads it from its files, waits where it listens, takes what was measured before, and
+/// makes its turns.
+pub fn run_node<D: Disk, L: Link, K: Sink>(
+    alloc: Global,
+    config: Config,
+    task: Task,
+    site: Site<D, L, K>,
+) -> Ran<D, L, K>
+    requires config { IsConfig config }
+    requires me { IsNode (length config.addresses) task.me }
+
+    // What it did: with all its turns made, exactly what a node does in so many. Where it ended before: a front of
+    // that, and why. Where it was not loaded: which file is to blame. And what every crash leaves.
+    ensures ends { NodeEnds
+        (at_run D.view L.story L.counts config task (disks_in site.files) (disks_in result.site.files) site.link result.site.link)
+        (λ text. K.takes site.sink text result.site.sink)
+        (λ text. K.fails site.sink text result.site.sink × Rose (K.faults site.sink) (K.faults result.site.sink))
+        task.me result.end }
+
+    // Over the files of a node on honest disks, where neither a disk nor the output fails, nor the link in being asked,
+    // all turns are made, unless there is no memory or a file is full.
+    ensures unfailed { AreHonest D.view (disks_in site.files)
+        → HoldFiles D.view (length config.addresses) (disks_in site.files)
+        → (OneRose D.view (disks_in site.files) (disks_in result.site.files) → ⊥)
+        → (Rose (L.counts site.link).listening (L.counts result.site.link).listening → ⊥)
+        → (Rose (K.faults site.sink) (K.faults result.site.sink) → ⊥)
+        → EndsUnfailed result.end }
+
+    // Where all turns are made the output's count of faults does not fall.
+    ensures count { result.end ≡ NodeEnd.Turned TurnEnd.Served → NoFall (K.faults site.sink) (K.faults result.site.sink) }
+{
+    match load(alloc, config, task.me, task.probes, site) {
+        Ok(mut turns) => {
+            let end = run(&mut turns, task.turns);
+            Ran {
+                end: NodeEnd::Turned(end),
+                site: leave(turns),
+            }
+        }
+        Err((site, error)) => Ran {
+            end: NodeEnd::Load(error),
+            site,
+        },
+    }
+}
+
+/// Begins, and makes this many turns.
+fn run<D: Disk, L: Link, K: Sink>(turns: &mut Turns<D, L, K>, most: u64) -> TurnEnd
+    requires ready { IsReady turns.old }
+    requires listens { length turns.old.server.config.listens ≡ turns.old.server.kept.node.control.nodes }
+    requires measures { All (IsMeasure turns.old.server.kept.node.control.nodes) turns.old.server.config.measures }
+    ensures { RunEnds D.view K.takes K.fails K.faults L.story L.counts most result turns.old turns.new }
+{
+    match listen(&mut turns.server) {
+        Ok(()) => {}
+        Err(end) => return end,
+    }
+    match take_measures(&mut turns.server) {
+        Ok(()) => turns.serve(Some(most)),
+        Err(end) => end,
+    }
+}
+
+/// Has the link wait where the node listens, which others may know by another address.
+fn listen<D: Disk, L: Link, K: Sink>(server: &mut Server<D, L, K>) -> Result<(), TurnEnd>
+    requires { length server.old.config.listens ≡ server.old.kept.node.control.nodes }
+    ensures listens { OnOk result (Listens L.story L.counts server.old server.new) }
+    ensures deaf { IfErr result (λ end. IsDeaf L.story L.counts end server.old server.new) }
+{
+    server.kept.recovers();
+    let me = server.kept.node().id();
+    let address = listen_of(&server.config, me);
+    match server.link.listen(address) {
+        Ok(()) => Ok(()),
+        Err(_) => Err(TurnEnd::Link),
+    }
+}
+
+/// Where a node listens: its `listen` in the configuration, or its address where it has none.
+fn listen_of(config: &Config, node: NodeId) -> &str
+    requires first { 1 ≤ node }
+    requires last { node ≤ length config.now.listens }
+    ensures { Some result.now ≡ slice_get config.now.listens (node - 1) }
+{
+    config.listens[node.index()].as_str()
+}
+
+/// What a node ran on.
+fn leave<D: Disk, L: Link, K: Sink>(turns: Turns<D, L, K>) -> Site<D, L, K>
+    ensures files { disks_in result.files ≡ disks_of turns.server.kept }
+    ensures link { result.link ≡ turns.server.link }
+    ensures sink { result.sink ≡ turns.server.sink }
+
+    // While no disk failed, every crash leaves the node.
+    ensures survives { turns.server.kept.closed ≡ false → IsHonest D.view turns.server.kept
+        → NodeSurvives D.view turns.server.kept (node_of turns.server.kept) }
+{
+    turns.server.kept.recovers();
+    let Turns {
+        server,
+        pace: _,
+        probing,
+    } = turns;
+    drop(probing);
+    let Server {
+        alloc: _,
+        kept,
+        outbox,
+        works,
+        dials,
+        config,
+        link,
+        sink,
+        heads,
+    } = server;
+    drop(outbox);
+    drop(works);
+    drop(dials);
+    drop(config);
+    drop(heads);
+    let (control, alternate, content) = kept.into_disks();
+    Site {
+        files: Files {
+            control,
+            alternate,
+            content,
+        },
+        link,
+        sink,
+    }
+}

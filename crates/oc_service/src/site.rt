@@ -1,0 +1,11 @@
+use oc_events::Link;
+use oc_io::{Disk, Sink};
+use oc_keep::Files;
+
+/// What a node runs on: its files, its link, and the output of its lines.
+#[derive(Drop)]
+pub struct Site<D: Disk, L: Link, K: Sink> {
+    pub files: Files<D>,
+    pub link: L,
+    pub sink: K,
+}

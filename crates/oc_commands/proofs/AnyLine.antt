@@ -1,5 +1,5 @@
 -- The line that `toml` tells of a text that it refuses makes no difference to a status.
-use Rattle.std.proofs.Common.{◌≡◌, ℕ, List, Result, refl, sym, ap, ◌∙◌}
+use Rattle.std.proofs.Common.{◌≡◌, ℕ, List, Result, ap}
 use Rattle.oc_config.specs.Reading.{settings_of}
 use Rattle.oc_config.specs.Settings.{Settings}
 use Rattle.oc_config.specs.declared.fault.ConfigFault.{ConfigFault}

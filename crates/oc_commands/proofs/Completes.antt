@@ -19,7 +19,7 @@ use Rattle.oc_check.specs.declared.network.Network.{Network}
 use Rattle.oc_commands.specs.AtCheck.{HappenedAtCheck, network_of}
 use Rattle.oc_commands.specs.Complete.{IsDoneOrMemory, IsServed, once}
 use Rattle.oc_commands.specs.Ends.{status_of, status_of_check, status_of_get, status_of_load}
-use Rattle.oc_commands.specs.Outside.{Input, OnClock, OnFiles, OnLink, OnNode, OnStage, Output, at_files, at_link}
+use Rattle.oc_commands.specs.Outside.{Input, OnFiles, OnLink, OnNode, OnStage, Output, at_files, at_link}
 use Rattle.oc_commands.specs.Run.{Happened}
 use Rattle.oc_words.specs.Status.{number_of}
 use Rattle.oc_commands.specs.declared.checking.CheckEnd.{CheckEnd}
@@ -45,24 +45,24 @@ module _ {D : Type 0} (view : D → DiskView) (old new : Disks D) (output : Outp
   check_done n id (checks.Load error) files h =
       inr (ap (λ e. number_of (status_of_load e)) (only_memory view n.nodes old new honest files unfailed error h.0.0))
 
-  pub checked : (input : Input) (stage : OnStage) (link : OnLink) (clock : OnClock) (node : OnNode) (asked : Option Request) (m : Member) (f : Option (List ℕ)) (end : End) → asked ≡ Some (Check m f) → HoldFiles view m.nodes old
-      → Happened (record { asked = asked; input = input; output = output; stage = stage; files = at_files view old new; link = link; clock = clock; node = node }) end
+  pub checked : (input : Input) (stage : OnStage) (link : OnLink) (node : OnNode) (asked : Option Request) (m : Member) (f : Option (List ℕ)) (end : End) → asked ≡ Some (Check m f) → HoldFiles view m.nodes old
+      → Happened (record { asked = asked; input = input; output = output; stage = stage; files = at_files view old new; link = link; node = node }) end
       → IsDoneOrMemory (number_of (status_of end))
-  checked input stage link clock node asked m f Helped is files h = let also = h.0 in cc
-  checked input stage link clock node asked m f HelpFailed is files h = let also = h.0 in cc
-  checked input stage link clock node asked m f Versioned is files h = let also = h.0 in cc
-  checked input stage link clock node asked m f VersionFailed is files h = let also = h.0 in cc
-  checked input stage link clock node asked m f Misused is files h = let also = h.0 in cc
-  checked input stage link clock node asked m f NoMemory is files h = inr refl
-  checked input stage link clock node asked m f (Replayed end) is files h = let also = h.0.2 in cc
-  checked input stage link clock node asked m f (Generated end) is files h = let also = h.0.1 in cc
-  checked input stage link clock node asked m f (Listed end) is files h = let also = h.0.1 in cc
-  checked input stage link clock node asked m f (Checked end) is files h =
+  checked input stage link node asked m f Helped is files h = let also = h.0 in cc
+  checked input stage link node asked m f HelpFailed is files h = let also = h.0 in cc
+  checked input stage link node asked m f Versioned is files h = let also = h.0 in cc
+  checked input stage link node asked m f VersionFailed is files h = let also = h.0 in cc
+  checked input stage link node asked m f Misused is files h = let also = h.0 in cc
+  checked input stage link node asked m f NoMemory is files h = inr refl
+  checked input stage link node asked m f (Replayed end) is files h = let also = h.0.2 in cc
+  checked input stage link node asked m f (Generated end) is files h = let also = h.0.1 in cc
+  checked input stage link node asked m f (Listed end) is files h = let also = h.0.1 in cc
+  checked input stage link node asked m f (Checked end) is files h =
       let (n, g, also, at) = h.0 in
       check_done (network_of m) m.id end files (subst (λ (x : Member). HappenedAtCheck (at_files view old new) output (network_of x) x.id end) (same_member asked m n f g is also) at)
-  checked input stage link clock node asked m f (CheckedConfigured end) is files h = let also = h.0.2 in cc
-  checked input stage link clock node asked m f (Got end) is files h = let also = h.0.1 in cc
-  checked input stage link clock node asked m f (Served end) is files h = let also = h.0.2 in cc
+  checked input stage link node asked m f (CheckedConfigured end) is files h = let also = h.0.2 in cc
+  checked input stage link node asked m f (Got end) is files h = let also = h.0.1 in cc
+  checked input stage link node asked m f (Served end) is files h = let also = h.0.2 in cc
 
 module _ {L : Type 0} (story : L → Option Story) (faults : L → LinkFaults) (old new : L) (output : Output) (sound : IsSound output) (unfailed : Rose (faults old).dialling (faults new).dialling → ⊥) where
   unrefused : (address : List ℕ) (end : GetEnd) → IsServed address (story old) (story new) → HappenedAtGet (at_link story faults old new) output (once address) end → IsUnrefused end
@@ -80,22 +80,22 @@ module _ {L : Type 0} (story : L → Option Story) (faults : L → LinkFaults) (
   get_done address gets.Sink u h = absurd (sound _ h.wrote)
   get_done address gets.Memory u h = inr refl
 
-  pub fetched : (input : Input) (stage : OnStage) (files : OnFiles) (clock : OnClock) (node : OnNode) (asked : Option Request) (address : List ℕ) (end : End) → asked ≡ Some (Get (once address)) → IsServed address (story old) (story new)
-      → Happened (record { asked = asked; input = input; output = output; stage = stage; files = files; link = at_link story faults old new; clock = clock; node = node }) end
+  pub fetched : (input : Input) (stage : OnStage) (files : OnFiles) (node : OnNode) (asked : Option Request) (address : List ℕ) (end : End) → asked ≡ Some (Get (once address)) → IsServed address (story old) (story new)
+      → Happened (record { asked = asked; input = input; output = output; stage = stage; files = files; link = at_link story faults old new; node = node }) end
       → IsDoneOrMemory (number_of (status_of end))
-  fetched input stage files clock node asked address Helped is s h = let also = h.0 in cc
-  fetched input stage files clock node asked address HelpFailed is s h = let also = h.0 in cc
-  fetched input stage files clock node asked address Versioned is s h = let also = h.0 in cc
-  fetched input stage files clock node asked address VersionFailed is s h = let also = h.0 in cc
-  fetched input stage files clock node asked address Misused is s h = let also = h.0 in cc
-  fetched input stage files clock node asked address NoMemory is s h = inr refl
-  fetched input stage files clock node asked address (Replayed end) is s h = let also = h.0.2 in cc
-  fetched input stage files clock node asked address (Generated end) is s h = let also = h.0.1 in cc
-  fetched input stage files clock node asked address (Listed end) is s h = let also = h.0.1 in cc
-  fetched input stage files clock node asked address (Checked end) is s h = let also = h.0.2 in cc
-  fetched input stage files clock node asked address (CheckedConfigured end) is s h = let also = h.0.2 in cc
-  fetched input stage files clock node asked address (Got end) is s h =
+  fetched input stage files node asked address Helped is s h = let also = h.0 in cc
+  fetched input stage files node asked address HelpFailed is s h = let also = h.0 in cc
+  fetched input stage files node asked address Versioned is s h = let also = h.0 in cc
+  fetched input stage files node asked address VersionFailed is s h = let also = h.0 in cc
+  fetched input stage files node asked address Misused is s h = let also = h.0 in cc
+  fetched input stage files node asked address NoMemory is s h = inr refl
+  fetched input stage files node asked address (Replayed end) is s h = let also = h.0.2 in cc
+  fetched input stage files node asked address (Generated end) is s h = let also = h.0.1 in cc
+  fetched input stage files node asked address (Listed end) is s h = let also = h.0.1 in cc
+  fetched input stage files node asked address (Checked end) is s h = let also = h.0.2 in cc
+  fetched input stage files node asked address (CheckedConfigured end) is s h = let also = h.0.2 in cc
+  fetched input stage files node asked address (Got end) is s h =
       let (d, also, at) = h.0 in
       let same = subst (λ x. HappenedAtGet (at_link story faults old new) output x end) (same_download asked (once address) d is also) at in
       get_done address end (unrefused address end s same) same
-  fetched input stage files clock node asked address (Served end) is s h = let also = h.0.2 in cc
+  fetched input stage files node asked address (Served end) is s h = let also = h.0.2 in cc

@@ -6,7 +6,6 @@ mod Replayed
 pub mod Completes
 pub mod Configured
 mod Gotten
-mod Noded
 mod AnyLine
 pub mod Works
 pub mod Serves

@@ -5,21 +5,23 @@ use Rattle.oc_config.specs.Reading.{settings_of}
 use Rattle.oc_config.specs.Settings.{Settings}
 use Rattle.oc_config.specs.declared.fault.ConfigFault.{ConfigFault}
 use Rattle.oc_config.specs.declared.fault.ConfigFault.TheVariants as faults
+use Rattle.oc_events.specs.declared.call.Call.{Call}
+use Rattle.oc_events.specs.declared.counts.Counts.{Counts}
 use Rattle.oc_io.specs.DiskView.{DiskView}
 use Rattle.oc_io.specs.Faults.{Rose}
 use Rattle.oc_keep.specs.Files.{Disks, AreHonest, OneRose}
 use Rattle.oc_keep.specs.declared.errors.KeepLoad.TheVariants as loads
-use Rattle.oc_service.specs.declared.starting.NodeEnd.{NodeEnd}
-use Rattle.oc_service.specs.declared.starting.NodeEnd.TheVariants as nodes
-use Rattle.oc_turn.specs.Deeds as deeds
-use Rattle.oc_turn.specs.declared.ends.TurnEnd.TheVariants as turns
+use Rattle.oc_service.specs.OnSite.{NodeEnds, at_run}
+use Rattle.oc_service.specs.declared.running.NodeEnd.{NodeEnd}
+use Rattle.oc_service.specs.declared.running.NodeEnd.TheVariants as nodes
+use Rattle.oc_server.specs.declared.ends.TurnEnd.TheVariants as turns
 use Rattle.oc_words.specs.declared.request.Paths.{Paths}
 use Rattle.oc_words.specs.declared.request.Request.{Request}
 use Rattle.oc_words.specs.declared.request.Request.TheVariants.{Node}
 use Rattle.oc_words.specs.declared.request.Service.{Service}
-use Rattle.oc_commands.specs.AtNode.{HappenedAtNode, HasNode, HasServiceStatus, IsStatusOf, IsStatusOver, RunsNode}
+use Rattle.oc_commands.specs.AtNode.{HappenedAtNode, HasNode, HasServiceStatus, IsStatusOf, IsStatusOver, task_of}
 use Rattle.oc_commands.specs.Ends.{status_of, status_of_run, status_of_service}
-use Rattle.oc_commands.specs.Outside.{OnClock, OnLink, OnStage, Output, at_files, at_node, at_source}
+use Rattle.oc_commands.specs.Outside.{OnLink, OnStage, Output, at_files, at_node, at_source}
 use Rattle.oc_commands.specs.Run.{Happened}
 use Rattle.oc_words.specs.Status.{number_of}
 use Rattle.oc_commands.specs.declared.configuring.ConfigEnd.TheVariants as configs
@@ -34,29 +36,30 @@ use Rattle.oc_commands.proofs.Completes.{IsSound}
 same_service : (asked : Option Request) (v w : Service) (p q : Paths) → asked ≡ Some (Node v p) → asked ≡ Some (Node w q) → w ≡ v
 same_service asked v w p q is also = cc
 
-module _ {S D : Type 0} (gives fails : S → List ℕ → S → Type 0) (ended : S → Type 0) (faulty : S → ℕ) (old new : S) (view : D → DiskView) (d e : Disks D) (before out : deeds.Outside) (output : Output)
-    (honest : AreHonest view d) (unfailed : OneRose view d e → ⊥) (waiting : Rose before.faults.listening out.faults.listening → ⊥) (sourced : Rose (faulty old) (faulty new) → ⊥) (sound : IsSound output) where
+module _ {S D N : Type 0} (gives fails : S → List ℕ → S → Type 0) (ended : S → Type 0) (faulty : S → ℕ) (old new : S) (view : D → DiskView) (d e : Disks D) (story : N → Option (List Call)) (counts : N → Counts) (link after : N) (output : Output)
+    (honest : AreHonest view d) (unfailed : OneRose view d e → ⊥) (waiting : Rose (counts link).listening (counts after).listening → ⊥) (sourced : Rose (faulty old) (faulty new) → ⊥) (sound : IsSound output) where
   -- a status, or that of want of memory
   abbrev OrMemory : (ℕ → Type 0) → ℕ → Type 0
   OrMemory P status = P status ⊎ (status ≡ 4)
 
   -- over the files of a node
-  run_has : (s : Settings) (v : Service) (end : NodeEnd) → HasNode s v → RunsNode (at_files view d e) (at_node view d e before out) output s v end
+  run_has : (s : Settings) (v : Service) (end : NodeEnd) → HasNode s v → NodeEnds (at_run view story counts s (task_of v) d e link after) output.written output.cut_off v.id end
       → OrMemory (IsStatusOver view d s v) (number_of (status_of_run end))
   run_has s v (nodes.Load loads.Memory) node h = inr refl
   run_has s v (nodes.Load loads.Disk) node h =
-      inl (inr (node, λ files. let is : loads.Disk ≡ loads.Memory = only_memory view (length s.addresses) d e honest files unfailed loads.Disk h.0 in absurd cc))
+      inl (inr (node, λ files. let is : loads.Disk ≡ loads.Memory = only_memory view (length s.addresses) d e honest files unfailed loads.Disk h.0.0 in absurd cc))
   run_has s v (nodes.Load (loads.NotJournal which)) node h =
-      inl (inr (node, λ files. let is : loads.NotJournal which ≡ loads.Memory = only_memory view (length s.addresses) d e honest files unfailed (loads.NotJournal which) h.0 in absurd cc))
+      inl (inr (node, λ files. let is : loads.NotJournal which ≡ loads.Memory = only_memory view (length s.addresses) d e honest files unfailed (loads.NotJournal which) h.0.0 in absurd cc))
   run_has s v (nodes.Load (loads.BadFrame which i)) node h =
-      inl (inr (node, λ files. let is : loads.BadFrame which i ≡ loads.Memory = only_memory view (length s.addresses) d e honest files unfailed (loads.BadFrame which i) h.0 in absurd cc))
+      inl (inr (node, λ files. let is : loads.BadFrame which i ≡ loads.Memory = only_memory view (length s.addresses) d e honest files unfailed (loads.BadFrame which i) h.0.0 in absurd cc))
   run_has s v (nodes.Turned turns.Served) node h = inl (inr (node, λ files. inl refl))
-  run_has s v (nodes.Turned turns.Quiet) node h = let (ds, under, wrote, stops) = h in absurd stops.cause
-  run_has s v (nodes.Turned turns.Link) node h = let (ds, under, wrote, stops) = h in absurd (waiting stops.cause)
-  run_has s v (nodes.Turned turns.Disk) node h = let (ds, under, wrote, stops) = h in absurd (unfailed stops.cause)
+  run_has s v (nodes.Turned turns.Quiet) node h = absurd h
+  run_has s v (nodes.Turned turns.Link) node (inl h) = absurd (waiting h.1.counted.listening)
+  run_has s v (nodes.Turned turns.Link) node (inr h) = absurd (waiting h.3.cause)
+  run_has s v (nodes.Turned turns.Disk) node h = absurd (unfailed h.3.cause)
   run_has s v (nodes.Turned turns.Full) node h = inl (inr (node, λ files. inr refl))
   run_has s v (nodes.Turned turns.Memory) node h = inr refl
-  run_has s v (nodes.Turned turns.Sink) node h = let (ds, under, wrote, stops) = h in absurd (sound _ wrote.2)
+  run_has s v (nodes.Turned turns.Sink) node h = absurd (sound _ h.2.2)
 
   -- by what all bytes of the input say
   told : (v : Service) (said : Result Settings ConfigFault) (status : ℕ) (bytes : List ℕ) → gives old bytes new → ended new → (line : ℕ) → settings_of line bytes ≡ said → OrMemory (IsStatusOf view d v said) status
@@ -64,7 +67,7 @@ module _ {S D : Type 0} (gives fails : S → List ℕ → S → Type 0) (ended :
   told v said status bytes came whole line is (inl has) = inl (record { bytes = bytes; came = came; status_is = inl (whole, status_over view d v line bytes status (subst (λ r. IsStatusOf view d v r status) (sym is) has)) })
   told v said status bytes came whole line is (inr memory) = inr memory
 
-  service_has : (v : Service) (end : ServiceEnd) → HappenedAtNode (at_source gives fails ended faulty old new) (at_files view d e) (at_node view d e before out) output v end
+  service_has : (v : Service) (end : ServiceEnd) → HappenedAtNode (at_source gives fails ended faulty old new) (at_node view story counts d e link after) output v end
       → OrMemory (HasServiceStatus gives ended view d v old new) (number_of (status_of_service end))
   service_has v (services.Config configs.Source) h = absurd (sourced h.0.1)
   service_has v (services.Config configs.Long) h = let (bytes, came, long) = h.0 in inl (record { bytes = bytes; came = came; status_is = inr (long, refl) })
@@ -81,21 +84,21 @@ module _ {S D : Type 0} (gives fails : S → List ℕ → S → Type 0) (ended :
       let (bytes, whole, is) = read in
       told v (Ok s) (number_of (status_of_run end)) bytes whole.0 whole.1 is.line is.gives (run_has s v end rest.0 rest.1)
 
-  pub served : (stage : OnStage) (link : OnLink) (clock : OnClock) (asked : Option Request) (v : Service) (p : Paths) (end : End) → asked ≡ Some (Node v p)
-      → Happened (record { asked = asked; input = at_source gives fails ended faulty old new; output = output; stage = stage; files = at_files view d e; link = link; clock = clock; node = at_node view d e before out }) end
+  pub served : (stage : OnStage) (dialler : OnLink) (asked : Option Request) (v : Service) (p : Paths) (end : End) → asked ≡ Some (Node v p)
+      → Happened (record { asked = asked; input = at_source gives fails ended faulty old new; output = output; stage = stage; files = at_files view d e; link = dialler; node = at_node view story counts d e link after }) end
       → HasServiceStatus gives ended view d v old new (number_of (status_of end)) ⊎ (number_of (status_of end) ≡ 4)
-  served stage link clock asked v p Helped is h = let also = h.0 in cc
-  served stage link clock asked v p HelpFailed is h = let also = h.0 in cc
-  served stage link clock asked v p Versioned is h = let also = h.0 in cc
-  served stage link clock asked v p VersionFailed is h = let also = h.0 in cc
-  served stage link clock asked v p Misused is h = let also = h.0 in cc
-  served stage link clock asked v p NoMemory is h = inr refl
-  served stage link clock asked v p (Replayed end) is h = let also = h.0.2 in cc
-  served stage link clock asked v p (Generated end) is h = let also = h.0.1 in cc
-  served stage link clock asked v p (Listed end) is h = let also = h.0.1 in cc
-  served stage link clock asked v p (Checked end) is h = let also = h.0.2 in cc
-  served stage link clock asked v p (CheckedConfigured end) is h = let also = h.0.2 in cc
-  served stage link clock asked v p (Got end) is h = let also = h.0.1 in cc
-  served stage link clock asked v p (Served end) is h =
+  served stage dialler asked v p Helped is h = let also = h.0 in cc
+  served stage dialler asked v p HelpFailed is h = let also = h.0 in cc
+  served stage dialler asked v p Versioned is h = let also = h.0 in cc
+  served stage dialler asked v p VersionFailed is h = let also = h.0 in cc
+  served stage dialler asked v p Misused is h = let also = h.0 in cc
+  served stage dialler asked v p NoMemory is h = inr refl
+  served stage dialler asked v p (Replayed end) is h = let also = h.0.2 in cc
+  served stage dialler asked v p (Generated end) is h = let also = h.0.1 in cc
+  served stage dialler asked v p (Listed end) is h = let also = h.0.1 in cc
+  served stage dialler asked v p (Checked end) is h = let also = h.0.2 in cc
+  served stage dialler asked v p (CheckedConfigured end) is h = let also = h.0.2 in cc
+  served stage dialler asked v p (Got end) is h = let also = h.0.1 in cc
+  served stage dialler asked v p (Served end) is h =
       let (w, q, also, at) = h.0 in
-      service_has v end (subst (λ x. HappenedAtNode (at_source gives fails ended faulty old new) (at_files view d e) (at_node view d e before out) output x end) (same_service asked v w p q is also) at)
+      service_has v end (subst (λ x. HappenedAtNode (at_source gives fails ended faulty old new) (at_node view story counts d e link after) output x end) (same_service asked v w p q is also) at)

@@ -23,9 +23,9 @@ use Rattle.oc_commands.specs.declared.listing.RulesEnd.{RulesEnd}
 use Rattle.oc_commands.specs.declared.listing.RulesEnd.TheVariants as lists
 use Rattle.oc_commands.specs.declared.serving.ServiceEnd.{ServiceEnd}
 use Rattle.oc_commands.specs.declared.serving.ServiceEnd.TheVariants as services
-use Rattle.oc_service.specs.declared.starting.NodeEnd.TheVariants as nodes
-use Rattle.oc_turn.specs.declared.ends.TurnEnd.{TurnEnd}
-use Rattle.oc_turn.specs.declared.ends.TurnEnd.TheVariants as turns
+use Rattle.oc_service.specs.declared.running.NodeEnd.TheVariants as nodes
+use Rattle.oc_server.specs.declared.ends.TurnEnd.{TurnEnd}
+use Rattle.oc_server.specs.declared.ends.TurnEnd.TheVariants as turns
 
 -- no replay ends with status 2
 replay_is_other : (end : ReplayEnd) → number_of (status_of_replay end) ≡ 2 → ⊥

@@ -19,11 +19,11 @@ use Rattle.oc_commands.specs.AtConfig.{ReadsConfig}
 use Rattle.oc_commands.specs.AtConfigured.{HappenedAtConfigured}
 use Rattle.oc_commands.specs.AtGen.{HappenedAtGen}
 use Rattle.oc_commands.specs.AtGet.{HappenedAtGet, Wrote}
-use Rattle.oc_commands.specs.AtNode.{HappenedAtNode, RunsNode}
+use Rattle.oc_commands.specs.AtNode.{HappenedAtNode, task_of}
 use Rattle.oc_commands.specs.AtReplay.{HappenedAtReplay}
 use Rattle.oc_commands.specs.AtRules.{HappenedAtRules}
 use Rattle.oc_commands.specs.Lines.{version_line}
-use Rattle.oc_commands.specs.Outside.{Input, Output, OnClock, OnFiles, OnLink, OnNode, OnStage, Outside}
+use Rattle.oc_commands.specs.Outside.{Input, Output, OnFiles, OnLink, OnNode, OnStage, Outside}
 use Rattle.oc_commands.specs.Run.{Happened, IsAlone, IsUnplayed}
 use Rattle.oc_commands.specs.declared.checking.CheckEnd.{CheckEnd}
 use Rattle.oc_commands.specs.declared.checking.CheckEnd.TheVariants as checks
@@ -39,9 +39,11 @@ use Rattle.oc_commands.specs.declared.listing.RulesEnd.{RulesEnd}
 use Rattle.oc_commands.specs.declared.listing.RulesEnd.TheVariants as lists
 use Rattle.oc_commands.specs.declared.serving.ServiceEnd.{ServiceEnd}
 use Rattle.oc_commands.specs.declared.serving.ServiceEnd.TheVariants as services
-use Rattle.oc_service.specs.declared.starting.NodeEnd.{NodeEnd}
-use Rattle.oc_service.specs.declared.starting.NodeEnd.TheVariants as nodes
-use Rattle.oc_turn.specs.declared.ends.TurnEnd.TheVariants as turns
+use Rattle.oc_service.specs.OnSite.{NodeEnds, OnRun, Stops}
+use Rattle.oc_service.specs.declared.running.NodeEnd.{NodeEnd}
+use Rattle.oc_service.specs.declared.running.NodeEnd.TheVariants as nodes
+use Rattle.oc_server.specs.declared.ends.TurnEnd.{TurnEnd}
+use Rattle.oc_server.specs.declared.ends.TurnEnd.TheVariants as turns
 
 -- all that the first says of an input the second says too
 pub record TellsInput (i j : Input) : Type 0 where
@@ -131,33 +133,43 @@ module _ (i j : Input) (o p : Output) (stage : OnStage) (input : TellsInput i j)
   }
 
   -- at the end of `node`
-  run_told : (files : OnFiles) (node : OnNode) (s : Settings) (v : Service) (end : NodeEnd) → RunsNode files node o s v end → RunsNode files node p s v end
-  run_told files node s v (nodes.Load error) h = let (refused, safely, written, idle) = h in (refused, safely, output.written _ written, idle)
-  run_told files node s v (nodes.Turned turns.Served) h = let (deeds, run, written, did) = h in (deeds, run, output.written _ written, did)
-  run_told files node s v (nodes.Turned turns.Quiet) h = let (deeds, under, written, stopped) = h in (deeds, under, output.written _ written, stopped)
-  run_told files node s v (nodes.Turned turns.Link) h = let (deeds, under, written, stopped) = h in (deeds, under, output.written _ written, stopped)
-  run_told files node s v (nodes.Turned turns.Disk) h = let (deeds, under, written, stopped) = h in (deeds, under, output.written _ written, stopped)
-  run_told files node s v (nodes.Turned turns.Full) h = let (deeds, under, written, stopped) = h in (deeds, under, output.written _ written, stopped)
-  run_told files node s v (nodes.Turned turns.Memory) h = let (deeds, under, written, stopped) = h in (deeds, under, output.written _ written, stopped)
-  run_told files node s v (nodes.Turned turns.Sink) h = let (deeds, under, cut, stopped) = h in (deeds, under, (cut.0, cut.1, output.cut_off _ cut.2), stopped)
+  stops_told : (run : OnRun) (me : ℕ) (end : TurnEnd) → Stops run o.written o.cut_off me end → Stops run p.written p.cut_off me end
+  stops_told run me turns.Sink h = let (deeds, under, cut, stopped) = h in (deeds, under, (cut.0, cut.1, output.cut_off _ cut.2), stopped)
+  stops_told run me turns.Served h = let (deeds, under, written, stopped) = h in (deeds, under, output.written _ written, stopped)
+  stops_told run me turns.Quiet h = let (deeds, under, written, stopped) = h in (deeds, under, output.written _ written, stopped)
+  stops_told run me turns.Link h = let (deeds, under, written, stopped) = h in (deeds, under, output.written _ written, stopped)
+  stops_told run me turns.Disk h = let (deeds, under, written, stopped) = h in (deeds, under, output.written _ written, stopped)
+  stops_told run me turns.Full h = let (deeds, under, written, stopped) = h in (deeds, under, output.written _ written, stopped)
+  stops_told run me turns.Memory h = let (deeds, under, written, stopped) = h in (deeds, under, output.written _ written, stopped)
 
-  node_told : (files : OnFiles) (node : OnNode) (v : Service) (end : ServiceEnd) → HappenedAtNode i files node o v end → HappenedAtNode j files node p v end
-  node_told files node v (services.Config end) h = (config_told (Err end) h.0, output.written _ h.1)
-  node_told files node v services.Stranger h = let (settings, read, rest) = h in (settings, config_told (Ok settings) read, (rest.0, output.written _ rest.1))
-  node_told files node v (services.Ran end) h = let (settings, read, rest) = h in (settings, config_told (Ok settings) read, (rest.0, run_told files node settings v end rest.1))
+  run_told : (run : OnRun) (me : ℕ) (end : NodeEnd) → NodeEnds run o.written o.cut_off me end → NodeEnds run p.written p.cut_off me end
+  run_told run me (nodes.Load error) h = (h.0, output.written _ h.1)
+  run_told run me (nodes.Turned turns.Served) h = let (deeds, written, did) = h in (deeds, output.written _ written, did)
+  run_told run me (nodes.Turned turns.Quiet) h = h
+  run_told run me (nodes.Turned turns.Link) (inl h) = inl (output.written _ h.0, h.1)
+  run_told run me (nodes.Turned turns.Link) (inr h) = inr (stops_told run me turns.Link h)
+  run_told run me (nodes.Turned turns.Disk) h = stops_told run me turns.Disk h
+  run_told run me (nodes.Turned turns.Full) h = stops_told run me turns.Full h
+  run_told run me (nodes.Turned turns.Sink) h = stops_told run me turns.Sink h
+  run_told run me (nodes.Turned turns.Memory) h = stops_told run me turns.Memory h
 
-  module _ (asked : Option Request) (files : OnFiles) (link : OnLink) (clock : OnClock) (node : OnNode) where
+  node_told : (node : OnNode) (v : Service) (end : ServiceEnd) → HappenedAtNode i node o v end → HappenedAtNode j node p v end
+  node_told node v (services.Config end) h = (config_told (Err end) h.0, output.written _ h.1)
+  node_told node v services.Stranger h = let (settings, read, rest) = h in (settings, config_told (Ok settings) read, (rest.0, output.written _ rest.1))
+  node_told node v (services.Ran end) h = let (settings, read, rest) = h in (settings, config_told (Ok settings) read, (rest.0, run_told (node.run settings (task_of v)) v.id end rest.1))
+
+  module _ (asked : Option Request) (files : OnFiles) (link : OnLink) (node : OnNode) where
     abbrev before : Outside
-    before = record { asked = asked; input = i; output = o; stage = stage; files = files; link = link; clock = clock; node = node }
+    before = record { asked = asked; input = i; output = o; stage = stage; files = files; link = link; node = node }
 
     abbrev after : Outside
-    after = record { asked = asked; input = j; output = p; stage = stage; files = files; link = link; clock = clock; node = node }
+    after = record { asked = asked; input = j; output = p; stage = stage; files = files; link = link; node = node }
 
     unplayed_told : IsUnplayed before → IsUnplayed after
     unplayed_told u = record { input = input.unread u.input; stage = u.stage }
 
     alone_told : IsAlone before → IsAlone after
-    alone_told a = record { files = a.files; link = a.link; clock = a.clock }
+    alone_told a = record { files = a.files; link = a.link; node = a.node }
 
     -- at each end of a run
     pub happened_told : (end : End) → Happened before end → Happened after end
@@ -170,7 +182,7 @@ module _ (i j : Input) (o p : Output) (stage : OnStage) (input : TellsInput i j)
     happened_told (Replayed end) h = let ((summary, file, a, at), n) = h in ((summary, file, a, replay_told summary end at), alone_told n)
     happened_told (Generated end) h = let ((sample, a, at), u, n) = h in ((sample, a, gen_told sample end at), unplayed_told u, alone_told n)
     happened_told (Listed end) h = let (a, at, unplayed, n) = h in (a, rules_told end at, unplayed, alone_told n)
-    happened_told (Checked end) h = let ((member, folder, a, at), u, n) = h in ((member, folder, a, check_told files (network_of member) member.id end at), unplayed_told u, record { link = n.link; clock = n.clock })
-    happened_told (CheckedConfigured end) h = let ((id, paths, a, at), unplayed, n, f) = h in ((id, paths, a, configured_told files id end at), unplayed, record { link = n.link; clock = n.clock }, f)
-    happened_told (Got end) h = let ((download, a, at), u, n) = h in ((download, a, get_told link download end at), unplayed_told u, record { files = n.files; clock = n.clock })
-    happened_told (Served end) h = let ((service, paths, a, at), unplayed, f, l, c) = h in ((service, paths, a, node_told files node service end at), unplayed, f, l, c)
+    happened_told (Checked end) h = let ((member, folder, a, at), u, n) = h in ((member, folder, a, check_told files (network_of member) member.id end at), unplayed_told u, record { link = n.link; node = n.node })
+    happened_told (CheckedConfigured end) h = let ((id, paths, a, at), unplayed, n, f) = h in ((id, paths, a, configured_told files id end at), unplayed, record { link = n.link; node = n.node }, f)
+    happened_told (Got end) h = let ((download, a, at), u, n) = h in ((download, a, get_told link download end at), unplayed_told u, record { files = n.files; node = n.node })
+    happened_told (Served end) h = let ((service, paths, a, at), unplayed, f, l, c) = h in ((service, paths, a, node_told node service end at), unplayed, f, l, c)

@@ -1,5 +1,5 @@
 -- What had happened at each end of `node`.
-use Rattle.std.specs.Prelude.{◌≡◌, ℕ, ◌<◌, ◌⊎◌, Option, Some, None, Result, Ok, Err, List, [], ◌++◌, length, ⊤}
+use Rattle.std.specs.Prelude.{◌≡◌, ℕ, ◌<◌, ◌⊎◌, Option, Some, None, Result, Ok, Err, List, [], length, ⊤}
 use Rattle.oc_base.specs.Lawful.{IsNode}
 use Rattle.oc_base.specs.declared.limits.TheConstants.{MAX_SCHEDULE_BYTES}
 use Rattle.oc_config.specs.Reading.{settings_of}
@@ -8,55 +8,33 @@ use Rattle.oc_config.specs.declared.fault.ConfigFault.{ConfigFault}
 use Rattle.oc_io.specs.DiskView.{DiskView}
 use Rattle.oc_keep.specs.Files.{Disks}
 use Rattle.oc_keep.specs.Promises.{HoldFiles}
-use Rattle.oc_model.specs.Node.{Header}
-use Rattle.oc_link.specs.LinkCalls.{IsFront}
-use Rattle.oc_service.specs.OnFiles.{header_of_settings}
-use Rattle.oc_service.specs.Runs.{IsRun}
-use Rattle.oc_service.specs.declared.starting.NodeEnd.{NodeEnd}
-use Rattle.oc_service.specs.declared.starting.NodeEnd.TheVariants.{Load, Turned}
-use Rattle.oc_turn.specs.Deeds.{Deed, Under, deeds_text, under_line}
-use Rattle.oc_turn.specs.declared.ends.TurnEnd.{TurnEnd}
-use Rattle.oc_turn.specs.declared.ends.TurnEnd.TheVariants as ends
+use Rattle.oc_service.specs.OnSite.{NodeEnds}
+use Rattle.oc_service.specs.declared.running.Task.{Task}
 use Rattle.oc_words.specs.declared.request.Service.{Service}
 use Rattle.oc_commands.specs.AtConfig.{ReadsConfig}
 use Rattle.oc_commands.specs.AtRules.{status_of_settings}
-use Rattle.oc_commands.specs.Outside.{Input, OnFiles, OnNode, Output}
+use Rattle.oc_commands.specs.Outside.{Input, OnNode, Output}
 use Rattle.oc_commands.specs.declared.serving.ServiceEnd.{ServiceEnd}
 use Rattle.oc_commands.specs.declared.serving.ServiceEnd.TheVariants.{Config, Stranger, Ran}
-
--- among which nodes the node is
-abbrev pub header_of : Settings → Header
-header_of s = header_of_settings (length s.addresses) s
 
 -- this is the id of a node of the configuration
 abbrev pub HasNode : Settings → Service → Type 0
 HasNode s v = IsNode (length s.addresses) v.id
 
--- the lines of these deeds were written; where the output is to blame, some prefix of this line after them, and then it failed
-abbrev pub WritesDeeds : Output → ℕ → TurnEnd → List Deed → Under → Type 0
-WritesDeeds output me ends.Sink deeds under = (front : List ℕ) × IsFront front (under_line me under) × output.cut_off (deeds_text me deeds ++ front)
-WritesDeeds output me end deeds under = output.written (deeds_text me deeds)
-
--- A node was not loaded, and nothing was done; or it did the deeds of the measures that are its own and of all its turns; or it ended
--- early, after some deeds.
-abbrev pub RunsNode : OnFiles → OnNode → Output → Settings → Service → NodeEnd → Type 0
-RunsNode files node output s v (Load error) =
-    files.are_refused (length s.addresses) error × files.load_safely (header_of s) v.id × output.written [] × node.idle
-RunsNode files node output s v (Turned ends.Served) =
-    (deeds : List Deed) × IsRun v.id (length s.addresses) s.measures v.probes v.turns deeds × output.written (deeds_text v.id deeds) × node.did s v.id v.probes v.turns deeds
-RunsNode files node output s v (Turned end) =
-    (deeds : List Deed) × (under : Under) × WritesDeeds output v.id end deeds under × node.stopped (header_of s) v.id end deeds under
+-- what that node is asked to do
+abbrev pub task_of : Service → Task
+task_of v = record { me = v.id; turns = v.turns; probes = v.probes }
 
 -- no node of the configuration has this id, or the node was run
-abbrev pub RunsService : OnFiles → OnNode → Output → Settings → Service → ServiceEnd → Type 0
-RunsService files node output s v Stranger = (HasNode s v → ⊥) × output.written []
-RunsService files node output s v (Ran end) = HasNode s v × RunsNode files node output s v end
-RunsService files node output s v (Config end) = ⊥
+abbrev pub RunsService : OnNode → Output → Settings → Service → ServiceEnd → Type 0
+RunsService node output s v Stranger = (HasNode s v → ⊥) × output.written []
+RunsService node output s v (Ran end) = HasNode s v × NodeEnds (node.run s (task_of v)) output.written output.cut_off v.id end
+RunsService node output s v (Config end) = ⊥
 
 -- what had happened
-abbrev pub HappenedAtNode : Input → OnFiles → OnNode → Output → Service → ServiceEnd → Type 0
-HappenedAtNode input files node output v (Config end) = ReadsConfig input (Err end) × output.written []
-HappenedAtNode input files node output v end = (s : Settings) × ReadsConfig input (Ok s) × RunsService files node output s v end
+abbrev pub HappenedAtNode : Input → OnNode → Output → Service → ServiceEnd → Type 0
+HappenedAtNode input node output v (Config end) = ReadsConfig input (Err end) × output.written []
+HappenedAtNode input node output v end = (s : Settings) × ReadsConfig input (Ok s) × RunsService node output s v end
 
 -- this is so, unless the node was run
 abbrev pub UnlessRan : ServiceEnd → Type 0 → Type 0

@@ -7,10 +7,10 @@ use Rattle.oc_keep.specs.declared.errors.KeepLoad.{KeepLoad}
 use Rattle.oc_keep.specs.declared.errors.KeepLoad.TheVariants as loads
 use Rattle.oc_replay.specs.declared.end.ReplayEnd.{ReplayEnd}
 use Rattle.oc_replay.specs.declared.end.ReplayEnd.TheVariants as replays
-use Rattle.oc_service.specs.declared.starting.NodeEnd.{NodeEnd}
-use Rattle.oc_service.specs.declared.starting.NodeEnd.TheVariants as nodes
-use Rattle.oc_turn.specs.declared.ends.TurnEnd.{TurnEnd}
-use Rattle.oc_turn.specs.declared.ends.TurnEnd.TheVariants as turns
+use Rattle.oc_service.specs.declared.running.NodeEnd.{NodeEnd}
+use Rattle.oc_service.specs.declared.running.NodeEnd.TheVariants as nodes
+use Rattle.oc_server.specs.declared.ends.TurnEnd.{TurnEnd}
+use Rattle.oc_server.specs.declared.ends.TurnEnd.TheVariants as turns
 use Rattle.oc_commands.specs.declared.checking.CheckEnd.{CheckEnd}
 use Rattle.oc_commands.specs.declared.checking.CheckEnd.TheVariants as checks
 use Rattle.oc_commands.specs.declared.checking.ConfiguredEnd.{ConfiguredEnd}

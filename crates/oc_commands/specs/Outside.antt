@@ -1,14 +1,16 @@
 -- What can be said of the outside once a run has ended: of the words, of the input, of the output, of the
--- stage, of the files, of the link and of the clock.
+-- stage, of the files, of the link of a client, and of a node with its own link.
 --
 -- The input is one object, whatever the words name: the file that they name, else the standard input. Who calls `run` hands in that
 -- object, which he finds by `Request::file`; and the three files are those of the folder that `Request::folder` gives. So nothing that is
 -- said here depends on whether a file was named, but the line on the error output where the input failed (`Lines`), which names it. A
 -- file is opened at the first call on its object, as a node's files are: an opening that is refused is a call that failed, no more.
-use Rattle.std.specs.Prelude.{◌≡◌, ℕ, ◌<◌, Bool, Option, Result, List, length}
+use Rattle.std.specs.Prelude.{◌≡◌, ℕ, ◌<◌, Option, Result, List, length}
 use Rattle.oc_base.specs.declared.limits.TheConstants.{MAX_SCHEDULE_BYTES}
 use Rattle.oc_check.specs.Checks.{Shows}
 use Rattle.oc_config.specs.Settings.{Settings}
+use Rattle.oc_events.specs.declared.call.Call.{Call}
+use Rattle.oc_events.specs.declared.counts.Counts.{Counts}
 use Rattle.oc_fetch.specs.Completeness.{Completes}
 use Rattle.oc_fetch.specs.Turns.{Makes, Turn}
 use Rattle.oc_fetch.specs.declared.end.GetEnd.{GetEnd}
@@ -26,11 +28,8 @@ use Rattle.oc_replay.specs.Replay.{IsInput, PassesLimit, world_at}
 use Rattle.oc_schedule.specs.Script.{Script}
 use Rattle.oc_schedule.specs.declared.fault.ScheduleFault.{ScheduleFault}
 use Rattle.oc_schedule.specs.declared.fault.What.{What}
-use Rattle.oc_service.specs.OnFiles.{DidOnFiles, StopsOnFiles}
-use Rattle.oc_turn.specs.Deeds as deeds
-use Rattle.oc_turn.specs.Deeds.{Deed, Under}
-use Rattle.oc_turn.specs.declared.ends.TurnEnd.{TurnEnd}
-use Rattle.oc_link.specs.ClockView.{Series}
+use Rattle.oc_service.specs.OnSite.{OnRun, at_run}
+use Rattle.oc_service.specs.declared.running.Task.{Task}
 use Rattle.oc_words.specs.declared.request.Request.{Request}
 use Rattle.url.specs.Parts.{Parts}
 
@@ -87,20 +86,12 @@ pub record OnLink : Type 1 where
   -- it is as it was
   pub untouched : Type 0
 
--- of the clock
-pub record OnClock : Type 1 where
-  -- it is as it was
-  pub untouched : Type 0
-
--- of a node that runs on the files, the link and the clock
+-- of a node that runs on the files and on a link of its own
 pub record OnNode : Type 1 where
-  -- the node that the files recovered, which this configuration has under this id, did these deeds, with probes or without, in this many
-  -- turns, in which it answered the connections that came, and every crash leaves it after them
-  pub did : Settings → ℕ → Bool → ℕ → List Deed → Type 0
-  -- after these deeds it ended so, perhaps with one more input under way
-  pub stopped : Header → ℕ → TurnEnd → List Deed → Under → Type 0
-  -- nothing was done on the link and the clock
-  pub idle : Type 0
+  -- what can be said of its run, of this configuration and with this task
+  pub run : Settings → Task → OnRun
+  -- its link is as it was
+  pub untouched : Type 0
 
 pub record Outside : Type 1 where
   -- what the words ask for, if anything
@@ -110,10 +101,9 @@ pub record Outside : Type 1 where
   pub stage : OnStage
   pub files : OnFiles
   pub link : OnLink
-  pub clock : OnClock
   pub node : OnNode
 
--- ---- at a source, a sink, a stage, three disks, a link and a clock, from the old value to the new one
+-- ---- at a source, a sink, a stage, three disks and links, from the old value to the new one
 
 module _ {S : Type 0} (gives fails : S → List ℕ → S → Type 0) (ended : S → Type 0) (faults : S → ℕ) where
   abbrev pub at_source : S → S → Input
@@ -159,18 +149,9 @@ module _ {L : Type 0} (story : L → Option Story) (faults : L → LinkFaults) w
     untouched = new ≡ old;
   }
 
--- a clock, from the old value to the new one
-abbrev pub at_clock : {C : Type 0} → C → C → OnClock
-at_clock old new = record { untouched = new ≡ old }
-
--- what a node sees of a link and a clock
-abbrev pub seen : {L C : Type 0} → (L → Option Story) → (L → LinkFaults) → (C → Series) → (C → Series) → L → C → deeds.Outside
-seen story faults seconds millis link clock = record { story = story link; faults = faults link; seconds = seconds clock; millis = millis clock }
-
-module _ {D : Type 0} (view : D → DiskView) where
-  abbrev pub at_node : Disks D → Disks D → deeds.Outside → deeds.Outside → OnNode
-  at_node old new before out = record {
-    did = λ s me probes turns ds. DidOnFiles view s (length s.addresses) me probes turns ds old new before out;
-    stopped = λ h me end ds under. StopsOnFiles view h me end ds under old new before out;
-    idle = out ≡ before;
+module _ {D N : Type 0} (view : D → DiskView) (story : N → Option (List Call)) (counts : N → Counts) where
+  abbrev pub at_node : Disks D → Disks D → N → N → OnNode
+  at_node old new link after = record {
+    run = λ s task. at_run view story counts s task old new link after;
+    untouched = after ≡ link;
   }

@@ -1,5 +1,5 @@
 -- What had happened outside at each end of a run.
-use Rattle.std.specs.Prelude.{◌≡◌, ℕ, ◌<◌, ◌⊎◌, Bool, List, [], ◌∷◌, ◌++◌, length, Option, Some, None, ⊤}
+use Rattle.std.specs.Prelude.{◌≡◌, ℕ, ◌<◌, ◌⊎◌, Bool, List, [], length, Option, Some, None, ⊤}
 use Rattle.oc_io.specs.Faults.{Rose}
 use Rattle.oc_replay.specs.Pieces.{SomeFront}
 use Rattle.oc_words.specs.declared.request.Download.{Download}
@@ -35,21 +35,21 @@ pub record IsUnplayed (o : Outside) : Type 0 where
   pub input : o.input.unread
   pub stage : o.stage.unplayed
 
--- no file, no connection and no time was asked for
+-- no file and no link was asked for
 pub record IsAlone (o : Outside) : Type 0 where
   pub files : o.files.untouched
   pub link : o.link.untouched
-  pub clock : o.clock.untouched
+  pub node : o.node.untouched
 
--- no connection and no time was asked for
+-- no link was asked for
 pub record IsOffline (o : Outside) : Type 0 where
   pub link : o.link.untouched
-  pub clock : o.clock.untouched
+  pub node : o.node.untouched
 
--- no file and no time was asked for
+-- no file and no link of a node was asked for
 pub record IsFileless (o : Outside) : Type 0 where
   pub files : o.files.untouched
-  pub clock : o.clock.untouched
+  pub node : o.node.untouched
 
 -- what had happened at each end
 abbrev pub Happened : Outside → End → Type 0
@@ -66,5 +66,5 @@ Happened o (Checked end) = ((member : Member) × (folder : Option (List ℕ)) ×
 Happened o (CheckedConfigured end) = ((id : ℕ) × (paths : Paths) × (o.asked ≡ Some (CheckConfigured id paths)) × HappenedAtConfigured o.input o.files o.output id end) × o.stage.unplayed × IsOffline o
     × UnlessChecked end o.files.untouched
 Happened o (Got end) = ((download : Download) × (o.asked ≡ Some (Get download)) × HappenedAtGet o.link o.output download end) × IsUnplayed o × IsFileless o
-Happened o (Served end) = ((service : Service) × (paths : Paths) × (o.asked ≡ Some (Node service paths)) × HappenedAtNode o.input o.files o.node o.output service end) × o.stage.unplayed
-    × UnlessRan end o.files.untouched × UnlessRan end o.link.untouched × UnlessRan end o.clock.untouched
+Happened o (Served end) = ((service : Service) × (paths : Paths) × (o.asked ≡ Some (Node service paths)) × HappenedAtNode o.input o.node o.output service end) × o.stage.unplayed
+    × UnlessRan end o.files.untouched × o.link.untouched × UnlessRan end o.node.untouched

@@ -3,7 +3,7 @@ ghost use Rattle.std.specs.Prelude.{◌≡◌, length};
 ghost use Rattle.oc_base.specs.Lawful.{IsNode};
 ghost use Rattle.oc_check.specs.Checks.{IsNetwork};
 ghost use Rattle.oc_config.specs.Reading.{IsConfig};
-ghost use Rattle.oc_keep.specs.Files.{disks};
+ghost use Rattle.oc_keep.specs.Files.{disks_in};
 ghost use Rattle.oc_io.specs.Faults.{NoFall};
 ghost use Rattle.oc_commands.specs.AtCheck.{HappenedAtCheck, network_in, network_of};
 ghost use Rattle.oc_commands.specs.AtConfigured.{ChecksOne, HappenedAtConfigured, UnlessChecked};
@@ -13,10 +13,10 @@ ghost use Rattle.oc_words.specs.Requests.{IsMember};
 use crate::configuring::{ConfigEnd, read_config};
 use crate::serving::member_of;
 use oc_base::{NodeId, USUAL_CHUNK_BYTES};
-use oc_check::{Network, recovered_text};
+use oc_check::{Network, Recovered, recovered_text};
 use oc_config::Config;
 use oc_io::{Disk, Sink, Source, write_all};
-use oc_keep::KeepLoad;
+use oc_keep::{Files, KeepLoad};
 use oc_words::Member;
 use std::alloc::Global;
 
@@ -47,26 +47,16 @@ pub fn check_files<K: Sink, D: Disk>(
     alloc: Global,
     member: Member,
     out: &mut K,
-    control: &mut D,
-    alternate: &mut D,
-    content: &mut D,
-) -> CheckEnd
+    files: Files<D>,
+) -> (CheckEnd, Files<D>)
     requires { IsMember member }
     ensures happened { HappenedAtCheck
-        (at_files D.view (disks control.old alternate.old content.old) (disks control.new alternate.new content.new))
-        (at_sink K.takes K.fails K.faults out.old out.new) (network_of member) member.id result }
+        (at_files D.view (disks_in files) (disks_in result.1))
+        (at_sink K.takes K.fails K.faults out.old out.new) (network_of member) member.id result.0 }
     ensures count { NoFall (K.faults out.old) (K.faults out.new) }
 {
     let network = network_of(member);
-    show_files(
-        alloc,
-        NodeId(member.id),
-        network,
-        out,
-        control,
-        alternate,
-        content,
-    )
+    show_files(alloc, NodeId(member.id), network, out, files)
 }
 
 /// The network of these numbers, with the usual chunk.
@@ -88,21 +78,19 @@ pub fn check_configured<S: Source, K: Sink, D: Disk>(
     id: u64,
     input: &mut S,
     out: &mut K,
-    control: &mut D,
-    alternate: &mut D,
-    content: &mut D,
-) -> ConfiguredEnd
+    files: Files<D>,
+) -> (ConfiguredEnd, Files<D>)
     ensures happened { HappenedAtConfigured
         (at_source S.gives S.fails S.ended S.faults input.old input.new)
-        (at_files D.view (disks control.old alternate.old content.old) (disks control.new alternate.new content.new))
-        (at_sink K.takes K.fails K.faults out.old out.new) id result }
-    ensures files { UnlessChecked result (disks control.new alternate.new content.new ≡ disks control.old alternate.old content.old) }
+        (at_files D.view (disks_in files) (disks_in result.1))
+        (at_sink K.takes K.fails K.faults out.old out.new) id result.0 }
+    ensures files { UnlessChecked result.0 (disks_in result.1 ≡ disks_in files) }
     ensures input_count { NoFall (S.faults input.old) (S.faults input.new) }
     ensures count { NoFall (K.faults out.old) (K.faults out.new) }
 {
     match read_config(alloc, input) {
-        Ok(config) => check_one(alloc, id, &config, out, control, alternate, content),
-        Err(end) => ConfiguredEnd::Config(end),
+        Ok(config) => check_one(alloc, id, &config, out, files),
+        Err(end) => (ConfiguredEnd::Config(end), files),
     }
 }
 
@@ -112,23 +100,22 @@ fn check_one<K: Sink, D: Disk>(
     id: u64,
     config: &Config,
     out: &mut K,
-    control: &mut D,
-    alternate: &mut D,
-    content: &mut D,
-) -> ConfiguredEnd
+    files: Files<D>,
+) -> (ConfiguredEnd, Files<D>)
     requires { IsConfig config.now }
     ensures happened { ChecksOne
-        (at_files D.view (disks control.old alternate.old content.old) (disks control.new alternate.new content.new))
-        (at_sink K.takes K.fails K.faults out.old out.new) config.now id result }
-    ensures files { UnlessChecked result (disks control.new alternate.new content.new ≡ disks control.old alternate.old content.old) }
+        (at_files D.view (disks_in files) (disks_in result.1))
+        (at_sink K.takes K.fails K.faults out.old out.new) config.now id result.0 }
+    ensures files { UnlessChecked result.0 (disks_in result.1 ≡ disks_in files) }
     ensures count { NoFall (K.faults out.old) (K.faults out.new) }
 {
     match member_of(config, id) {
         Some(me) => {
             let network = network_in(config);
-            ConfiguredEnd::Checked(show_files(alloc, me, network, out, control, alternate, content))
+            let (end, files) = show_files(alloc, me, network, out, files);
+            (ConfiguredEnd::Checked(end), files)
         }
-        None => ConfiguredEnd::Stranger,
+        None => (ConfiguredEnd::Stranger, files),
     }
 }
 
@@ -152,22 +139,22 @@ fn show_files<K: Sink, D: Disk>(
     id: NodeId,
     network: Network,
     out: &mut K,
-    control: &mut D,
-    alternate: &mut D,
-    content: &mut D,
-) -> CheckEnd
+    files: Files<D>,
+) -> (CheckEnd, Files<D>)
     requires network { IsNetwork network }
     requires id { IsNode network.nodes id }
     ensures happened { HappenedAtCheck
-        (at_files D.view (disks control.old alternate.old content.old) (disks control.new alternate.new content.new))
-        (at_sink K.takes K.fails K.faults out.old out.new) network id result }
+        (at_files D.view (disks_in files) (disks_in result.1))
+        (at_sink K.takes K.fails K.faults out.old out.new) network id result.0 }
     ensures count { NoFall (K.faults out.old) (K.faults out.new) }
 {
-    match recovered_text(alloc, id, network, control, alternate, content) {
+    let Recovered { files, text } = recovered_text(alloc, id, network, files);
+    let end = match text {
         Ok(text) => match write_all(out, &text) {
             Ok(()) => CheckEnd::Done,
             Err(_) => CheckEnd::Sink,
         },
         Err(error) => CheckEnd::Load(error),
-    }
+    };
+    (end, files)
 }

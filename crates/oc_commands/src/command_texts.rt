@@ -103,9 +103,10 @@ Usage: overcast node ID [--turns N] [--probe] [--config FILE] [--dir FOLDER]
 
 Reads the configuration, loads the node with this id from its three files, waits
 for connections where the configuration says that it listens, and serves turns
-until it is ended. In a turn it answers the connection that waits, if one does,
-takes the time, and dials up to 16 messages. A quiet turn ends within about a
-fifth of a second. Where it listens it says on standard error.
+until it is ended. In a turn it takes one thing that came, as a request or a
+reply, ticks where that is due, and begins to send. It waits for no client and no
+peer, and a turn in which nothing comes ends within a second. Where it listens it
+says on standard error.
 
   ID        the node, one of the configuration
   --turns   ends it after this number of turns, 0 to 1000000000

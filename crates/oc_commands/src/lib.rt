@@ -37,6 +37,6 @@ pub use limits::limits_are_as_published;
 pub use listing::{RulesEnd, list_rules};
 pub use oc_words::Status;
 pub use replaying::replay_input;
-pub use serving::{ServiceEnd, run_service};
+pub use serving::{Served, ServiceEnd, run_service};
 pub use telling::tell;
 pub use texts::{help, usage};

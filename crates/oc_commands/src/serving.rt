@@ -1,19 +1,19 @@
 //! The command `node`, which runs a node.
 ghost use Rattle.std.specs.Prelude.{◌≡◌, length};
 ghost use Rattle.oc_config.specs.Reading.{IsConfig};
-ghost use Rattle.oc_keep.specs.Files.{disks};
+ghost use Rattle.oc_keep.specs.Files.{disks_in};
 ghost use Rattle.oc_io.specs.Faults.{NoFall};
 ghost use Rattle.oc_commands.specs.AtNode.{HappenedAtNode, IsMemberOf, RunsService, UnlessRan};
 ghost use Rattle.oc_commands.specs.Ends.{status_of_service};
-ghost use Rattle.oc_commands.specs.Outside.{at_files, at_node, at_sink, at_source, seen};
+ghost use Rattle.oc_commands.specs.Outside.{at_node, at_sink, at_source};
 ghost use Rattle.oc_words.specs.Status.{number_of};
 
 use crate::configuring::{ConfigEnd, read_config};
 use oc_base::NodeId;
 use oc_config::Config;
+use oc_events::Link;
 use oc_io::{Disk, Sink, Source};
-use oc_link::{Clock, Link};
-use oc_service::{NodeEnd, run_node};
+use oc_service::{NodeEnd, Ran, Site, Task, run_node};
 use oc_words::Service;
 use std::alloc::Global;
 
@@ -28,80 +28,70 @@ pub enum ServiceEnd {
     Ran(NodeEnd),
 }
 
-/// Runs a node of the configuration on the input for the given number of turns, on its three files.
-#[allow(clippy::too_many_arguments)]
-pub fn run_service<S: Source, K: Sink, D: Disk, L: Link, C: Clock>(
+/// How `node` ended, and what it had to run on.
+#[derive(Drop)]
+pub struct Served<D: Disk, L: Link, K: Sink> {
+    pub end: ServiceEnd,
+    pub site: Site<D, L, K>,
+}
+
+/// Runs a node of the configuration on the input for the given number of turns.
+pub fn run_service<S: Source, D: Disk, L: Link, K: Sink>(
     alloc: Global,
     service: Service,
     input: &mut S,
-    out: &mut K,
-    control: &mut D,
-    alternate: &mut D,
-    content: &mut D,
-    link: &mut L,
-    clock: &mut C,
-) -> ServiceEnd
+    site: Site<D, L, K>,
+) -> Served<D, L, K>
     ensures happened { HappenedAtNode
         (at_source S.gives S.fails S.ended S.faults input.old input.new)
-        (at_files D.view (disks control.old alternate.old content.old) (disks control.new alternate.new content.new))
-        (at_node D.view (disks control.old alternate.old content.old) (disks control.new alternate.new content.new)
-        (seen L.story L.faults C.seconds C.milliseconds link.old clock.old)
-        (seen L.story L.faults C.seconds C.milliseconds link.new clock.new))
-        (at_sink K.takes K.fails K.faults out.old out.new) service result }
-    ensures files { UnlessRan result (disks control.new alternate.new content.new ≡ disks control.old alternate.old content.old) }
-    ensures link { UnlessRan result (link.new ≡ link.old) }
-    ensures clock { UnlessRan result (clock.new ≡ clock.old) }
+        (at_node D.view L.story L.counts (disks_in site.files) (disks_in result.site.files) site.link result.site.link)
+        (at_sink K.takes K.fails K.faults site.sink result.site.sink) service result.end }
+    ensures files { UnlessRan result.end (disks_in result.site.files ≡ disks_in site.files) }
+    ensures link { UnlessRan result.end (result.site.link ≡ site.link) }
     ensures input_count { NoFall (S.faults input.old) (S.faults input.new) }
-    ensures done_count { number_of (status_of_service result) ≡ 0 → NoFall (K.faults out.old) (K.faults out.new) }
+    ensures done_count { number_of (status_of_service result.end) ≡ 0 → NoFall (K.faults site.sink) (K.faults result.site.sink) }
 {
     match read_config(alloc, input) {
-        Ok(config) => serve_config(
-            alloc, service, &config, out, control, alternate, content, link, clock,
-        ),
-        Err(end) => ServiceEnd::Config(end),
+        Ok(config) => serve_config(alloc, service, config, site),
+        Err(end) => Served {
+            end: ServiceEnd::Config(end),
+            site,
+        },
     }
 }
 
 /// Runs a node of a configuration.
-#[allow(clippy::too_many_arguments)]
-fn serve_config<K: Sink, D: Disk, L: Link, C: Clock>(
+fn serve_config<D: Disk, L: Link, K: Sink>(
     alloc: Global,
     service: Service,
-    config: &Config,
-    out: &mut K,
-    control: &mut D,
-    alternate: &mut D,
-    content: &mut D,
-    link: &mut L,
-    clock: &mut C,
-) -> ServiceEnd
-    requires { IsConfig config.now }
+    config: Config,
+    site: Site<D, L, K>,
+) -> Served<D, L, K>
+    requires { IsConfig config }
     ensures happened { RunsService
-        (at_files D.view (disks control.old alternate.old content.old) (disks control.new alternate.new content.new))
-        (at_node D.view (disks control.old alternate.old content.old) (disks control.new alternate.new content.new)
-        (seen L.story L.faults C.seconds C.milliseconds link.old clock.old)
-        (seen L.story L.faults C.seconds C.milliseconds link.new clock.new))
-        (at_sink K.takes K.fails K.faults out.old out.new) config.now service result }
-    ensures files { UnlessRan result (disks control.new alternate.new content.new ≡ disks control.old alternate.old content.old) }
-    ensures link { UnlessRan result (link.new ≡ link.old) }
-    ensures clock { UnlessRan result (clock.new ≡ clock.old) }
-    ensures done_count { number_of (status_of_service result) ≡ 0 → NoFall (K.faults out.old) (K.faults out.new) }
+        (at_node D.view L.story L.counts (disks_in site.files) (disks_in result.site.files) site.link result.site.link)
+        (at_sink K.takes K.fails K.faults site.sink result.site.sink) config service result.end }
+    ensures files { UnlessRan result.end (disks_in result.site.files ≡ disks_in site.files) }
+    ensures link { UnlessRan result.end (result.site.link ≡ site.link) }
+    ensures done_count { number_of (status_of_service result.end) ≡ 0 → NoFall (K.faults site.sink) (K.faults result.site.sink) }
 {
-    match member_of(config, service.id) {
-        Some(me) => ServiceEnd::Ran(run_node(
-            alloc,
-            config,
-            me,
-            service.turns,
-            service.probes,
-            control,
-            alternate,
-            content,
-            link,
-            clock,
-            out,
-        )),
-        None => ServiceEnd::Stranger,
+    match member_of(&config, service.id) {
+        Some(me) => {
+            let task = Task {
+                me,
+                turns: service.turns,
+                probes: service.probes,
+            };
+            let Ran { end, site } = run_node(alloc, config, task, site);
+            Served {
+                end: ServiceEnd::Ran(end),
+                site,
+            }
+        }
+        None => Served {
+            end: ServiceEnd::Stranger,
+            site,
+        },
     }
 }
 

@@ -1,3 +1,4 @@
 mod Passed
 mod InMemory
 mod Named
+mod Statuses

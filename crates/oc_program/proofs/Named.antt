@@ -1,5 +1,5 @@
 -- The file that the line of an end names is the one that the words name.
-use Rattle.std.proofs.Common.{◌≡◌, ◌⊎◌, ◌∙◌, ℕ, List, Option, Some, None, Result, Ok, Err, inl, inr, refl, sym, ap}
+use Rattle.std.proofs.Common.{◌≡◌, ◌∙◌, ℕ, List, Option, Some, None, Result, Err, inl, inr, refl, sym, ap}
 use Rattle.std.specs.Prelude.{ok_or}
 use Rattle.oc_commands.specs.Lines.{line_of}
 use Rattle.oc_commands.specs.declared.ending.End.{End}

@@ -1,11 +1,10 @@
-//! The program as a call: words, an input, an output, an error output, a stage, the three files of a node, a
-//! link and a clock in; a status out.
+//! The program as a call: words and all that a run reaches in, a status and the same out.
 //!
 //! [`run`] is the contract that everything leads up to: how it ended, with which status and which
 //! line, and what had then happened outside. `Outside` in the `specs/` of `oc_commands` is all that it speaks
-//! of, and `Happened` says for each end what then holds. [`run_in_memory`] and [`run_on_streams`] are `run` at
-//! readers and writers, where the same clause is about bytes and about counts of bytes; `main` calls
-//! the second.
+//! of, and `Happened` says for each end what then holds. `StatusFor` says which status comes for which request where
+//! nothing fails. [`run_in_memory`] and [`run_on_streams`] are `run` at readers and writers, where the same clause is
+//! about bytes and about counts of bytes; `main` calls the second.
 //!
 //! Where a replay ends with status 0, [`headline_holds`] is part of that clause: what holds of every world
 //! of the schedule, also inside settle and heal, and what settle and heal leave and report.
@@ -13,6 +12,7 @@
 //! What the words ask for is read by `oc_words`, and done by `oc_commands`.
 #![tactic(auto)]
 
+mod outside;
 mod running;
 mod streams;
 
@@ -24,5 +24,6 @@ pub use oc_io::{ReaderSource, Traffic, WriterSink};
 pub use oc_words::{
     Name, Paths, Request, Sample, VERSION, WordsFault, places_ask, read_words, rows_ask,
 };
+pub use outside::{Ended, Outside};
 pub use running::run;
-pub use streams::{MemoryRun, StreamsRun, run_in_memory, run_on_streams};
+pub use streams::{MemoryRun, Streams, StreamsRun, Things, run_in_memory, run_on_streams};

@@ -1,150 +1,76 @@
 //! The top call.
 
-ghost use Rattle.std.specs.Prelude.{◌≡◌, ◌≢◌, ℕ, Bool, ◌⊎◌, List, Option, Some, None, Err, IfOk};
-ghost use Rattle.oc_keep.specs.Files.{AreHonest, OneRose, disks};
-ghost use Rattle.oc_keep.specs.Promises.{HoldFiles};
-ghost use Rattle.oc_io.specs.Faults.{NoFall, Rose};
-ghost use Rattle.oc_commands.specs.AtConfigured.{HasShownStatus};
-ghost use Rattle.oc_commands.specs.AtNode.{HasServiceStatus};
-ghost use Rattle.oc_commands.specs.AtReplay.{HasStatus};
-ghost use Rattle.oc_commands.specs.AtRules.{HasConfigStatus};
-ghost use Rattle.oc_commands.specs.Complete.{IsDoneOrMemory, IsServed, once};
-ghost use Rattle.oc_commands.specs.Ends.{status_of};
+ghost use Rattle.std.specs.Prelude.{◌≡◌, ◌≢◌, ℕ, ◌⊎◌, List, None, Err, IfOk};
+ghost use Rattle.oc_keep.specs.Files.{disks_in};
+ghost use Rattle.oc_io.specs.Faults.{NoFall};
+ghost use Rattle.oc_commands.specs.AtCheck.{HappenedAtCheck, network_of};
+ghost use Rattle.oc_commands.specs.AtConfigured.{HappenedAtConfigured, UnlessChecked};
+ghost use Rattle.oc_commands.specs.AtNode.{HappenedAtNode, UnlessRan};
+ghost use Rattle.oc_commands.specs.Ends.{status_of, status_of_service};
 ghost use Rattle.oc_commands.specs.Lines.{line_of};
-ghost use Rattle.oc_commands.specs.Outside.{at_clock, at_files, at_link, at_node, at_sink, at_source, at_stage, seen};
+ghost use Rattle.oc_commands.specs.Outside.{at_files, at_node, at_sink, at_source};
 ghost use Rattle.oc_commands.specs.Run.{Happened, IsNoNode, IsWrittenOrCut};
+ghost use Rattle.oc_program.specs.Seen.{seen};
+ghost use Rattle.oc_program.specs.StatusFor.{StatusFor};
+ghost use Rattle.oc_words.specs.Requests.{IsMember};
 ghost use Rattle.oc_words.specs.Status.{number_of};
 ghost use Rattle.oc_words.specs.Paths.{file_asked, file_read};
 ghost use Rattle.oc_words.specs.Words.{Answers, IsPlain, IsRequest, asked, texts_of};
-ghost use Rattle.oc_words.specs.declared.request.Member.{Member};
-ghost use Rattle.oc_words.specs.declared.request.Paths.{Paths};
-ghost use Rattle.oc_words.specs.declared.request.Sample.{Sample};
-ghost use Rattle.oc_words.specs.declared.request.Service.{Service};
 
+use crate::outside::{Ended, Outside};
 use oc_commands::{
-    End, check_configured, check_files, download, list_rules, replay_input, run_service, tell,
-    write_help, write_sample, write_version,
+    CheckEnd, ConfiguredEnd, End, Served, ServiceEnd, check_configured, check_files, download,
+    list_rules, replay_input, run_service, tell, write_help, write_sample, write_version,
 };
+use oc_events::Link;
 use oc_io::{Disk, Sink, Source};
-use oc_link::{Clock, Link};
+use oc_link::Link as Dialler;
 use oc_replay::Stage;
-use oc_words::{Request, WordsFault, read_words};
+use oc_service::Site;
+use oc_words::{Member, Request, Service, WordsFault, read_words};
 use std::alloc::Global;
 
 /// Runs the program: what the words ask for, from the input to the output, over the stage, the three files
-/// of a node, a link and a clock. `control` and `alternate` are the control files.
-///
-/// The input is the file that the words name, or else the standard input ([`Request::file`]); the three files are
-/// those of the folder that they name, or else of the present one ([`Request::folder`]).
+/// of a node, and the links of a client and of a node. All of it comes back.
 ///
 /// The status is that of [`Status`](crate::Status); with each status other than 0 a line on the error output
 /// says why. What the words have no use for stays as it was.
-#[allow(clippy::too_many_arguments)]
-pub fn run<S: Source, K: Sink, E: Sink, T: Stage, D: Disk, L: Link, C: Clock>(
+pub fn run<S: Source, K: Sink, E: Sink, T: Stage, D: Disk, L: Dialler, N: Link>(
     alloc: Global,
     words: &[String],
-    input: &mut S,
-    out: &mut K,
-    err: &mut E,
-    stage: &mut T,
-    control: &mut D,
-    alternate: &mut D,
-    content: &mut D,
-    link: &mut L,
-    clock: &mut C,
-) -> u8
+    outside: Outside<S, K, E, T, D, L, N>,
+) -> Ended<S, K, E, T, D, L, N>
     // How it ended: the status, the line on the error output, and what had happened.
     ensures ended { (end : End) × (usage : List ℕ)
-        × (result ≡ number_of (status_of end))
-        × IsWrittenOrCut E.takes E.fails E.faults err.old err.new (line_of end (file_asked (asked (texts_of words.now))) usage)
-        × Happened (record {
-          asked = asked (texts_of words.now);
-          input = at_source S.gives S.fails S.ended S.faults input.old input.new;
-          output = at_sink K.takes K.fails K.faults out.old out.new;
-          stage = at_stage T.world stage.old stage.new;
-          files = at_files D.view (disks control.old alternate.old content.old) (disks control.new alternate.new content.new);
-          link = at_link L.story L.faults link.old link.new;
-          clock = at_clock clock.old clock.new;
-          node = at_node D.view (disks control.old alternate.old content.old) (disks control.new alternate.new content.new)
-              (seen L.story L.faults C.seconds C.milliseconds link.old clock.old)
-              (seen L.story L.faults C.seconds C.milliseconds link.new clock.new);
-        }) end }
+        × (result.status ≡ number_of (status_of end))
+        × IsWrittenOrCut E.takes E.fails E.faults outside.error result.outside.error (line_of end (file_asked (asked (texts_of words.now))) usage)
+        × Happened (seen S.gives S.fails S.ended S.faults K.takes K.fails K.faults T.world D.view L.story L.faults N.story N.counts
+        (asked (texts_of words.now)) outside result.outside) end }
 
-    // Status 2 comes exactly where the words ask for nothing; if memory runs out, that comes first.
-    ensures misused { asked (texts_of words.now) ≡ None → (result ≡ 2) ⊎ (result ≡ 4) }
-    ensures only_misused { result ≡ 2 → asked (texts_of words.now) ≡ None }
-    ensures plain { IsPlain (texts_of words.now) → result ≢ 2 }
+    // Where nothing fails that the command names in its status, this one comes: by what its input says, and by what
+    // its files or its link have. Or memory runs out.
+    ensures status_for { StatusFor S.gives S.ended S.faults K.faults D.view L.story L.faults N.counts outside result.outside
+        (asked (texts_of words.now)) result.status }
 
-    // Where the output does not fail, help, `--version` and `gen` do what they are asked for, or memory runs out.
-    ensures helped { asked (texts_of words.now) ≡ Some Request.Help
-        → (Rose (K.faults out.old) (K.faults out.new) → ⊥)
-        → IsDoneOrMemory result }
-    ensures versioned { asked (texts_of words.now) ≡ Some Request.Version
-        → (Rose (K.faults out.old) (K.faults out.new) → ⊥)
-        → IsDoneOrMemory result }
-    ensures generated { (sample : Sample) → asked (texts_of words.now) ≡ Some (Request.Gen sample)
-        → (Rose (K.faults out.old) (K.faults out.new) → ⊥)
-        → IsDoneOrMemory result }
+    // Status 2 comes only where the words ask for nothing.
+    ensures only_misused { result.status ≡ 2 → asked (texts_of words.now) ≡ None }
+    ensures plain { IsPlain (texts_of words.now) → result.status ≢ 2 }
 
-    // Where neither input nor output fails, the status of a replay is that of what its input says, and so
-    // that of `rules`, or memory runs out.
-    ensures replayed { (summary : Bool) (file : Option (List ℕ)) → asked (texts_of words.now) ≡ Some (Request.Replay summary file)
-        → (Rose (S.faults input.old) (S.faults input.new) → ⊥)
-        → (Rose (K.faults out.old) (K.faults out.new) → ⊥)
-        → HasStatus S.gives S.ended input.old input.new result ⊎ (result ≡ 4) }
-    ensures listed { (file : Option (List ℕ)) → asked (texts_of words.now) ≡ Some (Request.Rules file)
-        → (Rose (S.faults input.old) (S.faults input.new) → ⊥)
-        → (Rose (K.faults out.old) (K.faults out.new) → ⊥)
-        → HasConfigStatus S.gives S.ended input.old input.new result ⊎ (result ≡ 4) }
-
-    // Where neither the output nor a disk fails, the files of a node on honest disks are shown by `check`, of a
-    // configuration where that has the node and the input does not fail; and where no dial fails, a URL that is
-    // served whole is downloaded by `get`; or memory runs out.
-    ensures checked { (member : Member) (folder : Option (List ℕ)) → asked (texts_of words.now) ≡ Some (Request.Check member folder)
-        → AreHonest D.view (disks control.old alternate.old content.old)
-        → HoldFiles D.view member.nodes (disks control.old alternate.old content.old)
-        → (OneRose D.view (disks control.old alternate.old content.old) (disks control.new alternate.new content.new) → ⊥)
-        → (Rose (K.faults out.old) (K.faults out.new) → ⊥)
-        → IsDoneOrMemory result }
-    ensures shown { (id : ℕ) (paths : Paths) → asked (texts_of words.now) ≡ Some (Request.CheckConfigured id paths)
-        → AreHonest D.view (disks control.old alternate.old content.old)
-        → (OneRose D.view (disks control.old alternate.old content.old) (disks control.new alternate.new content.new) → ⊥)
-        → (Rose (S.faults input.old) (S.faults input.new) → ⊥)
-        → (Rose (K.faults out.old) (K.faults out.new) → ⊥)
-        → HasShownStatus S.gives S.ended D.view (disks control.old alternate.old content.old) id input.old input.new result
-        ⊎ (result ≡ 4) }
-    ensures fetched { (address : List ℕ) → asked (texts_of words.now) ≡ Some (Request.Get (once address))
-        → IsServed address (L.story link.old) (L.story link.new)
-        → (Rose (L.faults link.old).dialling (L.faults link.new).dialling → ⊥)
-        → (Rose (K.faults out.old) (K.faults out.new) → ⊥)
-        → IsDoneOrMemory result }
-
-    // Where nothing fails that `node` names in its status, and it runs on honest disks: its status is that of
-    // what its configuration says, and over the files of a node it is done, or a file is full, or memory
-    // runs out.
-    ensures served { (service : Service) (paths : Paths) → asked (texts_of words.now) ≡ Some (Request.Node service paths)
-        → AreHonest D.view (disks control.old alternate.old content.old)
-        → (OneRose D.view (disks control.old alternate.old content.old) (disks control.new alternate.new content.new) → ⊥)
-        → (Rose (L.faults link.old).listening (L.faults link.new).listening → ⊥)
-        → (Rose (S.faults input.old) (S.faults input.new) → ⊥)
-        → (Rose (K.faults out.old) (K.faults out.new) → ⊥)
-        → HasServiceStatus S.gives S.ended D.view (disks control.old alternate.old content.old) service input.old input.new result
-        ⊎ (result ≡ 4) }
-
-    ensures input_count { NoFall (S.faults input.old) (S.faults input.new) }
-    ensures error_count { NoFall (E.faults err.old) (E.faults err.new) }
+    ensures input_count { NoFall (S.faults outside.input) (S.faults result.outside.input) }
+    ensures error_count { NoFall (E.faults outside.error) (E.faults result.outside.error) }
 
     // The output's count of faults never falls where the work is done, nor where the words ask for no node. For a
-    // node that ends before, `serve` says nothing of it.
-    ensures output_count { IsNoNode (asked (texts_of words.now)) → NoFall (K.faults out.old) (K.faults out.new) }
-    ensures done_count { result ≡ 0 → NoFall (K.faults out.old) (K.faults out.new) }
+    // node that ends before, nothing is said of it.
+    ensures output_count { IsNoNode (asked (texts_of words.now)) → NoFall (K.faults outside.output) (K.faults result.outside.output) }
+    ensures done_count { result.status ≡ 0 → NoFall (K.faults outside.output) (K.faults result.outside.output) }
 {
     let given = read_words(alloc, words);
-    let end = perform(
-        alloc, words, &given, input, out, stage, control, alternate, content, link, clock,
-    );
-    tell_of(err, &end, given);
-    end.status().number()
+    let (end, mut outside) = perform(alloc, words, &given, outside);
+    tell_of(&mut outside.error, &end, given);
+    Ended {
+        status: end.status().number(),
+        outside,
+    }
 }
 
 /// Writes the line of an end on the error output, for what was read from the words.
@@ -159,59 +85,193 @@ fn tell_of<E: Sink>(err: &mut E, end: &End, given: Result<Request, WordsFault>)
 }
 
 /// Does what the words ask for, of which this was read.
-#[allow(clippy::too_many_arguments)]
-fn perform<S: Source, K: Sink, T: Stage, D: Disk, L: Link, C: Clock>(
+fn perform<S: Source, K: Sink, E: Sink, T: Stage, D: Disk, L: Dialler, N: Link>(
     alloc: Global,
     words: &[String],
     given: &Result<Request, WordsFault>,
-    input: &mut S,
-    out: &mut K,
-    stage: &mut T,
-    control: &mut D,
-    alternate: &mut D,
-    content: &mut D,
-    link: &mut L,
-    clock: &mut C,
-) -> End
+    outside: Outside<S, K, E, T, D, L, N>,
+) -> (End, Outside<S, K, E, T, D, L, N>)
     requires answers { Answers (asked (texts_of words.now)) given.now }
     requires range { IfOk given.now IsRequest }
-    ensures happened { Happened (record {
-      asked = asked (texts_of words.now);
-      input = at_source S.gives S.fails S.ended S.faults input.old input.new;
-      output = at_sink K.takes K.fails K.faults out.old out.new;
-      stage = at_stage T.world stage.old stage.new;
-      files = at_files D.view (disks control.old alternate.old content.old) (disks control.new alternate.new content.new);
-      link = at_link L.story L.faults link.old link.new;
-      clock = at_clock clock.old clock.new;
-      node = at_node D.view (disks control.old alternate.old content.old) (disks control.new alternate.new content.new)
-          (seen L.story L.faults C.seconds C.milliseconds link.old clock.old)
-          (seen L.story L.faults C.seconds C.milliseconds link.new clock.new);
-    }) result }
-    ensures misused { asked (texts_of words.now) ≡ None → (result ≡ End.Misused) ⊎ (result ≡ End.NoMemory) }
-    ensures no_memory { given.now ≡ Err WordsFault.Memory → result ≡ End.NoMemory }
-    ensures input_count { NoFall (S.faults input.old) (S.faults input.new) }
-    ensures output_count { IsNoNode (asked (texts_of words.now)) → NoFall (K.faults out.old) (K.faults out.new) }
-    ensures done_count { number_of (status_of result) ≡ 0 → NoFall (K.faults out.old) (K.faults out.new) }
+    ensures happened { Happened (seen S.gives S.fails S.ended S.faults K.takes K.fails K.faults T.world D.view L.story L.faults N.story N.counts
+        (asked (texts_of words.now)) outside result.1) result.0 }
+    ensures misused { asked (texts_of words.now) ≡ None → (result.0 ≡ End.Misused) ⊎ (result.0 ≡ End.NoMemory) }
+    ensures no_memory { given.now ≡ Err WordsFault.Memory → result.0 ≡ End.NoMemory }
+    ensures input_count { NoFall (S.faults outside.input) (S.faults result.1.input) }
+    ensures output_count { IsNoNode (asked (texts_of words.now)) → NoFall (K.faults outside.output) (K.faults result.1.output) }
+    ensures done_count { number_of (status_of result.0) ≡ 0 → NoFall (K.faults outside.output) (K.faults result.1.output) }
+    ensures error { result.1.error ≡ outside.error }
 {
+    let mut outside = outside;
     match given {
-        Ok(Request::Replay { summary, .. }) => {
-            End::Replayed(replay_input(alloc, input, out, stage, *summary))
+        Ok(Request::Node(service, _)) => {
+            let (end, outside) = serve(alloc, *service, outside);
+            (End::Served(end), outside)
         }
-        Ok(Request::Gen(sample)) => End::Generated(write_sample(alloc, *sample, out)),
-        Ok(Request::Rules(_)) => End::Listed(list_rules(alloc, input, out)),
-        Ok(Request::Check(member, _)) => End::Checked(check_files(
-            alloc, *member, out, control, alternate, content,
-        )),
-        Ok(Request::CheckConfigured(id, _)) => End::CheckedConfigured(check_configured(
-            alloc, *id, input, out, control, alternate, content,
-        )),
-        Ok(Request::Get(wanted)) => End::Got(download(alloc, wanted, out, link)),
-        Ok(Request::Node(service, _)) => End::Served(run_service(
-            alloc, *service, input, out, control, alternate, content, link, clock,
-        )),
-        Ok(Request::Help) => write_help(words, out),
-        Ok(Request::Version) => write_version(out),
-        Err(WordsFault::Usage) => End::Misused,
-        Err(WordsFault::Memory) => End::NoMemory,
+        Ok(Request::Check(member, _)) => {
+            let (end, outside) = check(alloc, *member, outside);
+            (End::Checked(end), outside)
+        }
+        Ok(Request::CheckConfigured(id, _)) => {
+            let (end, outside) = check_one_of(alloc, *id, outside);
+            (End::CheckedConfigured(end), outside)
+        }
+        Ok(Request::Replay { summary, .. }) => {
+            let end = replay_input(
+                alloc,
+                &mut outside.input,
+                &mut outside.output,
+                &mut outside.stage,
+                *summary,
+            );
+            (End::Replayed(end), outside)
+        }
+        Ok(Request::Gen(sample)) => {
+            let end = write_sample(alloc, *sample, &mut outside.output);
+            (End::Generated(end), outside)
+        }
+        Ok(Request::Rules(_)) => {
+            let end = list_rules(alloc, &mut outside.input, &mut outside.output);
+            (End::Listed(end), outside)
+        }
+        Ok(Request::Get(wanted)) => {
+            let end = download(alloc, wanted, &mut outside.output, &mut outside.dialler);
+            (End::Got(end), outside)
+        }
+        Ok(Request::Help) => {
+            let end = write_help(words, &mut outside.output);
+            (end, outside)
+        }
+        Ok(Request::Version) => {
+            let end = write_version(&mut outside.output);
+            (end, outside)
+        }
+        Err(WordsFault::Usage) => (End::Misused, outside),
+        Err(WordsFault::Memory) => (End::NoMemory, outside),
     }
+}
+
+/// Runs a node.
+fn serve<S: Source, K: Sink, E: Sink, T: Stage, D: Disk, L: Dialler, N: Link>(
+    alloc: Global,
+    service: Service,
+    outside: Outside<S, K, E, T, D, L, N>,
+) -> (ServiceEnd, Outside<S, K, E, T, D, L, N>)
+    ensures happened { HappenedAtNode
+        (at_source S.gives S.fails S.ended S.faults outside.input result.1.input)
+        (at_node D.view N.story N.counts (disks_in outside.files) (disks_in result.1.files) outside.link result.1.link)
+        (at_sink K.takes K.fails K.faults outside.output result.1.output) service result.0 }
+    ensures files { UnlessRan result.0 (disks_in result.1.files ≡ disks_in outside.files) }
+    ensures link { UnlessRan result.0 (result.1.link ≡ outside.link) }
+    ensures input_count { NoFall (S.faults outside.input) (S.faults result.1.input) }
+    ensures done_count { number_of (status_of_service result.0) ≡ 0 → NoFall (K.faults outside.output) (K.faults result.1.output) }
+
+    // Nothing else was reached.
+    ensures rest { (result.1.error ≡ outside.error) × (result.1.stage ≡ outside.stage) × (result.1.dialler ≡ outside.dialler) }
+{
+    let Outside {
+        mut input,
+        output,
+        error,
+        stage,
+        files,
+        dialler,
+        link,
+    } = outside;
+    let site = Site {
+        files,
+        link,
+        sink: output,
+    };
+    let Served { end, site } = run_service(alloc, service, &mut input, site);
+    let Site { files, link, sink } = site;
+    let outside = Outside {
+        input,
+        output: sink,
+        error,
+        stage,
+        files,
+        dialler,
+        link,
+    };
+    (end, outside)
+}
+
+/// Shows the files of a node.
+fn check<S: Source, K: Sink, E: Sink, T: Stage, D: Disk, L: Dialler, N: Link>(
+    alloc: Global,
+    member: Member,
+    outside: Outside<S, K, E, T, D, L, N>,
+) -> (CheckEnd, Outside<S, K, E, T, D, L, N>)
+    requires { IsMember member }
+    ensures happened { HappenedAtCheck
+        (at_files D.view (disks_in outside.files) (disks_in result.1.files))
+        (at_sink K.takes K.fails K.faults outside.output result.1.output) (network_of member) member.id result.0 }
+    ensures count { NoFall (K.faults outside.output) (K.faults result.1.output) }
+
+    // Nothing else was reached.
+    ensures input { result.1.input ≡ outside.input }
+    ensures rest { (result.1.error ≡ outside.error) × (result.1.stage ≡ outside.stage) }
+    ensures links { (result.1.dialler ≡ outside.dialler) × (result.1.link ≡ outside.link) }
+{
+    let Outside {
+        input,
+        mut output,
+        error,
+        stage,
+        files,
+        dialler,
+        link,
+    } = outside;
+    let (end, files) = check_files(alloc, member, &mut output, files);
+    let outside = Outside {
+        input,
+        output,
+        error,
+        stage,
+        files,
+        dialler,
+        link,
+    };
+    (end, outside)
+}
+
+/// Shows the files of a node of the configuration on the input.
+fn check_one_of<S: Source, K: Sink, E: Sink, T: Stage, D: Disk, L: Dialler, N: Link>(
+    alloc: Global,
+    id: u64,
+    outside: Outside<S, K, E, T, D, L, N>,
+) -> (ConfiguredEnd, Outside<S, K, E, T, D, L, N>)
+    ensures happened { HappenedAtConfigured
+        (at_source S.gives S.fails S.ended S.faults outside.input result.1.input)
+        (at_files D.view (disks_in outside.files) (disks_in result.1.files))
+        (at_sink K.takes K.fails K.faults outside.output result.1.output) id result.0 }
+    ensures files { UnlessChecked result.0 (disks_in result.1.files ≡ disks_in outside.files) }
+    ensures input_count { NoFall (S.faults outside.input) (S.faults result.1.input) }
+    ensures count { NoFall (K.faults outside.output) (K.faults result.1.output) }
+
+    // Nothing else was reached.
+    ensures rest { (result.1.error ≡ outside.error) × (result.1.stage ≡ outside.stage) }
+    ensures links { (result.1.dialler ≡ outside.dialler) × (result.1.link ≡ outside.link) }
+{
+    let Outside {
+        mut input,
+        mut output,
+        error,
+        stage,
+        files,
+        dialler,
+        link,
+    } = outside;
+    let (end, files) = check_configured(alloc, id, &mut input, &mut output, files);
+    let outside = Outside {
+        input,
+        output,
+        error,
+        stage,
+        files,
+        dialler,
+        link,
+    };
+    (end, outside)
 }

@@ -3,10 +3,10 @@
 
 ghost use Rattle.std.specs.Prelude.{◌≡◌, ℕ, Bool, ◌⊎◌, List, Option, Some};
 ghost use Rattle.oc_commands.specs.AtReplay.{status_for};
-ghost use Rattle.oc_keep.specs.Files.{disks};
+ghost use Rattle.oc_keep.specs.Files.{disks_in};
 ghost use Rattle.oc_commands.specs.Ends.{status_of};
 ghost use Rattle.oc_commands.specs.Lines.{line_of};
-ghost use Rattle.oc_commands.specs.Outside.{at_clock, at_files, at_link, at_node, at_stage, seen};
+ghost use Rattle.oc_commands.specs.Outside.{at_files, at_link, at_node, at_stage};
 ghost use Rattle.oc_commands.specs.Run.{Happened};
 ghost use Rattle.oc_words.specs.Paths.{file_asked};
 ghost use Rattle.oc_words.specs.Status.{number_of};
@@ -15,17 +15,37 @@ ghost use Rattle.oc_words.specs.Words.{asked, texts_of};
 ghost use Rattle.oc_commands.specs.declared.ending.End.{End};
 ghost use Rattle.oc_schedule.specs.Schedule.{schedule_of};
 
+use crate::outside::{Ended, Outside};
 use crate::running::run;
+use oc_events::Link;
 use oc_io::{Disk, ReaderSource, Traffic, WriterSink};
-use oc_link::{Clock, Link};
+use oc_keep::Files;
+use oc_link::Link as Dialler;
 use oc_replay::Stage;
 use oc_words::Request;
 use std::alloc::Global;
 use std::io::{Read, Stderr, Stdout};
 
+/// What a run reaches besides its streams.
+#[derive(Drop)]
+pub struct Things<T: Stage, D: Disk, L: Dialler, N: Link> {
+    pub stage: T,
+    pub files: Files<D>,
+    pub dialler: L,
+    pub link: N,
+}
+
+/// The streams of a run: an input, which is the standard one or a file, and the standard outputs.
+#[derive(Drop)]
+pub struct Streams<R: Read> {
+    pub input: R,
+    pub output: Stdout,
+    pub error: Stderr,
+}
+
 /// What a run over bytes in memory left.
 #[derive(Drop)]
-pub struct MemoryRun {
+pub struct MemoryRun<T: Stage, D: Disk, L: Dialler, N: Link> {
     /// The status.
     pub status: u8,
     /// How many bytes of the input were read.
@@ -34,23 +54,18 @@ pub struct MemoryRun {
     pub output: Vec<u8>,
     /// The error output.
     pub error: Vec<u8>,
+    pub things: Things<T, D, L, N>,
 }
 
 /// [`run`] over the bytes of an input, into memory. A read of bytes never fails, but a [`ReaderSource`] is
 /// proved for every reader, of which its relations don't say that; so the ends at which the input failed
 /// are not excluded here.
-#[allow(clippy::too_many_arguments)]
-pub fn run_in_memory<T: Stage, D: Disk, L: Link, C: Clock>(
+pub fn run_in_memory<T: Stage, D: Disk, L: Dialler, N: Link>(
     alloc: Global,
     words: &[String],
     input: &[u8],
-    stage: &mut T,
-    control: &mut D,
-    alternate: &mut D,
-    content: &mut D,
-    link: &mut L,
-    clock: &mut C,
-) -> MemoryRun
+    things: Things<T, D, L, N>,
+) -> MemoryRun<T, D, L, N>
     ensures ended { (end : End) × (usage : List ℕ)
         × (result.status ≡ number_of (status_of end))
         × IsLineOrFront result.error.items (line_of end (file_asked (asked (texts_of words.now))) usage)
@@ -58,46 +73,46 @@ pub fn run_in_memory<T: Stage, D: Disk, L: Link, C: Clock>(
           asked = asked (texts_of words.now);
           input = at_bytes input.now result.read;
           output = at_text result.output.items;
-          stage = at_stage T.world stage.old stage.new;
-          files = at_files D.view (disks control.old alternate.old content.old) (disks control.new alternate.new content.new);
-          link = at_link L.story L.faults link.old link.new;
-          clock = at_clock clock.old clock.new;
-          node = at_node D.view (disks control.old alternate.old content.old) (disks control.new alternate.new content.new)
-              (seen L.story L.faults C.seconds C.milliseconds link.old clock.old)
-              (seen L.story L.faults C.seconds C.milliseconds link.new clock.new);
+          stage = at_stage T.world things.stage result.things.stage;
+          files = at_files D.view (disks_in things.files) (disks_in result.things.files);
+          link = at_link L.story L.faults things.dialler result.things.dialler;
+          node = at_node D.view N.story N.counts (disks_in things.files) (disks_in result.things.files) things.link result.things.link;
         }) end }
 
     // The status of a replay is that of what these bytes say, or the output failed, or memory runs out.
     ensures replayed { (summary : Bool) (file : Option (List ℕ)) → asked (texts_of words.now) ≡ Some (Request.Replay summary file)
         → (result.status ≡ status_for (schedule_of input.now)) ⊎ (result.status ≡ 1) ⊎ (result.status ≡ 4) }
 {
-    let mut source = ReaderSource::new(input);
-    let mut out = WriterSink::new(Vec::new(alloc));
-    let mut err = WriterSink::new(Vec::new(alloc));
-    let status = run(
-        alloc,
-        words,
-        &mut source,
-        &mut out,
-        &mut err,
-        stage,
-        control,
-        alternate,
-        content,
-        link,
-        clock,
-    );
+    let source = ReaderSource::new(input);
+    let out = WriterSink::new(Vec::new(alloc));
+    let err = WriterSink::new(Vec::new(alloc));
+    let outside = Outside {
+        input: source,
+        output: out,
+        error: err,
+        stage: things.stage,
+        files: things.files,
+        dialler: things.dialler,
+        link: things.link,
+    };
+    let Ended { status, outside } = run(alloc, words, outside);
     MemoryRun {
         status,
-        read: source.traffic().bytes,
-        output: out.into_writer(),
-        error: err.into_writer(),
+        read: outside.input.traffic().bytes,
+        output: outside.output.into_writer(),
+        error: outside.error.into_writer(),
+        things: Things {
+            stage: outside.stage,
+            files: outside.files,
+            dialler: outside.dialler,
+            link: outside.link,
+        },
     }
 }
 
 /// What a run over the standard streams left.
-#[derive(Clone, Copy)]
-pub struct StreamsRun {
+#[derive(Drop)]
+pub struct StreamsRun<T: Stage, D: Disk, L: Dialler, N: Link> {
     /// The status.
     pub status: u8,
     /// What was read on the input.
@@ -106,27 +121,20 @@ pub struct StreamsRun {
     pub output: Traffic,
     /// What was written on standard error.
     pub error: Traffic,
+    pub things: Things<T, D, L, N>,
 }
 
-/// [`run`] over streams: an input, which is the standard one or a file, and the standard outputs. No contract can say
+/// [`run`] over streams. No contract can say
 /// which bytes pass there; how many, this one does: as
 /// many were read as some text has that says what the end tells, and exactly as many were written as the
 /// text that had to be written has, for `node` as many as the lines of its deeds have. Where
 /// no end blames the input or the output, no call on it failed.
-#[allow(clippy::too_many_arguments)]
-pub fn run_on_streams<R: Read + Drop, T: Stage, D: Disk, L: Link, C: Clock>(
+pub fn run_on_streams<R: Read + Drop, T: Stage, D: Disk, L: Dialler, N: Link>(
     alloc: Global,
     words: &[String],
-    input: R,
-    output: Stdout,
-    error: Stderr,
-    stage: &mut T,
-    control: &mut D,
-    alternate: &mut D,
-    content: &mut D,
-    link: &mut L,
-    clock: &mut C,
-) -> StreamsRun
+    streams: Streams<R>,
+    things: Things<T, D, L, N>,
+) -> StreamsRun<T, D, L, N>
     ensures ended { (end : End) × (usage : List ℕ)
         × (result.status ≡ number_of (status_of end))
         × IsCountOfLineOrFront result.error (line_of end (file_asked (asked (texts_of words.now))) usage)
@@ -134,35 +142,35 @@ pub fn run_on_streams<R: Read + Drop, T: Stage, D: Disk, L: Link, C: Clock>(
           asked = asked (texts_of words.now);
           input = at_input result.input;
           output = at_output result.output;
-          stage = at_stage T.world stage.old stage.new;
-          files = at_files D.view (disks control.old alternate.old content.old) (disks control.new alternate.new content.new);
-          link = at_link L.story L.faults link.old link.new;
-          clock = at_clock clock.old clock.new;
-          node = at_node D.view (disks control.old alternate.old content.old) (disks control.new alternate.new content.new)
-              (seen L.story L.faults C.seconds C.milliseconds link.old clock.old)
-              (seen L.story L.faults C.seconds C.milliseconds link.new clock.new);
+          stage = at_stage T.world things.stage result.things.stage;
+          files = at_files D.view (disks_in things.files) (disks_in result.things.files);
+          link = at_link L.story L.faults things.dialler result.things.dialler;
+          node = at_node D.view N.story N.counts (disks_in things.files) (disks_in result.things.files) things.link result.things.link;
         }) end }
 {
-    let mut stdin = ReaderSource::new(input);
-    let mut stdout = WriterSink::new(output);
-    let mut stderr = WriterSink::new(error);
-    let status = run(
-        alloc,
-        words,
-        &mut stdin,
-        &mut stdout,
-        &mut stderr,
-        stage,
-        control,
-        alternate,
-        content,
-        link,
-        clock,
-    );
+    let stdin = ReaderSource::new(streams.input);
+    let stdout = WriterSink::new(streams.output);
+    let stderr = WriterSink::new(streams.error);
+    let outside = Outside {
+        input: stdin,
+        output: stdout,
+        error: stderr,
+        stage: things.stage,
+        files: things.files,
+        dialler: things.dialler,
+        link: things.link,
+    };
+    let Ended { status, outside } = run(alloc, words, outside);
     StreamsRun {
         status,
-        input: stdin.traffic(),
-        output: stdout.traffic(),
-        error: stderr.traffic(),
+        input: outside.input.traffic(),
+        output: outside.output.traffic(),
+        error: outside.error.traffic(),
+        things: Things {
+            stage: outside.stage,
+            files: outside.files,
+            dialler: outside.dialler,
+            link: outside.link,
+        },
     }
 }

@@ -1,11 +1,6 @@
--- What is known of a real disk and a real clock: sizes and counts, and nothing of what they hold.
-use Rattle.std.specs.Prelude.{ℕ, ◌^◌, false, None, []}
-use Rattle.oc_link.specs.ClockView.{Series}
+-- What is known of a real disk: its size and counts, and nothing of what it holds.
+use Rattle.std.specs.Prelude.{ℕ, ◌^◌, false, []}
 use Rattle.oc_io.specs.DiskView.{DiskView}
-
--- a clock that tells no number
-abbrev pub untold_series : Series
-untold_series = record { last = None; coming = None }
 
 -- a file of this size of which `faults` calls failed: nothing is claimed of its bytes or of a crash, and
 -- its spare room has no limit of its own

@@ -1,14 +1,13 @@
 ghost use Rattle.std.specs.Prelude.{◌≡◌, ◌≤◌, length, IfOk};
 
-use crate::sockets::millis;
 use std::alloc::Global;
 use std::io::{self, ErrorKind, Read, Write};
 use std::net::{Net, TcpStream, ToSocketAddrs};
 use std::rt::Clock;
 use std::time::Duration;
 
-/// How long a call waits at most where no time is set, in milliseconds.
-const CALL_MILLIS: u64 = 10_000;
+/// How long a call waits at most, in milliseconds. A node may keep one that follows waiting for ten seconds.
+const CALL_MILLIS: u64 = 40_000;
 
 /// How often a call is made at most, as long as it is interrupted or its bytes are not all written.
 const MOST_TRIES: u32 = 1_000_000;
@@ -28,15 +27,13 @@ pub(crate) struct Outgoing {
 }
 
 impl Outgoing {
-    /// Connects to the address, a host or an IP address and a port, until that time. Each of its addresses is
-    /// tried in turn.
+    /// Connects to the address, a host or an IP address and a port. Each of its addresses is tried in turn.
     pub(crate) fn reach<R: Net<Stream = TcpStream> + Clock>(
         rt: &R,
         alloc: Global,
         address: &str,
-        until: Option<u64>,
     ) -> io::Result<Outgoing> {
-        let stream = connected(rt, address, deadline(rt, until))?;
+        let stream = connected(rt, address)?;
         stream.set_nodelay(true)?;
         Ok(Outgoing {
             stream,
@@ -46,14 +43,9 @@ impl Outgoing {
         })
     }
 
-    /// Writes all these bytes, until that time.
-    pub(crate) fn write_all<R: Clock>(
-        &mut self,
-        rt: &R,
-        bytes: &[u8],
-        until: Option<u64>,
-    ) -> io::Result<()> {
-        let until = deadline(rt, until);
+    /// Writes all these bytes.
+    pub(crate) fn write_all<R: Clock>(&mut self, rt: &R, bytes: &[u8]) -> io::Result<()> {
+        let until = deadline(rt);
         let mut written = 0usize;
         for _ in 0..MOST_TRIES {
             let rest = bytes.get(written..).unwrap_or(&[]);
@@ -85,9 +77,9 @@ impl Outgoing {
         count
     }
 
-    /// Reads another piece from the system, until that time. Answers its length, and 0 at the end.
-    pub(crate) fn fill<R: Clock>(&mut self, rt: &R, until: Option<u64>) -> io::Result<usize> {
-        let until = deadline(rt, until);
+    /// Reads another piece from the system. Answers its length, and 0 at the end.
+    pub(crate) fn fill<R: Clock>(&mut self, rt: &R) -> io::Result<usize> {
+        let until = deadline(rt);
         self.given = 0;
         self.came = 0;
         for _ in 0..MOST_TRIES {
@@ -106,17 +98,14 @@ impl Outgoing {
     }
 
     /// What came and was not given yet.
-    pub(crate) fn waiting(&self) -> &[u8] {
+    fn waiting(&self) -> &[u8] {
         self.piece.get(self.given..self.came).unwrap_or(&[])
     }
 }
 
-/// A connection to the first of the addresses that takes one, until that time.
-fn connected<R: Net<Stream = TcpStream> + Clock>(
-    rt: &R,
-    address: &str,
-    until: u64,
-) -> io::Result<TcpStream> {
+/// A connection to the first of the addresses that takes one.
+fn connected<R: Net<Stream = TcpStream> + Clock>(rt: &R, address: &str) -> io::Result<TcpStream> {
+    let until = deadline(rt);
     let mut last = io::Error::from(ErrorKind::AddrNotAvailable);
     for each in address.to_socket_addrs(rt)? {
         match TcpStream::connect_timeout(rt, &each, time_left(rt, until)?) {
@@ -128,10 +117,15 @@ fn connected<R: Net<Stream = TcpStream> + Clock>(
 }
 
 /// Until when a call may last that begins now, in milliseconds.
-fn deadline<R: Clock>(rt: &R, until: Option<u64>) -> u64 {
-    match until {
-        Some(until) => until,
-        None => millis(rt).saturating_add(CALL_MILLIS),
+fn deadline<R: Clock>(rt: &R) -> u64 {
+    millis(rt).saturating_add(CALL_MILLIS)
+}
+
+/// The time in milliseconds, from a moment of the system's choice.
+fn millis<R: Clock>(rt: &R) -> u64 {
+    match rt.monotonic() {
+        Ok(time) => u64::try_from(time.as_millis()).unwrap_or(u64::MAX),
+        Err(_) => 0,
     }
 }
 
@@ -145,7 +139,7 @@ fn time_left<R: Clock>(rt: &R, until: u64) -> io::Result<Duration> {
 }
 
 /// Puts a prefix of the bytes at the front of the buffer, as many as fit.
-pub(crate) fn copy_front(bytes: &[u8], buf: &mut [u8]) -> usize
+fn copy_front(bytes: &[u8], buf: &mut [u8]) -> usize
     ensures within { result ≤ length buf.old }
     ensures length { length buf.new ≡ length buf.old }
 {

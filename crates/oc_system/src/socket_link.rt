@@ -1,7 +1,6 @@
 ghost use Rattle.std.specs.Prelude.{◌≡◌};
 
 use crate::dials::Dials;
-use crate::sockets::Sockets;
 use crate::trouble::Trouble;
 use oc_io::Failed;
 use oc_link::{Arrival, Link};
@@ -10,58 +9,36 @@ use std::io;
 use std::net::{Net, TcpStream};
 use std::rt::Clock;
 
-/// How many bytes passed through the calls of a link.
-#[derive(Clone, Copy, Debug, PartialEq, Eq)]
-pub struct Traffic {
-    /// Those that were read.
-    pub came: u64,
-    /// Those that were written.
-    pub went: u64,
-}
-
-/// Sockets as a link.
+/// Sockets by which a client dials, as a link. Nobody is waited for on it.
 #[derive(Drop)]
 pub struct SocketLink<'a, R> {
-    rt: &'a R,
-    alloc: Global,
-    sockets: Option<Sockets>,
     dials: Dials<'a, R>,
-    came: u64,
-    went: u64,
     listening: u64,
     talking: u64,
     dialling: u64,
-    /// The node that waits for connections, if one does.
-    node: Option<u64>,
-    /// Where the last call that ends a run failed, and why.
+    /// Where the last dial failed, and why.
     place: String,
     error: Option<io::Error>,
 }
 
-impl<'a, R: Net<Stream = TcpStream> + Clock + Eprint> SocketLink<'a, R> {
-    /// A link over the sockets of this runtime, for the node of this id if one runs.
-    pub fn new(rt: &'a R, alloc: Global, node: Option<u64>) -> SocketLink<'a, R>
+impl<'a, R: Net<Stream = TcpStream> + Clock> SocketLink<'a, R> {
+    /// A link over the sockets of this runtime.
+    pub fn new(rt: &'a R, alloc: Global) -> SocketLink<'a, R>
         ensures listening { result.listening ≡ 0 }
         ensures talking { result.talking ≡ 0 }
         ensures dialling { result.dialling ≡ 0 }
     {
         SocketLink {
-            rt,
-            alloc,
-            sockets: None,
             dials: Dials::new(rt, alloc),
-            came: 0,
-            went: 0,
             listening: 0,
             talking: 0,
             dialling: 0,
-            node,
             place: String::new(alloc),
             error: None,
         }
     }
 
-    /// Why a call failed that ends a run, if one did: to wait for connections, or a dial where none are waited for.
+    /// Why a dial failed, if one did.
     pub fn trouble(&self) -> Option<Trouble<'_>> {
         match self.error {
             Some(error) => Some(Trouble {
@@ -69,24 +46,6 @@ impl<'a, R: Net<Stream = TcpStream> + Clock + Eprint> SocketLink<'a, R> {
                 error,
             }),
             None => None,
-        }
-    }
-
-    /// Sends on what replies have still to go out, for as long as any makes progress.
-    pub fn finish(&mut self) {
-        if let Some(sockets) = &mut self.sockets {
-            sockets.finish(self.rt);
-        }
-    }
-
-    /// How many bytes passed through its calls so far, over all connections.
-    pub fn traffic(&self) -> Traffic
-        ensures came { result.came ≡ self.now.came }
-        ensures went { result.went ≡ self.now.went }
-    {
-        Traffic {
-            came: self.came,
-            went: self.went,
         }
     }
 }
@@ -100,94 +59,39 @@ fn keep(kept: &mut Option<io::Error>, place: &mut String, address: &str, error: 
     };
 }
 
-/// Says on the error output where a node waits for connections. Where that fails, nothing else happens.
-fn announce<R: Eprint>(rt: &R, node: Option<u64>, address: &str) {
-    if let Some(id) = node {
-        let _ = eprintln!(rt; "overcast: node {id} listens at {address}");
-    }
-}
-
-impl<R: Net<Stream = TcpStream> + Clock + Eprint> Link for SocketLink<'_, R> {
+impl<R: Net<Stream = TcpStream> + Clock> Link for SocketLink<'_, R> {
     ghost use Rattle.std.specs.Prelude.{None};
 
     ghost story = { λ link. None };
 
     ghost faults = { λ link. record { listening = link.listening; talking = link.talking; dialling = link.dialling } };
 
-    fn listen(&mut self, address: &str) -> Result<(), Failed> {
-        match Sockets::listen(self.rt, self.alloc, address) {
-            Ok(sockets) => {
-                self.sockets = Some(sockets);
-                announce(self.rt, self.node, address);
-                Ok(())
-            }
-            Err(error) => {
-                keep(&mut self.error, &mut self.place, address, error);
-                self.listening = self.listening.saturating_add(1);
-                Err(Failed)
-            }
-        }
+    fn listen(&mut self, _address: &str) -> Result<(), Failed> {
+        self.listening = self.listening.saturating_add(1);
+        Err(Failed)
     }
 
     fn next(&mut self) -> Result<Arrival, Failed> {
-        let Some(sockets) = &mut self.sockets else {
-            return Ok(Arrival::Quiet);
-        };
-        match sockets.next(self.rt) {
-            Ok(true) => Ok(Arrival::Conn),
-            Ok(false) => Ok(Arrival::Quiet),
-            Err(_) => {
-                self.listening = self.listening.saturating_add(1);
-                Err(Failed)
-            }
-        }
+        Ok(Arrival::Quiet)
     }
 
-    fn read(&mut self, buf: &mut [u8]) -> Result<usize, Failed> {
-        let Some(sockets) = &mut self.sockets else {
-            return Ok(0);
-        };
-        match sockets.read(self.rt, buf) {
-            Ok(count) => {
-                self.came = self.came.saturating_add(count as u64);
-                Ok(count)
-            }
-            Err(_) => {
-                self.talking = self.talking.saturating_add(1);
-                Err(Failed)
-            }
-        }
+    fn read(&mut self, _buf: &mut [u8]) -> Result<usize, Failed> {
+        Ok(0)
     }
 
-    fn write(&mut self, bytes: &[u8]) -> Result<usize, Failed> {
-        if let Some(sockets) = &mut self.sockets {
-            if let Ok(count) = sockets.write(self.rt, bytes) {
-                self.went = self.went.saturating_add(count as u64);
-                return Ok(count);
-            }
-        }
+    fn write(&mut self, _bytes: &[u8]) -> Result<usize, Failed> {
         self.talking = self.talking.saturating_add(1);
         Err(Failed)
     }
 
-    fn close(&mut self) {
-        if let Some(sockets) = &mut self.sockets {
-            sockets.close(self.rt);
-        }
-    }
+    fn close(&mut self) {}
 
     fn dial(&mut self, address: &str, bytes: &[u8]) -> Result<(), Failed> {
-        match self.dials.reach(address, bytes, self.sockets.is_some()) {
-            Ok(()) => {
-                self.went = self.went.saturating_add(bytes.len() as u64);
-                Ok(())
-            }
+        match self.dials.reach(address, bytes) {
+            Ok(()) => Ok(()),
             Err(error) => {
-                if self.sockets.is_none() {
-                    keep(&mut self.error, &mut self.place, address, error);
-                }
+                keep(&mut self.error, &mut self.place, address, error);
                 self.dials.hang_up();
-                self.dials.give_up(&mut self.sockets);
                 self.dialling = self.dialling.saturating_add(1);
                 Err(Failed)
             }
@@ -196,12 +100,8 @@ impl<R: Net<Stream = TcpStream> + Clock + Eprint> Link for SocketLink<'_, R> {
 
     fn dial_more(&mut self, bytes: &[u8]) -> Result<(), Failed> {
         match self.dials.ask(bytes) {
-            Ok(()) => {
-                self.went = self.went.saturating_add(bytes.len() as u64);
-                Ok(())
-            }
+            Ok(()) => Ok(()),
             Err(_) => {
-                self.dials.give_up(&mut self.sockets);
                 self.dialling = self.dialling.saturating_add(1);
                 Err(Failed)
             }
@@ -210,13 +110,8 @@ impl<R: Net<Stream = TcpStream> + Clock + Eprint> Link for SocketLink<'_, R> {
 
     fn dial_read(&mut self, buf: &mut [u8]) -> Result<usize, Failed> {
         match self.dials.hear(buf) {
-            Ok(count) => {
-                self.dials.tell_work(&mut self.sockets);
-                self.came = self.came.saturating_add(count as u64);
-                Ok(count)
-            }
+            Ok(count) => Ok(count),
             Err(_) => {
-                self.dials.give_up(&mut self.sockets);
                 self.dialling = self.dialling.saturating_add(1);
                 Err(Failed)
             }

@@ -1,8 +1,8 @@
 use Rattle.std.proofs.Common.{◌≡◌, ◌∙◌, ◌⊎◌, ◌≤◌, ◌^◌, ◌-◌, length, ap, rules, sym, subst}
 use Rattle.oc_schedule.specs.Schedule.{schedule_of}
 use Rattle.oc_commands.specs.AtReplay.{status_for}
-use Rattle.oc_keep.specs.Files.{disks}
-use Rattle.oc_commands.specs.Outside.{at_clock, at_files, at_link, at_node, at_stage, seen}
+use Rattle.oc_keep.specs.Files.{disks_in}
+use Rattle.oc_commands.specs.Outside.{at_files, at_link, at_node, at_stage}
 use Rattle.oc_words.specs.Words.{asked, texts_of}
 use Rattle.oc_program.proofs.Passed.{bytes_told, line_told, text_told}
 use Rattle.oc_program.proofs.InMemory.{replayed_of}
@@ -13,21 +13,22 @@ pub returns : goal.returns
 returns g c =
     let (end, usage, is, line, happened) = c.run-status.ensures.ended in
     let words = asked (texts_of c.args.words.now) in
-    let stage = at_stage g.T.Stage.world c.args.stage.now c.run-status.new.stage in
-    let files = at_files g.D.Disk.view (disks c.args.control.now c.args.alternate.now c.args.content.now) (disks c.run-status.new.control c.run-status.new.alternate c.run-status.new.content) in
-    let link = at_link g.L.Link.story g.L.Link.faults c.args.link.now c.run-status.new.link in
-    let clock = at_clock c.args.clock.now c.run-status.new.clock in
-    let node = at_node g.D.Disk.view (disks c.args.control.now c.args.alternate.now c.args.content.now) (disks c.run-status.new.control c.run-status.new.alternate c.run-status.new.content) (seen g.L.Link.story g.L.Link.faults g.C.Clock.seconds g.C.Clock.milliseconds c.args.link.now c.args.clock.now) (seen g.L.Link.story g.L.Link.faults g.C.Clock.seconds g.C.Clock.milliseconds c.run-status.new.link c.run-status.new.clock) in
+    let things = c.args.things in
+    let outside = c.run-status.result.outside in
+    let stage = at_stage g.T.Stage.world things.stage outside.stage in
+    let files = at_files g.D.Disk.view (disks_in things.files) (disks_in outside.files) in
+    let link = at_link g.L.Link.story g.L.Link.faults things.dialler outside.dialler in
+    let node = at_node g.D.Disk.view g.N.Link.story g.N.Link.counts (disks_in things.files) (disks_in outside.files) things.link outside.link in
     let few : length c.args.input.now ≤ 2 ^ 64 - 1 = search rules in
     let fits : c.traffic.result.bytes ≤ 2 ^ 64 - 1 = search rules in
-    let input = bytes_told c.new-source.result c.run-status.new.input (λ r. r.now) c.new-source.ensures.passed
+    let input = bytes_told c.new-source.result outside.input (λ r. r.now) c.new-source.ensures.passed
     c.args.input.now (ap (λ r. r.now) c.new-source.ensures.reader) few c.traffic.result.bytes c.traffic.ensures.bytes fits in
-    let output = text_told c.new-out.result c.run-status.new.out (λ v. v.items) (ap (λ v. v.items) c.new-out.ensures.writer ∙ c.new.ensures.items)
+    let output = text_told c.new-out.result outside.output (λ v. v.items) (ap (λ v. v.items) c.new-out.ensures.writer ∙ c.new.ensures.items)
     c.into_writer.result.items (ap (λ v. v.items) c.into_writer.ensures) in
-    let written = line_told c.new-err.result c.run-status.new.err (λ v. v.items) (ap (λ v. v.items) c.new-err.ensures.writer ∙ c.new-2.ensures.items)
+    let written = line_told c.new-err.result outside.error (λ v. v.items) (ap (λ v. v.items) c.new-err.ensures.writer ∙ c.new-2.ensures.items)
     c.into_writer-2.result.items (ap (λ v. v.items) c.into_writer-2.ensures) _ line in
-    let told = happened_told _ _ _ _ stage input output words files link clock node end happened in
+    let told = happened_told _ _ _ _ stage input output words files link node end happened in
     record {
       ended = (end, usage, is, written, told);
-      replayed = λ summary file asks. subst (λ n. (n ≡ status_for (schedule_of c.args.input.now)) ⊎ (n ≡ 1) ⊎ (n ≡ 4)) (sym is) (replayed_of c.args.input.now c.traffic.result.bytes _ stage files link clock node summary file words end asks told);
+      replayed = λ summary file asks. subst (λ n. (n ≡ status_for (schedule_of c.args.input.now)) ⊎ (n ≡ 1) ⊎ (n ≡ 4)) (sym is) (replayed_of c.args.input.now c.traffic.result.bytes _ stage files link node summary file words end asks told);
     }

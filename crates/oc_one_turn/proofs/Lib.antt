@@ -1,5 +1,0 @@
-pub mod Placed
-pub mod Sends
-pub mod Whole
-pub mod Probed
-pub mod Still

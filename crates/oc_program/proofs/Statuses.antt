@@ -1,0 +1,93 @@
+-- What had happened leaves each request its status.
+use Rattle.std.proofs.Common.{◌≡◌, ℕ, ◌⊎◌, List, Option, Some, None, inl, inr, refl, ap}
+use Rattle.oc_commands.specs.Outside as sayings
+use Rattle.oc_commands.specs.Outside.{OnFiles, OnLink, OnNode, OnStage, Output, at_files, at_link, at_node, at_sink, at_stage}
+use Rattle.oc_commands.specs.Ends.{status_of}
+use Rattle.oc_commands.specs.Run.{Happened}
+use Rattle.oc_commands.specs.declared.ending.End.{End}
+use Rattle.oc_commands.specs.declared.ending.End.TheVariants.{Misused, NoMemory}
+use Rattle.oc_commands.proofs.Completes.{IsSound, checked, fetched}
+use Rattle.oc_commands.proofs.Configured.{shown}
+use Rattle.oc_commands.proofs.Serves.{served}
+use Rattle.oc_commands.proofs.Works.{generated, helped, listed, replayed, versioned}
+use Rattle.oc_events.specs.declared.call.Call.{Call}
+use Rattle.oc_events.specs.declared.counts.Counts.{Counts}
+use Rattle.oc_io.specs.DiskView.{DiskView}
+use Rattle.oc_keep.specs.Files.{Disks, disks_in}
+use Rattle.oc_link.specs.LinkCalls.{LinkFaults}
+use Rattle.oc_link.specs.Story.{Story}
+use Rattle.oc_model.specs.World.{World}
+use Rattle.oc_words.specs.Status.{number_of}
+use Rattle.oc_words.specs.declared.request.Download.{Download}
+use Rattle.oc_words.specs.declared.request.Request.{Request}
+use Rattle.oc_words.specs.declared.request.Request.TheVariants.{Check, CheckConfigured, Gen, Get, Help, Node, Replay, Rules, Version}
+use Rattle.oc_program.specs.Seen.{seen}
+use Rattle.oc_program.specs.StatusFor.{OutputHeld, StatusFor, StatusForGet}
+use Rattle.oc_program.specs.declared.outside.Outside.{Outside}
+
+-- the status of an end is 2 or 4 where the end is one of these two
+misused_number : (end : End) → (end ≡ Misused) ⊎ (end ≡ NoMemory) → (number_of (status_of end) ≡ 2) ⊎ (number_of (status_of end) ≡ 4)
+misused_number end (inl is) = inl (ap (λ e. number_of (status_of e)) is)
+misused_number end (inr is) = inr (ap (λ e. number_of (status_of e)) is)
+
+module _ {S K E T D L N : Type 0} (gives gives_less : S → List ℕ → S → Type 0) (ended : S → Type 0) (input_faults : S → ℕ)
+    (takes takes_less : K → List ℕ → K → Type 0) (output_faults : K → ℕ) (world : T → World) (view : D → DiskView)
+    (dials : L → Option Story) (dial_faults : L → LinkFaults) (calls : N → Option (List Call)) (counts : N → Counts) (old new : Outside S K E T D L N) where
+  abbrev o : Option Request → sayings.Outside
+  o asked = seen gives gives_less ended input_faults takes takes_less output_faults world view dials dial_faults calls counts asked old new
+
+  abbrev For : Option Request → ℕ → Type 0
+  For asked status = StatusFor gives ended input_faults output_faults view dials dial_faults counts old new asked status
+
+  abbrev output : Output
+  output = at_sink takes takes_less output_faults old.output new.output
+
+  abbrev stage : OnStage
+  stage = at_stage world old.stage new.stage
+
+  abbrev before : Disks D
+  before = disks_in old.files
+
+  abbrev behind : Disks D
+  behind = disks_in new.files
+
+  abbrev files : OnFiles
+  files = at_files view before behind
+
+  abbrev link : OnLink
+  link = at_link dials dial_faults old.dialler new.dialler
+
+  abbrev node : OnNode
+  node = at_node view calls counts before behind old.link new.link
+
+  sound_of : OutputHeld gives ended input_faults output_faults view dials dial_faults counts old new → IsSound output
+  sound_of held text cut = held cut.1
+
+  get_for : (d : Download) (times : Option ℕ) (end : End) → d.times ≡ times → Happened (o (Some (Get d))) end
+      → StatusForGet gives ended input_faults output_faults view dials dial_faults counts old new d.address times (number_of (status_of end))
+  get_for d None end is h = λ whole dialled held.
+      fetched dials dial_faults old.dialler new.dialler output (sound_of held) dialled
+      (o None).input stage files node (Some (Get d)) d.address end (ap (λ t. Some (Get (record { address = d.address; times = t }))) is) whole h
+  get_for d (Some times) end is h = tt
+
+  pub status_for : (asked : Option Request) (end : End) → Happened (o asked) end → (asked ≡ None → (end ≡ Misused) ⊎ (end ≡ NoMemory)) → For asked (number_of (status_of end))
+  status_for None end h misused = misused_number end (misused refl)
+  status_for (Some Help) end h misused = λ held. helped (o (Some Help)) (sound_of held) end refl h
+  status_for (Some Version) end h misused = λ held. versioned (o (Some Version)) (sound_of held) end refl h
+  status_for (Some (Gen sample)) end h misused = λ held. generated (o (Some (Gen sample))) (sound_of held) sample end refl h
+  status_for (Some (Replay summary file)) end h misused = λ came held.
+      replayed gives gives_less ended input_faults old.input new.input output stage came (sound_of held)
+      (Some (Replay summary file)) files link node summary file end refl h
+  status_for (Some (Rules file)) end h misused = λ came held.
+      listed gives gives_less ended input_faults old.input new.input output stage came (sound_of held)
+      (Some (Rules file)) files link node file end refl h
+  status_for (Some (Check member folder)) end h misused = λ kept held there.
+      checked view before behind output (sound_of held) kept.0 kept.1
+      (o None).input stage link node (Some (Check member folder)) member folder end refl there h
+  status_for (Some (CheckConfigured id paths)) end h misused = λ kept came held.
+      shown gives gives_less ended input_faults old.input new.input view before behind output kept.0 kept.1 came (sound_of held)
+      stage link node (Some (CheckConfigured id paths)) id paths end refl h
+  status_for (Some (Get download)) end h misused = get_for download download.times end refl h
+  status_for (Some (Node service paths)) end h misused = λ kept waiting came held.
+      served gives gives_less ended input_faults old.input new.input view before behind calls counts old.link new.link output kept.0 kept.1 waiting came (sound_of held)
+      stage link (Some (Node service paths)) service paths end refl h

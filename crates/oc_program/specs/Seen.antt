@@ -1,0 +1,27 @@
+-- What can be said of all that a run reaches, from its old value to the new one.
+use Rattle.std.specs.Prelude.{ℕ, List, Option}
+use Rattle.oc_commands.specs.Outside as sayings
+use Rattle.oc_commands.specs.Outside.{at_files, at_link, at_node, at_sink, at_source, at_stage}
+use Rattle.oc_events.specs.declared.call.Call.{Call}
+use Rattle.oc_events.specs.declared.counts.Counts.{Counts}
+use Rattle.oc_io.specs.DiskView.{DiskView}
+use Rattle.oc_keep.specs.Files.{disks_in}
+use Rattle.oc_link.specs.LinkCalls.{LinkFaults}
+use Rattle.oc_link.specs.Story.{Story}
+use Rattle.oc_model.specs.World.{World}
+use Rattle.oc_words.specs.declared.request.Request.{Request}
+use Rattle.oc_program.specs.declared.outside.Outside.{Outside}
+
+module _ {S K E T D L N : Type 0} (gives gives_less : S → List ℕ → S → Type 0) (ended : S → Type 0) (input_faults : S → ℕ)
+    (takes takes_less : K → List ℕ → K → Type 0) (output_faults : K → ℕ) (world : T → World) (view : D → DiskView)
+    (dials : L → Option Story) (dial_faults : L → LinkFaults) (calls : N → Option (List Call)) (counts : N → Counts) where
+  abbrev pub seen : Option Request → Outside S K E T D L N → Outside S K E T D L N → sayings.Outside
+  seen asked old new = record {
+    asked = asked;
+    input = at_source gives gives_less ended input_faults old.input new.input;
+    output = at_sink takes takes_less output_faults old.output new.output;
+    stage = at_stage world old.stage new.stage;
+    files = at_files view (disks_in old.files) (disks_in new.files);
+    link = at_link dials dial_faults old.dialler new.dialler;
+    node = at_node view calls counts (disks_in old.files) (disks_in new.files) old.link new.link;
+  }

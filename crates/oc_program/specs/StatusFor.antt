@@ -1,0 +1,58 @@
+-- Which status comes for which request, where nothing fails that the command names in its status.
+use Rattle.std.specs.Prelude.{◌≡◌, ◌⊎◌, ℕ, List, Option, Some, None}
+use Rattle.oc_commands.specs.AtConfigured.{HasShownStatus}
+use Rattle.oc_commands.specs.AtNode.{HasServiceStatus}
+use Rattle.oc_commands.specs.AtReplay.{HasStatus}
+use Rattle.oc_commands.specs.AtRules.{HasConfigStatus}
+use Rattle.oc_commands.specs.Complete.{IsDoneOrMemory, IsServed}
+use Rattle.oc_events.specs.declared.counts.Counts.{Counts}
+use Rattle.oc_io.specs.DiskView.{DiskView}
+use Rattle.oc_io.specs.Faults.{Rose}
+use Rattle.oc_keep.specs.Files.{AreHonest, OneRose, disks_in}
+use Rattle.oc_keep.specs.Promises.{HoldFiles}
+use Rattle.oc_link.specs.LinkCalls.{LinkFaults}
+use Rattle.oc_link.specs.Story.{Story}
+use Rattle.oc_words.specs.declared.request.Request.{Request}
+use Rattle.oc_words.specs.declared.request.Request.TheVariants.{Check, CheckConfigured, Gen, Get, Help, Node, Replay, Rules, Version}
+use Rattle.oc_program.specs.declared.outside.Outside.{Outside}
+
+module _ {S K E T D L N : Type 0} (gives : S → List ℕ → S → Type 0) (ended : S → Type 0) (input_faults : S → ℕ) (output_faults : K → ℕ)
+    (view : D → DiskView) (dials : L → Option Story) (dial_faults : L → LinkFaults) (counts : N → Counts) (old new : Outside S K E T D L N) where
+  -- What did not fail: the input, the output, a disk of those that are honest, a dial, and the link of a node in being asked
+
+  abbrev pub InputHeld : Type 0
+  InputHeld = Rose (input_faults old.input) (input_faults new.input) → ⊥
+
+  abbrev pub OutputHeld : Type 0
+  OutputHeld = Rose (output_faults old.output) (output_faults new.output) → ⊥
+
+  abbrev pub DisksHeld : Type 0
+  DisksHeld = AreHonest view (disks_in old.files) × (OneRose view (disks_in old.files) (disks_in new.files) → ⊥)
+
+  abbrev pub DialsHeld : Type 0
+  DialsHeld = Rose (dial_faults old.dialler).dialling (dial_faults new.dialler).dialling → ⊥
+
+  abbrev pub LinkHeld : Type 0
+  LinkHeld = Rose (counts old.link).listening (counts new.link).listening → ⊥
+
+  -- One download that is asked for once: where its URL was served whole, it is done.
+  abbrev pub StatusForGet : List ℕ → Option ℕ → ℕ → Type 0
+  StatusForGet address None status = IsServed address (dials old.dialler) (dials new.dialler) → DialsHeld → OutputHeld → IsDoneOrMemory status
+  StatusForGet address (Some times) status = Unit {0}
+
+  -- Words that ask for nothing have status 2. Help, `--version` and `gen` are done; a replay has the status of what its input says, and so
+  -- has `rules`. The files of a node are shown by `check`, of a configuration where that has the node. A `node` has the status of what
+  -- its configuration says, and over the files of a node it is done, or a file is full. Or memory ran out.
+  abbrev pub StatusFor : Option Request → ℕ → Type 0
+  StatusFor None status = (status ≡ 2) ⊎ (status ≡ 4)
+  StatusFor (Some Help) status = OutputHeld → IsDoneOrMemory status
+  StatusFor (Some Version) status = OutputHeld → IsDoneOrMemory status
+  StatusFor (Some (Gen sample)) status = OutputHeld → IsDoneOrMemory status
+  StatusFor (Some (Replay summary file)) status = InputHeld → OutputHeld → HasStatus gives ended old.input new.input status ⊎ (status ≡ 4)
+  StatusFor (Some (Rules file)) status = InputHeld → OutputHeld → HasConfigStatus gives ended old.input new.input status ⊎ (status ≡ 4)
+  StatusFor (Some (Check member folder)) status = DisksHeld → OutputHeld → HoldFiles view member.nodes (disks_in old.files) → IsDoneOrMemory status
+  StatusFor (Some (CheckConfigured id paths)) status =
+      DisksHeld → InputHeld → OutputHeld → HasShownStatus gives ended view (disks_in old.files) id old.input new.input status ⊎ (status ≡ 4)
+  StatusFor (Some (Get download)) status = StatusForGet download.address download.times status
+  StatusFor (Some (Node service paths)) status =
+      DisksHeld → LinkHeld → InputHeld → OutputHeld → HasServiceStatus gives ended view (disks_in old.files) service old.input new.input status ⊎ (status ≡ 4)

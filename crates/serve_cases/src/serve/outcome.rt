@@ -1,93 +1,72 @@
 //! What a scene leads to.
 
-use crate::serve::objects::{clock_in, fail_in, link_in, new_disk, sink_in};
-use crate::serve::running::run;
+use crate::serve::objects::{fail_in, link_in, new_disk, sink_in};
+use crate::serve::running::{Play, run};
 use crate::serve::settings::Setting;
-use crate::serve::steps::{number_in, said_by};
+use crate::serve::steps::{said_by, small_in};
+use oc_events::{Call, ConnectionId, Event, MemLink, given};
 use oc_io::{MemDisk, MemSink};
-use oc_link::MemLink;
-use oc_service::NodeEnd;
+use oc_keep::Files;
+use oc_service::{NodeEnd, Ran, Site};
 use std::alloc::Global;
-use test_tools::{Fault, NodeDisks, put_spelled};
+use test_tools::{Fault, put_spelled};
 
-/// More connections or dials than a scene has.
+/// More connections than a scene has.
 const MOST_CONNECTIONS: u64 = 100;
 
-/// What a scene led to: how the run of the node ended, its lines, and what was written on the link.
-#[derive(Drop)]
-struct SceneEnd {
-    end: NodeEnd,
-    sink: MemSink,
-    link: MemLink,
-}
+/// What a scene led to: how the run of the node ended, and what it ran on.
+type SceneEnd = Ran<MemDisk, MemLink, MemSink>;
 
-/// The outcome of a scene in a setting.
+/// The outcome of a scene in a setting, on new files.
 fn outcome_of(alloc: Global, setting: &Setting, scene: &str) -> Result<SceneEnd, Fault> {
-    let mut files = NodeDisks {
+    let files = Files {
         control: new_disk(alloc),
         alternate: new_disk(alloc),
         content: new_disk(alloc),
     };
-    outcome_on(alloc, setting, scene, &mut files)
-}
-
-/// The same, on new files.
-fn outcome_on(
-    alloc: Global,
-    setting: &Setting,
-    scene: &str,
-    files: &mut NodeDisks<MemDisk>,
-) -> Result<SceneEnd, Fault> {
     let before = setting.before.as_str();
-    if !before.is_empty() {
-        live(alloc, setting, before, files)?;
+    if before.is_empty() {
+        return live(alloc, setting, scene, files);
     }
-    live(alloc, setting, scene, files)
+    let lived = live(alloc, setting, before, files)?;
+    live(alloc, setting, scene, files_of(lived))
 }
 
-/// Has the node of these files live through a scene.
+/// The files that an outcome leaves.
+fn files_of(outcome: SceneEnd) -> Files<MemDisk> {
+    let Ran { end: _, site } = outcome;
+    let Site {
+        files,
+        link: _,
+        sink: _,
+    } = site;
+    files
+}
+
+/// Has the node of these files live through a scene: `turns:N` turns, as many as things happen where that step is
+/// absent, with probes where there is a step `probes`.
 fn live(
     alloc: Global,
     setting: &Setting,
     scene: &str,
-    files: &mut NodeDisks<MemDisk>,
+    files: Files<MemDisk>,
 ) -> Result<SceneEnd, Fault> {
-    let mut sink = sink_in(alloc, scene)?;
-    let mut link = link_in(alloc, scene)?;
-    let end = live_over(alloc, setting, scene, files, &mut link, &mut sink)?;
-    Ok(SceneEnd { end, sink, link })
-}
-
-/// The same, over the link and the output of the scene: `turns:N` turns, 1 where that step is absent, with probes
-/// where there is a step `probes`.
-fn live_over(
-    alloc: Global,
-    setting: &Setting,
-    scene: &str,
-    files: &mut NodeDisks<MemDisk>,
-    link: &mut MemLink,
-    sink: &mut MemSink,
-) -> Result<NodeEnd, Fault> {
-    let node = setting.node;
-    let turns = number_in(scene, "turns", 1)?;
-    let probes = said_by(scene, "probes").is_some();
+    let mut files = files;
     fail_in(alloc, scene, "control", &mut files.control)?;
     fail_in(alloc, scene, "alternate", &mut files.alternate)?;
     fail_in(alloc, scene, "content", &mut files.content)?;
-    let mut clock = clock_in(alloc, scene)?;
-    run(
-        alloc,
-        &setting.config,
-        node,
-        turns,
-        probes,
-        &mut files.control,
-        &mut files.alternate,
-        &mut files.content,
+    let (link, count) = link_in(alloc, scene)?;
+    let play = Play {
+        me: setting.node,
+        turns: small_in(scene, "turns", count)?,
+        probes: said_by(scene, "probes").is_some(),
+    };
+    let site = Site {
+        files,
         link,
-        &mut clock,
-        sink,
-    )
+        sink: sink_in(alloc, scene)?,
+    };
+    run(alloc, &setting.config, play, site)
 }
 
 /// What the words of a row tell of an outcome.
@@ -97,8 +76,12 @@ pub enum Part<'a> {
     End(&'a str),
     /// The lines.
     Lines,
-    /// What was written on each connection.
+    /// The lines without those of ticks.
+    Deeds,
+    /// What each connection was given.
     Written,
+    /// The same piece by piece, and what became of each connection.
+    Pieces,
     /// What was written on each dial.
     Dialled,
 }
@@ -114,22 +97,44 @@ pub fn words_of(
     words_in(alloc, &outcome, parts)
 }
 
+/// Both the words of these parts, and those of others.
+pub fn both_words_of(
+    alloc: Global,
+    setting: &Setting,
+    scene: &str,
+    parts: &[Part<'_>],
+    others: &[Part<'_>],
+) -> Result<(String, String), Fault> {
+    let outcome = outcome_of(alloc, setting, scene)?;
+    Ok((
+        words_in(alloc, &outcome, parts)?,
+        words_in(alloc, &outcome, others)?,
+    ))
+}
+
 fn words_in(alloc: Global, outcome: &SceneEnd, parts: &[Part<'_>]) -> Result<String, Fault> {
     let mut said = String::new(alloc);
     for part in parts {
-        put_part(&mut said, outcome, *part)?;
+        put_part(alloc, &mut said, outcome, *part)?;
     }
     Ok(said)
 }
 
-fn put_part(said: &mut String, outcome: &SceneEnd, part: Part<'_>) -> Result<(), Fault> {
+fn put_part(
+    alloc: Global,
+    said: &mut String,
+    outcome: &SceneEnd,
+    part: Part<'_>,
+) -> Result<(), Fault> {
     match part {
         Part::End(behind) => {
             put_end(said, outcome)?;
             Ok(said.push_str(behind)?)
         }
-        Part::Lines => put_spelled(said, outcome.sink.text()),
-        Part::Written => put_written(said, outcome),
+        Part::Lines => put_spelled(said, outcome.site.sink.text()),
+        Part::Deeds => put_deeds(said, outcome),
+        Part::Written => put_written(alloc, said, outcome),
+        Part::Pieces => put_pieces(said, outcome),
         Part::Dialled => put_dialled(said, outcome),
     }
 }
@@ -142,36 +147,92 @@ fn put_end(said: &mut String, outcome: &SceneEnd) -> Result<(), Fault> {
     }
 }
 
-/// Puts what was written on each connection, with a `>` before it.
-fn put_written(said: &mut String, outcome: &SceneEnd) -> Result<(), Fault> {
-    for at in 0..MOST_CONNECTIONS {
-        let Some(text) = written(outcome, at) else {
-            break;
-        };
-        said.push_str(" > ")?;
-        put_spelled(said, text)?;
+/// Puts the lines without those of ticks.
+fn put_deeds(said: &mut String, outcome: &SceneEnd) -> Result<(), Fault> {
+    for line in outcome
+        .site
+        .sink
+        .text()
+        .split_inclusive(|byte| *byte == b'\n')
+    {
+        if !line.starts_with(b"tick ") {
+            put_spelled(said, line)?;
+        }
     }
     Ok(())
+}
+
+/// Puts what each connection that came was given, with a `>` before it.
+fn put_written(alloc: Global, said: &mut String, outcome: &SceneEnd) -> Result<(), Fault> {
+    let calls = calls_of(outcome)?;
+    for number in 0..MOST_CONNECTIONS {
+        if !has_come(calls, ConnectionId(number)) {
+            break;
+        }
+        said.push_str(" > ")?;
+        let text = given(alloc, calls, ConnectionId(number))?;
+        put_spelled(said, &text)?;
+    }
+    Ok(())
+}
+
+/// Puts what each connection that came was given and what became of it, with a `>` before it.
+fn put_pieces(said: &mut String, outcome: &SceneEnd) -> Result<(), Fault> {
+    let calls = calls_of(outcome)?;
+    for number in 0..MOST_CONNECTIONS {
+        if !has_come(calls, ConnectionId(number)) {
+            break;
+        }
+        said.push_str(" >")?;
+        for call in calls {
+            put_call(said, call, ConnectionId(number))?;
+        }
+    }
+    Ok(())
+}
+
+/// Puts what a call gave a connection, or did with it.
+fn put_call(said: &mut String, call: &Call, connection: ConnectionId) -> Result<(), Fault> {
+    match call {
+        Call::Give(to, bytes) if *to == connection => {
+            said.push(' ')?;
+            put_spelled(said, bytes.items())
+        }
+        Call::Finish(of, ending) if *of == connection => {
+            Ok(said.push_str(if ending.keeps { " KEPT" } else { " WHOLE" })?)
+        }
+        Call::BreakOff(of) if *of == connection => Ok(said.push_str(" BROKEN")?),
+        _ => Ok(()),
+    }
+}
+
+/// The calls on the link.
+fn calls_of(outcome: &SceneEnd) -> Result<&[Call], Fault> {
+    match outcome.site.link.calls() {
+        Some(calls) => Ok(calls),
+        None => Err(Fault::Memory),
+    }
+}
+
+/// Whether a connection came.
+fn has_come(calls: &[Call], connection: ConnectionId) -> bool {
+    calls.iter().any(|call| comes_by(call, connection))
+}
+
+fn comes_by(call: &Call, connection: ConnectionId) -> bool {
+    match call {
+        Call::Next(Event::Request(arrival), _) => arrival.connection == connection,
+        _ => false,
+    }
 }
 
 /// Puts what was written on each dial, with a `@` before it.
 fn put_dialled(said: &mut String, outcome: &SceneEnd) -> Result<(), Fault> {
-    for at in 0..MOST_CONNECTIONS {
-        let Some(text) = dialled(outcome, at) else {
-            break;
-        };
-        said.push_str(" @ ")?;
-        put_spelled(said, text)?;
+    for call in calls_of(outcome)? {
+        if let Call::Dial(_, _, text) = call {
+            said.push_str(" @ ")?;
+            put_spelled(said, text.items())?;
+        }
     }
     Ok(())
-}
-
-/// What was written on the connection at this place, counted from 0.
-fn written(outcome: &SceneEnd, at: u64) -> Option<&[u8]> {
-    outcome.link.written(at)
-}
-
-/// What was written on the dial at this place, counted from 0.
-fn dialled(outcome: &SceneEnd, at: u64) -> Option<&[u8]> {
-    outcome.link.dialled(at)
 }

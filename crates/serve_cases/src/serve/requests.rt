@@ -1,58 +1,90 @@
-//! Single connections: the lines of their turn, and what they are answered.
+//! Single connections: their lines, and what they are answered.
 
-use crate::serve::outcome::{Part, words_of};
+use crate::serve::outcome::{Part, both_words_of, words_of};
 use crate::serve::settings::Setting;
+use crate::serve::steps::said_by;
 use crate::serve::table::Scenes;
 use std::alloc::Global;
-use test_tools::Fault;
+use test_tools::{Fault, spelled_in};
 
-/// More bytes than a body of a row has.
-const MOST_CUTS: usize = 24;
+/// How many pieces a connection is cut into.
+const PIECES: [usize; 3] = [2, 3, 7];
+
+/// One of at most this many bytes comes byte by byte too.
+const SHORT: usize = 40;
+
+/// One of more than this many bytes is cut in one way alone.
+const LONG: usize = 1_000;
 
 /// What the words of a row tell.
 pub const PARTS: [Part<'static>; 2] = [Part::Lines, Part::Written];
 
-/// The words of a row: the lines, and what is written on the connection. Where they are others as the link
-/// gives the bytes of the connection one by one, two by two and so on, those.
-///
-/// A head is read byte by byte however it comes, so what is cut is what follows the first head.
+/// The same without the ticks, which come by the number of turns.
+const WITHOUT_TICKS: [Part<'static>; 2] = [Part::Deeds, Part::Written];
+
+/// The words of a row: the lines, and what the connection is given. Where they are others, but for ticks, as its bytes
+/// come piece by piece, those; with a step `whole` they come at once alone.
 pub struct RequestScenes;
 
 impl Scenes for RequestScenes {
     fn answer(alloc: Global, setting: &Setting, text: &str) -> Result<String, Fault> {
-        let scene = format!(in alloc; "come:{text}")?;
-        let whole = words_of(alloc, setting, scene.as_str(), &PARTS)?;
-        match first_other(alloc, setting, text, &whole)? {
+        let (connection, steps) = split_connection(text);
+        let length = spelled_in(alloc, connection)?.len();
+        let scene = scene_of(alloc, text, 0)?;
+        let (whole, words) = both_words_of(alloc, setting, scene.as_str(), &WITHOUT_TICKS, &PARTS)?;
+        if said_by(steps, "whole").is_some() {
+            return Ok(words);
+        }
+        match first_other(alloc, setting, text, length, &whole)? {
             Some(other) => Ok(other),
-            None => Ok(whole),
+            None => Ok(words),
         }
     }
 }
 
-/// The first other words of a connection that is cut, with how it is cut.
+/// The scene of a connection, with the steps behind it, whose bytes come so many at a time. Its end is told once more,
+/// as behind the permission to send a body.
+pub fn scene_of(alloc: Global, text: &str, cut: usize) -> Result<String, Fault> {
+    Ok(format!(in alloc; "cut:{cut} ^ come:{text} ^ again:1")?)
+}
+
+/// The connection of a row, and the steps behind it.
+pub fn split_connection(text: &str) -> (&str, &str) {
+    text.split_once(" ^ ").unwrap_or((text, ""))
+}
+
+/// The first other words of a connection of this length that is cut, with how many bytes come at a time.
 fn first_other(
     alloc: Global,
     setting: &Setting,
     text: &str,
+    length: usize,
     whole: &String,
 ) -> Result<Option<String>, Fault> {
-    let (_head, behind) = text.split_once(r"\r\n\r\n").unwrap_or((text, ""));
-    for cut in 1..behind.len().clamp(2, MOST_CUTS) {
-        let words = words_of_pieces(alloc, setting, text, cut)?;
-        if words != *whole {
-            return Ok(Some(format!(in alloc; "cut into {cut}: {words}")?));
+    for pieces in PIECES {
+        let other = other(alloc, setting, text, length / pieces.max(1) + 1, whole)?;
+        if other.is_some() || length > LONG {
+            return Ok(other);
         }
+    }
+    if length <= SHORT {
+        return other(alloc, setting, text, 1, whole);
     }
     Ok(None)
 }
 
-/// The words of a connection that gives at most `cut` bytes at a time.
-fn words_of_pieces(
+/// The words of a connection that comes so many bytes at a time, where they are others.
+fn other(
     alloc: Global,
     setting: &Setting,
     text: &str,
     cut: usize,
-) -> Result<String, Fault> {
-    let scene = format!(in alloc; "come:{text} ^ cut:{cut}")?;
-    words_of(alloc, setting, scene.as_str(), &PARTS)
+    whole: &String,
+) -> Result<Option<String>, Fault> {
+    let scene = scene_of(alloc, text, cut)?;
+    let words = words_of(alloc, setting, scene.as_str(), &WITHOUT_TICKS)?;
+    if words == *whole {
+        return Ok(None);
+    }
+    Ok(Some(format!(in alloc; "{cut} at a time: {words}")?))
 }

@@ -2,35 +2,37 @@
 
 use oc_base::NodeId;
 use oc_config::read;
+use oc_events::Link;
 use oc_io::{Disk, Sink};
-use oc_link::{Clock, Link};
-use oc_service::{NodeEnd, run_node};
+use oc_service::{Ran, Site, Task, run_node};
 use std::alloc::Global;
 use test_tools::Fault;
 
-/// Runs a node of the configuration of this text for `turns` turns, and says how it ended.
-#[allow(clippy::too_many_arguments)]
-pub fn run<D: Disk, L: Link, C: Clock, K: Sink>(
+/// What a node is asked to do in a scene.
+#[derive(Clone, Copy)]
+pub struct Play {
+    pub me: NodeId,
+    pub turns: u32,
+    pub probes: bool,
+}
+
+/// Runs a node of the configuration of this text.
+pub fn run<D: Disk + Drop, L: Link + Drop, K: Sink + Drop>(
     alloc: Global,
     config: &[u8],
-    me: NodeId,
-    turns: u32,
-    probes: bool,
-    control: &mut D,
-    alternate: &mut D,
-    content: &mut D,
-    link: &mut L,
-    clock: &mut C,
-    sink: &mut K,
-) -> Result<NodeEnd, Fault> {
+    play: Play,
+    site: Site<D, L, K>,
+) -> Result<Ran<D, L, K>, Fault> {
     let Ok(config) = read(alloc, config) else {
         return Err(Fault::Unready);
     };
-    if me.0 < 1 || me.0 as usize > config.addresses.len() {
+    if play.me.0 < 1 || play.me.0 as usize > config.addresses.len() {
         return Err(Fault::Unready);
     }
-    let turns = u64::from(turns);
-    Ok(run_node(
-        alloc, &config, me, turns, probes, control, alternate, content, link, clock, sink,
-    ))
+    let task = Task {
+        me: play.me,
+        turns: u64::from(play.turns),
+        probes: play.probes,
+    };
+    Ok(run_node(alloc, config, task, site))
 }

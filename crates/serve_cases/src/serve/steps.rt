@@ -2,10 +2,10 @@
 //! `:` what it says.
 
 use std::alloc::Global;
-use test_tools::{Fault, RowFields, spelled_in};
+use test_tools::{Fault, RowFields};
 
 /// More steps than a scene has.
-const MOST_STEPS: u32 = 200;
+pub const MOST_STEPS: u32 = 200;
 
 /// What the first of the steps with this word says, or nothing.
 pub fn said_by<'a>(scene: &'a str, word: &str) -> Option<&'a str> {
@@ -23,29 +23,13 @@ pub fn said_by<'a>(scene: &'a str, word: &str) -> Option<&'a str> {
 
 /// What a step says, if it has this word.
 fn said_in<'a>(step: &'a str, word: &str) -> Option<&'a str> {
-    let (first, said) = step.split_once(':').unwrap_or((step, ""));
+    let (first, said) = split_step(step);
     if first == word { Some(said) } else { None }
 }
 
-/// The bytes that each of the steps with this word spells.
-pub fn texts_in(alloc: Global, scene: &str, word: &str) -> Result<Vec<Vec<u8>>, Fault> {
-    let mut steps = RowFields::of(scene, '^');
-    let mut texts = Vec::new(alloc);
-    for _ in 0..MOST_STEPS {
-        if steps.is_empty() {
-            break;
-        }
-        take_text(alloc, steps.text(), word, &mut texts)?;
-    }
-    Ok(texts)
-}
-
-/// Takes the bytes that a step spells, if it has this word.
-fn take_text(alloc: Global, step: &str, word: &str, texts: &mut Vec<Vec<u8>>) -> Result<(), Fault> {
-    match said_in(step, word) {
-        Some(said) => Ok(texts.push(spelled_in(alloc, said)?)?),
-        None => Ok(()),
-    }
+/// The word of a step, and what it says.
+pub fn split_step(step: &str) -> (&str, &str) {
+    step.split_once(':').unwrap_or((step, ""))
 }
 
 /// The numbers of the step with this word, with commas between them.
@@ -54,7 +38,7 @@ pub fn numbers_in(alloc: Global, scene: &str, word: &str) -> Result<Vec<u64>, Fa
 }
 
 /// The number of the step with this word, or this one where there is no such step.
-pub fn number_in(scene: &str, word: &str, otherwise: u32) -> Result<u32, Fault> {
+pub fn small_in(scene: &str, word: &str, otherwise: u32) -> Result<u32, Fault> {
     match said_by(scene, word) {
         Some(said) => RowFields::of(said, ',').small(),
         None => Ok(otherwise),

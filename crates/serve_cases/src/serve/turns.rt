@@ -6,13 +6,13 @@ use crate::serve::table::Scenes;
 use std::alloc::Global;
 use test_tools::Fault;
 
-/// The words of a row: how the run ended, the lines, what was written on each connection, and what on each
-/// dial.
+/// The words of a row: how the run ended, the lines, what each connection was given piece by piece and what
+/// became of it, and what was written on each dial.
 pub struct TurnScenes;
 
 impl Scenes for TurnScenes {
     fn answer(alloc: Global, setting: &Setting, scene: &str) -> Result<String, Fault> {
-        let parts = [Part::End(" > "), Part::Lines, Part::Written, Part::Dialled];
+        let parts = [Part::End(" > "), Part::Lines, Part::Pieces, Part::Dialled];
         words_of(alloc, setting, scene, &parts)
     }
 }

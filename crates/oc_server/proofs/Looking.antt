@@ -10,6 +10,7 @@ use Rattle.oc_model.specs.declared.input.Input.{Input}
 use Rattle.oc_model.specs.Node.{Control, Header, Node}
 use Rattle.oc_node.specs.OutcomeView.{OutcomeView}
 use Rattle.oc_io.specs.DiskView.{DiskView}
+use Rattle.oc_io.specs.Faults.{NoFall}
 use Rattle.oc_server.specs.Looks.{LookCause, LooksOnly, LookStops}
 use Rattle.oc_server.specs.Scenes.{KeepsAll, KeepsOne}
 use Rattle.oc_server.specs.declared.ends.TurnEnd.{TurnEnd}
@@ -51,6 +52,14 @@ module _ {D : Type 0} (view : D → DiskView) where
   keeps_then [] [] a b c p q = looks_then a b c p q
   keeps_then [] (j ∷ js) a b c p (at, next, outcome, looks, one, rest) = (at, next, outcome, looks_then a b at p looks, one, rest)
   keeps_then (i ∷ is) js a b c (at, next, outcome, looks, one, rest) q = (at, next, outcome, looks, one, keeps_then is js next b c rest q)
+
+  -- the generation of files does not fall
+  pub keeps_no_fall : (is : List Input) (a b : KeptView D) → KeepsAll view is a b → IsHonest view a → NoFall a.store.generation b.store.generation
+  keeps_no_fall [] a b looks honest = looks.generation honest
+  keeps_no_fall (i ∷ is) a b (at, next, outcome, looks, one, rest) honest =
+      let here = all_honest view (disks_of a) (disks_of at) looks.goes_on honest in
+      let there = all_honest view (disks_of at) (disks_of next) one.goes_on here in
+      omega (arith, looks.generation honest, one.generation here, keeps_no_fall is next b rest there)
 
   -- why a look behind a look ended
   look_cause : (end : TurnEnd) (a b c : KeptView D) → LooksOnly view a b → LookCause view end b c → LookCause view end a c

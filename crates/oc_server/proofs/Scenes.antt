@@ -20,12 +20,13 @@ use Rattle.oc_model.specs.Node.{Header, Node}
 use Rattle.oc_model.specs.Step.{step}
 use Rattle.oc_policy.specs.declared.deciding.TheConstants.{MAX_RULES}
 use Rattle.oc_server.specs.Deeds.{Deed, Running, Setting, after_all, calls_of, inputs_of, lines}
+use Rattle.oc_server.specs.Looks.{Renews}
 use Rattle.oc_server.specs.Scenes.{AreDone, Breaks, BreaksBehind, Did, HasCause, IsPlaced, IsServing, KeepsAll, LeavesAt, LeavesUnder, Under, Idle, Taking, Noting, WritesAt, running, setting, under_line}
 use Rattle.oc_server.specs.declared.ends.TurnEnd.{TurnEnd}
 use Rattle.oc_server.specs.declared.ends.TurnEnd.TheVariants as ends
 use Rattle.oc_server.specs.declared.server.Server.{Server}
 use Rattle.oc_server.proofs.Chains.{after_append, calls_append, counts_append, counts_listening, inputs_append, lines_append, nodes_behind}
-use Rattle.oc_server.proofs.Looking.{go_on_none, keeps_then, looks_none, named}
+use Rattle.oc_server.proofs.Looking.{go_on_none, keeps_no_fall, keeps_then, looks_none, named}
 
 -- What deeds make of a running node
 
@@ -103,6 +104,15 @@ module _ {D L K : Type 0} (view : D → DiskView) (takes fails : K → List ℕ 
   -- the disks that kept the disk model keep it
   pub still_honest : (ds : List Deed) (a b : Server D L K) → Did view takes faults story counts ds a b → IsHonest view a.kept → IsHonest view b.kept
   still_honest ds a b did honest = all_honest view (disks_of a.kept) (disks_of b.kept) did.goes_on honest
+
+  -- the generation of the files does not fall
+  pub did_no_fall : (ds : List Deed) (a b : Server D L K) → Did view takes faults story counts ds a b → IsHonest view a.kept → NoFall a.kept.store.generation b.kept.store.generation
+  did_no_fall ds a b did honest = keeps_no_fall view (inputs_of ds) a.kept b.kept did.keeps honest
+
+  -- files that were renewed stay so
+  pub still_renewed : (ds es : List Deed) (a b c : Server D L K) → Did view takes faults story counts ds a b → Did view takes faults story counts es b c
+      → Renews view a.kept b.kept → Renews view a.kept c.kept
+  still_renewed ds es a b c did more renews honest ripe = omega (arith, renews honest ripe, did_no_fall es b c more (still_honest ds a b did honest))
 
   -- the node behind deeds is the fold of their inputs
   pub did_node : (ds : List Deed) (a b : Server D L K) → Did view takes faults story counts ds a b → IsHonest view a.kept → node_of b.kept ≡ after_inputs (node_of a.kept) (inputs_of ds)

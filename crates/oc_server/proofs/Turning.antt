@@ -20,6 +20,7 @@ use Rattle.oc_model.specs.Node.{Header}
 use Rattle.oc_server.specs.Choices.{due_place, wait_for}
 use Rattle.oc_server.specs.Deeds.{Deed, Reads, Running, Sees, Setting, after_all, after, calls_of, dials_behind, errand_in}
 use Rattle.oc_server.specs.Pace.{after_tick, wait_until}
+use Rattle.oc_server.specs.Looks.{Renews}
 use Rattle.oc_server.specs.Parts.{Does, Part, Stops, nothing, one, ◌>>◌}
 use Rattle.oc_server.specs.Runs.{DealStops, Dealt, IsLent, IsMeasured, IsRead, MayRead, behind_reading, due_in, is_something, is_served, lent_in, reads_by, NextStops, NextTaken, Turned, TurnStops}
 use Rattle.oc_server.specs.Scenes.{Breaks, Did, Idle, IsServing, running, setting}
@@ -33,7 +34,7 @@ use Rattle.oc_server.specs.declared.pace.Pace.{Pace}
 use Rattle.oc_server.specs.declared.server.Server.{Server}
 use Rattle.oc_server.specs.declared.turns.Turns.{Turns}
 use Rattle.oc_server.proofs.Parts.{does_after, does_as, does_then, one_then, stops_after, stops_as, stops_in}
-use Rattle.oc_server.proofs.Scenes.{breaks_behind, breaks_first, still_honest}
+use Rattle.oc_server.proofs.Scenes.{breaks_behind, breaks_first, still_honest, still_renewed}
 
 -- Ticks
 
@@ -307,10 +308,11 @@ module _ {D L K : Type 0} (view : D → DiskView) (takes fails : K → List ℕ 
 
     -- some work was due
     module _ (place : ℕ) (is : IsHonest view old.server.kept → due_in old.server before ≡ Some place) where
-      pub turned_due : (seconds : ℕ) → Does view takes faults story counts (takes_due old.pace (slice_get b.works place) before seconds) b new.server → new.pace ≡ paced old.pace before → new.probing ≡ old.probing
+      pub turned_due : (seconds : ℕ) → Renews view old.server.kept b.kept → Does view takes faults story counts (takes_due old.pace (slice_get b.works place) before seconds) b new.server → new.pace ≡ paced old.pace before → new.probing ≡ old.probing
           → Turned view takes faults story counts true old new
-      turned_due seconds does pace probing = record {
+      turned_due seconds renews does pace probing = record {
         told = told_due seconds;
+        renews = still_renewed view takes fails faults story counts (Reads before ∷ []) does.deeds old.server b new.server did does.did renews;
         does = does_turn takes_then before old.server b new.server did (Some place) old.pace old.probing
             (told_due seconds) refl is
             (record { deeds = does.deeds; did = does.did; are = does.are });
@@ -347,9 +349,10 @@ module _ {D L K : Type 0} (view : D → DiskView) (takes fails : K → List ℕ 
       b_honest : IsHonest view old.server.kept → IsHonest view b.kept
       b_honest honest = still_honest view takes fails faults story counts (Reads before ∷ []) old.server b did honest
 
-      pub turned_next : (served : Bool) → NextTaken view takes faults story counts before served (record old { server = b }) new → Turned view takes faults story counts served old new
-      turned_next served taken = record {
+      pub turned_next : (served : Bool) → Renews view old.server.kept b.kept → NextTaken view takes faults story counts before served (record old { server = b }) new → Turned view takes faults story counts served old new
+      turned_next served renews taken = record {
         told = taken.told;
+        renews = still_renewed view takes fails faults story counts (Reads before ∷ []) taken.does.deeds old.server b new.server did taken.does.did renews;
         does = does_turn takes_then before old.server b new.server did None old.pace old.probing taken.told taken.begins is
             (record { deeds = taken.does.deeds; did = taken.does.did; are = taken.does.are });
         read = λ honest. read_then taken.told _ taken.begins honest (taken.does.did.done (b_honest honest)).calls (taken.read (b_honest honest));

@@ -4,6 +4,7 @@ use Rattle.oc_events.specs.ArrivedView.{ArrivedView, FailsBehind, GivesFront, Is
 use Rattle.oc_events.specs.declared.event.Coming.{Coming}
 use Rattle.oc_http.specs.Taking.{RefusesReply, SaysReply, Took}
 use Rattle.oc_http.specs.declared.fault.HttpFault.{HttpFault}
+use Rattle.oc_http.specs.declared.fault.HttpFault.TheVariants as https
 use Rattle.oc_http.specs.declared.reply.Reply.{Reply}
 use Rattle.oc_model.specs.declared.input.Input.{Input}
 use Rattle.oc_model.specs.declared.input.Input.TheVariants.{Delivered, Unreachable}
@@ -25,6 +26,11 @@ use Rattle.oc_server.specs.declared.dials.Errand.TheVariants as errands
 abbrev pub IsReading : List ℕ → Coming → Result Reply HttpFault → Type 0
 IsReading bytes coming (Ok reply) = (head body : List ℕ) × (end : ArrivedView) × GivesFront (arrived bytes coming) (head ++ body) end × SaysReply head body (IsAtEnd end) reply
 IsReading bytes coming (Err fault) = (front : List ℕ) × (end : ArrivedView) × Took GivesFront FailsBehind (arrived bytes coming) front end fault × RefusesReply front (IsAtEnd end) fault
+
+-- there was memory to read it
+abbrev pub HadMemory : Result Reply HttpFault → Type 0
+HadMemory (Err https.Memory) = ⊥
+HadMemory reading = Unit {0}
 
 -- What results from a message's reply
 

@@ -1,7 +1,7 @@
 -- Calls that leave the node as it is.
-use Rattle.std.specs.Prelude.{◌≡◌, false}
+use Rattle.std.specs.Prelude.{◌≡◌, ◌<◌, false}
 use Rattle.oc_keep.specs.Files.{AllGoOn, OneRose, Survives}
-use Rattle.oc_keep.specs.KeptView.{IsHonest, KeptView, disks_of, header_of, node_of}
+use Rattle.oc_keep.specs.KeptView.{IsHonest, IsRipe, KeptView, disks_of, header_of, node_of}
 use Rattle.oc_keep.specs.Promises.{IsSameNode}
 use Rattle.oc_keep.specs.declared.errors.ReadyError.{ReadyError}
 use Rattle.oc_keep.specs.declared.errors.ReadyError.TheVariants as readies
@@ -19,6 +19,10 @@ pub record LooksOnly {D : Type 0} (view : D → DiskView) (old new : KeptView D)
   pub goes_on : AllGoOn view (disks_of old) (disks_of new)
   pub node : IsHonest view old → node_of new ≡ node_of old
   pub generation : IsHonest view old → NoFall old.store.generation new.store.generation
+
+-- files that were ripe have a greater generation
+abbrev pub Renews : {D : Type 0} → (D → DiskView) → KeptView D → KeptView D → Type 0
+Renews view old new = IsHonest view old → IsRipe old → old.store.generation < new.store.generation
 
 -- why a look ended
 abbrev pub LookCause : {D : Type 0} → (D → DiskView) → TurnEnd → KeptView D → KeptView D → Type 0

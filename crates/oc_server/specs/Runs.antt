@@ -16,6 +16,7 @@ use Rattle.oc_reply.specs.Verdicts.{NodeTerms, terms_of}
 use Rattle.oc_server.specs.Choices.{due_place}
 use Rattle.oc_server.specs.Deeds.{dials_behind, errand_in}
 use Rattle.oc_server.specs.Hurries.{came_hurries}
+use Rattle.oc_server.specs.Looks.{Renews}
 use Rattle.oc_server.specs.Parts.{Does, Stops}
 use Rattle.oc_server.specs.Turns.{Means, Told, deals, pace_behind, paced, probed, probing_behind, quickened, takes_next, turn}
 use Rattle.oc_server.specs.declared.came.Came.{Came}
@@ -129,6 +130,7 @@ is_served None came = is_something came
 -- A turn was done, and served something or not.
 pub record Turned {D L K : Type 0} (view : D → DiskView) (takes : K → List ℕ → K → Type 0) (faults : K → ℕ) (story : L → Option (List Call)) (counts : L → Counts) (served : Bool) (old new : Turns D L K) : Type 0 where
   pub told : Told
+  pub renews : Renews view old.server.kept new.server.kept
   pub does : Does view takes faults story counts (turn old.pace old.probing told) old.server new.server
   pub read : IsHonest view old.server.kept → MayRead story (due_in old.server told.before) old new.server told
   pub serves : IsHonest view old.server.kept → served ≡ is_served (due_in old.server told.before) told.came

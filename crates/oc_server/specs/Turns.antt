@@ -20,7 +20,7 @@ use Rattle.oc_probe.specs.declared.probing.Probing.{Probing}
 use Rattle.oc_reply.specs.Verdicts.{IsVerdict, NodeTerms}
 use Rattle.oc_reply.specs.declared.verdict.Verdict.{Verdict}
 use Rattle.oc_server.specs.Asks.{obeys, takes_up}
-use Rattle.oc_server.specs.Brought.{IsReading, comes_back}
+use Rattle.oc_server.specs.Brought.{HadMemory, IsReading, comes_back}
 use Rattle.oc_server.specs.Choices.{due_place, free_number, wait_for}
 use Rattle.oc_server.specs.Deeds.{Notes, Probes, Reads, Sees, Takes, Tells, dials_behind}
 use Rattle.oc_server.specs.Hurries.{came_hurries}
@@ -40,7 +40,7 @@ use Rattle.oc_server.specs.declared.work.Work.{Work}
 
 -- what came back on a dial, where it was made for this; a reply to no dial is nothing
 abbrev pub MeansBack : NodeTerms → List ℕ → Option Errand → Coming → Came → Type 0
-MeansBack t lent (Some errand) coming came = (reading : Result Reply HttpFault) × IsReading lent coming reading × (came ≡ comes_back t.me t.nodes errand reading)
+MeansBack t lent (Some errand) coming came = (reading : Result Reply HttpFault) × IsReading lent coming reading × HadMemory reading × (came ≡ comes_back t.me t.nodes errand reading)
 MeansBack t lent None coming came = came ≡ comes.Nothing
 
 -- What an event is that lends these bytes, to a node that reads requests by these terms, where the dial whose reply it is was made for this.

@@ -1,11 +1,11 @@
 //! What came back on a dial.
 
-ghost use Rattle.std.specs.Prelude.{◌≡◌, Result, IfOk, IfSome};
+ghost use Rattle.std.specs.Prelude.{◌≡◌, Result, IfOk, IfSome, OnOk};
 ghost use Rattle.oc_base.specs.Lawful.{IsNode};
 ghost use Rattle.oc_http.specs.declared.fault.HttpFault.{HttpFault};
 ghost use Rattle.oc_http.specs.declared.reply.Reply.{Reply};
 ghost use Rattle.oc_model.specs.Lawful.{IsInput};
-ghost use Rattle.oc_server.specs.Brought.{IsReading, comes_back, delivered_or, fault_of, input_of, input_of_reply, is_answer, is_taken, message_in, message_to};
+ghost use Rattle.oc_server.specs.Brought.{HadMemory, IsReading, comes_back, delivered_or, fault_of, input_of, input_of_reply, is_answer, is_taken, message_in, message_to};
 ghost use Rattle.oc_server.specs.Lawful.{IsLawfulCame};
 ghost use Rattle.oc_server.specs.Scenes.{IsLawfulErrand};
 ghost use Rattle.oc_wire.specs.MessageReading.{decoded};
@@ -38,7 +38,7 @@ pub(crate) fn comes_back(
 ) -> Result<Came, Memory>
     requires { IsLawfulErrand hearer.nodes errand }
     ensures came { IfOk result (λ came. (reading : Result Reply HttpFault) × IsReading bytes.now coming reading
-        × (came ≡ comes_back hearer.me hearer.nodes errand reading)) }
+        × HadMemory reading × (came ≡ comes_back hearer.me hearer.nodes errand reading)) }
     ensures lawful { IfOk result (IsLawfulCame hearer.nodes hearer.me) }
 {
     let reply = reply_in(heads, bytes, coming);
@@ -82,6 +82,7 @@ fn input_of(
 ) -> Result<Option<Input>, Memory>
     requires { IsNode hearer.nodes peer }
     ensures input { IfOk result (λ input. input ≡ input_of hearer.me hearer.nodes peer reply) }
+    ensures memory { OnOk result (HadMemory reply) }
     ensures lawful { IfOk result (λ input. IfSome input (IsInput hearer.nodes hearer.me)) }
 {
     match reply {

@@ -1,13 +1,14 @@
-use Rattle.std.proofs.Common.{◌≡◌, ◌∷◌, [], Bool, List, None, Some, ap, sym, subst, refl, ◌∙◌}
+use Rattle.std.proofs.Common.{◌≡◌, ◌∷◌, [], Bool, List, None, Some, ap, sym, subst, refl, ◌∙◌, arith}
 use Rattle.std.proofs.lemmas.Result.{err_from_is_err_and}
 use Rattle.oc_keep.specs.KeptView.{IsHonest}
 use Rattle.oc_server.specs.Choices.{due_place}
 use Rattle.oc_server.specs.Deeds.{Reads}
+use Rattle.oc_server.specs.Looks.{Renews}
 use Rattle.oc_server.specs.Runs.{Turned, due_in}
 use Rattle.oc_server.specs.declared.work.Work.{Work}
 use Rattle.oc_server.proofs.Probings.{ready_still}
 use Rattle.oc_server.proofs.Results.{err_then, ok_then, ok_with}
-use Rattle.oc_server.proofs.Scenes.{did_then, still_serving}
+use Rattle.oc_server.proofs.Scenes.{did_then, still_renewed, still_serving}
 use Rattle.oc_server.proofs.Turning.{due_then, stopped_at_once, stopped_due, stopped_next, turned_due, turned_next}
 use Rattle.oc_server.proofs.turns.Turns.turn.Goals as goal
 
@@ -42,8 +43,11 @@ returns-in-Some-clause-turned g c =
     λ honest.
     due_then g.D.Disk.view g.K.Sink.takes g.K.Sink.fails g.K.Sink.faults g.L.Link.story g.L.Link.counts g.met.K.Sink.takes_then c.reads-before.result t.server c.reads-before.new.self c.reads-before.new.self did c.shelf.result.now c.shelf.ensures.groups honest
     ∙ ap (λ (ws : List Work). due_place ws c.shelf.result.now c.reads-before.result) (sym c.list.ensures) ∙ sym c.due_place.ensures ∙ c.in-Some.is in
+    let renewed : Renews g.D.Disk.view t.server.kept c.reads-before.new.self.kept =
+    still_renewed g.D.Disk.view g.K.Sink.takes g.K.Sink.fails g.K.Sink.faults g.L.Link.story g.L.Link.counts [] (Reads c.reads-before.result ∷ []) t.server c.tidies.new.self c.reads-before.new.self c.in_ok-tidies.ensures.did c.reads-before.ensures
+    (λ honest ripe. omega (arith, c.in_ok-tidies.ensures.ripe ripe)) in
     ok_then c.takes_due.result (λ served x. subst (λ (s : Bool). Turned g.D.Disk.view g.K.Sink.takes g.K.Sink.faults g.L.Link.story g.L.Link.counts s t c.takes_due.new.self) (sym x.0.0)
-    (turned_due g.D.Disk.view g.K.Sink.takes g.K.Sink.fails g.K.Sink.faults g.L.Link.story g.L.Link.counts g.met.K.Sink.takes_nothing g.met.K.Sink.takes_then t c.reads-before.result c.reads-before.new.self c.takes_due.new.self did c.in-Some.place is x.0.1.0 x.0.1.1 x.1 c.takes_due.ensures.probing))
+    (turned_due g.D.Disk.view g.K.Sink.takes g.K.Sink.fails g.K.Sink.faults g.L.Link.story g.L.Link.counts g.met.K.Sink.takes_nothing g.met.K.Sink.takes_then t c.reads-before.result c.reads-before.new.self c.takes_due.new.self did c.in-Some.place is x.0.1.0 renewed x.0.1.1 x.1 c.takes_due.ensures.probing))
     (ok_with _ _ c.takes_due.result c.takes_due.ensures.did c.takes_due.ensures.pace)
 
 pub returns-in-Some-clause-stops : goal.returns-in-Some-clause-stops
@@ -64,7 +68,10 @@ returns-in-None-clause-turned g c =
     λ honest.
     due_then g.D.Disk.view g.K.Sink.takes g.K.Sink.fails g.K.Sink.faults g.L.Link.story g.L.Link.counts g.met.K.Sink.takes_then c.reads-before.result t.server c.reads-before.new.self c.reads-before.new.self did c.shelf.result.now c.shelf.ensures.groups honest
     ∙ ap (λ (ws : List Work). due_place ws c.shelf.result.now c.reads-before.result) (sym c.list.ensures) ∙ sym c.due_place.ensures ∙ c.in-None.is in
-    ok_then c.takes_next.result (λ served taken. turned_next g.D.Disk.view g.K.Sink.takes g.K.Sink.fails g.K.Sink.faults g.L.Link.story g.L.Link.counts g.met.K.Sink.takes_nothing g.met.K.Sink.takes_then t c.reads-before.result c.reads-before.new.self c.takes_next.new.self did is served taken) c.takes_next.ensures.taken
+    let renewed : Renews g.D.Disk.view t.server.kept c.reads-before.new.self.kept =
+    still_renewed g.D.Disk.view g.K.Sink.takes g.K.Sink.fails g.K.Sink.faults g.L.Link.story g.L.Link.counts [] (Reads c.reads-before.result ∷ []) t.server c.tidies.new.self c.reads-before.new.self c.in_ok-tidies.ensures.did c.reads-before.ensures
+    (λ honest ripe. omega (arith, c.in_ok-tidies.ensures.ripe ripe)) in
+    ok_then c.takes_next.result (λ served taken. turned_next g.D.Disk.view g.K.Sink.takes g.K.Sink.fails g.K.Sink.faults g.L.Link.story g.L.Link.counts g.met.K.Sink.takes_nothing g.met.K.Sink.takes_then t c.reads-before.result c.reads-before.new.self c.takes_next.new.self did is served renewed taken) c.takes_next.ensures.taken
 
 pub returns-in-None-clause-stops : goal.returns-in-None-clause-stops
 returns-in-None-clause-stops g c =

@@ -3,6 +3,7 @@ mod calls;
 mod dialling;
 mod looking;
 
+use crate::connection::Stage;
 use crate::dial::Dial;
 use crate::limits::{
     DIALS, MOST_IN_A_ROW, MOST_LARGE, MOST_TRIES, PLACES, SHUT_MILLIS, SWEEP_MILLIS,
@@ -187,11 +188,15 @@ impl Sockets {
                 if woken.has_failed {
                     connection.note_failure();
                 }
-                self.turns.push(woken.token);
+                if connection.stage == Stage::Awaiting {
+                    self.turns.push_asking(woken.token);
+                } else {
+                    self.turns.push(woken.token);
+                }
             } else if let Some(dial) = dial_at(&mut self.dials, woken.token) {
                 dial.is_readable = dial.is_readable || woken.is_readable;
                 dial.is_writable = dial.is_writable || woken.is_writable;
-                self.turns.push(woken.token);
+                self.turns.push_asking(woken.token);
             }
         }
     }

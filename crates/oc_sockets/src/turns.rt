@@ -1,11 +1,16 @@
 use std::alloc::{AllocError, Global};
 use std::collections::VecDeque;
 
-/// The places that are to be looked at, each once, in the order in which they came: so each has its turn.
+/// The places that are to be looked at, each once. Those of who asks and those of who is answered wait in lists of their
+/// own, each in the order in which they came, and one of each is looked at by turns: so a crowd that reads delays no
+/// request, and a crowd that asks no reply.
 #[derive(Drop)]
 pub(crate) struct Turns {
-    queue: VecDeque<usize>,
-    /// Of each place, whether it is in the queue.
+    asking: VecDeque<usize>,
+    answered: VecDeque<usize>,
+    /// Whether one of those who ask is to be looked at next, if there is one.
+    asking_is_next: bool,
+    /// Of each place, whether it is in one of the lists.
     queued: Vec<bool>,
 }
 
@@ -13,25 +18,48 @@ impl Turns {
     /// No place is to be looked at. The memory for all of them is taken.
     pub(crate) fn new(alloc: Global, places: usize) -> Result<Turns, AllocError> {
         Ok(Turns {
-            queue: VecDeque::with_capacity(alloc, places)?,
+            asking: VecDeque::with_capacity(alloc, places)?,
+            answered: VecDeque::with_capacity(alloc, places)?,
+            asking_is_next: true,
             queued: Vec::from_elem(alloc, false, places)?,
         })
     }
 
     /// This place is to be looked at.
     pub(crate) fn push(&mut self, place: usize) {
-        if let Some(queued) = self.queued.get_mut(place) {
-            if !*queued {
-                *queued = true;
-                // There is room for each place once.
-                let _noted = self.queue.push_back(place).is_ok();
-            }
+        if self.enter(place) {
+            // There is room for each place once.
+            let _noted = self.answered.push_back(place).is_ok();
         }
     }
 
-    /// The place that has waited longest.
+    /// This place is to be looked at, among those who ask.
+    pub(crate) fn push_asking(&mut self, place: usize) {
+        if self.enter(place) {
+            let _noted = self.asking.push_back(place).is_ok();
+        }
+    }
+
+    /// Notes that a place is in a list, and says whether it was in none.
+    fn enter(&mut self, place: usize) -> bool {
+        match self.queued.get_mut(place) {
+            Some(queued) if !*queued => {
+                *queued = true;
+                true
+            }
+            _ => false,
+        }
+    }
+
+    /// The place that has waited longest in the list whose turn it is.
     pub(crate) fn pop(&mut self) -> Option<usize> {
-        let place = self.queue.pop_front()?;
+        let asks = !self.asking.is_empty() && (self.asking_is_next || self.answered.is_empty());
+        self.asking_is_next = !asks;
+        let place = if asks {
+            self.asking.pop_front()?
+        } else {
+            self.answered.pop_front()?
+        };
         if let Some(queued) = self.queued.get_mut(place) {
             *queued = false;
         }
@@ -39,6 +67,6 @@ impl Turns {
     }
 
     pub(crate) fn is_empty(&self) -> bool {
-        self.queue.is_empty()
+        self.asking.is_empty() && self.answered.is_empty()
     }
 }

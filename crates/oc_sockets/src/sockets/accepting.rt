@@ -81,7 +81,7 @@ impl Sockets {
         };
         let connection = Connection::new(stream, self.tools.alloc, id, now);
         self.places.put(place, connection);
-        self.turns.push(place);
+        self.turns.push_asking(place);
     }
 
     /// Drops the connection that is to give way first; false where none may be asked to.

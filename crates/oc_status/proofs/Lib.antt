@@ -1,0 +1,4 @@
+mod Marks
+mod Names
+mod Counting
+mod Texts

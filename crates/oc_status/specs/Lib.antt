@@ -1,0 +1,6 @@
+pub mod Json
+pub mod Rows
+pub mod Status
+pub mod Metrics
+pub mod Names
+pub mod Examples

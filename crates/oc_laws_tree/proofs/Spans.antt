@@ -1,7 +1,7 @@
 -- The ids of the nodes of a world that is reached, from 1 to their number; and that whoever is told of in a table is one of them.
-use Rattle.std.proofs.Common.{◌≡◌, ℕ, zero, suc, ◌+◌, ◌≤◌, ◌<◌, Bool, true, false, ◌==◌, List, [], ◌∷◌, ◌⊎◌, inl, inr, map, if◌then◌else◌, refl, ap, sym, subst, ◌∙◌, ⊎_elim, arith, eqb-true}
+use Rattle.std.proofs.Common.{◌≡◌, ℕ, zero, suc, ◌+◌, ◌≤◌, ◌<◌, List, [], ◌∷◌, ◌⊎◌, inl, inr, ap, sym, subst, ◌∙◌, arith}
 use Rattle.std.specs.List.{AllByRecursion, range_with_len}
-use Rattle.std.proofs.lemmas.Bool.{cases_eq, cases_order, eqb-false}
+use Rattle.std.proofs.lemmas.Bool.{cases_order}
 use Rattle.oc_base.specs.declared.cert.Cert.{Cert}
 use Rattle.oc_model.specs.declared.message.Body.{Body}
 use Rattle.oc_model.specs.declared.message.Body.TheVariants as bodies
@@ -23,15 +23,12 @@ use Rattle.oc_laws_world.proofs.Lifts.{control_of, HasSent, IsLaw, at_each}
 use Rattle.oc_laws_world.proofs.Listed.{all_among}
 use Rattle.oc_laws_world.proofs.Machine.{IsMachine, IsLoose, and_sent}
 use Rattle.oc_laws_world.proofs.NumbersKept.{IsAskedFact}
+use Rattle.oc_laws_world.proofs.Present.{in_range, new_found}
 use Rattle.oc_laws_tree.proofs.Together.{AllHold}
 use Rattle.oc_laws_tree.proofs.Points.{law_after, all_after}
 use Rattle.oc_laws_tree.proofs.Reached.{Reached, of_reached}
 
 -- Ranges
-
-pub in_range : (b n x : ℕ) → b ≤ x → x < b + n → IsOneOf x (range_with_len b n)
-in_range b zero x least most = absurd (omega arith)
-in_range b (suc n) x least most = ⊎_elim (λ (e : x ≡ b). inl e) (λ apart. inr (in_range (b + 1) n x (omega (arith, apart)) (omega arith))) (cases_eq x b)
 
 pub of_range : (b n x : ℕ) → IsOneOf x (range_with_len b n) → (b ≤ x) × (x < b + n)
 of_range b zero x one = absurd one
@@ -122,15 +119,6 @@ among_law h = record {
   keeps = λ w x holds. among_kept h w x;
   ends = λ w v x n ms holds becomes here. at_each w v x n ms becomes (IsAmongThem h) here (λ y apart. holds y);
 }
-
--- the process of an id in a new world
-new_found : (h : Header) (xs : List ℕ) (x : ℕ) → IsOneOf x xs → process_in (map (λ y. down (new_node h y)) xs) x ≡ down (new_node h x)
-new_found h [] x one = absurd one
-new_found h (y ∷ ys) x one = by_test (y == x) refl (λ later. new_found h ys x later) where
-  by_test : (b : Bool) → (y == x) ≡ b → (IsOneOf x ys → process_in (map (λ z. down (new_node h z)) ys) x ≡ down (new_node h x))
-      → (if b then down (new_node h y) else process_in (map (λ z. down (new_node h z)) ys) x) ≡ down (new_node h x)
-  by_test true e rest = ap (λ z. down (new_node h z)) (eqb-true y x e)
-  by_test false e rest = ⊎_elim (λ same. absurd (eqb-false y x e (sym same))) rest one
 
 among_new : (h : Header) → AreAmongThem h (new_world h)
 among_new h x is =

@@ -21,3 +21,9 @@ pub mod RankSteps
 pub mod RanksKept
 pub mod Listed
 pub mod NumbersKept
+pub mod NoRedirects
+pub mod SentOn
+pub mod Present
+pub mod MergeLists
+pub mod Merged
+pub mod Takings

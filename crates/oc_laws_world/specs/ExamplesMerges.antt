@@ -1,0 +1,50 @@
+use Rattle.std.specs.Prelude.{◌≡◌, false, List, [], ◌∷◌, codes}
+use Rattle.oc_base.specs.Groups.{shelf}
+use Rattle.oc_model.specs.declared.event.Act.TheVariants.{At, Deliver}
+use Rattle.oc_model.specs.declared.event.Event.TheVariants.{Up, Crash, Do}
+use Rattle.oc_model.specs.declared.input.Input.TheVariants.{Pull, Publish, Delivered}
+use Rattle.oc_model.specs.declared.message.Body.TheVariants.{Fetch, Chunk}
+use Rattle.oc_model.specs.declared.message.Message.{Message}
+use Rattle.oc_model.specs.ExampleRuns.{header, from_to}
+use Rattle.oc_model.specs.Node.{Header}
+use Rattle.oc_model.specs.World.{new_world}
+use Rattle.oc_laws_world.specs.Merges.{Line, line, Starts, Takes, IsMerge, IsScheduleOf, entries_of, own_fold}
+
+-- Two records: node 1 publishes, and node 2 copies it and is started again.
+
+abbrev two : Header
+two = header 2 1 (0 ∷ 0 ∷ [])
+
+abbrev fetch : Message
+fetch = from_to 2 1 (Fetch [])
+
+abbrev chunk : Message
+chunk = from_to 1 2 (Chunk (codes "/a") 0 (codes "hello") false)
+
+abbrev copying : List Line
+copying =
+    line 2 Starts
+    ∷ line 2 (Takes (Pull 1))
+    ∷ line 1 Starts
+    ∷ line 1 (Takes (Publish (codes "/a") (codes "hello")))
+    ∷ line 1 (Takes (Delivered fetch))
+    ∷ line 2 (Takes (Delivered chunk))
+    ∷ line 2 Starts
+    ∷ []
+
+-- each message was sent before it is delivered
+abbrev pub Copying : Type 0
+Copying = IsMerge two copying
+
+-- the entries of node 2 are those of its own record
+abbrev pub CopyingAt2 : Type 0
+CopyingAt2 = entries_of 2 copying ≡ Starts ∷ Takes (Pull 1) ∷ Takes (Delivered chunk) ∷ Starts ∷ []
+
+-- the fetch is the first message of the net, and the chunk the second; a crash stands before the second start
+abbrev pub CopyingScheduled : Type 0
+CopyingScheduled = IsScheduleOf (new_world two) copying
+    (Up 2 ∷ Do (At 2 (Pull 1)) ∷ Up 1 ∷ Do (At 1 (Publish (codes "/a") (codes "hello"))) ∷ Do (Deliver 1) ∷ Do (Deliver 2) ∷ Crash 2 ∷ Up 2 ∷ [])
+
+-- by its own record node 2 holds what was published
+abbrev pub CopyingHeld : Type 0
+CopyingHeld = shelf (own_fold two copying 2).groups ≡ record { group = codes "/a"; held = 5; sealed = false } ∷ []

@@ -1,0 +1,38 @@
+use Rattle.std.specs.Prelude.{◌≡◌, ℕ, Bool, true, List, [], ◌∷◌, ◌++◌}
+use Rattle.oc_base.specs.Lawful.{IsNode}
+use Rattle.oc_model.specs.Node.{Header}
+use Rattle.oc_laws_world.specs.Merges.{Entry, Line, entries_of, CanFollow}
+
+-- Which lines of some records a merge takes.
+
+-- the records of all nodes, one behind the other, and a test of an entry of a node by its own entries before it, such as whether a start
+-- finds the files of which the record tells
+pub record Records : Type 0 where
+  pub header : Header
+  pub lines : List Line
+  pub fits : ℕ → List Entry → Entry → Bool
+
+-- an entry is next in the record of x, behind those that were taken
+abbrev pub IsNext : Records → List Line → ℕ → Entry → Type 0
+IsNext r taken x e = (rest : List Entry) × (entries_of x r.lines ≡ entries_of x taken ++ e ∷ rest)
+
+-- it is next, it fits, and it can stand behind what was taken
+abbrev pub CanBeTaken : Records → List Line → ℕ → Entry → Type 0
+CanBeTaken r taken x e = IsNode r.header.nodes x × IsNext r taken x e × (r.fits x (entries_of x taken) e ≡ true) × CanFollow r.header taken x e
+
+-- each of these lines can be taken behind those before it and the lines `past`
+abbrev pub AreTaken : Records → List Line → List Line → Type 0
+AreTaken r past [] = Unit {0}
+AreTaken r past (l ∷ ls) = CanBeTaken r past l.node l.entry × AreTaken r (past ++ l ∷ []) ls
+
+-- lines were taken one after another, in whatever order they were tried
+abbrev pub IsTaking : Records → List Line → Type 0
+IsTaking r taken = AreTaken r [] taken
+
+-- no further line can be taken
+abbrev pub IsFull : Records → List Line → Type 0
+IsFull r taken = (x : ℕ) (e : Entry) → CanBeTaken r taken x e → ⊥
+
+-- xs is a beginning of ys
+abbrev pub IsBeginning : List Entry → List Entry → Type 0
+IsBeginning xs ys = (rest : List Entry) × (ys ≡ xs ++ rest)

@@ -27,3 +27,4 @@ pub mod Present
 pub mod MergeLists
 pub mod Merged
 pub mod Takings
+pub mod MissedFound

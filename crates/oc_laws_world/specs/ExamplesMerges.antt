@@ -1,14 +1,16 @@
-use Rattle.std.specs.Prelude.{◌≡◌, false, List, [], ◌∷◌, codes}
+use Rattle.std.specs.Prelude.{◌≡◌, ℕ, false, List, [], ◌∷◌, map, codes}
 use Rattle.oc_base.specs.Groups.{shelf}
 use Rattle.oc_model.specs.declared.event.Act.TheVariants.{At, Deliver}
 use Rattle.oc_model.specs.declared.event.Event.TheVariants.{Up, Crash, Do}
+use Rattle.oc_model.specs.declared.input.Input.{Input}
 use Rattle.oc_model.specs.declared.input.Input.TheVariants.{Pull, Publish, Delivered}
 use Rattle.oc_model.specs.declared.message.Body.TheVariants.{Fetch, Chunk}
 use Rattle.oc_model.specs.declared.message.Message.{Message}
 use Rattle.oc_model.specs.ExampleRuns.{header, from_to}
-use Rattle.oc_model.specs.Node.{Header}
+use Rattle.oc_model.specs.Node.{Header, Node, new_node}
 use Rattle.oc_model.specs.World.{new_world}
-use Rattle.oc_laws_world.specs.Merges.{Line, line, Starts, Takes, IsMerge, IsScheduleOf, entries_of, own_fold}
+use Rattle.oc_laws_world.specs.Merges.{Entry, Line, line, Starts, Takes, IsMerge, IsScheduleOf, entries_of, own_fold}
+use Rattle.oc_laws_world.specs.Missed.{Deed, Started, Took, Missed, record_of, without_missed}
 
 -- Two records: node 1 publishes, and node 2 copies it and is started again.
 
@@ -48,3 +50,23 @@ CopyingScheduled = IsScheduleOf (new_world two) copying
 -- by its own record node 2 holds what was published
 abbrev pub CopyingHeld : Type 0
 CopyingHeld = shelf (own_fold two copying 2).groups ≡ record { group = codes "/a"; held = 5; sealed = false } ∷ []
+
+-- A record whose second publish was not taken, since the node stopped, and one whose first was.
+
+abbrev adds : List ℕ → Input
+adds bytes = Publish (codes "/a") bytes
+
+-- the lengths of all groups, which tell these files apart
+abbrev lengths : Node → List ℕ
+lengths n = map (λ l. l.held) (shelf n.groups)
+
+abbrev left : List Deed → List Entry
+left deeds = without_missed lengths (new_node two 1) (record_of lengths (new_node two 1) deeds)
+
+abbrev pub MissedLeftOut : Type 0
+MissedLeftOut =
+    left (Started ∷ Took (adds (codes "hi")) ∷ Missed (adds (codes "!")) ∷ Started ∷ Took (adds (codes "?")) ∷ [])
+    ≡ Starts ∷ Takes (adds (codes "hi")) ∷ Starts ∷ Takes (adds (codes "?")) ∷ []
+
+abbrev pub TakenKept : Type 0
+TakenKept = left (Started ∷ Took (adds (codes "hi")) ∷ Started ∷ []) ≡ Starts ∷ Takes (adds (codes "hi")) ∷ Starts ∷ []

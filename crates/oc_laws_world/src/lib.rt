@@ -8,7 +8,8 @@
 //! for the crates above.
 //!
 //! [`only_chain_nodes_redirect`] is about one step. [`records_are_schedules`] says that what running nodes
-//! record of themselves is such a list of events, and [`merging_takes_the_most`] that the records tell which.
+//! record of themselves is such a list of events; [`merging_takes_the_most`] and
+//! [`missed_inputs_are_found`] that the records tell which.
 //!
 //! The laws of the tree are invariants of one fine machine (`proofs/Machine`), a transition system with
 //! some twenty small changes of one node: every step, start and stop is a sequence of them. `proofs/Laws`
@@ -25,6 +26,8 @@ mod worlds;
 pub use content::content_stays_true;
 pub use numbers::ask_numbers_have_one_peer;
 pub use ranks::{parent_links_form_no_cycle, ranks_hold};
-pub use records::{merges_compute, merging_takes_the_most, records_are_schedules};
+pub use records::{
+    merges_compute, merging_takes_the_most, missed_inputs_are_found, records_are_schedules,
+};
 pub use redirects::only_chain_nodes_redirect;
 pub use worlds::{chains_are_computed, events_go_on, tests_decide};

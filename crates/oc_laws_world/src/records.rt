@@ -3,12 +3,15 @@ ghost use Rattle.oc_base.specs.Lawful.{IsNode};
 ghost use Rattle.oc_model.specs.declared.event.Event.{Event};
 ghost use Rattle.oc_model.specs.declared.message.Message.{Message};
 ghost use Rattle.oc_model.specs.NextWorld.{world_after};
-ghost use Rattle.oc_model.specs.Node.{Header};
+ghost use Rattle.oc_model.specs.declared.input.Input.{Input};
+ghost use Rattle.oc_model.specs.Node.{Header, Node, restarted};
+ghost use Rattle.oc_model.specs.Step.{step};
 ghost use Rattle.oc_model.specs.Numbers.{IsAmong};
 ghost use Rattle.oc_model.specs.World.{new_world, node};
-ghost use Rattle.oc_laws_world.specs.ExamplesMerges.{Copying, CopyingAt2, CopyingScheduled, CopyingHeld};
+ghost use Rattle.oc_laws_world.specs.ExamplesMerges.{Copying, CopyingAt2, CopyingScheduled, CopyingHeld, MissedLeftOut, TakenKept};
 ghost use Rattle.oc_laws_world.specs.MergedLaws.{AllHold};
-ghost use Rattle.oc_laws_world.specs.Merges.{Entry, Line, line, IsMerge, IsScheduleOf, WasSent, entries_of, own_fold};
+ghost use Rattle.oc_laws_world.specs.Merges.{Entry, Line, line, IsMerge, IsScheduleOf, WasSent, after_entries, entries_of, own_fold};
+ghost use Rattle.oc_laws_world.specs.Missed.{Deed, Started, after_deeds, record_of, without_missed, StartsFit, HaveSameFiles, IsStory};
 ghost use Rattle.oc_laws_world.specs.Taking.{Records, CanBeTaken, IsTaking, IsFull, IsBeginning};
 
 use crate::{
@@ -37,12 +40,14 @@ pub fn records_are_schedules()
     ask_numbers_have_one_peer();
 }
 
-/// Two records, their merge and its schedule, worked out.
+/// Two records, their merge and its schedule, and what is left of a record with a missed input, worked out.
 pub fn merges_compute()
     ensures merge { Copying }
     ensures entries { CopyingAt2 }
     ensures scheduled { CopyingScheduled }
     ensures held { CopyingHeld }
+    ensures missed { MissedLeftOut }
+    ensures taken { TakenKept }
 {}
 
 /// A merge that takes lines of records until no further line can be taken has taken the most of each
@@ -56,4 +61,17 @@ pub fn merging_takes_the_most()
     ensures merge { (r : Records) (taken : List Line) → IsTaking r taken → IsMerge r.header taken }
     ensures most { (r : Records) (taken other : List Line) → IsTaking r taken → IsFull r taken → IsTaking r other → (x : ℕ) → IsBeginning (entries_of x other) (entries_of x taken) }
     ensures one { (r : Records) (a b : List Line) → IsTaking r a → IsFull r a → IsTaking r b → IsFull r b → (x : ℕ) → entries_of x a ≡ entries_of x b }
+{}
+
+/// Of a record whose last lines before a stop may tell of inputs that were not taken, these lines are
+/// found from the lines of its node alone.
+///
+/// What is left folds, at each start, to what the node was that had taken the others, and each start finds
+/// the files that its line tells. Only a line stays whose input would have left the control part, the
+/// lengths and the seals, and then the start finds the same.
+pub fn missed_inputs_are_found()
+    ensures folds { (digest : Node → List ℕ) (n : Node) (ds : List Deed) → IsStory digest n ds
+        → after_entries n (without_missed digest n (record_of digest n (ds ++ Started ∷ []))) ≡ after_deeds n (ds ++ Started ∷ []) }
+    ensures fits { (digest : Node → List ℕ) (n : Node) (ds : List Deed) → IsStory digest n ds → StartsFit digest n (record_of digest n ds) }
+    ensures alike { (n : Node) (i : Input) → HaveSameFiles n (step n i).node → restarted (step n i).node ≡ restarted n }
 {}

@@ -78,3 +78,9 @@ returns-clause-scheduled c = (
 
 pub returns-clause-held : goal.returns-clause-held
 returns-clause-held c = refl
+
+pub returns-clause-missed : goal.returns-clause-missed
+returns-clause-missed c = refl
+
+pub returns-clause-taken : goal.returns-clause-taken
+returns-clause-taken c = refl

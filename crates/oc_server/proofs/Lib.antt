@@ -23,3 +23,7 @@ pub mod Replying
 pub mod RepliedDeeds
 pub mod Holdings
 pub mod ChunksThere
+pub mod Settled
+pub mod PartsOrdered
+pub mod TurnsOrdered
+pub mod Answered

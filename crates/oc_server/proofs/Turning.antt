@@ -1,8 +1,10 @@
 -- One turn, part by part.
 use Rattle.std.proofs.Common.{◌≡◌, ◌≢◌, ℕ, Bool, true, false, cond, Option, None, Some, List, [], ◌∷◌, ◌++◌, length, slice_get, inl, inr, refl, sym, ap, subst, ◌∙◌, arith}
+use Rattle.std.specs.Prelude.{IsTrue}
 use Rattle.std.proofs.lemmas.Bool.{eq-eqb, ne_eqb}
 use Rattle.oc_base.specs.Groups.{shelf}
 use Rattle.oc_config.specs.Settings.{Settings}
+use Rattle.oc_events.specs.Stands.{may}
 use Rattle.oc_events.specs.Told.{AddsAll, Gives, Told as Telling}
 use Rattle.oc_events.specs.Traffic.{held}
 use Rattle.oc_events.specs.declared.call.Call.{Call}
@@ -22,7 +24,7 @@ use Rattle.oc_server.specs.Deeds.{Deed, Reads, Running, Sees, Setting, after_all
 use Rattle.oc_server.specs.Pace.{after_tick, wait_until}
 use Rattle.oc_server.specs.Looks.{Renews}
 use Rattle.oc_server.specs.Parts.{Does, Part, Stops, nothing, one, ◌>>◌}
-use Rattle.oc_server.specs.Runs.{DealStops, Dealt, IsLent, IsMeasured, IsRead, MayRead, behind_reading, due_in, is_something, is_served, lent_in, reads_by, NextStops, NextTaken, Turned, TurnStops}
+use Rattle.oc_server.specs.Runs.{CouldCome, DealStops, Dealt, IsLent, IsMeasured, IsRead, MayRead, behind_reading, due_in, is_something, is_served, lent_in, reads_by, NextStops, NextTaken, Turned, TurnStops}
 use Rattle.oc_server.specs.Scenes.{Breaks, Did, Idle, IsServing, running, setting}
 use Rattle.oc_server.specs.Hurries.{came_hurries}
 use Rattle.oc_server.specs.Turns.{Means, Told, deals, happens, quickened, takes_due, ticks_and_sends, pace_behind, paced, probed, probing_behind, takes_at, takes_next, takes_one, ticked, ticks, turn}
@@ -70,21 +72,22 @@ same_bytes event calls now x y p q =
 pub record Lent (a z : Option (List Call)) (event : Event) (bytes lent : List ℕ) : Type 0 where
   pub bytes_lent : List ℕ
   pub is_lent : IsLent a z event bytes bytes_lent
+  pub could : CouldCome a z event
   pub means : (t : NodeTerms) (errand : Option Errand) (came : Came) → Means t lent errand event came → Means t bytes_lent errand event came
 
 lent_by : (event : Event) (calls now end : List Call) (bytes lent : List ℕ) → Gives event lent calls now → now ≡ calls ++ acts.Next event bytes ∷ [] → Lent (Some calls) (Some end) event bytes lent
 lent_by (events.Request a) calls now end bytes lent told is =
-    record { bytes_lent = lent; is_lent = told.lends ∙ ap (λ (cs : List Call). held a.connection cs) is; means = λ t errand came m. m }
+    record { bytes_lent = lent; is_lent = told.lends ∙ ap (λ (cs : List Call). held a.connection cs) is; could = told.could; means = λ t errand came m. m }
 lent_by (events.Reply d coming) calls now end bytes lent told is =
-    record { bytes_lent = lent; is_lent = told.lends ∙ same_bytes (events.Reply d coming) calls now told.bytes bytes told.made is; means = λ t errand came m. m }
-lent_by (events.Room c) calls now end bytes lent told is = record { bytes_lent = bytes; is_lent = refl; means = λ t errand came m. m }
-lent_by (events.Gone c loss) calls now end bytes lent told is = record { bytes_lent = bytes; is_lent = refl; means = λ t errand came m. m }
-lent_by events.Quiet calls now end bytes lent told is = record { bytes_lent = bytes; is_lent = refl; means = λ t errand came m. m }
+    record { bytes_lent = lent; is_lent = told.lends ∙ same_bytes (events.Reply d coming) calls now told.bytes bytes told.made is; could = told.could; means = λ t errand came m. m }
+lent_by (events.Room c) calls now end bytes lent told is = record { bytes_lent = bytes; is_lent = refl; could = told.could; means = λ t errand came m. m }
+lent_by (events.Gone c loss) calls now end bytes lent told is = record { bytes_lent = bytes; is_lent = refl; could = told.could; means = λ t errand came m. m }
+lent_by events.Quiet calls now end bytes lent told is = record { bytes_lent = bytes; is_lent = refl; could = told.could; means = λ t errand came m. m }
 
 pub lent_is : (event : Event) (bytes lent : List ℕ) (more : List Call) (a b z : Option (List Call)) → Telling (Gives event lent) a b → AddsAll (acts.Next event bytes ∷ []) a b → AddsAll more b z
     → Lent a z event bytes lent
-lent_is event bytes lent more None b z told adds behind = record { bytes_lent = lent; is_lent = tt; means = λ t errand came m. m }
-lent_is event bytes lent more (Some calls) b None told adds behind = record { bytes_lent = lent; is_lent = tt; means = λ t errand came m. m }
+lent_is event bytes lent more None b z told adds behind = record { bytes_lent = lent; is_lent = tt; could = tt; means = λ t errand came m. m }
+lent_is event bytes lent more (Some calls) b None told adds behind = record { bytes_lent = lent; is_lent = tt; could = tt; means = λ t errand came m. m }
 lent_is event bytes lent more (Some calls) None (Some end) told adds behind = absurd behind
 lent_is event bytes lent more (Some calls) (Some now) (Some end) told adds behind = lent_by event calls now end bytes lent told adds
 
@@ -169,6 +172,12 @@ module _ {D L K : Type 0} (view : D → DiskView) (takes fails : K → List ℕ 
     lent_then event bytes lent more (Some calls) (Some now) (Some end) made behind is =
         is ∙ ap (λ (cs : List Call). lent_in event bytes (cs ++ acts.Next event bytes ∷ [])) made
 
+    could_then : (event : Event) (more : List Call) (x y z : Option (List Call)) → AddsAll (acts.Millis before ∷ []) x y → AddsAll more y z → CouldCome y z event → CouldCome (behind_reading before x) z event
+    could_then event more None y z made behind could = tt
+    could_then event more (Some calls) y None made behind could = tt
+    could_then event more (Some calls) None (Some end) made behind could = absurd behind
+    could_then event more (Some calls) (Some now) (Some end) made behind could = subst (λ (cs : List Call). IsTrue (may event cs)) made could
+
   -- One thing that happened
 
   module _ (takes_nothing : (k : K) → takes k [] k) (takes_then : (a b c : K) (x y : List ℕ) → takes a x b → takes b y c → takes a (x ++ y) c) (old : Turns D L K) (before wait : ℕ) (event : Event) (bytes : List ℕ) (b : Server D L K)
@@ -225,6 +234,7 @@ module _ {D L K : Type 0} (view : D → DiskView) (takes fails : K → List ℕ 
           record {
             lent = l.bytes_lent;
             is_lent = l.is_lent;
+            could = l.could;
             means = l.means (reads_by old.server) (errand_in event old.server.dials) came
                 (subst (λ (t : NodeTerms). Means t lent (errand_in event old.server.dials) event came) (reads_same (sees ∷ []) old.server b seen)
                 (subst (λ (e : Option Errand). Means (reads_by b) lent e event came) errand_is means));
@@ -341,6 +351,7 @@ module _ {D L K : Type 0} (view : D → DiskView) (takes fails : K → List ℕ 
           (subst (λ (n : ℕ). IsRead old (behind_reading n (story old.server.link)) (story new.server.link) t) (sym begins) (record {
             lent = read.lent;
             is_lent = lent_then takes_then before old.server b new.server did t.event t.bytes read.lent more (story old.server.link) (story b.link) (story new.server.link) (did.done honest).calls behind read.is_lent;
+            could = could_then takes_then before old.server b new.server did t.event more (story old.server.link) (story b.link) (story new.server.link) (did.done honest).calls behind read.could;
             means = subst (λ (n : NodeTerms). Means n read.lent (errand_in t.event old.server.dials) t.event t.came) (reads_same (Reads before ∷ []) old.server b did)
                 (subst (λ (r : Running). Means (reads_by b) read.lent (errand_in t.event r.dials) t.event t.came) (did.done honest).after read.means);
             measured = read.measured;

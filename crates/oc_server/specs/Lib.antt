@@ -22,3 +22,5 @@ pub mod Lawful
 pub mod TurnExamples
 pub mod Replying
 pub mod ReplyExamples
+pub mod Settled
+pub mod Answered

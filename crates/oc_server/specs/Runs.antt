@@ -1,7 +1,8 @@
 -- A running node turn by turn: one turn that was done, turns one after another, and a turn that ended partway through.
-use Rattle.std.specs.Prelude.{◌≡◌, ◌⊎◌, ℕ, zero, suc, ◌<◌, Bool, true, false, Option, None, Some, List, [], ◌∷◌, ◌++◌, length}
+use Rattle.std.specs.Prelude.{◌≡◌, ◌⊎◌, ℕ, zero, suc, ◌<◌, Bool, true, false, IsTrue, Option, None, Some, List, [], ◌∷◌, ◌++◌, length}
 use Rattle.std.specs.Option.{option_map}
 use Rattle.oc_base.specs.Groups.{shelf}
+use Rattle.oc_events.specs.Stands.{may}
 use Rattle.oc_events.specs.Traffic.{held}
 use Rattle.oc_events.specs.declared.call.Call.{Call}
 use Rattle.oc_events.specs.declared.call.Call.TheVariants as acts
@@ -46,6 +47,11 @@ abbrev pub IsLent : Option (List Call) → Option (List Call) → Event → List
 IsLent (Some calls) (Some now) event bytes lent = lent ≡ lent_in event bytes (calls ++ acts.Next event bytes ∷ [])
 IsLent old new event bytes lent = Unit {0}
 
+-- where a story was told when the link was asked, and is told now, the event could come then
+abbrev pub CouldCome : Option (List Call) → Option (List Call) → Event → Type 0
+CouldCome (Some calls) (Some now) event = IsTrue (may event calls)
+CouldCome old new event = Unit {0}
+
 -- it is the median of the rates of a peer with this one, where they are measured
 abbrev pub IsMedianOf : Option Probing → ℕ → ℕ → ℕ → Type 0
 IsMedianOf None peer rate median = Unit {0}
@@ -66,6 +72,7 @@ IsMedianIn (Some probing) peer rate (Some median) = IsMedian (with_rate (rates_o
 pub record IsRead {D L K : Type 0} (old : Turns D L K) (asked now : Option (List Call)) (t : Told) : Type 0 where
   pub lent : List ℕ
   pub is_lent : IsLent asked now t.event t.bytes lent
+  pub could : CouldCome asked now t.event
   pub means : Means (reads_by old.server) lent (errand_in t.event old.server.dials) t.event t.came
   pub measured : IsMeasured old.probing t.came t.now t.median
 

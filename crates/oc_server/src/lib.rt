@@ -13,7 +13,8 @@
 //! Which deeds make a turn is a function: `specs/Turns` says what a running node does in a turn by what the link and the
 //! clock tell ([`Turns::turn`], and [`Turns::serve`] for one turn after another). The contract of a turn says that these
 //! deeds were done, or that a front of them was done, what was under way behind it, and how it ended (`specs/Runs`). What
-//! came is what the bytes of the link say, read by the definitions of `oc_reply` and `oc_http`.
+//! came is what the bytes of the link say, read by the definitions of `oc_reply` and `oc_http`. Turns do their deeds in the
+//! order that the replies ask for, however many are done and wherever the last one ends ([`turns_are_in_order`]).
 #![tactic(auto)]
 
 mod answering;
@@ -27,6 +28,7 @@ mod giving;
 mod hearing;
 mod law;
 mod noting;
+mod order_law;
 mod outbox;
 mod pace;
 mod reading;
@@ -50,6 +52,7 @@ pub use ends::TurnEnd;
 pub use law::{
     connections_are_given_their_replies, examples_compute, what_is_given_in_chunks_is_there,
 };
+pub use order_law::turns_are_in_order;
 pub use outbox::Outbox;
 pub use pace::Pace;
 pub use server::Server;

@@ -12,3 +12,5 @@ mod Pads
 mod Lines
 mod Keys
 mod Splits
+pub mod Ipv6
+pub mod AddressBytes

@@ -4,11 +4,11 @@ use Rattle.std.specs.List.{AllByRecursion}
 use Rattle.oc_config.specs.AccessRules.{rules_from, rule_tables_in}
 use Rattle.oc_config.specs.Laws.{IsSaid}
 use Rattle.oc_config.specs.Nodes.{nodes_in, addresses_of, listens_of, areas_of}
-use Rattle.oc_config.specs.Reading.{numbers_in, node_tables_in, chain_within, measures_in, keys_known, settings_with, with_keys, with_rule_tables, with_rules, with_measures, with_chain, with_tables, with_nodes, settings_in}
+use Rattle.oc_config.specs.Reading.{common_in, node_tables_in, chain_within, measures_in, keys_known, settings_with, with_keys, with_rule_tables, with_rules, with_measures, with_chain, with_tables, with_nodes, settings_in}
 use Rattle.oc_config.specs.Settings.{NodeSettings, Settings}
 use Rattle.oc_config.specs.Values.{Section}
 use Rattle.oc_config.specs.declared.fault.ConfigFault.{ConfigFault}
-use Rattle.oc_config.specs.declared.reading.Numbers.{Numbers}
+use Rattle.oc_config.specs.declared.reading.Common.{Common}
 use Rattle.oc_config.proofs.Results.{steps}
 use Rattle.oc_config.proofs.Said.{settings_say}
 
@@ -23,15 +23,15 @@ record HasPlaces (s : Settings) (tables : List Section) : Type 0 where
   listens : s.listens ≡ listens_of places
   areas : s.areas ≡ areas_of places
 
-places_of : (text : Section) (numbers : Numbers) (s : Settings) (tables : List Section) → with_tables text numbers tables ≡ Ok s → HasPlaces s tables
-places_of text numbers s tables e =
-    let nodes = steps (nodes_in (replicate (length tables) None) tables) (λ places. with_chain text numbers tables places) s e in
+places_of : (text : Section) (common : Common) (s : Settings) (tables : List Section) → with_tables text common tables ≡ Ok s → HasPlaces s tables
+places_of text common s tables e =
+    let nodes = steps (nodes_in (replicate (length tables) None) tables) (λ places. with_chain text common tables places) s e in
     let places = nodes.value in
-    let within = steps (chain_within text (length tables) numbers.chain) (λ done. with_measures text numbers tables places) s nodes.then in
-    let measures = steps (measures_in (length tables) text) (λ measures. with_rules text numbers tables places measures) s within.then in
-    let found = steps (rule_tables_in text) (λ rule_tables. with_rule_tables text numbers tables places measures.value rule_tables) s measures.then in
-    let rules = steps (rules_from [] found.value) (λ rules. with_keys text numbers tables places measures.value found.value rules) s found.then in
-    let keys = steps (keys_known text tables found.value) (λ done. settings_with numbers places measures.value rules.value) s rules.then in
+    let within = steps (chain_within text (length tables) common.chain) (λ done. with_measures text common tables places) s nodes.then in
+    let measures = steps (measures_in (length tables) text) (λ measures. with_rules text common tables places measures) s within.then in
+    let found = steps (rule_tables_in text) (λ rule_tables. with_rule_tables text common tables places measures.value rule_tables) s measures.then in
+    let rules = steps (rules_from [] found.value) (λ rules. with_keys text common tables places measures.value found.value rules) s found.then in
+    let keys = steps (keys_known text tables found.value) (λ done. settings_with common places measures.value rules.value) s rules.then in
     let same = same_Ok _ _ _ refl keys.then in
     record {
       places = places;
@@ -44,8 +44,8 @@ places_of text numbers s tables e =
 -- what each table says, settings say
 pub settled_say : (text : Section) (s : Settings) (tables : List Section) → settings_in text ≡ Ok s → node_tables_in text ≡ Ok tables → AllByRecursion (IsSaid s (length tables)) tables
 settled_say text s tables e there =
-    let numbers = steps (numbers_in text) (λ numbers. with_nodes text numbers) s e in
-    let found = steps (node_tables_in text) (λ ts. with_tables text numbers.value ts) s numbers.then in
+    let common = steps (common_in text) (λ common. with_nodes text common) s e in
+    let found = steps (node_tables_in text) (λ ts. with_tables text common.value ts) s common.then in
     let same : found.value ≡ tables = cc in
-    let has = places_of text numbers.value s found.value found.then in
+    let has = places_of text common.value s found.value found.then in
     subst (λ (ts : List Section). AllByRecursion (IsSaid s (length ts)) ts) same (settings_say s found.value has.places has.nodes has.addresses has.listens has.areas)

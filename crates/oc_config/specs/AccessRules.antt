@@ -5,13 +5,14 @@ use Rattle.std.specs.Str.{bytes_eq}
 use Rattle.toml.specs.Data.{Data, as_str, as_bool}
 use Rattle.oc_base.specs.Steps.{◌>>=◌}
 use Rattle.oc_policy.specs.Prefixes.{parsed_prefix}
+use Rattle.oc_policy.specs.Tokens.{parsed_token}
 use Rattle.oc_policy.specs.declared.deciding.TheConstants.{MAX_RULES}
 use Rattle.oc_policy.specs.declared.rule.Action.{Action}
 use Rattle.oc_policy.specs.declared.rule.Action.TheVariants.{Get, Post}
 use Rattle.oc_policy.specs.declared.rule.Rule.{Rule}
 use Rattle.oc_config.specs.Values.{Section, value_in, required, read_as, read_if, area_in, tables_in}
 use Rattle.oc_config.specs.declared.fault.ConfigFault.{ConfigFault}
-use Rattle.oc_config.specs.declared.key.Key.TheVariants.{Rule as RuleKey, Allow, Prefix, Method}
+use Rattle.oc_config.specs.declared.key.Key.TheVariants.{Rule as RuleKey, Allow, Prefix, Method, Token}
 use Rattle.oc_config.specs.declared.place.Kind.TheVariants as kinds
 
 abbrev pub allow_in : Section → Result Bool ConfigFault
@@ -43,6 +44,17 @@ method_of d = action_of (as_str d)
 abbrev pub method_in : Section → Result (Option Action) ConfigFault
 method_in s = read_if Method s method_of (value_in Method s)
 
+-- the text, where it is a token
+abbrev pub lawful_token : Option (List ℕ) → Option (List ℕ)
+lawful_token None = None
+lawful_token (Some text) = result_ok (parsed_token text)
+
+abbrev pub token_of : Data → Option (List ℕ)
+token_of d = lawful_token (as_str d)
+
+abbrev pub token_in : Section → Result (Option (List ℕ)) ConfigFault
+token_in s = read_if Token s token_of (value_in Token s)
+
 -- the rule of a table
 abbrev pub rule_in : Section → Result Rule ConfigFault
 rule_in s = do
@@ -50,7 +62,8 @@ rule_in s = do
   prefix ← prefix_in s
   action ← method_in s
   area ← area_in s
-  Ok (record { allow = allow; action = action; prefix = prefix; area = area })
+  token ← token_in s
+  Ok (record { allow = allow; action = action; prefix = prefix; area = area; token = token })
 
 -- the rules so far and those of these tables, in their order
 abbrev pub rules_from : List Rule → List Section → Result (List Rule) ConfigFault

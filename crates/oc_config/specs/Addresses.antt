@@ -1,6 +1,8 @@
 -- What an address is.
-use Rattle.std.specs.Prelude.{ℕ, Bool, not, ◌&&◌, ◌||◌, ◌==◌, nat_eq, nat_le, is_ok, List, length, codes}
+use Rattle.std.specs.Prelude.{◌≡◌, ℕ, ◌<◌, ◌≤◌, Bool, true, false, not, ◌&&◌, ◌||◌, ◌==◌, nat_eq, nat_le, is_ok, is_some, List, [], ◌∷◌, length, codes}
+use Rattle.std.specs.Char.{is_ascii_alphanumeric, is_ascii_hexdigit}
 use Rattle.std.specs.List.{list_all, before_first, after_first, starts_with}
+use Rattle.std.specs.Net.Reader.{read_ipv6, whole_value}
 use Rattle.std.specs.Str.{byte}
 use Rattle.oc_base.specs.Words.{number_in}
 use Rattle.oc_config.specs.declared.address.TheConstants.{MAX_ADDRESS_BYTES}
@@ -21,13 +23,52 @@ is_port text = is_ok (number_in 1 65535 text)
 abbrev pub is_colon : ℕ → Bool
 is_colon b = b == byte ":"
 
--- a host, a colon and a port, of at most 255 bytes: where a node can listen
-abbrev pub is_address : List ℕ → Bool
-is_address text = nat_le (length text) MAX_ADDRESS_BYTES && (is_host (before_first is_colon text) && is_port (after_first is_colon text))
+-- a host, a colon and a port
+abbrev pub is_named : List ℕ → Bool
+is_named text = is_host (before_first is_colon text) && is_port (after_first is_colon text)
 
--- the host is `0.0.0.0`, at which nobody can be reached
+-- a hexadecimal digit, `:` or `.`
+abbrev pub is_ipv6_byte : ℕ → Bool
+is_ipv6_byte b = is_ascii_hexdigit b || b == byte ":" || b == byte "."
+
+-- such bytes, which are an address of IPv6 (RFC 4291, section 2.2)
+abbrev pub is_ipv6 : List ℕ → Bool
+is_ipv6 host = list_all is_ipv6_byte host && is_some (whole_value (read_ipv6 host))
+
+abbrev pub is_closing : ℕ → Bool
+is_closing b = b == byte "]"
+
+-- a colon and a port
+abbrev pub is_behind_host : List ℕ → Bool
+is_behind_host [] = false
+is_behind_host (b ∷ port) = is_colon b && is_port port
+
+-- an address of IPv6, the bracket behind it, a colon and a port
+abbrev pub is_closed : List ℕ → Bool
+is_closed rest = is_ipv6 (before_first is_closing rest) && is_behind_host (after_first is_closing rest)
+
+-- the same behind the bracket before it
+abbrev pub is_bracketed : List ℕ → Bool
+is_bracketed [] = false
+is_bracketed (b ∷ rest) = b == byte "[" && is_closed rest
+
+-- one of the two, of at most 255 bytes: where a node can listen
+abbrev pub is_address : List ℕ → Bool
+is_address text = nat_le (length text) MAX_ADDRESS_BYTES && (is_named text || is_bracketed text)
+
+-- a letter, a digit, `.`, `-`, `:` or a bracket
+abbrev pub is_address_byte : ℕ → Bool
+is_address_byte b = is_ascii_alphanumeric b || b == byte "." || b == byte "-" || b == byte ":" || b == byte "[" || b == byte "]"
+
+-- 1 to 255 such bytes
+pub record AreAddressBytes (text : List ℕ) : Type 0 where
+  pub some : 0 < length text
+  pub most : length text ≤ MAX_ADDRESS_BYTES
+  pub bytes : list_all is_address_byte text ≡ true
+
+-- the host is `0.0.0.0` or `[::]`, at which nobody can be reached
 abbrev pub is_everywhere : List ℕ → Bool
-is_everywhere text = starts_with nat_eq text (codes "0.0.0.0:")
+is_everywhere text = starts_with nat_eq text (codes "0.0.0.0:") || starts_with nat_eq text (codes "[::]:")
 
 -- where others can reach a node
 abbrev pub is_reachable : List ℕ → Bool

@@ -3,7 +3,7 @@ use Rattle.std.specs.Prelude.{ℕ, Bool, not, ◌&&◌, ◌||◌, ◌==◌, nat_
 use Rattle.std.specs.List.{list_all, list_any}
 use Rattle.std.specs.Str.{byte, bytes_eq}
 use Rattle.oc_config.specs.declared.key.Key.{Key}
-use Rattle.oc_config.specs.declared.key.Key.TheVariants.{Chain, Chunk, Node, Id, Address, Listen, Area, Measures, Rule, Allow, Prefix, Method}
+use Rattle.oc_config.specs.declared.key.Key.TheVariants.{Chain, Chunk, NodeKey, Node, Id, Address, Listen, Area, Measures, Rule, Allow, Prefix, Method, Token}
 use Rattle.oc_config.specs.declared.key_name.TheConstants.{MAX_KEY_BYTES}
 use Rattle.oc_config.specs.declared.place.Kind.{Kind}
 use Rattle.oc_config.specs.declared.place.Kind.TheVariants as kinds
@@ -14,6 +14,7 @@ use Rattle.oc_config.specs.declared.place.Place.TheVariants as places
 abbrev pub key_text : Key → List ℕ
 key_text Chain = codes "chain"
 key_text Chunk = codes "chunk"
+key_text NodeKey = codes "key"
 key_text Node = codes "node"
 key_text Id = codes "id"
 key_text Address = codes "address"
@@ -24,6 +25,7 @@ key_text Rule = codes "rule"
 key_text Allow = codes "allow"
 key_text Prefix = codes "prefix"
 key_text Method = codes "method"
+key_text Token = codes "token"
 
 -- the table of this number among those of a kind, counted from 1 in the order of the text
 abbrev pub place_in : Kind → ℕ → Place
@@ -32,9 +34,9 @@ place_in kinds.Rule number = places.Rule number
 
 -- the keys that a table can have
 abbrev pub keys_at : Place → List Key
-keys_at places.Top = Chain ∷ Chunk ∷ Node ∷ Measures ∷ Rule ∷ []
+keys_at places.Top = Chain ∷ Chunk ∷ NodeKey ∷ Node ∷ Measures ∷ Rule ∷ []
 keys_at (places.Node number) = Id ∷ Address ∷ Listen ∷ Area ∷ []
-keys_at (places.Rule number) = Allow ∷ Prefix ∷ Method ∷ Area ∷ []
+keys_at (places.Rule number) = Allow ∷ Prefix ∷ Method ∷ Area ∷ Token ∷ []
 
 abbrev pub is_known : Place → List ℕ → Bool
 is_known place text = list_any (λ key. bytes_eq text (key_text key)) (keys_at place)

@@ -9,6 +9,7 @@ use Rattle.toml.specs.View.{table_view}
 use Rattle.toml.specs.declared.value.Value.{Value as TomlValue}
 use Rattle.oc_base.specs.Steps.{◌>>=◌}
 use Rattle.oc_base.specs.declared.limits.TheConstants.{MAX_CHAIN, MAX_NODES}
+use Rattle.oc_mac.specs.Keys.{key_in}
 use Rattle.oc_updown.specs.MeasureLines as lines
 use Rattle.oc_updown.specs.declared.measure_fault.MeasureFault.{MeasureFault}
 use Rattle.oc_updown.specs.declared.measure_lines.Measure.{Measure}
@@ -19,13 +20,13 @@ use Rattle.oc_config.specs.Addresses.{is_address, is_reachable}
 use Rattle.oc_config.specs.Known.{known_in, all_known}
 use Rattle.oc_config.specs.Nodes.{nodes_in, addresses_of, listens_of, areas_of}
 use Rattle.oc_config.specs.Settings.{NodeSettings, Settings}
-use Rattle.oc_config.specs.Values.{Section, top, value_in, required, read_as, whole_in, tables_in, fault_of, Gives, GivesBy}
+use Rattle.oc_config.specs.Values.{Section, top, value_in, required, read_as, read_if, whole_in, tables_in, fault_of, Gives, GivesBy}
 use Rattle.oc_config.specs.declared.config.TheConstants.{MAX_CHUNK, FIRST_CHUNK}
 use Rattle.oc_config.specs.declared.fault.ConfigFault.{ConfigFault}
 use Rattle.oc_config.specs.declared.fault.ConfigFault.TheVariants.{Toml, Value}
-use Rattle.oc_config.specs.declared.key.Key.TheVariants.{Chain, Chunk, Node, Measures}
+use Rattle.oc_config.specs.declared.key.Key.TheVariants.{Chain, Chunk, NodeKey, Node, Measures}
 use Rattle.oc_config.specs.declared.place.Kind.TheVariants as kinds
-use Rattle.oc_config.specs.declared.reading.Numbers.{Numbers}
+use Rattle.oc_config.specs.declared.reading.Common.{Common}
 
 -- the number of chain members
 abbrev pub chain_in : Section → Result ℕ ConfigFault
@@ -40,6 +41,18 @@ chunk_at s (Some d) = read_as Chunk s (whole_in 1 MAX_CHUNK d)
 
 abbrev pub chunk_in : Section → Result ℕ ConfigFault
 chunk_in s = chunk_at s (value_in Chunk s)
+
+-- the key that a text spells
+abbrev pub spelled_key : Option (List ℕ) → Option (List ℕ)
+spelled_key None = None
+spelled_key (Some text) = key_in text
+
+abbrev pub node_key_of : Data → Option (List ℕ)
+node_key_of d = spelled_key (as_str d)
+
+-- the key of the nodes, if they have one
+abbrev pub node_key_in : Section → Result (Option (List ℕ)) ConfigFault
+node_key_in s = read_if NodeKey s node_key_of (value_in NodeKey s)
 
 -- the tables of the nodes
 abbrev pub node_tables_in : Section → Result (List Section) ConfigFault
@@ -69,10 +82,11 @@ measures_in nodes s = measures_at nodes s (value_in Measures s)
 -- What a text says, with the first fault in the order of these steps:
 
 -- all of it
-abbrev pub settings_with : Numbers → List (Option NodeSettings) → List Measure → List Rule → Result Settings ConfigFault
-settings_with numbers places measures rules = Ok (record {
-  chain = numbers.chain;
-  chunk = numbers.chunk;
+abbrev pub settings_with : Common → List (Option NodeSettings) → List Measure → List Rule → Result Settings ConfigFault
+settings_with common places measures rules = Ok (record {
+  chain = common.chain;
+  chunk = common.chunk;
+  key = common.key;
   addresses = addresses_of places;
   listens = listens_of places;
   areas = areas_of places;
@@ -92,64 +106,70 @@ keys_known s nodes rules = do
   tables_known nodes rules
 
 -- the keys, where all before them is read
-abbrev pub with_keys : Section → Numbers → List Section → List (Option NodeSettings) → List Measure → List Section → List Rule → Result Settings ConfigFault
-with_keys s numbers nodes places measures tables rules = do
+abbrev pub with_keys : Section → Common → List Section → List (Option NodeSettings) → List Measure → List Section → List Rule → Result Settings ConfigFault
+with_keys s common nodes places measures tables rules = do
   done ← keys_known s nodes tables
-  settings_with numbers places measures rules
+  settings_with common places measures rules
 
 -- the tables of rules, one after another
-abbrev pub with_rule_tables : Section → Numbers → List Section → List (Option NodeSettings) → List Measure → List Section → Result Settings ConfigFault
-with_rule_tables s numbers nodes places measures tables = do
+abbrev pub with_rule_tables : Section → Common → List Section → List (Option NodeSettings) → List Measure → List Section → Result Settings ConfigFault
+with_rule_tables s common nodes places measures tables = do
   rules ← rules_from [] tables
-  with_keys s numbers nodes places measures tables rules
+  with_keys s common nodes places measures tables rules
 
 -- the array of the rules
-abbrev pub with_rules : Section → Numbers → List Section → List (Option NodeSettings) → List Measure → Result Settings ConfigFault
-with_rules s numbers nodes places measures = do
+abbrev pub with_rules : Section → Common → List Section → List (Option NodeSettings) → List Measure → Result Settings ConfigFault
+with_rules s common nodes places measures = do
   tables ← rule_tables_in s
-  with_rule_tables s numbers nodes places measures tables
+  with_rule_tables s common nodes places measures tables
 
 -- the measures
-abbrev pub with_measures : Section → Numbers → List Section → List (Option NodeSettings) → Result Settings ConfigFault
-with_measures s numbers nodes places = do
+abbrev pub with_measures : Section → Common → List Section → List (Option NodeSettings) → Result Settings ConfigFault
+with_measures s common nodes places = do
   measures ← measures_in (length nodes) s
-  with_rules s numbers nodes places measures
+  with_rules s common nodes places measures
 
 -- the chain against the number of nodes
-abbrev pub with_chain : Section → Numbers → List Section → List (Option NodeSettings) → Result Settings ConfigFault
-with_chain s numbers nodes places = do
-  done ← chain_within s (length nodes) numbers.chain
-  with_measures s numbers nodes places
+abbrev pub with_chain : Section → Common → List Section → List (Option NodeSettings) → Result Settings ConfigFault
+with_chain s common nodes places = do
+  done ← chain_within s (length nodes) common.chain
+  with_measures s common nodes places
 
 -- the tables of nodes, one after another
-abbrev pub with_tables : Section → Numbers → List Section → Result Settings ConfigFault
-with_tables s numbers nodes = do
+abbrev pub with_tables : Section → Common → List Section → Result Settings ConfigFault
+with_tables s common nodes = do
   places ← nodes_in (replicate (length nodes) None) nodes
-  with_chain s numbers nodes places
+  with_chain s common nodes places
 
 -- the array of the nodes
-abbrev pub with_nodes : Section → Numbers → Result Settings ConfigFault
-with_nodes s numbers = do
+abbrev pub with_nodes : Section → Common → Result Settings ConfigFault
+with_nodes s common = do
   nodes ← node_tables_in s
-  with_tables s numbers nodes
+  with_tables s common nodes
+
+-- the key
+abbrev pub common_of : Section → ℕ → ℕ → Result Common ConfigFault
+common_of s chain chunk = do
+  key ← node_key_in s
+  Ok (record { chain = chain; chunk = chunk; key = key })
 
 -- the chunk
-abbrev pub numbers_with : Section → ℕ → Result Numbers ConfigFault
-numbers_with s chain = do
+abbrev pub common_with : Section → ℕ → Result Common ConfigFault
+common_with s chain = do
   chunk ← chunk_in s
-  Ok (record { chain = chain; chunk = chunk })
+  common_of s chain chunk
 
--- the numbers at the top
-abbrev pub numbers_in : Section → Result Numbers ConfigFault
-numbers_in s = do
+-- what is said at the top for all nodes
+abbrev pub common_in : Section → Result Common ConfigFault
+common_in s = do
   chain ← chain_in s
-  numbers_with s chain
+  common_with s chain
 
 -- and these before all
 abbrev pub settings_in : Section → Result Settings ConfigFault
 settings_in s = do
-  numbers ← numbers_in s
-  with_nodes s numbers
+  common ← common_in s
+  with_nodes s common
 
 -- the table that a text is, if it is one
 abbrev pub document : List ℕ → Option Members

@@ -1,5 +1,5 @@
 -- What a configuration says.
-use Rattle.std.specs.Prelude.{ℕ, List}
+use Rattle.std.specs.Prelude.{ℕ, Option, List}
 use Rattle.oc_updown.specs.declared.measure_lines.Measure.{Measure}
 use Rattle.oc_policy.specs.declared.rule.Rule.{Rule}
 
@@ -9,11 +9,12 @@ pub record NodeSettings : Type 0 where
   pub listen : List ℕ
   pub area : ℕ
 
--- the chain members, the greatest number of bytes of a chunk, of each node by its id the address that others are told, that at which it
--- listens and its area, what was measured, and the rules
+-- the chain members, the greatest number of bytes of a chunk, the key of the nodes if they have one, of each node by its id the address
+-- that others are told, that at which it listens and its area, what was measured, and the rules
 pub record Settings : Type 0 where
   pub chain : ℕ
   pub chunk : ℕ
+  pub key : Option (List ℕ)
   pub addresses : List (List ℕ)
   pub listens : List (List ℕ)
   pub areas : List ℕ

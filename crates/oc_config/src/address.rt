@@ -1,49 +1,112 @@
-ghost use Rattle.std.specs.Prelude.{◌≡◌, ◌==◌, position};
+ghost use Rattle.std.specs.Prelude.{◌≡◌, ◌==◌, is_some, position};
 ghost use Rattle.std.specs.List.{list_all, before_first, after_first};
-ghost use Rattle.oc_config.specs.Addresses.{is_address, is_colon, is_everywhere, is_host, is_host_byte, is_port, is_reachable};
+ghost use Rattle.std.specs.Net.Reader.{read_ipv6, whole_value};
+ghost use Rattle.oc_config.specs.Addresses.{is_address, is_behind_host, is_bracketed, is_closed, is_everywhere, is_host, is_host_byte, is_ipv6, is_ipv6_byte, is_named, is_port, is_reachable};
 
 use oc_base::words::number;
+use std::net::Ipv6Addr;
 
 /// The greatest number of bytes of an address.
 const MAX_ADDRESS_BYTES: usize = 255;
 
-/// Whether a text is an address at which others can reach a node: one whose host is not `0.0.0.0`.
+/// Whether a text is an address at which others can reach a node: one whose host is neither `0.0.0.0` nor `[::]`.
 pub(crate) fn is_reachable(text: &[u8]) -> bool
     ensures { result ≡ is_reachable text.now }
 {
     is_address(text) && !is_everywhere(text)
 }
 
-/// Whether a text is an address: a host of letters, digits, `.` and `-`, then `:` and a port.
+/// Whether a text is an address: a host of letters, digits, `.` and `-`, or an address of IPv6 in brackets, then `:`
+/// and a port.
 pub(crate) fn is_address(text: &[u8]) -> bool
     ensures { result ≡ is_address text.now }
 {
-    let (host, port) = cut_at_colon(text);
-    text.len() <= MAX_ADDRESS_BYTES && is_host(host) && is_port(port)
+    text.len() <= MAX_ADDRESS_BYTES && (is_named(text) || is_bracketed(text))
 }
 
 /// Whether the host of an address is all addresses of a machine.
 fn is_everywhere(text: &[u8]) -> bool
     ensures { result ≡ is_everywhere text.now }
 {
-    text.starts_with(b"0.0.0.0:")
+    text.starts_with(b"0.0.0.0:") || text.starts_with(b"[::]:")
 }
 
-/// The bytes up to the first colon, and what follows it.
-fn cut_at_colon(text: &[u8]) -> (&[u8], &[u8])
-    ensures before { result.0.now ≡ before_first is_colon text.now }
-    ensures after { result.1.now ≡ after_first is_colon text.now }
+/// Whether a text is a host, `:` and a port.
+fn is_named(text: &[u8]) -> bool
+    ensures { result ≡ is_named text.now }
 {
-    match place_of_colon(text) {
-        Some(at) => (&text[..at], &text[at + 1..]),
-        None => (text, &[]),
+    let (host, port) = cut_at_first(text, b':');
+    is_host(host) && is_port(port)
+}
+
+/// Whether a text is an address of IPv6 in brackets, `:` and a port.
+fn is_bracketed(text: &[u8]) -> bool
+    ensures { result ≡ is_bracketed text.now }
+{
+    match text {
+        [b'[', rest @ ..] => is_closed(rest),
+        _ => false,
     }
 }
 
-fn place_of_colon(text: &[u8]) -> Option<usize>
-    ensures { result ≡ position is_colon text.now }
+/// Whether a text is an address of IPv6, the bracket behind it, `:` and a port.
+fn is_closed(rest: &[u8]) -> bool
+    ensures { result ≡ is_closed rest.now }
 {
-    text.iter().position(|b| *b == b':')
+    let (host, behind) = cut_at_first(rest, b']');
+    is_ipv6(host) && is_behind_host(behind)
+}
+
+/// Whether a text is an address of IPv6, without a scope (RFC 4291, section 2.2).
+fn is_ipv6(host: &[u8]) -> bool
+    ensures { result ≡ is_ipv6 host.now }
+{
+    are_ipv6_bytes(host) && spells_ipv6(host)
+}
+
+fn are_ipv6_bytes(bytes: &[u8]) -> bool
+    ensures { result ≡ list_all is_ipv6_byte bytes.now }
+{
+    bytes.iter().all(|b| is_ipv6_byte(*b))
+}
+
+fn spells_ipv6(host: &[u8]) -> bool
+    ensures { result ≡ is_some (whole_value (read_ipv6 host.now)) }
+{
+    Ipv6Addr::parse_ascii(host).is_ok()
+}
+
+fn is_ipv6_byte(byte: u8) -> bool
+    ensures { result ≡ is_ipv6_byte byte }
+{
+    byte.is_ascii_hexdigit() || byte == b':' || byte == b'.'
+}
+
+/// Whether a text is `:` and a port.
+fn is_behind_host(text: &[u8]) -> bool
+    ensures { result ≡ is_behind_host text.now }
+{
+    match text {
+        [b':', port @ ..] => is_port(port),
+        _ => false,
+    }
+}
+
+/// The bytes up to the first such byte, and what follows it.
+fn cut_at_first(bytes: &[u8], byte: u8) -> (&[u8], &[u8])
+    ensures before { result.0.now ≡ before_first (λ b. b == byte) bytes.now }
+    ensures after { result.1.now ≡ after_first (λ b. b == byte) bytes.now }
+{
+    match place_of(bytes, byte) {
+        Some(at) => (&bytes[..at], &bytes[at + 1..]),
+        None => (bytes, &[]),
+    }
+}
+
+fn place_of(bytes: &[u8], byte: u8) -> Option<usize>
+    ensures { result ≡ position (λ b. b == byte) bytes.now }
+{
+    bytes.iter().position(|b| *b == byte)
 }
 
 fn is_host(host: &[u8]) -> bool

@@ -1,5 +1,6 @@
 ghost use Rattle.std.specs.Prelude.{◌≡◌};
 
+use oc_mac::Key;
 use oc_policy::Rule;
 use oc_updown::Measure;
 use std::marker::Model;
@@ -17,6 +18,8 @@ pub struct Config {
     pub chain: u32,
     /// The greatest number of bytes of a group that one chunk carries.
     pub(crate) chunk: u32,
+    /// The key of the nodes, if they have one.
+    pub key: Option<Key>,
     /// The address that others are told of each node, by its id: a host, `:` and a port.
     pub addresses: Vec<String>,
     /// Where each node listens, by its id: its `listen`, or its address where it has none.
@@ -48,6 +51,7 @@ impl Model for Config {
     ghost view = { λ c. record {
       chain = c.chain;
       chunk = c.chunk;
+      key = c.key;
       addresses = map string_bytes c.addresses.items;
       listens = map string_bytes c.listens.items;
       areas = c.areas.items;

@@ -8,6 +8,8 @@ use std::fmt;
 pub enum Key {
     Chain,
     Chunk,
+    /// The key of the nodes.
+    NodeKey,
     Node,
     Id,
     Address,
@@ -19,6 +21,7 @@ pub enum Key {
     Allow,
     Prefix,
     Method,
+    Token,
 }
 
 impl Key {
@@ -29,6 +32,7 @@ impl Key {
         match self {
             Key::Chain => "chain",
             Key::Chunk => "chunk",
+            Key::NodeKey => "key",
             Key::Node => "node",
             Key::Id => "id",
             Key::Address => "address",
@@ -39,6 +43,7 @@ impl Key {
             Key::Allow => "allow",
             Key::Prefix => "prefix",
             Key::Method => "method",
+            Key::Token => "token",
         }
     }
 }

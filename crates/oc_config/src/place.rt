@@ -21,9 +21,16 @@ impl Place {
         ensures { result.now ≡ keys_at self }
     {
         match self {
-            Place::Top => &[Key::Chain, Key::Chunk, Key::Node, Key::Measures, Key::Rule],
+            Place::Top => &[
+                Key::Chain,
+                Key::Chunk,
+                Key::NodeKey,
+                Key::Node,
+                Key::Measures,
+                Key::Rule,
+            ],
             Place::Node(_) => &[Key::Id, Key::Address, Key::Listen, Key::Area],
-            Place::Rule(_) => &[Key::Allow, Key::Prefix, Key::Method, Key::Area],
+            Place::Rule(_) => &[Key::Allow, Key::Prefix, Key::Method, Key::Area, Key::Token],
         }
     }
 }

@@ -1,9 +1,9 @@
 ghost use Rattle.std.specs.Prelude.{◌≡◌, ◌≤◌, IfOk, OnOk, All, length, vec_len};
-ghost use Rattle.toml.specs.View.{table_view};
+ghost use Rattle.toml.specs.View.{table_view, view};
 ghost use Rattle.oc_updown.specs.MeasureLines.{IsMeasure};
 ghost use Rattle.oc_config.specs.Values.{Gives, GivesBy, section_of, sections_of};
-ghost use Rattle.oc_config.specs.Reading.{IsConfig, Reads, ReadsTable, settings_in, with_tables, chain_in, chunk_in, numbers_in};
-ghost use Rattle.oc_config.specs.Reading.{chain_within, keys_known, line_at, measures_in, node_tables_in};
+ghost use Rattle.oc_config.specs.Reading.{IsConfig, Reads, ReadsTable, settings_in, with_tables, chain_in, chunk_in, common_in};
+ghost use Rattle.oc_config.specs.Reading.{chain_within, keys_known, line_at, measures_in, node_key_in, node_key_of, node_tables_in};
 
 use crate::config::{Config, FIRST_CHUNK, MAX_CHUNK};
 use crate::fault::ConfigFault;
@@ -15,20 +15,22 @@ use crate::rules::{rule_tables, rules};
 use crate::section::Section;
 use crate::values::{tables, whole};
 use oc_base::{MAX_CHAIN, MAX_NODES};
+use oc_mac::Key as NodeKey;
 use oc_updown::{Measure, read_lines};
 use std::alloc::Global;
-use toml::{Table, table_from_slice};
+use toml::{Table, Value, table_from_slice};
 
-/// The numbers at the top of a configuration.
-#[derive(Clone, Copy)]
-pub(crate) struct Numbers {
+/// What the top of a configuration says for all nodes.
+#[derive(Drop)]
+pub(crate) struct Common {
     pub(crate) chain: u32,
     pub(crate) chunk: u32,
+    pub(crate) key: Option<NodeKey>,
 }
 
 /// Reads the text of a configuration, any bytes: what it says, or its first fault.
 ///
-/// The text is TOML. The faults come in this order: the text, the chain, the chunk, the array of nodes, then
+/// The text is TOML. The faults come in this order: the text, the chain, the chunk, the key, the array of nodes, then
 /// table for table what is wrong with a node, whether the chain has more members than there are nodes, the
 /// measures, the array of rules, then table for table what is wrong with a rule, and then a key that is none:
 /// at the top, in a table of a node, in a table of a rule.
@@ -72,35 +74,36 @@ fn read_table(alloc: Global, top: &Section<'_>) -> Result<Config, ConfigFault>
     ensures exact { Gives result (settings_in (section_of top.now)) }
     ensures lawful { IfOk result IsConfig }
 {
-    let numbers = read_numbers(top)?;
+    let common = read_common(top)?;
     let tables = node_tables(alloc, top)?;
-    read_parts(alloc, top, numbers, &tables)
+    read_parts(alloc, top, common, &tables)
 }
 
-/// The same, with these numbers and these tables of nodes.
+/// The same, with what is said for all nodes, and these tables of nodes.
 fn read_parts(
     alloc: Global,
     top: &Section<'_>,
-    numbers: Numbers,
+    common: Common,
     tables: &[Section<'_>],
 ) -> Result<Config, ConfigFault>
-    requires chain { (1 ≤ numbers.chain) × (numbers.chain ≤ MAX_CHAIN) }
-    requires chunk { (1 ≤ numbers.chunk) × (numbers.chunk ≤ MAX_CHUNK) }
+    requires chain { (1 ≤ common.chain) × (common.chain ≤ MAX_CHAIN) }
+    requires chunk { (1 ≤ common.chunk) × (common.chunk ≤ MAX_CHUNK) }
     requires count { (1 ≤ length tables.now) × (length tables.now ≤ MAX_NODES) }
-    ensures exact { Gives result (with_tables (section_of top.now) numbers (sections_of tables.now)) }
+    ensures exact { Gives result (with_tables (section_of top.now) common (sections_of tables.now)) }
     ensures lawful { IfOk result IsConfig }
 {
     let places = nodes(alloc, tables)?;
     let nodes = tables.len() as u32;
-    check_chain(top, numbers.chain, nodes)?;
+    check_chain(top, common.chain, nodes)?;
     let measures = measures(alloc, top, nodes)?;
     let rule_tables = rule_tables(alloc, top)?;
     let rules = rules(alloc, &rule_tables)?;
     check_keys(top, tables, &rule_tables)?;
     let split = Split::of(alloc, places)?;
     Ok(Config {
-        chain: numbers.chain,
-        chunk: numbers.chunk,
+        chain: common.chain,
+        chunk: common.chunk,
+        key: common.key,
         addresses: split.addresses,
         listens: split.listens,
         areas: split.areas,
@@ -109,15 +112,16 @@ fn read_parts(
     })
 }
 
-/// The numbers at the top.
-fn read_numbers(top: &Section<'_>) -> Result<Numbers, ConfigFault>
-    ensures said { result ≡ numbers_in (section_of top.now) }
+/// What is said for all nodes.
+fn read_common(top: &Section<'_>) -> Result<Common, ConfigFault>
+    ensures said { result ≡ common_in (section_of top.now) }
     ensures chain { IfOk result (λ n. (1 ≤ n.chain) × (n.chain ≤ MAX_CHAIN)) }
     ensures chunk { IfOk result (λ n. (1 ≤ n.chunk) × (n.chunk ≤ MAX_CHUNK)) }
 {
-    Ok(Numbers {
+    Ok(Common {
         chain: chain(top)?,
         chunk: chunk(top)?,
+        key: node_key(top)?,
     })
 }
 
@@ -139,6 +143,26 @@ fn chunk(top: &Section<'_>) -> Result<u32, ConfigFault>
         None => Ok(FIRST_CHUNK),
         Some(value) => whole(value, 1, MAX_CHUNK).ok_or(top.refuses(Key::Chunk)),
     }
+}
+
+/// The key of the nodes, if they have one.
+fn node_key(top: &Section<'_>) -> Result<Option<NodeKey>, ConfigFault>
+    ensures { result ≡ node_key_in (section_of top.now) }
+{
+    match top.value_at(Key::NodeKey) {
+        None => Ok(None),
+        Some(value) => match spelled_key(value) {
+            Some(key) => Ok(Some(key)),
+            None => Err(top.refuses(Key::NodeKey)),
+        },
+    }
+}
+
+/// The key that a value spells.
+fn spelled_key(value: &Value) -> Option<NodeKey>
+    ensures { result ≡ node_key_of (view value.now) }
+{
+    NodeKey::parse(value.as_str()?.as_bytes())
 }
 
 /// The tables of the nodes.

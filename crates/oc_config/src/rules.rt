@@ -3,14 +3,14 @@
 ghost use Rattle.std.specs.Prelude.{◌≡◌, ◌≤◌, [], IfOk, length, vec_len};
 ghost use Rattle.toml.specs.View.{view};
 ghost use Rattle.oc_config.specs.Values.{GivesBy, section_of, sections_of};
-ghost use Rattle.oc_config.specs.AccessRules.{rule_tables_in, rules_from, rule_in, allow_in, prefix_in, method_in, method_of};
+ghost use Rattle.oc_config.specs.AccessRules.{rule_tables_in, rules_from, rule_in, allow_in, prefix_in, method_in, method_of, token_in, token_of};
 
 use crate::fault::ConfigFault;
 use crate::key::Key;
 use crate::place::Kind;
 use crate::section::Section;
 use crate::values::tables;
-use oc_policy::{Action, MAX_RULES, Prefix, Rule};
+use oc_policy::{Action, Demand, MAX_RULES, Prefix, Rule, Token};
 use std::alloc::Global;
 use toml::Value;
 
@@ -56,6 +56,7 @@ fn rule(table: &Section<'_>) -> Result<Rule, ConfigFault>
         prefix: prefix(table)?,
         action: method(table)?,
         area: table.area()?,
+        token: Demand::of(token(table)?),
     })
 }
 
@@ -86,6 +87,25 @@ fn method(table: &Section<'_>) -> Result<Option<Action>, ConfigFault>
             None => Err(table.refuses(Key::Method)),
         },
     }
+}
+
+fn token(table: &Section<'_>) -> Result<Option<Token>, ConfigFault>
+    ensures { result ≡ token_in (section_of table.now) }
+{
+    match table.value_at(Key::Token) {
+        None => Ok(None),
+        Some(value) => match token_of(value) {
+            Some(token) => Ok(Some(token)),
+            None => Err(table.refuses(Key::Token)),
+        },
+    }
+}
+
+/// The token that a value is.
+fn token_of(value: &Value) -> Option<Token>
+    ensures { result ≡ token_of (view value.now) }
+{
+    Token::parse(value.as_str()?.as_bytes()).ok()
 }
 
 /// The action that a value names.

@@ -15,9 +15,9 @@ joined_more parts i d inside =
     ∙ (sym (joined-append (take i parts) (get_or parts i d ∷ [])) ∙ ap joined (sym (take_more parts i d inside)))
 
 -- a request in parts, of which some are several texts
-pub request_joined : (first name end type count close host digits body one two three : List ℕ) → one ≡ first ++ name → two ≡ end ++ type ++ count → three ≡ end ++ close ++ end →
-    one ++ (host ++ (two ++ (digits ++ (three ++ (body ++ []))))) ≡ (first ++ (name ++ host ++ end) ++ type ++ (count ++ digits ++ end) ++ close ++ end) ++ body
-request_joined first name end type count close host digits body one two three a b c = rw (a, b, c) (simp (append_assoc, append-nil))
+pub request_joined : (first name end type count close host digits m1 m2 m3 mac body one two three : List ℕ) → one ≡ first ++ name → two ≡ end ++ type ++ count → three ≡ end ++ close → m1 ++ m2 ++ m3 ≡ mac →
+    one ++ (host ++ (two ++ (digits ++ (three ++ (m1 ++ (m2 ++ (m3 ++ (end ++ (body ++ []))))))))) ≡ (first ++ (name ++ host ++ end) ++ type ++ (count ++ digits ++ end) ++ close ++ (mac ++ end)) ++ body
+request_joined first name end type count close host digits m1 m2 m3 mac body one two three a b c d = rw (a, b, c, ← d) (simp (append_assoc, append-nil))
 
 -- a download's request in parts
 pub get_joined : (get path mark query version name host end close target two three : List ℕ) → two ≡ version ++ name → three ≡ end ++ close ++ end → target ≡ mark ++ query →
@@ -30,13 +30,13 @@ pub follow_joined : (get path start digits follow mark area version name host en
 follow_joined get path start digits follow mark area version name host end close target two three a b c = rw (a, b, c) (simp (append_assoc, append-nil))
 
 -- a reply's head in parts
-head_joined : (v d s n e l1 l2 l3 a r1 r2 r3 t c1 c2 c3 k : List ℕ) →
-    v ++ (d ++ ((s ++ n ++ e) ++ (l1 ++ (l2 ++ (l3 ++ (a ++ (r1 ++ (r2 ++ (r3 ++ (t ++ (c1 ++ (c2 ++ (c3 ++ ((k ++ e) ++ [])))))))))))))) ≡ (v ++ d ++ s ++ n ++ e) ++ (l1 ++ l2 ++ l3) ++ a ++ (r1 ++ r2 ++ r3) ++ t ++ (c1 ++ c2 ++ c3) ++ k ++ e
-head_joined v d s n e l1 l2 l3 a r1 r2 r3 t c1 c2 c3 k = simp (append_assoc, append-nil)
+head_joined : (v d s n e l1 l2 l3 a r1 r2 r3 t g1 g2 g3 c1 c2 c3 k m1 m2 m3 : List ℕ) →
+    v ++ (d ++ ((s ++ n ++ e) ++ (l1 ++ (l2 ++ (l3 ++ (a ++ (r1 ++ (r2 ++ (r3 ++ (t ++ (g1 ++ (g2 ++ (g3 ++ (c1 ++ (c2 ++ (c3 ++ (k ++ (m1 ++ (m2 ++ (m3 ++ (e ++ []))))))))))))))))))))) ≡ (v ++ d ++ s ++ n ++ e) ++ (l1 ++ l2 ++ l3) ++ a ++ (r1 ++ r2 ++ r3) ++ t ++ (g1 ++ g2 ++ g3) ++ (c1 ++ c2 ++ c3) ++ k ++ ((m1 ++ m2 ++ m3) ++ e)
+head_joined v d s n e l1 l2 l3 a r1 r2 r3 t g1 g2 g3 c1 c2 c3 k m1 m2 m3 = simp (append_assoc, append-nil)
 
 -- the same with the lines that the parts make
-pub head_is : (v d s p e l1 l2 l3 a r1 r2 r3 t c1 c2 c3 k number phrase location allow rule type content connection : List ℕ) →
-    d ≡ number → p ≡ s ++ phrase ++ e → l1 ++ l2 ++ l3 ≡ location → a ≡ allow → r1 ++ r2 ++ r3 ≡ rule → t ≡ type → c1 ++ c2 ++ c3 ≡ content → k ≡ connection ++ e →
-    v ++ (d ++ (p ++ (l1 ++ (l2 ++ (l3 ++ (a ++ (r1 ++ (r2 ++ (r3 ++ (t ++ (c1 ++ (c2 ++ (c3 ++ (k ++ [])))))))))))))) ≡ (v ++ number ++ s ++ phrase ++ e) ++ location ++ allow ++ rule ++ type ++ content ++ connection ++ e
-head_is v d s p e l1 l2 l3 a r1 r2 r3 t c1 c2 c3 k number phrase location allow rule type content connection e1 e2 e3 e4 e5 e6 e7 e8 =
-    rw (e2, e8) (head_joined v d s phrase e l1 l2 l3 a r1 r2 r3 t c1 c2 c3 connection ∙ rw (e1, e3, e4, e5, e6, e7))
+pub head_is : (v d s p e l1 l2 l3 a r1 r2 r3 t g1 g2 g3 c1 c2 c3 k m1 m2 m3 number phrase location allow rule type group content connection mac : List ℕ) →
+    d ≡ number → p ≡ s ++ phrase ++ e → l1 ++ l2 ++ l3 ≡ location → a ≡ allow → r1 ++ r2 ++ r3 ≡ rule → t ≡ type → g1 ++ g2 ++ g3 ≡ group → c1 ++ c2 ++ c3 ≡ content → k ≡ connection → m1 ++ m2 ++ m3 ≡ mac →
+    v ++ (d ++ (p ++ (l1 ++ (l2 ++ (l3 ++ (a ++ (r1 ++ (r2 ++ (r3 ++ (t ++ (g1 ++ (g2 ++ (g3 ++ (c1 ++ (c2 ++ (c3 ++ (k ++ (m1 ++ (m2 ++ (m3 ++ (e ++ []))))))))))))))))))))) ≡ (v ++ number ++ s ++ phrase ++ e) ++ location ++ allow ++ rule ++ type ++ group ++ content ++ connection ++ (mac ++ e)
+head_is v d s p e l1 l2 l3 a r1 r2 r3 t g1 g2 g3 c1 c2 c3 k m1 m2 m3 number phrase location allow rule type group content connection mac e1 e2 e3 e4 e5 e6 e7 e8 e9 e10 =
+    rw e2 (head_joined v d s phrase e l1 l2 l3 a r1 r2 r3 t g1 g2 g3 c1 c2 c3 k m1 m2 m3 ∙ rw (e1, e3, e4, e5, e6, e7, e8, e9, e10))

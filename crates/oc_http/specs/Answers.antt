@@ -1,5 +1,5 @@
 -- What is answered for the bytes that are left of a source, where these are known.
-use Rattle.std.specs.Prelude.{◌≡◌, ℕ, true, false, Result, Ok, Err, List, [], ◌++◌, ⊤}
+use Rattle.std.specs.Prelude.{◌≡◌, ℕ, true, false, Option, None, Result, Ok, Err, List, [], ◌++◌, ⊤}
 use Rattle.httparse.specs.Grammar.{ReadsRequest, ReadsResponse}
 use Rattle.oc_http.specs.Paths.{message_path}
 use Rattle.oc_http.specs.Requests.{read_request}
@@ -37,6 +37,16 @@ abbrev pub AnswersReply : List ℕ → List ℕ → Result Reply HttpFault → T
 AnswersReply left rest (Ok reply) = (head body : List ℕ) × (left ≡ (head ++ body) ++ rest) × SaysReply head body (rest ≡ []) reply
 AnswersReply left rest (Err fault) = (bytes : List ℕ) × (left ≡ bytes ++ rest) × RefusesReply bytes (rest ≡ []) fault
 
--- what the head of a node's request says, with a body of `count` bytes
-abbrev pub written_head : ℕ → Head
-written_head count = record { method = Post; path = message_path; query = []; length = count; expects = false; minor = 1; closes = true }
+-- what the head of a node's request says, with this MAC, where there is one, and with a body of `count` bytes
+abbrev pub written_head : Option (List ℕ) → ℕ → Head
+written_head mac count = record {
+  method = Post;
+  path = message_path;
+  query = [];
+  length = count;
+  expects = false;
+  minor = 1;
+  closes = true;
+  authorization = None;
+  mac = mac;
+}

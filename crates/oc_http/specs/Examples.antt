@@ -1,10 +1,11 @@
 -- Worked examples of heads and texts.
 use Rattle.std.specs.Prelude.{◌≡◌, ℕ, true, false, Some, None, List, [], ◌∷◌, codes, replicate}
-use Rattle.oc_http.specs.Fields.{Named, closes, is_unusable, length_of}
+use Rattle.oc_http.specs.Fields.{Named, closes, is_unusable, length_of, only_of, number_of, authorizations, macs, group_lengths}
 use Rattle.oc_http.specs.Targets.{path_of, query_of}
 use Rattle.oc_http.specs.Requests.{head_fault, expects}
 use Rattle.oc_http.specs.Responses.{reply_head_fault, reply_fault, is_chunked}
-use Rattle.oc_http.specs.Writing.{request_text, get_text, follow_text, probe_text, head_text, response_text}
+use Rattle.oc_http.specs.Writing.{request_text, request_with, get_text, follow_text, probe_text, head_text, response_text}
+use Rattle.oc_http.specs.declared.content_type.ContentType.TheVariants.{Octets, Html}
 use Rattle.oc_http.specs.declared.fault.HttpFault.TheVariants as faults
 use Rattle.oc_http.specs.declared.framing.Persistence.TheVariants.{Keep}
 use Rattle.oc_http.specs.declared.framing.Framing.TheVariants as framings
@@ -22,6 +23,12 @@ coding_is value = (codes "Transfer-Encoding", value)
 
 abbrev connection_is : List ℕ → Named
 connection_is value = (codes "connection", value)
+
+abbrev mac_is : List ℕ → Named
+mac_is value = (codes "overcast-MAC", value)
+
+abbrev group_length_is : List ℕ → Named
+group_length_is value = (codes "Overcast-Length", value)
 
 -- the faults of requests, each before those that follow it
 pub record AreRefused : Type 0 where
@@ -67,23 +74,37 @@ pub record AreParts : Type 0 where
   pub waits : expects 1 ((codes "Expect", codes "100-Continue") ∷ []) ≡ true
   pub waits_not : expects 0 ((codes "Expect", codes "100-continue") ∷ []) ≡ false
   pub chunked : is_chunked (coding_is (codes "Chunked") ∷ []) ≡ true
+  pub no_mac : only_of (macs (host ∷ [])) ≡ None
+  pub mac : only_of (macs (host ∷ mac_is (codes "0a") ∷ [])) ≡ Some (codes "0a")
+  pub two_macs : only_of (macs (mac_is (codes "0a") ∷ mac_is (codes "0a") ∷ [])) ≡ None
+  pub token : only_of (authorizations ((codes "AUTHORIZATION", codes "Bearer t") ∷ host ∷ [])) ≡ Some (codes "Bearer t")
+  pub group_length : number_of (group_lengths (group_length_is (codes "007") ∷ [])) ≡ Some 7
+  pub no_group_length : number_of (group_lengths (group_length_is (codes "+7") ∷ [])) ≡ None
+  pub two_group_lengths : number_of (group_lengths (group_length_is (codes "7") ∷ group_length_is (codes "7") ∷ [])) ≡ None
 
 abbrev reply : ℕ → Reply
-reply status = record { status = status; location = None; content_type = false; body = []; rule = None }
+reply status = record { status = status; location = None; content_type = None; body = []; rule = None; group_length = None; mac = None }
 
 -- the texts
 pub record AreTexts : Type 0 where
   pub request : request_text (codes "node2") (codes "ab")
       ≡ codes "POST /!overcast HTTP/1.1\r\nHost: node2\r\nContent-Type: application/octet-stream\r\nContent-Length: 2\r\nConnection: close\r\n\r\nab"
+  pub request_with_mac : request_with (Some (codes "0a")) (codes "[::1]:7001") (codes "ab")
+      ≡ codes "POST /!overcast HTTP/1.1\r\nHost: [::1]:7001\r\nContent-Type: application/octet-stream\r\nContent-Length: 2\r\nConnection: close\r\nOvercast-Mac: 0a\r\n\r\nab"
   pub get : get_text (codes "/a") (Some (codes "start=2")) (codes "h:80") ≡ codes "GET /a?start=2 HTTP/1.1\r\nHost: h:80\r\nConnection: close\r\n\r\n"
   pub probe : probe_text (codes "h") ≡ codes "GET /!probe HTTP/1.1\r\nHost: h\r\nConnection: close\r\n\r\n"
   pub follow : follow_text (codes "/a") 10 (Some (codes "4")) (codes "h") ≡ codes "GET /a?start=10&follow&area=4 HTTP/1.1\r\nHost: h\r\n\r\n"
   pub redirect : response_text (record (reply 302) { location = Some (codes "http://127.0.0.1:7002/news/a?start=2") })
       ≡ codes "HTTP/1.1 302 Found\r\nLocation: http://127.0.0.1:7002/news/a?start=2\r\nContent-Length: 0\r\nConnection: close\r\n\r\n"
-  pub content : response_text (record (reply 200) { content_type = true; body = codes "llo" })
+  pub content : response_text (record (reply 200) { content_type = Some Octets; body = codes "llo" })
       ≡ codes "HTTP/1.1 200 OK\r\nContent-Type: application/octet-stream\r\nContent-Length: 3\r\nConnection: close\r\n\r\nllo"
   pub no_content : response_text (reply 204) ≡ codes "HTTP/1.1 204 No Content\r\nConnection: close\r\n\r\n"
   pub method : response_text (reply 405) ≡ codes "HTTP/1.1 405 Method Not Allowed\r\nAllow: GET, HEAD, POST\r\nContent-Length: 0\r\nConnection: close\r\n\r\n"
   pub denied : response_text (record (reply 403) { rule = Some 7 }) ≡ codes "HTTP/1.1 403 Forbidden\r\nOvercast-Rule: 7\r\nContent-Length: 0\r\nConnection: close\r\n\r\n"
-  pub kept : head_text (record (reply 200) { content_type = true }) framings.Chunked Keep
+  pub elsewhere : response_text (record (reply 409) { group_length = Some 12 }) ≡ codes "HTTP/1.1 409 Conflict\r\nOvercast-Length: 12\r\nContent-Length: 0\r\nConnection: close\r\n\r\n"
+  pub page : response_text (record (reply 200) { content_type = Some Html; body = codes "a" })
+      ≡ codes "HTTP/1.1 200 OK\r\nContent-Type: text/html; charset=utf-8\r\nContent-Length: 1\r\nConnection: close\r\n\r\na"
+  pub message : response_text (record (reply 200) { content_type = Some Octets; body = codes "ab"; mac = Some (codes "0a") })
+      ≡ codes "HTTP/1.1 200 OK\r\nContent-Type: application/octet-stream\r\nContent-Length: 2\r\nConnection: close\r\nOvercast-Mac: 0a\r\n\r\nab"
+  pub kept : head_text (record (reply 200) { content_type = Some Octets }) framings.Chunked Keep
       ≡ codes "HTTP/1.1 200 OK\r\nContent-Type: application/octet-stream\r\nTransfer-Encoding: chunked\r\n\r\n"

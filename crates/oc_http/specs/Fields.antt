@@ -39,6 +39,12 @@ abbrev pub first_of : List (List ℕ) → Option (List ℕ)
 first_of [] = None
 first_of (value ∷ more) = Some value
 
+-- the value of such a field, where there is just one
+abbrev pub only_of : List (List ℕ) → Option (List ℕ)
+only_of [] = None
+only_of (value ∷ []) = Some value
+only_of (value ∷ second ∷ more) = None
+
 -- there is one such field, and its value is this text in upper or lower case
 abbrev pub is_only : List ℕ → List (List ℕ) → Bool
 is_only text [] = false
@@ -63,6 +69,15 @@ locations = values (codes "location")
 abbrev pub connections : List Named → List (List ℕ)
 connections = values (codes "connection")
 
+abbrev pub authorizations : List Named → List (List ℕ)
+authorizations = values (codes "authorization")
+
+abbrev pub macs : List Named → List (List ℕ)
+macs = values (codes "overcast-mac")
+
+abbrev pub group_lengths : List Named → List (List ℕ)
+group_lengths = values (codes "overcast-length")
+
 -- a request has one Host, and one of version 1.0 may have none
 abbrev pub has_host_fault : ℕ → List (List ℕ) → Bool
 has_host_fault minor values = is_repeated values || (minor == 1 && not (is_present values))
@@ -81,6 +96,16 @@ is_unusable (value ∷ second ∷ more) = true
 abbrev pub length_of : List (List ℕ) → Option ℕ
 length_of [] = None
 length_of (value ∷ more) = Some (digits_value 10 value)
+
+-- the number that a value is, if it is one
+abbrev pub number_in : List ℕ → Option ℕ
+number_in value = if is_length value then Some (digits_value 10 value) else None
+
+-- the number of such a field, where there is just one, which is a number
+abbrev pub number_of : List (List ℕ) → Option ℕ
+number_of [] = None
+number_of (value ∷ []) = number_in value
+number_of (value ∷ second ∷ more) = None
 
 -- some part of a list at commas is `close`
 abbrev pub lists_close : List ℕ → Bool

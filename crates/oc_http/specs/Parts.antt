@@ -1,7 +1,7 @@
 -- Texts in parts, as they are handed over to be joined.
 use Rattle.std.specs.Prelude.{ℕ, List, [], ◌∷◌, ◌++◌}
 use Rattle.std.specs.Borrow.{Bor}
-use Rattle.oc_http.specs.declared.writing_replies.FieldLine.{FieldLine}
+use Rattle.oc_http.specs.declared.field_line.FieldLine.{FieldLine}
 
 -- the parts, one after the other
 abbrev pub joined : List (Bor (List ℕ)) → List ℕ

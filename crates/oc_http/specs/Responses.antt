@@ -2,7 +2,7 @@
 use Rattle.std.specs.Prelude.{◌≡◌, ℕ, ◌≤◌, Bool, false, not, ◌&&◌, ◌==◌, nat_lt, if◌then◌else◌, Option, Some, None, unwrap_or, Result, List, length, codes}
 use Rattle.httparse.specs.Grammar.{ResponseHead, status_code}
 use Rattle.oc_base.specs.declared.limits.TheConstants.{MAX_FIELDS, MAX_BODY_BYTES}
-use Rattle.oc_http.specs.Fields.{Named, named, is_present, is_only, is_unusable, length_of, first_of, codings, lengths, locations, closes}
+use Rattle.oc_http.specs.Fields.{Named, named, is_present, is_only, is_unusable, length_of, number_of, first_of, only_of, codings, lengths, locations, group_lengths, macs, closes}
 use Rattle.oc_http.specs.Lengths.{fault_or}
 use Rattle.oc_http.specs.declared.fault.HttpFault.{HttpFault}
 use Rattle.oc_http.specs.declared.fault.HttpFault.TheVariants as faults
@@ -45,6 +45,8 @@ reply_head_of status fields = record {
   length = length_of (lengths fields);
   chunked = is_chunked fields;
   closes = closes fields;
+  group_length = number_of (group_lengths fields);
+  mac = only_of (macs fields);
 }
 
 -- what a whole head says, or its first fault
@@ -68,4 +70,12 @@ IsLong None body = length body ≤ MAX_BODY_BYTES
 
 -- a response with this head and this body
 abbrev pub reply_of : ReplyHead → List ℕ → Reply
-reply_of head body = record { status = head.status; location = head.location; content_type = false; body = body; rule = None }
+reply_of head body = record {
+  status = head.status;
+  location = head.location;
+  content_type = None;
+  body = body;
+  rule = None;
+  group_length = head.group_length;
+  mac = head.mac;
+}

@@ -1,9 +1,11 @@
 -- The texts of requests and replies.
-use Rattle.std.specs.Prelude.{ℕ, ◌≤◌, Bool, true, false, ◌||◌, ◌==◌, if◌then◌else◌, Option, Some, None, IsSome, List, [], ◌++◌, length, codes, decimal, IsTrue}
-use Rattle.std.specs.Char.{is_ascii_alphanumeric}
+use Rattle.std.specs.Prelude.{◌≡◌, ℕ, ◌≤◌, nat_le, Bool, ◌&&◌, ◌||◌, ◌==◌, if◌then◌else◌, Option, Some, None, IsSome, List, [], ◌++◌, length, codes, decimal, IsTrue}
+use Rattle.std.specs.Char.{is_ascii_alphanumeric, is_ascii_digit}
 use Rattle.std.specs.List.{list_all}
 use Rattle.std.specs.Str.{byte}
 use Rattle.oc_http.specs.Paths.{probe_path}
+use Rattle.oc_http.specs.declared.content_type.ContentType.{ContentType}
+use Rattle.oc_http.specs.declared.content_type.ContentType.TheVariants.{Octets, Json, Metrics, Html}
 use Rattle.oc_http.specs.declared.reply.Reply.{Reply}
 use Rattle.oc_http.specs.declared.framing.Framing.{Framing}
 use Rattle.oc_http.specs.declared.framing.Framing.TheVariants as framings
@@ -14,15 +16,24 @@ use Rattle.oc_http.specs.declared.framing.Persistence.TheVariants.{Close, Keep}
 abbrev pub line_end : List ℕ
 line_end = codes "\r\n"
 
--- a letter, a digit, `.`, `-` or `:`
+-- a letter, a digit, `.`, `-`, `:`, or a bracket, which stand round an address of IPv6
 abbrev pub is_host_byte : ℕ → Bool
-is_host_byte b = is_ascii_alphanumeric b || b == byte "." || b == byte "-" || b == byte ":"
+is_host_byte b = is_ascii_alphanumeric b || b == byte "." || b == byte "-" || b == byte ":" || b == byte "[" || b == byte "]"
 
 -- 1 to 255 such bytes
 pub record IsHost (host : List ℕ) : Type 0 where
   pub some : 1 ≤ length host
   pub most : length host ≤ 255
   pub bytes : IsTrue (list_all is_host_byte host)
+
+-- `0` to `9` or `a` to `f`
+abbrev pub is_mac_digit : ℕ → Bool
+is_mac_digit b = is_ascii_digit b || (nat_le 97 b && nat_le b 102)
+
+-- the MAC of a body, as it stands in a head: 64 hexadecimal digits in lower case
+pub record IsMac (mac : List ℕ) : Type 0 where
+  pub long : length mac ≡ 64
+  pub digits : IsTrue (list_all is_mac_digit mac)
 
 -- `Host: H`
 abbrev pub host_line : List ℕ → List ℕ
@@ -41,14 +52,27 @@ abbrev pub connection_line : Persistence → List ℕ
 connection_line Close = codes "Connection: close\r\n"
 connection_line Keep = []
 
--- the head of a node's request with a body of `count` bytes
-abbrev pub request_head_text : List ℕ → ℕ → List ℕ
-request_head_text host count =
-    codes "POST /!overcast HTTP/1.1\r\n" ++ host_line host ++ type_line ++ length_line count ++ connection_line Close ++ line_end
+-- `Overcast-Mac: M`, where there is a MAC
+abbrev pub mac_line : Option (List ℕ) → List ℕ
+mac_line None = []
+mac_line (Some mac) = codes "Overcast-Mac: " ++ mac ++ line_end
 
--- a node's request with this body
+-- the last lines of a head: the MAC, where there is one, and an empty line
+abbrev pub head_end : Option (List ℕ) → List ℕ
+head_end mac = mac_line mac ++ line_end
+
+-- the head of a node's request with this MAC, where there is one, and with a body of `count` bytes
+abbrev pub request_head_with : Option (List ℕ) → List ℕ → ℕ → List ℕ
+request_head_with mac host count =
+    codes "POST /!overcast HTTP/1.1\r\n" ++ host_line host ++ type_line ++ length_line count ++ connection_line Close ++ head_end mac
+
+-- a node's request with this MAC, where there is one, and with this body
+abbrev pub request_with : Option (List ℕ) → List ℕ → List ℕ → List ℕ
+request_with mac host body = request_head_with mac host (length body) ++ body
+
+-- a node's request with this body, and without a MAC
 abbrev pub request_text : List ℕ → List ℕ → List ℕ
-request_text host body = request_head_text host (length body) ++ body
+request_text = request_with None
 
 -- a GET request
 abbrev pub get_request_text : List ℕ → List ℕ → Persistence → List ℕ
@@ -88,6 +112,7 @@ phrase status =
     else if status == 403 then Some (codes "Forbidden")
     else if status == 404 then Some (codes "Not Found")
     else if status == 405 then Some (codes "Method Not Allowed")
+    else if status == 409 then Some (codes "Conflict")
     else if status == 411 then Some (codes "Length Required")
     else if status == 413 then Some (codes "Content Too Large")
     else if status == 431 then Some (codes "Request Header Fields Too Large")
@@ -125,10 +150,22 @@ abbrev pub rule_line : Option ℕ → List ℕ
 rule_line None = []
 rule_line (Some rule) = codes "Overcast-Rule: " ++ decimal rule ++ line_end
 
+-- what a type of content is called
+abbrev pub type_name : ContentType → List ℕ
+type_name Octets = codes "application/octet-stream"
+type_name Json = codes "application/json"
+type_name Metrics = codes "text/plain; version=0.0.4"
+type_name Html = codes "text/html; charset=utf-8"
+
 -- `Content-Type`, where it is given
-abbrev pub content_type_line : Bool → List ℕ
-content_type_line true = type_line
-content_type_line false = []
+abbrev pub content_type_line : Option ContentType → List ℕ
+content_type_line None = []
+content_type_line (Some type) = codes "Content-Type: " ++ type_name type ++ line_end
+
+-- `Overcast-Length`, where the length of a group is told
+abbrev pub group_length_line : Option ℕ → List ℕ
+group_length_line None = []
+group_length_line (Some count) = codes "Overcast-Length: " ++ decimal count ++ line_end
 
 -- where the content ends
 abbrev pub framing_line : Framing → List ℕ
@@ -139,15 +176,12 @@ framing_line framings.Chunked = codes "Transfer-Encoding: chunked\r\n"
 abbrev pub content_line : ℕ → Framing → List ℕ
 content_line status framing = if status == 204 then [] else framing_line framing
 
--- the last lines of a head, one of which is empty
-abbrev pub head_end : Persistence → List ℕ
-head_end connection = connection_line connection ++ line_end
-
 -- the head of a reply, with the empty line that ends it
 abbrev pub head_text : Reply → Framing → Persistence → List ℕ
 head_text reply framing connection =
     status_line reply.status ++ location_line reply.status reply.location ++ allow_line reply.status ++ rule_line reply.rule
-    ++ content_type_line reply.content_type ++ content_line reply.status framing ++ connection_line connection ++ line_end
+    ++ content_type_line reply.content_type ++ group_length_line reply.group_length ++ content_line reply.status framing
+    ++ connection_line connection ++ head_end reply.mac
 
 -- a reply with its body
 abbrev pub response_text : Reply → List ℕ

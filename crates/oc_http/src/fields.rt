@@ -1,10 +1,10 @@
 //! The fields of a head.
 
 ghost use Rattle.std.specs.List.{AllByRecursion};
-ghost use Rattle.std.specs.Prelude.{◌≡◌, [], ◌∷◌, ◌<◌, map, length, IfSome, IfNone, nat_lt};
+ghost use Rattle.std.specs.Prelude.{◌≡◌, [], ◌∷◌, ◌<◌, map, length, IfSome, IfNone, nat_lt, option_map};
 ghost use Rattle.httparse.specs.Spans.{header_bytes, IsHeaderWithin};
 ghost use Rattle.oc_base.specs.declared.limits.TheConstants.{MAX_FIELDS};
-ghost use Rattle.oc_http.specs.Fields.{values, closes, is_only, is_present, hosts, has_host_fault};
+ghost use Rattle.oc_http.specs.Fields.{values, closes, only_of, is_only, is_present, hosts, has_host_fault};
 ghost use Rattle.oc_http.specs.Found.{IsFound};
 
 use crate::found::Found;
@@ -76,6 +76,16 @@ impl<'a> Fields<'a> {
                 None => Found::One(first),
                 Some(_) => Found::Several(first),
             },
+        }
+    }
+
+    /// The value of the field of a name, in upper or lower case; `None` where there is no such field, or more than one.
+    pub fn only(&self, name: &str) -> Option<&'a [u8]>
+        ensures { option_map (λ value. value.now) result ≡ only_of (values name.now self.now) }
+    {
+        match self.find(name) {
+            Found::One(value) => Some(value),
+            Found::Absent | Found::Several(_) => None,
         }
     }
 

@@ -25,4 +25,8 @@ pub struct Head {
     pub minor: u8,
     /// The client closes the connection after this request (RFC 9112, section 9.6).
     pub closes: bool,
+    /// The value of the Authorization field, where there is just one (RFC 9110, section 11.6.2).
+    pub authorization: Option<Text>,
+    /// The value of the Overcast-Mac field, where there is just one.
+    pub mac: Option<Text>,
 }

@@ -79,9 +79,11 @@ impl HeadReader {
         Ok(Reply {
             status: head.status,
             location: head.location,
-            content_type: false,
+            content_type: None,
             body: Bytes::of(body),
             rule: None,
+            group_length: head.group_length,
+            mac: head.mac,
         })
     }
 

@@ -1,11 +1,11 @@
 //! Laws of the definitions.
 
-ghost use Rattle.std.specs.Prelude.{◌≡◌, ℕ, ◌≤◌, List, [], ◌++◌, length, Result, Ok};
+ghost use Rattle.std.specs.Prelude.{◌≡◌, ℕ, ◌≤◌, IfSome, List, [], ◌++◌, length, Option, Result, Ok};
 ghost use Rattle.oc_base.specs.declared.limits.TheConstants.{MAX_BODY_BYTES};
 ghost use Rattle.oc_http.specs.Answers.{IsDecided, AnswersRequest, AnswersReplyHead, AnswersReply, written_head};
 ghost use Rattle.oc_http.specs.Examples.{AreRefused, AreRepliesRefused, AreParts, AreTexts};
 ghost use Rattle.oc_http.specs.Taking.{SaysRequest};
-ghost use Rattle.oc_http.specs.Writing.{IsHost, request_head_text, request_text};
+ghost use Rattle.oc_http.specs.Writing.{IsHost, IsMac, request_head_with, request_with};
 ghost use Rattle.oc_http.specs.declared.fault.HttpFault.{HttpFault};
 ghost use Rattle.oc_http.specs.declared.head.Head.{Head};
 ghost use Rattle.oc_http.specs.declared.reply.Reply.{Reply};
@@ -30,14 +30,15 @@ pub fn a_response_has_one_answer()
         → IsDecided first → IsDecided second → first ≡ second }
 {}
 
-/// What `write_request` writes is read as the head of a POST to `/!overcast` with the body's length, and
+/// What `write_request` writes is read as the head of a POST to `/!overcast` with the body's length and its MAC, and
 /// after it the body is left.
 pub fn a_written_request_is_read()
-    ensures says { (host : List ℕ) (count : ℕ) → IsHost host → count ≤ MAX_BODY_BYTES
-        → SaysRequest (request_head_text host count) (written_head count) }
-    ensures read { (host body rest : List ℕ) (answer : Result Head HttpFault) → IsHost host → length body ≤ MAX_BODY_BYTES
-        → AnswersRequest (request_text host body) rest answer → IsDecided answer
-        → (answer ≡ Ok (written_head (length body))) × (rest ≡ body) }
+    ensures says { (mac : Option (List ℕ)) (host : List ℕ) (count : ℕ) → IfSome mac IsMac → IsHost host → count ≤ MAX_BODY_BYTES
+        → SaysRequest (request_head_with mac host count) (written_head mac count) }
+    ensures read { (mac : Option (List ℕ)) (host body rest : List ℕ) (answer : Result Head HttpFault)
+        → IfSome mac IsMac → IsHost host → length body ≤ MAX_BODY_BYTES
+        → AnswersRequest (request_with mac host body) rest answer → IsDecided answer
+        → (answer ≡ Ok (written_head mac (length body))) × (rest ≡ body) }
 {}
 
 /// Worked examples compute from the definitions.

@@ -18,7 +18,9 @@
 
 mod body;
 mod byte;
+mod content_type;
 mod fault;
+mod field_line;
 mod fields;
 mod found;
 mod framing;
@@ -40,6 +42,7 @@ mod writing_replies;
 mod writing_requests;
 
 pub use byte::take_byte;
+pub use content_type::ContentType;
 pub use fault::HttpFault;
 pub use fields::Fields;
 pub use found::Found;

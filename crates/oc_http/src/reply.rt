@@ -1,3 +1,4 @@
+use crate::content_type::ContentType;
 use oc_base::{Bytes, Text};
 
 /// A response that is written, or what is read from one.
@@ -7,11 +8,15 @@ pub struct Reply {
     pub status: u16,
     /// Where the client is sent by a 302.
     pub location: Option<Text>,
-    /// The content is bytes of a group or a message, so its type is given.
-    pub content_type: bool,
+    /// The type of the content, where it is given.
+    pub content_type: Option<ContentType>,
     pub body: Bytes,
     /// The number of the access rule that denied the request.
     pub rule: Option<u32>,
+    /// How many bytes a group has: what the Overcast-Length field tells, where there is just one, of a number.
+    pub group_length: Option<u64>,
+    /// The MAC of the body: the value of the Overcast-Mac field, where there is just one.
+    pub mac: Option<Text>,
 }
 
 /// What the head of a response says.
@@ -27,4 +32,8 @@ pub struct ReplyHead {
     pub chunked: bool,
     /// The server closes the connection after this response (RFC 9112, section 9.6).
     pub closes: bool,
+    /// How many bytes a group has: what the Overcast-Length field tells, where there is just one, of a number.
+    pub group_length: Option<u64>,
+    /// The value of the Overcast-Mac field, where there is just one.
+    pub mac: Option<Text>,
 }

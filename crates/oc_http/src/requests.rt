@@ -11,7 +11,7 @@ use crate::Fields;
 use crate::fault::HttpFault;
 use crate::head::{Head, Method};
 use crate::lengths::checked_length;
-use crate::texts::copy;
+use crate::texts::{copy, copy_some};
 use httparse::spans::{HeaderSpan, RequestSpans};
 use oc_base::{MAX_BODY_BYTES, Memory, Text};
 use std::alloc::Global;
@@ -45,6 +45,8 @@ fn read_parts(
     let method = method_of(method);
     let length = body_length(method, minor, fields)?;
     let (path, query) = path_and_query(alloc, target)?;
+    let authorization = copy_some(alloc, fields.only("authorization"))?;
+    let mac = copy_some(alloc, fields.only("overcast-mac"))?;
     Ok(Head {
         method,
         path,
@@ -53,6 +55,8 @@ fn read_parts(
         expects: expects(minor, fields),
         minor,
         closes: fields.closes(),
+        authorization,
+        mac,
     })
 }
 

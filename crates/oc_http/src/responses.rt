@@ -2,7 +2,7 @@
 
 ghost use Rattle.std.specs.Prelude.{◌≡◌, ◌&&◌, [], not, IfOk};
 ghost use Rattle.httparse.specs.Grammar.{ReadsResponse, ResponseHead};
-ghost use Rattle.oc_http.specs.Fields.{first_of, locations, length_of, lengths, is_present, codings};
+ghost use Rattle.oc_http.specs.Fields.{first_of, locations, length_of, lengths, number_of, group_lengths, is_present, codings};
 ghost use Rattle.oc_http.specs.Lengths.{fault_or};
 ghost use Rattle.oc_http.specs.Gives.{Gives};
 ghost use Rattle.oc_http.specs.Responses.{is_chunked, reply_head_fault, reply_head_of, read_reply_head, whole_fault, body_length};
@@ -11,8 +11,8 @@ ghost use Rattle.oc_http.specs.Lines.{IsResponseTaken};
 use crate::fault::HttpFault;
 use crate::lengths::content_length;
 use crate::reply::ReplyHead;
-use crate::texts::copy;
-use crate::{Fields, Found};
+use crate::texts::{copy, copy_some};
+use crate::{Fields, Found, length_of};
 use httparse::spans::{HeaderSpan, ResponseSpans};
 use oc_base::{MAX_BODY_BYTES, Memory, Text};
 use std::alloc::Global;
@@ -67,6 +67,8 @@ fn read_reply_head(alloc: Global, status: u16, fields: &Fields) -> Result<ReplyH
         length,
         chunked: is_chunked(fields),
         closes: fields.closes(),
+        group_length: group_length(fields),
+        mac: copy_some(alloc, fields.only("overcast-mac"))?,
     })
 }
 
@@ -97,6 +99,16 @@ fn is_chunked(fields: &Fields) -> bool
     ensures { result ≡ is_chunked fields.now }
 {
     fields.has_only("transfer-encoding", "chunked") && !fields.is_present("content-length")
+}
+
+/// The number of the Overcast-Length field, where there is just one, of a number.
+fn group_length(fields: &Fields) -> Option<u64>
+    ensures { result ≡ number_of (group_lengths fields.now) }
+{
+    match fields.find("overcast-length") {
+        Found::One(value) => length_of(value),
+        Found::Absent | Found::Several(_) => None,
+    }
 }
 
 /// The value of the first Location field.

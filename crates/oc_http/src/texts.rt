@@ -1,6 +1,6 @@
 //! Texts that are made of parts, and copies of bytes.
 
-ghost use Rattle.std.specs.Prelude.{◌≡◌, ◌++◌, IfOk};
+ghost use Rattle.std.specs.Prelude.{◌≡◌, ◌++◌, IfOk, option_map};
 ghost use Rattle.oc_http.specs.Parts.{joined};
 
 use oc_base::{Memory, Text};
@@ -24,6 +24,16 @@ fn room_for(parts: &[&[u8]]) -> usize {
         room = room.saturating_add(part.len());
     }
     room
+}
+
+/// Some bytes, where there are any, as a text of their own.
+pub(crate) fn copy_some(alloc: Global, bytes: Option<&[u8]>) -> Result<Option<Text>, Memory>
+    ensures { IfOk result (λ text. text ≡ option_map (λ b. b.now) bytes.entry) }
+{
+    match bytes {
+        Some(bytes) => Ok(Some(copy(alloc, bytes)?)),
+        None => Ok(None),
+    }
 }
 
 /// The bytes as a text of their own.

@@ -1,11 +1,13 @@
 //! The replies of a node.
 
-ghost use Rattle.std.specs.Prelude.{◌≡◌, [], ◌++◌, IfOk};
+ghost use Rattle.std.specs.Prelude.{◌≡◌, IfOk};
 ghost use Rattle.oc_http.specs.Parts.{line_text};
-ghost use Rattle.oc_http.specs.Writing.{HasPhrase, phrase_text, head_end, head_text, response_text, location_line, allow_line, rule_line, content_type_line, content_line, line_end};
+ghost use Rattle.oc_http.specs.Writing.{HasPhrase, phrase_text, head_text, response_text, location_line, allow_line, rule_line, content_type_line, group_length_line, content_line, connection_line, mac_line};
 ghost use Rattle.oc_http.specs.declared.framing.Framing.TheVariants.{Length as OfLength};
 ghost use Rattle.oc_http.specs.declared.framing.Persistence.TheVariants.{Close as Closing};
 
+use crate::content_type::ContentType;
+use crate::field_line::{FieldLine, field_line, mac_line, no_line};
 use crate::framing::{Framing, Persistence};
 use crate::reply::Reply;
 use crate::texts::join;
@@ -46,11 +48,14 @@ pub fn write_reply_head(
 {
     let mut status = Buffer::new();
     let mut rule = Buffer::new();
+    let mut group_length = Buffer::new();
     let mut length = Buffer::new();
     let status = status.format(reply.status);
     let location = location_line(reply.status, &reply.location);
     let rule = rule_line(reply.rule, &mut rule);
+    let group_length = group_length_line(reply.group_length, &mut group_length);
     let content = content_line(reply.status, framing, &mut length);
+    let mac = body_mac_line(&reply.mac);
     join(
         alloc,
         &[
@@ -65,42 +70,19 @@ pub fn write_reply_head(
             rule.value,
             rule.end,
             content_type_line(reply.content_type),
+            group_length.name,
+            group_length.value,
+            group_length.end,
             content.name,
             content.value,
             content.end,
-            head_end(connection),
+            connection_line(connection),
+            mac.name,
+            mac.value,
+            mac.end,
+            b"\r\n",
         ],
     )
-}
-
-/// A line of a head, all of it empty where the head has no such line.
-#[derive(Clone, Copy)]
-struct FieldLine<'a> {
-    /// The name, with the colon and the space after it.
-    name: &'a [u8],
-    value: &'a [u8],
-    /// The end of the line.
-    end: &'a [u8],
-}
-
-fn field_line<'a>(name: &'a [u8], value: &'a [u8]) -> FieldLine<'a>
-    ensures { line_text result ≡ name.now ++ value.now ++ line_end }
-{
-    FieldLine {
-        name,
-        value,
-        end: b"\r\n",
-    }
-}
-
-fn no_line<'a>() -> FieldLine<'a>
-    ensures { line_text result ≡ [] }
-{
-    FieldLine {
-        name: b"",
-        value: b"",
-        end: b"",
-    }
 }
 
 /// What a status is called, between the space before it and the end of its line.
@@ -116,6 +98,7 @@ fn phrase_of<'a>(status: u16) -> &'a str
         403 => " Forbidden\r\n",
         404 => " Not Found\r\n",
         405 => " Method Not Allowed\r\n",
+        409 => " Conflict\r\n",
         411 => " Length Required\r\n",
         413 => " Content Too Large\r\n",
         431 => " Request Header Fields Too Large\r\n",
@@ -124,13 +107,13 @@ fn phrase_of<'a>(status: u16) -> &'a str
     }
 }
 
-/// The last lines of a head: `Connection: close`, except where the connection is kept, and the empty line.
-fn head_end<'a>(connection: Persistence) -> &'a [u8]
-    ensures { result.now ≡ head_end connection }
+/// `Connection: close`, except where the connection is kept.
+fn connection_line<'a>(connection: Persistence) -> &'a [u8]
+    ensures { result.now ≡ connection_line connection }
 {
     match connection {
-        Persistence::Close => b"Connection: close\r\n\r\n",
-        Persistence::Keep => b"\r\n",
+        Persistence::Close => b"Connection: close\r\n",
+        Persistence::Keep => b"",
     }
 }
 
@@ -166,13 +149,35 @@ fn rule_line(rule: Option<u32>, digits: &mut Buffer) -> FieldLine<'_>
 }
 
 /// `Content-Type`, where it is given.
-fn content_type_line<'a>(is_given: bool) -> &'a [u8]
-    ensures { result.now ≡ content_type_line is_given }
+fn content_type_line<'a>(content_type: Option<ContentType>) -> &'a [u8]
+    ensures { result.now ≡ content_type_line content_type }
 {
-    if is_given {
-        b"Content-Type: application/octet-stream\r\n"
-    } else {
-        b""
+    match content_type {
+        None => b"",
+        Some(ContentType::Octets) => b"Content-Type: application/octet-stream\r\n",
+        Some(ContentType::Json) => b"Content-Type: application/json\r\n",
+        Some(ContentType::Metrics) => b"Content-Type: text/plain; version=0.0.4\r\n",
+        Some(ContentType::Html) => b"Content-Type: text/html; charset=utf-8\r\n",
+    }
+}
+
+/// `Overcast-Length`, where the length of a group is told.
+fn group_length_line(length: Option<u64>, digits: &mut Buffer) -> FieldLine<'_>
+    ensures { line_text result ≡ group_length_line length }
+{
+    match length {
+        Some(count) => field_line(b"Overcast-Length: ", digits.format(count).as_bytes()),
+        None => no_line(),
+    }
+}
+
+/// `Overcast-Mac`, where the MAC of the body is told.
+fn body_mac_line(mac: &Option<Text>) -> FieldLine<'_>
+    ensures { line_text result ≡ mac_line mac.now }
+{
+    match mac {
+        Some(mac) => mac_line(Some(mac.items())),
+        None => no_line(),
     }
 }
 

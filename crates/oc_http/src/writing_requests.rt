@@ -1,21 +1,29 @@
 //! The requests that a node and a client send.
 
-ghost use Rattle.std.specs.Prelude.{◌≡◌, ◌++◌, IfOk, option_map};
-ghost use Rattle.oc_http.specs.Writing.{IsHost, request_text, get_text, probe_text, follow_text, query_text, area_text};
+ghost use Rattle.std.specs.Prelude.{◌≡◌, ◌++◌, IfOk, IfSome, option_map};
+ghost use Rattle.oc_http.specs.Writing.{IsHost, IsMac, request_with, get_text, probe_text, follow_text, query_text, area_text};
 
+use crate::field_line::mac_line;
 use crate::paths::PROBE_PATH;
 use crate::texts::join;
 use itoa::Buffer;
 use oc_base::Memory;
 use std::alloc::Global;
 
-/// A node's request, a POST of a message to `host`.
-pub fn write_request(alloc: Global, host: &str, body: &[u8]) -> Result<Vec<u8>, Memory>
-    requires { IsHost host.now }
-    ensures { IfOk result (λ text. text.items ≡ request_text host.now body.now) }
+/// A node's request, a POST of a message to `host`, with the MAC of the message where the nodes have a key.
+pub fn write_request<'a>(
+    alloc: Global,
+    host: &'a str,
+    body: &'a [u8],
+    mac: Option<&'a [u8]>,
+) -> Result<Vec<u8>, Memory>
+    requires host { IsHost host.now }
+    requires mac { IfSome (option_map (λ m. m.now) mac) IsMac }
+    ensures { IfOk result (λ text. text.items ≡ request_with (option_map (λ m. m.now) mac.entry) host.now body.now) }
 {
     let mut length = Buffer::new();
     let length = length.format(body.len());
+    let mac = mac_line(mac);
     join(
         alloc,
         &[
@@ -23,7 +31,11 @@ pub fn write_request(alloc: Global, host: &str, body: &[u8]) -> Result<Vec<u8>, 
             host.as_bytes(),
             b"\r\nContent-Type: application/octet-stream\r\nContent-Length: ",
             length.as_bytes(),
-            b"\r\nConnection: close\r\n\r\n",
+            b"\r\nConnection: close\r\n",
+            mac.name,
+            mac.value,
+            mac.end,
+            b"\r\n",
             body,
         ],
     )

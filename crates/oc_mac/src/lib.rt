@@ -24,3 +24,4 @@ pub use hmac::hmac_sha256;
 pub use key::Key;
 pub use law::{macs_are_digits, no_two_digests_have_one_spelling};
 pub use mac::{MAC_DIGITS, Mac, is_mac_of, mac_of};
+pub use same::are_same;

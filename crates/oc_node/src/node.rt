@@ -233,6 +233,27 @@ impl Node {
         self.chain
     }
 
+    /// The greatest number of bytes of a chunk that the node sends.
+    pub fn chunk(&self) -> u32
+        ensures { result ≡ self.now.control.chunk }
+    {
+        self.chunk
+    }
+
+    /// The second at which the lease of each child ends, by its number, where that is set.
+    pub fn lease_ends(&self) -> &Slots<Option<u64>>
+        ensures { result.now.items ≡ self.now.control.leases }
+    {
+        self.leases.ends()
+    }
+
+    /// The rate that each child told last, by its number.
+    pub fn rates(&self) -> &Slots<u64>
+        ensures { result.now.items ≡ self.now.control.rates }
+    {
+        &self.rates
+    }
+
     /// What was measured of each peer.
     pub fn measures(&self) -> &Measures
         ensures { result.now ≡ self.now.control.kept.measures }

@@ -1,6 +1,7 @@
 -- The first rule that matches.
 use Rattle.std.proofs.Common.{◌≡◌, ℕ, ◌+◌, ◌-◌, ◌<◌, ◌≤◌, Bool, true, false, ◌⊎◌, inl, inr, Option, Some, None, List, length, take, length-take, get_or-take, refl, sym, ap, ◌∙◌, subst, arith, get_or}
 use Rattle.std.specs.List.{slice_get}
+use Rattle.std.specs.Prelude.{IfSome}
 use Rattle.std.proofs.lemmas.List.Quantifiers.{position-Some}
 use Rattle.std.proofs.lemmas.Option.{get_or_from_slice_get, slice_get_read}
 use Rattle.oc_base.specs.Names.{IsGroupName}
@@ -16,14 +17,14 @@ both_there None i covers k = absurd covers
 both_there (Some a) None covers k = absurd covers
 
 -- a rule that an earlier one covers is not the first that matches
-pub never_first : (rules : List Rule) (j i : ℕ) → Shadows rules j i → (action : Action) (group : List ℕ) (area : ℕ) → IsGroupName group → area < 256 → first_match rules action group area ≡ Some (i - 1) → ⊥
-never_first rules j i h action group area named few first =
+pub never_first : (rules : List Rule) (j i : ℕ) → Shadows rules j i → (action : Action) (group : Option (List ℕ)) (area : ℕ) (shown : Option (List ℕ)) → IfSome group IsGroupName → area < 256 → first_match rules action group area shown ≡ Some (i - 1) → ⊥
+never_first rules j i h action group area shown named few first =
     both_there (slice_get rules (j - 1)) (slice_get rules (i - 1)) h.covers λ a b a_is b_is covers.
-    let p : Rule → Bool = λ rule. rule_matches rule action group area in
+    let p : Rule → Bool = λ rule. rule_matches rule action group area shown in
     let told = position-Some p rules (i - 1) b first in
     let matched : p b ≡ true = ap p (sym (get_or_from_slice_get rules (i - 1) b b b_is)) ∙ told.1 in
     let passed : p a ≡ false = ap p (sym (get_or_from_slice_get rules (j - 1) a b a_is)) ∙ told.2 (j - 1) (omega (arith, h.some, h.before)) in
-    let also : p a ≡ true = covers action group area named few matched in
+    let also : p a ≡ true = covers action group area shown named few matched in
     let clash : true ≡ false = sym also ∙ passed in
     cc clash
 

@@ -1,4 +1,6 @@
 mod Texts
+pub mod Pads
+pub mod Tokens
 pub mod Within
 pub mod Coverings
 pub mod Firsts

@@ -54,7 +54,7 @@ some_from_prefix p h = elim (prefix_cases p h) [
 ]
 
 -- no list is a slash after something and more
-no_slash_behind : {P : Type 0} (a r : List ℕ) → 0 < length a → 47 ∷ [] ≡ (a ++ 47 ∷ []) ++ r → P
+pub no_slash_behind : {P : Type 0} (a r : List ℕ) → 0 < length a → 47 ∷ [] ≡ (a ++ 47 ∷ []) ++ r → P
 no_slash_behind a r some e = absurd (omega (arith, simp length-append at (ap length e)))
 
 through : (a r t : List ℕ) → ((((a ++ 47 ∷ []) ++ r) ++ 47 ∷ []) ++ t) ≡ (a ++ 47 ∷ []) ++ (r ++ 47 ∷ t)

@@ -1,5 +1,6 @@
 -- Rules of a list that leave nothing to a later one, and the test of it.
 use Rattle.std.specs.Prelude.{ℕ, ◌-◌, ◌<◌, ◌≤◌, Bool, ◌&&◌, nat_eq, Option, Some, None, is_none, List, slice_get}
+use Rattle.std.specs.Str.{bytes_eq}
 use Rattle.oc_policy.specs.Rules.{same_action, is_absent_or, rule_covers}
 use Rattle.oc_policy.specs.declared.rule.Rule.{Rule}
 
@@ -21,4 +22,4 @@ part_covers same part (Some other) = is_absent_or same part other
 
 -- the test of the parts of a rule except the prefix
 abbrev pub parts_cover : Rule → Rule → Bool
-parts_cover j i = part_covers same_action j.action i.action && part_covers nat_eq j.area i.area
+parts_cover j i = part_covers same_action j.action i.action && part_covers nat_eq j.area i.area && part_covers bytes_eq j.token i.token

@@ -26,9 +26,15 @@ abbrev pub shadow_text : Option ℕ → List ℕ
 shadow_text None = []
 shadow_text (Some number) = codes " shadowed by " ++ decimal number
 
--- `allow|deny METHOD PREFIX AREA`
+-- the mark of a rule with a token, which says nothing of the token
+abbrev pub token_text : Option (List ℕ) → List ℕ
+token_text None = []
+token_text (Some token) = codes " token"
+
+-- `allow|deny METHOD PREFIX AREA`, and ` token` where the rule has one
 abbrev pub rule_text : Rule → List ℕ
-rule_text rule = allow_text rule.allow ++ codes " " ++ method_text rule.action ++ codes " " ++ rule.prefix ++ codes " " ++ area_text rule.area
+rule_text rule =
+    allow_text rule.allow ++ codes " " ++ method_text rule.action ++ codes " " ++ rule.prefix ++ codes " " ++ area_text rule.area ++ token_text rule.token
 
 -- the line of a rule: its number, what it says, and the mark of a shadowed rule
 abbrev pub rule_line : ℕ → Rule → Option ℕ → List ℕ

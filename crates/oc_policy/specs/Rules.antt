@@ -1,7 +1,9 @@
 -- Which rule matches a request, and what the first that matches decides.
-use Rattle.std.specs.Prelude.{ℕ, ◌+◌, ◌<◌, Bool, true, false, ◌&&◌, nat_eq, if◌then◌else◌, IsTrue, Option, Some, None, List, position, slice_get}
+use Rattle.std.specs.Prelude.{ℕ, ◌+◌, ◌<◌, Bool, true, false, ◌&&◌, nat_eq, if◌then◌else◌, IsTrue, Option, Some, None, IfSome, List, codes, position, slice_get}
+use Rattle.std.specs.Str.{bytes_eq}
 use Rattle.oc_base.specs.Names.{IsGroupName}
 use Rattle.oc_policy.specs.Prefixes.{is_within}
+use Rattle.oc_policy.specs.Tokens.{is_shown}
 use Rattle.oc_policy.specs.declared.rule.Action.{Action}
 use Rattle.oc_policy.specs.declared.rule.Action.TheVariants.{Get, Post}
 use Rattle.oc_policy.specs.declared.rule.Rule.{Rule}
@@ -19,19 +21,24 @@ abbrev pub is_absent_or : {A : Type 0} → (A → A → Bool) → Option A → A
 is_absent_or same None x = true
 is_absent_or same (Some part) x = same part x
 
--- whether a rule speaks of this request
-abbrev pub rule_matches : Rule → Action → List ℕ → ℕ → Bool
-rule_matches rule action group area =
-    is_absent_or same_action rule.action action && is_absent_or nat_eq rule.area area && is_within rule.prefix group
+-- whether a prefix speaks of a group; only `/` speaks of what is no group, as the pages of a node
+abbrev pub speaks_of : List ℕ → Option (List ℕ) → Bool
+speaks_of prefix None = bytes_eq prefix (codes "/")
+speaks_of prefix (Some group) = is_within prefix group
+
+-- whether a rule speaks of this request: what it wants to do, with which group, from which area, and what it shows
+abbrev pub rule_matches : Rule → Action → Option (List ℕ) → ℕ → Option (List ℕ) → Bool
+rule_matches rule action group area shown =
+    is_absent_or same_action rule.action action && is_absent_or nat_eq rule.area area && is_shown rule.token shown && speaks_of rule.prefix group
 
 -- rule j leaves nothing to rule i: it matches each request that rule i matches
 abbrev pub rule_covers : Rule → Rule → Type 0
-rule_covers j i = (action : Action) (group : List ℕ) (area : ℕ) → IsGroupName group → area < 256
-    → IsTrue (rule_matches i action group area) → IsTrue (rule_matches j action group area)
+rule_covers j i = (action : Action) (group : Option (List ℕ)) (area : ℕ) (shown : Option (List ℕ)) → IfSome group IsGroupName → area < 256
+    → IsTrue (rule_matches i action group area shown) → IsTrue (rule_matches j action group area shown)
 
 -- the place of the first rule that matches
-abbrev pub first_match : List Rule → Action → List ℕ → ℕ → Option ℕ
-first_match rules action group area = position (λ rule. rule_matches rule action group area) rules
+abbrev pub first_match : List Rule → Action → Option (List ℕ) → ℕ → Option (List ℕ) → Option ℕ
+first_match rules action group area shown = position (λ rule. rule_matches rule action group area shown) rules
 
 -- a rule that matches first allows, or denies by its number
 abbrev pub verdict_of : Option Rule → ℕ → Verdict
@@ -44,5 +51,5 @@ verdict_at rules None = Allowed
 verdict_at rules (Some place) = verdict_of (slice_get rules place) (place + 1)
 
 -- what the rules say of a request: the first that matches decides
-abbrev pub verdict : List Rule → Action → List ℕ → ℕ → Verdict
-verdict rules action group area = verdict_at rules (first_match rules action group area)
+abbrev pub verdict : List Rule → Action → Option (List ℕ) → ℕ → Option (List ℕ) → Verdict
+verdict rules action group area shown = verdict_at rules (first_match rules action group area shown)

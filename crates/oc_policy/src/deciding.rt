@@ -1,4 +1,4 @@
-ghost use Rattle.std.specs.Prelude.{◌≡◌, ◌≤◌, length, Some};
+ghost use Rattle.std.specs.Prelude.{◌≡◌, ◌≤◌, length, Some, option_map};
 ghost use Rattle.oc_policy.specs.Rules.{first_match, verdict, verdict_of};
 
 use crate::rule::{Action, Rule};
@@ -15,24 +15,38 @@ pub enum Verdict {
 /// The greatest number of rules in a list.
 pub const MAX_RULES: usize = 256;
 
-/// What the first rule that matches says; a request that no rule matches is allowed. Takes no memory.
-pub fn decide(rules: &[Rule], action: Action, group: &GroupName, area: u8) -> Verdict
+/// What the first rule that matches says; a request that no rule matches is allowed. `group` is `None` for what is no
+/// group, as the pages of a node, of which only rules for `/` speak. `shown` is the value of the request's
+/// Authorization field, `None` where it has none, or more than one. Takes no memory.
+pub fn decide<'a>(
+    rules: &'a [Rule],
+    action: Action,
+    group: Option<&'a GroupName>,
+    area: u8,
+    shown: Option<&'a [u8]>,
+) -> Verdict
     requires { length rules.now ≤ MAX_RULES }
-    ensures { result ≡ verdict rules.now action group.now area }
+    ensures { result ≡ verdict rules.now action (option_map (λ g. g.now) group.entry) area (option_map (λ s. s.now) shown.entry) }
 {
-    match first_match(rules, action, group, area) {
+    match first_match(rules, action, group, area, shown) {
         Some(place) => rules[place].says(place as u32 + 1),
         None => Verdict::Allowed,
     }
 }
 
 /// The place of the first rule that matches.
-fn first_match(rules: &[Rule], action: Action, group: &GroupName, area: u8) -> Option<usize>
-    ensures { result ≡ first_match rules.now action group.now area }
+fn first_match<'a>(
+    rules: &'a [Rule],
+    action: Action,
+    group: Option<&'a GroupName>,
+    area: u8,
+    shown: Option<&'a [u8]>,
+) -> Option<usize>
+    ensures { result ≡ first_match rules.now action (option_map (λ g. g.now) group.entry) area (option_map (λ s. s.now) shown.entry) }
 {
     rules
         .iter()
-        .position(|rule| rule.matches(action, group, area))
+        .position(|rule| rule.matches(action, group, area, shown))
 }
 
 impl Rule {

@@ -2,16 +2,17 @@
 
 ghost use Rattle.std.specs.Prelude.{◌≡◌, ◌++◌, ◌≤◌, IfOk, OnOk, length};
 ghost use Rattle.oc_policy.specs.declared.deciding.TheConstants.{MAX_RULES as MOST_RULES};
-ghost use Rattle.oc_policy.specs.Listing.{IsListing, allow_text, area_text, method_text, rule_line, rule_text, shadow_text};
+ghost use Rattle.oc_policy.specs.Listing.{IsListing, allow_text, area_text, method_text, rule_line, rule_text, shadow_text, token_text};
 
+use crate::demand::Demand;
 use crate::rule::{Action, Rule};
 use crate::shadowing::shadow;
 use oc_base::{Memory, put, put_number};
 use std::alloc::Global;
 
 /// The lines of these rules, in their order: the number of a rule from 1, whether it allows, the method,
-/// the prefix and the area of which it speaks, with `any` for what is absent; and after a rule that is
-/// shadowed the number of the first rule that shadows it.
+/// the prefix and the area of which it speaks, with `any` for what is absent, and ` token` where it has a token, which
+/// is not told; and after a rule that is shadowed the number of the first rule that shadows it.
 pub fn rules_text(alloc: Global, rules: &[Rule]) -> Result<Vec<u8>, Memory>
     requires few { length rules.now ≤ MOST_RULES }
     ensures { IfOk result (λ text. IsListing rules.now text.items) }
@@ -46,7 +47,15 @@ fn put_rule(out: &mut Vec<u8>, rule: &Rule) -> Result<(), Memory>
     put(out, b" ")?;
     put(out, rule.prefix.bytes())?;
     put(out, b" ")?;
-    put_area(out, rule.area)
+    put_area(out, rule.area)?;
+    put(out, token_mark(rule.token).as_bytes())
+}
+
+/// The mark of a rule with a token.
+fn token_mark(token: Demand) -> &'static str
+    ensures { result.now ≡ token_text token }
+{
+    if token.is_some() { " token" } else { "" }
 }
 
 /// Whether a rule allows.

@@ -1,6 +1,7 @@
-ghost use Rattle.std.specs.Prelude.{◌≡◌, ◌++◌, nat_eq, codes};
+ghost use Rattle.std.specs.Prelude.{◌≡◌, ◌++◌, nat_eq, codes, option_map};
 ghost use Rattle.std.specs.List.{starts_with};
 ghost use Rattle.oc_policy.specs.Prefixes.{IsPrefix, parsed_prefix, is_within};
+ghost use Rattle.oc_policy.specs.Rules.{speaks_of};
 
 use oc_base::{GroupName, NameFault};
 use std::fmt;
@@ -57,11 +58,14 @@ impl Prefix {
         }
     }
 
-    /// Whether the name is within this prefix.
-    pub(crate) fn holds(&self, name: &[u8]) -> bool
-        ensures { result ≡ is_within self.now name.now }
+    /// Whether this prefix speaks of a group, or, without one, of what is no group.
+    pub(crate) fn speaks_of(&self, group: Option<&GroupName>) -> bool
+        ensures { result ≡ speaks_of self.now (option_map (λ g. g.now) group.entry) }
     {
-        is_within(self.bytes(), name)
+        match group {
+            Some(group) => is_within(self.bytes(), group.bytes()),
+            None => matches!(self.bytes(), [b'/']),
+        }
     }
 
     /// Whether this prefix holds the other one.

@@ -1,8 +1,9 @@
-ghost use Rattle.std.specs.Prelude.{◌≡◌, ◌↔◌, ◌<◌, IsTrue, nat_eq};
+ghost use Rattle.std.specs.Prelude.{◌≡◌, ◌↔◌, ◌<◌, IsTrue, nat_eq, option_map};
 ghost use Rattle.std.specs.Option.{ForSome};
 ghost use Rattle.oc_policy.specs.Covering.{part_covers, parts_cover};
 ghost use Rattle.oc_policy.specs.Rules.{same_action, is_absent_or, rule_matches, rule_covers};
 
+use crate::demand::Demand;
 use crate::prefix::Prefix;
 use oc_base::GroupName;
 
@@ -26,16 +27,25 @@ pub struct Rule {
     pub prefix: Prefix,
     /// The area that the request names; none speaks of each.
     pub area: Option<u8>,
+    /// The token that the request has to show, if it has to show one.
+    pub token: Demand,
 }
 
 impl Rule {
     /// Whether the rule speaks of this request.
-    pub(crate) fn matches(&self, action: Action, group: &GroupName, area: u8) -> bool
-        ensures { result ≡ rule_matches self.now action group.now area }
+    pub(crate) fn matches<'a>(
+        &self,
+        action: Action,
+        group: Option<&'a GroupName>,
+        area: u8,
+        shown: Option<&'a [u8]>,
+    ) -> bool
+        ensures { result ≡ rule_matches self.now action (option_map (λ g. g.now) group.entry) area (option_map (λ s. s.now) shown.entry) }
     {
         matches_action(self.action, action)
             && matches_area(self.area, area)
-            && self.prefix.holds(group.bytes())
+            && self.token.is_met(shown)
+            && self.prefix.speaks_of(group)
     }
 
     /// Whether this rule matches all that the other one matches.
@@ -46,13 +56,13 @@ impl Rule {
         self.covers_parts(other) && holds
     }
 
-    /// The test of action and area.
+    /// The test of action, area and token.
     fn covers_parts(&self, other: &Rule) -> bool
         ensures test { result ≡ parts_cover self.now other.now }
         ensures range { ForSome other.now.area (λ area. area < 256) }
     {
         let covers_area = covers_area(self.area, other.area);
-        covers_action(self.action, other.action) && covers_area
+        covers_action(self.action, other.action) && covers_area && self.token.covers(&other.token)
     }
 }
 

@@ -40,6 +40,13 @@ impl Leases {
         })
     }
 
+    /// The second at which each lease ends, by the number of a child, where that is set.
+    pub fn ends(&self) -> &Slots<Option<u64>>
+        ensures { result.now.items ≡ self.now.ends }
+    {
+        &self.ends
+    }
+
     /// The lease of a child begins anew, and ends a lease's time from now. Takes no memory.
     #[tactic(auto, using(crate::proofs::Lengths::length_of_renewed))]
     pub fn renew(&mut self, child: NodeId, now: u64)

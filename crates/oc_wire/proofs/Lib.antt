@@ -8,6 +8,7 @@ pub mod MessageReads
 pub mod Leasts
 pub mod RequestReads
 pub mod OneAnswer
+pub mod Authentic
 pub mod Sizes
 pub mod Puts
 pub mod Lifts

@@ -1,10 +1,10 @@
 -- There is one answer to the bytes of a request, and a message that was sent is it.
-use Rattle.std.proofs.Common.{◌≡◌, ℕ, ◌⊎◌, inl, inr, List, [], length, take, Result, Ok, Err, refl, sym, ap, ◌∙◌, arith}
+use Rattle.std.proofs.Common.{◌≡◌, ℕ, ◌⊎◌, inl, inr, Option, List, [], length, take, Result, Ok, Err, refl, sym, ap, ◌∙◌, arith}
 use Rattle.std.proofs.lemmas.List.{append-nil, length-append, take_at}
 use Rattle.oc_http.specs.Answers.{IsDecided, written_head}
 use Rattle.oc_http.specs.Answers as heads
 use Rattle.oc_http.specs.Taking.{SaysRequest}
-use Rattle.oc_http.specs.Writing.{request_head_text, request_text}
+use Rattle.oc_http.specs.Writing.{request_head_with, request_with}
 use Rattle.oc_http.specs.declared.fault.HttpFault.{HttpFault}
 use Rattle.oc_http.specs.declared.head.Head.{Head}
 use Rattle.oc_model.specs.declared.message.Message.{Message}
@@ -72,11 +72,11 @@ one_answer one nodes bytes (Err (faults.Wire f)) (Err faults.Memory) x y h k = a
 one_answer one nodes bytes (Err faults.Memory) second x y h k = absurd h
 
 -- a message that is spelled in a request is brought by it
-pub brings : (nodes : ℕ) (host : List ℕ) (m : Message) → SaysRequest (request_head_text host (length (spelling m))) (written_head (length (spelling m))) → decoded nodes (spelling m) ≡ Ok m → Brings nodes (request_text host (spelling m)) (Ok m)
-brings nodes host m says reads = record {
-  head = written_head (length (spelling m));
+pub brings : (nodes : ℕ) (mac : Option (List ℕ)) (host : List ℕ) (m : Message) → SaysRequest (request_head_with mac host (length (spelling m))) (written_head mac (length (spelling m))) → decoded nodes (spelling m) ≡ Ok m → Brings nodes (request_with mac host (spelling m)) (Ok m)
+brings nodes mac host m says reads = record {
+  head = written_head mac (length (spelling m));
   body = spelling m;
-  request = record { behind = spelling m; reads = (request_head_text host (length (spelling m)), refl, says); rest = []; whole = sym (append-nil (spelling m)); long = refl };
+  request = record { behind = spelling m; reads = (request_head_with mac host (length (spelling m)), refl, says); rest = []; whole = sym (append-nil (spelling m)); long = refl };
   route = refl;
   reads = reads;
 }

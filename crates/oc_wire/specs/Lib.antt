@@ -2,6 +2,7 @@ pub mod Faults
 pub mod Spelling
 pub mod Messages
 pub mod Requests
+pub mod Macs
 pub mod Rows
 pub mod Examples
 pub mod FieldReading

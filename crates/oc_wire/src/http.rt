@@ -1,13 +1,14 @@
 //! Messages as requests between nodes.
 
-ghost use Rattle.std.specs.Prelude.{◌≡◌, ℕ, ◌≤◌, List, [], IfOk};
+ghost use Rattle.std.specs.Prelude.{◌≡◌, ℕ, ◌≤◌, List, [], IfOk, Option, option_map};
 ghost use Rattle.oc_base.specs.declared.limits.TheConstants.{MAX_NODES};
-ghost use Rattle.oc_http.specs.Writing.{IsHost, request_text};
+ghost use Rattle.oc_http.specs.Writing.{IsHost};
 ghost use Rattle.oc_io.specs.SourceView.{source_of};
 ghost use Rattle.oc_model.specs.Lawful.{IsMessage};
 ghost use Rattle.oc_model.specs.declared.message.Message.{Message};
 ghost use Rattle.oc_wire.specs.Requests.{is_route, IsRequest, IsRequestOrFault, AnswersRequest, IsGiven};
-ghost use Rattle.oc_wire.specs.Spelling.{spelling, HasSpelling};
+ghost use Rattle.oc_wire.specs.Macs.{request_of};
+ghost use Rattle.oc_wire.specs.Spelling.{HasSpelling};
 
 use crate::law::requests_have_one_answer;
 use crate::{HttpWireFault, decode, encode};
@@ -17,17 +18,31 @@ use oc_http::{
     write_request,
 };
 use oc_io::MemSource;
+use oc_mac::{Key, mac_of, macs_are_digits};
 use oc_model::Message;
 use std::alloc::Global;
 
-/// The request that brings the message to `host`: a POST with the message's bytes as its body.
-pub fn to_http(alloc: Global, message: &Message, host: &str) -> Result<Vec<u8>, Memory>
+/// The request that brings the message to `host`: a POST with the message's bytes as its body, and with their MAC
+/// where the nodes have a key.
+pub fn to_http(
+    alloc: Global,
+    message: &Message,
+    host: &str,
+    key: Option<&Key>,
+) -> Result<Vec<u8>, Memory>
     requires body { HasSpelling message.now.body }
     requires host { IsHost host.now }
-    ensures { IfOk result (λ text. text.items ≡ request_text host.now (spelling message.now)) }
+    ensures { IfOk result (λ text. text.items ≡ request_of (option_map (λ k. k.now) key.entry) host.now message.now) }
 {
+    macs_are_digits();
     let body = encode(alloc, message)?;
-    write_request(alloc, host, &body)
+    match key {
+        None => write_request(alloc, host, &body, None),
+        Some(key) => {
+            let mac = mac_of(key, &body);
+            write_request(alloc, host, &body, Some(mac.digits()))
+        }
+    }
 }
 
 /// The message between `nodes` nodes that a request brings. What follows the request's body is not
@@ -36,9 +51,10 @@ pub fn from_http(alloc: Global, bytes: &[u8], nodes: u32) -> Result<Message, Htt
     ensures exact { AnswersRequest nodes bytes.now result }
 
     // What `to_http` wrote is read as the same message.
-    ensures again { (host : List ℕ) (message : Message) → nodes ≤ MAX_NODES → IsHost host → IsMessage nodes message
-        → bytes.now ≡ request_text host (spelling message) → IsGiven result message }
+    ensures again { (key : Option (List ℕ)) (host : List ℕ) (message : Message) → nodes ≤ MAX_NODES → IsHost host
+        → IsMessage nodes message → bytes.now ≡ request_of key host message → IsGiven result message }
 {
+    macs_are_digits();
     requests_have_one_answer();
     a_written_request_is_read();
     message_in(alloc, bytes, nodes)

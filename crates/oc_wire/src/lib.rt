@@ -10,7 +10,8 @@
 //! the first fault; what [`encode`] writes is that spelling; no two messages have one spelling, which rests
 //! on no two kinds, and no two refusals, having one code. [`from_http`] gives the message that a POST to
 //! `/!overcast` brings, or the first fault; it reads what [`to_http`] wrote as the same message, and there
-//! is one answer to the bytes of a request.
+//! is one answer to the bytes of a request. Where the nodes have a key, [`mac_for`] is what the head of a message says
+//! of its body, and [`is_authentic`] whether that is what a head said.
 #![tactic(auto)]
 
 mod children;
@@ -23,6 +24,7 @@ mod http;
 mod http_fault;
 mod kinds;
 mod law;
+mod macs;
 mod message_decoding;
 mod refusals;
 
@@ -36,5 +38,7 @@ pub use law::{
     codes_are_distinct, examples_are_read, least_lengths_are_exact,
     no_two_messages_have_one_spelling, requests_have_one_answer, spellings_are_read,
 };
+pub use macs::{is_authentic, mac_for};
+pub use oc_mac::Key;
 pub use oc_model::{Body, Message};
 pub use refusals::REFUSALS;

@@ -27,7 +27,7 @@ pub(crate) fn text_of(alloc: Global, nodes: u32, message: &Message) -> Result<Ve
 {
     spellings_are_read();
     let host = host_of(alloc, message.to)?;
-    let text = to_http(alloc, message, host.as_str())?;
+    let text = to_http(alloc, message, host.as_str(), None)?;
     Ok(text)
 }
 

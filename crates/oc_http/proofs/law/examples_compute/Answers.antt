@@ -13,8 +13,8 @@ returns-clause-replies c = record { none = refl; chunked = refl; refused = refl;
 
 pub returns-clause-parts : goal.returns-clause-parts
 unfolding httparse_on_literals digits
-returns-clause-parts c = record { path = refl; query = refl; no_query = refl; absolute = refl; authority = refl; other_scheme = refl; zeros = refl; greatest = refl; closes_last = refl; closes_not = refl; waits = refl; waits_not = refl; chunked = refl }
+returns-clause-parts c = record { path = refl; query = refl; no_query = refl; absolute = refl; authority = refl; other_scheme = refl; zeros = refl; greatest = refl; closes_last = refl; closes_not = refl; waits = refl; waits_not = refl; chunked = refl; no_mac = refl; mac = refl; two_macs = refl; token = refl; group_length = refl; no_group_length = refl; two_group_lengths = refl }
 
 pub returns-clause-texts : goal.returns-clause-texts
 unfolding httparse_on_literals digits
-returns-clause-texts c = record { request = refl; get = refl; probe = refl; follow = refl; redirect = refl; content = refl; no_content = refl; method = refl; denied = refl; kept = refl }
+returns-clause-texts c = record { request = refl; request_with_mac = refl; get = refl; probe = refl; follow = refl; redirect = refl; content = refl; no_content = refl; method = refl; denied = refl; elsewhere = refl; page = refl; message = refl; kept = refl }

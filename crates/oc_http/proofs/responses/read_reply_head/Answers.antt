@@ -16,4 +16,4 @@ returns-in_err-length c =
 pub returns : goal.returns
 returns c =
     let said = fault_or-ok _ (reply_head_of c.args.status c.args.fields.now) _ _ c.in_ok-length.ensures in
-    said.1 ∙ ap Ok (rw (c.in_ok-location.ensures, c.is_chunked.ensures, c.closes.ensures, ← said.0) refl)
+    said.1 ∙ ap Ok (rw (c.in_ok-location.ensures, c.is_chunked.ensures, c.closes.ensures, c.group_length.ensures, c.in_ok-copy_some.ensures, c.only.ensures, ← said.0) refl)

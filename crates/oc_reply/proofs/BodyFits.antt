@@ -1,5 +1,5 @@
 -- A head that has no fault tells a body within the limit.
-use Rattle.std.proofs.Common.{◌≡◌, ◌≤◌, ℕ, nat_lt, false, true, Bool, Some, None, Ok, Option, Result, List, ◌++◌, length, refl, sym, ap, subst, ◌∙◌, arith, cond}
+use Rattle.std.proofs.Common.{◌≡◌, ◌≤◌, ℕ, nat_lt, false, true, Bool, Some, None, Ok, List, ◌++◌, length, refl, sym, ap, subst, ◌∙◌, arith, cond}
 use Rattle.std.specs.Prelude.{unwrap_or, ◌&&◌, not}
 use Rattle.std.proofs.lemmas.Bool.Decides.{nat_tests}
 use Rattle.oc_base.specs.declared.limits.TheConstants.{MAX_BODY_BYTES, MAX_FIELDS}

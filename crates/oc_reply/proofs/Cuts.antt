@@ -1,5 +1,5 @@
 -- The verdict on bytes with more behind them.
-use Rattle.std.proofs.Common.{◌≡◌, ℕ, ◌+◌, ◌-◌, ◌<◌, ◌≤◌, Bool, true, false, Option, None, Result, Ok, Err, List, [], ◌∷◌, ◌++◌, length, take, refl, sym, ap, ◌∙◌, subst, arith, length-append}
+use Rattle.std.proofs.Common.{◌≡◌, ℕ, ◌+◌, ◌-◌, ◌≤◌, Bool, true, false, None, Result, Ok, Err, List, ◌++◌, length, take, refl, sym, ap, ◌∙◌, arith, length-append}
 use Rattle.std.specs.Prelude.{not, ◌&&◌, nat_lt, if◌then◌else◌}
 use Rattle.std.proofs.lemmas.Bool.{ltb-false, le-ltb, false≢true}
 use Rattle.std.proofs.lemmas.List.{append_assoc, take-append-le}
@@ -14,10 +14,9 @@ use Rattle.oc_http.specs.declared.fault.HttpFault.{HttpFault}
 use Rattle.oc_http.specs.declared.fault.HttpFault.TheVariants.{Source, Ended, Head as NoHead, HeadLong, Fields, Host, Coding, Length, BodyLong, Memory}
 use Rattle.oc_http.specs.declared.head.Head.{Head}
 use Rattle.oc_routes.specs.Connections.{awaits_continue, is_last}
-use Rattle.oc_routes.specs.Refusals.{fault_of_http}
 use Rattle.oc_routes.specs.declared.refused.Refused.{Refused}
 use Rattle.oc_reply.specs.Hints.{asked_with_hint}
-use Rattle.oc_reply.specs.Verdicts.{IsVerdict, NodeTerms, arrival, asked_behind, refused_for, routed, unfinished, verdict_for, whole, with_body}
+use Rattle.oc_reply.specs.Verdicts.{IsVerdict, NodeTerms, arrival, asked_behind, routed, unfinished, verdict_for, whole, with_body}
 use Rattle.oc_reply.specs.declared.hint.Asked.{Asked}
 use Rattle.oc_reply.specs.declared.verdict.Verdict.{Verdict}
 use Rattle.oc_reply.specs.declared.verdict.Verdict.TheVariants.{Wait, Permit}
@@ -68,12 +67,12 @@ body_more t c number permitted coming came head rest more said v is decided =
     let few : head.length ≤ length rest = ltb-false (length rest) head.length long in
     let body : take head.length (rest ++ more) ≡ take head.length rest = take-append-le head.length rest more few in
     let count : came - length rest ≡ (came + length more) - length (rest ++ more) = omega (arith, length-append rest more) in
-    ap (λ (n : ℕ). whole t (record { count = n + head.length; operation = said.operation; hint = said.hint; input = None; last = is_last head number }) (take head.length rest)) count
-    ∙ ap (λ (b : List ℕ). whole t (record { count = ((came + length more) - length (rest ++ more)) + head.length; operation = said.operation; hint = said.hint; input = None; last = is_last head number }) b) (sym body))
+    ap (λ (n : ℕ). whole t head (record { count = n + head.length; operation = said.operation; hint = said.hint; input = None; last = is_last head number }) (take head.length rest)) count
+    ∙ ap (λ (b : List ℕ). whole t head (record { count = ((came + length more) - length (rest ++ more)) + head.length; operation = said.operation; hint = said.hint; input = None; last = is_last head number }) b) (sym body))
     is decided
   where
     request : ℕ → List ℕ → Verdict
-    request n left = whole t (record { count = n - length left + head.length; operation = said.operation; hint = said.hint; input = None; last = is_last head number }) (take head.length left)
+    request n left = whole t head (record { count = n - length left + head.length; operation = said.operation; hint = said.hint; input = None; last = is_last head number }) (take head.length left)
 
 routed_more : (t : NodeTerms) (c number : ℕ) (permitted : Bool) (coming : Coming) (came : ℕ) (head : Head) (rest more : List ℕ) (asked : Result Asked Refused) (v : Verdict)
     → v ≡ routed t (arrival c number permitted comings.Open) came head rest asked → (v ≡ Wait → ⊥)

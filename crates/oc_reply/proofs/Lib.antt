@@ -1,7 +1,11 @@
 pub mod BodyFits
+pub mod ConditionLaws
+pub mod Holdings
+pub mod MacLaws
 pub mod Chunks
 pub mod Cuts
 pub mod PieceLaws
 pub mod Sent
+pub mod Spared
 pub mod Unread
 pub mod WaitLaws

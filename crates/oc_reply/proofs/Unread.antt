@@ -1,12 +1,11 @@
 -- The verdict where no head was read.
-use Rattle.std.proofs.Common.{◌≡◌, ℕ, Bool, Some, None, Option, Result, Ok, Err, IfOk, List, [], ◌++◌, refl, sym, ap, ◌∙◌, subst}
+use Rattle.std.proofs.Common.{◌≡◌, ℕ, Bool, Some, None, Result, Ok, Err, IfOk, List, [], ◌++◌, refl, sym, ap, ◌∙◌, subst}
 use Rattle.oc_events.specs.declared.event.Arrival.{Arrival}
 use Rattle.oc_http.specs.Answers.{AnswersRequest, IsDecided}
 use Rattle.oc_http.specs.Taking.{RefusesRequest, Took}
 use Rattle.oc_http.specs.declared.fault.HttpFault.{HttpFault}
 use Rattle.oc_http.specs.declared.fault.HttpFault.TheVariants.{Source, Ended, Head as NoHead, HeadLong, Fields, Host, Coding, Length, BodyLong, Memory}
 use Rattle.oc_http.specs.declared.head.Head.{Head}
-use Rattle.oc_routes.specs.declared.fault.RouteFault.{RouteFault}
 use Rattle.oc_routes.specs.declared.fault.RouteFault.TheVariants as faults
 use Rattle.oc_routes.specs.declared.refused.Refused.{Refused}
 use Rattle.oc_reply.specs.Verdicts.{IsVerdict, NodeTerms, fault_met, is_none, unfinished, unread}

@@ -1,5 +1,5 @@
 -- When a content under way and a client that has all wait.
-use Rattle.std.proofs.Common.{◌≡◌, ℕ, ◌-◌, ◌<◌, ◌≤◌, Bool, true, false, Option, Some, None, List, refl, sym, ap, ◌∙◌, arith}
+use Rattle.std.proofs.Common.{◌≡◌, ℕ, ◌-◌, ◌<◌, ◌≤◌, Bool, true, false, Option, Some, None, List, refl, sym, arith}
 use Rattle.std.specs.Prelude.{◌&&◌, ◌||◌, ◌==◌, not, nat_lt, nat_le, find, if◌then◌else◌}
 use Rattle.std.specs.Str.{bytes_eq}
 use Rattle.std.proofs.lemmas.Bool.{and_parts, eqb-true, leb-true, ltb-false, leb-false, lt-ltb, le-ltb, lt-leb, not-true, false≢true}
@@ -12,7 +12,6 @@ use Rattle.oc_reply.specs.declared.hint.Hint.{Hint}
 use Rattle.oc_reply.specs.declared.hint.Hint.TheVariants.{Plain, Here, Of, Known}
 use Rattle.oc_reply.specs.declared.holding.Holding.{Holding}
 use Rattle.oc_reply.specs.declared.waiting.Follower.{Follower}
-use Rattle.oc_reply.specs.declared.waiting.Prospect.{Prospect}
 use Rattle.oc_reply.specs.declared.waiting.Prospect.TheVariants.{Gives, Waits, Breaks}
 use Rattle.oc_reply.specs.declared.waiting.TheConstants.{FOLLOW_MILLIS, IDLE_MILLIS}
 

@@ -1,5 +1,5 @@
 -- A content under way: a place in a group, and what is given of it piece by piece.
-use Rattle.std.specs.Prelude.{◌≡◌, ℕ, ◌+◌, ◌-◌, ◌≤◌, Bool, true, false, ◌&&◌, nat_le, min, if◌then◌else◌, Option, Some, None, List, [], ◌++◌, length, take, drop}
+use Rattle.std.specs.Prelude.{◌≡◌, ℕ, ◌+◌, ◌-◌, ◌≤◌, Bool, true, false, nat_le, min, if◌then◌else◌, Option, Some, None, List, [], ◌++◌, length, take, drop}
 use Rattle.oc_base.specs.Groups.{bytes_of}
 use Rattle.oc_base.specs.declared.group.Group.{Group}
 use Rattle.oc_chunked.specs.Texts.{chunked_text, chunks_written, end_written}

@@ -1,5 +1,5 @@
 -- Worked examples.
-use Rattle.std.specs.Prelude.{◌≡◌, ℕ, true, false, Bool, Option, Some, None, Result, Ok, Err, List, [], ◌∷◌, ◌++◌, length, codes}
+use Rattle.std.specs.Prelude.{◌≡◌, ℕ, ◌+◌, true, false, Bool, Option, Some, None, Result, Ok, Err, List, [], ◌∷◌, ◌++◌, length, codes}
 use Rattle.oc_base.specs.declared.group.Group.{Group}
 use Rattle.oc_events.specs.declared.event.Coming.TheVariants as comings
 use Rattle.oc_http.specs.declared.framing.Persistence.{Persistence}
@@ -7,7 +7,6 @@ use Rattle.oc_http.specs.declared.framing.Persistence.TheVariants.{Close, Keep}
 use Rattle.oc_http.specs.declared.head.Head.{Head}
 use Rattle.oc_http.specs.declared.head.Method.{Method}
 use Rattle.oc_http.specs.declared.head.Method.TheVariants as methods
-use Rattle.oc_model.specs.declared.input.Input.{Input}
 use Rattle.oc_model.specs.declared.input.Input.TheVariants as inputs
 use Rattle.oc_model.specs.declared.answer.Answer.{Answer}
 use Rattle.oc_model.specs.declared.answer.Answer.TheVariants as answers
@@ -21,11 +20,13 @@ use Rattle.oc_routes.specs.declared.manner.Manner.{Manner}
 use Rattle.oc_routes.specs.declared.manner.Manner.TheVariants.{HeadAlone, Once, Follow}
 use Rattle.oc_routes.specs.declared.refused.Refused.{Refused}
 use Rattle.oc_routes.specs.declared.refused.Refused.TheVariants as refusals
+use Rattle.oc_routes.specs.declared.report.Report.TheVariants as reports
 use Rattle.oc_routes.specs.declared.response.GroupRange.{GroupRange}
 use Rattle.oc_routes.specs.declared.response.Response.{Response}
+use Rattle.oc_reply.specs.Conditions.{unmet}
 use Rattle.oc_reply.specs.Contents.{behind, owed, piece_of, piece_text}
 use Rattle.oc_reply.specs.Hints.{asked_with_hint, hint_in}
-use Rattle.oc_reply.specs.Shown.{location_of, reply_by, response_for, told_text}
+use Rattle.oc_reply.specs.Shown.{location_of, response_for, told_text}
 use Rattle.oc_reply.specs.Verdicts.{NodeTerms, arrival, asked_behind, terms_of, unfinished}
 use Rattle.oc_reply.specs.Waits.{holding, is_due, is_to_wait, left_of, prospect}
 use Rattle.oc_reply.specs.declared.content.UnderWay.{UnderWay}
@@ -39,11 +40,11 @@ use Rattle.oc_reply.specs.declared.waiting.Prospect.TheVariants as prospects
 
 -- the head of a request of version 1.1 with a body of this length
 abbrev head : Method → List ℕ → List ℕ → ℕ → Head
-head method path query length = record { method = method; path = path; query = query; length = length; expects = false; minor = 1; closes = false }
+head method path query length = record { method = method; path = path; query = query; length = length; expects = false; minor = 1; closes = false; authorization = None; mac = None }
 
 -- node 1 of 3, without access rules
 abbrev open_terms : NodeTerms
-open_terms = terms_of 1 3 []
+open_terms = terms_of 1 3 [] None
 
 -- to node 1 a request came, with a head of 40 bytes, and these behind it
 abbrev came_open : Head → List ℕ → ℕ → Verdict → Type 0
@@ -54,7 +55,26 @@ abbrev cut_publish : Head
 cut_publish = head methods.Post (codes "/a") [] 3
 
 abbrev published : ℕ → Bool → Verdict
-published count last = verdicts.Ask (record { count = count; operation = asks.Publish (codes "/a"); hint = hints.Plain; input = Some (inputs.Publish (codes "/a") (codes "abc")); last = last })
+published count last = verdicts.Ask (record { count = count; operation = asks.Publish (codes "/a") None; hint = hints.Plain; input = Some (inputs.Publish (codes "/a") (codes "abc")); last = last })
+
+-- in a network with this key, where it has one
+abbrev keyed : Option (List ℕ) → NodeTerms
+keyed key = terms_of 1 3 [] key
+
+-- to node 1 from node 2: a rejoin of ask 7
+abbrev to_this_node : Message
+to_this_node = record { from = 2; to = 1; body = bodies.Rejoin 7 }
+
+abbrev rejoin_bytes : List ℕ
+rejoin_bytes = 0 ∷ 0 ∷ 0 ∷ 2 ∷ 0 ∷ 0 ∷ 0 ∷ 1 ∷ 8 ∷ 0 ∷ 0 ∷ 0 ∷ 0 ∷ 0 ∷ 0 ∷ 0 ∷ 7 ∷ []
+
+-- a message is posted, with this MAC
+abbrev posted : Option (List ℕ) → Head
+posted mac = record (head methods.Post (codes "/!overcast") [] 17) { mac = mac }
+
+-- what came is a head of 40 bytes and this body
+abbrev judged_under : Option (List ℕ) → Head → List ℕ → Verdict → Type 0
+judged_under key head body verdict = asked_behind (keyed key) (arrival 7 1 false comings.Open) (40 + length body) (record head { length = length body }) body ≡ verdict
 
 abbrev read : Hint → Verdict
 read hint = verdicts.Ask (record { count = 40; operation = asks.Client (codes "/a") 0 0 Follow; hint = hint; input = Some (inputs.Client 0 0 (codes "/a")); last = false })
@@ -76,13 +96,20 @@ pub record AreJudged : Type 0 where
   pub follows_known : came_open (head methods.Get (codes "/a") (codes "follow&known") 0) [] 40 (read hints.Known)
   pub here : came_open (head methods.Get (codes "/a") (codes "follow&here") 0) [] 40
       (verdicts.Ask (record { count = 40; operation = asks.Client (codes "/a") 0 0 Follow; hint = hints.Here; input = None; last = false }))
+  pub message : judged_under None (posted None) rejoin_bytes (verdicts.Ask (record { count = 57; operation = asks.Message; hint = hints.Plain; input = Some (inputs.Delivered to_this_node); last = false }))
+  pub mac_without_a_key : judged_under None (posted (Some (codes "0a"))) (0 ∷ []) (verdicts.Refuse refusals.Message)
+  pub no_mac : judged_under (Some (codes "key")) (posted None) rejoin_bytes (verdicts.Refuse refusals.Mac)
+  pub no_mac_of_no_message : judged_under (Some (codes "key")) (posted None) (0 ∷ []) (verdicts.Refuse refusals.Mac)
+  pub path_before_mac : judged_under (Some (codes "key")) (record (posted None) { method = methods.Get }) rejoin_bytes (verdicts.Refuse refusals.Path)
+  pub part_before_mac : asked_behind (keyed (Some (codes "key"))) (arrival 7 1 false comings.Ended) 41 (record (posted None) { length = 2 }) (0 ∷ []) ≡ verdicts.Refuse refusals.Ended
+  pub publish_needs_none : asked_behind (keyed (Some (codes "key"))) (arrival 7 1 false comings.Open) 43 cut_publish (codes "abc") ≡ published 43 false
   pub nothing_waits : unfinished comings.Open true ≡ verdicts.Wait
   pub nothing_ended : unfinished comings.Ended true ≡ verdicts.Leave
   pub nothing_failed : unfinished comings.Failed true ≡ verdicts.Refuse refusals.Source
 
 -- one rule: nobody reads or posts
 abbrev closed : List Rule
-closed = record { allow = false; action = None; prefix = codes "/"; area = None } ∷ []
+closed = record { allow = false; action = None; prefix = codes "/"; area = None; token = None } ∷ []
 
 abbrev asks_under : List Rule → Method → List ℕ → List ℕ → Result Asked Refused → Type 0
 asks_under rules method path query wanted = asked_with_hint (head method path query 0) rules ≡ wanted
@@ -102,9 +129,26 @@ pub record AreHinted : Type 0 where
   pub before_the_rules : asks_under closed methods.Get (codes "/a") (codes "of=x") (Err refusals.Query)
   pub denied : asks_under closed methods.Get (codes "/a") (codes "of=5") (Err (refusals.Denied 1))
   pub behind_the_path : asks_under [] methods.Get (codes "/%") (codes "of=x") (Err refusals.Path)
-  pub not_of_a_post : asks_under [] methods.Post (codes "/a") (codes "of=x") (Ok (record { operation = asks.Publish (codes "/a"); hint = hints.Plain }))
+  pub not_of_a_post : asks_under [] methods.Post (codes "/a") (codes "of=x") (Ok (record { operation = asks.Publish (codes "/a") None; hint = hints.Plain }))
   pub not_of_a_denied_post : asks_under closed methods.Post (codes "/a") (codes "of=x") (Err (refusals.Denied 1))
+  pub refused_of_a_report : asks_under [] methods.Get (codes "/!status") (codes "of=x") (Err refusals.Query)
+  pub not_of_a_report : asks_under [] methods.Get (codes "/!status") (codes "of=5&here") (Ok (record { operation = asks.Report reports.Status Once; hint = hints.Plain }))
   pub not_of_a_probe : asks_under closed methods.Get (codes "/!probe") (codes "of=x") (Ok (record { operation = asks.Probe Once; hint = hints.Plain }))
+
+-- what the node `me` says of a condition, where it has five bytes of group `/a`
+abbrev says_of : Operation → ℕ → Option Refused → Type 0
+says_of operation me wanted = unmet operation me (record { group = codes "/a"; held = 5; sealed = true } ∷ []) ≡ wanted
+
+-- when a condition is met
+pub record AreConditions : Type 0 where
+  pub met : says_of (asks.Publish (codes "/a") (Some 5)) 1 None
+  pub shorter : says_of (asks.Publish (codes "/a") (Some 4)) 1 (Some (refusals.At 5))
+  pub longer : says_of (asks.Publish (codes "/a") (Some 6)) 1 (Some (refusals.At 5))
+  pub of_a_seal : says_of (asks.Seal (codes "/a") (Some 6)) 1 (Some (refusals.At 5))
+  pub none_said : says_of (asks.Seal (codes "/a") None) 1 None
+  pub absent : says_of (asks.Publish (codes "/b") (Some 0)) 1 None
+  pub absent_and_longer : says_of (asks.Seal (codes "/b") (Some 5)) 1 (Some (refusals.At 0))
+  pub elsewhere : says_of (asks.Publish (codes "/a") (Some 4)) 2 None
 
 abbrev groups : List Group
 groups = record { name = codes "/a"; bytes = codes "hello"; sealed = false } ∷ []
@@ -206,28 +250,34 @@ rejoin = record { from = 1; to = 2; body = bodies.Rejoin 7 }
 
 -- what is answered to a request, where this message goes back
 abbrev answered_with : Operation → Answer → Option Message → Response → Type 0
-answered_with operation answer back wanted = response_for (asks_with operation hints.Plain) false answer back holds_none addresses ≡ wanted
+answered_with operation answer back wanted = response_for (asks_with operation hints.Plain) false answer back holds_none addresses None [] ≡ wanted
+
+-- what a client is answered that tells this
+abbrev shows : Operation → Hint → Bool → Answer → Holding → Response
+shows operation hint last answer h = response_for (asks_with operation hint) last answer None h addresses None []
 
 -- what a client is answered, and anyone
 pub record AreShown : Type 0 where
-  pub plain : reply_by (asks_with (client 2 Once) hints.Plain) false (answers.Serve 3) (holds 5 false) addresses ≡ gives (codes "Content-Length: 3" ∷ closes ∷ []) (from_to 2 3 false) Close
-  pub told : reply_by (asks_with (client 2 Once) (hints.Of 9)) false (answers.Serve 3) (holds 5 false) addresses ≡ gives (codes "Content-Length: 7" ∷ closes ∷ []) (from_to 2 7 false) Close
-  pub told_to_a_follower : reply_by (asks_with (client 2 Follow) (hints.Of 9)) false (answers.Serve 3) (holds 5 false) addresses ≡ gives (codes "Content-Length: 7" ∷ []) (from_to 2 7 false) Keep
-  pub told_and_sealed : reply_by (asks_with (client 2 Once) (hints.Of 9)) false (answers.Serve 3) (holds 5 true) addresses ≡ gives (codes "Content-Length: 3" ∷ closes ∷ []) (from_to 2 3 false) Close
-  pub told_and_not_held : reply_by (asks_with (client 2 HeadAlone) (hints.Of 9)) false answers.NoGroup holds_none addresses ≡ gives (codes "Content-Length: 7" ∷ closes ∷ []) None Close
-  pub told_before : reply_by (asks_with (client 12 Once) (hints.Of 9)) false (answers.Serve 0) (holds 5 false) addresses ≡ gives (codes "Content-Length: 0" ∷ closes ∷ []) (from_to 12 0 false) Close
-  pub known : reply_by (asks_with (client 2 Once) hints.Known) false answers.NoGroup holds_none addresses ≡ gives (codes "Content-Length: 0" ∷ closes ∷ []) (from_to 2 0 false) Close
-  pub known_to_a_follower : reply_by (asks_with (client 0 Follow) hints.Known) true answers.NoGroup holds_none addresses ≡ gives (codes "Transfer-Encoding: chunked" ∷ closes ∷ []) (from_to 0 0 true) Close
-  pub unknown : reply_by (asks_with (client 2 Once) hints.Plain) false answers.NoGroup holds_none addresses ≡ missing
-  pub here : reply_by (asks_with (client 2 Once) hints.Here) false answers.Ok (holds 5 false) addresses ≡ gives (codes "Content-Length: 3" ∷ closes ∷ []) (from_to 2 3 false) Close
-  pub not_here : reply_by (asks_with (client 2 Once) hints.Here) false answers.Ok holds_none addresses ≡ missing
-  pub sent : reply_by (asks_with (client 2 Once) hints.Plain) false (answers.Redirect 2) (holds 5 false) addresses
+  pub plain : shows (client 2 Once) hints.Plain false (answers.Serve 3) (holds 5 false) ≡ gives (codes "Content-Length: 3" ∷ closes ∷ []) (from_to 2 3 false) Close
+  pub told : shows (client 2 Once) (hints.Of 9) false (answers.Serve 3) (holds 5 false) ≡ gives (codes "Content-Length: 7" ∷ closes ∷ []) (from_to 2 7 false) Close
+  pub told_to_a_follower : shows (client 2 Follow) (hints.Of 9) false (answers.Serve 3) (holds 5 false) ≡ gives (codes "Content-Length: 7" ∷ []) (from_to 2 7 false) Keep
+  pub told_and_sealed : shows (client 2 Once) (hints.Of 9) false (answers.Serve 3) (holds 5 true) ≡ gives (codes "Content-Length: 3" ∷ closes ∷ []) (from_to 2 3 false) Close
+  pub told_and_not_held : shows (client 2 HeadAlone) (hints.Of 9) false answers.NoGroup holds_none ≡ gives (codes "Content-Length: 7" ∷ closes ∷ []) None Close
+  pub told_before : shows (client 12 Once) (hints.Of 9) false (answers.Serve 0) (holds 5 false) ≡ gives (codes "Content-Length: 0" ∷ closes ∷ []) (from_to 12 0 false) Close
+  pub known : shows (client 2 Once) hints.Known false answers.NoGroup holds_none ≡ gives (codes "Content-Length: 0" ∷ closes ∷ []) (from_to 2 0 false) Close
+  pub known_to_a_follower : shows (client 0 Follow) hints.Known true answers.NoGroup holds_none ≡ gives (codes "Transfer-Encoding: chunked" ∷ closes ∷ []) (from_to 0 0 true) Close
+  pub unknown : shows (client 2 Once) hints.Plain false answers.NoGroup holds_none ≡ missing
+  pub here : shows (client 2 Once) hints.Here false answers.Ok (holds 5 false) ≡ gives (codes "Content-Length: 3" ∷ closes ∷ []) (from_to 2 3 false) Close
+  pub not_here : shows (client 2 Once) hints.Here false answers.Ok holds_none ≡ missing
+  pub sent : shows (client 2 Once) hints.Plain false (answers.Redirect 2) (holds 5 false)
       ≡ record { text = lines (codes "HTTP/1.1 302 Found" ∷ codes "Location: http://h:2/a?start=2&known" ∷ codes "Content-Length: 0" ∷ closes ∷ []); content = None; connection = Close }
   pub sent_sealed : location_is hints.Plain (holds 5 true) 2 Once (codes "http://h:2/a?start=2&of=5")
   pub sent_sealed_here : location_is (hints.Of 9) (holds 5 true) 0 Follow (codes "http://h:2/a?of=5&follow")
   pub sent_told : location_is (hints.Of 9) (holds 5 false) 2 HeadAlone (codes "http://h:2/a?start=2&of=9")
   pub sent_known : location_is hints.Known holds_none 0 Once (codes "http://h:2/a?known")
   pub sent_following : location_is hints.Plain holds_none 7 Follow (codes "http://h:2/a?start=7&known&follow")
-  pub message : answered_with asks.Message answers.Ok (Some rejoin) (message_response (Some rejoin))
-  pub nothing_back : answered_with asks.Message answers.Ok None (message_response None)
-  pub published : answered_with (asks.Publish (codes "/a")) answers.TooLong (Some rejoin) (status_alone 413)
+  pub reported : response_for (asks_with (asks.Report reports.Status Once) hints.Plain) false answers.Ok None holds_none addresses None (codes "{}")
+      ≡ record { text = lines (codes "HTTP/1.1 200 OK" ∷ codes "Content-Type: application/json" ∷ codes "Content-Length: 2" ∷ closes ∷ []) ++ codes "{}"; content = None; connection = Close }
+  pub message : answered_with asks.Message answers.Ok (Some rejoin) (message_response None (Some rejoin))
+  pub nothing_back : answered_with asks.Message answers.Ok None (message_response None None)
+  pub published : answered_with (asks.Publish (codes "/a") None) answers.TooLong (Some rejoin) (status_alone 413)

@@ -1,14 +1,12 @@
 -- What the query of a GET or HEAD of a group tells besides start and area.
 use Rattle.std.specs.Prelude.{ℕ, Bool, true, false, if◌then◌else◌, Option, Some, None, Result, Ok, Err, List, codes}
-use Rattle.oc_base.specs.Steps.{◌>>=◌, with_fault}
-use Rattle.oc_base.specs.Words.{number_in}
 use Rattle.oc_base.specs.declared.limits.TheConstants.{MAX_START}
 use Rattle.oc_http.specs.Queries.{parts}
 use Rattle.oc_http.specs.declared.head.Head.{Head}
 use Rattle.oc_http.specs.declared.head.Method.{Method}
 use Rattle.oc_http.specs.declared.head.Method.TheVariants as methods
 use Rattle.oc_policy.specs.declared.rule.Rule.{Rule}
-use Rattle.oc_routes.specs.Queries.{first_value, has_part}
+use Rattle.oc_routes.specs.Queries.{first_value, has_part, number_told}
 use Rattle.oc_routes.specs.Routes.{asked}
 use Rattle.oc_routes.specs.declared.routes.Operation.{Operation}
 use Rattle.oc_routes.specs.declared.routes.Operation.TheVariants as asks
@@ -24,24 +22,21 @@ hint_of true known of = Here
 hint_of false known (Some length) = Of length
 hint_of false known None = if known then Known else Plain
 
--- the length that the first `of=` tells, where there is one
-abbrev pub told_length : Option (List ℕ) → Result (Option ℕ) Refused
-told_length None = Ok None
-told_length (Some value) = with_fault refusals.Query (number_in 0 MAX_START value) >>= (λ length. Ok (Some length))
-
--- what a query tells; an `of=` that is no number is refused, with `here` too
+-- what a query tells, with the length that its first `of=` tells; an `of=` that is no number is refused, with `here` too
 abbrev pub hinted : Bool → Bool → Result (Option ℕ) Refused → Result Hint Refused
 hinted here known (Ok of) = Ok (hint_of here known of)
 hinted here known (Err why) = Err why
 
 abbrev pub hint_in : List ℕ → Result Hint Refused
 hint_in query =
-    hinted (has_part (codes "here") (parts query)) (has_part (codes "known") (parts query)) (told_length (first_value (codes "of=") (parts query)))
+    hinted (has_part (codes "here") (parts query)) (has_part (codes "known") (parts query)) (number_told MAX_START (first_value (codes "of=") (parts query)))
 
--- a group is asked for: only such a query tells something, and what it tells is looked at before the access rules
+-- where a group is asked for, what its query tells is looked at before the access rules; that of a report is looked at as well, and tells nothing
 abbrev pub with_hint : Result Operation Refused → Result Hint Refused → Result Asked Refused
 with_hint (Ok (asks.Client group area start manner)) (Ok hint) = Ok (record { operation = asks.Client group area start manner; hint = hint })
 with_hint (Ok (asks.Client group area start manner)) (Err why) = Err why
+with_hint (Ok (asks.Report report manner)) (Ok hint) = Ok (record { operation = asks.Report report manner; hint = Plain })
+with_hint (Ok (asks.Report report manner)) (Err why) = Err why
 with_hint (Ok other) told = Ok (record { operation = other; hint = Plain })
 with_hint (Err (refusals.Denied rule)) (Ok hint) = Err (refusals.Denied rule)
 with_hint (Err (refusals.Denied rule)) (Err why) = Err why

@@ -3,7 +3,10 @@ pub mod Contents
 pub mod Examples
 pub mod Fronts
 pub mod Hints
+pub mod Macs
+pub mod Reports
 pub mod Shown
 pub mod Stillness
 pub mod Verdicts
 pub mod Waits
+pub mod Conditions

@@ -3,7 +3,7 @@ use Rattle.std.specs.Prelude.{ℕ, ◌-◌, Bool, true, false, ◌==◌, if◌th
 use Rattle.oc_model.specs.declared.answer.Answer.{Answer}
 use Rattle.oc_model.specs.declared.answer.Answer.TheVariants as answers
 use Rattle.oc_model.specs.declared.message.Message.{Message}
-use Rattle.oc_routes.specs.Responses.{address_of, client_response, message_response, redirection, response_to, whole as whole_reply}
+use Rattle.oc_routes.specs.Responses.{address_of, client_response, redirection, response_to, whole as whole_reply}
 use Rattle.oc_routes.specs.declared.routes.Operation.{Operation}
 use Rattle.oc_routes.specs.declared.routes.Operation.TheVariants as asks
 use Rattle.oc_routes.specs.declared.manner.Manner.{Manner}
@@ -78,20 +78,13 @@ reply_at None group start manner told s addresses last = client_response group s
 abbrev pub shown_reply : List ℕ → ℕ → Manner → List ℕ → Shown → List (List ℕ) → Bool → Response
 shown_reply group start manner told s addresses last = reply_at (address_in s.answer addresses) group start manner told s addresses last
 
-abbrev pub reply_with : Operation → Hint → Bool → Answer → Holding → List (List ℕ) → Response
-reply_with (asks.Client group area start manner) hint last answer h addresses =
+-- a client by what it tells, and all else by the table of routes
+abbrev pub reply_with : Operation → Hint → Bool → Answer → Option Message → Holding → List (List ℕ) → Option (List ℕ) → List ℕ → Response
+reply_with (asks.Client group area start manner) hint last answer back h addresses key report =
     shown_reply group start manner (told_text hint h) (shown hint answer h start) addresses last
-reply_with other hint last answer h addresses = response_to other answer None h.sealed addresses last
+reply_with other hint last answer back h addresses key report = response_to other answer back h.sealed addresses key last report
 
--- What a request is answered for this answer of its step, by what the node holds of the group.
-abbrev pub reply_by : Asked → Bool → Answer → Holding → List (List ℕ) → Response
-reply_by asked last answer h addresses = reply_with asked.operation asked.hint last answer h addresses
-
--- to a message the one that goes back, and else this reply
-abbrev pub back_or : Operation → Option Message → Response → Response
-back_or asks.Message back reply = message_response back
-back_or other back reply = reply
-
--- What any request is answered for this answer of its step, with the message that goes back to the sender of a message.
-abbrev pub response_for : Asked → Bool → Answer → Option Message → Holding → List (List ℕ) → Response
-response_for asked last answer back h addresses = back_or asked.operation back (reply_by asked last answer h addresses)
+-- What a request is answered for this answer of its step, with this message that goes back to the sender of a message, by
+-- what the node holds of the group, the addresses and the key of the network, and what the node tells of itself.
+abbrev pub response_for : Asked → Bool → Answer → Option Message → Holding → List (List ℕ) → Option (List ℕ) → List ℕ → Response
+response_for asked last answer back h addresses key report = reply_with asked.operation asked.hint last answer back h addresses key report

@@ -17,6 +17,7 @@ use Rattle.oc_routes.specs.declared.fault.RouteFault.TheVariants as faults
 use Rattle.oc_routes.specs.declared.refused.Refused.{Refused}
 use Rattle.oc_routes.specs.declared.refused.Refused.TheVariants as refusals
 use Rattle.oc_reply.specs.Hints.{asked_with_hint}
+use Rattle.oc_reply.specs.Macs.{is_forged}
 use Rattle.oc_reply.specs.declared.hint.Asked.{Asked}
 use Rattle.oc_reply.specs.declared.hint.Hint.{Hint}
 use Rattle.oc_reply.specs.declared.hint.Hint.TheVariants.{Here}
@@ -24,14 +25,15 @@ use Rattle.oc_reply.specs.declared.verdict.Request.{Request}
 use Rattle.oc_reply.specs.declared.verdict.Verdict.{Verdict}
 use Rattle.oc_reply.specs.declared.verdict.Verdict.TheVariants.{Wait, Leave, Permit, Refuse, Ask}
 
--- by what requests are read: the node's id, among how many, and its access rules
+-- by what requests are read: the node's id, among how many, its access rules, and the key of its network, where it has one
 pub record NodeTerms : Type 0 where
   pub me : ℕ
   pub nodes : ℕ
   pub rules : List Rule
+  pub key : Option (List ℕ)
 
-abbrev pub terms_of : ℕ → ℕ → List Rule → NodeTerms
-terms_of me nodes rules = record { me = me; nodes = nodes; rules = rules }
+abbrev pub terms_of : ℕ → ℕ → List Rule → Option (List ℕ) → NodeTerms
+terms_of me nodes rules key = record { me = me; nodes = nodes; rules = rules; key = key }
 
 -- the request of this number on the connection c
 abbrev pub arrival : ℕ → ℕ → Bool → Coming → Arrival
@@ -63,15 +65,17 @@ abbrev pub answered : Request → Result (Option Input) Refused → Verdict
 answered request (Ok input) = Ask (record request { input = input_for request.hint input })
 answered request (Err why) = Refuse why
 
-abbrev pub whole : NodeTerms → Request → List ℕ → Verdict
-whole t request body = answered request (input_asked t.nodes t.me request.operation body)
+abbrev pub whole : NodeTerms → Head → Request → List ℕ → Verdict
+whole t head request body =
+    if is_forged t.key request.operation head.mac body then Refuse refusals.Mac
+    else answered request (input_asked t.nodes t.me request.operation body)
 
 -- a head that asks this, with what came behind it of the bytes that came
 abbrev pub with_body : NodeTerms → Arrival → ℕ → Head → List ℕ → Asked → Verdict
 with_body t a came head rest said =
     if awaits_continue head && not a.permitted then Permit
     else if nat_lt (length rest) head.length then unfinished a.coming false
-    else whole t (record {
+    else whole t head (record {
       count = came - length rest + head.length;
       operation = said.operation;
       hint = said.hint;

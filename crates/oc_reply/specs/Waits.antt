@@ -1,5 +1,5 @@
 -- What waits at a node, and until when: a content whose end is told, and a client that follows a group and has all of it.
-use Rattle.std.specs.Prelude.{◌≡◌, ℕ, ◌+◌, ◌-◌, Bool, true, false, not, ◌&&◌, ◌||◌, ◌==◌, nat_lt, nat_le, if◌then◌else◌, Option, Some, None, List, find}
+use Rattle.std.specs.Prelude.{ℕ, ◌-◌, Bool, true, false, not, ◌&&◌, ◌||◌, ◌==◌, nat_lt, nat_le, if◌then◌else◌, Option, Some, None, List, find}
 use Rattle.std.specs.Str.{bytes_eq}
 use Rattle.oc_base.specs.declared.shelf.Shelf.{Shelf}
 use Rattle.oc_model.specs.declared.answer.Answer.{Answer}
@@ -9,7 +9,7 @@ use Rattle.oc_routes.specs.declared.routes.Operation.TheVariants as asks
 use Rattle.oc_routes.specs.declared.manner.Manner.TheVariants.{Follow}
 use Rattle.oc_reply.specs.declared.content.UnderWay.{UnderWay}
 use Rattle.oc_reply.specs.declared.hint.Hint.{Hint}
-use Rattle.oc_reply.specs.declared.hint.Hint.TheVariants.{Plain, Here, Of, Known}
+use Rattle.oc_reply.specs.declared.hint.Hint.TheVariants.{Here, Of, Known}
 use Rattle.oc_reply.specs.declared.holding.Holding.{Holding}
 use Rattle.oc_reply.specs.declared.waiting.Follower.{Follower}
 use Rattle.oc_reply.specs.declared.waiting.Prospect.{Prospect}

@@ -1,18 +1,17 @@
 //! What the query of a GET or HEAD of a group tells besides start and area.
 
-ghost use Rattle.std.specs.Prelude.{◌≡◌, ◌≤◌, length, IfOk, option_map};
+ghost use Rattle.std.specs.Prelude.{◌≡◌, ◌≤◌, length, IfOk};
 ghost use Rattle.oc_base.specs.declared.limits.TheConstants.{MAX_START as START_LIMIT};
 ghost use Rattle.oc_policy.specs.declared.deciding.TheConstants.{MAX_RULES as MOST_RULES};
-ghost use Rattle.oc_reply.specs.Hints.{asked_with_hint, hint_for, hint_in, hint_of, told_length};
+ghost use Rattle.oc_reply.specs.Hints.{asked_with_hint, hint_for, hint_in, hint_of};
 ghost use Rattle.oc_routes.specs.Lawful.{IsAsked};
 ghost use Rattle.oc_http.specs.Queries.{parts};
 ghost use Rattle.oc_routes.specs.Queries.{first_value, has_part};
 
 use oc_base::MAX_START;
-use oc_base::words::number;
 use oc_http::{Head, Method};
 use oc_policy::Rule;
-use oc_routes::{Operation, Refused, first_value, has_part, route};
+use oc_routes::{Operation, Refused, first_value, has_part, number_told, route};
 
 /// What a client that asks for a group tells of it.
 #[derive(Clone, Copy, Debug, PartialEq, Eq)]
@@ -47,16 +46,27 @@ pub fn route_with_hint(head: &Head, rules: &[Rule]) -> Result<Asked, Refused>
                 operation,
                 hint: hint_for(head.method, head.query.items())?,
             }),
-            _ => Ok(Asked {
-                operation,
-                hint: Hint::Plain,
-            }),
+            Operation::Report { .. } => {
+                let _hint = hint_for(head.method, head.query.items())?;
+                Ok(plain(operation))
+            }
+            _ => Ok(plain(operation)),
         },
         Err(Refused::Denied(rule)) => {
             let _hint = hint_for(head.method, head.query.items())?;
             Err(Refused::Denied(rule))
         }
         Err(why) => Err(why),
+    }
+}
+
+/// This is asked, and nothing is told.
+fn plain(operation: Operation) -> Asked
+    ensures { result ≡ record { operation = operation; hint = Hint.Plain } }
+{
+    Asked {
+        operation,
+        hint: Hint::Plain,
     }
 }
 
@@ -74,21 +84,8 @@ fn hint_for(method: Method, query: &[u8]) -> Result<Hint, Refused>
 fn hint_in(query: &[u8]) -> Result<Hint, Refused>
     ensures { result ≡ hint_in query.now }
 {
-    let length = told_length(first_value(b"of=", query))?;
+    let length = number_told(MAX_START, first_value(b"of=", query))?;
     Ok(hint_of(has_part("here", query), has_part("known", query), length))
-}
-
-/// The length that a value tells, where there is one.
-fn told_length(value: Option<&[u8]>) -> Result<Option<u64>, Refused>
-    ensures { result ≡ told_length (option_map (λ v. v.now) value.entry) }
-{
-    let Some(value) = value else {
-        return Ok(None);
-    };
-    match number(value, 0, MAX_START) {
-        Ok(number) => Ok(Some(number)),
-        Err(_) => Err(Refused::Query),
-    }
 }
 
 /// What these parts tell together.

@@ -1,12 +1,13 @@
 //! What is to be done with the bytes that came on a connection so far.
 
-ghost use Rattle.std.specs.Prelude.{◌≡◌, ◌≤◌, ◌++◌, length, IfOk};
+ghost use Rattle.std.specs.Prelude.{◌≡◌, ◌≤◌, ◌++◌, length, option_map, IfOk};
 ghost use Rattle.oc_base.specs.declared.limits.TheConstants.{MAX_BODY_BYTES as MOST_BODY};
 ghost use Rattle.oc_policy.specs.declared.deciding.TheConstants.{MAX_RULES as MOST_RULES};
 ghost use Rattle.oc_reply.specs.Asks.{IsLawfulVerdict};
 ghost use Rattle.oc_reply.specs.Verdicts.{IsVerdict, asked_behind, fault_met, input_for, terms_of, unfinished};
 
 use crate::hint::{Hint, route_with_hint};
+use crate::macs::is_forged;
 use crate::rest::Rest;
 use crate::terms::Terms;
 use crate::verdict::{Request, Verdict};
@@ -27,7 +28,7 @@ pub fn judge(
     bytes: &[u8],
 ) -> Result<Verdict, Memory>
     requires { length terms.now.rules.now ≤ MOST_RULES }
-    ensures verdict { IfOk result (IsVerdict (terms_of terms.now.me terms.now.nodes terms.now.rules.now) arrival bytes.now) }
+    ensures verdict { IfOk result (IsVerdict (terms_of terms.now.me terms.now.nodes terms.now.rules.now (option_map (λ k. k.now) terms.now.key)) arrival bytes.now) }
     ensures lawful { IfOk result (IsLawfulVerdict terms.now.nodes terms.now.me) }
 {
     let mut source = Rest::of(bytes);
@@ -70,7 +71,7 @@ fn behind_head(
     requires rules { length terms.now.rules.now ≤ MOST_RULES }
     requires body { head.now.length ≤ MOST_BODY }
     ensures verdict { IfOk result (λ verdict. verdict
-        ≡ asked_behind (terms_of terms.now.me terms.now.nodes terms.now.rules.now) arrival came head.now rest.now) }
+        ≡ asked_behind (terms_of terms.now.me terms.now.nodes terms.now.rules.now (option_map (λ k. k.now) terms.now.key)) arrival came head.now rest.now) }
     ensures lawful { IfOk result (IsLawfulVerdict terms.now.nodes terms.now.me) }
 {
     let said = match route_with_hint(head, terms.rules) {
@@ -83,7 +84,11 @@ fn behind_head(
     if (rest.len() as u64) < head.length {
         return Ok(unfinished(arrival.coming, false));
     }
-    let body = copied(alloc, &rest[..head.length as usize])?;
+    let body = &rest[..head.length as usize];
+    if is_forged(terms.key, &said.operation, head.mac.as_ref(), body) {
+        return Ok(Verdict::Refuse(Refused::Mac));
+    }
+    let body = copied(alloc, body)?;
     match input_of(alloc, &said.operation, body, terms.me, terms.nodes) {
         Ok(input) => Ok(Verdict::Ask(Request {
             count: came.saturating_sub(rest.len() as u64) + head.length,

@@ -1,14 +1,16 @@
 //! Laws of the definitions.
 
-ghost use Rattle.std.specs.Prelude.{◌≡◌, ◌≢◌, ◌↔◌, ℕ, ◌+◌, ◌-◌, ◌<◌, ◌≤◌, Bool, false, true, List, ◌++◌, Some, length};
-ghost use Rattle.oc_base.specs.Groups.{bytes_of};
+ghost use Rattle.std.specs.Prelude.{◌≡◌, ◌≢◌, ◌↔◌, ℕ, ◌+◌, ◌-◌, ◌<◌, ◌≤◌, Bool, false, true, List, ◌++◌, None, Some, length};
+ghost use Rattle.oc_base.specs.Groups.{bytes_of, shelf};
 ghost use Rattle.oc_base.specs.declared.group.Group.{Group};
 ghost use Rattle.oc_base.specs.declared.shelf.Shelf.{Shelf};
 ghost use Rattle.oc_events.specs.declared.event.Arrival.{Arrival};
 ghost use Rattle.oc_events.specs.declared.event.Coming.{Coming};
 ghost use Rattle.oc_events.specs.declared.event.Coming.TheVariants.{Open};
+ghost use Rattle.oc_reply.specs.Conditions.{unmet_at};
 ghost use Rattle.oc_reply.specs.Contents.{IsThere, begun, behind, coded, owed, owed_of, part_of, piece_of, piece_text};
-ghost use Rattle.oc_reply.specs.Examples.{AreHinted, AreJudged, ArePieces, AreShown, AreWaiting};
+ghost use Rattle.oc_reply.specs.Examples.{AreConditions, AreHinted, AreJudged, ArePieces, AreShown, AreWaiting};
+ghost use Rattle.oc_reply.specs.Macs.{HaveMac};
 ghost use Rattle.oc_reply.specs.Stillness.{HasNothingNew, IsEarly};
 ghost use Rattle.oc_reply.specs.Verdicts.{IsVerdict, NodeTerms, arrival};
 ghost use Rattle.oc_reply.specs.Shown.{here_answer};
@@ -17,11 +19,14 @@ ghost use Rattle.oc_reply.specs.declared.content.UnderWay.{UnderWay};
 ghost use Rattle.oc_reply.specs.declared.hint.Hint.{Hint};
 ghost use Rattle.oc_reply.specs.declared.holding.Holding.{Holding};
 ghost use Rattle.oc_reply.specs.declared.verdict.Verdict.{Verdict};
-ghost use Rattle.oc_reply.specs.declared.verdict.Verdict.TheVariants.{Wait};
+ghost use Rattle.oc_reply.specs.declared.verdict.Request.{Request};
+ghost use Rattle.oc_reply.specs.declared.verdict.Verdict.TheVariants.{Ask, Refuse, Wait};
 ghost use Rattle.oc_reply.specs.declared.waiting.Follower.{Follower};
 ghost use Rattle.oc_reply.specs.declared.waiting.Prospect.TheVariants.{Gives, Waits};
 ghost use Rattle.oc_reply.specs.declared.waiting.TheConstants.{IDLE_MILLIS};
+ghost use Rattle.oc_routes.specs.declared.refused.Refused.TheVariants.{At, Message as NoMessage};
 ghost use Rattle.oc_routes.specs.declared.response.GroupRange.{GroupRange};
+ghost use Rattle.oc_routes.specs.declared.routes.Operation.TheVariants.{Message as MessageAsked};
 
 /// The same bytes of a request get the same verdict, however they are cut: there is one verdict, and what is
 /// said of them while more may come, and is not to wait, is said with any bytes behind them, however these end.
@@ -29,6 +34,22 @@ pub fn a_request_has_one_verdict()
     ensures one { (t : NodeTerms) (a : Arrival) (bytes : List ℕ) (v w : Verdict) → IsVerdict t a bytes v → IsVerdict t a bytes w → v ≡ w }
     ensures cut { (t : NodeTerms) (c number : ℕ) (permitted : Bool) (coming : Coming) (bytes more : List ℕ) (v : Verdict)
         → IsVerdict t (arrival c number permitted Open) bytes v → v ≢ Wait → IsVerdict t (arrival c number permitted coming) (bytes ++ more) v }
+{}
+
+/// A condition that is met says the length of the group, where a group that is not there has no bytes; and the refusal of
+/// one that is not met says this length.
+pub fn a_condition_says_the_length()
+    ensures met { (group : List ℕ) (at : ℕ) (groups : List Group) → unmet_at 1 group (Some at) (shelf groups) ≡ None → length (bytes_of group groups) ≡ at }
+    ensures unmet { (group : List ℕ) (at other : ℕ) (groups : List Group) → unmet_at 1 group (Some at) (shelf groups) ≡ Some (At other)
+        → (length (bytes_of group groups) ≡ other) × (other ≢ at) }
+{}
+
+/// In a network with a key a body is read as a message only where its MAC under the key stands in its head: one that is
+/// taken, and one that is refused since it is no message.
+pub fn a_message_has_its_mac()
+    ensures taken { (t : NodeTerms) (a : Arrival) (key bytes : List ℕ) (request : Request) → t.key ≡ Some key → request.operation ≡ MessageAsked
+        → IsVerdict t a bytes (Ask request) → HaveMac key bytes }
+    ensures read { (t : NodeTerms) (a : Arrival) (key bytes : List ℕ) → t.key ≡ Some key → IsVerdict t a bytes (Refuse NoMessage) → HaveMac key bytes }
 {}
 
 /// The pieces of a content are its text: what is owed before the first is the content as it is sent whole, what is
@@ -71,6 +92,7 @@ pub fn who_waits_has_nothing_new()
 pub fn examples_compute()
     ensures judged { AreJudged }
     ensures hinted { AreHinted }
+    ensures conditions { AreConditions }
     ensures pieces { ArePieces }
     ensures waiting { AreWaiting }
     ensures shown { AreShown }

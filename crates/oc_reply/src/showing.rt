@@ -3,7 +3,7 @@
 ghost use Rattle.std.specs.Prelude.{◌≡◌, ◌++◌, [], IfOk, None, OnOk, map, string_bytes, option_map};
 ghost use Rattle.std.specs.Option.{ForSome};
 ghost use Rattle.oc_base.specs.Names.{IsGroupName};
-ghost use Rattle.oc_reply.specs.Shown.{address_in, here_answer, known_shown, location_of, of_shown, follow_text, reply_by, shown, start_text, response_for, told_text};
+ghost use Rattle.oc_reply.specs.Shown.{address_in, here_answer, known_shown, location_of, of_shown, follow_text, shown, start_text, response_for, told_text};
 ghost use Rattle.oc_routes.specs.Lawful.{IsAsked};
 ghost use Rattle.oc_routes.specs.Responses.{redirection, whole};
 ghost use Rattle.oc_wire.specs.Spelling.{HasSpelling};
@@ -14,7 +14,7 @@ use crate::told::Told;
 use oc_base::{Bytes, GroupName, Memory, Text, put, put_with_number};
 use oc_http::{Persistence, Reply, write_response};
 use oc_model::Answer;
-use oc_routes::{Answered, Manner, Operation, Response, address_of, respond};
+use oc_routes::{Answered, Manner, Network, Operation, Response, address_of, respond};
 use std::alloc::Global;
 
 /// An answer, and whether its group is sealed, as a client is shown them.
@@ -24,53 +24,27 @@ pub struct Shown {
     pub sealed: bool,
 }
 
-/// What a request is answered for the answer of its step: a message by the one that goes back, and all else by
-/// [`reply_by`]. `last` says that it is the last request of its connection whatever it asks, and `addresses` are those of the
-/// nodes by their ids.
+/// What a request is answered for the answer of its step. `last` says that it is the last request of its connection
+/// whatever it asks, and `report` is what [`report_of`](crate::report_of) has for it.
 pub fn respond_to(
     alloc: Global,
     asked: Asked,
     last: bool,
     told: Told<'_>,
-    addresses: &[String],
+    network: &Network<'_>,
+    report: &[u8],
 ) -> Result<Response, Memory>
     requires asks { IsAsked asked.operation }
     requires back { ForSome (option_map (λ m. m.now) told.back) (λ m. HasSpelling m.body) }
     ensures { IfOk result (λ response. response
-        ≡ response_for asked last told.entry.answer (option_map (λ m. m.now) told.entry.back) told.entry.holding (map string_bytes addresses.now)) }
+        ≡ response_for asked last told.entry.answer (option_map (λ m. m.now) told.entry.back) told.entry.holding
+        (map string_bytes network.now.addresses.now) (option_map (λ k. k.now) network.now.key) report.now) }
 {
     let Told {
         answer,
         back,
         holding,
     } = told;
-    match asked.operation {
-        Operation::Message => {
-            let answered = Answered {
-                answer,
-                sealed: holding.sealed,
-                last,
-            };
-            respond(alloc, &asked.operation, answered, back, addresses)
-        }
-        _ => reply_by(alloc, asked, last, answer, holding, addresses),
-    }
-}
-
-/// What a request is answered for the answer of its step, by what the node holds of the group, where no message goes
-/// back.
-pub fn reply_by(
-    alloc: Global,
-    asked: Asked,
-    last: bool,
-    answer: Answer,
-    holding: Holding,
-    addresses: &[String],
-) -> Result<Response, Memory>
-    requires { IsAsked asked.operation }
-    ensures { IfOk result (λ response. response
-        ≡ reply_by asked last answer holding (map string_bytes addresses.now)) }
-{
     let Operation::Client {
         group,
         start,
@@ -82,20 +56,22 @@ pub fn reply_by(
             answer,
             sealed: holding.sealed,
             last,
+            report,
         };
-        return respond(alloc, &asked.operation, answered, None, addresses);
+        return respond(alloc, &asked.operation, answered, back, network);
     };
     let shown = as_shown(asked.hint, answer, holding, *start);
-    let Some(address) = address_in(shown.answer, addresses) else {
+    let Some(address) = address_in(shown.answer, network.addresses) else {
         let answered = Answered {
             answer: shown.answer,
             sealed: shown.sealed,
             last,
+            report,
         };
-        return respond(alloc, &asked.operation, answered, None, addresses);
+        return respond(alloc, &asked.operation, answered, back, network);
     };
-    let told = told_text(alloc, asked.hint, holding)?;
-    let location = location_of(alloc, address, group, *start, &told, *manner)?;
+    let text = told_text(alloc, asked.hint, holding)?;
+    let location = location_of(alloc, address, group, *start, &text, *manner)?;
     redirected(alloc, location)
 }
 
@@ -228,9 +204,11 @@ fn redirected(alloc: Global, location: Vec<u8>) -> Result<Response, Memory>
     let reply = Reply {
         status: 302,
         location: Some(Text::of(location)),
-        content_type: false,
+        content_type: None,
         body: Bytes::of(Vec::new(alloc)),
         rule: None,
+        group_length: None,
+        mac: None,
     };
     Ok(Response {
         text: Text::of(write_response(alloc, &reply)?),

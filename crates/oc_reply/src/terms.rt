@@ -1,4 +1,5 @@
 use oc_base::NodeId;
+use oc_mac::Key;
 use oc_policy::Rule;
 
 /// By what a node reads requests.
@@ -10,4 +11,6 @@ pub struct Terms<'a> {
     pub nodes: u32,
     /// Its access rules.
     pub rules: &'a [Rule],
+    /// The key under which messages have a MAC, where the network has one.
+    pub key: Option<&'a Key>,
 }

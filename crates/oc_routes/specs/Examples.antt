@@ -1,9 +1,10 @@
 -- Worked examples: what requests ask, and what they are answered.
-use Rattle.std.specs.Prelude.{◌≡◌, ℕ, true, false, Bool, Some, None, Result, Ok, Err, List, [], ◌∷◌, ◌++◌, codes}
+use Rattle.std.specs.Prelude.{◌≡◌, ℕ, true, false, Bool, Option, Some, None, Result, Ok, Err, List, [], ◌∷◌, ◌++◌, codes}
 use Rattle.oc_http.specs.declared.framing.Persistence.TheVariants.{Close, Keep}
 use Rattle.oc_http.specs.declared.head.Head.{Head}
 use Rattle.oc_http.specs.declared.head.Method.{Method}
 use Rattle.oc_http.specs.declared.head.Method.TheVariants as methods
+use Rattle.oc_mac.specs.Keys.{mac_digits}
 use Rattle.oc_model.specs.declared.answer.Answer.{Answer}
 use Rattle.oc_model.specs.declared.answer.Answer.TheVariants as answers
 use Rattle.oc_model.specs.declared.input.Input.TheVariants as inputs
@@ -11,6 +12,7 @@ use Rattle.oc_model.specs.declared.message.Body.TheVariants as bodies
 use Rattle.oc_model.specs.declared.message.Message.{Message}
 use Rattle.oc_policy.specs.declared.rule.Action.TheVariants.{Get, Post}
 use Rattle.oc_policy.specs.declared.rule.Rule.{Rule}
+use Rattle.oc_wire.specs.Spelling.{spelling}
 use Rattle.oc_routes.specs.Connections.{is_last, awaits_continue}
 use Rattle.oc_routes.specs.Inputs.{input_line}
 use Rattle.oc_routes.specs.Refusals.{refusal_line, refusal_text}
@@ -19,14 +21,17 @@ use Rattle.oc_routes.specs.Responses.{response_to}
 use Rattle.oc_routes.specs.Routes.{asked, input_asked}
 use Rattle.oc_routes.specs.declared.routes.Operation.{Operation}
 use Rattle.oc_routes.specs.declared.routes.Operation.TheVariants as operations
+use Rattle.oc_routes.specs.declared.manner.Manner.{Manner}
 use Rattle.oc_routes.specs.declared.manner.Manner.TheVariants.{HeadAlone, Once, Follow}
 use Rattle.oc_routes.specs.declared.refused.Refused.{Refused}
 use Rattle.oc_routes.specs.declared.refused.Refused.TheVariants as refusals
+use Rattle.oc_routes.specs.declared.report.Report.{Report}
+use Rattle.oc_routes.specs.declared.report.Report.TheVariants as reports
 use Rattle.oc_routes.specs.declared.response.Response.{Response}
 
 -- the head of a request of version 1.1 with no body
 abbrev head : Method → List ℕ → List ℕ → Head
-head method path query = record { method = method; path = path; query = query; length = 0; expects = false; minor = 1; closes = false }
+head method path query = record { method = method; path = path; query = query; length = 0; expects = false; minor = 1; closes = false; authorization = None; mac = None }
 
 -- what a request without access rules asks
 abbrev asks_for : Method → List ℕ → List ℕ → Operation → Type 0
@@ -37,12 +42,22 @@ refuses method path query refused = asked (head method path query) [] ≡ Err re
 
 -- three rules: nobody in area 4 reads the news, everybody else does everything, and the last rule decides nothing
 abbrev rules : List Rule
-rules = record { allow = false; action = Some Get; prefix = codes "/news"; area = Some 4 }
-    ∷ record { allow = true; action = None; prefix = codes "/"; area = None }
-    ∷ record { allow = false; action = Some Post; prefix = codes "/news/a"; area = None } ∷ []
+rules = record { allow = false; action = Some Get; prefix = codes "/news"; area = Some 4; token = None }
+    ∷ record { allow = true; action = None; prefix = codes "/"; area = None; token = None }
+    ∷ record { allow = false; action = Some Post; prefix = codes "/news/a"; area = None; token = None } ∷ []
 
 abbrev under_rules : Method → List ℕ → List ℕ → Result Operation Refused → Type 0
 under_rules method path query wanted = asked (head method path query) rules ≡ wanted
+
+-- one rule: nobody reads or posts
+abbrev closed : List Rule
+closed = record { allow = false; action = None; prefix = codes "/"; area = None; token = None } ∷ []
+
+-- what is asked where all is allowed to who shows a token, and to nobody else
+abbrev under_token : Option (List ℕ) → Method → List ℕ → Result Operation Refused
+under_token shown method path =
+    asked (record (head method path []) { authorization = shown })
+    (record { allow = true; action = None; prefix = codes "/"; area = None; token = Some (codes "secret") } ∷ closed)
 
 pub record AreRouted : Type 0 where
   pub client : asks_for methods.Get (codes "/news/a") (codes "start=2") (operations.Client (codes "/news/a") 0 2 Once)
@@ -51,11 +66,32 @@ pub record AreRouted : Type 0 where
   pub version_1_0_follows_nothing : asked (record (head methods.Get (codes "/a") (codes "follow")) { minor = 0 }) [] ≡ Ok (operations.Client (codes "/a") 0 0 Once)
   pub nearly_follow : asks_for methods.Get (codes "/a") (codes "follow=1&Follow") (operations.Client (codes "/a") 0 0 Once)
   pub first_start : asks_for methods.Get (codes "/a") (codes "x&start=1&start=y&area=255") (operations.Client (codes "/a") 255 1 Once)
-  pub publish : asks_for methods.Post (codes "/a") (codes "follow") (operations.Publish (codes "/a"))
-  pub seal : asks_for methods.Post (codes "/a") (codes "x=1&seal") (operations.Seal (codes "/a"))
+  pub publish : asks_for methods.Post (codes "/a") (codes "follow") (operations.Publish (codes "/a") None)
+  pub seal : asks_for methods.Post (codes "/a") (codes "x=1&seal") (operations.Seal (codes "/a") None)
   pub seal_of_a_get : asks_for methods.Get (codes "/a") (codes "seal") (operations.Client (codes "/a") 0 0 Once)
+  pub condition : asks_for methods.Post (codes "/a") (codes "x&at=5&at=y") (operations.Publish (codes "/a") (Some 5))
+  pub condition_of_a_seal : asks_for methods.Post (codes "/a") (codes "at=0&seal") (operations.Seal (codes "/a") (Some 0))
+  pub greatest_condition : asks_for methods.Post (codes "/a") (codes "at=1099511627776") (operations.Publish (codes "/a") (Some 1099511627776))
+  pub condition_too_great : refuses methods.Post (codes "/a") (codes "at=1099511627777") refusals.Query
+  pub no_condition : refuses methods.Post (codes "/a") (codes "at=&at=5") refusals.Query
+  pub condition_of_a_get : asks_for methods.Get (codes "/a") (codes "at=x") (operations.Client (codes "/a") 0 0 Once)
+  pub condition_of_a_message : asks_for methods.Post (codes "/!overcast") (codes "at=x") operations.Message
+  pub condition_before_rules : asked (head methods.Post (codes "/a") (codes "at=x")) closed ≡ Err refusals.Query
   pub message : asks_for methods.Post (codes "/!overcast") [] operations.Message
   pub probe : asks_for methods.Get (codes "/!probe") (codes "follow") (operations.Probe Follow)
+  pub status : asks_for methods.Get (codes "/!status") (codes "x&area=4") (operations.Report reports.Status Once)
+  pub metrics : asks_for methods.Head (codes "/!metrics") (codes "follow") (operations.Report reports.Metrics HeadAlone)
+  pub page : asks_for methods.Get (codes "/!") (codes "follow") (operations.Report reports.Page Follow)
+  pub status_is_not_posted : refuses methods.Post (codes "/!status") [] refusals.Path
+  pub no_report : refuses methods.Get (codes "/!status/") [] refusals.Path
+  pub query_of_a_report : refuses methods.Get (codes "/!metrics") (codes "start=x") refusals.Query
+  pub report_denied : asked (head methods.Head (codes "/!status") []) closed ≡ Err (refusals.Denied 1)
+  pub report_of_an_area : under_rules methods.Get (codes "/!") (codes "area=4") (Ok (operations.Report reports.Page Once))
+  pub token : under_token (Some (codes "Bearer secret")) methods.Get (codes "/a") ≡ Ok (operations.Client (codes "/a") 0 0 Once)
+  pub token_of_a_report : under_token (Some (codes "Bearer secret")) methods.Get (codes "/!status") ≡ Ok (operations.Report reports.Status Once)
+  pub no_token : under_token None methods.Get (codes "/!status") ≡ Err (refusals.Denied 2)
+  pub another_token : under_token (Some (codes "Bearer secrets")) methods.Post (codes "/a") ≡ Err (refusals.Denied 2)
+  pub another_scheme : under_token (Some (codes "bearer secret")) methods.Get (codes "/a") ≡ Err (refusals.Denied 2)
   pub put : refuses methods.Other (codes "/%") (codes "start=x") refusals.Method
   pub percent : refuses methods.Get (codes "/a%20") (codes "start=x") refusals.Path
   pub message_is_not_read : refuses methods.Get (codes "/!overcast") [] refusals.Path
@@ -70,7 +106,7 @@ pub record AreRouted : Type 0 where
   pub query_before_rules : under_rules methods.Get (codes "/news") (codes "area=4&start=x") (Err refusals.Query)
   pub newsroom : under_rules methods.Get (codes "/newsroom") (codes "area=4") (Ok (operations.Client (codes "/newsroom") 4 0 Once))
   pub news : under_rules methods.Get (codes "/news/a") [] (Ok (operations.Client (codes "/news/a") 0 0 Once))
-  pub post_news : under_rules methods.Post (codes "/news/a") [] (Ok (operations.Publish (codes "/news/a")))
+  pub post_news : under_rules methods.Post (codes "/news/a") [] (Ok (operations.Publish (codes "/news/a") None))
 
 -- to node 1 from node 2: a rejoin of ask 7
 abbrev rejoin : Message
@@ -95,17 +131,27 @@ octets = codes "Content-Type: application/octet-stream"
 
 -- what a client of group `/a` is answered
 abbrev answered : Operation → Answer → Bool → Bool → Response → Type 0
-answered wanted answer sealed last response = response_to wanted answer None sealed (codes "h:1" ∷ codes "h:2" ∷ []) last ≡ response
+answered wanted answer sealed last response = response_to wanted answer None sealed (codes "h:1" ∷ codes "h:2" ∷ []) None last [] ≡ response
+
+-- what one who asks what the node tells of itself is answered
+abbrev told : Report → Manner → Response → Type 0
+told report manner response = response_to (operations.Report report manner) answers.Ok None false [] None false (codes "it") ≡ response
 
 pub record AreAnswered : Type 0 where
   pub message : input_asked 3 1 operations.Message rejoin_bytes ≡ Ok (Some (inputs.Delivered rejoin))
   pub message_to_another : input_asked 3 2 operations.Message rejoin_bytes ≡ Err refusals.Message
   pub no_message : input_asked 3 1 operations.Message (0 ∷ 0 ∷ 0 ∷ []) ≡ Err refusals.Message
-  pub seal_with_a_body : input_asked 3 1 (operations.Seal (codes "/a")) (0 ∷ []) ≡ Err refusals.Body
+  pub seal_with_a_body : input_asked 3 1 (operations.Seal (codes "/a") None) (0 ∷ []) ≡ Err refusals.Body
   pub recv_line : input_line 1 (inputs.Delivered rejoin) ≡ codes "recv 1 0000000200000001080000000000000007\n"
   pub publish_line : input_line 1 (inputs.Publish (codes "/a") []) ≡ codes "publish 1 /a -\n"
   pub client_line : input_line 1 (inputs.Client 4 2 (codes "/a")) ≡ codes "client 1 4 2 /a\n"
   pub denied_line : refusal_line (refusals.Denied 12) ≡ codes "! denied 12\n"
+  pub at_line : refusal_line (refusals.At 1099511627776) ≡ codes "! at 1099511627776\n"
+  pub mac_line : refusal_line refusals.Mac ≡ codes "! mac\n"
+  pub at_reply : refusal_text (refusals.At 7)
+      ≡ Some (lines (codes "HTTP/1.1 409 Conflict" ∷ codes "Overcast-Length: 7" ∷ codes "Content-Length: 0" ∷ closes ∷ []))
+  pub mac_reply : refusal_text refusals.Mac
+      ≡ Some (lines (codes "HTTP/1.1 403 Forbidden" ∷ codes "Content-Length: 0" ∷ closes ∷ []))
   pub denied_reply : refusal_text (refusals.Denied 1)
       ≡ Some (lines (codes "HTTP/1.1 403 Forbidden" ∷ codes "Overcast-Rule: 1" ∷ codes "Content-Length: 0" ∷ closes ∷ []))
   pub method_reply : refusal_text refusals.Method
@@ -131,6 +177,16 @@ pub record AreAnswered : Type 0 where
       (record { text = lines (codes "HTTP/1.1 404 Not Found" ∷ codes "Content-Length: 0" ∷ closes ∷ []); content = None; connection = Close })
   pub nothing_back : answered operations.Message answers.Ok false false
       (record { text = lines (codes "HTTP/1.1 204 No Content" ∷ closes ∷ []); content = None; connection = Close })
+  pub message_with_a_mac : response_to operations.Message answers.Ok (Some rejoin) false [] (Some (codes "key")) false []
+      ≡ record { text = lines (codes "HTTP/1.1 200 OK" ∷ octets ∷ codes "Content-Length: 17" ∷ closes ∷ (codes "Overcast-Mac: " ++ mac_digits (codes "key") (spelling rejoin)) ∷ []) ++ spelling rejoin; content = None; connection = Close }
+  pub nothing_back_needs_none : response_to operations.Message answers.Ok None false [] (Some (codes "key")) false []
+      ≡ record { text = lines (codes "HTTP/1.1 204 No Content" ∷ closes ∷ []); content = None; connection = Close }
+  pub status : told reports.Status Once
+      (record { text = lines (codes "HTTP/1.1 200 OK" ∷ codes "Content-Type: application/json" ∷ codes "Content-Length: 2" ∷ closes ∷ []) ++ codes "it"; content = None; connection = Close })
+  pub metrics_head : told reports.Metrics HeadAlone
+      (record { text = lines (codes "HTTP/1.1 200 OK" ∷ codes "Content-Type: text/plain; version=0.0.4" ∷ codes "Content-Length: 2" ∷ closes ∷ []); content = None; connection = Close })
+  pub page_followed : told reports.Page Follow
+      (record { text = lines (codes "HTTP/1.1 200 OK" ∷ codes "Content-Type: text/html; charset=utf-8" ∷ codes "Content-Length: 2" ∷ []) ++ codes "it"; content = None; connection = Keep })
   pub probe_head : answered (operations.Probe HeadAlone) answers.Ok false false
       (record { text = lines (codes "HTTP/1.1 200 OK" ∷ octets ∷ codes "Content-Length: 10240" ∷ closes ∷ []); content = None; connection = Close })
   pub fifteenth : is_last (head methods.Get (codes "/a") []) 15 ≡ false

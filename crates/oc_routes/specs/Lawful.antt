@@ -14,7 +14,7 @@ IsResource resource = Unit {0}
 
 -- the group is one, and start and area are within their ranges
 abbrev pub IsAsked : Operation → Type 0
-IsAsked (operations.Publish group) = IsGroupName group
-IsAsked (operations.Seal group) = IsGroupName group
+IsAsked (operations.Publish group at) = IsGroupName group
+IsAsked (operations.Seal group at) = IsGroupName group
 IsAsked (operations.Client group area start manner) = (area ≤ MAX_AREA) × (start ≤ MAX_START) × IsGroupName group
 IsAsked other = Unit {0}

@@ -2,6 +2,7 @@ pub mod Refusals
 pub mod Inputs
 pub mod Responses
 pub mod Answers
+pub mod Alike
 pub mod Examples
 pub mod Connections
 pub mod Lawful

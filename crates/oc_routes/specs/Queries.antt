@@ -1,10 +1,10 @@
 -- What the query of a request says.
-use Rattle.std.specs.Prelude.{ℕ, Bool, ◌==◌, if◌then◌else◌, Option, Some, None, Result, Ok, List, [], ◌∷◌, length, take, drop, codes}
+use Rattle.std.specs.Prelude.{ℕ, Bool, if◌then◌else◌, Option, Some, None, Result, Ok, List, [], ◌∷◌, length, take, drop, codes}
 use Rattle.std.specs.List.{list_any}
 use Rattle.std.specs.Str.{bytes_eq}
 use Rattle.oc_base.specs.Steps.{◌>>=◌, with_fault}
 use Rattle.oc_base.specs.Words.{number_in}
-use Rattle.oc_base.specs.declared.limits.TheConstants.{MAX_AREA, MAX_START}
+use Rattle.oc_base.specs.declared.limits.TheConstants.{MAX_AREA, MAX_GROUP_BYTES, MAX_START}
 use Rattle.oc_http.specs.Queries.{parts, or_else}
 use Rattle.oc_routes.specs.declared.query.Query.{Query}
 use Rattle.oc_routes.specs.declared.refused.Refused.{Refused}
@@ -28,14 +28,26 @@ abbrev pub number_or_nought : ℕ → Option (List ℕ) → Result ℕ Refused
 number_or_nought most None = Ok 0
 number_or_nought most (Some value) = with_fault refusals.Query (number_in 0 most value)
 
--- what a query says: the first start and the first area, and the two parts without a value
-abbrev pub query_in : List ℕ → Result Query Refused
-query_in query = do
+-- the same, where there is a value
+abbrev pub number_told : ℕ → Option (List ℕ) → Result (Option ℕ) Refused
+number_told most None = Ok None
+number_told most (Some value) = with_fault refusals.Query (number_in 0 most value) >>= (λ number. Ok (Some number))
+
+-- the length that the first `at=` of a conditional request says that its group has
+abbrev pub condition_in : List ℕ → Bool → Result (Option ℕ) Refused
+condition_in query conditional =
+    if conditional then number_told MAX_GROUP_BYTES (first_value (codes "at=") (parts query)) else Ok None
+
+-- what a query says: the first start, the first area and, of a conditional request, the first length, and the two parts without a value
+abbrev pub query_in : List ℕ → Bool → Result Query Refused
+query_in query conditional = do
   start ← number_or_nought MAX_START (first_value (codes "start=") (parts query))
   area ← number_or_nought MAX_AREA (first_value (codes "area=") (parts query))
+  at ← condition_in query conditional
   Ok (record {
     start = start;
     area = area;
     follow = has_part (codes "follow") (parts query);
     seal = has_part (codes "seal") (parts query);
+    at = at;
   })

@@ -1,5 +1,5 @@
 -- What a refused request is answered, and its line.
-use Rattle.std.specs.Prelude.{ℕ, false, if◌then◌else◌, Option, Some, None, option_map, List, [], ◌++◌, codes, decimal}
+use Rattle.std.specs.Prelude.{ℕ, if◌then◌else◌, Option, Some, None, option_map, List, [], ◌++◌, codes, decimal}
 use Rattle.oc_http.specs.Writing.{response_text}
 use Rattle.oc_http.specs.declared.fault.HttpFault.{HttpFault}
 use Rattle.oc_http.specs.declared.fault.HttpFault.TheVariants as http
@@ -7,7 +7,7 @@ use Rattle.oc_http.specs.declared.reply.Reply.{Reply}
 use Rattle.oc_routes.specs.declared.fault.RouteFault.{RouteFault}
 use Rattle.oc_routes.specs.declared.fault.RouteFault.TheVariants as faults
 use Rattle.oc_routes.specs.declared.refused.Refused.{Refused}
-use Rattle.oc_routes.specs.declared.refused.Refused.TheVariants.{Source, Ended, Head, HeadLong, Fields, Host, Coding, Length, BodyLong, Method, Path, Query, Denied, Message, Body}
+use Rattle.oc_routes.specs.declared.refused.Refused.TheVariants.{Source, Ended, Head, HeadLong, Fields, Host, Coding, Length, BodyLong, Method, Path, Query, Denied, Mac, Message, Body, At}
 
 -- a fault of a head or a body refuses its request by the same name; running out of memory doesn't
 abbrev pub fault_of_http : HttpFault → RouteFault
@@ -37,21 +37,32 @@ status_of Method = Some 405
 status_of Path = Some 404
 status_of Query = Some 400
 status_of (Denied rule) = Some 403
+status_of Mac = Some 403
 status_of Message = Some 400
 status_of Body = Some 400
+status_of (At length) = Some 409
 
 -- the rule that the reply names
 abbrev pub rule_of : Refused → Option ℕ
 rule_of (Denied rule) = Some rule
 rule_of refused = None
 
--- a reply without a body
-abbrev pub bare : ℕ → Option ℕ → Reply
-bare status rule = record { status = status; location = None; content_type = false; body = []; rule = rule }
+-- the length of a group that the reply names
+abbrev pub group_length_of : Refused → Option ℕ
+group_length_of (At length) = Some length
+group_length_of refused = None
 
--- the reply to a refused request, which ends the connection
+-- a reply without a body
+abbrev pub bare : ℕ → Reply
+bare status = record { status = status; location = None; content_type = None; body = []; rule = None; group_length = None; mac = None }
+
+-- the reply of this status to a refused request: it names the rule that denies it, or the length of its group
+abbrev pub refusal : ℕ → Refused → Reply
+refusal status refused = record (bare status) { rule = rule_of refused; group_length = group_length_of refused }
+
+-- the text of that reply, which ends the connection; a connection that failed or ended gets none
 abbrev pub refusal_text : Refused → Option (List ℕ)
-refusal_text refused = option_map (λ status. response_text (bare status (rule_of refused))) (status_of refused)
+refusal_text refused = option_map (λ status. response_text (refusal status refused)) (status_of refused)
 
 -- what the line of a refused request says
 abbrev pub why_text : Refused → List ℕ
@@ -68,8 +79,10 @@ why_text Method = codes "method"
 why_text Path = codes "path"
 why_text Query = codes "query"
 why_text (Denied rule) = codes "denied " ++ decimal rule
+why_text Mac = codes "mac"
 why_text Message = codes "message"
 why_text Body = codes "body"
+why_text (At length) = codes "at " ++ decimal length
 
 -- `! WHY`
 abbrev pub refusal_line : Refused → List ℕ

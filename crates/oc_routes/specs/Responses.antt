@@ -1,5 +1,5 @@
 -- What a request is answered for the answer of its step.
-use Rattle.std.specs.Prelude.{ℕ, ◌-◌, Bool, true, false, not, Option, Some, None, List, [], ◌++◌, replicate, slice_get, unwrap_or}
+use Rattle.std.specs.Prelude.{ℕ, ◌-◌, Bool, true, false, not, Option, Some, None, List, [], ◌++◌, length, replicate, slice_get, unwrap_or}
 use Rattle.std.specs.Str.{byte}
 use Rattle.oc_http.specs.Writing.{head_text, response_text}
 use Rattle.oc_http.specs.declared.framing.Persistence.{Persistence}
@@ -7,18 +7,22 @@ use Rattle.oc_http.specs.declared.framing.Persistence.TheVariants.{Close, Keep}
 use Rattle.oc_http.specs.declared.framing.Framing.{Framing}
 use Rattle.oc_http.specs.declared.framing.Framing.TheVariants as framings
 use Rattle.oc_http.specs.declared.reply.Reply.{Reply}
+use Rattle.oc_http.specs.declared.content_type.ContentType.{ContentType}
+use Rattle.oc_http.specs.declared.content_type.ContentType.TheVariants.{Octets}
 use Rattle.oc_model.specs.declared.answer.Answer.{Answer}
 use Rattle.oc_model.specs.declared.answer.Answer.TheVariants as answers
 use Rattle.oc_model.specs.declared.message.Message.{Message}
 use Rattle.oc_probe.specs.declared.rate.TheConstants.{PROBE_BYTES}
 use Rattle.oc_updown.specs.Locations.{location_text, follow_location_text}
+use Rattle.oc_wire.specs.Macs.{mac_for}
 use Rattle.oc_wire.specs.Spelling.{spelling}
 use Rattle.oc_routes.specs.Refusals.{bare}
-use Rattle.oc_routes.specs.Routes.{content_for}
+use Rattle.oc_routes.specs.Routes.{content_for, content_type_of}
 use Rattle.oc_routes.specs.declared.routes.Operation.{Operation}
 use Rattle.oc_routes.specs.declared.routes.Operation.TheVariants as operations
 use Rattle.oc_routes.specs.declared.manner.Manner.{Manner}
 use Rattle.oc_routes.specs.declared.manner.Manner.TheVariants.{HeadAlone, Follow}
+use Rattle.oc_routes.specs.declared.report.Report.{Report}
 use Rattle.oc_routes.specs.declared.response.Response.{Response}
 
 -- a whole reply, which ends the connection
@@ -27,16 +31,20 @@ whole reply = record { text = response_text reply; content = None; connection = 
 
 -- a status alone
 abbrev pub status_alone : ℕ → Response
-status_alone status = whole (bare status None)
+status_alone status = whole (bare status)
 
--- a 200 whose content has a type
+-- a 200 with a body of this type
+abbrev pub typed_as : ContentType → List ℕ → Reply
+typed_as type body = record (bare 200) { content_type = Some type; body = body }
+
+-- a 200 whose body is bytes of a group, or a message
 abbrev pub typed : List ℕ → Reply
-typed body = record { status = 200; location = None; content_type = true; body = body; rule = None }
+typed body = typed_as Octets body
 
--- to a message: the reply to its sender, or nothing
-abbrev pub message_response : Option Message → Response
-message_response None = status_alone 204
-message_response (Some message) = whole (typed (spelling message))
+-- to a message: the reply to its sender, with its MAC, or nothing
+abbrev pub message_response : Option (List ℕ) → Option Message → Response
+message_response key None = status_alone 204
+message_response key (Some message) = whole (record (typed (spelling message)) { mac = mac_for key (spelling message) })
 
 -- to a publish, which is answered `Ok`, `NotSource`, `Sealed`, `Groups` or `TooLong`
 abbrev pub publish_status : Answer → ℕ
@@ -85,7 +93,7 @@ location_for manner address group start = location_text address group start
 
 -- a client is sent to a node
 abbrev pub redirection : List ℕ → Reply
-redirection location = record { status = 302; location = Some location; content_type = false; body = []; rule = None }
+redirection location = record (bare 302) { location = Some location }
 
 -- to a client, which is answered `Redirect`, `Serve` or `NoGroup`
 abbrev pub client_response : List ℕ → ℕ → Manner → Answer → Bool → List (List ℕ) → Bool → Response
@@ -115,12 +123,27 @@ probe_response manner last = record {
   connection = connection_for manner last;
 }
 
--- What is answered to what was asked: for this answer of the step, this message that goes back to the sender, and
--- whether the group is sealed; last says that the request is the last of its connection whatever it asks.
-abbrev pub response_to : Operation → Answer → Option Message → Bool → List (List ℕ) → Bool → Response
-response_to operations.Message answer reply sealed addresses last = message_response reply
-response_to (operations.Publish group) answer reply sealed addresses last = status_alone (publish_status answer)
-response_to (operations.Seal group) answer reply sealed addresses last = status_alone (seal_status answer)
-response_to (operations.Client group area start manner) answer reply sealed addresses last =
+-- a body, except for a HEAD
+abbrev pub body_for : Manner → List ℕ → List ℕ
+body_for HeadAlone text = []
+body_for manner text = text
+
+-- to one who asks what the node tells of itself, which is this
+abbrev pub report_response : Report → Manner → Bool → List ℕ → Response
+report_response report manner last text = record {
+  text = head_text (typed_as (content_type_of report) []) (framings.Length (length text)) (connection_for manner last) ++ body_for manner text;
+  content = None;
+  connection = connection_for manner last;
+}
+
+-- What is answered to what was asked: for this answer of the step, this message that goes back to the sender, whether the
+-- group is sealed, the addresses and the key of the network, and what the node tells of itself; last says that the request
+-- is the last of its connection whatever it asks.
+abbrev pub response_to : Operation → Answer → Option Message → Bool → List (List ℕ) → Option (List ℕ) → Bool → List ℕ → Response
+response_to operations.Message answer reply sealed addresses key last report = message_response key reply
+response_to (operations.Publish group at) answer reply sealed addresses key last report = status_alone (publish_status answer)
+response_to (operations.Seal group at) answer reply sealed addresses key last report = status_alone (seal_status answer)
+response_to (operations.Client group area start manner) answer reply sealed addresses key last report =
     client_response group start manner answer sealed addresses last
-response_to (operations.Probe manner) answer reply sealed addresses last = probe_response manner last
+response_to (operations.Probe manner) answer reply sealed addresses key last report = probe_response manner last
+response_to (operations.Report what manner) answer reply sealed addresses key last report = report_response what manner last report

@@ -70,7 +70,9 @@ fn put_why(out: &mut Vec<u8>, refused: Refused) -> Result<(), Memory>
         Refused::Path => put(out, b"path"),
         Refused::Query => put(out, b"query"),
         Refused::Denied(rule) => put_with_number(out, b"denied ", u64::from(rule)),
+        Refused::Mac => put(out, b"mac"),
         Refused::Message => put(out, b"message"),
         Refused::Body => put(out, b"body"),
+        Refused::At(length) => put_with_number(out, b"at ", length),
     }
 }

@@ -2,11 +2,11 @@ ghost use Rattle.std.specs.Prelude.{◌≡◌, ◌≤◌, IfOk, option_map};
 ghost use Rattle.std.specs.Str.{bytes_eq};
 ghost use Rattle.oc_base.specs.declared.limits.TheConstants.{MAX_AREA as AREA_LIMIT, MAX_START as START_LIMIT};
 ghost use Rattle.oc_http.specs.Queries.{parts};
-ghost use Rattle.oc_routes.specs.Queries.{first_value, has_part, number_or_nought, query_in, value_in};
+ghost use Rattle.oc_routes.specs.Queries.{condition_in, first_value, has_part, number_or_nought, number_told, query_in, value_in};
 
 use crate::refused::Refused;
 use oc_base::words::{is, number};
-use oc_base::{MAX_AREA, MAX_START, cut};
+use oc_base::{MAX_AREA, MAX_GROUP_BYTES, MAX_START, cut};
 
 /// What the query of a request says.
 #[derive(Clone, Copy, Debug)]
@@ -19,21 +19,35 @@ pub(crate) struct Query {
     pub(crate) follow: bool,
     /// There is a part `seal`.
     pub(crate) seal: bool,
+    /// The length that the group has to have, where one is said and counts.
+    pub(crate) at: Option<u64>,
 }
 
-/// What a query says.
-pub(crate) fn query_in(query: &[u8]) -> Result<Query, Refused>
-    ensures said { result ≡ query_in query.now }
+/// What a query says; a condition counts where it is that of a `conditional` request.
+pub(crate) fn query_in(query: &[u8], conditional: bool) -> Result<Query, Refused>
+    ensures said { result ≡ query_in query.now conditional }
     ensures lawful { IfOk result (λ said. (said.start ≤ START_LIMIT) × (said.area ≤ AREA_LIMIT)) }
 {
     let start = number_or_nought(MAX_START, first_value(b"start=", query))?;
     let area = number_or_nought(u64::from(MAX_AREA), first_value(b"area=", query))?;
+    let at = condition_in(query, conditional)?;
     Ok(Query {
         start,
         area: area as u8,
         follow: has_part("follow", query),
         seal: has_part("seal", query),
+        at,
     })
+}
+
+/// The length that the group has to have, where a `conditional` request says one.
+fn condition_in(query: &[u8], conditional: bool) -> Result<Option<u64>, Refused>
+    ensures { result ≡ condition_in query.now conditional }
+{
+    if !conditional {
+        return Ok(None);
+    }
+    number_told(MAX_GROUP_BYTES, first_value(b"at=", query))
 }
 
 /// The number of a value, 0 where there is none.
@@ -46,6 +60,19 @@ fn number_or_nought(most: u64, value: Option<&[u8]>) -> Result<u64, Refused>
     };
     match number(value, 0, most) {
         Ok(number) => Ok(number),
+        Err(_) => Err(Refused::Query),
+    }
+}
+
+/// The number of a value, up to the most, where there is a value.
+pub fn number_told(most: u64, value: Option<&[u8]>) -> Result<Option<u64>, Refused>
+    ensures { result ≡ number_told most (option_map (λ v. v.now) value.entry) }
+{
+    let Some(value) = value else {
+        return Ok(None);
+    };
+    match number(value, 0, most) {
+        Ok(number) => Ok(Some(number)),
         Err(_) => Err(Refused::Query),
     }
 }

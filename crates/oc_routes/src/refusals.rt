@@ -1,8 +1,8 @@
 //! Replies to refused requests.
 
 ghost use Rattle.std.specs.Prelude.{◌≡◌, IfOk, IfSome, option_map};
-ghost use Rattle.oc_http.specs.Writing.{HasPhrase, response_text};
-ghost use Rattle.oc_routes.specs.Refusals.{bare, refusal_text, rule_of, status_of};
+ghost use Rattle.oc_http.specs.Writing.{HasPhrase};
+ghost use Rattle.oc_routes.specs.Refusals.{bare, group_length_of, refusal, refusal_text, rule_of, status_of};
 
 use crate::Refused;
 use oc_base::{Bytes, Memory};
@@ -16,23 +16,33 @@ pub fn refusal_reply(alloc: Global, refused: Refused) -> Result<Option<Vec<u8>>,
 {
     match status_of(refused) {
         None => Ok(None),
-        Some(status) => Ok(Some(bare_reply(alloc, status, rule_of(refused))?)),
+        Some(status) => Ok(Some(write_response(alloc, &refusal(alloc, status, refused))?)),
     }
 }
 
-/// A reply without a body, which ends the connection.
-pub(crate) fn bare_reply(alloc: Global, status: u16, rule: Option<u32>) -> Result<Vec<u8>, Memory>
-    requires { HasPhrase status }
-    ensures { IfOk result (λ text. text.items ≡ response_text (bare status rule)) }
+/// The reply of this status to a refused request: it names the rule that denies it, or the length of its group.
+fn refusal(alloc: Global, status: u16, refused: Refused) -> Reply
+    ensures { result ≡ refusal status refused }
 {
-    let reply = Reply {
+    let mut reply = bare(alloc, status);
+    reply.rule = rule_of(refused);
+    reply.group_length = group_length_of(refused);
+    reply
+}
+
+/// A reply without a body.
+pub(crate) fn bare(alloc: Global, status: u16) -> Reply
+    ensures { result ≡ bare status }
+{
+    Reply {
         status,
         location: None,
-        content_type: false,
+        content_type: None,
         body: Bytes::of(Vec::new(alloc)),
-        rule,
-    };
-    write_response(alloc, &reply)
+        rule: None,
+        group_length: None,
+        mac: None,
+    }
 }
 
 /// The status of the reply, where there is one.
@@ -55,7 +65,8 @@ fn status_of(refused: Refused) -> Option<u16>
         Refused::BodyLong => Some(413),
         Refused::Method => Some(405),
         Refused::Path => Some(404),
-        Refused::Denied(_) => Some(403),
+        Refused::Denied(_) | Refused::Mac => Some(403),
+        Refused::At(_) => Some(409),
     }
 }
 
@@ -65,6 +76,16 @@ fn rule_of(refused: Refused) -> Option<u32>
 {
     match refused {
         Refused::Denied(rule) => Some(rule),
+        _ => None,
+    }
+}
+
+/// The length of a group that the reply names.
+fn group_length_of(refused: Refused) -> Option<u64>
+    ensures { result ≡ group_length_of refused }
+{
+    match refused {
+        Refused::At(length) => Some(length),
         _ => None,
     }
 }

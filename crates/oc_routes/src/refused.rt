@@ -34,8 +34,12 @@ pub enum Refused {
     Query,
     /// The access rule with this number, counted from 1, denies it.
     Denied(u32),
+    /// The head of a message has not just one MAC, or it is not that of the body under the key of the network.
+    Mac,
     /// The body is no message to this node.
     Message,
     /// The group is to be sealed, and there is a body.
     Body,
+    /// The group has this length, which is not the one that the request says.
+    At(u64),
 }

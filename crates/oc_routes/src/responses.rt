@@ -5,55 +5,60 @@ ghost use Rattle.std.specs.Option.{ForSome};
 ghost use Rattle.oc_base.specs.Names.{IsGroupName};
 ghost use Rattle.oc_http.specs.Writing.{HasPhrase, head_text};
 ghost use Rattle.oc_routes.specs.Lawful.{IsAsked};
-ghost use Rattle.oc_routes.specs.Responses.{client_response, connection_for, copies, framing_for, is_chunked, location_for, message_response, probe_body, probe_response, publish_status, redirection, response_to, seal_status, served, status_alone, typed, whole};
+ghost use Rattle.oc_routes.specs.Responses.{body_for, client_response, connection_for, copies, framing_for, is_chunked, location_for, message_response, probe_body, probe_response, publish_status, redirection, report_response, response_to, seal_status, served, status_alone, typed, typed_as, whole};
 ghost use Rattle.oc_wire.specs.Spelling.{HasSpelling};
 
 use crate::addresses::address_of;
 use crate::manner::Manner;
-use crate::refusals::bare_reply;
+use crate::network::Network;
+use crate::refusals::bare;
+use crate::report::Report;
 use crate::response::{GroupRange, Response};
 use crate::routes::Operation;
-use oc_base::{Bytes, GroupName, Memory, NodeId, Text};
-use oc_http::{Framing, Persistence, Reply, write_reply_head, write_response};
+use oc_base::{Bytes, GroupName, Memory, NodeId, Text, put};
+use oc_http::{ContentType, Framing, Persistence, Reply, write_reply_head, write_response};
+use oc_mac::Key;
 use oc_model::{Answer, Message};
 use oc_probe::PROBE_BYTES;
 use oc_updown::{follow_location, location};
-use oc_wire::encode;
+use oc_wire::{encode, mac_for};
 use std::alloc::Global;
 
 /// What an answer depends on besides what was asked.
-#[derive(Clone, Copy)]
-pub struct Answered {
-    /// The answer of the step; for a probe it is not looked at.
+#[derive(Clone, Copy, Drop)]
+pub struct Answered<'a> {
+    /// The answer of the step; for a probe and a report it is not looked at.
     pub answer: Answer,
     /// The group that a client gets is sealed.
     pub sealed: bool,
     /// The request is the last of its connection whatever it asks.
     pub last: bool,
+    /// What the node tells of itself; looked at for a report alone.
+    pub report: &'a [u8],
 }
 
-/// What is answered to what was asked. `reply` is the message that goes back to the sender of a message,
-/// and `addresses` are those of the nodes by their ids.
+/// What is answered to what was asked. `reply` is the message that goes back to the sender of a message.
 pub fn respond(
     alloc: Global,
     operation: &Operation,
-    answered: Answered,
+    answered: Answered<'_>,
     reply: Option<&Message>,
-    addresses: &[String],
+    network: &Network<'_>,
 ) -> Result<Response, Memory>
     requires asks { IsAsked operation.now }
     requires reply { ForSome (option_map (λ m. m.now) reply) (λ m. HasSpelling m.body) }
     ensures { IfOk result (λ response. response
-        ≡ response_to operation.now answered.answer (option_map (λ m. m.now) reply.entry) answered.sealed
-        (map string_bytes addresses.now) answered.last) }
+        ≡ response_to operation.now answered.entry.answer (option_map (λ m. m.now) reply.entry) answered.entry.sealed
+        (map string_bytes network.now.addresses.now) (option_map (λ k. k.now) network.now.key) answered.entry.last answered.entry.report.now) }
 {
     let Answered {
         answer,
         sealed,
         last,
+        report: text,
     } = answered;
     match operation {
-        Operation::Message => to_message(alloc, reply),
+        Operation::Message => to_message(alloc, reply, network.key),
         Operation::Publish { .. } => status_alone(alloc, publish_status(answer)),
         Operation::Seal { .. } => status_alone(alloc, seal_status(answer)),
         Operation::Client {
@@ -63,31 +68,64 @@ pub fn respond(
             ..
         } => match answer {
             Answer::Redirect(node) => {
-                redirected(alloc, *manner, address_of(addresses, node), group, *start)
+                redirected(
+                    alloc,
+                    *manner,
+                    address_of(network.addresses, node),
+                    group,
+                    *start,
+                )
             }
             Answer::Serve(count) => served(alloc, *manner, sealed, last, *start, count),
             _ => status_alone(alloc, 404),
         },
         Operation::Probe { manner } => to_probe(alloc, *manner, last),
+        Operation::Report { report, manner } => told(alloc, *report, *manner, last, text),
     }
 }
 
-/// To a message: the reply to its sender, or nothing.
-fn to_message(alloc: Global, reply: Option<&Message>) -> Result<Response, Memory>
+/// To a message: the reply to its sender, with its MAC where there is a key, or nothing.
+fn to_message(alloc: Global, reply: Option<&Message>, key: Option<&Key>) -> Result<Response, Memory>
     requires { ForSome (option_map (λ m. m.now) reply) (λ m. HasSpelling m.body) }
-    ensures { IfOk result (λ response. response ≡ message_response (option_map (λ m. m.now) reply.entry)) }
+    ensures { IfOk result (λ response. response ≡ message_response (option_map (λ k. k.now) key.entry) (option_map (λ m. m.now) reply.entry)) }
 {
     let Some(message) = reply else {
         return status_alone(alloc, 204);
     };
-    let reply = Reply {
+    let body = encode(alloc, message)?;
+    let mac = mac_for(alloc, key, &body)?;
+    whole(alloc, &with_mac(body, mac))
+}
+
+/// A 200 with a message, whose MAC is this.
+fn with_mac(body: Vec<u8>, mac: Option<Text>) -> Reply
+    ensures { result ≡ record (typed body.items) { mac = mac } }
+{
+    let mut reply = typed(body);
+    reply.mac = mac;
+    reply
+}
+
+/// A 200 with a body whose type is given.
+fn typed(body: Vec<u8>) -> Reply
+    ensures { result ≡ typed body.items }
+{
+    typed_as(ContentType::Octets, body)
+}
+
+/// A 200 with a body of this type.
+fn typed_as(content_type: ContentType, body: Vec<u8>) -> Reply
+    ensures { result ≡ typed_as content_type body.items }
+{
+    Reply {
         status: 200,
         location: None,
-        content_type: true,
-        body: Bytes::of(encode(alloc, message)?),
+        content_type: Some(content_type),
+        body: Bytes::of(body),
         rule: None,
-    };
-    whole(alloc, &reply)
+        group_length: None,
+        mac: None,
+    }
 }
 
 /// A whole reply, which ends the connection.
@@ -107,11 +145,7 @@ fn status_alone(alloc: Global, status: u16) -> Result<Response, Memory>
     requires { HasPhrase status }
     ensures { IfOk result (λ response. response ≡ status_alone status) }
 {
-    Ok(Response {
-        text: Text::of(bare_reply(alloc, status, None)?),
-        content: None,
-        connection: Persistence::Close,
-    })
+    whole(alloc, &bare(alloc, status))
 }
 
 /// The status of a reply to a publish.
@@ -153,9 +187,11 @@ fn redirected(
     let reply = Reply {
         status: 302,
         location: Some(Text::of(location.into_bytes())),
-        content_type: false,
+        content_type: None,
         body: Bytes::of(Vec::new(alloc)),
         rule: None,
+        group_length: None,
+        mac: None,
     };
     whole(alloc, &reply)
 }
@@ -236,18 +272,43 @@ fn put_copies(text: &mut Vec<u8>, count: usize, byte: u8) -> Result<(), Memory>
     Ok(())
 }
 
-/// The head of a 200 whose content has a type.
+/// Gives what the node tells of itself.
+fn told(
+    alloc: Global,
+    report: Report,
+    manner: Manner,
+    last: bool,
+    text: &[u8],
+) -> Result<Response, Memory>
+    ensures { IfOk result (λ response. response ≡ report_response report manner last text.now) }
+{
+    let connection = connection_for(manner, last);
+    let reply = typed_as(report.content_type(), Vec::new(alloc));
+    let framing = Framing::Length(text.len() as u64);
+    let mut told = write_reply_head(alloc, &reply, framing, connection)?;
+    put(&mut told, body_for(manner, text))?;
+    Ok(Response {
+        text: Text::of(told),
+        content: None,
+        connection,
+    })
+}
+
+/// A body, except for a HEAD.
+fn body_for(manner: Manner, text: &[u8]) -> &[u8]
+    ensures { result.now ≡ body_for manner text.now }
+{
+    match manner {
+        Manner::HeadAlone => b"",
+        Manner::Once | Manner::Follow => text,
+    }
+}
+
+/// The head of a 200 whose content is bytes of a group.
 fn typed_head(alloc: Global, framing: Framing, connection: Persistence) -> Result<Vec<u8>, Memory>
     ensures { IfOk result (λ text. text.items ≡ head_text (typed []) framing connection) }
 {
-    let reply = Reply {
-        status: 200,
-        location: None,
-        content_type: true,
-        body: Bytes::of(Vec::new(alloc)),
-        rule: None,
-    };
-    write_reply_head(alloc, &reply, framing, connection)
+    write_reply_head(alloc, &typed(Vec::new(alloc)), framing, connection)
 }
 
 /// Whether a content is sent in chunks.

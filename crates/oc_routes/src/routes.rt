@@ -5,26 +5,31 @@
 //! | --- | --- | --- | --- | --- |
 //! | `/!overcast` | POST | `Message` | `Delivered` | the message that goes back, or 204 |
 //! | `/!probe` | GET, HEAD | `Probe` | none | `PROBE_BYTES` bytes |
+//! | `/!status`, `/!metrics`, `/!` | GET, HEAD | `Report` | none | what the node tells of itself |
 //! | the name of a group | GET, HEAD | `Client` | `Client` | the group's bytes, or a redirection |
 //! | the name of a group | POST | `Publish` | `Publish` | a status |
 //! | the name of a group | POST with `seal` | `Seal` | `Seal` | a status |
+//!
+//! A POST of a group may say by `at=N` which length the group has to have; whether it has is looked at by the layer
+//! above.
 
-ghost use Rattle.std.specs.Prelude.{◌≡◌, ◌≤◌, length, IfOk, IfSome};
+ghost use Rattle.std.specs.Prelude.{◌≡◌, ◌≤◌, length, IfOk, IfSome, option_map};
 ghost use Rattle.oc_base.specs.Names.{IsGroupName};
 ghost use Rattle.oc_base.specs.declared.limits.TheConstants.{MAX_AREA as AREA_LIMIT, MAX_START as START_LIMIT, MAX_PUBLISH_BYTES};
 ghost use Rattle.oc_model.specs.Lawful.{IsInput};
 ghost use Rattle.oc_routes.specs.Inputs.{HasLine};
 ghost use Rattle.oc_routes.specs.Lawful.{IsAsked, IsResource};
-ghost use Rattle.oc_routes.specs.Routes.{Gives, action_of, asked, asked_at, asked_of_group, delivered, group_in, input_asked, manner_of, permitted, resource_in};
+ghost use Rattle.oc_routes.specs.Routes.{Gives, action_of, asked, asked_at, asked_of_group, delivered, group_in, input_asked, is_conditional, manner_of, permitted, permitted_by, readable_in, resource_in};
 ghost use Rattle.oc_wire.specs.MessageReading.{decoded};
 
 use crate::fault::RouteFault;
 use crate::manner::Manner;
 use crate::query::{Query, query_in};
 use crate::refused::Refused;
+use crate::report::Report;
 use oc_base::words::is;
 use oc_base::{Bytes, GroupName, NodeId};
-use oc_http::{Head, MESSAGE_PATH, Method, PROBE_PATH};
+use oc_http::{Head, MESSAGE_PATH, Method, PROBE_PATH, Text};
 use oc_model::Input;
 use oc_policy::{Action, MAX_RULES, Rule, Verdict, decide};
 use oc_wire::{WireFault, decode};
@@ -35,6 +40,7 @@ use std::alloc::Global;
 pub(crate) enum Resource {
     Messages,
     Probe,
+    Report(Report),
     Group(GroupName),
 }
 
@@ -43,13 +49,15 @@ pub(crate) enum Resource {
 pub enum Operation {
     /// To take the message that the body is.
     Message,
-    /// To add the body at the end of a group.
+    /// To add the body at the end of a group, where the group has the length `at`, if one is said.
     Publish {
         group: GroupName,
+        at: Option<u64>,
     },
-    /// To close a group.
+    /// To close a group, where it has the length `at`, if one is said.
     Seal {
         group: GroupName,
+        at: Option<u64>,
     },
     /// To give a group from byte `start` on, to a client in this area.
     Client {
@@ -60,6 +68,11 @@ pub enum Operation {
     },
     /// To give the content by which rates are measured.
     Probe {
+        manner: Manner,
+    },
+    /// To tell of itself.
+    Report {
+        report: Report,
         manner: Manner,
     },
 }
@@ -73,23 +86,60 @@ pub fn route(head: &Head, rules: &[Rule]) -> Result<Operation, Refused>
 {
     let action = action_of(head.method)?;
     let resource = resource_in(action, head.path.items())?;
-    let query = query_in(head.query.items())?;
-    permit(rules, action, &resource, query.area)?;
+    let query = query_in(head.query.items(), is_conditional(action, &resource))?;
+    permit(
+        rules,
+        action,
+        &resource,
+        query.area,
+        shown_by(&head.authorization),
+    )?;
     Ok(asked_at(head.method, head.minor, &query, &resource))
 }
 
-/// Refuses what the rules deny.
-fn permit(rules: &[Rule], action: Action, resource: &Resource, area: u8) -> Result<(), Refused>
+/// Refuses what the rules deny to a request that shows this. Of what is no group, only the rules for `/` speak.
+fn permit(
+    rules: &[Rule],
+    action: Action,
+    resource: &Resource,
+    area: u8,
+    shown: Option<&[u8]>,
+) -> Result<(), Refused>
     requires { length rules.now ≤ MAX_RULES }
-    ensures { result ≡ permitted rules.now action resource.now area }
+    ensures { result ≡ permitted rules.now action resource.now area (option_map (λ s. s.now) shown.entry) }
 {
-    let Resource::Group(group) = resource else {
-        return Ok(());
-    };
-    match decide(rules, action, group, area) {
+    match resource {
+        Resource::Messages | Resource::Probe => Ok(()),
+        Resource::Report(_) => permitted_by(decide(rules, action, None, area, shown)),
+        Resource::Group(group) => permitted_by(decide(rules, action, Some(group), area, shown)),
+    }
+}
+
+/// What a verdict lets through.
+fn permitted_by(verdict: Verdict) -> Result<(), Refused>
+    ensures { result ≡ permitted_by verdict }
+{
+    match verdict {
         Verdict::Allowed => Ok(()),
         Verdict::Denied(rule) => Err(Refused::Denied(rule)),
     }
+}
+
+/// What a request shows: the value of its Authorization field, where there is just one.
+fn shown_by(authorization: &Option<Text>) -> Option<&[u8]>
+    ensures { option_map (λ s. s.now) result ≡ authorization.now }
+{
+    match authorization {
+        Some(value) => Some(value.items()),
+        None => None,
+    }
+}
+
+/// Whether a condition counts: in a POST of a group.
+fn is_conditional(action: Action, resource: &Resource) -> bool
+    ensures { result ≡ is_conditional action resource.now }
+{
+    matches!((action, resource), (Action::Post, Resource::Group(_)))
 }
 
 /// What a method does with a path.
@@ -111,7 +161,19 @@ pub(crate) fn resource_in(action: Action, path: &[u8]) -> Result<Resource, Refus
     match action {
         Action::Post if is(path, MESSAGE_PATH) => Ok(Resource::Messages),
         Action::Get if is(path, PROBE_PATH) => Ok(Resource::Probe),
-        _ => group_in(path),
+        Action::Get => readable_in(path),
+        Action::Post => group_in(path),
+    }
+}
+
+/// What a path names that is read: a report, or else a group.
+fn readable_in(path: &[u8]) -> Result<Resource, Refused>
+    ensures said { result ≡ readable_in path.now }
+    ensures lawful { IfOk result IsResource }
+{
+    match Report::at(path) {
+        Some(report) => Ok(Resource::Report(report)),
+        None => group_in(path),
     }
 }
 
@@ -140,6 +202,10 @@ fn asked_at(method: Method, minor: u8, query: &Query, resource: &Resource) -> Op
         Resource::Probe => Operation::Probe {
             manner: manner_of(method, minor, query.follow),
         },
+        Resource::Report(report) => Operation::Report {
+            report: *report,
+            manner: manner_of(method, minor, query.follow),
+        },
         Resource::Group(group) => asked_of_group(method, minor, query, group),
     }
 }
@@ -154,8 +220,14 @@ fn asked_of_group(method: Method, minor: u8, query: &Query, group: &GroupName) -
 {
     let group = *group;
     match method {
-        Method::Post if query.seal => Operation::Seal { group },
-        Method::Post => Operation::Publish { group },
+        Method::Post if query.seal => Operation::Seal {
+            group,
+            at: query.at,
+        },
+        Method::Post => Operation::Publish {
+            group,
+            at: query.at,
+        },
         _ => Operation::Client {
             group,
             area: query.area,
@@ -177,7 +249,7 @@ fn manner_of(method: Method, minor: u8, follow: bool) -> Manner
 }
 
 /// The input of the node `me`, one of `nodes` nodes, that results from what was asked and from the body of the
-/// request; a probe gives none. Refused for a body that is no message to this node, and for a body of
+/// request; a probe and a report give none. Refused for a body that is no message to this node, and for a body of
 /// a request to seal.
 pub fn input_of(
     alloc: Global,
@@ -196,12 +268,12 @@ pub fn input_of(
 {
     match operation {
         Operation::Message => delivered(alloc, &body, me, nodes),
-        Operation::Publish { group } => Ok(Some(Input::Publish {
+        Operation::Publish { group, .. } => Ok(Some(Input::Publish {
             group: *group,
             bytes: Bytes::of(body),
         })),
         Operation::Seal { .. } if !body.is_empty() => Err(RouteFault::Refused(Refused::Body)),
-        Operation::Seal { group } => Ok(Some(Input::Seal { group: *group })),
+        Operation::Seal { group, .. } => Ok(Some(Input::Seal { group: *group })),
         Operation::Client {
             group,
             area,
@@ -212,7 +284,7 @@ pub fn input_of(
             start: *start,
             group: *group,
         })),
-        Operation::Probe { .. } => Ok(None),
+        Operation::Probe { .. } | Operation::Report { .. } => Ok(None),
     }
 }
 

@@ -3,4 +3,5 @@ pub mod Rows
 pub mod Status
 pub mod Metrics
 pub mod Names
+pub mod Page
 pub mod Examples

@@ -1,3 +1,6 @@
+ghost use Rattle.std.specs.Prelude.{◌≡◌};
+ghost use Rattle.oc_status.specs.Page.{page_text};
+
 /// The page, whole: it reads `/!status` each second and draws the tree that the node's table tells.
 pub const PAGE: &str = r##"<!doctype html>
 <html lang="en">
@@ -528,3 +531,10 @@ ul.tree ul ul ul ul ul ul ul ul > li::before, ul.tree ul ul ul ul ul ul ul ul > 
 </body>
 </html>
 "##;
+
+/// The page.
+pub fn page() -> &'static str
+    ensures { result.now ≡ page_text }
+{
+    PAGE
+}

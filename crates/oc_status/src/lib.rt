@@ -6,7 +6,7 @@
 //! are the formats: who reads them needs nothing else. No byte of a group's name has to be escaped in either
 //! ([`names_are_plain`]), and the worked examples compute ([`examples_are_told`]).
 //!
-//! [`PAGE`] is a text that stands in this crate and nothing more: no contract speaks of what it draws.
+//! [`page`] is a text that stands in this crate and nothing more: no contract speaks of what it draws.
 #![tactic(auto)]
 
 mod arrays;
@@ -21,6 +21,6 @@ mod rows;
 mod telling;
 
 pub use gauges::metrics;
-pub use html::PAGE;
+pub use html::page;
 pub use law::{examples_are_told, names_are_plain};
 pub use telling::status;

@@ -8,31 +8,26 @@ use crate::arrays::put_list;
 use crate::json::{put_field, put_number_or_null, put_quoted};
 use crate::leased::{Leased, leased_of};
 use crate::rows::{Row, rows_of};
-use oc_base::{Memory, NodeId, Rank, Shelf, Slots, put, put_number, put_with_number};
+use oc_base::{Memory, NodeId, Rank, Shelf, put, put_number, put_with_number};
 use oc_model::Mode;
 use oc_node::Node;
 use std::alloc::Global;
 
-/// What a node tells of itself at `/!status`: one object of JSON, and a line's end. `chunk` is the greatest number
-/// of bytes of a chunk that it sends, `ends` are the ends of its leases and `rates` the rates that its
-/// children told last, by the number of a node, and `shelf` is what it holds of each group.
-pub fn status(
-    alloc: Global,
-    node: &Node,
-    chunk: u32,
-    ends: &Slots<Option<u64>>,
-    rates: &Slots<u64>,
-    shelf: &[Shelf],
-) -> Result<Vec<u8>, Memory>
-    requires chunk { chunk ≡ node.now.control.chunk }
-    requires ends { ends.now.items ≡ node.now.control.leases }
-    requires rates { rates.now.items ≡ node.now.control.rates }
+/// What a node tells of itself at `/!status`: one object of JSON, and a line's end. `shelf` is what it holds of each
+/// group.
+pub fn status(alloc: Global, node: &Node, shelf: &[Shelf]) -> Result<Vec<u8>, Memory>
     ensures { IfOk result (λ text. text.items ≡ status_text node.now.control shelf.now) }
 {
     let rows = rows_of(alloc, node.table(), node.id())?;
-    let leased = leased_of(alloc, node.table(), node.id(), ends, rates)?;
+    let leased = leased_of(
+        alloc,
+        node.table(),
+        node.id(),
+        node.lease_ends(),
+        node.rates(),
+    )?;
     let mut text = Vec::new(alloc);
-    put_told(&mut text, node, chunk, shelf, &rows, &leased)?;
+    put_told(&mut text, node, shelf, &rows, &leased)?;
     Ok(text)
 }
 
@@ -40,16 +35,14 @@ pub fn status(
 fn put_told(
     out: &mut Vec<u8>,
     node: &Node,
-    chunk: u32,
     shelf: &[Shelf],
     rows: &[Row],
     leased: &[Leased],
 ) -> Result<(), Memory>
-    requires { chunk ≡ node.now.control.chunk }
     ensures { OnOk result (out.new.items ≡ out.old.items ++ told_text node.now.control shelf.now rows.now leased.now) }
 {
     put(out, b"{")?;
-    put_state(out, node, chunk)?;
+    put_state(out, node)?;
     put_list(out, "ancestors", node.ancestors())?;
     put_list(out, "groups", shelf)?;
     put_list(out, "table", rows)?;
@@ -59,24 +52,22 @@ fn put_told(
 
 /// Puts who the node is, its place in the tree, and its counts.
 #[tactic(auto, unfolding(crate::specs::Status::state_text))]
-fn put_state(out: &mut Vec<u8>, node: &Node, chunk: u32) -> Result<(), Memory>
-    requires { chunk ≡ node.now.control.chunk }
+fn put_state(out: &mut Vec<u8>, node: &Node) -> Result<(), Memory>
     ensures { OnOk result (out.new.items ≡ out.old.items ++ state_text node.now.control) }
 {
-    put_network(out, node, chunk)?;
+    put_network(out, node)?;
     put_place(out, node)?;
     put_counts(out, node)
 }
 
 /// Puts which node it is, and in which network.
-fn put_network(out: &mut Vec<u8>, node: &Node, chunk: u32) -> Result<(), Memory>
-    requires { chunk ≡ node.now.control.chunk }
+fn put_network(out: &mut Vec<u8>, node: &Node) -> Result<(), Memory>
     ensures { OnOk result (out.new.items ≡ out.old.items ++ network_text node.now.control) }
 {
     put_field(out, "\"node\":", u64::from(node.id().0))?;
     put_field(out, ",\"nodes\":", u64::from(node.nodes()))?;
     put_field(out, ",\"chain\":", u64::from(node.chain()))?;
-    put_field(out, ",\"chunk\":", u64::from(chunk))
+    put_field(out, ",\"chunk\":", u64::from(node.chunk()))
 }
 
 /// Puts the place of the node in the tree.

@@ -1,4 +1,4 @@
-use Rattle.std.proofs.Common.{◌≡◌, Some, refl, sym, ◌∙◌, rules}
+use Rattle.std.proofs.Common.{◌≡◌, Some, sym, ◌∙◌}
 use Rattle.oc_routes.specs.declared.fault.RouteFault.TheVariants.{Refused}
 use Rattle.oc_reply.specs.Verdicts.{fault_met, terms_of}
 use Rattle.oc_reply.proofs.BodyFits.{says_fits}
@@ -15,5 +15,5 @@ returns-in-Some-Refused-clause-verdict c =
     let field = c.in-Some-Refused.field-0-is in
     let read = c.in-Some-Refused.why-is in
     let met : fault_met c.in-Err.fault ≡ Some (Refused c.in-Some-Refused.why) = cc in
-    refused_verdict (λ (s : Rest). s.left.now) c.of-source.result c.read_head.new.source (terms_of c.args.terms.now.me c.args.terms.now.nodes c.args.terms.now.rules.now) c.args.arrival
+    refused_verdict (λ (s : Rest). s.left.now) c.of-source.result c.read_head.new.source (terms_of c.args.terms.now.me c.args.terms.now.nodes c.args.terms.now.rules.now _) c.args.arrival
     c.in-Err.fault c.in-Some-Refused.why c.args.bytes.now _ c.in-Err.ensures.refused met (sym c.of-source.ensures) cc

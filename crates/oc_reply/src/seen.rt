@@ -1,0 +1,12 @@
+use oc_base::Shelf;
+use oc_node::Node;
+
+/// A node that is looked at.
+#[derive(Clone, Copy, Drop)]
+pub struct Seen<'a> {
+    pub node: &'a Node,
+    /// What it holds of each group.
+    pub shelf: &'a [Shelf],
+    /// The number of messages in its outbox.
+    pub messages: usize,
+}

@@ -1,0 +1,15 @@
+-- What a token does to what is asked.
+use Rattle.std.specs.Prelude.{◌≡◌, Result, Err}
+use Rattle.std.proofs.Common.{◌⊎◌}
+use Rattle.oc_routes.specs.declared.refused.Refused.{Refused}
+use Rattle.oc_routes.specs.declared.refused.Refused.TheVariants.{Denied}
+use Rattle.oc_routes.specs.declared.routes.Operation.{Operation}
+
+-- a rule denies it
+abbrev pub IsDenied : Result Operation Refused → Type 0
+IsDenied (Err (Denied rule)) = Unit {0}
+IsDenied said = ⊥
+
+-- they are the same, or one of them is denied
+abbrev pub AreAlike : Result Operation Refused → Result Operation Refused → Type 0
+AreAlike first second = (first ≡ second) ⊎ IsDenied first ⊎ IsDenied second

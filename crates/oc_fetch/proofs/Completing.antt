@@ -6,6 +6,7 @@ use Rattle.oc_fetch.specs.Conversations.{Replied, Redirects, Serves, EndsWith, E
 use Rattle.oc_fetch.specs.Redirecting.{IsLost, sent_to}
 use Rattle.oc_fetch.specs.Replies.{IsBodiless, extent_of}
 use Rattle.oc_fetch.specs.Turns.{Turn}
+use Rattle.oc_fetch.specs.Manners.{Manner}
 use Rattle.oc_fetch.specs.Wishes.{Wish, whole}
 use Rattle.oc_fetch.specs.declared.end.GetEnd.{GetEnd}
 use Rattle.oc_fetch.specs.declared.end.GetEnd.TheVariants as ends
@@ -35,8 +36,8 @@ pub one_url : (asked : Parts) (a b : List ℕ) (u v : Parts) → a ≡ b → Lea
 one_url asked a b u v e p q = let parsed = sym p.joined ∙ ap (λ (x : List ℕ). parse_url (Some asked) x) e ∙ q.joined in cc
 
 -- a head of a whole 200 is a 200
-abbrev IsContent : ReplyHead → List ℕ → Type 0
-IsContent head behind = Serves whole head × HoldsWhole (extent_of head) behind
+abbrev IsContent : Manner → ReplyHead → List ℕ → Type 0
+IsContent manner head behind = Serves (whole manner) head × HoldsWhole (extent_of head) behind
 
 not_both : (n : ℕ) → n ≡ 200 → n ≡ 302 → ⊥
 not_both n a b = absurd (omega (arith, a, b))
@@ -81,22 +82,22 @@ not_cut Chunked behind left over end holds none = absurd holds
 not_cut ToTheEnd behind left over end holds none = absurd (omega (arith, length-append behind left, holds, none))
 
 -- a 200 with a whole content
-content_unrefused : OneAnswer → (state : ClientState) (turn : Turn) (text : List ℕ) (written : List ℕ) (end : GetEnd) → IsFrontOf turn text → Replied text IsContent → EndsWith whole state turn.reply turn.over written end → IsUnrefused end
-content_unrefused one state turn text written ends.Link front said ends = tt
-content_unrefused one state turn text written ends.Sink front said ends = tt
-content_unrefused one state turn text written ends.Memory front said ends = tt
-content_unrefused one state turn text written ends.Done front said ends = tt
-content_unrefused one state turn text written ends.BadUrl front said ends = absurd ends
-content_unrefused one state turn text written (ends.Refused status) front said ends =
+content_unrefused : OneAnswer → (manner : Manner) (state : ClientState) (turn : Turn) (text : List ℕ) (written : List ℕ) (end : GetEnd) → IsFrontOf turn text → Replied text (IsContent manner) → EndsWith (whole manner) state turn.reply turn.over written end → IsUnrefused end
+content_unrefused one manner state turn text written ends.Link front said ends = tt
+content_unrefused one manner state turn text written ends.Sink front said ends = tt
+content_unrefused one manner state turn text written ends.Memory front said ends = tt
+content_unrefused one manner state turn text written ends.Done front said ends = tt
+content_unrefused one manner state turn text written ends.BadUrl front said ends = absurd ends
+content_unrefused one manner state turn text written (ends.Refused status) front said ends =
     let was = ends.1 in
     let same = same_head one text was.head said.head _ _ (says_more turn.reply front.left text was.head was.behind front.split was.says) said.says in
     absurd (was.so.1 (sym was.so.0 ∙ ap (λ (h : ReplyHead). h.status) same.0 ∙ said.so.0.status))
-content_unrefused one state turn text written ends.Redirects front said ends =
+content_unrefused one manner state turn text written ends.Redirects front said ends =
     let was = ends.2 in
     let same = same_head one text was.head said.head _ _ (says_more turn.reply front.left text was.head was.behind front.split was.says) said.says in
     absurd (not_both said.head.status said.so.0.status (sym (ap (λ (h : ReplyHead). h.status) same.0) ∙ was.so.1.status))
-content_unrefused one state turn text written ends.Reply front said (inl none) = absurd (not_headless one turn.reply front.left text turn.over said.head said.behind front.split front.end said.says none.0)
-content_unrefused one state turn text written ends.Reply front said (inr was) =
+content_unrefused one manner state turn text written ends.Reply front said (inl none) = absurd (not_headless one turn.reply front.left text turn.over said.head said.behind front.split front.end said.says none.0)
+content_unrefused one manner state turn text written ends.Reply front said (inr was) =
     let same = same_head one text was.head said.head _ _ (says_more turn.reply front.left text was.head was.behind front.split was.says) said.says in
     absurd (elim was.so [
       | inl nowhere ↦ not_both said.head.status said.so.0.status (sym (ap (λ (h : ReplyHead). h.status) same.0) ∙ nowhere.0.status)
@@ -109,19 +110,19 @@ content_unrefused one state turn text written ends.Reply front said (inr was) =
     ])
 
 -- a redirection that leads on
-redirection_unrefused : OneAnswer → (state next : ClientState) (turn : Turn) (text : List ℕ) (written : List ℕ) (end : GetEnd) → IsFrontOf turn text → Replied text (λ head behind. Redirects state head next) → EndsWith whole state turn.reply turn.over written end → IsUnrefused end
-redirection_unrefused one state next turn text written ends.Link front said ends = tt
-redirection_unrefused one state next turn text written ends.Sink front said ends = tt
-redirection_unrefused one state next turn text written ends.Memory front said ends = tt
-redirection_unrefused one state next turn text written ends.Done front said ends = tt
-redirection_unrefused one state next turn text written ends.BadUrl front said ends = absurd ends
-redirection_unrefused one state next turn text written (ends.Refused status) front said ends =
+redirection_unrefused : OneAnswer → (manner : Manner) (state next : ClientState) (turn : Turn) (text : List ℕ) (written : List ℕ) (end : GetEnd) → IsFrontOf turn text → Replied text (λ head behind. Redirects state head next) → EndsWith (whole manner) state turn.reply turn.over written end → IsUnrefused end
+redirection_unrefused one manner state next turn text written ends.Link front said ends = tt
+redirection_unrefused one manner state next turn text written ends.Sink front said ends = tt
+redirection_unrefused one manner state next turn text written ends.Memory front said ends = tt
+redirection_unrefused one manner state next turn text written ends.Done front said ends = tt
+redirection_unrefused one manner state next turn text written ends.BadUrl front said ends = absurd ends
+redirection_unrefused one manner state next turn text written (ends.Refused status) front said ends =
     let was = ends.1 in
     let same = same_head one text was.head said.head _ _ (says_more turn.reply front.left text was.head was.behind front.split was.says) said.says in
     absurd (was.so.2 (sym was.so.0 ∙ ap (λ (h : ReplyHead). h.status) same.0 ∙ said.so.status))
-redirection_unrefused one state next turn text written ends.Redirects front said ends = absurd (omega (arith, ends.1, said.so.follows.may))
-redirection_unrefused one state next turn text written ends.Reply front said (inl none) = absurd (not_headless one turn.reply front.left text turn.over said.head said.behind front.split front.end said.says none.0)
-redirection_unrefused one state next turn text written ends.Reply front said (inr was) =
+redirection_unrefused one manner state next turn text written ends.Redirects front said ends = absurd (omega (arith, ends.1, said.so.follows.may))
+redirection_unrefused one manner state next turn text written ends.Reply front said (inl none) = absurd (not_headless one turn.reply front.left text turn.over said.head said.behind front.split front.end said.says none.0)
+redirection_unrefused one manner state next turn text written ends.Reply front said (inr was) =
     let same = same_head one text was.head said.head _ _ (says_more turn.reply front.left text was.head was.behind front.split was.says) said.says in
     let status = ap (λ (h : ReplyHead). h.status) same.0 in
     absurd (elim was.so [
@@ -135,36 +136,36 @@ redirection_unrefused one state next turn text written ends.Reply front said (in
     ])
 
 -- a last turn
-last_unrefused : OneAnswer → (state : ClientState) (turn : Turn) (text : List ℕ) (texts : List (List ℕ)) (written : List ℕ) (end : GetEnd) → IsFrontOf turn text → LeadToContent state (text ∷ texts) → EndsIn whole state turn written end → IsUnrefused end
-last_unrefused one state turn text texts written end front leads (inr cut) = subst IsUnrefused (sym cut.2) tt
-last_unrefused one state turn text texts written end front (inl content) (inl asked) = content_unrefused one state turn text written end front content asked.1
-last_unrefused one state turn text texts written end front (inr (next, said, more)) (inl asked) = redirection_unrefused one state next turn text written end front said asked.1
+last_unrefused : OneAnswer → (manner : Manner) (state : ClientState) (turn : Turn) (text : List ℕ) (texts : List (List ℕ)) (written : List ℕ) (end : GetEnd) → IsFrontOf turn text → LeadToContent manner state (text ∷ texts) → EndsIn (whole manner) state turn written end → IsUnrefused end
+last_unrefused one manner state turn text texts written end front leads (inr cut) = subst IsUnrefused (sym cut.2) tt
+last_unrefused one manner state turn text texts written end front (inl content) (inl asked) = content_unrefused one manner state turn text written end front content asked.1
+last_unrefused one manner state turn text texts written end front (inr (next, said, more)) (inl asked) = redirection_unrefused one manner state next turn text written end front said asked.1
 
 -- at a state
-at_unrefused : OneAnswer → (state : ClientState) (last : Option Turn) (texts : List (List ℕ)) (written : List ℕ) (end : GetEnd) → AreFronts (option_to_list last) texts → LeadToContent state texts → EndsAt whole state last written end → IsUnrefused end
-at_unrefused one state None texts written ends.Done fronts leads ends = tt
-at_unrefused one state None texts written ends.Memory fronts leads ends = tt
-at_unrefused one state None texts written ends.Link fronts leads ends = tt
-at_unrefused one state None texts written ends.Sink fronts leads ends = tt
-at_unrefused one state None texts written ends.BadUrl fronts leads ends = absurd ends
-at_unrefused one state None texts written (ends.Refused status) fronts leads ends = absurd ends
-at_unrefused one state None texts written ends.Redirects fronts leads ends = absurd ends
-at_unrefused one state None texts written ends.Reply fronts leads ends = absurd ends
-at_unrefused one state (Some turn) [] written end fronts leads ends = absurd fronts
-at_unrefused one state (Some turn) (text ∷ texts) written end fronts leads ends = last_unrefused one state turn text texts written end fronts.0 leads ends.1
+at_unrefused : OneAnswer → (manner : Manner) (state : ClientState) (last : Option Turn) (texts : List (List ℕ)) (written : List ℕ) (end : GetEnd) → AreFronts (option_to_list last) texts → LeadToContent manner state texts → EndsAt (whole manner) state last written end → IsUnrefused end
+at_unrefused one manner state None texts written ends.Done fronts leads ends = tt
+at_unrefused one manner state None texts written ends.Memory fronts leads ends = tt
+at_unrefused one manner state None texts written ends.Link fronts leads ends = tt
+at_unrefused one manner state None texts written ends.Sink fronts leads ends = tt
+at_unrefused one manner state None texts written ends.BadUrl fronts leads ends = absurd ends
+at_unrefused one manner state None texts written (ends.Refused status) fronts leads ends = absurd ends
+at_unrefused one manner state None texts written ends.Redirects fronts leads ends = absurd ends
+at_unrefused one manner state None texts written ends.Reply fronts leads ends = absurd ends
+at_unrefused one manner state (Some turn) [] written end fronts leads ends = absurd fronts
+at_unrefused one manner state (Some turn) (text ∷ texts) written end fronts leads ends = last_unrefused one manner state turn text texts written end fronts.0 leads ends.1
 
 -- The whole
 
-pub unrefused : OneAnswer → (state : ClientState) (through : List Turn) (content : List ℕ) (reached : ClientState) (last : Option Turn) (texts : List (List ℕ)) (rest : List ℕ) (end : GetEnd) → state.replies ≡ 1 → Leads whole state through content reached → EndsAt whole reached last rest end → AreFronts (through ++ option_to_list last) texts → LeadToContent state texts → IsUnrefused end
-unrefused one state [] content reached last texts rest end wanted leads ends fronts lead =
-    at_unrefused one state last texts rest end fronts lead (subst (λ (p : ClientState). EndsAt whole p last rest end) leads.1 ends)
-unrefused one state (turn ∷ through) content reached last [] rest end wanted leads ends fronts lead = absurd fronts
-unrefused one state (turn ∷ through) content reached last (text ∷ texts) rest end wanted (some, (next, first, more, goes, split, leads)) ends fronts lead =
+pub unrefused : OneAnswer → (manner : Manner) (state : ClientState) (through : List Turn) (content : List ℕ) (reached : ClientState) (last : Option Turn) (texts : List (List ℕ)) (rest : List ℕ) (end : GetEnd) → state.replies ≡ 1 → Leads (whole manner) state through content reached → EndsAt (whole manner) reached last rest end → AreFronts (through ++ option_to_list last) texts → LeadToContent manner state texts → IsUnrefused end
+unrefused one manner state [] content reached last texts rest end wanted leads ends fronts lead =
+    at_unrefused one manner state last texts rest end fronts lead (subst (λ (p : ClientState). EndsAt (whole manner) p last rest end) leads.1 ends)
+unrefused one manner state (turn ∷ through) content reached last [] rest end wanted leads ends fronts lead = absurd fronts
+unrefused one manner state (turn ∷ through) content reached last (text ∷ texts) rest end wanted (some, (next, first, more, goes, split, leads)) ends fronts lead =
     let was = goes.leads in
     let front = fronts.0 in
     let longer = says_more turn.reply front.left text was.head was.behind front.split was.says in
     elim was.so [
-      | inr brings ↦ none_goes_on whole next through more reached last rest end (ap (λ (p : ClientState). p.replies) brings.next_is ∙ none_wanted was.head.length state.replies wanted) leads ends
+      | inr brings ↦ none_goes_on (whole manner) next through more reached last rest end (ap (λ (p : ClientState). p.replies) brings.next_is ∙ none_wanted was.head.length state.replies wanted) leads ends
       | inl redirects ↦ elim lead [
         | inl said ↦
             let same = same_head one text was.head said.head _ _ longer said.says in
@@ -173,6 +174,6 @@ unrefused one state (turn ∷ through) content reached last (text ∷ texts) res
             let same = same_head one text was.head led.1.head _ _ longer led.1.says in
             let state_is = one_state state was.head led.1.head next led.0 same.0 redirects.0 led.1.so in
             let still : next.replies ≡ 1 = ap (λ (p : ClientState). p.replies) redirects.0.follows.next_is ∙ wanted in
-            unrefused one next through more reached last texts rest end still leads ends fronts.1 (subst (λ (p : ClientState). LeadToContent p texts) (sym state_is) led.2)
+            unrefused one manner next through more reached last texts rest end still leads ends fronts.1 (subst (λ (p : ClientState). LeadToContent manner p texts) (sym state_is) led.2)
       ]
     ]

@@ -5,6 +5,7 @@ use Rattle.std.proofs.Math.Bool.{and-false}
 use Rattle.oc_fetch.specs.Completeness.{text_of}
 use Rattle.oc_fetch.specs.Conversations.{GoesOn, Leads, EndsAt}
 use Rattle.oc_fetch.specs.Turns.{Turn, Talk, Talks, begun, ended_by, last_by, behind_turn, behind_turns, no_talks, all_of, talks_of, IsTold, AreTold, IsCutAddress}
+use Rattle.oc_fetch.specs.Manners.{Manner}
 use Rattle.oc_fetch.specs.Wishes.{whole, dialled_at}
 use Rattle.oc_fetch.specs.declared.end.GetEnd.{GetEnd}
 use Rattle.oc_fetch.specs.declared.client_state.ClientState.{ClientState}
@@ -31,23 +32,23 @@ cut_dials false state None e f = absurd f
 cut_dials false state (Some address) e f = (address, refl)
 
 -- after a turn for a whole content no connection is kept
-still_new : (state : ClientState) (turn : Turn) (content : List ℕ) (next : ClientState) → GoesOn whole state turn content next → next.kept ≡ false
-still_new state turn content next goes = elim goes.leads.so [
+still_new : (manner : Manner) (state : ClientState) (turn : Turn) (content : List ℕ) (next : ClientState) → GoesOn (whole manner) state turn content next → next.kept ≡ false
+still_new manner state turn content next goes = elim goes.leads.so [
   | inl redirects ↦ ap (λ (p : ClientState). p.kept) redirects.0.follows.next_is
   | inr brings ↦ ap (λ (p : ClientState). p.kept) brings.next_is ∙ ap (λ b. not goes.leads.head.closes && b) brings.serves.taken ∙ and-false (not goes.leads.head.closes)
 ]
 
-pub all_dial : (state : ClientState) (through : List Turn) (content : List ℕ) (reached : ClientState) (last : Option Turn) (rest : List ℕ) (end : GetEnd) → state.kept ≡ false → Leads whole state through content reached → EndsAt whole reached last rest end → AllDial (through ++ option_to_list last)
-all_dial state [] content reached None rest end new leads ends = tt
-all_dial state [] content reached (Some turn) rest end new leads ends =
+pub all_dial : (manner : Manner) (state : ClientState) (through : List Turn) (content : List ℕ) (reached : ClientState) (last : Option Turn) (rest : List ℕ) (end : GetEnd) → state.kept ≡ false → Leads (whole manner) state through content reached → EndsAt (whole manner) reached last rest end → AllDial (through ++ option_to_list last)
+all_dial manner state [] content reached None rest end new leads ends = tt
+all_dial manner state [] content reached (Some turn) rest end new leads ends =
     let fresh : reached.kept ≡ false = ap (λ (p : ClientState). p.kept) leads.1 ∙ new in
     elim ends.1 [
       | inl asked ↦ let d = asked_dials reached.kept reached turn.dialled fresh asked.0.dialled in (record { address = d.0; dialled = d.1 }, tt)
       | inr cut ↦ let d = cut_dials reached.kept reached turn.dialled fresh cut.0.address in (record { address = d.0; dialled = d.1 }, tt)
     ]
-all_dial state (turn ∷ through) content reached last rest end new (some, (next, first, more, goes, split, leads)) ends =
+all_dial manner state (turn ∷ through) content reached last rest end new (some, (next, first, more, goes, split, leads)) ends =
     let d = asked_dials state.kept state turn.dialled new goes.asks.dialled in
-    (record { address = d.0; dialled = d.1 }, all_dial next through more reached last rest end (still_new state turn first next goes) leads ends)
+    (record { address = d.0; dialled = d.1 }, all_dial manner next through more reached last rest end (still_new manner state turn first next goes) leads ends)
 
 -- What the dials gave
 

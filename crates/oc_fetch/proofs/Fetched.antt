@@ -5,6 +5,7 @@ use Rattle.oc_fetch.specs.Addresses.{IsAddressOf, IsBadAddress}
 use Rattle.oc_fetch.specs.Completeness.{text_of, LeadToContent, IsUnrefused, Completes}
 use Rattle.oc_fetch.specs.Conversations.{Converses}
 use Rattle.oc_fetch.specs.Downloads.{first_state, IsUnasked, Downloads, content_of}
+use Rattle.oc_fetch.specs.Manners.{Manner}
 use Rattle.oc_fetch.specs.Ends.{end_of_url}
 use Rattle.oc_fetch.specs.Passing.{Sent, IsTalked}
 use Rattle.oc_fetch.specs.Turns.{Turn, Makes}
@@ -38,8 +39,8 @@ unsent takes breaks address k ends.Reply why sent = absurd why
 unsent takes breaks address k ends.Link why sent = absurd why
 unsent takes breaks address k ends.Sink why sent = absurd why
 
-pub unasked_talked : {K : Type 0} (takes breaks : K → List ℕ → K → Type 0) → ((k : K) → takes k [] k) → (wish_for : Parts → Wish) (address : List ℕ) (times : ℕ) (o : Option Story) (k : K) (end : GetEnd) → IsUnasked address end → IsTalked takes breaks (Downloads wish_for address times) o o k k end
-unasked_talked takes breaks nothing wish_for address times o k end why = record {
+pub unasked_talked : {K : Type 0} (takes breaks : K → List ℕ → K → Type 0) → ((k : K) → takes k [] k) → (wish_for : Parts → Wish) (said : Option ℕ) (address : List ℕ) (times : ℕ) (o : Option Story) (k : K) (end : GetEnd) → IsUnasked address end → IsTalked takes breaks (Downloads wish_for said address times) o o k k end
+unasked_talked takes breaks nothing wish_for said address times o k end why = record {
   turns = [];
   written = [];
   makes = Told-same (Makes []) makes_none o;
@@ -89,18 +90,18 @@ unasked_unrefused address url ends.Redirects good why = absurd why
 unasked_unrefused address url ends.Reply good why = absurd why
 
 -- a download whose replies lead to a content
-completes : OneAnswer → (address : List ℕ) (url : Parts) (turns : List Turn) (written : List ℕ) (end : GetEnd) → IsAddressOf address url → Downloads content_of address 1 turns written end → (old new : Story) → Makes turns old new → Completes url end old new
-completes one address url turns written end good (inl unasked) old new makes = λ made e lead. unasked_unrefused address url end good unasked.0
-completes one address url turns written end good (inr (other, is, talk)) old new makes = λ made e lead.
+completes : OneAnswer → (manner : Manner) (address : List ℕ) (url : Parts) (turns : List Turn) (written : List ℕ) (end : GetEnd) → IsAddressOf address url → Downloads (content_of manner) manner.from address 1 turns written end → (old new : Story) → Makes turns old new → Completes manner url end old new
+completes one manner address url turns written end good (inl unasked) old new makes = λ made e lead. unasked_unrefused address url end good unasked.0
+completes one manner address url turns written end good (inr (other, is, talk)) old new makes = λ made e lead.
     let same : made ≡ makes.made = append_cancel_left (dials old) made makes.made (sym e ∙ makes.dials_are) in
     let url_is = one_parsed address url other good is in
-    let from = first_state other 1 in
-    let dial = all_dial from talk.through talk.content talk.reached talk.last talk.rest end refl talk.leads talk.ends in
+    let from = first_state manner.from other 1 in
+    let dial = all_dial manner from talk.through talk.content talk.reached talk.last talk.rest end refl talk.leads talk.ends in
     let fronts = fronts_made turns makes.made (rw talk.turns_are dial) makes.told in
-    unrefused one from talk.through talk.content talk.reached talk.last (map text_of made) talk.rest end refl talk.leads talk.ends
+    unrefused one manner from talk.through talk.content talk.reached talk.last (map text_of made) talk.rest end refl talk.leads talk.ends
     (rw (← talk.turns_are, same) fronts)
-    (subst (λ (u : Parts). LeadToContent (first_state u 1) (map text_of made)) url_is lead)
+    (subst (λ (u : Parts). LeadToContent manner (first_state manner.from u 1) (map text_of made)) url_is lead)
 
-pub told_completes : {K : Type 0} (takes breaks : K → List ℕ → K → Type 0) → OneAnswer → (address : List ℕ) (url : Parts) (end : GetEnd) (a b : Option Story) (p q : K) → IsAddressOf address url → IsTalked takes breaks (Downloads content_of address 1) a b p q end → Told (Completes url end) a b
-told_completes takes breaks one address url end a b p q good talked =
-    told_so (Makes talked.turns) (Completes url end) (λ old new makes. completes one address url talked.turns talked.written end good talked.so old new makes) a b talked.makes
+pub told_completes : {K : Type 0} (takes breaks : K → List ℕ → K → Type 0) → OneAnswer → (manner : Manner) (address : List ℕ) (url : Parts) (end : GetEnd) (a b : Option Story) (p q : K) → IsAddressOf address url → IsTalked takes breaks (Downloads (content_of manner) manner.from address 1) a b p q end → Told (Completes manner url end) a b
+told_completes takes breaks one manner address url end a b p q good talked =
+    told_so (Makes talked.turns) (Completes manner url end) (λ old new makes. completes one manner address url talked.turns talked.written end good talked.so old new makes) a b talked.makes

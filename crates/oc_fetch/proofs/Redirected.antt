@@ -153,13 +153,13 @@ redirects_always one wish state (turn ∷ through) content reached last rest end
 unasked_not_redirected : (address : List ℕ) (end : GetEnd) → IsUnasked address end → end ≡ ends.Redirects → ⊥
 unasked_not_redirected address end why e = subst (λ (x : GetEnd). IsUnasked address x) e why
 
-pub stops_at_third : OneAnswer → (wish_for : Parts → Wish) (address : List ℕ) (times : ℕ) (turns : List Turn) (written : List ℕ) (end : GetEnd) → Downloads wish_for address times turns written end → StopsAtThird address turns end
-stops_at_third one wish_for address times turns written end (inl (why, none, nothing)) = record {
+pub stops_at_third : OneAnswer → (wish_for : Parts → Wish) (said : Option ℕ) (address : List ℕ) (times : ℕ) (turns : List Turn) (written : List ℕ) (end : GetEnd) → Downloads wish_for said address times turns written end → StopsAtThird address turns end
+stops_at_third one wish_for said address times turns written end (inl (why, none, nothing)) = record {
   only = λ e. absurd (unasked_not_redirected address end why e);
   always = λ third. absurd (subst (λ (t : List Turn). EndInRedirection 2 third.0 t) none third.2);
 }
-stops_at_third one wish_for address times turns written end (inr (url, good, talk)) =
-    let from = first_state url times in
+stops_at_third one wish_for said address times turns written end (inr (url, good, talk)) =
+    let from = first_state said url times in
     let wish = wish_for url in
     record {
       only = λ e. (
@@ -175,6 +175,6 @@ stops_at_third one wish_for address times turns written end (inr (url, good, tal
           (subst (λ (t : List Turn). EndInRedirection 2 url t) talk.turns_are here);
     }
 
-pub talked_third : {K : Type 0} (takes breaks : K → List ℕ → K → Type 0) → OneAnswer → (wish_for : Parts → Wish) (address : List ℕ) (times : ℕ) (a b : Option Story) (p q : K) (end : GetEnd) → IsTalked takes breaks (Downloads wish_for address times) a b p q end → IsTalked takes breaks (λ turns written end. StopsAtThird address turns end) a b p q end
-talked_third takes breaks one wish_for address times a b p q end talked =
-    talked_so takes breaks (Downloads wish_for address times) (λ turns written end. StopsAtThird address turns end) a b p q end (λ turns written so. stops_at_third one wish_for address times turns written end so) talked
+pub talked_third : {K : Type 0} (takes breaks : K → List ℕ → K → Type 0) → OneAnswer → (wish_for : Parts → Wish) (said : Option ℕ) (address : List ℕ) (times : ℕ) (a b : Option Story) (p q : K) (end : GetEnd) → IsTalked takes breaks (Downloads wish_for said address times) a b p q end → IsTalked takes breaks (λ turns written end. StopsAtThird address turns end) a b p q end
+talked_third takes breaks one wish_for said address times a b p q end talked =
+    talked_so takes breaks (Downloads wish_for said address times) (λ turns written end. StopsAtThird address turns end) a b p q end (λ turns written so. stops_at_third one wish_for said address times turns written end so) talked

@@ -1,20 +1,22 @@
 -- What a download of an address does.
-use Rattle.std.specs.Prelude.{◌≡◌, ◌⊎◌, ℕ, false, List, [], ⊤}
+use Rattle.std.specs.Prelude.{◌≡◌, ◌⊎◌, ℕ, false, Option, unwrap_or, List, [], ⊤}
 use Rattle.oc_fetch.specs.Addresses.{IsAddressOf, IsBadAddress}
 use Rattle.oc_fetch.specs.Conversations.{Converses}
 use Rattle.oc_fetch.specs.Queries.{start_of, area_of}
 use Rattle.oc_fetch.specs.Turns.{Turn}
+use Rattle.oc_fetch.specs.Manners.{Manner}
 use Rattle.oc_fetch.specs.Wishes.{Wish, whole, news}
 use Rattle.oc_fetch.specs.declared.end.GetEnd.{GetEnd}
 use Rattle.oc_fetch.specs.declared.end.GetEnd.TheVariants.{BadUrl, Memory}
 use Rattle.oc_fetch.specs.declared.client_state.ClientState.{ClientState}
 use Rattle.url.specs.Parts.{Parts}
 
--- where a client that wants `times` replies begins
-abbrev pub first_state : Parts → ℕ → ClientState
-first_state url times = record {
+-- where a client that wants `times` replies begins; its start is what is said, or else what the URL says
+abbrev pub first_state : Option ℕ → Parts → ℕ → ClientState
+first_state said url times = record {
   target = url;
-  start = start_of url.query;
+  led = false;
+  start = unwrap_or said (start_of url.query);
   kept = false;
   redirections = 2;
   replies = times;
@@ -27,15 +29,15 @@ IsUnasked address Memory = ⊤
 IsUnasked address end = ⊥
 
 -- a download of an address: a conversation from its URL on, or nothing
-abbrev pub Downloads : (Parts → Wish) → List ℕ → ℕ → List Turn → List ℕ → GetEnd → Type 0
-Downloads wish_for address times turns written end =
+abbrev pub Downloads : (Parts → Wish) → Option ℕ → List ℕ → ℕ → List Turn → List ℕ → GetEnd → Type 0
+Downloads wish_for said address times turns written end =
     (IsUnasked address end × (turns ≡ []) × (written ≡ []))
-    ⊎ ((url : Parts) × IsAddressOf address url × Converses (wish_for url) (first_state url times) turns written end)
+    ⊎ ((url : Parts) × IsAddressOf address url × Converses (wish_for url) (first_state said url times) turns written end)
 
 -- the content of a URL
-abbrev pub content_of : Parts → Wish
-content_of url = whole
+abbrev pub content_of : Manner → Parts → Wish
+content_of manner url = whole manner
 
 -- what is new of a group, for the area that the URL says
-abbrev pub news_of : Parts → Wish
-news_of url = news (area_of url.query)
+abbrev pub news_of : Manner → Parts → Wish
+news_of manner url = news manner (area_of url.query)

@@ -1,5 +1,5 @@
 -- What the query of a URL says to a client that follows a group.
-use Rattle.std.specs.Prelude.{ℕ, ◌==◌, if◌then◌else◌, Option, Some, None, unwrap_or, Result, Ok, Err, List, [], ◌∷◌, codes}
+use Rattle.std.specs.Prelude.{ℕ, Bool, ◌==◌, ◌||◌, bytes_eq, is_some, if◌then◌else◌, Option, Some, None, unwrap_or, Result, Ok, Err, List, [], ◌∷◌, codes}
 use Rattle.oc_base.specs.declared.limits.TheConstants.{MAX_START}
 use Rattle.oc_base.specs.declared.why.Why.{Why}
 use Rattle.oc_base.specs.Words.{number_in}
@@ -35,6 +35,20 @@ first_start (part ∷ more) = or_else (start_said (behind (codes "start=") part)
 abbrev pub start_of : Option (List ℕ) → ℕ
 start_of None = 0
 start_of (Some query) = unwrap_or (first_start (parts query)) 0
+
+-- a part says what is known of a group: that it is known, or how long it is
+abbrev pub is_knowledge : List ℕ → Bool
+is_knowledge part = bytes_eq part (codes "known") || is_some (behind (codes "of=") part)
+
+-- the first such part
+abbrev pub first_knowledge : List (List ℕ) → Option (List ℕ)
+first_knowledge [] = None
+first_knowledge (part ∷ more) = if is_knowledge part then Some part else first_knowledge more
+
+-- what a URL says to be known of a group, as it is written there
+abbrev pub knowledge_of : Option (List ℕ) → Option (List ℕ)
+knowledge_of None = None
+knowledge_of (Some query) = first_knowledge (parts query)
 
 -- the area of a URL, as it is written there
 abbrev pub area_of : Option (List ℕ) → Option (List ℕ)

@@ -1,5 +1,5 @@
 -- What a Location does to a client.
-use Rattle.std.specs.Prelude.{◌≡◌, ℕ, ◌-◌, ◌<◌, false, Option, Some, None, List, ⊤}
+use Rattle.std.specs.Prelude.{◌≡◌, ℕ, ◌-◌, ◌<◌, true, false, Option, Some, None, List, ⊤}
 use Rattle.oc_fetch.specs.Addresses.{LeadsTo, LeadsNowhere}
 use Rattle.oc_fetch.specs.declared.end.GetEnd.{GetEnd}
 use Rattle.oc_fetch.specs.declared.end.GetEnd.TheVariants.{Redirects, Reply, Memory}
@@ -11,9 +11,9 @@ abbrev pub IsLost : Parts → Option (List ℕ) → Type 0
 IsLost asked None = ⊤
 IsLost asked (Some location) = LeadsNowhere asked location
 
--- a state from which another URL is asked for, on a new connection
+-- a state from which the URL of a Location is asked for, on a new connection
 abbrev pub sent_to : Parts → ClientState → ClientState
-sent_to url state = record state { target = url; kept = false; redirections = state.redirections - 1 }
+sent_to url state = record state { target = url; led = true; kept = false; redirections = state.redirections - 1 }
 
 -- there is a Location, and it leads to this URL
 pub record Points (state : ClientState) (location : Option (List ℕ)) (url : Parts) : Type 0 where

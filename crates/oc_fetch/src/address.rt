@@ -12,7 +12,7 @@ use url::{ParseError, ParseResult, Url};
 
 /// Why a text leads to no URL that can be asked.
 #[derive(Clone, Copy, Debug, PartialEq, Eq)]
-pub(crate) enum UrlFault {
+pub enum UrlFault {
     /// It is no URL, or its scheme is not `http`, it has no host, or it has a user or a password.
     Bad,
     /// Memory ran out, or the URL would have 4 GB.
@@ -20,7 +20,7 @@ pub(crate) enum UrlFault {
 }
 
 /// The URL that an address is.
-pub(crate) fn read_address(alloc: Global, address: &str) -> Result<Url, UrlFault>
+pub fn read_address(alloc: Global, address: &str) -> Result<Url, UrlFault>
     ensures good { IfOk result (λ url. IsAddressOf address.now url) }
     ensures bad { IsErrOf result UrlFault.Bad → IsBadAddress address.now }
 {

@@ -5,6 +5,8 @@ use crate::target::Target;
 pub(crate) struct ClientState {
     /// The URL that is asked.
     pub(crate) target: Target,
+    /// A Location led to it.
+    pub(crate) led: bool,
     /// The byte of the group from which it asks.
     pub(crate) start: u64,
     /// The connection of the last reply is kept for the next request.

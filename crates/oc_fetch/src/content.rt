@@ -10,12 +10,10 @@ use crate::end::GetEnd;
 use crate::extent::{Extent, MAX_OPEN_BYTES};
 use crate::room::Room;
 use oc_io::{Sink, Source, write_all};
-use std::alloc::Global;
 
 /// Passes the content of a reply on from a source to a sink, through a buffer. Gives its length in
 /// bytes.
 pub(crate) fn pass_content<S: Source, K: Sink>(
-    alloc: Global,
     extent: Extent,
     source: &mut S,
     sink: &mut K,
@@ -33,7 +31,13 @@ pub(crate) fn pass_content<S: Source, K: Sink>(
             pass_counted(count, source, sink, &mut room.buffer)?;
             Ok(count)
         }
-        Extent::Chunked => pass_chunked(alloc, source, sink, &mut room.buffer, &mut room.content),
+        Extent::Chunked => pass_chunked(
+            room.alloc,
+            source,
+            sink,
+            &mut room.buffer,
+            &mut room.content,
+        ),
         Extent::ToTheEnd => pass_open(source, sink, &mut room.buffer),
     }
 }

@@ -19,7 +19,7 @@ use std::alloc::Global;
 /// Talks with servers, from a state on, until no more replies are wanted. The connection is ended.
 pub(crate) fn converse<L: Link, K: Sink>(
     alloc: Global,
-    wish: &Wish,
+    wish: &Wish<'_>,
     state: ClientState,
     link: &mut L,
     sink: &mut K,
@@ -43,7 +43,7 @@ pub(crate) fn converse<L: Link, K: Sink>(
 /// Makes one request after another.
 fn talk<L: Link, K: Sink>(
     alloc: Global,
-    wish: &Wish,
+    wish: &Wish<'_>,
     mut state: ClientState,
     link: &mut L,
     sink: &mut K,
@@ -60,7 +60,7 @@ fn talk<L: Link, K: Sink>(
 {
     let mut room = Room::new(alloc)?;
     'turns: while state.replies > 0 {
-        exchange(alloc, wish, &mut state, &mut room, link, sink)?;
+        exchange(wish, &mut state, &mut room, link, sink)?;
     }
     Ok(())
 }

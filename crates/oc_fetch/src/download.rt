@@ -8,7 +8,7 @@ ghost use Rattle.oc_fetch.specs.Downloads.{Downloads, IsUnasked, first_state, co
 ghost use Rattle.oc_fetch.specs.Ends.{end_of_url};
 ghost use Rattle.oc_fetch.specs.Passing.{IsTalked};
 ghost use Rattle.oc_fetch.specs.Redirections.{StopsAtThird};
-ghost use Rattle.oc_fetch.specs.Wishes.{wish_of};
+ghost use Rattle.oc_fetch.specs.Wishes.{wish_of, from_of};
 ghost use Rattle.oc_io.specs.Faults.{NoFall, Rose};
 ghost use Rattle.oc_link.specs.LinkCalls.{Told, CountsDialling};
 ghost use Rattle.url.specs.Parts.{Parts};
@@ -17,6 +17,7 @@ use crate::address::{UrlFault, read_address};
 use crate::client_state::ClientState;
 use crate::conversation::converse;
 use crate::end::GetEnd;
+use crate::manner::Manner;
 use crate::query;
 use crate::target::Target;
 use crate::wish::Wish;
@@ -32,10 +33,17 @@ pub const MAX_REDIRECTIONS: u8 = 2;
 
 /// Downloads the content of a URL onto a sink, in pieces of at most 64 KiB as they come (RFC 9110, section
 /// 9.3.1). The address is an `http` URL with a host, without a user and a password. Each Location of a 302
-/// is followed, at most `MAX_REDIRECTIONS` of them. A chunked reply ends it with `Reply`. With an end other than
+/// is followed, at most `MAX_REDIRECTIONS` of them. Where the manner has a byte to begin from, the first request has
+/// it as `start=` before the query of the URL; a Location says its own. A chunked reply ends it with `Reply`. With an end other than
 /// `Done` a prefix of the content was written, and nothing where no 200 came.
-pub fn get<L: Link, K: Sink>(alloc: Global, address: &str, link: &mut L, sink: &mut K) -> GetEnd
-    ensures talked { IsTalked K.takes K.fails (Downloads content_of address.now 1)
+pub fn get<L: Link, K: Sink>(
+    alloc: Global,
+    address: &str,
+    manner: &Manner<'_>,
+    link: &mut L,
+    sink: &mut K,
+) -> GetEnd
+    ensures talked { IsTalked K.takes K.fails (Downloads (content_of manner.now) manner.now.from address.now 1)
         (L.story link.old) (L.story link.new) sink.old sink.new result }
     ensures bad { IsBadAddress address.now → IsUnasked address.now result }
 
@@ -45,7 +53,7 @@ pub fn get<L: Link, K: Sink>(alloc: Global, address: &str, link: &mut L, sink: &
 
     // Where the replies lead to a whole content, they are not refused.
     ensures complete { (url : Parts) → IsAddressOf address.now url
-        → Told (Completes url result) (L.story link.old) (L.story link.new) }
+        → Told (Completes manner.now url result) (L.story link.old) (L.story link.new) }
 
     ensures link_count { CountsDialling (L.faults link.old) (L.faults link.new) }
     ensures sink_count { NoFall (K.faults sink.old) (K.faults sink.new) }
@@ -54,24 +62,25 @@ pub fn get<L: Link, K: Sink>(alloc: Global, address: &str, link: &mut L, sink: &
 {
     a_response_head_has_one_answer();
     match read_address(alloc, address) {
-        Ok(url) => download(alloc, &Wish::Whole, url, 1, link, sink),
+        Ok(url) => download(alloc, &Wish::Whole(manner), url, 1, link, sink),
         Err(fault) => unasked(fault),
     }
 }
 
 /// Downloads what is new of a group onto a sink, again and again: until a reply tells the length of its
 /// content, or until `times` replies of 200 have come. Each request asks from the byte after what was
-/// written, at first from the `start` of the URL's query, on the connection of the one before where that is
+/// written, at first from the byte of the manner, or else the `start` of the URL's query, on the connection of the one before where that is
 /// kept (RFC 9112, section 9.3). A reply may be chunked. Redirections are counted over the whole call. It
-/// ends as `get` does.
+/// ends as `get` does. Requests to the address of a Location say on what its query says to be known of the group.
 pub fn follow<L: Link, K: Sink>(
     alloc: Global,
     address: &str,
     times: u64,
+    manner: &Manner<'_>,
     link: &mut L,
     sink: &mut K,
 ) -> GetEnd
-    ensures talked { IsTalked K.takes K.fails (Downloads news_of address.now times)
+    ensures talked { IsTalked K.takes K.fails (Downloads (news_of manner.now) manner.now.from address.now times)
         (L.story link.old) (L.story link.new) sink.old sink.new result }
     ensures bad { IsBadAddress address.now → IsUnasked address.now result }
 
@@ -86,7 +95,7 @@ pub fn follow<L: Link, K: Sink>(
 {
     a_response_head_has_one_answer();
     match read_address(alloc, address) {
-        Ok(url) => match news(alloc, &url) {
+        Ok(url) => match news(alloc, manner, &url) {
             Ok(wish) => download(alloc, &wish, url, times, link, sink),
             Err(Memory) => GetEnd::Memory,
         },
@@ -105,36 +114,37 @@ fn unasked(fault: UrlFault) -> GetEnd
 }
 
 /// What a client that follows the group of a URL wishes for.
-fn news(alloc: Global, url: &Url) -> Result<Wish, Memory>
-    ensures { IfOk result (λ wish. wish_of wish ≡ news_of url.now) }
+fn news<'a>(alloc: Global, manner: &'a Manner<'a>, url: &Url) -> Result<Wish<'a>, Memory>
+    ensures { IfOk result (λ wish. wish_of wish ≡ news_of manner.now url.now) }
 {
     match query::area(url.query()) {
-        Some(area) => Ok(Wish::News(Some(String::from_str(alloc, area)?))),
-        None => Ok(Wish::News(None)),
+        Some(area) => Ok(Wish::News(manner, Some(String::from_str(alloc, area)?))),
+        None => Ok(Wish::News(manner, None)),
     }
 }
 
 /// Talks with servers, from a URL on, until `times` replies have come.
 fn download<L: Link, K: Sink>(
     alloc: Global,
-    wish: &Wish,
+    wish: &Wish<'_>,
     url: Url,
     times: u64,
     link: &mut L,
     sink: &mut K,
 ) -> GetEnd
-    ensures talked { IsTalked K.takes K.fails (Converses (wish_of wish.now) (first_state url times))
+    ensures talked { IsTalked K.takes K.fails (Converses (wish_of wish.now) (first_state (from_of (wish_of wish.now)) url times))
         (L.story link.old) (L.story link.new) sink.old sink.new result }
     ensures link_count { CountsDialling (L.faults link.old) (L.faults link.new) }
     ensures sink_count { NoFall (K.faults sink.old) (K.faults sink.new) }
     ensures link_cause { result ≡ GetEnd.Link → Rose (L.faults link.old).dialling (L.faults link.new).dialling }
     ensures sink_cause { result ≡ GetEnd.Sink → Rose (K.faults sink.old) (K.faults sink.new) }
 {
-    let start = query::start(url.query());
+    let start = wish.from().unwrap_or(query::start(url.query()));
     match Target::new(alloc, url) {
         Ok(target) => {
             let state = ClientState {
                 target,
+                led: false,
                 start,
                 kept: false,
                 redirections: MAX_REDIRECTIONS,

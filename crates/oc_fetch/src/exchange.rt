@@ -17,13 +17,11 @@ use crate::room::Room;
 use crate::wish::{Wish, write_request};
 use oc_io::Sink;
 use oc_link::{Link, Outgoing};
-use std::alloc::Global;
 
 /// Makes the request of a client in a state, passes on the content that comes, and goes to the state to
 /// which the reply leads.
 pub(crate) fn exchange<L: Link, K: Sink>(
-    alloc: Global,
-    wish: &Wish,
+    wish: &Wish<'_>,
     state: &mut ClientState,
     room: &mut Room,
     link: &mut L,
@@ -41,15 +39,14 @@ pub(crate) fn exchange<L: Link, K: Sink>(
     ensures link_cause { IsErrOf result GetEnd.Link → Rose (L.faults link.old).dialling (L.faults link.new).dialling }
     ensures sink_cause { IsErrOf result GetEnd.Sink → Rose (K.faults sink.old) (K.faults sink.new) }
 {
-    let request = write_request(alloc, wish, state)?;
+    let request = write_request(room.alloc, wish, state)?;
     ask(state, &request, link)?;
-    hear_outgoing(alloc, wish, state, room, link, sink)
+    hear_outgoing(wish, state, room, link, sink)
 }
 
 /// Takes a reply from the outgoing connection.
 fn hear_outgoing<L: Link, K: Sink>(
-    alloc: Global,
-    wish: &Wish,
+    wish: &Wish<'_>,
     state: &mut ClientState,
     room: &mut Room,
     link: &mut L,
@@ -71,5 +68,5 @@ fn hear_outgoing<L: Link, K: Sink>(
     ensures link_cause { IsErrOf result GetEnd.Link → Rose (L.faults link.old).dialling (L.faults link.new).dialling }
     ensures sink_cause { IsErrOf result GetEnd.Sink → Rose (K.faults sink.old) (K.faults sink.new) }
 {
-    hear(alloc, wish, state, room, &mut Outgoing::new(link), sink)
+    hear(wish, state, room, &mut Outgoing::new(link), sink)
 }

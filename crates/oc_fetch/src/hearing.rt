@@ -16,13 +16,11 @@ use crate::room::Room;
 use crate::wish::Wish;
 use oc_http::ReplyHead;
 use oc_io::{Sink, Source};
-use std::alloc::Global;
 
 /// Takes a reply from a source, passes its content on to a sink, and goes to the state to which it
 /// leads.
 pub(crate) fn hear<S: Source, K: Sink>(
-    alloc: Global,
-    wish: &Wish,
+    wish: &Wish<'_>,
     state: &mut ClientState,
     room: &mut Room,
     source: &mut S,
@@ -40,16 +38,15 @@ pub(crate) fn hear<S: Source, K: Sink>(
 {
     let head = room.heads.read_response_head(source)?;
     match head.status {
-        200 => take_content(alloc, wish, &head, state, room, source, sink),
-        302 => redirect(alloc, state, head.location),
+        200 => take_content(wish, &head, state, room, source, sink),
+        302 => redirect(room.alloc, state, head.location),
         status => Err(GetEnd::Refused(status)),
     }
 }
 
 /// Passes the content of a reply of 200 on, and goes to the state after it.
 fn take_content<S: Source, K: Sink>(
-    alloc: Global,
-    wish: &Wish,
+    wish: &Wish<'_>,
     head: &ReplyHead,
     state: &mut ClientState,
     room: &mut Room,
@@ -70,7 +67,7 @@ fn take_content<S: Source, K: Sink>(
     if !takes(wish, head) {
         return Err(GetEnd::Reply);
     }
-    let count = pass_content(alloc, extent_of(head), source, sink, room)?;
+    let count = pass_content(extent_of(head), source, sink, room)?;
     go_past_content(state, head, count);
     Ok(())
 }
@@ -85,12 +82,12 @@ fn go_past_content(state: &mut ClientState, head: &ReplyHead, count: u64)
 }
 
 /// Whether the client takes the content of such a reply.
-fn takes(wish: &Wish, head: &ReplyHead) -> bool
+fn takes(wish: &Wish<'_>, head: &ReplyHead) -> bool
     ensures { IsTrue result ↔ Takes (wish_of wish.now) head.now }
 {
     match wish {
-        Wish::Whole => !head.chunked,
-        Wish::News(_) => true,
+        Wish::Whole(_) => !head.chunked,
+        Wish::News(..) => true,
     }
 }
 

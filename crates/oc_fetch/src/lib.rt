@@ -14,6 +14,9 @@
 //! `StopsAtThird` says of the same turns that `Redirects` comes exactly after a third 302 with a good
 //! Location, unless a call or memory failed (`specs/Redirections`). [`get`] has one more clause,
 //! `Completes`: where the dials give replies that lead to a whole content, nothing that came is refused.
+//!
+//! [`read_address`], [`Target`], [`area`], [`area_text`] and [`authorization_line`] are for another client of such
+//! URLs: which of them can be asked, where and as which host, for which area, and with which token.
 #![tactic(auto)]
 
 mod address;
@@ -27,12 +30,23 @@ mod end;
 mod exchange;
 mod extent;
 mod hearing;
+mod manner;
+mod metered;
+mod progress_lines;
 mod query;
 mod redirection;
+mod requests;
 mod room;
 mod target;
 mod wish;
 
+pub use address::{UrlFault, read_address};
 pub use download::{MAX_REDIRECTIONS, follow, get};
 pub use end::GetEnd;
 pub use extent::MAX_OPEN_BYTES;
+pub use manner::Manner;
+pub use metered::Metered;
+pub use progress_lines::{PROGRESS_STEP, ProgressLines};
+pub use query::area;
+pub use requests::{area_text, authorization_line};
+pub use target::Target;

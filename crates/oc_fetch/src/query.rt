@@ -1,11 +1,11 @@
-//! What the query of a URL says to a client that follows a group.
+//! What the query of a URL says to a client.
 
 ghost use Rattle.std.specs.Prelude.{◌≡◌, ◌<◌, ◌==◌, ◌≤◌, [], ◌∷◌, length, IfNone, IfSome, codes, unwrap_or, option_map};
 ghost use Rattle.std.specs.List.{slice_split};
 ghost use Rattle.std.specs.Str.{byte};
 ghost use Rattle.oc_base.specs.declared.limits.TheConstants.{MAX_START as START_LIMIT};
 ghost use Rattle.oc_http.specs.Queries.{parts};
-ghost use Rattle.oc_fetch.specs.Queries.{behind, first_value, start_said, first_start, start_of, area_of};
+ghost use Rattle.oc_fetch.specs.Queries.{behind, first_value, start_said, first_start, start_of, area_of, is_knowledge, first_knowledge, knowledge_of};
 
 use oc_base::MAX_START;
 use oc_base::words::number;
@@ -22,10 +22,18 @@ pub(crate) fn start(query: Option<&str>) -> u64
 }
 
 /// The area that a URL with this query says, as it is written there.
-pub(crate) fn area(query: Option<&str>) -> Option<&str>
+pub fn area(query: Option<&str>) -> Option<&str>
     ensures { option_map (λ a. a.now) result ≡ area_of (option_map (λ q. q.now) query.entry) }
 {
     first_area(query?)
+}
+
+/// What a URL with this query says to be known of a group, as it is written there: the first part that is `known`
+/// or begins with `of=`.
+pub(crate) fn knowledge(query: Option<&str>) -> Option<&str>
+    ensures { option_map (λ k. k.now) result ≡ knowledge_of (option_map (λ q. q.now) query.entry) }
+{
+    first_knowledge(query?)
 }
 
 fn first_start(query: &str) -> Option<u64>
@@ -52,6 +60,26 @@ fn first_area(query: &str) -> Option<&str>
         }
         rest = behind?;
     }
+}
+
+fn first_knowledge(query: &str) -> Option<&str>
+    ensures { option_map (λ k. k.now) result ≡ first_knowledge (parts query.now) }
+{
+    let mut rest = query;
+    'parts: loop {
+        let (part, behind) = first_part(rest);
+        if is_knowledge(part) {
+            return Some(part);
+        }
+        rest = behind?;
+    }
+}
+
+/// Whether a part of a query says what is known of a group.
+fn is_knowledge(part: &str) -> bool
+    ensures { result ≡ is_knowledge part.now }
+{
+    part == "known" || part.strip_prefix("of=").is_some()
 }
 
 /// The start that a part of a query says.

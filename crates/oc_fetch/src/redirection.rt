@@ -42,6 +42,7 @@ fn go_to(state: &mut ClientState, target: Target)
     ensures { state.new ≡ sent_to target state.old }
 {
     state.target = target;
+    state.led = true;
     state.kept = false;
     state.redirections -= 1;
 }

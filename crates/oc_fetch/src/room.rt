@@ -11,6 +11,7 @@ pub(crate) const PIECE_BYTES: usize = 65_536;
 /// The memory of a conversation, which is taken before its first request.
 #[derive(Drop)]
 pub(crate) struct Room {
+    pub(crate) alloc: Global,
     pub(crate) heads: HeadReader,
     /// The bytes of a reply that have come.
     pub(crate) buffer: Vec<u8>,
@@ -26,6 +27,7 @@ impl Room {
         let mut content = Vec::new(alloc);
         content.reserve(PIECE_BYTES)?;
         Ok(Room {
+            alloc,
             heads,
             buffer,
             content,

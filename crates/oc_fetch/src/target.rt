@@ -10,7 +10,7 @@ use url::Url;
 
 /// A URL that is asked. Contracts see it as the URL.
 #[derive(Drop)]
-pub(crate) struct Target {
+pub struct Target {
     url: Url,
     address: String,
     host: String,
@@ -29,7 +29,7 @@ impl Model for Target {
 }
 
 impl Target {
-    pub(crate) fn new(alloc: Global, url: Url) -> Result<Target, Memory>
+    pub fn new(alloc: Global, url: Url) -> Result<Target, Memory>
         ensures { IfOk result (λ target. target ≡ url) }
     {
         let address = dial_address(alloc, &url)?;
@@ -37,21 +37,21 @@ impl Target {
         Ok(Target { url, address, host })
     }
 
-    pub(crate) fn url(&self) -> &Url
+    pub fn url(&self) -> &Url
         ensures { result.now ≡ self.now }
     {
         &self.url
     }
 
     /// Where the URL is asked for: its host, and its port or 80.
-    pub(crate) fn address(&self) -> &str
+    pub fn address(&self) -> &str
         ensures { result.now ≡ dial_address self.now }
     {
         self.address.as_str()
     }
 
     /// The Host field of a request for the URL.
-    pub(crate) fn host(&self) -> &str
+    pub fn host(&self) -> &str
         ensures { result.now ≡ host_of self.now }
     {
         self.host.as_str()

@@ -1,0 +1,13 @@
+mod Added
+mod Carried
+mod Dialled
+mod Filled
+mod Heard
+mod Led
+mod Lines
+mod Making
+mod Pieces
+mod Published
+mod Rising
+mod Sent
+mod Texts

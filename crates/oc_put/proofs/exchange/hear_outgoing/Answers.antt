@@ -1,0 +1,11 @@
+use Rattle.std.proofs.Common.{rules}
+use Rattle.oc_put.specs.Replies.{Answers}
+use Rattle.oc_link.specs.declared.outgoing.Outgoing.{Outgoing}
+use Rattle.oc_put.proofs.Dialled.{outgoing_heard}
+use Rattle.oc_put.proofs.exchange.hear_outgoing.Goals as goal
+
+pub returns-clause-heard : goal.returns-clause-heard
+returns-clause-heard g c =
+    outgoing_heard (λ (o : Outgoing g.row.L.Denot). record { name = o.link.ghost_name; story = g.L.Link.story o.link.now; faults = g.L.Link.faults o.link.now })
+    g.L.Link.story (λ reply over. Answers c.args.asks reply over c.hear.result)
+    c.new.result c.hear.new.source c.args.link.now _ c.hear.result (search rules) (search rules) c.hear.ensures.heard

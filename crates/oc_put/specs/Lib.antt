@@ -1,0 +1,13 @@
+pub mod Carrying
+pub mod Efforts
+pub mod Examples
+pub mod Filling
+pub mod Hearing
+pub mod Inputs
+pub mod Jobs
+pub mod Places
+pub mod Publishing
+pub mod Replies
+pub mod Requests
+pub mod Sources
+pub mod Turns

@@ -1,0 +1,23 @@
+//! What a publishing does to a group, as laws: the functions do nothing.
+
+ghost use Rattle.std.specs.Prelude.{List, ℕ};
+ghost use Rattle.oc_put.specs.Publishing.{IsDone};
+ghost use Rattle.oc_put.specs.Sources.{Group, Source, Serves, fresh, Adds};
+ghost use Rattle.oc_put.specs.Turns.{Turn};
+ghost use Rattle.oc_put.specs.Examples.{AreTexts, AreAnswers, AreSteps, AreArrivals};
+ghost use Rattle.oc_put.specs.declared.plan.Plan.{Plan};
+
+/// Over a source that answers by the rules, into whose group nobody else publishes, a publishing that is done
+/// has added its input once, whichever dials failed and whenever what they sent arrived.
+pub fn the_input_is_added_once()
+    ensures { (plan : Plan) (turns : List Turn) (input : List ℕ) (group : Group) (after : Source)
+        → IsDone plan turns input → Serves (fresh group) turns after → Adds plan input group after.group }
+{}
+
+/// The worked examples of `specs/Examples` come out as they say.
+pub fn examples_compute()
+    ensures texts { AreTexts }
+    ensures answers { AreAnswers }
+    ensures steps { AreSteps }
+    ensures arrivals { AreArrivals }
+{}

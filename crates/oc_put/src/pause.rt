@@ -1,0 +1,5 @@
+/// What a client does behind a failure, before it tries again.
+pub trait Pause {
+    /// Waits a second.
+    fn pause(&mut self);
+}

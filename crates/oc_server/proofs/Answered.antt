@@ -8,13 +8,15 @@ use Rattle.oc_model.specs.declared.input.Input.{Input}
 use Rattle.oc_model.specs.declared.message.Message.{Message}
 use Rattle.oc_probe.specs.declared.fault.ProbeFault.{ProbeFault}
 use Rattle.oc_probe.specs.declared.probing.Probing.{Probing}
+use Rattle.oc_reply.specs.Conditions.{unmet}
 use Rattle.oc_reply.specs.declared.verdict.Request.{Request}
 use Rattle.oc_reply.specs.declared.verdict.Verdict.{Verdict}
 use Rattle.oc_reply.specs.declared.verdict.Verdict.TheVariants as verdicts
 use Rattle.oc_reply.specs.declared.waiting.Prospect.{Prospect}
 use Rattle.oc_reply.specs.declared.waiting.Prospect.TheVariants as prospects
+use Rattle.oc_routes.specs.declared.refused.Refused.{Refused}
 use Rattle.oc_server.specs.Answered.{AreAnswered, AreAnsweredBy, IsAnsweredBy, answer_of, back_of}
-use Rattle.oc_server.specs.Asks.{has_to_wait, obeys, responds, takes_on, takes_up, waiting}
+use Rattle.oc_server.specs.Asks.{has_to_wait, obeys, refuses_or, responds, takes_on, takes_up, waiting}
 use Rattle.oc_server.specs.Choices.{due_place, next_to_dial, prospect_of, wait_for}
 use Rattle.oc_server.specs.Deeds.{Deed, Sees, Reads, Tells, Takes, Accepts, Notes, Permits, Waits, Replies, Refuses, BreaksOff, Gives, LaysAside, Drops, Dials, Probes, Running, Setting, after, after_all}
 use Rattle.oc_server.specs.Hurries.{came_hurries}
@@ -133,11 +135,15 @@ responded r None now s a = (refl, tt)
 responded r (Some i) now s a = (tt, (refl, tt))
 
 took_on : (c : ℕ) (request : Request) (now : ℕ) (s : Setting) (a : Running) → AreAnswered s (takes_on c request now s a) a
-took_on c request now s a = by_test (has_to_wait request a.node)
+took_on c request now s a = by_condition (unmet request.operation a.node.control.me (shelf a.node.groups))
   where
     by_test : (b : Bool) → AreAnswered s (if b then Waits (waiting c request now) ∷ [] else responds (pending c request (is_some request.input) false) request.input now s a) a
     by_test true = (tt, tt)
     by_test false = responded (pending c request (is_some request.input) false) request.input now s a
+
+    by_condition : (why : Option Refused) → AreAnswered s (refuses_or why c request now s a) a
+    by_condition (Some why) = (tt, tt)
+    by_condition None = by_test (has_to_wait request a.node)
 
 obeyed : (c count : ℕ) (v : Verdict) (now : ℕ) (s : Setting) (a : Running) → AreAnswered s (obeys c count v now s a) a
 obeyed c count verdicts.Wait now s a = tt

@@ -6,11 +6,11 @@ use Rattle.oc_events.specs.Told.{AddsAll}
 use Rattle.oc_events.specs.declared.call.Call.{Call}
 use Rattle.oc_events.specs.declared.call.Call.TheVariants as acts
 use Rattle.oc_events.specs.declared.counts.Counts.{Counts}
-use Rattle.oc_http.specs.Writing.{probe_text, request_text}
+use Rattle.oc_http.specs.Writing.{probe_text}
 use Rattle.oc_io.specs.DiskView.{DiskView}
 use Rattle.oc_keep.specs.KeptView.{node_of}
 use Rattle.oc_model.specs.declared.message.Message.{Message}
-use Rattle.oc_wire.specs.Spelling.{spelling}
+use Rattle.oc_wire.specs.Macs.{request_of}
 use Rattle.oc_server.specs.Deeds.{Dials, Probes, address_at}
 use Rattle.oc_server.specs.Dials.{brings, dialling}
 use Rattle.oc_server.specs.Outboxes.{without_at}
@@ -26,17 +26,19 @@ use Rattle.oc_server.proofs.Steps.{did_step}
 
 module _ {D L K : Type 0} (view : D → DiskView) (takes fails : K → List ℕ → K → Type 0) (faults : K → ℕ) (story : L → Option (List Call)) (counts : L → Counts) where
   -- a message was taken out of the outbox and dialled
-  pub dialled : (takes_nothing : (k : K) → takes k [] k) (place : ℕ) (m : Message) (d : ℕ) (old : Server D L K) (outbox : List Message) (ds : List Dialling) (link : L) (address : List ℕ)
+  pub dialled : (takes_nothing : (k : K) → takes k [] k) (place : ℕ) (m : Message) (d : ℕ) (old : Server D L K) (outbox : List Message) (ds : List Dialling) (link : L) (address text : List ℕ)
       → old.kept.closed ≡ false → slice_get old.outbox place ≡ Some m → outbox ≡ without_at place old.outbox → ds ≡ old.dials ++ dialling d (brings m) ∷ []
-      → address ≡ address_at old.config.addresses m.to → AddsAll (acts.Dial d address (request_text address (spelling m)) ∷ []) (story old.link) (story link) → counts link ≡ counts old.link
+      → address ≡ address_at old.config.addresses m.to → text ≡ request_of old.config.key (address_at old.config.addresses m.to) m → AddsAll (acts.Dial d address text ∷ []) (story old.link) (story link) → counts link ≡ counts old.link
       → Did view takes faults story counts (Dials place m d ∷ []) old (record old { outbox = outbox; dials = ds; link = link })
-  dialled takes_nothing place m d old outbox ds link address is_open there rest begun at made counted =
+  dialled takes_nothing place m d old outbox ds link address text is_open there rest begun at said made counted =
       did_step view takes fails faults story counts (Dials place m d) old (record old { outbox = outbox; dials = ds; link = link }) refl refl (takes_nothing old.sink) (omega arith) counted (looks_none view old.kept is_open)
       lawful
       (λ honest.
       ap (λ (ms : List Message). record { node = node_of old.kept; outbox = ms; works = old.works; dials = ds }) rest
       ∙ ap (λ (x : List Dialling). record { node = node_of old.kept; outbox = without_at place old.outbox; works = old.works; dials = x }) begun)
-      (λ honest. subst (λ (a : List ℕ). AddsAll (acts.Dial d a (request_text a (spelling m)) ∷ []) (story old.link) (story link)) at made)
+      (λ honest.
+      subst (λ (t : List ℕ). AddsAll (acts.Dial d (address_at old.config.addresses m.to) t ∷ []) (story old.link) (story link)) said
+      (subst (λ (a : List ℕ). AddsAll (acts.Dial d a text ∷ []) (story old.link) (story link)) at made))
     where
       nodes : ℕ
       nodes = old.kept.node.control.nodes

@@ -30,7 +30,9 @@ use Rattle.oc_model.specs.Step.{step}
 use Rattle.oc_probe.specs.declared.fault.ProbeFault.{ProbeFault}
 use Rattle.oc_probe.specs.declared.probing.Probing.{Probing}
 use Rattle.oc_reply.specs.Asks.{IsInputOf}
+use Rattle.oc_reply.specs.Conditions.{unmet}
 use Rattle.oc_reply.specs.Hints.{asked_with_hint}
+use Rattle.oc_reply.specs.Macs.{is_forged}
 use Rattle.oc_reply.specs.Shown.{response_for}
 use Rattle.oc_reply.specs.Verdicts.{IsVerdict, NodeTerms, answered, fault_met, input_for, is_none, routed, unfinished, unread, verdict_for, whole, with_body}
 use Rattle.oc_reply.specs.declared.hint.Asked.{Asked}
@@ -47,17 +49,18 @@ use Rattle.oc_routes.specs.declared.fault.RouteFault.{RouteFault}
 use Rattle.oc_routes.specs.declared.fault.RouteFault.TheVariants as faults
 use Rattle.oc_routes.specs.declared.manner.Manner.{Manner}
 use Rattle.oc_routes.specs.declared.refused.Refused.{Refused}
+use Rattle.oc_routes.specs.declared.refused.Refused.TheVariants as refusals
 use Rattle.oc_routes.specs.declared.routes.Operation.{Operation}
 use Rattle.oc_routes.specs.declared.routes.Operation.TheVariants as asks
 use Rattle.oc_server.proofs.ChunksThere.{here_there, step_there}
 use Rattle.oc_server.proofs.Settled.{IsLeft, IsOrderly, all_quiet, breaks, drops, fits_if, gives, lays, one_at_most, orderly_behind, orderly_none, orderly_then, permits, quiet_behind, refuses_request, replies_request, settled_by, waits}
-use Rattle.oc_server.specs.Asks.{has_to_wait, holding_for, obeys, replies, responds, takes_on, takes_up, waiting}
+use Rattle.oc_server.specs.Asks.{has_to_wait, holding_for, obeys, refuses_or, replies, report_for, responds, response_now, takes_on, takes_up, waiting}
 use Rattle.oc_server.specs.Brought.{comes_back}
 use Rattle.oc_server.specs.Choices.{due_place, next_to_dial, prospect_of, wait_for}
 use Rattle.oc_server.specs.Deeds.{Deed, Sees, Reads, Takes, Accepts, Waits, Running, Setting, after, after_all, back_to, calls_of, content_in, sender_of}
 use Rattle.oc_server.specs.Hurries.{came_hurries}
 use Rattle.oc_server.specs.Pace.{wait_until}
-use Rattle.oc_server.specs.Parts.{nothing, one}
+use Rattle.oc_server.specs.Parts.{nothing}
 use Rattle.oc_server.specs.Replying.{HasContent, IsGivable, MayAnswer, stage_on, works_on}
 use Rattle.oc_server.specs.Rooms.{goes_on, has_failed, is_told, moves, room, room_for}
 use Rattle.oc_server.specs.Rooms as rooms
@@ -153,66 +156,72 @@ abbrev pub HasInput : Verdict → Type 0
 HasInput (verdicts.Ask request) = IsInputOf request.operation request.hint request.input
 HasInput verdict = Unit {0}
 
-client_at_once : (group : List ℕ) (area start : ℕ) (manner : Manner) (hint : Hint) (last : Bool) (back : Option Message) (ks : List Group) (addresses : List (List ℕ))
+client_at_once : (group : List ℕ) (area start : ℕ) (manner : Manner) (hint : Hint) (last : Bool) (back : Option Message) (ks : List Group) (addresses : List (List ℕ)) (key : Option (List ℕ)) (told : List ℕ)
     → IsInputOf (asks.Client group area start manner) hint None
-    → IsGivable (content_in (asks.Client group area start manner) (response_for (record { operation = asks.Client group area start manner; hint = hint }) last answers.Ok back (holding_for (asks.Client group area start manner) ks) addresses).content) ks
-client_at_once group area start manner Here last back ks addresses is = here_there answers.Ok ks group area start manner last addresses
-client_at_once group area start manner Plain last back ks addresses is = let none : None ≡ Some (inputs.Client area start group) = is in absurd (cc none)
-client_at_once group area start manner (Of n) last back ks addresses is = let none : None ≡ Some (inputs.Client area start group) = is in absurd (cc none)
-client_at_once group area start manner Known last back ks addresses is = let none : None ≡ Some (inputs.Client area start group) = is in absurd (cc none)
+    → IsGivable (content_in (asks.Client group area start manner) (response_for (record { operation = asks.Client group area start manner; hint = hint }) last answers.Ok back (holding_for (asks.Client group area start manner) ks) addresses key told).content) ks
+client_at_once group area start manner Here last back ks addresses key told is = here_there answers.Ok ks group area start manner last addresses
+client_at_once group area start manner Plain last back ks addresses key told is = let none : None ≡ Some (inputs.Client area start group) = is in absurd (cc none)
+client_at_once group area start manner (Of n) last back ks addresses key told is = let none : None ≡ Some (inputs.Client area start group) = is in absurd (cc none)
+client_at_once group area start manner Known last back ks addresses key told is = let none : None ≡ Some (inputs.Client area start group) = is in absurd (cc none)
 
-at_once : (operation : Operation) (hint : Hint) (last : Bool) (back : Option Message) (ks : List Group) (addresses : List (List ℕ)) → IsInputOf operation hint None
-    → IsGivable (content_in operation (response_for (record { operation = operation; hint = hint }) last answers.Ok back (holding_for operation ks) addresses).content) ks
-at_once asks.Message hint last back ks addresses is = tt
-at_once (asks.Publish group) hint last back ks addresses is = tt
-at_once (asks.Seal group) hint last back ks addresses is = tt
-at_once (asks.Client group area start manner) hint last back ks addresses is = client_at_once group area start manner hint last back ks addresses is
-at_once (asks.Probe manner) hint last back ks addresses is = tt
+at_once : (operation : Operation) (hint : Hint) (last : Bool) (back : Option Message) (ks : List Group) (addresses : List (List ℕ)) (key : Option (List ℕ)) (told : List ℕ) → IsInputOf operation hint None
+    → IsGivable (content_in operation (response_for (record { operation = operation; hint = hint }) last answers.Ok back (holding_for operation ks) addresses key told).content) ks
+at_once asks.Message hint last back ks addresses key told is = tt
+at_once (asks.Publish group at) hint last back ks addresses key told is = tt
+at_once (asks.Seal group at) hint last back ks addresses key told is = tt
+at_once (asks.Client group area start manner) hint last back ks addresses key told is = client_at_once group area start manner hint last back ks addresses key told is
+at_once (asks.Probe manner) hint last back ks addresses key told is = tt
+at_once (asks.Report report manner) hint last back ks addresses key told is = tt
 
-client_by_step : (group : List ℕ) (area start : ℕ) (manner : Manner) (hint : Hint) (last : Bool) (i : Input) (back : Option Message) (n : Node) (addresses : List (List ℕ))
+client_by_step : (group : List ℕ) (area start : ℕ) (manner : Manner) (hint : Hint) (last : Bool) (i : Input) (back : Option Message) (n : Node) (addresses : List (List ℕ)) (key : Option (List ℕ)) (told : List ℕ)
     → Some i ≡ Some (inputs.Client area start group)
-    → IsGivable (content_in (asks.Client group area start manner) (response_for (record { operation = asks.Client group area start manner; hint = hint }) last (step n i).answer back (holding_for (asks.Client group area start manner) (step n i).node.groups) addresses).content) (step n i).node.groups
-client_by_step group area start manner hint last i back n addresses is =
+    → IsGivable (content_in (asks.Client group area start manner) (response_for (record { operation = asks.Client group area start manner; hint = hint }) last (step n i).answer back (holding_for (asks.Client group area start manner) (step n i).node.groups) addresses key told).content) (step n i).node.groups
+client_by_step group area start manner hint last i back n addresses key told is =
     let same : i ≡ inputs.Client area start group = cc in
-    subst (λ (j : Input). IsGivable (content_in (asks.Client group area start manner) (response_for (record { operation = asks.Client group area start manner; hint = hint }) last (step n j).answer back (holding_for (asks.Client group area start manner) (step n j).node.groups) addresses).content) (step n j).node.groups)
+    subst (λ (j : Input). IsGivable (content_in (asks.Client group area start manner) (response_for (record { operation = asks.Client group area start manner; hint = hint }) last (step n j).answer back (holding_for (asks.Client group area start manner) (step n j).node.groups) addresses key told).content) (step n j).node.groups)
     (sym same) (step_there n group area start manner hint last addresses)
 
-client_step : (group : List ℕ) (area start : ℕ) (manner : Manner) (hint : Hint) (last : Bool) (i : Input) (back : Option Message) (n : Node) (addresses : List (List ℕ))
+client_step : (group : List ℕ) (area start : ℕ) (manner : Manner) (hint : Hint) (last : Bool) (i : Input) (back : Option Message) (n : Node) (addresses : List (List ℕ)) (key : Option (List ℕ)) (told : List ℕ)
     → IsInputOf (asks.Client group area start manner) hint (Some i)
-    → IsGivable (content_in (asks.Client group area start manner) (response_for (record { operation = asks.Client group area start manner; hint = hint }) last (step n i).answer back (holding_for (asks.Client group area start manner) (step n i).node.groups) addresses).content) (step n i).node.groups
-client_step group area start manner Here last i back n addresses is = let none : Some i ≡ None = is in absurd (cc none)
-client_step group area start manner Plain last i back n addresses is = client_by_step group area start manner Plain last i back n addresses is
-client_step group area start manner (Of m) last i back n addresses is = client_by_step group area start manner (Of m) last i back n addresses is
-client_step group area start manner Known last i back n addresses is = client_by_step group area start manner Known last i back n addresses is
+    → IsGivable (content_in (asks.Client group area start manner) (response_for (record { operation = asks.Client group area start manner; hint = hint }) last (step n i).answer back (holding_for (asks.Client group area start manner) (step n i).node.groups) addresses key told).content) (step n i).node.groups
+client_step group area start manner Here last i back n addresses key told is = let none : Some i ≡ None = is in absurd (cc none)
+client_step group area start manner Plain last i back n addresses key told is = client_by_step group area start manner Plain last i back n addresses key told is
+client_step group area start manner (Of m) last i back n addresses key told is = client_by_step group area start manner (Of m) last i back n addresses key told is
+client_step group area start manner Known last i back n addresses key told is = client_by_step group area start manner Known last i back n addresses key told is
 
-by_step : (operation : Operation) (hint : Hint) (last : Bool) (i : Input) (back : Option Message) (n : Node) (addresses : List (List ℕ)) → IsInputOf operation hint (Some i)
-    → IsGivable (content_in operation (response_for (record { operation = operation; hint = hint }) last (step n i).answer back (holding_for operation (step n i).node.groups) addresses).content) (step n i).node.groups
-by_step asks.Message hint last i back n addresses is = tt
-by_step (asks.Publish group) hint last i back n addresses is = tt
-by_step (asks.Seal group) hint last i back n addresses is = tt
-by_step (asks.Client group area start manner) hint last i back n addresses is = client_step group area start manner hint last i back n addresses is
-by_step (asks.Probe manner) hint last i back n addresses is = tt
+by_step : (operation : Operation) (hint : Hint) (last : Bool) (i : Input) (back : Option Message) (n : Node) (addresses : List (List ℕ)) (key : Option (List ℕ)) (told : List ℕ) → IsInputOf operation hint (Some i)
+    → IsGivable (content_in operation (response_for (record { operation = operation; hint = hint }) last (step n i).answer back (holding_for operation (step n i).node.groups) addresses key told).content) (step n i).node.groups
+by_step asks.Message hint last i back n addresses key told is = tt
+by_step (asks.Publish group at) hint last i back n addresses key told is = tt
+by_step (asks.Seal group at) hint last i back n addresses key told is = tt
+by_step (asks.Client group area start manner) hint last i back n addresses key told is = client_step group area start manner hint last i back n addresses key told is
+by_step (asks.Probe manner) hint last i back n addresses key told is = tt
+by_step (asks.Report report manner) hint last i back n addresses key told is = tt
 
 -- a request is answered by its step, or at once
 pub responding : (s : Setting) (made : List Call) (r : Pending) (input : Option Input) (now : ℕ) (a : Running) → MayAnswer r.waited r.connection made a.works
     → IsInputOf r.asked.operation r.asked.hint input → IsSettled made a.works → IsOrderly s made (responds r input now s a) a
 responding s made r None now a may is settled =
-    replies_request s made r (response_for r.asked r.last answers.Ok None (holding_for r.asked.operation a.node.groups) s.addresses) now a may
-    (at_once r.asked.operation r.asked.hint r.last None a.node.groups s.addresses is) settled
+    replies_request s made r (response_now r answers.Ok None s a) now a may
+    (at_once r.asked.operation r.asked.hint r.last None a.node.groups s.addresses s.key (report_for r.asked.operation a) is) settled
 responding s made r (Some i) now a may is settled =
     quiet_behind s made (Accepts i) (replies r now (step a.node i).answer (back_to (sender_of i) (step a.node i).sends) s (after (Accepts i) a)) a tt settled
     (λ behind. replies_request s (made ++ []) r
-    (response_for r.asked r.last (step a.node i).answer (back_to (sender_of i) (step a.node i).sends) (holding_for r.asked.operation (step a.node i).node.groups) s.addresses) now (after (Accepts i) a)
+    (response_now r (step a.node i).answer (back_to (sender_of i) (step a.node i).sends) s (after (Accepts i) a)) now (after (Accepts i) a)
     (subst (λ (cs : List Call). MayAnswer r.waited r.connection cs a.works) (sym (append-nil made)) may)
-    (by_step r.asked.operation r.asked.hint r.last i (back_to (sender_of i) (step a.node i).sends) a.node s.addresses is) behind)
+    (by_step r.asked.operation r.asked.hint r.last i (back_to (sender_of i) (step a.node i).sends) a.node s.addresses s.key (report_for r.asked.operation (after (Accepts i) a)) is) behind)
 
 taking_on : (s : Setting) (made : List Call) (c : ℕ) (request : Request) (now : ℕ) (a : Running) → stage_on c made ≡ Awaiting → IsInputOf request.operation request.hint request.input → IsSettled made a.works
     → IsOrderly s made (takes_on c request now s a) a
-taking_on s made c request now a may is settled = by_test (has_to_wait request a.node)
+taking_on s made c request now a may is settled = by_condition (unmet request.operation a.node.control.me (shelf a.node.groups))
   where
     by_test : (b : Bool) → IsOrderly s made (if b then Waits (waiting c request now) ∷ [] else responds (pending c request (is_some request.input) false) request.input now s a) a
     by_test true = waits s made (waiting c request now) a may settled
     by_test false = responding s made (pending c request (is_some request.input) false) request.input now a may is settled
+
+    by_condition : (why : Option Refused) → IsOrderly s made (refuses_or why c request now s a) a
+    by_condition (Some why) = refuses_request s made c request.count why a may settled
+    by_condition None = by_test (has_to_wait request a.node)
 
 pub obeying : (s : Setting) (made : List Call) (c count : ℕ) (v : Verdict) (now : ℕ) (a : Running) → stage_on c made ≡ Awaiting → HasInput v → IsSettled made a.works → IsOrderly s made (obeys c count v now s a) a
 obeying s made c count verdicts.Wait now a may is settled = orderly_none s made a settled
@@ -233,10 +242,11 @@ any_input (Err why) = tt
 
 asked_input : (nodes me : ℕ) (operation : Operation) (hint : Hint) (body : List ℕ) → IfOk (input_asked nodes me operation body) (λ (i : Option Input). IsInputOf operation hint (input_for hint i))
 asked_input nodes me asks.Message hint body = any_input (input_asked nodes me asks.Message body)
-asked_input nodes me (asks.Publish group) hint body = tt
-asked_input nodes me (asks.Seal group) hint body = any_input (input_asked nodes me (asks.Seal group) body)
+asked_input nodes me (asks.Publish group at) hint body = tt
+asked_input nodes me (asks.Seal group at) hint body = any_input (input_asked nodes me (asks.Seal group at) body)
 asked_input nodes me (asks.Client group area start manner) hint body = refl
 asked_input nodes me (asks.Probe manner) hint body = tt
+asked_input nodes me (asks.Report report manner) hint body = tt
 
 unfinished_input : (coming : Coming) (none : Bool) → HasInput (unfinished coming none)
 unfinished_input Open none = tt
@@ -259,11 +269,15 @@ body_input t x came head rest said = by_permit (awaits_continue head && not x.pe
     body : List ℕ
     body = take head.length rest
 
-    by_length : (b : Bool) → HasInput (if b then unfinished x.coming false else whole t request body)
-    by_length true = unfinished_input x.coming false
-    by_length false = answered_input request (input_asked t.nodes t.me said.operation body) (asked_input t.nodes t.me said.operation said.hint body)
+    by_mac : (b : Bool) → HasInput (if b then verdicts.Refuse refusals.Mac else answered request (input_asked t.nodes t.me said.operation body))
+    by_mac true = tt
+    by_mac false = answered_input request (input_asked t.nodes t.me said.operation body) (asked_input t.nodes t.me said.operation said.hint body)
 
-    by_permit : (b : Bool) → HasInput (if b then verdicts.Permit else if nat_lt (length rest) head.length then unfinished x.coming false else whole t request body)
+    by_length : (b : Bool) → HasInput (if b then unfinished x.coming false else whole t head request body)
+    by_length true = unfinished_input x.coming false
+    by_length false = by_mac (is_forged t.key said.operation head.mac body)
+
+    by_permit : (b : Bool) → HasInput (if b then verdicts.Permit else if nat_lt (length rest) head.length then unfinished x.coming false else whole t head request body)
     by_permit true = tt
     by_permit false = by_length (nat_lt (length rest) head.length)
 
@@ -380,7 +394,7 @@ seen_gone d loss made bytes now ws settled = record {
       (sym (seen_stage c made (events.Gone d loss) bytes now ∙ ap (λ (b : Bool). (if b then after_loss (standing_of c made) else standing_of c made).stage) apart)) (settled c);
 }
 
-back_ready : (t : NodeTerms) (errand : Errand) (reading : Result Reply HttpFault) (made : List Call) (ws : List Work) → IsSettled made ws → IsReadyFor (comes_back t.me t.nodes errand reading) made ws
+back_ready : (t : NodeTerms) (errand : Errand) (reading : Result Reply HttpFault) (made : List Call) (ws : List Work) → IsSettled made ws → IsReadyFor (comes_back t.me t.nodes t.key errand reading) made ws
 back_ready t (errands.Message to fetch) reading made ws settled = settled
 back_ready t (errands.Probe peer since) reading made ws settled = settled
 
@@ -434,10 +448,11 @@ taking_next s made pace probing t a told settled =
 
 waited_input : (operation : Operation) (hint : Hint) → IsInputOf operation hint (client_input operation hint)
 waited_input asks.Message hint = tt
-waited_input (asks.Publish group) hint = tt
-waited_input (asks.Seal group) hint = tt
+waited_input (asks.Publish group at) hint = tt
+waited_input (asks.Seal group at) hint = tt
 waited_input (asks.Client group area start manner) hint = refl
 waited_input (asks.Probe manner) hint = tt
+waited_input (asks.Report report manner) hint = tt
 
 taking_up : (s : Setting) (made : List Call) (place : ℕ) (now : ℕ) (a : Running) (o : Option Work) → slice_get a.works place ≡ o → IsSettled made a.works → IsOrderly s made (takes_up o now s a) a
 taking_up s made place now a None is settled = orderly_none s made a settled

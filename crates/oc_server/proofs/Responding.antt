@@ -1,20 +1,25 @@
 -- Requests that are answered, or wait.
-use Rattle.std.proofs.Common.{◌≡◌, ℕ, Bool, true, false, Option, Some, List, [], ◌∷◌, ◌++◌, cond, is_some, refl, sym, ap, ◌∙◌}
+use Rattle.std.proofs.Common.{◌≡◌, ℕ, Bool, true, false, Option, Some, List, [], ◌∷◌, ◌++◌, cond, is_some, length, refl, sym, ap, ◌∙◌}
 use Rattle.oc_base.specs.Groups.{shelf}
 use Rattle.oc_base.specs.declared.shelf.Shelf.{Shelf}
 use Rattle.oc_events.specs.declared.call.Call.{Call}
 use Rattle.oc_events.specs.declared.counts.Counts.{Counts}
 use Rattle.oc_io.specs.DiskView.{DiskView}
 use Rattle.oc_keep.specs.KeptView.{IsHonest, KeptView, node_of}
+use Rattle.oc_model.specs.Node.{Node}
 use Rattle.oc_model.specs.Step.{step}
 use Rattle.oc_model.specs.declared.answer.Answer.{Answer}
 use Rattle.oc_model.specs.declared.input.Input.{Input}
 use Rattle.oc_model.specs.declared.message.Message.{Message}
+use Rattle.oc_reply.specs.Conditions.{unmet}
+use Rattle.oc_reply.specs.Reports.{report_of}
 use Rattle.oc_reply.specs.Shown.{response_for}
 use Rattle.oc_reply.specs.declared.verdict.Request.{Request}
+use Rattle.oc_routes.specs.declared.refused.Refused.{Refused}
 use Rattle.oc_routes.specs.declared.response.Response.{Response}
-use Rattle.oc_server.specs.Asks.{has_to_wait, holding_in, replies, responds, takes_on, waiting}
+use Rattle.oc_server.specs.Asks.{answers_or_waits, has_to_wait, holding_in, refuses_or, replies, responds, takes_on, waiting}
 use Rattle.oc_server.specs.Deeds.{Accepts, Replies, Running, Setting, Waits, back_to, sender_of}
+use Rattle.oc_server.specs.Hurries.{hurries_unless, request_hurries}
 use Rattle.oc_server.specs.Looks.{LooksOnly}
 use Rattle.oc_server.specs.Parts.{Does, Part, Stops, nothing, one, ◌>>◌}
 use Rattle.oc_server.specs.Scenes.{Breaks, Did, Idle, Taking, running, setting}
@@ -29,15 +34,25 @@ use Rattle.oc_server.proofs.Stopping.{accepts_stops, stops_idle}
 
 -- Which deeds they are
 
+-- by why a request is refused for its condition, if it is
+pub condition_part : (c now : ℕ) (request : Request) (why : Option Refused) (s : Setting) (a : Running) → unmet request.operation a.node.control.me (shelf a.node.groups) ≡ why
+    → takes_on c request now s a ≡ refuses_or why c request now s a
+condition_part c now request why s a is = ap (λ (o : Option Refused). refuses_or o c request now s a) is
+
+-- and whether it hurries the next tick
+pub condition_hurries : (request : Request) (why : Option Refused) (n : Node) → unmet request.operation n.control.me (shelf n.groups) ≡ why
+    → request_hurries request.operation request.input n ≡ hurries_unless why request.operation request.input n
+condition_hurries request why n is = ap (λ (o : Option Refused). hurries_unless o request.operation request.input n) is
+
 -- a request that is to wait
 pub waits_part : (c now : ℕ) (request : Request) (s : Setting) (a : Running) → has_to_wait request a.node ≡ true
-    → takes_on c request now s a ≡ (nothing >> one (Waits (waiting c request now))) s a
+    → answers_or_waits c request now s a ≡ (nothing >> one (Waits (waiting c request now))) s a
 waits_part c now request s a is =
     ap (λ (b : Bool). cond b (Waits (waiting c request now) ∷ []) (responds (pending c request (is_some request.input) false) request.input now s a)) is
 
 -- and one that is answered
 pub answers_part : (c now : ℕ) (request : Request) (s : Setting) (a : Running) → has_to_wait request a.node ≡ false
-    → takes_on c request now s a ≡ (nothing >> responds (pending c request (is_some request.input) false) request.input now) s a
+    → answers_or_waits c request now s a ≡ (nothing >> responds (pending c request (is_some request.input) false) request.input now) s a
 answers_part c now request s a is =
     ap (λ (b : Bool). cond b (Waits (waiting c request now) ∷ []) (responds (pending c request (is_some request.input) false) request.input now s a)) is
 
@@ -55,12 +70,12 @@ module _ {D L K : Type 0} (view : D → DiskView) (takes fails : K → List ℕ 
   -- a response that was made by this shelf is the reply
   pub replied : (r : Pending) (now : ℕ) (answer : Answer) (back : Option Message) (response : Response) (lines : List Shelf) (a b : Server D L K)
       → (IsHonest view a.kept → lines ≡ shelf (node_of a.kept).groups)
-      → response ≡ response_for r.asked r.last answer back (holding_in r.asked.operation lines) a.config.addresses
+      → response ≡ response_for r.asked r.last answer back (holding_in r.asked.operation lines) a.config.addresses a.config.key (report_of r.asked.operation a.kept.node.control lines (length a.outbox))
       → Did view takes faults story counts (Replies r response now ∷ []) a b → Does view takes faults story counts (replies r now answer back) a b
   replied r now answer back response lines a b held is did =
       does_one view takes fails faults story counts (Replies r response now) (replies r now answer back) a b
       (λ honest. ap (λ (x : Response). Replies r x now ∷ [])
-      (sym (is ∙ ap (λ (ls : List Shelf). response_for r.asked r.last answer back (holding_in r.asked.operation ls) a.config.addresses) (held honest)))) did
+      (sym (is ∙ ap (λ (ls : List Shelf). response_for r.asked r.last answer back (holding_in r.asked.operation ls) a.config.addresses a.config.key (report_of r.asked.operation a.kept.node.control ls (length a.outbox))) (held honest)))) did
 
   module _ (takes_nothing : (k : K) → takes k [] k) (takes_then : (a b c : K) (x y : List ℕ) → takes a x b → takes b y c → takes a (x ++ y) c) (r : Pending) (i : Input) (now : ℕ) (answer : Answer) (back : Option Message) (a b : Server D L K) (did : Did view takes faults story counts (Accepts i ∷ []) a b)
       (answer_is : IsHonest view a.kept → answer ≡ (step (node_of a.kept) i).answer) (back_is : IsHonest view a.kept → back ≡ back_to (sender_of i) (step (node_of a.kept) i).sends) where

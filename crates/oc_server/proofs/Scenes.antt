@@ -64,8 +64,8 @@ module _ {D L K : Type 0} (view : D → DiskView) (takes fails : K → List ℕ 
   -- which node it is, at which addresses
   pub setting_stays : (a b : Server D L K) → IsSameNode a.kept.node.control b.kept.node.control → b.config ≡ a.config → setting b ≡ setting a
   setting_stays a b same config =
-      ap (λ (me : ℕ). record { me = me; addresses = b.config.addresses }) same.me
-      ∙ ap (λ (c : Settings). record { me = a.kept.node.control.me; addresses = c.addresses }) config
+      ap (λ (me : ℕ). record { me = me; addresses = b.config.addresses; key = b.config.key }) same.me
+      ∙ ap (λ (c : Settings). record { me = a.kept.node.control.me; addresses = c.addresses; key = c.key }) config
 
   -- the lines behind lines, told of the same node
   text_then : (takes_then : (a b c : K) (x y : List ℕ) → takes a x b → takes b y c → takes a (x ++ y) c) (me other : ℕ) (ds es : List Deed) (a b c : K)

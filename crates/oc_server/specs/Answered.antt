@@ -4,8 +4,7 @@ use Rattle.oc_model.specs.Step.{step}
 use Rattle.oc_model.specs.declared.answer.Answer.{Answer}
 use Rattle.oc_model.specs.declared.answer.Answer.TheVariants as answers
 use Rattle.oc_model.specs.declared.message.Message.{Message}
-use Rattle.oc_reply.specs.Shown.{response_for}
-use Rattle.oc_server.specs.Asks.{holding_for}
+use Rattle.oc_server.specs.Asks.{response_now}
 use Rattle.oc_server.specs.Deeds.{Deed, Accepts, Replies, Running, Setting, after, back_to, sender_of}
 
 -- what the step of the input answers that a deed takes for a request
@@ -20,7 +19,7 @@ back_of d a = None
 
 -- a request is answered by this, and by what the node holds then
 abbrev pub IsAnsweredBy : Answer → Option Message → Setting → Deed → Running → Type 0
-IsAnsweredBy answer back s (Replies r response now) a = response ≡ response_for r.asked r.last answer back (holding_for r.asked.operation a.node.groups) s.addresses
+IsAnsweredBy answer back s (Replies r response now) a = response ≡ response_now r answer back s a
 IsAnsweredBy answer back s d a = Unit {0}
 
 -- each request is answered by the step of the input that the deed before it took, or without an input

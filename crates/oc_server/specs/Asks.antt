@@ -1,5 +1,5 @@
 -- What is done with requests.
-use Rattle.std.specs.Prelude.{ℕ, Bool, true, false, if◌then◌else◌, Option, Some, None, is_some, List, [], ◌∷◌}
+use Rattle.std.specs.Prelude.{ℕ, Bool, true, false, if◌then◌else◌, Option, Some, None, is_some, List, [], ◌∷◌, length}
 use Rattle.oc_base.specs.Groups.{shelf}
 use Rattle.oc_base.specs.declared.group.Group.{Group}
 use Rattle.oc_base.specs.declared.shelf.Shelf.{Shelf}
@@ -9,15 +9,19 @@ use Rattle.oc_model.specs.declared.input.Input.{Input}
 use Rattle.oc_model.specs.declared.message.Message.{Message}
 use Rattle.oc_model.specs.Node.{Node}
 use Rattle.oc_model.specs.Step.{step}
+use Rattle.oc_reply.specs.Conditions.{unmet}
+use Rattle.oc_reply.specs.Reports.{report_of}
 use Rattle.oc_reply.specs.Shown.{response_for}
 use Rattle.oc_reply.specs.Waits.{holding, is_to_wait}
 use Rattle.oc_reply.specs.declared.holding.Holding.{Holding}
 use Rattle.oc_reply.specs.declared.verdict.Request.{Request}
 use Rattle.oc_reply.specs.declared.verdict.Verdict.{Verdict}
 use Rattle.oc_reply.specs.declared.verdict.Verdict.TheVariants as verdicts
+use Rattle.oc_routes.specs.declared.refused.Refused.{Refused}
+use Rattle.oc_routes.specs.declared.response.Response.{Response}
 use Rattle.oc_routes.specs.declared.routes.Operation.{Operation}
 use Rattle.oc_routes.specs.declared.routes.Operation.TheVariants as asks
-use Rattle.oc_server.specs.Deeds.{Accepts, BreaksOff, Permits, Refuses, Replies, Waits, back_to, sender_of}
+use Rattle.oc_server.specs.Deeds.{Accepts, BreaksOff, Permits, Refuses, Replies, Running, Setting, Waits, back_to, sender_of}
 use Rattle.oc_server.specs.Parts.{Part, nothing, one, ◌>>◌}
 use Rattle.oc_server.specs.Rooms.{goes_on}
 use Rattle.oc_server.specs.Works.{client_input, pending}
@@ -38,9 +42,16 @@ holding_in other lines = record { there = false; held = 0; sealed = false }
 abbrev pub holding_for : Operation → List Group → Holding
 holding_for asked groups = holding_in asked (shelf groups)
 
--- a request is answered by what the node holds now
+-- what a node tells of itself, where that is asked
+abbrev pub report_for : Operation → Running → List ℕ
+report_for asked a = report_of asked a.node.control (shelf a.node.groups) (length a.outbox)
+
+-- what a request is answered by what the node is now
+abbrev pub response_now : Pending → Answer → Option Message → Setting → Running → Response
+response_now r answer back s a = response_for r.asked r.last answer back (holding_for r.asked.operation a.node.groups) s.addresses s.key (report_for r.asked.operation a)
+
 abbrev pub replies : Pending → ℕ → Answer → Option Message → Part
-replies r now answer back s a = Replies r (response_for r.asked r.last answer back (holding_for r.asked.operation a.node.groups) s.addresses) now ∷ []
+replies r now answer back s a = Replies r (response_now r answer back s a) now ∷ []
 
 -- its input is taken, and the answer of its step is what it is answered; without an input it is answered at once
 abbrev pub responds : Pending → Option Input → ℕ → Part
@@ -61,10 +72,18 @@ abbrev pub has_to_wait : Request → Node → Bool
 has_to_wait request n = is_to_wait request.operation request.hint (answer_now request.input n) (holding_for request.operation n.groups)
 
 -- a whole request is answered, or waits
-abbrev pub takes_on : ℕ → Request → ℕ → Part
-takes_on c request now s a =
+abbrev pub answers_or_waits : ℕ → Request → ℕ → Part
+answers_or_waits c request now s a =
     if has_to_wait request a.node then Waits (waiting c request now) ∷ []
     else responds (pending c request (is_some request.input) false) request.input now s a
+
+-- one whose condition is not met is refused, and its input is not taken
+abbrev pub refuses_or : Option Refused → ℕ → Request → ℕ → Part
+refuses_or (Some why) c request now = one (Refuses c request.count why)
+refuses_or None c request now = answers_or_waits c request now
+
+abbrev pub takes_on : ℕ → Request → ℕ → Part
+takes_on c request now s a = refuses_or (unmet request.operation a.node.control.me (shelf a.node.groups)) c request now s a
 
 -- what is to be done with this many bytes of a request is done
 abbrev pub obeys : ℕ → ℕ → Verdict → ℕ → Part

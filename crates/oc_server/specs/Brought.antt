@@ -13,6 +13,7 @@ use Rattle.oc_probe.specs.Faults.{fault_of_http}
 use Rattle.oc_probe.specs.declared.fault.ProbeFault.{ProbeFault}
 use Rattle.oc_probe.specs.declared.fault.ProbeFault.TheVariants as faults
 use Rattle.oc_probe.specs.declared.rate.TheConstants.{PROBE_BYTES}
+use Rattle.oc_wire.specs.Macs.{is_authentic}
 use Rattle.oc_wire.specs.MessageReading.{decoded}
 use Rattle.oc_wire.specs.declared.fault.WireFault.{WireFault}
 use Rattle.oc_server.specs.declared.came.Came.{Came}
@@ -44,22 +45,26 @@ abbrev pub delivered_or : ℕ → Option Message → Input
 delivered_or peer (Some message) = Delivered message
 delivered_or peer None = Unreachable peer
 
--- the message of a response of 200 to the node me, if it is one
-abbrev pub message_in : ℕ → ℕ → Reply → Option Message
-message_in me nodes reply = if reply.status == 200 then message_to me (decoded nodes reply.body) else None
+-- a response of 200 that has the MAC of its body, where the network has a key
+abbrev pub brings_message : Option (List ℕ) → Reply → Bool
+brings_message key reply = (reply.status == 200) && is_authentic key reply.mac reply.body
 
--- The input that results from a response: of 200, the message that it is; of 204, none; and of any other that the peer is not reached.
-abbrev pub input_of_reply : ℕ → ℕ → ℕ → Reply → Option Input
-input_of_reply me nodes peer reply = if reply.status == 204 then None else Some (delivered_or peer (message_in me nodes reply))
+-- the message of such a response to the node me, if it is one
+abbrev pub message_in : ℕ → ℕ → Option (List ℕ) → Reply → Option Message
+message_in me nodes key reply = if brings_message key reply then message_to me (decoded nodes reply.body) else None
+
+-- The input that results from a response: of such a one, the message that it is; of 204, none; and of any other that the peer is not reached.
+abbrev pub input_of_reply : ℕ → ℕ → Option (List ℕ) → ℕ → Reply → Option Input
+input_of_reply me nodes key peer reply = if reply.status == 204 then None else Some (delivered_or peer (message_in me nodes key reply))
 
 -- the same of what was read: where it is no response, the peer is not reached
-abbrev pub input_of : ℕ → ℕ → ℕ → Result Reply HttpFault → Option Input
-input_of me nodes peer (Ok reply) = input_of_reply me nodes peer reply
-input_of me nodes peer (Err fault) = Some (Unreachable peer)
+abbrev pub input_of : ℕ → ℕ → Option (List ℕ) → ℕ → Result Reply HttpFault → Option Input
+input_of me nodes key peer (Ok reply) = input_of_reply me nodes key peer reply
+input_of me nodes key peer (Err fault) = Some (Unreachable peer)
 
-abbrev pub is_taken : Result Reply HttpFault → Bool
-is_taken (Ok reply) = reply.status == 200
-is_taken (Err fault) = false
+abbrev pub is_taken : Option (List ℕ) → Result Reply HttpFault → Bool
+is_taken key (Ok reply) = brings_message key reply
+is_taken key (Err fault) = false
 
 -- What results from a probe's reply
 
@@ -72,6 +77,6 @@ fault_of (Ok reply) = if is_answer reply then None else Some faults.Reply
 fault_of (Err fault) = Some (fault_of_http fault)
 
 -- What came back on a dial that was made for this, of which this was read.
-abbrev pub comes_back : ℕ → ℕ → Errand → Result Reply HttpFault → Came
-comes_back me nodes (errands.Message to fetch) reading = comes.Reply (input_of me nodes to reading) (is_taken reading)
-comes_back me nodes (errands.Probe peer since) reading = comes.Probed peer since (fault_of reading)
+abbrev pub comes_back : ℕ → ℕ → Option (List ℕ) → Errand → Result Reply HttpFault → Came
+comes_back me nodes key (errands.Message to fetch) reading = comes.Reply (input_of me nodes key to reading) (is_taken key reading)
+comes_back me nodes key (errands.Probe peer since) reading = comes.Probed peer since (fault_of reading)

@@ -6,7 +6,7 @@ use Rattle.oc_events.specs.declared.call.Call.{Call}
 use Rattle.oc_events.specs.declared.call.Call.TheVariants as acts
 use Rattle.oc_events.specs.declared.event.Event.{Event}
 use Rattle.oc_events.specs.declared.event.Event.TheVariants as events
-use Rattle.oc_http.specs.Writing.{probe_text, request_text}
+use Rattle.oc_http.specs.Writing.{probe_text}
 use Rattle.oc_http.specs.declared.framing.Persistence.{Persistence}
 use Rattle.oc_http.specs.declared.framing.Persistence.TheVariants.{Close, Keep}
 use Rattle.oc_model.specs.declared.input.Input.{Input}
@@ -25,7 +25,7 @@ use Rattle.oc_routes.specs.declared.response.GroupRange.{GroupRange}
 use Rattle.oc_routes.specs.declared.response.Response.{Response}
 use Rattle.oc_routes.specs.declared.routes.Operation.{Operation}
 use Rattle.oc_routes.specs.declared.routes.Operation.TheVariants as asks
-use Rattle.oc_wire.specs.Spelling.{spelling}
+use Rattle.oc_wire.specs.Macs.{request_of}
 use Rattle.oc_server.specs.Dials.{brings, dialling}
 use Rattle.oc_server.specs.Dials as dials
 use Rattle.oc_server.specs.Outboxes.{with_messages, without_at}
@@ -39,10 +39,11 @@ use Rattle.oc_server.specs.declared.work.Waiting.{Waiting}
 use Rattle.oc_server.specs.declared.work.Work.{Work}
 use Rattle.oc_server.specs.declared.work.Work.TheVariants as works
 
--- which node it is, and the addresses of all by their ids
+-- which node it is, the addresses of all by their ids, and the key of the network, where it has one
 pub record Setting : Type 0 where
   pub me : ℕ
   pub addresses : List (List ℕ)
+  pub key : Option (List ℕ)
 
 abbrev pub address_at : List (List ℕ) → ℕ → List ℕ
 address_at addresses node = slice_index_or addresses (node - 1) []
@@ -240,7 +241,7 @@ calls s (Replies r response now) a =
 calls s (Refuses c count why) a = refuses c count (refusal_text why)
 calls s (BreaksOff c) a = acts.BreakOff c ∷ []
 calls s (Gives p now) a = acts.Give p.connection (piece p a.node.groups) ∷ finish p.connection p.keeps p.told (rest p now a.node.groups)
-calls s (Dials place m d) a = acts.Dial d (address_in s m.to) (request_text (address_in s m.to) (spelling m)) ∷ []
+calls s (Dials place m d) a = acts.Dial d (address_in s m.to) (request_of s.key (address_in s m.to) m) ∷ []
 calls s (Probes peer d now) a = acts.Dial d (address_in s peer) (probe_text (address_in s peer)) ∷ []
 calls s d a = []
 

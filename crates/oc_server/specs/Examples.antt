@@ -5,7 +5,6 @@ use Rattle.oc_events.specs.declared.call.Call.TheVariants as acts
 use Rattle.oc_events.specs.declared.event.Coming.TheVariants.{Open, Ended}
 use Rattle.oc_events.specs.declared.event.Event.{Event}
 use Rattle.oc_events.specs.declared.event.Event.TheVariants as events
-use Rattle.oc_http.specs.Writing.{request_text}
 use Rattle.oc_http.specs.declared.framing.Persistence.{Persistence}
 use Rattle.oc_http.specs.declared.framing.Persistence.TheVariants.{Close, Keep}
 use Rattle.oc_model.specs.Node.{new_node}
@@ -19,7 +18,7 @@ use Rattle.oc_routes.specs.declared.response.GroupRange.{GroupRange}
 use Rattle.oc_routes.specs.declared.response.Response.{Response}
 use Rattle.oc_routes.specs.declared.routes.Operation.{Operation}
 use Rattle.oc_routes.specs.declared.routes.Operation.TheVariants as asks
-use Rattle.oc_wire.specs.Spelling.{spelling}
+use Rattle.oc_wire.specs.Macs.{request_of}
 use Rattle.oc_server.specs.Deeds.{Accepts, Deed, Dials, Drops, Gives, Notes, Replies, Running, Sees, Setting, after_all, calls_of, errand_in, lines}
 use Rattle.oc_server.specs.Dials.{dialling}
 use Rattle.oc_server.specs.declared.dials.Errand.TheVariants as errands
@@ -29,7 +28,7 @@ use Rattle.oc_server.specs.declared.work.Work.TheVariants as works
 
 -- node 1 of 2, at these addresses
 abbrev example : Setting
-example = record { me = 1; addresses = codes "a:1" ∷ codes "b:2" ∷ [] }
+example = record { me = 1; addresses = codes "a:1" ∷ codes "b:2" ∷ []; key = None }
 
 -- node 1, new, with these messages to send
 abbrev started : List Message → Running
@@ -54,7 +53,7 @@ publishes bytes = Accepts (inputs.Publish (codes "/a") bytes)
 -- A publish of three bytes comes on connection 7, is taken and answered.
 
 abbrev publish : List Deed
-publish = Sees (came 7) 0 (codes "POST") ∷ publishes (codes "abc") ∷ Replies (pending 7 43 (asks.Publish (codes "/a"))) (response (codes "200") None Close) 5 ∷ []
+publish = Sees (came 7) 0 (codes "POST") ∷ publishes (codes "abc") ∷ Replies (pending 7 43 (asks.Publish (codes "/a") None)) (response (codes "200") None Close) 5 ∷ []
 
 abbrev published : Running
 published = after_all publish (started [])
@@ -98,7 +97,7 @@ pub record AreRuns : Type 0 where
   pub content_left : (after_all (head_deed ∷ []) published).works ≡ works.Content left ∷ []
   pub content_given : (after_all content published).works ≡ []
   pub dial_calls : calls_of example (dial ++ Sees reply 100 (codes "204") ∷ []) (started (look ∷ []))
-      ≡ acts.Dial 3 (codes "b:2") (request_text (codes "b:2") (spelling look)) ∷ acts.Next reply (codes "204") ∷ []
+      ≡ acts.Dial 3 (codes "b:2") (request_of None (codes "b:2") look) ∷ acts.Next reply (codes "204") ∷ []
   pub dial_under_way : (after_all dial (started (look ∷ []))).dials ≡ dialling 3 (errands.Message 2 false) ∷ []
   pub dial_outbox : (after_all dial (started (look ∷ []))).outbox ≡ []
   pub dial_errand : errand_in reply (after_all dial (started (look ∷ []))).dials ≡ Some (errands.Message 2 false)

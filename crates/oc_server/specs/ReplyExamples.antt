@@ -1,5 +1,5 @@
 -- Worked examples of what a connection is given.
-use Rattle.std.specs.Prelude.{◌≡◌, ℕ, true, false, Some, List, [], ◌∷◌, codes}
+use Rattle.std.specs.Prelude.{◌≡◌, ℕ, true, false, None, Some, List, [], ◌∷◌, codes}
 use Rattle.oc_events.specs.Traffic.{given}
 use Rattle.oc_http.specs.declared.framing.Persistence.TheVariants.{Keep}
 use Rattle.oc_model.specs.Node.{new_node}
@@ -13,7 +13,7 @@ use Rattle.oc_server.specs.declared.work.Place.{Place}
 
 -- node 1 of 2, which holds three bytes of a group
 abbrev node_one : Setting
-node_one = record { me = 1; addresses = codes "a:1" ∷ codes "b:2" ∷ [] }
+node_one = record { me = 1; addresses = codes "a:1" ∷ codes "b:2" ∷ []; key = None }
 
 abbrev holds_three : Running
 holds_three = record {

@@ -43,7 +43,7 @@ abbrev pub running : {D L K : Type 0} → Server D L K → Running
 running s = record { node = node_of s.kept; outbox = s.outbox; works = s.works; dials = s.dials }
 
 abbrev pub setting : {D L K : Type 0} → Server D L K → Setting
-setting s = record { me = s.kept.node.control.me; addresses = s.config.addresses }
+setting s = record { me = s.kept.node.control.me; addresses = s.config.addresses; key = s.config.key }
 
 -- What holds between any two calls
 

@@ -28,7 +28,7 @@ use Rattle.oc_server.specs.declared.work.Work.TheVariants as works
 
 -- node 1 of 2, at these addresses
 abbrev example : Setting
-example = record { me = 1; addresses = codes "a:1" ∷ codes "b:2" ∷ [] }
+example = record { me = 1; addresses = codes "a:1" ∷ codes "b:2" ∷ []; key = None }
 
 -- node 1, new, with this under way
 abbrev started : List Work → Running

@@ -1,15 +1,18 @@
 //! What is done with a request.
 
 ghost use Rattle.std.specs.Prelude.{◌≡◌, false, IfErr, IfOk, IfSome, OnOk};
+ghost use Rattle.oc_base.specs.Groups.{shelf};
 ghost use Rattle.oc_keep.specs.KeptView.{IsHonest, node_of};
 ghost use Rattle.oc_model.specs.Lawful.{IsInput};
 ghost use Rattle.oc_model.specs.Step.{step};
 ghost use Rattle.oc_reply.specs.Asks.{IsLawfulAsk, IsLawfulVerdict};
+ghost use Rattle.oc_reply.specs.Conditions as conditions;
+ghost use Rattle.oc_reply.specs.Reports.{report_of};
 ghost use Rattle.oc_reply.specs.Shown.{response_for};
 ghost use Rattle.oc_routes.specs.Lawful.{IsAsked};
 ghost use Rattle.oc_wire.specs.Spelling.{HasSpelling};
-ghost use Rattle.oc_server.specs.Asks.{answer_now, has_to_wait, holding_in, obeys, replies, responds, takes_on};
-ghost use Rattle.oc_server.specs.Hurries.{hurries, input_hurries, verdict_hurries};
+ghost use Rattle.oc_server.specs.Asks.{answer_now, answers_or_waits, has_to_wait, holding_in, obeys, replies, responds, takes_on};
+ghost use Rattle.oc_server.specs.Hurries.{hurries, input_hurries, request_hurries, verdict_hurries};
 ghost use Rattle.oc_server.specs.Asks as asks;
 ghost use Rattle.oc_server.specs.Looks.{LooksOnly, LookStops, end_of_ready};
 ghost use Rattle.oc_server.specs.Parts.{Does, Stops, nothing};
@@ -25,8 +28,8 @@ use oc_events::{ConnectionId, Link};
 use oc_io::{Disk, Sink};
 use oc_keep::{Kept, ReadyError};
 use oc_model::{Answer, Input};
-use oc_reply::{Holding, Request, Told, Verdict, is_to_wait, respond_to};
-use oc_routes::{Manner, Operation, Response};
+use oc_reply::{Holding, Request, Seen, Told, Verdict, is_to_wait, report_of, respond_to};
+use oc_routes::{Manner, Network, Operation, Refused, Response};
 use std::alloc::Global;
 
 impl<D: Disk, L: Link, K: Sink> Server<D, L, K> {
@@ -62,7 +65,7 @@ impl<D: Disk, L: Link, K: Sink> Server<D, L, K> {
         }
     }
 
-    /// Answers a whole request, or lets it wait.
+    /// Refuses a whole request whose condition is not met; answers any other, or lets it wait.
     fn takes_on(
         &mut self,
         connection: ConnectionId,
@@ -72,8 +75,31 @@ impl<D: Disk, L: Link, K: Sink> Server<D, L, K> {
         requires serving { IsServing self.old }
         requires request { IsLawfulAsk self.old.kept.node.control.nodes self.old.kept.node.control.me request }
         ensures did { OnOk result (Does D.view K.takes K.faults L.story L.counts (takes_on connection request now) self.old self.new) }
-        ensures hurries { IfOk result (λ hurries. IsHonest D.view self.old.kept → hurries ≡ input_hurries request.operation request.input (node_of self.old.kept)) }
+        ensures hurries { IfOk result (λ hurries. IsHonest D.view self.old.kept → hurries ≡ request_hurries request.operation request.input (node_of self.old.kept)) }
         ensures breaks { IfErr result (λ end. Stops D.view K.takes K.fails K.faults L.story L.counts end (takes_on connection request now) self.old self.new) }
+    {
+        self.kept.recovers();
+        match unmet(&self.kept, &request.operation) {
+            Some(why) => {
+                self.refuses(connection, request.count, why)?;
+                Ok(false)
+            }
+            None => self.answers_or_waits(connection, request, now),
+        }
+    }
+
+    /// Answers a whole request, or lets it wait.
+    fn answers_or_waits(
+        &mut self,
+        connection: ConnectionId,
+        request: Request,
+        now: u64,
+    ) -> Result<bool, TurnEnd>
+        requires serving { IsServing self.old }
+        requires request { IsLawfulAsk self.old.kept.node.control.nodes self.old.kept.node.control.me request }
+        ensures did { OnOk result (Does D.view K.takes K.faults L.story L.counts (answers_or_waits connection request now) self.old self.new) }
+        ensures hurries { IfOk result (λ hurries. IsHonest D.view self.old.kept → hurries ≡ input_hurries request.operation request.input (node_of self.old.kept)) }
+        ensures breaks { IfErr result (λ end. Stops D.view K.takes K.fails K.faults L.story L.counts end (answers_or_waits connection request now) self.old self.new) }
     {
         if self.has_to_wait(&request)? {
             let waiting = waiting(connection, request, now);
@@ -155,13 +181,12 @@ impl<D: Disk, L: Link, K: Sink> Server<D, L, K> {
         ensures breaks { IfErr result (λ end. Breaks D.view K.takes K.fails K.faults L.story L.counts end Idle self.old self.new) }
     {
         self.kept.recovers();
-        let response = response_to(
-            self.alloc,
-            &self.config,
-            self.kept.shelf(),
-            &pending,
-            accepted,
-        )?;
+        let seen = Seen {
+            node: self.kept.node(),
+            shelf: self.kept.shelf(),
+            messages: self.outbox.len(),
+        };
+        let response = response_to(self.alloc, &self.config, &seen, &pending, accepted)?;
         self.replies(pending, &response, now)
     }
 }
@@ -183,25 +208,38 @@ fn waiting(connection: ConnectionId, request: Request, now: u64) -> Waiting
     }
 }
 
-/// What a request is answered by a node with this shelf.
+/// Why a node refuses what is asked for its condition, if it does.
+fn unmet<D: Disk>(kept: &Kept<D>, operation: &Operation) -> Option<Refused>
+    ensures { IsHonest D.view kept.now → result ≡ conditions.unmet operation.now kept.now.node.control.me (shelf (node_of kept.now).groups) }
+{
+    oc_reply::unmet(operation, kept.node().id(), kept.shelf())
+}
+
+/// What a request is answered by a node that is so.
 fn response_to(
     alloc: Global,
     config: &Config,
-    shelf: &[Shelf],
+    seen: &Seen<'_>,
     pending: &Pending,
     accepted: &Accepted,
 ) -> Result<Response, Memory>
     requires asks { IsAsked pending.now.asked.operation }
     requires back { IfSome accepted.now.back (λ m. HasSpelling m.body) }
     ensures { IfOk result (λ response. response ≡ response_for pending.now.asked pending.now.last accepted.now.answer accepted.now.back
-        (holding_in pending.now.asked.operation shelf.now) config.now.addresses) }
+        (holding_in pending.now.asked.operation seen.now.shelf.now) config.now.addresses config.now.key
+        (report_of pending.now.asked.operation seen.now.node.now.control seen.now.shelf.now seen.now.messages)) }
 {
     let told = Told {
         answer: accepted.answer,
         back: accepted.back.as_ref(),
-        holding: holding_for(&pending.asked.operation, shelf),
+        holding: holding_for(&pending.asked.operation, seen.shelf),
     };
-    respond_to(alloc, pending.asked, pending.last, told, &config.addresses)
+    let network = Network {
+        addresses: &config.addresses,
+        key: config.key.as_ref(),
+    };
+    let report = report_of(alloc, &pending.asked.operation, seen)?;
+    respond_to(alloc, pending.asked, pending.last, told, &network, &report)
 }
 
 /// What the node holds of the group that was asked for.

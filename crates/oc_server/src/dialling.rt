@@ -1,12 +1,13 @@
 //! Dials that begin.
 
-ghost use Rattle.std.specs.Prelude.{◌≡◌, ◌<◌, ◌∷◌, ◌++◌, [], OnErr, OnOk, IfErr, length, slice_get, Some};
+ghost use Rattle.std.specs.Prelude.{◌≡◌, ◌<◌, ◌∷◌, ◌++◌, [], OnErr, OnOk, IfErr, IfOk, length, slice_get, Some};
 ghost use Rattle.oc_base.specs.Lawful.{IsNode};
 ghost use Rattle.oc_events.specs.Told.{AddsAll};
 ghost use Rattle.oc_events.specs.declared.call.Call.TheVariants as acts;
-ghost use Rattle.oc_http.specs.Writing.{IsHost, request_text};
+ghost use Rattle.oc_http.specs.Writing.{IsHost};
 ghost use Rattle.oc_model.specs.declared.message.Message.{Message};
-ghost use Rattle.oc_wire.specs.Spelling.{HasSpelling, spelling};
+ghost use Rattle.oc_wire.specs.Macs.{request_of};
+ghost use Rattle.oc_wire.specs.Spelling.{HasSpelling};
 ghost use Rattle.oc_server.specs.Deeds.{Probes};
 ghost use Rattle.oc_server.specs.Deeds as deeds;
 ghost use Rattle.oc_server.specs.Dials.{brings, dialling};
@@ -37,14 +38,15 @@ impl<D: Disk, L: Link, K: Sink> Server<D, L, K> {
         self.kept.recovers();
         match self.outbox.take(place) {
             Some(message) => {
+                let text = request_to(self.alloc, &self.config, &message)?;
                 let address = address_of(&self.config, message.to);
                 begin_dial(
-                    self.alloc,
                     &mut self.link,
                     &mut self.dials,
                     address,
                     &message,
                     dial,
+                    &text,
                 )?;
                 Ok(())
             }
@@ -69,29 +71,36 @@ impl<D: Disk, L: Link, K: Sink> Server<D, L, K> {
     }
 }
 
-/// Begins the dial of a message to this address.
+/// The request that brings a message to its receiver.
+fn request_to(alloc: Global, config: &Config, message: &Message) -> Result<Vec<u8>, Memory>
+    requires body { HasSpelling message.now.body }
+    requires host { IsHost (deeds.address_at config.now.addresses message.now.to) }
+    ensures { IfOk result (λ text. text.items ≡ request_of config.now.key (deeds.address_at config.now.addresses message.now.to) message.now) }
+{
+    let address = address_of(config, message.to);
+    to_http(alloc, message, address, config.key.as_ref())
+}
+
+/// Begins the dial of a message to this address, with this request.
 fn begin_dial<L: Link>(
-    alloc: Global,
     link: &mut L,
     dials: &mut Dials,
     address: &str,
     message: &Message,
     dial: DialId,
+    text: &[u8],
 ) -> Result<(), Memory>
-    requires body { HasSpelling message.now.body }
-    requires host { IsHost address.now }
     ensures begun { OnOk result (dials.new ≡ dials.old ++ dialling dial (brings message.now) ∷ []) }
-    ensures calls { OnOk result (AddsAll (acts.Dial dial address.now (request_text address.now (spelling message.now)) ∷ []) (L.story link.old) (L.story link.new)) }
+    ensures calls { OnOk result (AddsAll (acts.Dial dial address.now text.now ∷ []) (L.story link.old) (L.story link.new)) }
     ensures fails { OnErr result (L.story link.new ≡ L.story link.old) }
     ensures counts { L.counts link.new ≡ L.counts link.old }
 {
-    let text = to_http(alloc, message, address)?;
     let errand = Errand::Message {
         to: message.to,
         fetch: is_fetch(&message.body),
     };
     dials.begin(dial, errand)?;
-    link.dial(dial, address, &text);
+    link.dial(dial, address, text);
     Ok(())
 }
 

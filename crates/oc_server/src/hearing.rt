@@ -1,6 +1,6 @@
 //! What came by an event, read from the bytes that the link lends.
 
-ghost use Rattle.std.specs.Prelude.{◌≡◌, ◌≤◌, IfErr, IfOk, IfSome, None, length};
+ghost use Rattle.std.specs.Prelude.{◌≡◌, ◌≤◌, IfErr, IfOk, IfSome, None, length, option_map};
 ghost use Rattle.oc_events.specs.declared.event.Event.TheVariants as events;
 ghost use Rattle.oc_policy.specs.declared.deciding.TheConstants.{MAX_RULES};
 ghost use Rattle.oc_reply.specs.Verdicts.{terms_of};
@@ -82,11 +82,11 @@ impl<D: Disk, L: Link, K: Sink> Server<D, L, K> {
         let Some(errand) = errand else {
             return Ok(Came::Nothing);
         };
-        let hearer = hearer_of(&self.kept);
+        let hearer = hearer_of(&self.kept, &self.config);
         comes_back(
             self.alloc,
             &mut self.heads,
-            hearer,
+            &hearer,
             errand,
             self.link.lent(),
             coming,
@@ -104,7 +104,7 @@ fn judged<D: Disk>(
     bytes: &[u8],
 ) -> Result<Came, Memory>
     requires { length config.now.rules ≤ MAX_RULES }
-    ensures means { IfOk result (Means (terms_of kept.now.node.control.me kept.now.node.control.nodes config.now.rules) bytes.now None (events.Request arrival)) }
+    ensures means { IfOk result (Means (terms_of kept.now.node.control.me kept.now.node.control.nodes config.now.rules config.now.key) bytes.now None (events.Request arrival)) }
     ensures lawful { IfOk result (IsLawfulCame kept.now.node.control.nodes kept.now.node.control.me) }
 {
     let connection = arrival.connection;
@@ -112,6 +112,7 @@ fn judged<D: Disk>(
         me: kept.node().id(),
         nodes: kept.node().nodes(),
         rules: &config.rules,
+        key: config.key.as_ref(),
     };
     let verdict = judge(alloc, heads, &terms, arrival, bytes)?;
     Ok(Came::Request {
@@ -121,12 +122,15 @@ fn judged<D: Disk>(
     })
 }
 
-/// A node, as one that hears back.
-fn hearer_of<D: Disk>(kept: &Kept<D>) -> Hearer
-    ensures { result ≡ record { me = kept.now.node.control.me; nodes = kept.now.node.control.nodes } }
+/// A node with this configuration, as one that hears back.
+fn hearer_of<'a, D: Disk>(kept: &Kept<D>, config: &'a Config) -> Hearer<'a>
+    ensures me { result.me ≡ kept.now.node.control.me }
+    ensures nodes { result.nodes ≡ kept.now.node.control.nodes }
+    ensures key { option_map (λ k. k.now) result.key ≡ config.now.key }
 {
     Hearer {
         me: kept.node().id(),
         nodes: kept.node().nodes(),
+        key: config.key.as_ref(),
     }
 }

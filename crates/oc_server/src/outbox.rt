@@ -43,6 +43,13 @@ impl Outbox {
         })
     }
 
+    /// How many messages there are.
+    pub fn len(&self) -> usize
+        ensures { result ≡ length self.now }
+    {
+        self.messages.len()
+    }
+
     /// Keeps another message: one that asks a node for content in the place of an older one, which is lost, and any
     /// other after all. The oldest is lost where there are more than `MAX_OUTBOX`. It takes no memory.
     pub fn put(&mut self, message: Message)

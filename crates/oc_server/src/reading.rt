@@ -1,11 +1,11 @@
 //! What came back on a dial.
 
-ghost use Rattle.std.specs.Prelude.{◌≡◌, Result, IfOk, IfSome, OnOk};
+ghost use Rattle.std.specs.Prelude.{◌≡◌, Result, IfOk, IfSome, OnOk, option_map};
 ghost use Rattle.oc_base.specs.Lawful.{IsNode};
 ghost use Rattle.oc_http.specs.declared.fault.HttpFault.{HttpFault};
 ghost use Rattle.oc_http.specs.declared.reply.Reply.{Reply};
 ghost use Rattle.oc_model.specs.Lawful.{IsInput};
-ghost use Rattle.oc_server.specs.Brought.{HadMemory, IsReading, comes_back, delivered_or, fault_of, input_of, input_of_reply, is_answer, is_taken, message_in, message_to};
+ghost use Rattle.oc_server.specs.Brought.{HadMemory, IsReading, brings_message, comes_back, delivered_or, fault_of, input_of, input_of_reply, is_answer, is_taken, message_in, message_to};
 ghost use Rattle.oc_server.specs.Lawful.{IsLawfulCame};
 ghost use Rattle.oc_server.specs.Scenes.{IsLawfulErrand};
 ghost use Rattle.oc_wire.specs.MessageReading.{decoded};
@@ -15,36 +15,38 @@ use crate::dials::Errand;
 use oc_base::{Memory, NodeId};
 use oc_events::{Arrived, Coming};
 use oc_http::{HeadReader, HttpFault, Reply};
+use oc_mac::Key;
 use oc_model::{Input, Message};
 use oc_probe::{PROBE_BYTES, ProbeFault};
-use oc_wire::{WireFault, decode};
+use oc_wire::{WireFault, decode, is_authentic};
 use std::alloc::Global;
 
-/// A node that hears back: its id, and among how many nodes it is.
-#[derive(Clone, Copy, Debug)]
-pub(crate) struct Hearer {
+/// A node that hears back: its id, among how many nodes it is, and the key of the network, where it has one.
+#[derive(Clone, Copy, Drop)]
+pub(crate) struct Hearer<'a> {
     pub(crate) me: NodeId,
     pub(crate) nodes: u32,
+    pub(crate) key: Option<&'a Key>,
 }
 
 /// What came back on a dial that was made for this: these bytes, which end so.
 pub(crate) fn comes_back(
     alloc: Global,
     heads: &mut HeadReader,
-    hearer: Hearer,
+    hearer: &Hearer<'_>,
     errand: Errand,
     bytes: &[u8],
     coming: Coming,
 ) -> Result<Came, Memory>
-    requires { IsLawfulErrand hearer.nodes errand }
+    requires { IsLawfulErrand hearer.now.nodes errand }
     ensures came { IfOk result (λ came. (reading : Result Reply HttpFault) × IsReading bytes.now coming reading
-        × HadMemory reading × (came ≡ comes_back hearer.me hearer.nodes errand reading)) }
-    ensures lawful { IfOk result (IsLawfulCame hearer.nodes hearer.me) }
+        × HadMemory reading × (came ≡ comes_back hearer.now.me hearer.now.nodes (option_map (λ k. k.now) hearer.now.key) errand reading)) }
+    ensures lawful { IfOk result (IsLawfulCame hearer.now.nodes hearer.now.me) }
 {
     let reply = reply_in(heads, bytes, coming);
     match errand {
         Errand::Message { to, .. } => {
-            let taken = is_taken(&reply);
+            let taken = is_taken(hearer.key, &reply);
             let input = input_of(alloc, hearer, to, reply)?;
             Ok(Came::Reply { input, taken })
         }
@@ -63,27 +65,34 @@ fn reply_in(heads: &mut HeadReader, bytes: &[u8], coming: Coming) -> Result<Repl
     heads.read_response(&mut source)
 }
 
-/// Whether a response has the status 200.
-fn is_taken(reply: &Result<Reply, HttpFault>) -> bool
-    ensures { result ≡ is_taken reply.now }
+/// Whether what was read is a response of 200 that has its MAC.
+fn is_taken(key: Option<&Key>, reply: &Result<Reply, HttpFault>) -> bool
+    ensures { result ≡ is_taken (option_map (λ k. k.now) key.entry) reply.now }
 {
     match reply {
-        Ok(reply) => reply.status == 200,
+        Ok(reply) => brings_message(key, reply),
         Err(_) => false,
     }
+}
+
+/// Whether a response has the status 200, and the MAC of its body where the network has a key.
+fn brings_message(key: Option<&Key>, reply: &Reply) -> bool
+    ensures { result ≡ brings_message (option_map (λ k. k.now) key.entry) reply.now }
+{
+    reply.status == 200 && is_authentic(key, reply.mac.as_ref(), reply.body.items())
 }
 
 /// The input that results from what a peer replied to a message.
 fn input_of(
     alloc: Global,
-    hearer: Hearer,
+    hearer: &Hearer<'_>,
     peer: NodeId,
     reply: Result<Reply, HttpFault>,
 ) -> Result<Option<Input>, Memory>
-    requires { IsNode hearer.nodes peer }
-    ensures input { IfOk result (λ input. input ≡ input_of hearer.me hearer.nodes peer reply) }
+    requires { IsNode hearer.now.nodes peer }
+    ensures input { IfOk result (λ input. input ≡ input_of hearer.now.me hearer.now.nodes (option_map (λ k. k.now) hearer.now.key) peer reply) }
     ensures memory { OnOk result (HadMemory reply) }
-    ensures lawful { IfOk result (λ input. IfSome input (IsInput hearer.nodes hearer.me)) }
+    ensures lawful { IfOk result (λ input. IfSome input (IsInput hearer.now.nodes hearer.now.me)) }
 {
     match reply {
         Ok(reply) => input_of_reply(alloc, hearer, peer, &reply),
@@ -95,13 +104,13 @@ fn input_of(
 /// The input that results from a response.
 fn input_of_reply(
     alloc: Global,
-    hearer: Hearer,
+    hearer: &Hearer<'_>,
     peer: NodeId,
     reply: &Reply,
 ) -> Result<Option<Input>, Memory>
-    requires { IsNode hearer.nodes peer }
-    ensures input { IfOk result (λ input. input ≡ input_of_reply hearer.me hearer.nodes peer reply.now) }
-    ensures lawful { IfOk result (λ input. IfSome input (IsInput hearer.nodes hearer.me)) }
+    requires { IsNode hearer.now.nodes peer }
+    ensures input { IfOk result (λ input. input ≡ input_of_reply hearer.now.me hearer.now.nodes (option_map (λ k. k.now) hearer.now.key) peer reply.now) }
+    ensures lawful { IfOk result (λ input. IfSome input (IsInput hearer.now.nodes hearer.now.me)) }
 {
     if reply.status == 204 {
         return Ok(None);
@@ -120,12 +129,12 @@ fn delivered_or(peer: NodeId, message: Option<Message>) -> Input
     }
 }
 
-/// The message of a response of 200 to this node, if it is one.
-fn message_in(alloc: Global, hearer: Hearer, reply: &Reply) -> Result<Option<Message>, Memory>
-    ensures message { IfOk result (λ message. message ≡ message_in hearer.me hearer.nodes reply.now) }
-    ensures lawful { IfOk result (λ message. IfSome message (λ m. IsInput hearer.nodes hearer.me (Input.Delivered m))) }
+/// The message of a response of 200 to this node, if it is one, and has its MAC.
+fn message_in(alloc: Global, hearer: &Hearer<'_>, reply: &Reply) -> Result<Option<Message>, Memory>
+    ensures message { IfOk result (λ message. message ≡ message_in hearer.now.me hearer.now.nodes (option_map (λ k. k.now) hearer.now.key) reply.now) }
+    ensures lawful { IfOk result (λ message. IfSome message (λ m. IsInput hearer.now.nodes hearer.now.me (Input.Delivered m))) }
 {
-    if reply.status == 200 {
+    if brings_message(hearer.key, reply) {
         message_to(alloc, hearer, reply.body.items())
     } else {
         Ok(None)
@@ -133,9 +142,9 @@ fn message_in(alloc: Global, hearer: Hearer, reply: &Reply) -> Result<Option<Mes
 }
 
 /// The message to this node that these bytes are, if they are one.
-fn message_to(alloc: Global, hearer: Hearer, bytes: &[u8]) -> Result<Option<Message>, Memory>
-    ensures message { IfOk result (λ message. message ≡ message_to hearer.me (decoded hearer.nodes bytes.now)) }
-    ensures lawful { IfOk result (λ message. IfSome message (λ m. IsInput hearer.nodes hearer.me (Input.Delivered m))) }
+fn message_to(alloc: Global, hearer: &Hearer<'_>, bytes: &[u8]) -> Result<Option<Message>, Memory>
+    ensures message { IfOk result (λ message. message ≡ message_to hearer.now.me (decoded hearer.now.nodes bytes.now)) }
+    ensures lawful { IfOk result (λ message. IfSome message (λ m. IsInput hearer.now.nodes hearer.now.me (Input.Delivered m))) }
 {
     match decode(alloc, bytes, hearer.nodes) {
         Ok(message) => {

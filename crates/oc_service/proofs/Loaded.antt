@@ -1,21 +1,19 @@
 -- A node that was loaded is ready to turn.
-use Rattle.std.proofs.Common.{◌≡◌, ◌≤◌, ◌∙◌, ℕ, Bool, Option, Some, None, List, [], length, refl, sym, ap, subst}
+use Rattle.std.proofs.Common.{◌≡◌, ◌≤◌, ◌∙◌, ℕ, Bool, Option, List, [], length, refl, sym, ap, subst}
 use Rattle.std.specs.Prelude.{IfSome}
 use Rattle.std.specs.List.{AllByRecursion}
 use Rattle.oc_config.specs.Reading.{IsConfig}
 use Rattle.oc_config.specs.Settings.{Settings}
 use Rattle.oc_io.specs.DiskView.{DiskView}
-use Rattle.oc_keep.specs.Files.{AreHonest, Disks, disks_in}
-use Rattle.oc_keep.specs.KeptView.{KeptView, disks_of, node_of}
+use Rattle.oc_keep.specs.Files.{AreHonest, disks_in}
+use Rattle.oc_keep.specs.KeptView.{disks_of, node_of}
 use Rattle.oc_keep.specs.Promises.{IsNodeOf, LoadsSafely}
 use Rattle.oc_model.specs.Node.{Header, Node}
 use Rattle.oc_model.specs.declared.message.Message.{Message}
 use Rattle.oc_policy.specs.declared.deciding.TheConstants.{MAX_RULES}
 use Rattle.oc_probe.specs.declared.probing.Probing.{Probing}
-use Rattle.oc_server.specs.Deeds.{Running}
 use Rattle.oc_server.specs.Lawful.{IsMadeFor, IsReady}
-use Rattle.oc_server.specs.Pace.{first_pace}
-use Rattle.oc_server.specs.Scenes.{IsLawful, IsLawfulDial, IsLawfulWork, IsPlaced, IsServing}
+use Rattle.oc_server.specs.Scenes.{IsLawfulDial, IsLawfulWork, IsPlaced, IsServing}
 use Rattle.oc_server.specs.Sending.{AreSendable}
 use Rattle.oc_server.specs.declared.dials.Dialling.{Dialling}
 use Rattle.oc_server.specs.declared.pace.Pace.{Pace}
@@ -24,7 +22,7 @@ use Rattle.oc_server.specs.declared.work.Work.{Work}
 use Rattle.oc_service.specs.Loading.{IsLoaded}
 use Rattle.oc_service.specs.OnSite.{header_of_settings, machine_on, probing_at_first}
 use Rattle.oc_service.specs.Running.{machine}
-use Rattle.oc_service.specs.WhatNodeDoes.{Machine, at_first}
+use Rattle.oc_service.specs.WhatNodeDoes.{at_first}
 use Rattle.oc_service.specs.declared.running.Task.{Task}
 use Rattle.oc_service.specs.declared.site.Site.{Site}
 use Rattle.oc_service.proofs.Places.{placed}

@@ -1,12 +1,11 @@
 -- Turns of a server, as turns of the machine of what a node does.
-use Rattle.std.proofs.Common.{◌≡◌, ◌∙◌, ℕ, zero, suc, ◌+◌, Bool, false, Option, None, Some, List, [], ◌∷◌, ◌++◌, length, refl, sym, ap, ap₂, subst, arith}
-use Rattle.std.specs.Option.{option_map}
+use Rattle.std.proofs.Common.{◌≡◌, ◌∙◌, ℕ, zero, suc, ◌+◌, Bool, false, Option, None, Some, List, [], ◌∷◌, ◌++◌, length, refl, sym, ap, ap₂, subst}
 use Rattle.oc_config.specs.Settings.{Settings}
 use Rattle.oc_events.specs.Told.{AddsAll}
 use Rattle.oc_events.specs.declared.call.Call.{Call}
 use Rattle.oc_events.specs.declared.counts.Counts.{Counts}
 use Rattle.oc_io.specs.DiskView.{DiskView}
-use Rattle.oc_keep.specs.KeptView.{IsHonest, node_of}
+use Rattle.oc_keep.specs.KeptView.{IsHonest}
 use Rattle.oc_keep.specs.Promises.{IsSameNode}
 use Rattle.oc_model.specs.Node.{Header}
 use Rattle.oc_reply.specs.Verdicts.{NodeTerms, terms_of}
@@ -21,7 +20,7 @@ use Rattle.oc_probe.specs.declared.probing.Probing.{Probing}
 use Rattle.oc_server.proofs.Parts.{behind_part}
 use Rattle.oc_server.proofs.Scenes.{did_none, did_then, setting_stays, still_honest}
 use Rattle.oc_service.specs.Running.{machine}
-use Rattle.oc_service.specs.WhatNodeDoes.{Machine, behind_turn, behind_turns, due_at, turn_deeds, turns_deeds}
+use Rattle.oc_service.specs.WhatNodeDoes.{Machine, behind_turn, behind_turns, turn_deeds, turns_deeds}
 use Rattle.oc_service.specs.WhatNodeHears.{AreHeard, MayHear, all_calls_behind, calls_behind, until}
 use Rattle.oc_service.proofs.Stories.{Follows, follows_adds, follows_then, lent_until, until_then}
 
@@ -31,9 +30,9 @@ machine_of running pace probing = record { running = running; pace = pace; probi
 -- by what requests are read stays
 pub reads_stay : {D L K : Type 0} (a b : Server D L K) → IsSameNode a.kept.node.control b.kept.node.control → b.config ≡ a.config → reads_by b ≡ reads_by a
 reads_stay a b same config =
-    ap (λ (me : ℕ). terms_of me b.kept.node.control.nodes b.config.rules) same.me
-    ∙ ap (λ (h : Header). terms_of a.kept.node.control.me h.nodes b.config.rules) same.header
-    ∙ ap (λ (c : Settings). terms_of a.kept.node.control.me a.kept.node.control.nodes c.rules) config
+    ap (λ (me : ℕ). terms_of me b.kept.node.control.nodes b.config.rules b.config.key) same.me
+    ∙ ap (λ (h : Header). terms_of a.kept.node.control.me h.nodes b.config.rules b.config.key) same.header
+    ∙ ap (λ (c : Settings). terms_of a.kept.node.control.me a.kept.node.control.nodes c.rules c.key) config
 
 module _ {D L K : Type 0} (view : D → DiskView) (takes fails : K → List ℕ → K → Type 0) (faults : K → ℕ) (story : L → Option (List Call)) (counts : L → Counts)
     (takes_nothing : (k : K) → takes k [] k) (takes_then : (a b c : K) (x y : List ℕ) → takes a x b → takes b y c → takes a (x ++ y) c) where

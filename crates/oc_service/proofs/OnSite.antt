@@ -1,6 +1,5 @@
 -- What a loaded node did, told of the files from which it was loaded, of its link and of its output.
-use Rattle.std.proofs.Common.{◌≡◌, ◌⊎◌, ◌∙◌, ℕ, ◌+◌, ◌<◌, Bool, false, Option, None, Some, List, [], ◌∷◌, ◌++◌, length, inl, inr, refl, sym, ap, ap₂, subst, arith}
-use Rattle.std.specs.Option.{option_map}
+use Rattle.std.proofs.Common.{◌≡◌, ◌⊎◌, ◌∙◌, ℕ, ◌+◌, ◌<◌, false, Option, List, [], ◌∷◌, ◌++◌, length, inl, inr, refl, sym, ap, ap₂, subst}
 use Rattle.oc_content.specs.ContentFile.{groups_in}
 use Rattle.oc_config.specs.Settings.{Settings}
 use Rattle.oc_events.specs.Told.{AddsAll}
@@ -20,17 +19,17 @@ use Rattle.oc_model.specs.declared.input.Input.{Input}
 use Rattle.oc_model.specs.Node.{Control, Header, Node}
 use Rattle.oc_model.specs.Step.{step}
 use Rattle.oc_reply.specs.Verdicts.{NodeTerms, terms_of}
-use Rattle.oc_server.specs.Deeds.{Deed, Running, Setting, calls_of, inputs_of, lines}
+use Rattle.oc_server.specs.Deeds.{Deed, Setting, calls_of, inputs_of, lines}
 use Rattle.oc_server.specs.Parts.{Cuts}
 use Rattle.oc_server.specs.Runs.{reads_by}
-use Rattle.oc_server.specs.Scenes.{Breaks, BreaksBehind, CountsAll, Did, HasCause, Idle, LeavesAt, LeavesUnder, Noting, Taking, Under, WritesAt, running, setting, under_line}
+use Rattle.oc_server.specs.Scenes.{BreaksBehind, CountsAll, Did, HasCause, Idle, LeavesAt, LeavesUnder, Noting, Taking, Under, WritesAt, running, setting, under_line}
 use Rattle.oc_server.specs.Turns.{Told}
 use Rattle.oc_server.specs.declared.ends.TurnEnd.{TurnEnd}
 use Rattle.oc_server.specs.declared.ends.TurnEnd.TheVariants as ends
 use Rattle.oc_server.specs.declared.server.Server.{Server}
 use Rattle.oc_server.specs.declared.turns.Turns.{Turns}
 use Rattle.oc_server.proofs.Scenes.{broken_cause, broken_leaves, broken_text, did_node}
-use Rattle.oc_service.specs.OnSite.{DidOn, HasCauseOn, LeavesBehind, LeavesOne, NodeEnds, StoppedOn, Stops, WasDeaf, Writes, at_run, header_of_settings, heard_before, machine_on, node_calls, setting_of, terms_in}
+use Rattle.oc_service.specs.OnSite.{DidOn, HasCauseOn, LeavesBehind, LeavesOne, NodeEnds, Stops, WasDeaf, Writes, at_run, header_of_settings, heard_before, machine_on, node_calls, setting_of, terms_in}
 use Rattle.oc_service.specs.Loading.{IsLoaded}
 use Rattle.oc_service.specs.declared.site.Site.{Site}
 use Rattle.oc_service.proofs.Loaded.{loaded_machine}
@@ -71,12 +70,12 @@ module _ {D L K : Type 0} (view : D → DiskView) (takes fails : K → List ℕ 
   honest_kept honest = all_honest view d (disks_of first.server.kept) safely.goes_on honest
 
   setting_is : setting first.server ≡ setting_of c me
-  setting_is = ap (λ (x : ℕ). record { me = x; addresses = c.addresses }) loaded.id
+  setting_is = ap (λ (x : ℕ). record { me = x; addresses = c.addresses; key = c.key }) loaded.id
 
   terms_is : reads_by first.server ≡ terms_in c me
   terms_is =
-      ap (λ (x : ℕ). terms_of x first.server.kept.node.control.nodes c.rules) loaded.id
-      ∙ ap (λ (x : Header). terms_of me x.nodes c.rules) loaded.header
+      ap (λ (x : ℕ). terms_of x first.server.kept.node.control.nodes c.rules c.key) loaded.id
+      ∙ ap (λ (x : Header). terms_of me x.nodes c.rules c.key) loaded.header
 
   -- what is said of every crash under its own name is said under that of the files
   named : (P : Header → ℕ → Type 0) → P (header_of first.server.kept.node.control) first.server.kept.node.control.me → P h me

@@ -1,19 +1,19 @@
 -- A loaded node that listens, takes what was measured, and turns.
-use Rattle.std.proofs.Common.{◌≡◌, ◌⊎◌, ◌∙◌, ℕ, ◌+◌, ◌<◌, Option, None, Some, List, [], ◌∷◌, ◌++◌, length, inl, inr, refl, sym, ap, ap₂, subst, arith, append_assoc, append-nil, length-append}
+use Rattle.std.proofs.Common.{◌≡◌, ◌⊎◌, ◌∙◌, ℕ, ◌+◌, ◌<◌, Option, None, Some, List, [], ◌∷◌, ◌++◌, length, inl, inr, refl, sym, ap, ap₂, subst, arith, append-nil, length-append}
 use Rattle.std.specs.Prelude.{◌==◌, if◌then◌else◌, Bool, true, false}
 use Rattle.std.specs.Option.{option_map}
 use Rattle.oc_events.specs.declared.call.Call.{Call}
 use Rattle.oc_events.specs.declared.counts.Counts.{Counts}
 use Rattle.oc_events.specs.declared.event.Event.TheVariants as events
 use Rattle.oc_io.specs.DiskView.{DiskView}
-use Rattle.oc_keep.specs.KeptView.{IsHonest, KeptView, node_of}
+use Rattle.oc_keep.specs.KeptView.{IsHonest, KeptView}
 use Rattle.oc_model.specs.declared.input.Input.{Input}
 use Rattle.oc_model.specs.declared.input.Input.TheVariants.{Measured}
 use Rattle.oc_reply.specs.Verdicts.{NodeTerms}
 use Rattle.oc_server.specs.Deeds.{Deed, Running, Setting, Takes, after_all, calls_of}
 use Rattle.oc_server.specs.Parts.{Cuts, Stops}
-use Rattle.oc_server.specs.Runs.{MayRead, ServeEnds, Serves, ServesUpTo, TurnStops, due_in, reads_by}
-use Rattle.oc_server.specs.Scenes.{BreaksBehind, Did, Under, running, setting}
+use Rattle.oc_server.specs.Runs.{MayRead, ServeEnds, ServesUpTo, TurnStops, due_in, reads_by}
+use Rattle.oc_server.specs.Scenes.{BreaksBehind, Did, running, setting}
 use Rattle.oc_server.specs.Turns.{Told}
 use Rattle.oc_server.specs.declared.came.Came.TheVariants as comes
 use Rattle.oc_server.specs.declared.ends.TurnEnd.{TurnEnd}
@@ -25,7 +25,7 @@ use Rattle.oc_server.proofs.Chains.{calls_append}
 use Rattle.oc_server.proofs.Parts.{cuts_behind, cuts_more}
 use Rattle.oc_server.proofs.Scenes.{breaks_then, did_then, setting_stays, still_honest}
 use Rattle.oc_service.specs.Measuring.{takes_own_measures}
-use Rattle.oc_service.specs.Running.{Halts, IsDeaf, Listens, RunEnds, Runs, machine}
+use Rattle.oc_service.specs.Running.{Halts, Listens, RunEnds, Runs, machine}
 use Rattle.oc_service.specs.WhatNodeDoes.{Machine, behind_turns, due_at, measured, node_behind, node_deeds, own_measure, own_measures, turn_deeds, turns_deeds}
 use Rattle.oc_service.specs.WhatNodeHears.{AreHeard, MayHear, all_calls_behind, until}
 use Rattle.oc_service.proofs.Machines.{Made, heard_at, machine_of, made, reads_stay}

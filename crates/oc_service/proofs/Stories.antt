@@ -1,5 +1,5 @@
 -- The calls of a link until some moment, where the link tells them to the end.
-use Rattle.std.proofs.Common.{◌≡◌, ℕ, Option, None, Some, List, ◌∷◌, [], ◌++◌, refl, ap}
+use Rattle.std.proofs.Common.{◌≡◌, ℕ, Option, None, Some, List, ◌++◌, refl, ap}
 use Rattle.std.specs.Option.{option_map}
 use Rattle.oc_events.specs.Told.{AddsAll, Told as ToldBy}
 use Rattle.oc_events.specs.declared.call.Call.{Call}

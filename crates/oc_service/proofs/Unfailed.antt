@@ -1,5 +1,5 @@
 -- The run of a node ends well where nothing fails that may.
-use Rattle.std.proofs.Common.{◌⊎◌, inl, inr, ℕ, Option, List, length}
+use Rattle.std.proofs.Common.{inl, inr, ℕ, Option, List, length}
 use Rattle.oc_check.proofs.Complete.{only_memory}
 use Rattle.oc_config.specs.Settings.{Settings}
 use Rattle.oc_events.specs.declared.call.Call.{Call}

@@ -8,8 +8,6 @@ use Rattle.oc_keep.specs.Files.{disks_in}
 use Rattle.oc_keep.specs.KeptView.{disks_of}
 use Rattle.oc_keep.specs.Promises.{IsNodeOf, LoadsSafely, RefusesNode}
 use Rattle.oc_keep.specs.declared.errors.KeepLoad.{KeepLoad}
-use Rattle.oc_keep.specs.declared.errors.KeepLoad.TheVariants as loads
-use Rattle.oc_keep.specs.Files.{AreReliable}
 use Rattle.oc_model.specs.declared.message.Message.{Message}
 use Rattle.oc_probe.specs.declared.probing.Probing.{Probing}
 use Rattle.oc_server.specs.Lawful.{IsMadeFor, IsReady}

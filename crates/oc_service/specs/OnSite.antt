@@ -23,7 +23,7 @@ use Rattle.oc_probe.specs.declared.probing.Probing.{Probing}
 use Rattle.oc_reply.specs.Verdicts.{NodeTerms, terms_of}
 use Rattle.oc_server.specs.Deeds.{Deed, Setting, calls_of, inputs_of, lines}
 use Rattle.oc_server.specs.Parts.{Cuts}
-use Rattle.oc_server.specs.Scenes.{CountsAll, IsFront, Idle, Noting, Taking, Under, under_line}
+use Rattle.oc_server.specs.Scenes.{CountsAll, IsFront, Idle, Taking, Under, under_line}
 use Rattle.oc_server.specs.Turns.{Told}
 use Rattle.oc_server.specs.declared.ends.TurnEnd.{TurnEnd}
 use Rattle.oc_server.specs.declared.ends.TurnEnd.TheVariants as ends
@@ -40,13 +40,13 @@ use Rattle.oc_service.specs.declared.running.Task.{Task}
 abbrev pub header_of_settings : Settings → Header
 header_of_settings c = header (length c.addresses) c.chain c.chunk c.areas
 
--- which node it is, and the addresses of all
+-- which node it is, the addresses of all, and the key of the network
 abbrev pub setting_of : Settings → ℕ → Setting
-setting_of c me = record { me = me; addresses = c.addresses }
+setting_of c me = record { me = me; addresses = c.addresses; key = c.key }
 
 -- by what it reads requests
 abbrev pub terms_in : Settings → ℕ → NodeTerms
-terms_in c me = terms_of me (length c.addresses) c.rules
+terms_in c me = terms_of me (length c.addresses) c.rules c.key
 
 -- by what it probes at first: no rate of any peer, and all other nodes in turn
 abbrev pub probing_of : ℕ → ℕ → Probing

@@ -1,5 +1,5 @@
 -- A loaded node that listens, takes what was measured, and turns.
-use Rattle.std.specs.Prelude.{◌≡◌, ◌⊎◌, ℕ, ◌+◌, ◌-◌, ◌<◌, ◌≤◌, Option, List, [], ◌++◌, length, slice_get, unwrap_or}
+use Rattle.std.specs.Prelude.{◌≡◌, ◌⊎◌, ℕ, ◌+◌, ◌-◌, ◌<◌, Option, List, [], ◌++◌, length, slice_get, unwrap_or}
 use Rattle.oc_events.specs.Counts.{CountsFailure}
 use Rattle.oc_events.specs.Told.{Adds}
 use Rattle.oc_events.specs.declared.call.Call.{Call}

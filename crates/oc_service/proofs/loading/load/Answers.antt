@@ -1,7 +1,7 @@
-use Rattle.std.proofs.Common.{◌≡◌, ◌∙◌, [], length, refl, sym, ap, subst}
+use Rattle.std.proofs.Common.{refl, ap, subst}
 use Rattle.oc_config.specs.Settings.{Settings}
 use Rattle.oc_keep.specs.Files.{disks_in}
-use Rattle.oc_keep.specs.KeptView.{disks_of, header}
+use Rattle.oc_keep.specs.KeptView.{disks_of}
 use Rattle.oc_keep.specs.Promises.{IsNodeOf, LoadsSafely}
 use Rattle.oc_service.specs.OnSite.{header_of_settings}
 use Rattle.oc_model.specs.Node.{Header}

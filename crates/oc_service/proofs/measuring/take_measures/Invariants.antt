@@ -1,4 +1,4 @@
-use Rattle.std.proofs.Common.{◌≡◌, ℕ, List, ◌++◌, drop}
+use Rattle.std.proofs.Common.{◌≡◌, List, ◌++◌, drop}
 use Rattle.std.specs.Prelude.{All}
 use Rattle.oc_updown.specs.MeasureLines.{IsMeasure}
 use Rattle.oc_server.specs.Deeds.{Deed}

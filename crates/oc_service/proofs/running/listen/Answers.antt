@@ -1,5 +1,5 @@
-use Rattle.std.proofs.Common.{◌≡◌, ◌∙◌, ◌-◌, ℕ, List, Option, Some, [], ap, refl, rules, subst, sym}
-use Rattle.std.specs.Prelude.{slice_get, unwrap_or}
+use Rattle.std.proofs.Common.{◌≡◌, ◌∙◌, ◌-◌, ℕ, List, Option, [], ap, refl, rules, subst}
+use Rattle.std.specs.Prelude.{unwrap_or}
 use Rattle.oc_events.specs.Told.{Adds}
 use Rattle.oc_events.specs.declared.call.Call.TheVariants as acts
 use Rattle.oc_service.specs.Running.{listens_at}

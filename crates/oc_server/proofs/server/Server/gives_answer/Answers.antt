@@ -1,5 +1,10 @@
-use Rattle.std.proofs.Common.{refl}
+use Rattle.std.proofs.Common.{ℕ, ap, refl, ◌∙◌}
 use Rattle.std.proofs.lemmas.Result.{err_from_is_err_and}
+use Rattle.oc_model.specs.Node.{Control}
+use Rattle.oc_reply.specs.Reports.{report_of}
+use Rattle.oc_reply.specs.Shown.{response_for}
+use Rattle.oc_routes.specs.declared.response.Response.{Response}
+use Rattle.oc_server.specs.Asks.{holding_in}
 use Rattle.oc_server.proofs.Responding.{replied}
 use Rattle.oc_server.proofs.Results.{done_then, err_then}
 use Rattle.oc_server.proofs.Steps.{memory_breaks}
@@ -9,8 +14,13 @@ use Rattle.oc_server.proofs.server.Server.gives_answer.Goals as goal
 pub returns-clause-did : goal.returns-clause-did
 returns-clause-did g c =
     let s = c.args.self.now in
-    done_then c.replies.result (λ did. replied g.D.Disk.view g.K.Sink.takes g.K.Sink.fails g.K.Sink.faults g.L.Link.story g.L.Link.counts c.args.pending c.args.now c.args.accepted.now.answer c.args.accepted.now.back c.in_ok-response.response c.shelf.result.now s c.replies.new.self
-    c.shelf.ensures.groups c.in_ok-response.ensures did) c.replies.ensures.did
+    let r = c.args.pending in
+    let told = c.args.accepted.now in
+    let lines = c.shelf.result.now in
+    let answered : (Control → ℕ → Response) =
+    λ n many. response_for r.asked r.last told.answer told.back (holding_in r.asked.operation lines) s.config.addresses s.config.key (report_of r.asked.operation n lines many) in
+    done_then c.replies.result (λ did. replied g.D.Disk.view g.K.Sink.takes g.K.Sink.fails g.K.Sink.faults g.L.Link.story g.L.Link.counts r c.args.now told.answer told.back c.in_ok-response.response lines s c.replies.new.self
+    c.shelf.ensures.groups (c.in_ok-response.ensures ∙ ap (λ n. answered n.control c.len.result) c.node.ensures ∙ ap (λ (many : ℕ). answered s.kept.node.control many) c.len.ensures) did) c.replies.ensures.did
 
 pub returns-clause-breaks : goal.returns-clause-breaks
 returns-clause-breaks g c =

@@ -1,68 +1,48 @@
-use Rattle.std.proofs.Common.{◌∷◌, [], Bool, false, is_some, ap, sym, ◌∙◌}
+use Rattle.std.proofs.Common.{None, Some, refl, sym, ◌∙◌}
 use Rattle.std.proofs.lemmas.Result.{err_from_is_err_and}
-use Rattle.oc_server.specs.Asks.{responds, takes_on, waiting}
-use Rattle.oc_server.specs.Deeds.{Waits}
-use Rattle.oc_server.specs.Parts.{nothing, one, ◌>>◌}
+use Rattle.oc_keep.specs.KeptView.{node_of}
+use Rattle.oc_routes.specs.Refusals.{why_text}
+use Rattle.oc_server.specs.Asks.{answers_or_waits, takes_on}
+use Rattle.oc_server.specs.Deeds.{Refuses, note_line}
 use Rattle.oc_server.specs.Scenes.{running, setting}
-use Rattle.oc_server.specs.Works.{pending}
-use Rattle.oc_server.specs.declared.work.Pending.{Pending}
-use Rattle.oc_server.specs.declared.work.Waiting.{Waiting}
-use Rattle.oc_server.proofs.Parts.{does_after, does_as, does_one, does_then, stops_after, stops_as, stops_behind}
-use Rattle.oc_server.proofs.Responding.{answers_part, waits_part}
-use Rattle.oc_server.proofs.Results.{done_then, err_then}
-use Rattle.oc_server.proofs.Stopping.{stops_idle}
+use Rattle.oc_server.proofs.Parts.{does_as, does_one, stops_as}
+use Rattle.oc_server.proofs.Responding.{condition_hurries, condition_part}
+use Rattle.oc_server.proofs.Results.{done_then, err_then, ok_then}
+use Rattle.oc_server.proofs.Stopping.{note_stops}
 use Rattle.oc_server.proofs.server.Server.takes_on.Goals as goal
 
-pub returns-in_err-has_to_wait-clause-breaks : goal.returns-in_err-has_to_wait-clause-breaks
-returns-in_err-has_to_wait-clause-breaks g c =
+pub returns-in_ok-refuses-in-Some-clause-did : goal.returns-in_ok-refuses-in-Some-clause-did
+returns-in_ok-refuses-in-Some-clause-did g c =
+    let s = c.args.self.now in
+    let request = c.args.request in
+    does_one g.D.Disk.view g.K.Sink.takes g.K.Sink.fails g.K.Sink.faults g.L.Link.story g.L.Link.counts (Refuses c.args.connection request.count c.in-Some.why) (takes_on c.args.connection request c.args.now) s c.refuses.new.self
+    (λ honest. condition_part c.args.connection c.args.now request (Some c.in-Some.why) (setting s) (running s) (sym (c.unmet.ensures honest) ∙ c.in-Some.is)) c.in_ok-refuses-in-Some.ensures.did
+
+pub returns-in_ok-refuses-in-Some-clause-hurries : goal.returns-in_ok-refuses-in-Some-clause-hurries
+returns-in_ok-refuses-in-Some-clause-hurries g c = λ honest. sym (condition_hurries c.args.request (Some c.in-Some.why) (node_of c.args.self.now.kept) (sym (c.unmet.ensures honest) ∙ c.in-Some.is))
+
+pub returns-in_err-refuses-in-Some-clause-breaks : goal.returns-in_err-refuses-in-Some-clause-breaks
+returns-in_err-refuses-in-Some-clause-breaks g c =
     let p = err_from_is_err_and c.from_residual.result c.from_residual.ensures.1 in
-    rw (p.1, p.2) (stops_idle g.D.Disk.view g.K.Sink.takes g.K.Sink.fails g.K.Sink.faults g.L.Link.story g.L.Link.counts g.met.K.Sink.takes_nothing c.in_err-has_to_wait.field-0.0 (takes_on c.args.connection c.args.request c.args.now) c.args.self.now c.has_to_wait.new.self c.requires.serving.is_open c.in_err-has_to_wait.ensures.breaks)
-
-pub returns-in_err-waits-clause-breaks : goal.returns-in_err-waits-clause-breaks
-returns-in_err-waits-clause-breaks g c =
-    let p = err_from_is_err_and c.from_residual-in_err-waits.result c.from_residual-in_err-waits.ensures.1 in
     let s = c.args.self.now in
     let request = c.args.request in
-    let looked = c.in_ok-has_to_wait.ensures in
-    let wait = waiting c.args.connection request c.args.now in
-    rw (p.1, p.2) (stops_as g.D.Disk.view g.K.Sink.takes g.K.Sink.fails g.K.Sink.faults g.L.Link.story g.L.Link.counts c.in_err-waits.field-0.0 (nothing >> one (Waits wait)) (takes_on c.args.connection request c.args.now) s c.waits.new.self
-    (λ honest. waits_part c.args.connection c.args.now request (setting s) (running s) (sym (looked.waits honest) ∙ c.if-branch.true))
-    (stops_behind g.D.Disk.view g.K.Sink.takes g.K.Sink.fails g.K.Sink.faults g.L.Link.story g.L.Link.counts g.met.K.Sink.takes_then c.in_err-waits.field-0.0 nothing (one (Waits wait)) s c.has_to_wait.new.self c.waits.new.self looked.did
-    (stops_idle g.D.Disk.view g.K.Sink.takes g.K.Sink.fails g.K.Sink.faults g.L.Link.story g.L.Link.counts g.met.K.Sink.takes_nothing c.in_err-waits.field-0.0 (one (Waits wait)) c.has_to_wait.new.self c.waits.new.self looked.did.did.is_open c.in_err-waits.ensures.breaks.1)))
+    rw (p.1, p.2) (note_stops g.D.Disk.view g.K.Sink.takes g.K.Sink.fails g.K.Sink.faults g.L.Link.story g.L.Link.counts g.met.K.Sink.takes_nothing c.in_err-refuses-in-Some.field-0.0 (note_line (why_text c.in-Some.why)) (Refuses c.args.connection request.count c.in-Some.why) (takes_on c.args.connection request c.args.now) s c.refuses.new.self c.requires.serving.is_open
+    (λ honest. condition_part c.args.connection c.args.now request (Some c.in-Some.why) (setting s) (running s) (sym (c.unmet.ensures honest) ∙ c.in-Some.is)) refl c.in_err-refuses-in-Some.ensures.breaks)
 
-pub returns-then-branch-clause-did : goal.returns-then-branch-clause-did
-returns-then-branch-clause-did g c =
+pub returns-in-None-clause-did : goal.returns-in-None-clause-did
+returns-in-None-clause-did g c =
     let s = c.args.self.now in
     let request = c.args.request in
-    let looked = c.in_ok-has_to_wait.ensures in
-    let wait = waiting c.args.connection request c.args.now in
-    does_as g.D.Disk.view g.K.Sink.takes g.K.Sink.fails g.K.Sink.faults g.L.Link.story g.L.Link.counts (nothing >> one (Waits wait)) (takes_on c.args.connection request c.args.now) s c.waits.new.self
-    (λ honest. waits_part c.args.connection c.args.now request (setting s) (running s) (sym (looked.waits honest) ∙ c.if-branch.true))
-    (does_then g.D.Disk.view g.K.Sink.takes g.K.Sink.fails g.K.Sink.faults g.L.Link.story g.L.Link.counts g.met.K.Sink.takes_then nothing (one (Waits wait)) s c.has_to_wait.new.self c.waits.new.self looked.did
-    (does_one g.D.Disk.view g.K.Sink.takes g.K.Sink.fails g.K.Sink.faults g.L.Link.story g.L.Link.counts (Waits c.waiting-waiting.result) (one (Waits wait)) c.has_to_wait.new.self c.waits.new.self (λ honest. ap (λ (x : Waiting). Waits x ∷ []) (sym c.waiting-waiting.ensures)) c.in_ok-waits.ensures.did))
+    done_then c.answers_or_waits.result (λ does. does_as g.D.Disk.view g.K.Sink.takes g.K.Sink.fails g.K.Sink.faults g.L.Link.story g.L.Link.counts (answers_or_waits c.args.connection request c.args.now) (takes_on c.args.connection request c.args.now) s c.answers_or_waits.new.self
+    (λ honest. condition_part c.args.connection c.args.now request None (setting s) (running s) (sym (c.unmet.ensures honest) ∙ c.in-None.is)) does) c.answers_or_waits.ensures.did
 
-pub returns-clause-did : goal.returns-clause-did
-returns-clause-did g c =
-    let s = c.args.self.now in
-    let b = c.has_to_wait.new.self in
-    let request = c.args.request in
-    let now = c.args.now in
-    let looked = c.in_ok-has_to_wait.ensures in
-    let is = c.pending_of-pending.ensures ∙ ap (λ (told : Bool). pending c.args.connection request told false) c.is_some.ensures in
-    done_then c.answers.result (λ does. does_as g.D.Disk.view g.K.Sink.takes g.K.Sink.fails g.K.Sink.faults g.L.Link.story g.L.Link.counts (nothing >> responds (pending c.args.connection request (is_some request.input) false) request.input now) (takes_on c.args.connection request now) s c.answers.new.self
-    (λ honest. answers_part c.args.connection now request (setting s) (running s) (sym (looked.waits honest) ∙ c.if-branch.false))
-    (does_after g.D.Disk.view g.K.Sink.takes g.K.Sink.fails g.K.Sink.faults g.L.Link.story g.L.Link.counts g.met.K.Sink.takes_then nothing (responds (pending c.args.connection request (is_some request.input) false) request.input now) (responds c.pending_of-pending.result request.input now) s b c.answers.new.self looked.did
-    (λ honest. ap (λ (r : Pending). responds r request.input now (setting b) (running b)) is) does)) c.answers.ensures.did
+pub returns-in-None-clause-hurries : goal.returns-in-None-clause-hurries
+returns-in-None-clause-hurries g c =
+    ok_then c.answers_or_waits.result (λ b is honest. is honest ∙ sym (condition_hurries c.args.request None (node_of c.args.self.now.kept) (sym (c.unmet.ensures honest) ∙ c.in-None.is))) c.answers_or_waits.ensures.hurries
 
-pub returns-clause-breaks : goal.returns-clause-breaks
-returns-clause-breaks g c =
+pub returns-in-None-clause-breaks : goal.returns-in-None-clause-breaks
+returns-in-None-clause-breaks g c =
     let s = c.args.self.now in
-    let b = c.has_to_wait.new.self in
     let request = c.args.request in
-    let now = c.args.now in
-    let looked = c.in_ok-has_to_wait.ensures in
-    let is = c.pending_of-pending.ensures ∙ ap (λ (told : Bool). pending c.args.connection request told false) c.is_some.ensures in
-    err_then c.answers.result (λ end stops. stops_as g.D.Disk.view g.K.Sink.takes g.K.Sink.fails g.K.Sink.faults g.L.Link.story g.L.Link.counts end (nothing >> responds (pending c.args.connection request (is_some request.input) false) request.input now) (takes_on c.args.connection request now) s c.answers.new.self
-    (λ honest. answers_part c.args.connection now request (setting s) (running s) (sym (looked.waits honest) ∙ c.if-branch.false))
-    (stops_after g.D.Disk.view g.K.Sink.takes g.K.Sink.fails g.K.Sink.faults g.L.Link.story g.L.Link.counts g.met.K.Sink.takes_then end nothing (responds (pending c.args.connection request (is_some request.input) false) request.input now) (responds c.pending_of-pending.result request.input now) s b c.answers.new.self looked.did
-    (λ honest. ap (λ (r : Pending). responds r request.input now (setting b) (running b)) is) stops)) c.answers.ensures.breaks
+    err_then c.answers_or_waits.result (λ end stops. stops_as g.D.Disk.view g.K.Sink.takes g.K.Sink.fails g.K.Sink.faults g.L.Link.story g.L.Link.counts end (answers_or_waits c.args.connection request c.args.now) (takes_on c.args.connection request c.args.now) s c.answers_or_waits.new.self
+    (λ honest. condition_part c.args.connection c.args.now request None (setting s) (running s) (sym (c.unmet.ensures honest) ∙ c.in-None.is)) stops) c.answers_or_waits.ensures.breaks

@@ -6,6 +6,8 @@ mod Replayed
 pub mod Completes
 pub mod Configured
 mod Gotten
+mod Posted
+pub mod Tokens
 mod AnyLine
 pub mod Works
 pub mod Serves

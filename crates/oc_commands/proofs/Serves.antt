@@ -21,16 +21,17 @@ use Rattle.oc_words.specs.declared.request.Request.TheVariants.{Node}
 use Rattle.oc_words.specs.declared.request.Service.{Service}
 use Rattle.oc_commands.specs.AtNode.{HappenedAtNode, HasNode, HasServiceStatus, IsStatusOf, IsStatusOver, task_of}
 use Rattle.oc_commands.specs.Ends.{status_of, status_of_run, status_of_service}
-use Rattle.oc_commands.specs.Outside.{OnLink, OnStage, Output, at_files, at_node, at_source}
+use Rattle.oc_commands.specs.Outside.{Input, OnLink, OnStage, Output, at_files, at_node, at_source}
 use Rattle.oc_commands.specs.Run.{Happened}
 use Rattle.oc_words.specs.Status.{number_of}
 use Rattle.oc_commands.specs.declared.configuring.ConfigEnd.TheVariants as configs
 use Rattle.oc_commands.specs.declared.ending.End.{End}
-use Rattle.oc_commands.specs.declared.ending.End.TheVariants.{Helped, HelpFailed, Versioned, VersionFailed, Misused, NoMemory, Replayed, Generated, Listed, Checked, CheckedConfigured, Got, Served}
+use Rattle.oc_commands.specs.declared.ending.End.TheVariants.{Helped, HelpFailed, Versioned, VersionFailed, Misused, NoMemory, Replayed, Generated, Listed, Checked, CheckedConfigured, NoToken, Got, Published, Served}
 use Rattle.oc_commands.specs.declared.serving.ServiceEnd.{ServiceEnd}
 use Rattle.oc_commands.specs.declared.serving.ServiceEnd.TheVariants as services
 use Rattle.oc_commands.proofs.AnyLine.{status_over}
 use Rattle.oc_commands.proofs.Completes.{IsSound}
+use Rattle.oc_commands.proofs.Tokens.{untokened}
 
 -- a request for one node is for no other
 same_service : (asked : Option Request) (v w : Service) (p q : Paths) → asked ≡ Some (Node v p) → asked ≡ Some (Node w q) → w ≡ v
@@ -84,21 +85,23 @@ module _ {S D N : Type 0} (gives fails : S → List ℕ → S → Type 0) (ended
       let (bytes, whole, is) = read in
       told v (Ok s) (number_of (status_of_run end)) bytes whole.0 whole.1 is.line is.gives (run_has s v end rest.0 rest.1)
 
-  pub served : (stage : OnStage) (dialler : OnLink) (asked : Option Request) (v : Service) (p : Paths) (end : End) → asked ≡ Some (Node v p)
-      → Happened (record { asked = asked; input = at_source gives fails ended faulty old new; output = output; stage = stage; files = at_files view d e; link = dialler; node = at_node view story counts d e link after }) end
+  pub served : (stage : OnStage) (dialler : OnLink) (token : Input) (asked : Option Request) (v : Service) (p : Paths) (end : End) → asked ≡ Some (Node v p)
+      → Happened (record { asked = asked; input = at_source gives fails ended faulty old new; output = output; stage = stage; files = at_files view d e; link = dialler; token = token; node = at_node view story counts d e link after }) end
       → HasServiceStatus gives ended view d v old new (number_of (status_of end)) ⊎ (number_of (status_of end) ≡ 4)
-  served stage dialler asked v p Helped is h = let also = h.0 in cc
-  served stage dialler asked v p HelpFailed is h = let also = h.0 in cc
-  served stage dialler asked v p Versioned is h = let also = h.0 in cc
-  served stage dialler asked v p VersionFailed is h = let also = h.0 in cc
-  served stage dialler asked v p Misused is h = let also = h.0 in cc
-  served stage dialler asked v p NoMemory is h = inr refl
-  served stage dialler asked v p (Replayed end) is h = let also = h.0.2 in cc
-  served stage dialler asked v p (Generated end) is h = let also = h.0.1 in cc
-  served stage dialler asked v p (Listed end) is h = let also = h.0.1 in cc
-  served stage dialler asked v p (Checked end) is h = let also = h.0.2 in cc
-  served stage dialler asked v p (CheckedConfigured end) is h = let also = h.0.2 in cc
-  served stage dialler asked v p (Got end) is h = let also = h.0.1 in cc
-  served stage dialler asked v p (Served end) is h =
+  served stage dialler token asked v p Helped is h = let also = h.0 in cc
+  served stage dialler token asked v p HelpFailed is h = let also = h.0 in cc
+  served stage dialler token asked v p Versioned is h = let also = h.0 in cc
+  served stage dialler token asked v p VersionFailed is h = let also = h.0 in cc
+  served stage dialler token asked v p Misused is h = let also = h.0 in cc
+  served stage dialler token asked v p NoMemory is h = inr refl
+  served stage dialler token asked v p (Replayed end) is h = let also = h.0.2 in cc
+  served stage dialler token asked v p (Generated end) is h = let also = h.0.1 in cc
+  served stage dialler token asked v p (Listed end) is h = let also = h.0.1 in cc
+  served stage dialler token asked v p (Checked end) is h = let also = h.0.2 in cc
+  served stage dialler token asked v p (CheckedConfigured end) is h = let also = h.0.2 in cc
+  served stage dialler token asked v p (NoToken end) is h = absurd (untokened asked (Node v p) h.0.0 is refl h.0.1)
+  served stage dialler token asked v p (Got end) is h = let also = h.0.1 in cc
+  served stage dialler token asked v p (Published end) is h = let also = h.0.1 in cc
+  served stage dialler token asked v p (Served end) is h =
       let (w, q, also, at) = h.0 in
       service_has v end (subst (λ x. HappenedAtNode (at_source gives fails ended faulty old new) (at_node view story counts d e link after) output x end) (same_service asked v w p q is also) at)

@@ -6,12 +6,14 @@ use Rattle.oc_config.specs.declared.fault.ConfigFault.TheVariants as faults
 use Rattle.oc_fetch.specs.declared.end.GetEnd.{GetEnd}
 use Rattle.oc_fetch.specs.declared.end.GetEnd.TheVariants as gets
 use Rattle.oc_keep.specs.declared.errors.KeepLoad.TheVariants as loads
-use Rattle.oc_commands.specs.Ends.{status_of, status_of_check, status_of_configured, status_of_gen, status_of_get, status_of_replay, status_of_rules, status_of_service, status_of_turns}
+use Rattle.oc_put.specs.declared.end.PutEnd.{PutEnd}
+use Rattle.oc_put.specs.declared.end.PutEnd.TheVariants as puts
+use Rattle.oc_commands.specs.Ends.{status_of, status_of_check, status_of_configured, status_of_gen, status_of_get, status_of_put, status_of_replay, status_of_rules, status_of_service, status_of_token, status_of_turns}
 use Rattle.oc_commands.specs.Outside.{Outside}
 use Rattle.oc_commands.specs.Run.{Happened}
 use Rattle.oc_words.specs.Status.{number_of}
 use Rattle.oc_commands.specs.declared.ending.End.{End}
-use Rattle.oc_commands.specs.declared.ending.End.TheVariants.{Helped, HelpFailed, Versioned, VersionFailed, Misused, NoMemory, Replayed, Generated, Listed, Checked, CheckedConfigured, Got, Served}
+use Rattle.oc_commands.specs.declared.ending.End.TheVariants.{Helped, HelpFailed, Versioned, VersionFailed, Misused, NoMemory, Replayed, Generated, Listed, Checked, CheckedConfigured, NoToken, Got, Published, Served}
 use Rattle.oc_commands.specs.declared.generating.GenEnd.{GenEnd}
 use Rattle.oc_commands.specs.declared.generating.GenEnd.TheVariants as gens
 use Rattle.oc_commands.specs.declared.checking.CheckEnd.{CheckEnd}
@@ -23,6 +25,8 @@ use Rattle.oc_commands.specs.declared.listing.RulesEnd.{RulesEnd}
 use Rattle.oc_commands.specs.declared.listing.RulesEnd.TheVariants as lists
 use Rattle.oc_commands.specs.declared.serving.ServiceEnd.{ServiceEnd}
 use Rattle.oc_commands.specs.declared.serving.ServiceEnd.TheVariants as services
+use Rattle.oc_commands.specs.declared.token.TokenEnd.{TokenEnd}
+use Rattle.oc_commands.specs.declared.token.TokenEnd.TheVariants as tokens
 use Rattle.oc_service.specs.declared.running.NodeEnd.TheVariants as nodes
 use Rattle.oc_server.specs.declared.ends.TurnEnd.{TurnEnd}
 use Rattle.oc_server.specs.declared.ends.TurnEnd.TheVariants as turns
@@ -71,7 +75,7 @@ configured_is_other (configured.Config end) is = rules_are_other (lists.Config e
 configured_is_other configured.Stranger is = absurd (omega (arith, is))
 configured_is_other (configured.Checked end) is = check_is_other end is
 
--- and `get`
+-- `get`
 get_is_other : (end : GetEnd) → number_of (status_of_get end) ≡ 2 → ⊥
 get_is_other gets.Done is = absurd (omega (arith, is))
 get_is_other gets.BadUrl is = absurd (omega (arith, is))
@@ -81,6 +85,25 @@ get_is_other gets.Reply is = absurd (omega (arith, is))
 get_is_other gets.Link is = absurd (omega (arith, is))
 get_is_other gets.Sink is = absurd (omega (arith, is))
 get_is_other gets.Memory is = absurd (omega (arith, is))
+
+-- why a client has no token
+token_is_other : (end : TokenEnd) → number_of (status_of_token end) ≡ 2 → ⊥
+token_is_other tokens.Source is = absurd (omega (arith, is))
+token_is_other tokens.Long is = absurd (omega (arith, is))
+token_is_other tokens.Fault is = absurd (omega (arith, is))
+token_is_other tokens.Memory is = absurd (omega (arith, is))
+
+-- `put`
+put_is_other : (end : PutEnd) → number_of (status_of_put end) ≡ 2 → ⊥
+put_is_other puts.Done is = absurd (omega (arith, is))
+put_is_other puts.BadUrl is = absurd (omega (arith, is))
+put_is_other (puts.Refused status) is = absurd (omega (arith, is))
+put_is_other (puts.Length length) is = absurd (omega (arith, is))
+put_is_other puts.Short is = absurd (omega (arith, is))
+put_is_other puts.Reply is = absurd (omega (arith, is))
+put_is_other puts.Link is = absurd (omega (arith, is))
+put_is_other puts.Input is = absurd (omega (arith, is))
+put_is_other puts.Memory is = absurd (omega (arith, is))
 
 -- and `node`
 turns_are_other : (end : TurnEnd) → number_of (status_of_turns end) ≡ 2 → ⊥
@@ -112,5 +135,7 @@ module _ (o : Outside) where
   only_misused (Listed end) is h = absurd (rules_are_other end is)
   only_misused (Checked end) is h = absurd (check_is_other end is)
   only_misused (CheckedConfigured end) is h = absurd (configured_is_other end is)
+  only_misused (NoToken end) is h = absurd (token_is_other end is)
   only_misused (Got end) is h = absurd (get_is_other end is)
+  only_misused (Published end) is h = absurd (put_is_other end is)
   only_misused (Served end) is h = absurd (service_is_other end is)

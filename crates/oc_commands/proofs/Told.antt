@@ -1,9 +1,12 @@
 -- What had happened, told of the outside in other words that follow.
-use Rattle.std.proofs.Common.{ℕ, Bool, List, Option, Result, Ok, Err, inl, inr, take}
+use Rattle.std.proofs.Common.{ℕ, Bool, true, false, List, Option, Some, None, Result, Ok, Err, inl, inr, take}
 use Rattle.oc_config.specs.Settings.{Settings}
 use Rattle.oc_config.specs.declared.fault.ConfigFault.TheVariants as faults
 use Rattle.oc_fetch.specs.declared.end.GetEnd.{GetEnd}
 use Rattle.oc_fetch.specs.declared.end.GetEnd.TheVariants as gets
+use Rattle.oc_put.specs.declared.end.PutEnd.{PutEnd}
+use Rattle.oc_put.specs.declared.end.PutEnd.TheVariants as puts
+use Rattle.oc_put.specs.declared.plan.Plan.{Plan}
 use Rattle.oc_replay.specs.declared.end.ReplayEnd.{ReplayEnd}
 use Rattle.oc_replay.specs.declared.end.ReplayEnd.TheVariants as replays
 use Rattle.oc_schedule.specs.Script.{Script}
@@ -14,17 +17,20 @@ use Rattle.oc_check.specs.declared.network.Network.{Network}
 use Rattle.oc_words.specs.declared.request.Request.{Request}
 use Rattle.oc_words.specs.declared.request.Sample.{Sample}
 use Rattle.oc_words.specs.declared.request.Service.{Service}
+use Rattle.oc_words.specs.declared.request.Upload.{Upload}
 use Rattle.oc_commands.specs.AtCheck.{HappenedAtCheck, network_in, network_of}
 use Rattle.oc_commands.specs.AtConfig.{ReadsConfig}
 use Rattle.oc_commands.specs.AtConfigured.{HappenedAtConfigured}
 use Rattle.oc_commands.specs.AtGen.{HappenedAtGen}
 use Rattle.oc_commands.specs.AtGet.{HappenedAtGet, Wrote}
 use Rattle.oc_commands.specs.AtNode.{HappenedAtNode, task_of}
+use Rattle.oc_commands.specs.AtPut.{Came, CameSo, HappenedAtPut, Published as Posted, plan_of}
 use Rattle.oc_commands.specs.AtReplay.{HappenedAtReplay}
 use Rattle.oc_commands.specs.AtRules.{HappenedAtRules}
+use Rattle.oc_commands.specs.AtToken.{ReadsToken, TakesToken}
 use Rattle.oc_commands.specs.Lines.{version_line}
 use Rattle.oc_commands.specs.Outside.{Input, Output, OnFiles, OnLink, OnNode, OnStage, Outside}
-use Rattle.oc_commands.specs.Run.{Happened, IsAlone, IsUnplayed}
+use Rattle.oc_commands.specs.Run.{Happened, IsAlone, IsFileless, IsOffline, IsUnplayed}
 use Rattle.oc_commands.specs.declared.checking.CheckEnd.{CheckEnd}
 use Rattle.oc_commands.specs.declared.checking.CheckEnd.TheVariants as checks
 use Rattle.oc_commands.specs.declared.checking.ConfiguredEnd.{ConfiguredEnd}
@@ -32,13 +38,15 @@ use Rattle.oc_commands.specs.declared.checking.ConfiguredEnd.TheVariants as conf
 use Rattle.oc_commands.specs.declared.configuring.ConfigEnd.{ConfigEnd}
 use Rattle.oc_commands.specs.declared.configuring.ConfigEnd.TheVariants as configs
 use Rattle.oc_commands.specs.declared.ending.End.{End}
-use Rattle.oc_commands.specs.declared.ending.End.TheVariants.{Helped, HelpFailed, Versioned, VersionFailed, Misused, NoMemory, Replayed, Generated, Listed, Checked, CheckedConfigured, Got, Served}
+use Rattle.oc_commands.specs.declared.ending.End.TheVariants.{Helped, HelpFailed, Versioned, VersionFailed, Misused, NoMemory, Replayed, Generated, Listed, Checked, CheckedConfigured, NoToken, Got, Published, Served}
 use Rattle.oc_commands.specs.declared.generating.GenEnd.{GenEnd}
 use Rattle.oc_commands.specs.declared.generating.GenEnd.TheVariants as gens
 use Rattle.oc_commands.specs.declared.listing.RulesEnd.{RulesEnd}
 use Rattle.oc_commands.specs.declared.listing.RulesEnd.TheVariants as lists
 use Rattle.oc_commands.specs.declared.serving.ServiceEnd.{ServiceEnd}
 use Rattle.oc_commands.specs.declared.serving.ServiceEnd.TheVariants as services
+use Rattle.oc_commands.specs.declared.token.TokenEnd.{TokenEnd}
+use Rattle.oc_commands.specs.declared.token.TokenEnd.TheVariants as tokens
 use Rattle.oc_service.specs.OnSite.{NodeEnds, OnRun, Stops}
 use Rattle.oc_service.specs.declared.running.NodeEnd.{NodeEnd}
 use Rattle.oc_service.specs.declared.running.NodeEnd.TheVariants as nodes
@@ -53,6 +61,8 @@ pub record TellsInput (i j : Input) : Type 0 where
   pub long : i.long → j.long
   pub failed : i.failed → j.failed
   pub came : i.came → j.came
+  pub gave : (bytes : List ℕ) → i.gave bytes → j.gave bytes
+  pub broke : (bytes : List ℕ) → i.broke bytes → j.broke bytes
   pub unread : i.unread → j.unread
 
 -- and so of an output
@@ -120,8 +130,8 @@ module _ (i j : Input) (o p : Output) (stage : OnStage) (input : TellsInput i j)
   wrote_told bytes gets.Link h = output.written _ h
   wrote_told bytes gets.Memory h = output.written _ h
 
-  get_told : (link : OnLink) (download : Download) (end : GetEnd) → HappenedAtGet link o download end → HappenedAtGet link p download end
-  get_told link download end h = record {
+  get_told : (link : OnLink) (download : Download) (token : Option (List ℕ)) (end : GetEnd) → HappenedAtGet link o download token end → HappenedAtGet link p download token end
+  get_told link download token end h = record {
     turns = h.turns;
     written = h.written;
     makes = h.makes;
@@ -130,6 +140,44 @@ module _ (i j : Input) (o p : Output) (stage : OnStage) (input : TellsInput i j)
     bad = h.bad;
     blames = h.blames;
     complete = h.complete;
+  }
+
+  -- at the end of `put`
+  came_so : (bytes : List ℕ) (over : Bool) → CameSo i bytes over → CameSo j bytes over
+  came_so bytes true h = input.whole bytes h
+  came_so bytes false h = input.gave bytes h
+
+  came_told : (bytes : List ℕ) (over : Bool) (end : PutEnd) → Came i bytes over end → Came j bytes over end
+  came_told bytes over puts.Input h = input.broke bytes h
+  came_told bytes over puts.Done h = came_so bytes over h
+  came_told bytes over puts.BadUrl h = came_so bytes over h
+  came_told bytes over (puts.Refused status) h = came_so bytes over h
+  came_told bytes over (puts.Length length) h = came_so bytes over h
+  came_told bytes over puts.Short h = came_so bytes over h
+  came_told bytes over puts.Reply h = came_so bytes over h
+  came_told bytes over puts.Link h = came_so bytes over h
+  came_told bytes over puts.Memory h = came_so bytes over h
+
+  published_told : (link : OnLink) (plan : Plan) (address : List ℕ) (token : Option (List ℕ)) (end : PutEnd) → Posted link i plan address token end → Posted link j plan address token end
+  published_told link plan address token end (inl (none, silent, unread)) = inl (none, silent, input.unread unread)
+  published_told link plan address token end (inr (url, is, at)) = inr (
+    url,
+    is,
+    record {
+      turns = at.turns;
+      bytes = at.bytes;
+      over = at.over;
+      publishes = at.publishes;
+      makes = at.makes;
+      came = came_told at.bytes at.over end at.came;
+    },
+  )
+
+  put_told : (link : OnLink) (u : Upload) (token : Option (List ℕ)) (end : PutEnd) → HappenedAtPut link i u token end → HappenedAtPut link j u token end
+  put_told link u token end h = record {
+    published = published_told link (plan_of u) u.address token end h.published;
+    bad = h.bad;
+    blames = h.blames;
   }
 
   -- at the end of `node`
@@ -158,31 +206,53 @@ module _ (i j : Input) (o p : Output) (stage : OnStage) (input : TellsInput i j)
   node_told node v services.Stranger h = let (settings, read, rest) = h in (settings, config_told (Ok settings) read, (rest.0, output.written _ rest.1))
   node_told node v (services.Ran end) h = let (settings, read, rest) = h in (settings, config_told (Ok settings) read, (rest.0, run_told (node.run settings (task_of v)) v.id end rest.1))
 
-  module _ (asked : Option Request) (files : OnFiles) (link : OnLink) (node : OnNode) where
+  module _ (asked : Option Request) (files : OnFiles) (link : OnLink) (node : OnNode) (t u : Input) (token : TellsInput t u) where
     abbrev before : Outside
-    before = record { asked = asked; input = i; output = o; stage = stage; files = files; link = link; node = node }
+    before = record { asked = asked; input = i; output = o; stage = stage; files = files; link = link; token = t; node = node }
 
     abbrev after : Outside
-    after = record { asked = asked; input = j; output = p; stage = stage; files = files; link = link; node = node }
+    after = record { asked = asked; input = j; output = p; stage = stage; files = files; link = link; token = u; node = node }
 
     unplayed_told : IsUnplayed before → IsUnplayed after
-    unplayed_told u = record { input = input.unread u.input; stage = u.stage }
+    unplayed_told n = record { input = input.unread n.input; stage = n.stage }
 
     alone_told : IsAlone before → IsAlone after
-    alone_told a = record { files = a.files; link = a.link; node = a.node }
+    alone_told a = record { files = a.files; link = a.link; token = token.unread a.token; node = a.node }
+
+    offline_told : IsOffline before → IsOffline after
+    offline_told a = record { link = a.link; token = token.unread a.token; node = a.node }
+
+    fileless_told : IsFileless before → IsFileless after
+    fileless_told a = record { files = a.files; node = a.node }
+
+    -- of a token
+    token_told : (read : Result (List ℕ) TokenEnd) → ReadsToken t read → ReadsToken u read
+    token_told (Ok text) h = (h.0, token.whole _ h.1, h.2)
+    token_told (Err tokens.Source) h = token.failed h
+    token_told (Err tokens.Long) h = token.long h
+    token_told (Err tokens.Memory) h = token.came h
+    token_told (Err tokens.Fault) h = (h.0, token.whole _ h.1, h.2)
+
+    took_told : (name bearer : Option (List ℕ)) → TakesToken t name bearer → TakesToken u name bearer
+    took_told None None h = token.unread h
+    took_told None (Some text) h = absurd h
+    took_told (Some name) None h = absurd h
+    took_told (Some name) (Some text) h = token_told (Ok text) h
 
     -- at each end of a run
     pub happened_told : (end : End) → Happened before end → Happened after end
-    happened_told Helped h = let (a, (text, some, written), u, n) = h in (a, (text, some, output.written _ written), unplayed_told u, alone_told n)
-    happened_told HelpFailed h = let (a, (text, cut), u, n) = h in (a, (text, output.cut_off _ cut), unplayed_told u, alone_told n)
-    happened_told Versioned h = let (a, written, u, n) = h in (a, output.written _ written, unplayed_told u, alone_told n)
-    happened_told VersionFailed h = let (a, cut, u, n) = h in (a, (cut.0, output.cut_off (take cut.0 version_line) cut.1), unplayed_told u, alone_told n)
-    happened_told Misused h = let (a, written, u, n) = h in (a, output.written _ written, unplayed_told u, alone_told n)
-    happened_told NoMemory h = let (written, u, n) = h in (output.written _ written, unplayed_told u, alone_told n)
+    happened_told Helped h = let (a, (text, some, written), x, n) = h in (a, (text, some, output.written _ written), unplayed_told x, alone_told n)
+    happened_told HelpFailed h = let (a, (text, cut), x, n) = h in (a, (text, output.cut_off _ cut), unplayed_told x, alone_told n)
+    happened_told Versioned h = let (a, written, x, n) = h in (a, output.written _ written, unplayed_told x, alone_told n)
+    happened_told VersionFailed h = let (a, cut, x, n) = h in (a, (cut.0, output.cut_off (take cut.0 version_line) cut.1), unplayed_told x, alone_told n)
+    happened_told Misused h = let (a, written, x, n) = h in (a, output.written _ written, unplayed_told x, alone_told n)
+    happened_told NoMemory h = let (written, x, n) = h in (output.written _ written, unplayed_told x, alone_told n)
     happened_told (Replayed end) h = let ((summary, file, a, at), n) = h in ((summary, file, a, replay_told summary end at), alone_told n)
-    happened_told (Generated end) h = let ((sample, a, at), u, n) = h in ((sample, a, gen_told sample end at), unplayed_told u, alone_told n)
+    happened_told (Generated end) h = let ((sample, a, at), x, n) = h in ((sample, a, gen_told sample end at), unplayed_told x, alone_told n)
     happened_told (Listed end) h = let (a, at, unplayed, n) = h in (a, rules_told end at, unplayed, alone_told n)
-    happened_told (Checked end) h = let ((member, folder, a, at), u, n) = h in ((member, folder, a, check_told files (network_of member) member.id end at), unplayed_told u, record { link = n.link; node = n.node })
-    happened_told (CheckedConfigured end) h = let ((id, paths, a, at), unplayed, n, f) = h in ((id, paths, a, configured_told files id end at), unplayed, record { link = n.link; node = n.node }, f)
-    happened_told (Got end) h = let ((download, a, at), u, n) = h in ((download, a, get_told link download end at), unplayed_told u, record { files = n.files; node = n.node })
-    happened_told (Served end) h = let ((service, paths, a, at), unplayed, f, l, c) = h in ((service, paths, a, node_told node service end at), unplayed, f, l, c)
+    happened_told (Checked end) h = let ((member, folder, a, at), x, n) = h in ((member, folder, a, check_told files (network_of member) member.id end at), unplayed_told x, offline_told n)
+    happened_told (CheckedConfigured end) h = let ((id, paths, a, at), unplayed, n, f) = h in ((id, paths, a, configured_told files id end at), unplayed, offline_told n, f)
+    happened_told (NoToken end) h = let ((file, a, read), written, x, l, n) = h in ((file, a, token_told (Err end) read), output.written _ written, unplayed_told x, l, fileless_told n)
+    happened_told (Got end) h = let ((download, a, bearer, took, at), x, n) = h in ((download, a, bearer, took_told download.token_file bearer took, get_told link download bearer end at), unplayed_told x, fileless_told n)
+    happened_told (Published end) h = let ((upload, a, bearer, took, at), written, unplayed, n) = h in ((upload, a, bearer, took_told upload.token_file bearer took, put_told link upload bearer end at), output.written _ written, unplayed, fileless_told n)
+    happened_told (Served end) h = let ((service, paths, a, at), unplayed, f, l, k, c) = h in ((service, paths, a, node_told node service end at), unplayed, f, l, token.unread k, c)

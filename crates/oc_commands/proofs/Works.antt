@@ -19,18 +19,19 @@ use Rattle.oc_commands.specs.AtReplay.{HappenedAtReplay, HasStatus, status_for}
 use Rattle.oc_commands.specs.AtRules.{HappenedAtRules, HasConfigStatus}
 use Rattle.oc_commands.specs.Complete.{IsDoneOrMemory}
 use Rattle.oc_commands.specs.Ends.{status_of, status_of_gen, status_of_replay, status_of_rules}
-use Rattle.oc_commands.specs.Outside.{OnFiles, OnLink, OnNode, OnStage, Outside, Output, at_source}
+use Rattle.oc_commands.specs.Outside.{Input, OnFiles, OnLink, OnNode, OnStage, Outside, Output, at_source}
 use Rattle.oc_commands.specs.Run.{Happened}
 use Rattle.oc_words.specs.Status.{number_of}
 use Rattle.oc_commands.specs.declared.configuring.ConfigEnd.TheVariants as configs
 use Rattle.oc_commands.specs.declared.ending.End.{End}
-use Rattle.oc_commands.specs.declared.ending.End.TheVariants.{Helped, HelpFailed, Versioned, VersionFailed, Misused, NoMemory, Replayed, Generated, Listed, Checked, CheckedConfigured, Got, Served}
+use Rattle.oc_commands.specs.declared.ending.End.TheVariants.{Helped, HelpFailed, Versioned, VersionFailed, Misused, NoMemory, Replayed, Generated, Listed, Checked, CheckedConfigured, NoToken, Got, Published, Served}
 use Rattle.oc_commands.specs.declared.generating.GenEnd.{GenEnd}
 use Rattle.oc_commands.specs.declared.generating.GenEnd.TheVariants as gens
 use Rattle.oc_commands.specs.declared.listing.RulesEnd.{RulesEnd}
 use Rattle.oc_commands.specs.declared.listing.RulesEnd.TheVariants as lists
 use Rattle.oc_commands.proofs.AnyLine.{status_read}
 use Rattle.oc_commands.proofs.Completes.{IsSound}
+use Rattle.oc_commands.proofs.Tokens.{untokened}
 
 -- a text that is too long has the status of a limit
 long_status : (bytes : List ℕ) → MAX_SCHEDULE_BYTES < length bytes → status_for (schedule_of bytes) ≡ 5
@@ -52,7 +53,9 @@ helped o sound (Generated end) is h = let also = h.0.1 in cc
 helped o sound (Listed end) is h = let also = h.0.1 in cc
 helped o sound (Checked end) is h = let also = h.0.2 in cc
 helped o sound (CheckedConfigured end) is h = let also = h.0.2 in cc
+helped o sound (NoToken end) is h = absurd (untokened o.asked Help h.0.0 is refl h.0.1)
 helped o sound (Got end) is h = let also = h.0.1 in cc
+helped o sound (Published end) is h = let also = h.0.1 in cc
 helped o sound (Served end) is h = let also = h.0.2 in cc
 
 -- and the version
@@ -68,7 +71,9 @@ versioned o sound (Generated end) is h = let also = h.0.1 in cc
 versioned o sound (Listed end) is h = let also = h.0.1 in cc
 versioned o sound (Checked end) is h = let also = h.0.2 in cc
 versioned o sound (CheckedConfigured end) is h = let also = h.0.2 in cc
+versioned o sound (NoToken end) is h = absurd (untokened o.asked Version h.0.0 is refl h.0.1)
 versioned o sound (Got end) is h = let also = h.0.1 in cc
+versioned o sound (Published end) is h = let also = h.0.1 in cc
 versioned o sound (Served end) is h = let also = h.0.2 in cc
 
 -- and `gen`
@@ -89,7 +94,9 @@ generated o sound sample (Generated end) is h = gen_done o.output sound h.0.0 en
 generated o sound sample (Listed end) is h = let also = h.0.1 in cc
 generated o sound sample (Checked end) is h = let also = h.0.2 in cc
 generated o sound sample (CheckedConfigured end) is h = let also = h.0.2 in cc
+generated o sound sample (NoToken end) is h = absurd (untokened o.asked (Gen sample) h.0.0 is refl h.0.1)
 generated o sound sample (Got end) is h = let also = h.0.1 in cc
+generated o sound sample (Published end) is h = let also = h.0.1 in cc
 generated o sound sample (Served end) is h = let also = h.0.2 in cc
 
 module _ {S : Type 0} (gives fails : S → List ℕ → S → Type 0) (ended : S → Type 0) (faulty : S → ℕ) (old new : S) (output : Output) (stage : OnStage)
@@ -123,9 +130,9 @@ module _ {S : Type 0} (gives fails : S → List ℕ → S → Type 0) (ended : S
   rules_have (lists.Config (configs.Fault (config_faults.Measure number why))) h = let (bytes, whole, is) = h.0 in inl (record { bytes = bytes; came = whole.0; status_is = inl (whole.1, sym (status_read is.line bytes _ is.gives)) })
   rules_have (lists.Config (configs.Fault (config_faults.Unknown place key))) h = let (bytes, whole, is) = h.0 in inl (record { bytes = bytes; came = whole.0; status_is = inl (whole.1, sym (status_read is.line bytes _ is.gives)) })
 
-  module _ (asked : Option Request) (files : OnFiles) (link : OnLink) (node : OnNode) where
+  module _ (asked : Option Request) (files : OnFiles) (link : OnLink) (token : Input) (node : OnNode) where
     abbrev outside : Outside
-    outside = record { asked = asked; input = at_source gives fails ended faulty old new; output = output; stage = stage; files = files; link = link; node = node }
+    outside = record { asked = asked; input = at_source gives fails ended faulty old new; output = output; stage = stage; files = files; link = link; token = token; node = node }
 
     pub replayed : (summary : Bool) (file : Option (List ℕ)) (end : End) → asked ≡ Some (Replay summary file) → Happened outside end
         → HasStatus gives ended old new (number_of (status_of end)) ⊎ (number_of (status_of end) ≡ 4)
@@ -140,7 +147,9 @@ module _ {S : Type 0} (gives fails : S → List ℕ → S → Type 0) (ended : S
     replayed summary file (Listed end) is h = let also = h.0.1 in cc
     replayed summary file (Checked end) is h = let also = h.0.2 in cc
     replayed summary file (CheckedConfigured end) is h = let also = h.0.2 in cc
+    replayed summary file (NoToken end) is h = absurd (untokened asked (Replay summary file) h.0.0 is refl h.0.1)
     replayed summary file (Got end) is h = let also = h.0.1 in cc
+    replayed summary file (Published end) is h = let also = h.0.1 in cc
     replayed summary file (Served end) is h = let also = h.0.2 in cc
 
     pub listed : (file : Option (List ℕ)) (end : End) → asked ≡ Some (Rules file) → Happened outside end
@@ -156,5 +165,7 @@ module _ {S : Type 0} (gives fails : S → List ℕ → S → Type 0) (ended : S
     listed file (Listed end) is h = rules_have end h.1
     listed file (Checked end) is h = let also = h.0.2 in cc
     listed file (CheckedConfigured end) is h = let also = h.0.2 in cc
+    listed file (NoToken end) is h = absurd (untokened asked (Rules file) h.0.0 is refl h.0.1)
     listed file (Got end) is h = let also = h.0.1 in cc
+    listed file (Published end) is h = let also = h.0.1 in cc
     listed file (Served end) is h = let also = h.0.2 in cc

@@ -1,7 +1,8 @@
--- What had happened at each end of `get`.
+-- What had happened at each end of `get`, with a token or without.
 use Rattle.std.specs.Prelude.{ℕ, Option, Some, None, List, ⊤}
 use Rattle.oc_fetch.specs.Addresses.{IsAddressOf, IsBadAddress}
 use Rattle.oc_fetch.specs.Downloads.{Downloads, IsUnasked, content_of, news_of}
+use Rattle.oc_fetch.specs.Manners.{Manner}
 use Rattle.oc_fetch.specs.Turns.{Turn}
 use Rattle.oc_fetch.specs.Wishes.{Wish}
 use Rattle.oc_fetch.specs.declared.end.GetEnd.{GetEnd}
@@ -10,8 +11,12 @@ use Rattle.oc_words.specs.declared.request.Download.{Download}
 use Rattle.oc_commands.specs.Outside.{OnLink, Output}
 use Rattle.url.specs.Parts.{Parts}
 
+-- how the client asks: from this byte, with this token
+abbrev pub manner_of : Download → Option (List ℕ) → Manner
+manner_of d token = record { from = d.start; token = token }
+
 -- what the client wishes for: the content of the URL, or what is new
-abbrev pub wish_for : Option ℕ → Parts → Wish
+abbrev pub wish_for : Option ℕ → Manner → Parts → Wish
 wish_for None = content_of
 wish_for (Some times) = news_of
 
@@ -31,17 +36,17 @@ Blames link ends.Link = link.has_failed
 Blames link end = ⊤
 
 -- where the URL is asked for once, replies that lead to its whole content are not refused
-abbrev pub CompletesOnce : OnLink → Option ℕ → List ℕ → GetEnd → Type 0
-CompletesOnce link None address end = (url : Parts) → IsAddressOf address url → link.completes url end
-CompletesOnce link (Some times) address end = ⊤
+abbrev pub CompletesOnce : OnLink → Option ℕ → Manner → List ℕ → GetEnd → Type 0
+CompletesOnce link None manner address end = (url : Parts) → IsAddressOf address url → link.completes manner url end
+CompletesOnce link (Some times) manner address end = ⊤
 
 -- the turns with the servers, and what was written of their replies
-pub record HappenedAtGet (link : OnLink) (output : Output) (d : Download) (end : GetEnd) : Type 0 where
+pub record HappenedAtGet (link : OnLink) (output : Output) (d : Download) (token : Option (List ℕ)) (end : GetEnd) : Type 0 where
   pub turns : List Turn
   pub written : List ℕ
   pub makes : link.makes turns
   pub wrote : Wrote output written end
-  pub downloads : Downloads (wish_for d.times) d.address (replies_for d.times) turns written end
+  pub downloads : Downloads (wish_for d.times (manner_of d token)) d.start d.address (replies_for d.times) turns written end
   pub bad : IsBadAddress d.address → IsUnasked d.address end
   pub blames : Blames link end
-  pub complete : CompletesOnce link d.times d.address end
+  pub complete : CompletesOnce link d.times (manner_of d token) d.address end

@@ -3,6 +3,7 @@ use Rattle.std.specs.Prelude.{◌≡◌, ◌⊎◌, ℕ, Option, Some, None, Lis
 use Rattle.oc_fetch.specs.Addresses.{IsAddressOf}
 use Rattle.oc_fetch.specs.Completeness.{LeadToContent, text_of}
 use Rattle.oc_fetch.specs.Downloads.{first_state}
+use Rattle.oc_fetch.specs.Manners.{Manner}
 use Rattle.oc_link.specs.Story.{Dial, Story, dials}
 use Rattle.url.specs.Parts.{Parts}
 use Rattle.oc_words.specs.declared.request.Download.{Download}
@@ -11,12 +12,16 @@ use Rattle.oc_words.specs.declared.request.Download.{Download}
 abbrev pub IsDoneOrMemory : ℕ → Type 0
 IsDoneOrMemory status = (status ≡ 0) ⊎ (status ≡ 4)
 
--- one download of an address
-abbrev pub once : List ℕ → Download
-once address = record { address = address; times = None }
+-- one download of an address, from this byte on where one is said
+abbrev pub once : List ℕ → Option ℕ → Download
+once address start = record { address = address; times = None; start = start; token_file = None }
+
+-- how a client asks that has no token
+abbrev pub plainly : Option ℕ → Manner
+plainly start = record { from = start; token = None }
 
 -- the address is a URL, and the dials that were made gave replies each of which led on to the next, up to a 200 with a whole content
-pub record IsServed (address : List ℕ) (old new : Option Story) : Type 0 where
+pub record IsServed (address : List ℕ) (start : Option ℕ) (old new : Option Story) : Type 0 where
   pub url : Parts
   pub address_is : IsAddressOf address url
   pub before : Story
@@ -25,4 +30,4 @@ pub record IsServed (address : List ℕ) (old new : Option Story) : Type 0 where
   pub told_after : new ≡ Some after
   pub made : List Dial
   pub dials_are : dials after ≡ dials before ++ made
-  pub lead : LeadToContent (first_state url 1) (map text_of made)
+  pub lead : LeadToContent (plainly start) (first_state start url 1) (map text_of made)

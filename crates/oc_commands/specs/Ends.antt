@@ -1,10 +1,13 @@
 -- The status of each end.
+use Rattle.std.specs.Prelude.{Bool, true, false}
 use Rattle.oc_config.specs.declared.fault.ConfigFault.{ConfigFault}
 use Rattle.oc_config.specs.declared.fault.ConfigFault.TheVariants as faults
 use Rattle.oc_fetch.specs.declared.end.GetEnd.{GetEnd}
 use Rattle.oc_fetch.specs.declared.end.GetEnd.TheVariants as gets
 use Rattle.oc_keep.specs.declared.errors.KeepLoad.{KeepLoad}
 use Rattle.oc_keep.specs.declared.errors.KeepLoad.TheVariants as loads
+use Rattle.oc_put.specs.declared.end.PutEnd.{PutEnd}
+use Rattle.oc_put.specs.declared.end.PutEnd.TheVariants as puts
 use Rattle.oc_replay.specs.declared.end.ReplayEnd.{ReplayEnd}
 use Rattle.oc_replay.specs.declared.end.ReplayEnd.TheVariants as replays
 use Rattle.oc_service.specs.declared.running.NodeEnd.{NodeEnd}
@@ -18,13 +21,15 @@ use Rattle.oc_commands.specs.declared.checking.ConfiguredEnd.TheVariants as conf
 use Rattle.oc_commands.specs.declared.configuring.ConfigEnd.{ConfigEnd}
 use Rattle.oc_commands.specs.declared.configuring.ConfigEnd.TheVariants as configs
 use Rattle.oc_commands.specs.declared.ending.End.{End}
-use Rattle.oc_commands.specs.declared.ending.End.TheVariants.{Helped, HelpFailed, Versioned, VersionFailed, Misused, NoMemory, Replayed, Generated, Listed, Checked, CheckedConfigured, Got, Served}
+use Rattle.oc_commands.specs.declared.ending.End.TheVariants.{Helped, HelpFailed, Versioned, VersionFailed, Misused, NoMemory, Replayed, Generated, Listed, Checked, CheckedConfigured, NoToken, Got, Published, Served}
 use Rattle.oc_commands.specs.declared.generating.GenEnd.{GenEnd}
 use Rattle.oc_commands.specs.declared.generating.GenEnd.TheVariants as gens
 use Rattle.oc_commands.specs.declared.listing.RulesEnd.{RulesEnd}
 use Rattle.oc_commands.specs.declared.listing.RulesEnd.TheVariants as lists
 use Rattle.oc_commands.specs.declared.serving.ServiceEnd.{ServiceEnd}
 use Rattle.oc_commands.specs.declared.serving.ServiceEnd.TheVariants as services
+use Rattle.oc_commands.specs.declared.token.TokenEnd.{TokenEnd}
+use Rattle.oc_commands.specs.declared.token.TokenEnd.TheVariants as tokens
 use Rattle.oc_words.specs.declared.status.Status.{Status}
 use Rattle.oc_words.specs.declared.status.Status.TheVariants as statuses
 
@@ -72,6 +77,12 @@ status_of_configured (configured.Config end) = status_of_config end
 status_of_configured configured.Stranger = statuses.BadText
 status_of_configured (configured.Checked end) = status_of_check end
 
+abbrev pub status_of_token : TokenEnd → Status
+status_of_token tokens.Source = statuses.Failed
+status_of_token tokens.Long = statuses.Limit
+status_of_token tokens.Fault = statuses.BadText
+status_of_token tokens.Memory = statuses.Memory
+
 abbrev pub status_of_get : GetEnd → Status
 status_of_get gets.Done = statuses.Done
 status_of_get gets.BadUrl = statuses.NotGot
@@ -81,6 +92,17 @@ status_of_get gets.Reply = statuses.NotGot
 status_of_get gets.Link = statuses.Failed
 status_of_get gets.Sink = statuses.Failed
 status_of_get gets.Memory = statuses.Memory
+
+abbrev pub status_of_put : PutEnd → Status
+status_of_put puts.Done = statuses.Done
+status_of_put puts.BadUrl = statuses.NotGot
+status_of_put (puts.Refused status) = statuses.NotGot
+status_of_put (puts.Length length) = statuses.NotGot
+status_of_put puts.Short = statuses.NotGot
+status_of_put puts.Reply = statuses.NotGot
+status_of_put puts.Link = statuses.Failed
+status_of_put puts.Input = statuses.Failed
+status_of_put puts.Memory = statuses.Memory
 
 abbrev pub status_of_turns : TurnEnd → Status
 status_of_turns turns.Served = statuses.Done
@@ -113,5 +135,12 @@ status_of (Generated end) = status_of_gen end
 status_of (Listed end) = status_of_rules end
 status_of (Checked end) = status_of_check end
 status_of (CheckedConfigured end) = status_of_configured end
+status_of (NoToken end) = status_of_token end
 status_of (Got end) = status_of_get end
+status_of (Published end) = status_of_put end
 status_of (Served end) = status_of_service end
+
+-- a client has no token
+abbrev pub lacks_token : End → Bool
+lacks_token (NoToken end) = true
+lacks_token end = false

@@ -7,7 +7,9 @@ pub mod AtConfig
 pub mod AtRules
 pub mod AtCheck
 pub mod AtConfigured
+pub mod AtToken
 pub mod AtGet
+pub mod AtPut
 pub mod AtNode
 pub mod Complete
 pub mod Ends

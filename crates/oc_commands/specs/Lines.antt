@@ -1,5 +1,6 @@
 -- The line on the error output that reports each end.
-use Rattle.std.specs.Prelude.{ℕ, Option, Some, None, List, [], ◌++◌, codes, decimal}
+use Rattle.std.specs.Prelude.{ℕ, Bool, true, false, Option, Some, None, Result, List, [], ◌++◌, codes, decimal}
+use Rattle.std.specs.Result.{result_ok}
 use Rattle.oc_base.specs.Why.{why_text}
 use Rattle.oc_config.specs.Keys.{key_text}
 use Rattle.oc_config.specs.declared.key.Key.TheVariants.{Id}
@@ -13,6 +14,8 @@ use Rattle.oc_keep.specs.declared.errors.KeepLoad.{KeepLoad}
 use Rattle.oc_keep.specs.declared.errors.KeepLoad.TheVariants as loads
 use Rattle.oc_keep.specs.declared.errors.Which.{Which}
 use Rattle.oc_keep.specs.declared.errors.Which.TheVariants as files
+use Rattle.oc_put.specs.declared.end.PutEnd.{PutEnd}
+use Rattle.oc_put.specs.declared.end.PutEnd.TheVariants as puts
 use Rattle.oc_replay.specs.declared.end.ReplayEnd.{ReplayEnd}
 use Rattle.oc_replay.specs.declared.end.ReplayEnd.TheVariants as replays
 use Rattle.oc_schedule.specs.Limits.{most_of, what_text}
@@ -30,7 +33,7 @@ use Rattle.oc_commands.specs.declared.checking.ConfiguredEnd.TheVariants as conf
 use Rattle.oc_commands.specs.declared.configuring.ConfigEnd.{ConfigEnd}
 use Rattle.oc_commands.specs.declared.configuring.ConfigEnd.TheVariants as configs
 use Rattle.oc_commands.specs.declared.ending.End.{End}
-use Rattle.oc_commands.specs.declared.ending.End.TheVariants.{Helped, HelpFailed, Versioned, VersionFailed, Misused, NoMemory, Replayed, Generated, Listed, Checked, CheckedConfigured, Got, Served}
+use Rattle.oc_commands.specs.declared.ending.End.TheVariants.{Helped, HelpFailed, Versioned, VersionFailed, Misused, NoMemory, Replayed, Generated, Listed, Checked, CheckedConfigured, NoToken, Got, Published, Served}
 use Rattle.oc_commands.specs.declared.generating.GenEnd.{GenEnd}
 use Rattle.oc_commands.specs.declared.generating.GenEnd.TheVariants as gens
 use Rattle.oc_commands.specs.declared.lines.ErrorLine.{ErrorLine}
@@ -38,6 +41,12 @@ use Rattle.oc_commands.specs.declared.listing.RulesEnd.{RulesEnd}
 use Rattle.oc_commands.specs.declared.listing.RulesEnd.TheVariants as lists
 use Rattle.oc_commands.specs.declared.serving.ServiceEnd.{ServiceEnd}
 use Rattle.oc_commands.specs.declared.serving.ServiceEnd.TheVariants as services
+use Rattle.oc_commands.specs.declared.token.TokenEnd.{TokenEnd}
+use Rattle.oc_commands.specs.declared.token.TokenEnd.TheVariants as tokens
+use Rattle.oc_commands.specs.Ends.{lacks_token}
+use Rattle.oc_words.specs.Paths.{file_asked, token_file_asked}
+use Rattle.oc_words.specs.declared.request.Request.{Request}
+use Rattle.oc_words.specs.declared.words.WordsFault.{WordsFault}
 
 -- the answer to `--version`
 abbrev pub version_line : List ℕ
@@ -146,6 +155,13 @@ line_of_configured file (configured.Config end) = line_of_config file end
 line_of_configured file configured.Stranger = stranger_line
 line_of_configured file (configured.Checked end) = line_of_check end
 
+-- why a client has no token
+abbrev pub line_of_token : Option (List ℕ) → TokenEnd → List ℕ
+line_of_token file tokens.Source = input_failed file
+line_of_token file tokens.Long = limit_line Bytes
+line_of_token file tokens.Fault = short_line (codes "overcast: token")
+line_of_token file tokens.Memory = out_of_memory
+
 abbrev pub line_of_get : GetEnd → List ℕ
 line_of_get gets.Done = []
 line_of_get gets.BadUrl = short_line (codes "overcast: get: url")
@@ -155,6 +171,17 @@ line_of_get gets.Reply = short_line (codes "overcast: get: reply")
 line_of_get gets.Link = link_failed
 line_of_get gets.Sink = output_failed
 line_of_get gets.Memory = out_of_memory
+
+abbrev pub line_of_put : PutEnd → List ℕ
+line_of_put puts.Done = []
+line_of_put puts.BadUrl = short_line (codes "overcast: put: url")
+line_of_put (puts.Refused status) = line (codes "overcast: put: status ") (decimal status) [] []
+line_of_put (puts.Length length) = line (codes "overcast: put: length ") (decimal length) [] []
+line_of_put puts.Short = short_line (codes "overcast: put: short")
+line_of_put puts.Reply = short_line (codes "overcast: put: reply")
+line_of_put puts.Link = link_failed
+line_of_put puts.Input = input_failed None
+line_of_put puts.Memory = out_of_memory
 
 abbrev pub line_of_turns : TurnEnd → List ℕ
 line_of_turns turns.Served = []
@@ -174,7 +201,26 @@ line_of_service file (services.Config end) = line_of_config file end
 line_of_service file services.Stranger = stranger_line
 line_of_service file (services.Ran end) = line_of_run end
 
--- the line of each end, where this file takes the place of the input; that of bad words is followed by a text on usage
+-- the file that an end is about, of those that the words name: that of the token, or that which takes the place of the input
+abbrev pub file_by : Bool → Option Request → Option (List ℕ)
+file_by true asked = token_file_asked asked
+file_by false asked = file_asked asked
+
+abbrev pub file_told : Option Request → End → Option (List ℕ)
+file_told asked end = file_by (lacks_token end) asked
+
+-- of those that a request names
+abbrev pub file_at : Request → End → Option (List ℕ)
+file_at request end = file_by (lacks_token end) (Some request)
+
+-- and of those in words that were read
+abbrev pub file_in : Bool → Result Request WordsFault → Option (List ℕ)
+file_in lacks given = file_by lacks (result_ok given)
+
+abbrev pub file_known : Result Request WordsFault → End → Option (List ℕ)
+file_known given end = file_in (lacks_token end) given
+
+-- the line of each end, which is about this file; that of bad words is followed by a text on usage
 abbrev pub line_of : End → Option (List ℕ) → List ℕ → List ℕ
 line_of Helped file usage = []
 line_of HelpFailed file usage = output_failed
@@ -187,5 +233,7 @@ line_of (Generated end) file usage = line_of_gen end
 line_of (Listed end) file usage = line_of_rules file end
 line_of (Checked end) file usage = line_of_check end
 line_of (CheckedConfigured end) file usage = line_of_configured file end
+line_of (NoToken end) file usage = line_of_token file end
 line_of (Got end) file usage = line_of_get end
+line_of (Published end) file usage = line_of_put end
 line_of (Served end) file usage = line_of_service file end

@@ -1,10 +1,11 @@
 -- What can be said of the outside once a run has ended: of the words, of the input, of the output, of the
--- stage, of the files, of the link of a client, and of a node with its own link.
+-- stage, of the files, of the link of a client and the file of its token, and of a node with its own link.
 --
 -- The input is one object, whatever the words name: the file that they name, else the standard input. Who calls `run` hands in that
 -- object, which he finds by `Request::file`; and the three files are those of the folder that `Request::folder` gives. So nothing that is
 -- said here depends on whether a file was named, but the line on the error output where the input failed (`Lines`), which names it. A
--- file is opened at the first call on its object, as a node's files are: an opening that is refused is a call that failed, no more.
+-- file is opened at the first call on its object, as a node's files are: an opening that is refused is a call that failed, no more. The
+-- file of a token is an object of its own.
 use Rattle.std.specs.Prelude.{◌≡◌, ℕ, ◌<◌, Option, Result, List, length}
 use Rattle.oc_base.specs.declared.limits.TheConstants.{MAX_SCHEDULE_BYTES}
 use Rattle.oc_check.specs.Checks.{Shows}
@@ -12,6 +13,7 @@ use Rattle.oc_config.specs.Settings.{Settings}
 use Rattle.oc_events.specs.declared.call.Call.{Call}
 use Rattle.oc_events.specs.declared.counts.Counts.{Counts}
 use Rattle.oc_fetch.specs.Completeness.{Completes}
+use Rattle.oc_fetch.specs.Manners.{Manner}
 use Rattle.oc_fetch.specs.Turns.{Makes, Turn}
 use Rattle.oc_fetch.specs.declared.end.GetEnd.{GetEnd}
 use Rattle.oc_keep.specs.Files.{Disks}
@@ -24,6 +26,8 @@ use Rattle.oc_io.specs.DiskView.{DiskView}
 use Rattle.oc_io.specs.Faults.{Rose}
 use Rattle.oc_link.specs.LinkCalls.{LinkFaults, Told}
 use Rattle.oc_link.specs.Story.{Story}
+use Rattle.oc_put.specs.Requests.{Goal}
+use Rattle.oc_put.specs.Turns.{Makes as Publishes, Turn as Sent}
 use Rattle.oc_replay.specs.Replay.{IsInput, PassesLimit, world_at}
 use Rattle.oc_schedule.specs.Script.{Script}
 use Rattle.oc_schedule.specs.declared.fault.ScheduleFault.{ScheduleFault}
@@ -47,6 +51,10 @@ pub record Input : Type 1 where
   pub failed : Type 0
   -- some input came, and nothing else happened to it
   pub came : Type 0
+  -- these bytes came, whether more would come or not
+  pub gave : List ℕ → Type 0
+  -- these bytes came, and then the input failed
+  pub broke : List ℕ → Type 0
   -- the input is as it was
   pub unread : Type 0
 
@@ -82,7 +90,11 @@ pub record OnLink : Type 1 where
   -- a call of a dial failed
   pub has_failed : Type 0
   -- if the replies of the dials, from a URL on, led to a whole content, a download with this end was not refused
-  pub completes : Parts → GetEnd → Type 0
+  pub completes : Manner → Parts → GetEnd → Type 0
+  -- a client that publishes there made these turns on it, and nothing else was done
+  pub publishes : Goal → List Sent → Type 0
+  -- nothing was done on it
+  pub silent : Type 0
   -- it is as it was
   pub untouched : Type 0
 
@@ -101,6 +113,8 @@ pub record Outside : Type 1 where
   pub stage : OnStage
   pub files : OnFiles
   pub link : OnLink
+  -- the file of a client's token
+  pub token : Input
   pub node : OnNode
 
 -- ---- at a source, a sink, a stage, three disks and links, from the old value to the new one
@@ -114,6 +128,8 @@ module _ {S : Type 0} (gives fails : S → List ℕ → S → Type 0) (ended : S
     long = (bytes : List ℕ) × gives old bytes new × (MAX_SCHEDULE_BYTES < length bytes);
     failed = ((bytes : List ℕ) × fails old bytes new) × Rose (faults old) (faults new);
     came = (bytes : List ℕ) × gives old bytes new;
+    gave = λ bytes. gives old bytes new;
+    broke = λ bytes. fails old bytes new × Rose (faults old) (faults new);
     unread = new ≡ old;
   }
 
@@ -145,7 +161,9 @@ module _ {L : Type 0} (story : L → Option Story) (faults : L → LinkFaults) w
   at_link old new = record {
     makes = λ turns. Told (Makes turns) (story old) (story new);
     has_failed = Rose (faults old).dialling (faults new).dialling;
-    completes = λ url end. Told (Completes url end) (story old) (story new);
+    completes = λ manner url end. Told (Completes manner url end) (story old) (story new);
+    publishes = λ goal turns. Told (Publishes goal turns) (story old) (story new);
+    silent = story new ≡ story old;
     untouched = new ≡ old;
   }
 

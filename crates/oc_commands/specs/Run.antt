@@ -6,20 +6,24 @@ use Rattle.oc_words.specs.declared.request.Download.{Download}
 use Rattle.oc_words.specs.declared.request.Member.{Member}
 use Rattle.oc_words.specs.declared.request.Paths.{Paths}
 use Rattle.oc_words.specs.declared.request.Request.{Request}
-use Rattle.oc_words.specs.declared.request.Request.TheVariants.{Help, Version, Replay, Gen, Check, CheckConfigured, Get, Node, Rules}
+use Rattle.oc_words.specs.declared.request.Request.TheVariants.{Help, Version, Replay, Gen, Check, CheckConfigured, Get, Put, Node, Rules}
 use Rattle.oc_words.specs.declared.request.Sample.{Sample}
 use Rattle.oc_words.specs.declared.request.Service.{Service}
+use Rattle.oc_words.specs.declared.request.Upload.{Upload}
+use Rattle.oc_words.specs.Paths.{token_file_asked}
 use Rattle.oc_commands.specs.AtCheck.{HappenedAtCheck, network_of}
 use Rattle.oc_commands.specs.AtConfigured.{HappenedAtConfigured, UnlessChecked}
 use Rattle.oc_commands.specs.AtGen.{HappenedAtGen}
 use Rattle.oc_commands.specs.AtGet.{HappenedAtGet}
 use Rattle.oc_commands.specs.AtNode.{HappenedAtNode, UnlessRan}
+use Rattle.oc_commands.specs.AtPut.{HappenedAtPut}
 use Rattle.oc_commands.specs.AtReplay.{HappenedAtReplay}
 use Rattle.oc_commands.specs.AtRules.{HappenedAtRules}
+use Rattle.oc_commands.specs.AtToken.{LacksToken, TakesToken}
 use Rattle.oc_commands.specs.Lines.{version_line}
 use Rattle.oc_commands.specs.Outside.{Outside}
 use Rattle.oc_commands.specs.declared.ending.End.{End}
-use Rattle.oc_commands.specs.declared.ending.End.TheVariants.{Helped, HelpFailed, Versioned, VersionFailed, Misused, NoMemory, Replayed, Generated, Listed, Checked, CheckedConfigured, Got, Served}
+use Rattle.oc_commands.specs.declared.ending.End.TheVariants.{Helped, HelpFailed, Versioned, VersionFailed, Misused, NoMemory, Replayed, Generated, Listed, Checked, CheckedConfigured, NoToken, Got, Published, Served}
 
 -- the text was taken, or a prefix of it and then a call failed
 abbrev pub IsWrittenOrCut : {E : Type 0} → (E → List ℕ → E → Type 0) → (E → List ℕ → E → Type 0) → (E → ℕ) → E → E → List ℕ → Type 0
@@ -39,11 +43,13 @@ pub record IsUnplayed (o : Outside) : Type 0 where
 pub record IsAlone (o : Outside) : Type 0 where
   pub files : o.files.untouched
   pub link : o.link.untouched
+  pub token : o.token.unread
   pub node : o.node.untouched
 
 -- no link was asked for
 pub record IsOffline (o : Outside) : Type 0 where
   pub link : o.link.untouched
+  pub token : o.token.unread
   pub node : o.node.untouched
 
 -- no file and no link of a node was asked for
@@ -65,6 +71,10 @@ Happened o (Listed end) = ((file : Option (List ℕ)) × (o.asked ≡ Some (Rule
 Happened o (Checked end) = ((member : Member) × (folder : Option (List ℕ)) × (o.asked ≡ Some (Check member folder)) × HappenedAtCheck o.files o.output (network_of member) member.id end) × IsUnplayed o × IsOffline o
 Happened o (CheckedConfigured end) = ((id : ℕ) × (paths : Paths) × (o.asked ≡ Some (CheckConfigured id paths)) × HappenedAtConfigured o.input o.files o.output id end) × o.stage.unplayed × IsOffline o
     × UnlessChecked end o.files.untouched
-Happened o (Got end) = ((download : Download) × (o.asked ≡ Some (Get download)) × HappenedAtGet o.link o.output download end) × IsUnplayed o × IsFileless o
+Happened o (NoToken end) = LacksToken o.token (token_file_asked o.asked) end × o.output.written [] × IsUnplayed o × o.link.untouched × IsFileless o
+Happened o (Got end) = ((download : Download) × (o.asked ≡ Some (Get download)) × (token : Option (List ℕ)) × TakesToken o.token download.token_file token
+    × HappenedAtGet o.link o.output download token end) × IsUnplayed o × IsFileless o
+Happened o (Published end) = ((upload : Upload) × (o.asked ≡ Some (Put upload)) × (token : Option (List ℕ)) × TakesToken o.token upload.token_file token
+    × HappenedAtPut o.link o.input upload token end) × o.output.written [] × o.stage.unplayed × IsFileless o
 Happened o (Served end) = ((service : Service) × (paths : Paths) × (o.asked ≡ Some (Node service paths)) × HappenedAtNode o.input o.node o.output service end) × o.stage.unplayed
-    × UnlessRan end o.files.untouched × o.link.untouched × UnlessRan end o.node.untouched
+    × UnlessRan end o.files.untouched × o.link.untouched × o.token.unread × UnlessRan end o.node.untouched

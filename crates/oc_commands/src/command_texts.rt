@@ -188,26 +188,73 @@ pub(crate) fn get_help() -> &'static str
     "\
 overcast get: downloads a group
 
-Usage: overcast get URL [--follow N] > CONTENT
+Usage: overcast get URL [--follow N] [--from N] [--token-file FILE] > CONTENT
 
 Writes the content of the URL on standard output as it comes. It follows two
 redirections, so that it may ask any chain member: `http://HOST:PORT/GROUP`, with
 `?start=S` to begin at a byte, and `area=A` to be sent to a node of that area.
 
-  --follow  asks again and again for what is new, until the group is sealed or N
-            replies have come, N from 1 to 1000000
+  --follow      asks again and again for what is new, until the group is sealed or
+                N replies have come, N from 1 to 1000000
+  --from        begins at this byte, 0 to 2^40: as many as are there already
+  --token-file  shows the token in the first line of this file to each node, where
+                the access rules of the network want one
 
-Example: the content of a group, from the sixth byte on.
+Example: the content of a group, and later what has come since.
 
-  $ overcast get 'http://127.0.0.1:7001/news/today?start=5'
+  $ overcast get http://127.0.0.1:7001/news/today > today
+  $ overcast get http://127.0.0.1:7001/news/today --from 5 >> today
 
 Exit status:
   0  the content was written whole
-  1  the output or the link failed
+  1  the output, the link or the file of the token failed
   2  the words are not as under Usage, or a number is not in its range
+  3  the first line of the file is no token: 1 to 200 printed ASCII characters
+     without a space
   4  out of memory
+  5  the file of the token is too long
   6  the URL is bad, the reply has a status but 200 and 302, is no whole reply, or
      redirects a third time
+"
+}
+
+pub(crate) fn put_help() -> &'static str
+    ensures { 0 < length result.now }
+{
+    "\
+overcast put: publishes its input into a group
+
+Usage: overcast put URL [--append | --resume] [--seal] [--token-file FILE]
+                    < CONTENT
+
+Sends what comes on standard input to the source, node 1, at
+`http://HOST:PORT/GROUP`, in pieces, each behind the one before. Where a piece has
+no answer it asks how long the group is, so that no piece is there twice; it tries
+again up to four times, a second apart. The group must have no bytes yet, and is
+made where the input is empty.
+
+  --append      publishes behind what the group has
+  --resume      goes on where an earlier `put` of the same input ended: what the
+                group has is read of the input and not sent, and not compared
+  --seal        then closes the group, so that nothing more goes into it
+  --token-file  shows the token in the first line of this file, where the access
+                rules of the network want one
+
+Example: a file, which ends as it is.
+
+  $ overcast put http://127.0.0.1:7001/news/today --seal < today
+
+Exit status:
+  0  the whole input is in the group, which is closed where that was asked for
+  1  the input, the link or the file of the token failed
+  2  the words are not as under Usage
+  3  the first line of the file is no token: 1 to 200 printed ASCII characters
+     without a space
+  4  out of memory
+  5  the file of the token is too long
+  6  the URL is bad, what came is no reply, or one with the status that is named;
+     the group has the length that is named, with which the input does not go
+     there; or the input is shorter than what the group has
 "
 }
 

@@ -1,16 +1,19 @@
 //! How a run ends.
 ghost use Rattle.std.specs.Prelude.{◌≡◌};
-ghost use Rattle.oc_commands.specs.Ends.{status_of, status_of_check, status_of_config, status_of_configured, status_of_fault, status_of_gen};
-ghost use Rattle.oc_commands.specs.Ends.{status_of_get, status_of_load, status_of_replay, status_of_rules, status_of_run, status_of_service, status_of_turns};
+ghost use Rattle.oc_commands.specs.Ends.{lacks_token, status_of, status_of_check, status_of_config, status_of_configured, status_of_fault, status_of_gen};
+ghost use Rattle.oc_commands.specs.Ends.{status_of_get, status_of_load, status_of_put, status_of_replay, status_of_rules, status_of_run, status_of_service};
+ghost use Rattle.oc_commands.specs.Ends.{status_of_token, status_of_turns};
 
 use crate::checking::{CheckEnd, ConfiguredEnd};
 use crate::configuring::ConfigEnd;
 use crate::generating::GenEnd;
 use crate::listing::RulesEnd;
 use crate::serving::ServiceEnd;
+use crate::token::TokenEnd;
 use oc_config::ConfigFault;
 use oc_fetch::GetEnd;
 use oc_keep::KeepLoad;
+use oc_put::PutEnd;
 use oc_replay::ReplayEnd;
 use oc_service::{NodeEnd, TurnEnd};
 use oc_words::Status;
@@ -40,13 +43,24 @@ pub enum End {
     Checked(CheckEnd),
     /// The command `check` ended in this way, of a node of a configuration.
     CheckedConfigured(ConfiguredEnd),
+    /// A client has no token, for this cause, and did nothing.
+    NoToken(TokenEnd),
     /// The command `get` ended in this way.
     Got(GetEnd),
+    /// The command `put` ended in this way.
+    Published(PutEnd),
     /// The command `node` ended in this way.
     Served(ServiceEnd),
 }
 
 impl End {
+    /// Whether it is that a client has no token.
+    pub fn lacks_token(self) -> bool
+        ensures { result ≡ lacks_token self }
+    {
+        matches!(self, End::NoToken(_))
+    }
+
     /// The status with which the program ends.
     pub fn status(self) -> Status
         ensures { result ≡ status_of self }
@@ -63,7 +77,9 @@ impl End {
             End::Listed(end) => rules_status(end),
             End::Checked(end) => check_status(end),
             End::CheckedConfigured(end) => configured_status(end),
+            End::NoToken(end) => token_status(end),
             End::Got(end) => get_status(end),
+            End::Published(end) => put_status(end),
             End::Served(end) => service_status(end),
         }
     }
@@ -151,6 +167,17 @@ fn load_status(error: KeepLoad) -> Status
     }
 }
 
+fn token_status(end: TokenEnd) -> Status
+    ensures { result ≡ status_of_token end }
+{
+    match end {
+        TokenEnd::Source => Status::Failed,
+        TokenEnd::Long => Status::Limit,
+        TokenEnd::Fault => Status::BadText,
+        TokenEnd::Memory => Status::Memory,
+    }
+}
+
 fn get_status(end: GetEnd) -> Status
     ensures { result ≡ status_of_get end }
 {
@@ -159,6 +186,18 @@ fn get_status(end: GetEnd) -> Status
         GetEnd::BadUrl | GetEnd::Refused(_) | GetEnd::Redirects | GetEnd::Reply => Status::NotGot,
         GetEnd::Link | GetEnd::Sink => Status::Failed,
         GetEnd::Memory => Status::Memory,
+    }
+}
+
+fn put_status(end: PutEnd) -> Status
+    ensures { result ≡ status_of_put end }
+{
+    match end {
+        PutEnd::Done => Status::Done,
+        PutEnd::BadUrl | PutEnd::Refused(_) | PutEnd::Length(_) | PutEnd::Short | PutEnd::Reply =>
+            Status::NotGot,
+        PutEnd::Link | PutEnd::Input => Status::Failed,
+        PutEnd::Memory => Status::Memory,
     }
 }
 

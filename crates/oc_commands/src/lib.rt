@@ -1,7 +1,7 @@
 //! The commands of the program: what each does, how it ends, and with which status and which line.
 //!
-//! Each command is a file: `replaying`, `generating`, `listing` (`rules`), `checking`, `getting`
-//! and `serving` (`node`), besides `helping`, which answers `--help` and `--version`. [`End`] is the end of any of them, from which
+//! Each command is a file: `replaying`, `generating`, `listing` (`rules`), `checking`, `getting`, `putting`
+//! and `serving` (`node`), besides `helping`, which answers `--help` and `--version`, and `token`, which reads that of a client. [`End`] is the end of any of them, from which
 //! [`End::status`] and [`tell`] make the status and the line on the error output. `Outside` in `specs/` is all that
 //! their contracts speak of, and `Happened` says for each end what then holds.
 //!
@@ -11,6 +11,7 @@
 #![tactic(auto)]
 
 mod checking;
+mod client_lines;
 mod command_texts;
 mod configuring;
 mod ending;
@@ -21,10 +22,12 @@ mod helping;
 mod limits;
 mod lines;
 mod listing;
+mod putting;
 mod replaying;
 mod serving;
 mod telling;
 mod texts;
+mod token;
 
 pub use checking::{CheckEnd, ConfiguredEnd, check_configured, check_files};
 pub use configuring::ConfigEnd;
@@ -36,7 +39,9 @@ pub use helping::{write_help, write_version};
 pub use limits::limits_are_as_published;
 pub use listing::{RulesEnd, list_rules};
 pub use oc_words::Status;
+pub use putting::publish;
 pub use replaying::replay_input;
 pub use serving::{Served, ServiceEnd, run_service};
 pub use telling::tell;
 pub use texts::{help, usage};
+pub use token::{MAX_TOKEN_BYTES, TokenEnd, take_token};

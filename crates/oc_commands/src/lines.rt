@@ -4,7 +4,7 @@
 ghost use Rattle.std.specs.Prelude.{◌≡◌, [], option_map};
 ghost use Rattle.oc_config.specs.Keys.{key_text};
 ghost use Rattle.oc_commands.specs.Lines.{file_text, input_failed, limit_line, line, line_in, line_of_check, line_of_config, line_of_configured, line_of_fault, line_of_gen};
-ghost use Rattle.oc_commands.specs.Lines.{line_of_get, line_of_load, line_of_replay, line_of_rules, line_of_run};
+ghost use Rattle.oc_commands.specs.Lines.{line_of_load, line_of_replay, line_of_rules, line_of_run};
 ghost use Rattle.oc_commands.specs.Lines.{line_of_service, line_of_turns, long_line, short_line, stranger_line, text_of};
 
 use crate::checking::{CheckEnd, ConfiguredEnd};
@@ -15,7 +15,6 @@ use crate::serving::ServiceEnd;
 use itoa::Buffer;
 use oc_base::Why;
 use oc_config::{ConfigFault, Key, Place};
-use oc_fetch::GetEnd;
 use oc_keep::{KeepLoad, Which};
 use oc_replay::ReplayEnd;
 use oc_schedule::What;
@@ -24,7 +23,7 @@ use oc_service::{NodeEnd, TurnEnd};
 /// The digits of the numbers of a line.
 #[derive(Drop)]
 pub(crate) struct Digits {
-    first: Buffer,
+    pub(crate) first: Buffer,
     second: Buffer,
 }
 
@@ -96,7 +95,7 @@ pub(crate) fn line_of_replay<'a>(
 }
 
 /// The line of an input that failed, which is named where it is a file.
-fn input_failed(file: Option<&str>) -> ErrorLine<'_>
+pub(crate) fn input_failed(file: Option<&str>) -> ErrorLine<'_>
     ensures { text_of result ≡ input_failed (option_map (λ name. name.now) file.entry) }
 {
     match file {
@@ -106,7 +105,7 @@ fn input_failed(file: Option<&str>) -> ErrorLine<'_>
 }
 
 /// The line of a limit that was passed.
-fn limit_line(what: What, digits: &mut Digits) -> ErrorLine<'_>
+pub(crate) fn limit_line(what: What, digits: &mut Digits) -> ErrorLine<'_>
     ensures { text_of result ≡ limit_line what }
 {
     ErrorLine {
@@ -270,7 +269,7 @@ fn measure_line(line: u32, why: Why, digits: &mut Buffer) -> ErrorLine<'_>
 }
 
 /// The line of a text and a word after it.
-fn with_word<'a>(text: &'a str, word: &'a str) -> ErrorLine<'a>
+pub(crate) fn with_word<'a>(text: &'a str, word: &'a str) -> ErrorLine<'a>
     ensures { text_of result ≡ line text.entry.now word.entry.now [] [] }
 {
     ErrorLine {
@@ -357,24 +356,6 @@ fn file_word(which: Which) -> &'static str
         Which::Control => "control",
         Which::Alternate => "alternate",
         Which::Content => "content",
-    }
-}
-
-/// The line of an end of `get`.
-pub(crate) fn line_of_get(end: GetEnd, digits: &mut Digits) -> ErrorLine<'_>
-    ensures { text_of result ≡ line_of_get end }
-{
-    match end {
-        GetEnd::Done => no_line(),
-        GetEnd::BadUrl => short_line("overcast: get: url"),
-        GetEnd::Refused(status) => {
-            with_word("overcast: get: status ", digits.first.format(status))
-        }
-        GetEnd::Redirects => short_line("overcast: get: redirects"),
-        GetEnd::Reply => short_line("overcast: get: reply"),
-        GetEnd::Link => short_line("overcast: link failed"),
-        GetEnd::Sink => short_line("overcast: output failed"),
-        GetEnd::Memory => short_line("overcast: out of memory"),
     }
 }
 

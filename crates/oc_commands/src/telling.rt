@@ -7,9 +7,10 @@ ghost use Rattle.oc_commands.specs.Lines.{line_of, text_of};
 ghost use Rattle.oc_commands.specs.Run.{IsWrittenOrCut};
 ghost use Rattle.oc_http.specs.Parts.{joined};
 
+use crate::client_lines::{line_of_get, line_of_put, line_of_token};
 use crate::ending::End;
 use crate::lines::{
-    Digits, ErrorLine, line_of_check, line_of_configured, line_of_gen, line_of_get, line_of_replay,
+    Digits, ErrorLine, line_of_check, line_of_configured, line_of_gen, line_of_replay,
     line_of_rules, line_of_service, no_line, short_line,
 };
 use crate::texts::usage;
@@ -29,7 +30,7 @@ pub(crate) fn write_parts<K: Sink>(sink: &mut K, parts: &[&[u8]]) -> Result<(), 
     Ok(())
 }
 
-/// Writes the line of an end on the error output, where `file` takes the place of the input, if any does. Where
+/// Writes the line of an end on the error output, where `file` is the file that it is about, if it is about one. Where
 /// that output fails, a prefix of the line is written.
 pub fn tell<E: Sink>(err: &mut E, end: &End, file: Option<&str>)
     ensures told { (usage : List ℕ) × IsWrittenOrCut E.takes E.fails E.faults err.old err.new
@@ -82,7 +83,9 @@ fn line_of<'a>(end: &'a End, file: Option<&'a str>, digits: &'a mut Digits) -> E
         End::Listed(end) => line_of_rules(end, file, digits),
         End::Checked(end) => line_of_check(*end, digits),
         End::CheckedConfigured(end) => line_of_configured(end, file, digits),
+        End::NoToken(end) => line_of_token(*end, file, digits),
         End::Got(end) => line_of_get(*end, digits),
+        End::Published(end) => line_of_put(*end, digits),
         End::Served(end) => line_of_service(end, file, digits),
     }
 }

@@ -2,7 +2,9 @@
 
 ghost use Rattle.std.specs.Prelude.{◌<◌, length};
 
-use crate::command_texts::{check_help, gen_help, get_help, node_help, replay_help, rules_help};
+use crate::command_texts::{
+    check_help, gen_help, get_help, node_help, put_help, replay_help, rules_help,
+};
 
 /// The text that answers `--help`, by the first word: that of a command, or that of the program.
 pub fn help(words: &[String]) -> &'static str
@@ -24,6 +26,7 @@ fn help_on(word: &str) -> &'static str
         "node" => node_help(),
         "check" => check_help(),
         "get" => get_help(),
+        "put" => put_help(),
         "rules" => rules_help(),
         _ => program_help(),
     }
@@ -42,7 +45,9 @@ beneath it, and each passes on what it gets. Clients read groups over HTTP.
 Usage: overcast node ID [--turns N] [--probe] [--config FILE] [--dir FOLDER]
        overcast check ID [--config FILE] [--dir FOLDER]
        overcast check ID NODES CHAIN [--dir FOLDER]
-       overcast get URL [--follow N] > CONTENT
+       overcast get URL [--follow N] [--from N] [--token-file FILE] > CONTENT
+       overcast put URL [--append | --resume] [--seal] [--token-file FILE]
+                    < CONTENT
        overcast rules [--config FILE]
        overcast replay [FILE] [--summary] > REPORT
        overcast gen SEED NODES EVENTS > SCHEDULE
@@ -53,6 +58,7 @@ Commands:
   node    runs a node of a network on its three files
   check   shows what the three files of a node hold
   get     downloads a group, once or as it grows
+  put     publishes a file, or what a pipe brings, into a group
   rules   lists the access rules of a configuration
   replay  plays a schedule over nodes and a network in memory, and reports
   gen     writes a schedule that follows from a seed
@@ -66,10 +72,11 @@ Exit status:
   1  the input, the output, a disk or the link failed
   2  the words are not as under Usage, or a number is not in its range
   3  what was read has a fault: a line of a schedule, a key of a configuration,
-     a file that is no journal, or a frame of one
+     a file that is no journal, a frame of one, or a token
   4  out of memory
   5  a limit was passed
-  6  nothing was got: a bad URL, a status, too many redirections, or a bad reply
+  6  nothing was got, or not all was published: a bad URL, a status, too many
+     redirections, a bad reply, or a group of another length
 
 With each status but 0, one line on standard error says why.
 "
@@ -81,7 +88,9 @@ pub fn usage() -> &'static str {
 Usage: overcast node ID [--turns N] [--probe] [--config FILE] [--dir FOLDER]
        overcast check ID [--config FILE] [--dir FOLDER]
        overcast check ID NODES CHAIN [--dir FOLDER]
-       overcast get URL [--follow N] > CONTENT
+       overcast get URL [--follow N] [--from N] [--token-file FILE] > CONTENT
+       overcast put URL [--append | --resume] [--seal] [--token-file FILE]
+                    < CONTENT
        overcast rules [--config FILE]
        overcast replay [FILE] [--summary] > REPORT
        overcast gen SEED NODES EVENTS > SCHEDULE

@@ -7,11 +7,12 @@ use Rattle.oc_words.specs.declared.request.Request.{Request}
 use Rattle.oc_words.specs.declared.request.Request.TheVariants.{Replay}
 use Rattle.oc_commands.specs.AtReplay.{HappenedAtReplay, status_for}
 use Rattle.oc_commands.specs.Ends.{status_of, status_of_replay}
-use Rattle.oc_commands.specs.Outside.{OnFiles, OnLink, OnNode, OnStage, Output}
+use Rattle.oc_commands.proofs.Tokens.{untokened}
+use Rattle.oc_commands.specs.Outside.{Input, OnFiles, OnLink, OnNode, OnStage, Output}
 use Rattle.oc_commands.specs.Run.{Happened}
 use Rattle.oc_words.specs.Status.{number_of}
 use Rattle.oc_commands.specs.declared.ending.End.{End}
-use Rattle.oc_commands.specs.declared.ending.End.TheVariants.{Helped, HelpFailed, Versioned, VersionFailed, Misused, NoMemory, Replayed, Generated, Listed, Checked, CheckedConfigured, Got, Served}
+use Rattle.oc_commands.specs.declared.ending.End.TheVariants.{Helped, HelpFailed, Versioned, VersionFailed, Misused, NoMemory, Replayed, Generated, Listed, Checked, CheckedConfigured, NoToken, Got, Published, Served}
 use Rattle.oc_program.specs.Streams.{at_bytes}
 
 module _ (bytes : List ℕ) (read : ℕ) (output : Output) (stage : OnStage) where
@@ -27,19 +28,21 @@ module _ (bytes : List ℕ) (read : ℕ) (output : Output) (stage : OnStage) whe
   replay_is_right_of summary replays.Sink h = inr (inl refl)
   replay_is_right_of summary replays.Memory h = inr (inr refl)
 
-  pub replayed_of : (files : OnFiles) (link : OnLink) (node : OnNode) (summary : Bool) (file : Option (List ℕ)) (asked : Option Request) (end : End) → asked ≡ Some (Replay summary file)
-      → Happened (record { asked = asked; input = at_bytes bytes read; output = output; stage = stage; files = files; link = link; node = node }) end
+  pub replayed_of : (files : OnFiles) (link : OnLink) (token : Input) (node : OnNode) (summary : Bool) (file : Option (List ℕ)) (asked : Option Request) (end : End) → asked ≡ Some (Replay summary file)
+      → Happened (record { asked = asked; input = at_bytes bytes read; output = output; stage = stage; files = files; link = link; token = token; node = node }) end
       → IsRightOf (number_of (status_of end))
-  replayed_of files link node summary file asked Helped is h = let asks = h.0 in cc
-  replayed_of files link node summary file asked HelpFailed is h = let asks = h.0 in cc
-  replayed_of files link node summary file asked Versioned is h = let asks = h.0 in cc
-  replayed_of files link node summary file asked VersionFailed is h = let asks = h.0 in cc
-  replayed_of files link node summary file asked Misused is h = let asks = h.0 in cc
-  replayed_of files link node summary file asked NoMemory is h = inr (inr refl)
-  replayed_of files link node summary file asked (Replayed end) is h = replay_is_right_of h.0.0 end h.0.3
-  replayed_of files link node summary file asked (Generated end) is h = let asks = h.0.1 in cc
-  replayed_of files link node summary file asked (Listed end) is h = let asks = h.0.1 in cc
-  replayed_of files link node summary file asked (Checked end) is h = let asks = h.0.2 in cc
-  replayed_of files link node summary file asked (CheckedConfigured end) is h = let asks = h.0.2 in cc
-  replayed_of files link node summary file asked (Got end) is h = let asks = h.0.1 in cc
-  replayed_of files link node summary file asked (Served end) is h = let asks = h.0.2 in cc
+  replayed_of files link token node summary file asked Helped is h = let asks = h.0 in cc
+  replayed_of files link token node summary file asked HelpFailed is h = let asks = h.0 in cc
+  replayed_of files link token node summary file asked Versioned is h = let asks = h.0 in cc
+  replayed_of files link token node summary file asked VersionFailed is h = let asks = h.0 in cc
+  replayed_of files link token node summary file asked Misused is h = let asks = h.0 in cc
+  replayed_of files link token node summary file asked NoMemory is h = inr (inr refl)
+  replayed_of files link token node summary file asked (Replayed end) is h = replay_is_right_of h.0.0 end h.0.3
+  replayed_of files link token node summary file asked (Generated end) is h = let asks = h.0.1 in cc
+  replayed_of files link token node summary file asked (Listed end) is h = let asks = h.0.1 in cc
+  replayed_of files link token node summary file asked (Checked end) is h = let asks = h.0.2 in cc
+  replayed_of files link token node summary file asked (CheckedConfigured end) is h = let asks = h.0.2 in cc
+  replayed_of files link token node summary file asked (NoToken end) is h = absurd (untokened asked (Replay summary file) h.0.0 is refl h.0.1)
+  replayed_of files link token node summary file asked (Got end) is h = let asks = h.0.1 in cc
+  replayed_of files link token node summary file asked (Published end) is h = let asks = h.0.1 in cc
+  replayed_of files link token node summary file asked (Served end) is h = let asks = h.0.2 in cc

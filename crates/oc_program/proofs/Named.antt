@@ -1,22 +1,24 @@
 -- The file that the line of an end names is the one that the words name.
-use Rattle.std.proofs.Common.{◌≡◌, ◌∙◌, ℕ, List, Option, Some, None, Result, Err, inl, inr, refl, sym, ap}
+use Rattle.std.proofs.Common.{◌≡◌, ◌∙◌, ℕ, Bool, true, false, List, Option, Some, None, Result, Err, inl, inr, refl, sym, ap}
 use Rattle.std.specs.Prelude.{ok_or}
-use Rattle.oc_commands.specs.Lines.{line_of}
+use Rattle.oc_commands.specs.Ends.{lacks_token}
+use Rattle.oc_commands.specs.Lines.{file_by, file_in, file_known, file_told, line_of}
 use Rattle.oc_commands.specs.declared.ending.End.{End}
 use Rattle.oc_commands.specs.declared.ending.End.TheVariants.{NoMemory}
-use Rattle.oc_words.specs.Paths.{file_asked, file_read}
 use Rattle.oc_words.specs.Words.{Answers}
 use Rattle.oc_words.specs.declared.request.Request.{Request}
 use Rattle.oc_words.specs.declared.words.WordsFault.{WordsFault}
 use Rattle.oc_words.specs.declared.words.WordsFault.TheVariants.{Usage, Memory}
 
--- what was read names the file that the words name
-read_asked : (asked : Option Request) → file_read (ok_or asked Usage) ≡ file_asked asked
-read_asked None = refl
-read_asked (Some request) = refl
+-- what was read names the files that the words name
+read_asked : (untokened : Bool) (asked : Option Request) → file_in untokened (ok_or asked Usage) ≡ file_by untokened asked
+read_asked true None = refl
+read_asked true (Some request) = refl
+read_asked false None = refl
+read_asked false (Some request) = refl
 
 -- or memory ran out, and the line of that names none
 pub line_named : (given : Result Request WordsFault) (asked : Option Request) (end : End) (usage : List ℕ) → Answers asked given → (given ≡ Err Memory → end ≡ NoMemory)
-    → line_of end (file_read given) usage ≡ line_of end (file_asked asked) usage
-line_named given asked end usage (inl is) none = ap (λ file. line_of end file usage) (ap file_read is ∙ read_asked asked)
-line_named given asked end usage (inr memory) none = ap (λ e. line_of e (file_read given) usage) (none memory) ∙ sym (ap (λ e. line_of e (file_asked asked) usage) (none memory))
+    → line_of end (file_known given end) usage ≡ line_of end (file_told asked end) usage
+line_named given asked end usage (inl is) none = ap (λ file. line_of end file usage) (ap (file_in (lacks_token end)) is ∙ read_asked (lacks_token end) asked)
+line_named given asked end usage (inr memory) none = ap (λ e. line_of e (file_known given end) usage) (none memory) ∙ sym (ap (λ e. line_of e (file_told asked end) usage) (none memory))

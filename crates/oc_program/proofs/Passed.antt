@@ -19,7 +19,7 @@ use Rattle.oc_schedule.specs.declared.fault.What.{What}
 use Rattle.oc_schedule.specs.declared.fault.What.TheVariants as limits
 use Rattle.oc_commands.specs.Outside.{at_sink, at_source}
 use Rattle.oc_commands.specs.Run.{IsWrittenOrCut}
-use Rattle.oc_program.specs.Streams.{HasFailed, IsCountOf, IsCountOfLineOrFront, IsLineOrFront, IsSoundCountOf, at_bytes, at_input, at_output, at_text}
+use Rattle.oc_program.specs.Streams.{HasFailed, IsCountOf, IsCountOfLineOrFront, IsFrontRead, IsLineOrFront, IsSoundCountOf, at_bytes, at_input, at_output, at_text}
 use Rattle.oc_commands.proofs.Told.{TellsInput, TellsOutput}
 
 -- a counter that began at 0 and is a u64 is the number of the bytes, where a u64 has it
@@ -89,6 +89,10 @@ module _ {R : Type 0} (old new : ReaderSource R) (left : R → List ℕ) (began 
   came_it : (front : List ℕ) → readers.Passed left_of old front new → read ≤ length bytes
   came_it front p = let counted = is_counted front p in omega (arith, counted.0, counted.1)
 
+  -- and is a front of it
+  front_it : (front : List ℕ) → readers.Passed left_of old front new → IsFrontRead bytes read front
+  front_it front p = ((left new.reader, sym bytes_are ∙ p.known), (is_counted front p).0)
+
   pub bytes_told : TellsInput (at_source gives fails ended (λ s. s.faults) old new) (at_bytes bytes read)
   bytes_told = record {
     says = says_it;
@@ -97,6 +101,8 @@ module _ {R : Type 0} (old new : ReaderSource R) (left : R → List ℕ) (began 
     long = λ h. let (front, came, more) = h in let counted = is_counted front came.passed in (omega (arith, more, counted.1), omega (arith, counted.0, counted.1));
     failed = λ h. came_it h.0.0 h.0.1.passed;
     came = λ h. came_it h.0 h.1.passed;
+    gave = λ front h. front_it front h.passed;
+    broke = λ front h. front_it front h.0.passed;
     unread = λ same. read_is ∙ (ap (λ s. s.passed) same ∙ began);
   }
 
@@ -137,6 +143,8 @@ module _ {R : Type 0} (old new : ReaderSource R) (remaining : R → Option (List
     long = λ h. let (bytes, came, more) = h in (bytes, all_came bytes came, more);
     failed = λ h. subst (λ n. 0 < n) (sym faults_are) (failed_since old.faults new.faults sound h.1);
     came = λ h. (h.0, all_came h.0 h.1);
+    gave = λ bytes h. all_came bytes h;
+    broke = λ bytes h. (was_read bytes h.0.passed, subst (λ n. 0 < n) (sym faults_are) (failed_since old.faults new.faults sound h.1));
     unread = λ same. (bytes_are ∙ ap (λ s. s.passed) same ∙ began, faults_are ∙ ap (λ s. s.faults) same ∙ sound);
   }
 

@@ -1,7 +1,7 @@
 -- What had happened leaves each request its status.
-use Rattle.std.proofs.Common.{◌≡◌, ℕ, ◌⊎◌, List, Option, Some, None, inl, inr, refl, ap}
+use Rattle.std.proofs.Common.{◌≡◌, ◌∙◌, ℕ, ◌⊎◌, List, Option, Some, None, inl, inr, refl, ap}
 use Rattle.oc_commands.specs.Outside as sayings
-use Rattle.oc_commands.specs.Outside.{OnFiles, OnLink, OnNode, OnStage, Output, at_files, at_link, at_node, at_sink, at_stage}
+use Rattle.oc_commands.specs.Outside.{Input, OnFiles, OnLink, OnNode, OnStage, Output, at_files, at_link, at_node, at_sink, at_source, at_stage}
 use Rattle.oc_commands.specs.Ends.{status_of}
 use Rattle.oc_commands.specs.Run.{Happened}
 use Rattle.oc_commands.specs.declared.ending.End.{End}
@@ -20,7 +20,7 @@ use Rattle.oc_model.specs.World.{World}
 use Rattle.oc_words.specs.Status.{number_of}
 use Rattle.oc_words.specs.declared.request.Download.{Download}
 use Rattle.oc_words.specs.declared.request.Request.{Request}
-use Rattle.oc_words.specs.declared.request.Request.TheVariants.{Check, CheckConfigured, Gen, Get, Help, Node, Replay, Rules, Version}
+use Rattle.oc_words.specs.declared.request.Request.TheVariants.{Check, CheckConfigured, Gen, Get, Help, Node, Put, Replay, Rules, Version}
 use Rattle.oc_program.specs.Seen.{seen}
 use Rattle.oc_program.specs.StatusFor.{OutputHeld, StatusFor, StatusForGet}
 use Rattle.oc_program.specs.declared.outside.Outside.{Outside}
@@ -30,9 +30,9 @@ misused_number : (end : End) → (end ≡ Misused) ⊎ (end ≡ NoMemory) → (n
 misused_number end (inl is) = inl (ap (λ e. number_of (status_of e)) is)
 misused_number end (inr is) = inr (ap (λ e. number_of (status_of e)) is)
 
-module _ {S K E T D L N : Type 0} (gives gives_less : S → List ℕ → S → Type 0) (ended : S → Type 0) (input_faults : S → ℕ)
+module _ {S K E T D L N P : Type 0} (gives gives_less : S → List ℕ → S → Type 0) (ended : S → Type 0) (input_faults : S → ℕ)
     (takes takes_less : K → List ℕ → K → Type 0) (output_faults : K → ℕ) (world : T → World) (view : D → DiskView)
-    (dials : L → Option Story) (dial_faults : L → LinkFaults) (calls : N → Option (List Call)) (counts : N → Counts) (old new : Outside S K E T D L N) where
+    (dials : L → Option Story) (dial_faults : L → LinkFaults) (calls : N → Option (List Call)) (counts : N → Counts) (old new : Outside S K E T D L N P) where
   abbrev o : Option Request → sayings.Outside
   o asked = seen gives gives_less ended input_faults takes takes_less output_faults world view dials dial_faults calls counts asked old new
 
@@ -63,12 +63,18 @@ module _ {S K E T D L N : Type 0} (gives gives_less : S → List ℕ → S → T
   sound_of : OutputHeld gives ended input_faults output_faults view dials dial_faults counts old new → IsSound output
   sound_of held text cut = held cut.1
 
-  get_for : (d : Download) (times : Option ℕ) (end : End) → d.times ≡ times → Happened (o (Some (Get d))) end
-      → StatusForGet gives ended input_faults output_faults view dials dial_faults counts old new d.address times (number_of (status_of end))
-  get_for d None end is h = λ whole dialled held.
+  abbrev token : Input
+  token = at_source gives gives_less ended input_faults old.token new.token
+
+  get_for : (d : Download) (times : Option ℕ) (file : Option (List ℕ)) (end : End) → d.times ≡ times → d.token_file ≡ file → Happened (o (Some (Get d))) end
+      → StatusForGet gives ended input_faults output_faults view dials dial_faults counts old new d.address d.start times file (number_of (status_of end))
+  get_for d None None end is_once is_plain h = λ whole dialled held.
       fetched dials dial_faults old.dialler new.dialler output (sound_of held) dialled
-      (o None).input stage files node (Some (Get d)) d.address end (ap (λ t. Some (Get (record { address = d.address; times = t }))) is) whole h
-  get_for d (Some times) end is h = tt
+      (o None).input stage files token node (Some (Get d)) d.address d.start end
+      (ap (λ t. Some (Get (record { address = d.address; times = t; start = d.start; token_file = d.token_file }))) is_once
+      ∙ ap (λ f. Some (Get (record { address = d.address; times = None; start = d.start; token_file = f }))) is_plain) whole h
+  get_for d None (Some file) end is_once is_plain h = tt
+  get_for d (Some times) file end is_once is_plain h = tt
 
   pub status_for : (asked : Option Request) (end : End) → Happened (o asked) end → (asked ≡ None → (end ≡ Misused) ⊎ (end ≡ NoMemory)) → For asked (number_of (status_of end))
   status_for None end h misused = misused_number end (misused refl)
@@ -77,17 +83,18 @@ module _ {S K E T D L N : Type 0} (gives gives_less : S → List ℕ → S → T
   status_for (Some (Gen sample)) end h misused = λ held. generated (o (Some (Gen sample))) (sound_of held) sample end refl h
   status_for (Some (Replay summary file)) end h misused = λ came held.
       replayed gives gives_less ended input_faults old.input new.input output stage came (sound_of held)
-      (Some (Replay summary file)) files link node summary file end refl h
+      (Some (Replay summary file)) files link token node summary file end refl h
   status_for (Some (Rules file)) end h misused = λ came held.
       listed gives gives_less ended input_faults old.input new.input output stage came (sound_of held)
-      (Some (Rules file)) files link node file end refl h
+      (Some (Rules file)) files link token node file end refl h
   status_for (Some (Check member folder)) end h misused = λ kept held there.
       checked view before behind output (sound_of held) kept.0 kept.1
-      (o None).input stage link node (Some (Check member folder)) member folder end refl there h
+      (o None).input stage link token node (Some (Check member folder)) member folder end refl there h
   status_for (Some (CheckConfigured id paths)) end h misused = λ kept came held.
       shown gives gives_less ended input_faults old.input new.input view before behind output kept.0 kept.1 came (sound_of held)
-      stage link node (Some (CheckConfigured id paths)) id paths end refl h
-  status_for (Some (Get download)) end h misused = get_for download download.times end refl h
+      stage link token node (Some (CheckConfigured id paths)) id paths end refl h
+  status_for (Some (Get download)) end h misused = get_for download download.times download.token_file end refl refl h
+  status_for (Some (Put upload)) end h misused = tt
   status_for (Some (Node service paths)) end h misused = λ kept waiting came held.
       served gives gives_less ended input_faults old.input new.input view before behind calls counts old.link new.link output kept.0 kept.1 waiting came (sound_of held)
-      stage link (Some (Node service paths)) service paths end refl h
+      stage link token (Some (Node service paths)) service paths end refl h

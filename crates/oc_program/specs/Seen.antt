@@ -12,10 +12,10 @@ use Rattle.oc_model.specs.World.{World}
 use Rattle.oc_words.specs.declared.request.Request.{Request}
 use Rattle.oc_program.specs.declared.outside.Outside.{Outside}
 
-module _ {S K E T D L N : Type 0} (gives gives_less : S → List ℕ → S → Type 0) (ended : S → Type 0) (input_faults : S → ℕ)
+module _ {S K E T D L N P : Type 0} (gives gives_less : S → List ℕ → S → Type 0) (ended : S → Type 0) (input_faults : S → ℕ)
     (takes takes_less : K → List ℕ → K → Type 0) (output_faults : K → ℕ) (world : T → World) (view : D → DiskView)
     (dials : L → Option Story) (dial_faults : L → LinkFaults) (calls : N → Option (List Call)) (counts : N → Counts) where
-  abbrev pub seen : Option Request → Outside S K E T D L N → Outside S K E T D L N → sayings.Outside
+  abbrev pub seen : Option Request → Outside S K E T D L N P → Outside S K E T D L N P → sayings.Outside
   seen asked old new = record {
     asked = asked;
     input = at_source gives gives_less ended input_faults old.input new.input;
@@ -23,5 +23,6 @@ module _ {S K E T D L N : Type 0} (gives gives_less : S → List ℕ → S → T
     stage = at_stage world old.stage new.stage;
     files = at_files view (disks_in old.files) (disks_in new.files);
     link = at_link dials dial_faults old.dialler new.dialler;
+    token = at_source gives gives_less ended input_faults old.token new.token;
     node = at_node view calls counts (disks_in old.files) (disks_in new.files) old.link new.link;
   }

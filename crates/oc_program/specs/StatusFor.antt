@@ -13,11 +13,11 @@ use Rattle.oc_keep.specs.Promises.{HoldFiles}
 use Rattle.oc_link.specs.LinkCalls.{LinkFaults}
 use Rattle.oc_link.specs.Story.{Story}
 use Rattle.oc_words.specs.declared.request.Request.{Request}
-use Rattle.oc_words.specs.declared.request.Request.TheVariants.{Check, CheckConfigured, Gen, Get, Help, Node, Replay, Rules, Version}
+use Rattle.oc_words.specs.declared.request.Request.TheVariants.{Check, CheckConfigured, Gen, Get, Help, Node, Put, Replay, Rules, Version}
 use Rattle.oc_program.specs.declared.outside.Outside.{Outside}
 
-module _ {S K E T D L N : Type 0} (gives : S → List ℕ → S → Type 0) (ended : S → Type 0) (input_faults : S → ℕ) (output_faults : K → ℕ)
-    (view : D → DiskView) (dials : L → Option Story) (dial_faults : L → LinkFaults) (counts : N → Counts) (old new : Outside S K E T D L N) where
+module _ {S K E T D L N P : Type 0} (gives : S → List ℕ → S → Type 0) (ended : S → Type 0) (input_faults : S → ℕ) (output_faults : K → ℕ)
+    (view : D → DiskView) (dials : L → Option Story) (dial_faults : L → LinkFaults) (counts : N → Counts) (old new : Outside S K E T D L N P) where
   -- What did not fail: the input, the output, a disk of those that are honest, a dial, and the link of a node in being asked
 
   abbrev pub InputHeld : Type 0
@@ -35,10 +35,10 @@ module _ {S K E T D L N : Type 0} (gives : S → List ℕ → S → Type 0) (end
   abbrev pub LinkHeld : Type 0
   LinkHeld = Rose (counts old.link).listening (counts new.link).listening → ⊥
 
-  -- One download that is asked for once: where its URL was served whole, it is done.
-  abbrev pub StatusForGet : List ℕ → Option ℕ → ℕ → Type 0
-  StatusForGet address None status = IsServed address (dials old.dialler) (dials new.dialler) → DialsHeld → OutputHeld → IsDoneOrMemory status
-  StatusForGet address (Some times) status = Unit {0}
+  -- One download that is asked for once, without a token: where its URL was served whole, it is done.
+  abbrev pub StatusForGet : List ℕ → Option ℕ → Option ℕ → Option (List ℕ) → ℕ → Type 0
+  StatusForGet address start None None status = IsServed address start (dials old.dialler) (dials new.dialler) → DialsHeld → OutputHeld → IsDoneOrMemory status
+  StatusForGet address start times file status = Unit {0}
 
   -- Words that ask for nothing have status 2. Help, `--version` and `gen` are done; a replay has the status of what its input says, and so
   -- has `rules`. The files of a node are shown by `check`, of a configuration where that has the node. A `node` has the status of what
@@ -53,6 +53,7 @@ module _ {S K E T D L N : Type 0} (gives : S → List ℕ → S → Type 0) (end
   StatusFor (Some (Check member folder)) status = DisksHeld → OutputHeld → HoldFiles view member.nodes (disks_in old.files) → IsDoneOrMemory status
   StatusFor (Some (CheckConfigured id paths)) status =
       DisksHeld → InputHeld → OutputHeld → HasShownStatus gives ended view (disks_in old.files) id old.input new.input status ⊎ (status ≡ 4)
-  StatusFor (Some (Get download)) status = StatusForGet download.address download.times status
+  StatusFor (Some (Get download)) status = StatusForGet download.address download.start download.times download.token_file status
+  StatusFor (Some (Put upload)) status = Unit {0}
   StatusFor (Some (Node service paths)) status =
       DisksHeld → LinkHeld → InputHeld → OutputHeld → HasServiceStatus gives ended view (disks_in old.files) service old.input new.input status ⊎ (status ≡ 4)

@@ -1,5 +1,5 @@
 -- A run over bytes in memory, and a run over streams of which it is known how many bytes passed.
-use Rattle.std.specs.Prelude.{◌≡◌, ℕ, ◌<◌, ◌≤◌, ◌^◌, ◌-◌, ◌⊎◌, List, length, min, Err}
+use Rattle.std.specs.Prelude.{◌≡◌, ℕ, ◌<◌, ◌≤◌, ◌^◌, ◌-◌, ◌⊎◌, List, length, ◌++◌, min, Err}
 use Rattle.oc_io.specs.declared.traffic.Traffic.{Traffic}
 use Rattle.oc_base.specs.declared.limits.TheConstants.{MAX_SCHEDULE_BYTES}
 use Rattle.oc_replay.specs.Pieces.{SomeFront}
@@ -8,6 +8,10 @@ use Rattle.oc_schedule.specs.declared.fault.ScheduleFault.TheVariants.{Limit}
 use Rattle.oc_commands.specs.Outside.{Input, Output}
 
 -- ---- in memory
+
+-- these are the bytes that were read, this many of those of the input
+abbrev pub IsFrontRead : List ℕ → ℕ → List ℕ → Type 0
+IsFrontRead bytes read front = ((rest : List ℕ) × (bytes ≡ front ++ rest)) × (read ≡ length front)
 
 -- this many of the bytes of the input were read
 abbrev pub at_bytes : List ℕ → ℕ → Input
@@ -18,6 +22,8 @@ at_bytes bytes read = record {
   long = (MAX_SCHEDULE_BYTES < length bytes) × (read ≤ length bytes);
   failed = read ≤ length bytes;
   came = read ≤ length bytes;
+  gave = λ front. IsFrontRead bytes read front;
+  broke = λ front. IsFrontRead bytes read front;
   unread = read ≡ 0;
 }
 
@@ -52,6 +58,8 @@ at_input traffic = record {
   long = (bytes : List ℕ) × IsSoundCountOf traffic bytes × (MAX_SCHEDULE_BYTES < length bytes);
   failed = HasFailed traffic;
   came = (bytes : List ℕ) × IsSoundCountOf traffic bytes;
+  gave = λ bytes. IsSoundCountOf traffic bytes;
+  broke = λ bytes. IsCountOf traffic bytes × HasFailed traffic;
   unread = (traffic.bytes ≡ 0) × (traffic.faults ≡ 0);
 }
 

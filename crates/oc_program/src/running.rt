@@ -1,33 +1,36 @@
 //! The top call.
 
-ghost use Rattle.std.specs.Prelude.{◌≡◌, ◌≢◌, ℕ, ◌⊎◌, List, None, Err, IfOk};
+ghost use Rattle.std.specs.Prelude.{◌≡◌, ◌≢◌, ℕ, ◌⊎◌, List, None, Err, IfOk, option_map};
 ghost use Rattle.oc_keep.specs.Files.{disks_in};
 ghost use Rattle.oc_io.specs.Faults.{NoFall};
 ghost use Rattle.oc_commands.specs.AtCheck.{HappenedAtCheck, network_of};
 ghost use Rattle.oc_commands.specs.AtConfigured.{HappenedAtConfigured, UnlessChecked};
 ghost use Rattle.oc_commands.specs.AtNode.{HappenedAtNode, UnlessRan};
+ghost use Rattle.oc_commands.specs.AtPut.{HappenedAtPut};
 ghost use Rattle.oc_commands.specs.Ends.{status_of, status_of_service};
-ghost use Rattle.oc_commands.specs.Lines.{line_of};
-ghost use Rattle.oc_commands.specs.Outside.{at_files, at_node, at_sink, at_source};
+ghost use Rattle.oc_commands.specs.Lines.{file_at, file_known, file_told, line_of};
+ghost use Rattle.oc_commands.specs.Outside.{at_files, at_link, at_node, at_sink, at_source};
 ghost use Rattle.oc_commands.specs.Run.{Happened, IsNoNode, IsWrittenOrCut};
 ghost use Rattle.oc_program.specs.Seen.{seen};
 ghost use Rattle.oc_program.specs.StatusFor.{StatusFor};
 ghost use Rattle.oc_words.specs.Requests.{IsMember};
 ghost use Rattle.oc_words.specs.Status.{number_of};
-ghost use Rattle.oc_words.specs.Paths.{file_asked, file_read};
 ghost use Rattle.oc_words.specs.Words.{Answers, IsPlain, IsRequest, asked, texts_of};
 
 use crate::outside::{Ended, Outside};
 use oc_commands::{
     CheckEnd, ConfiguredEnd, End, Served, ServiceEnd, check_configured, check_files, download,
-    list_rules, replay_input, run_service, tell, write_help, write_sample, write_version,
+    list_rules, publish, replay_input, run_service, take_token, tell, write_help, write_sample,
+    write_version,
 };
 use oc_events::Link;
+use oc_fetch::ProgressLines;
 use oc_io::{Disk, Sink, Source};
 use oc_link::Link as Dialler;
+use oc_put::{Aside, Pause, PutEnd};
 use oc_replay::Stage;
 use oc_service::Site;
-use oc_words::{Member, Request, Service, WordsFault, read_words};
+use oc_words::{Member, Name, Request, Service, Upload, WordsFault, read_words};
 use std::alloc::Global;
 
 /// Runs the program: what the words ask for, from the input to the output, over the stage, the three files
@@ -35,15 +38,15 @@ use std::alloc::Global;
 ///
 /// The status is that of [`Status`](crate::Status); with each status other than 0 a line on the error output
 /// says why. What the words have no use for stays as it was.
-pub fn run<S: Source, K: Sink, E: Sink, T: Stage, D: Disk, L: Dialler, N: Link>(
+pub fn run<S: Source, K: Sink, E: Sink, T: Stage, D: Disk, L: Dialler, N: Link, P: Pause>(
     alloc: Global,
     words: &[String],
-    outside: Outside<S, K, E, T, D, L, N>,
-) -> Ended<S, K, E, T, D, L, N>
+    outside: Outside<S, K, E, T, D, L, N, P>,
+) -> Ended<S, K, E, T, D, L, N, P>
     // How it ended: the status, the line on the error output, and what had happened.
     ensures ended { (end : End) × (usage : List ℕ)
         × (result.status ≡ number_of (status_of end))
-        × IsWrittenOrCut E.takes E.fails E.faults outside.error result.outside.error (line_of end (file_asked (asked (texts_of words.now))) usage)
+        × IsWrittenOrCut E.takes E.fails E.faults outside.error result.outside.error (line_of end (file_told (asked (texts_of words.now)) end) usage)
         × Happened (seen S.gives S.fails S.ended S.faults K.takes K.fails K.faults T.world D.view L.story L.faults N.story N.counts
         (asked (texts_of words.now)) outside result.outside) end }
 
@@ -75,22 +78,33 @@ pub fn run<S: Source, K: Sink, E: Sink, T: Stage, D: Disk, L: Dialler, N: Link>(
 
 /// Writes the line of an end on the error output, for what was read from the words.
 fn tell_of<E: Sink>(err: &mut E, end: &End, given: Result<Request, WordsFault>)
-    ensures told { (usage : List ℕ) × IsWrittenOrCut E.takes E.fails E.faults err.old err.new (line_of end.now (file_read given) usage) }
+    ensures told { (usage : List ℕ) × IsWrittenOrCut E.takes E.fails E.faults err.old err.new (line_of end.now (file_known given end.now) usage) }
     ensures count { NoFall (E.faults err.old) (E.faults err.new) }
 {
     match given {
-        Ok(request) => tell(err, end, request.file()),
+        Ok(request) => tell(err, end, file_of(&request, end)),
         Err(_) => tell(err, end, None),
     }
 }
 
+/// The file that an end is about, of those that a request names.
+fn file_of<'a>(request: &'a Request, end: &End) -> Option<&'a str>
+    ensures { option_map (λ name. name.now) result ≡ file_at request.now end.now }
+{
+    if end.lacks_token() {
+        request.token_file()
+    } else {
+        request.file()
+    }
+}
+
 /// Does what the words ask for, of which this was read.
-fn perform<S: Source, K: Sink, E: Sink, T: Stage, D: Disk, L: Dialler, N: Link>(
+fn perform<S: Source, K: Sink, E: Sink, T: Stage, D: Disk, L: Dialler, N: Link, P: Pause>(
     alloc: Global,
     words: &[String],
     given: &Result<Request, WordsFault>,
-    outside: Outside<S, K, E, T, D, L, N>,
-) -> (End, Outside<S, K, E, T, D, L, N>)
+    outside: Outside<S, K, E, T, D, L, N, P>,
+) -> (End, Outside<S, K, E, T, D, L, N, P>)
     requires answers { Answers (asked (texts_of words.now)) given.now }
     requires range { IfOk given.now IsRequest }
     ensures happened { Happened (seen S.gives S.fails S.ended S.faults K.takes K.fails K.faults T.world D.view L.story L.faults N.story N.counts
@@ -135,8 +149,23 @@ fn perform<S: Source, K: Sink, E: Sink, T: Stage, D: Disk, L: Dialler, N: Link>(
             (End::Listed(end), outside)
         }
         Ok(Request::Get(wanted)) => {
-            let end = download(alloc, wanted, &mut outside.output, &mut outside.dialler);
-            (End::Got(end), outside)
+            match take_token(alloc, &wanted.token_file, &mut outside.token) {
+                Ok(token) => {
+                    let output = &mut outside.output;
+                    let end = download(alloc, wanted, &token, output, &mut outside.dialler);
+                    (End::Got(end), outside)
+                }
+                Err(end) => (End::NoToken(end), outside),
+            }
+        }
+        Ok(Request::Put(wanted)) => {
+            match take_token(alloc, &wanted.token_file, &mut outside.token) {
+                Ok(token) => {
+                    let (end, outside) = post(alloc, wanted, &token, outside);
+                    (End::Published(end), outside)
+                }
+                Err(end) => (End::NoToken(end), outside),
+            }
         }
         Ok(Request::Help) => {
             let end = write_help(words, &mut outside.output);
@@ -152,11 +181,11 @@ fn perform<S: Source, K: Sink, E: Sink, T: Stage, D: Disk, L: Dialler, N: Link>(
 }
 
 /// Runs a node.
-fn serve<S: Source, K: Sink, E: Sink, T: Stage, D: Disk, L: Dialler, N: Link>(
+fn serve<S: Source, K: Sink, E: Sink, T: Stage, D: Disk, L: Dialler, N: Link, P: Pause>(
     alloc: Global,
     service: Service,
-    outside: Outside<S, K, E, T, D, L, N>,
-) -> (ServiceEnd, Outside<S, K, E, T, D, L, N>)
+    outside: Outside<S, K, E, T, D, L, N, P>,
+) -> (ServiceEnd, Outside<S, K, E, T, D, L, N, P>)
     ensures happened { HappenedAtNode
         (at_source S.gives S.fails S.ended S.faults outside.input result.1.input)
         (at_node D.view N.story N.counts (disks_in outside.files) (disks_in result.1.files) outside.link result.1.link)
@@ -167,42 +196,28 @@ fn serve<S: Source, K: Sink, E: Sink, T: Stage, D: Disk, L: Dialler, N: Link>(
     ensures done_count { number_of (status_of_service result.0) ≡ 0 → NoFall (K.faults outside.output) (K.faults result.1.output) }
 
     // Nothing else was reached.
-    ensures rest { (result.1.error ≡ outside.error) × (result.1.stage ≡ outside.stage) × (result.1.dialler ≡ outside.dialler) }
+    ensures rest { (result.1.error ≡ outside.error) × (result.1.stage ≡ outside.stage) }
+    ensures client { (result.1.dialler ≡ outside.dialler) × (result.1.token ≡ outside.token) }
 {
-    let Outside {
-        mut input,
-        output,
-        error,
-        stage,
-        files,
-        dialler,
-        link,
-    } = outside;
+    let mut outside = outside;
     let site = Site {
-        files,
-        link,
-        sink: output,
+        files: outside.files,
+        link: outside.link,
+        sink: outside.output,
     };
-    let Served { end, site } = run_service(alloc, service, &mut input, site);
-    let Site { files, link, sink } = site;
-    let outside = Outside {
-        input,
-        output: sink,
-        error,
-        stage,
-        files,
-        dialler,
-        link,
-    };
+    let Served { end, site } = run_service(alloc, service, &mut outside.input, site);
+    outside.files = site.files;
+    outside.link = site.link;
+    outside.output = site.sink;
     (end, outside)
 }
 
 /// Shows the files of a node.
-fn check<S: Source, K: Sink, E: Sink, T: Stage, D: Disk, L: Dialler, N: Link>(
+fn check<S: Source, K: Sink, E: Sink, T: Stage, D: Disk, L: Dialler, N: Link, P: Pause>(
     alloc: Global,
     member: Member,
-    outside: Outside<S, K, E, T, D, L, N>,
-) -> (CheckEnd, Outside<S, K, E, T, D, L, N>)
+    outside: Outside<S, K, E, T, D, L, N, P>,
+) -> (CheckEnd, Outside<S, K, E, T, D, L, N, P>)
     requires { IsMember member }
     ensures happened { HappenedAtCheck
         (at_files D.view (disks_in outside.files) (disks_in result.1.files))
@@ -212,36 +227,21 @@ fn check<S: Source, K: Sink, E: Sink, T: Stage, D: Disk, L: Dialler, N: Link>(
     // Nothing else was reached.
     ensures input { result.1.input ≡ outside.input }
     ensures rest { (result.1.error ≡ outside.error) × (result.1.stage ≡ outside.stage) }
-    ensures links { (result.1.dialler ≡ outside.dialler) × (result.1.link ≡ outside.link) }
+    ensures links { (result.1.dialler ≡ outside.dialler) × (result.1.token ≡ outside.token) × (result.1.link ≡ outside.link) }
 {
-    let Outside {
-        input,
-        mut output,
-        error,
-        stage,
-        files,
-        dialler,
-        link,
-    } = outside;
-    let (end, files) = check_files(alloc, member, &mut output, files);
-    let outside = Outside {
-        input,
-        output,
-        error,
-        stage,
-        files,
-        dialler,
-        link,
-    };
+    let mut outside = outside;
+    let files = outside.files;
+    let (end, files) = check_files(alloc, member, &mut outside.output, files);
+    outside.files = files;
     (end, outside)
 }
 
 /// Shows the files of a node of the configuration on the input.
-fn check_one_of<S: Source, K: Sink, E: Sink, T: Stage, D: Disk, L: Dialler, N: Link>(
+fn check_one_of<S: Source, K: Sink, E: Sink, T: Stage, D: Disk, L: Dialler, N: Link, P: Pause>(
     alloc: Global,
     id: u64,
-    outside: Outside<S, K, E, T, D, L, N>,
-) -> (ConfiguredEnd, Outside<S, K, E, T, D, L, N>)
+    outside: Outside<S, K, E, T, D, L, N, P>,
+) -> (ConfiguredEnd, Outside<S, K, E, T, D, L, N, P>)
     ensures happened { HappenedAtConfigured
         (at_source S.gives S.fails S.ended S.faults outside.input result.1.input)
         (at_files D.view (disks_in outside.files) (disks_in result.1.files))
@@ -252,26 +252,47 @@ fn check_one_of<S: Source, K: Sink, E: Sink, T: Stage, D: Disk, L: Dialler, N: L
 
     // Nothing else was reached.
     ensures rest { (result.1.error ≡ outside.error) × (result.1.stage ≡ outside.stage) }
-    ensures links { (result.1.dialler ≡ outside.dialler) × (result.1.link ≡ outside.link) }
+    ensures links { (result.1.dialler ≡ outside.dialler) × (result.1.token ≡ outside.token) × (result.1.link ≡ outside.link) }
 {
-    let Outside {
-        mut input,
-        mut output,
-        error,
-        stage,
-        files,
-        dialler,
-        link,
-    } = outside;
-    let (end, files) = check_configured(alloc, id, &mut input, &mut output, files);
-    let outside = Outside {
-        input,
-        output,
-        error,
-        stage,
-        files,
-        dialler,
-        link,
+    let mut outside = outside;
+    let files = outside.files;
+    let (input, output) = (&mut outside.input, &mut outside.output);
+    let (end, files) = check_configured(alloc, id, input, output, files);
+    outside.files = files;
+    (end, outside)
+}
+
+/// Publishes the input.
+fn post<S: Source, K: Sink, E: Sink, T: Stage, D: Disk, L: Dialler, N: Link, P: Pause>(
+    alloc: Global,
+    wanted: &Upload,
+    token: &Option<Name>,
+    outside: Outside<S, K, E, T, D, L, N, P>,
+) -> (PutEnd, Outside<S, K, E, T, D, L, N, P>)
+    ensures happened { HappenedAtPut
+        (at_link L.story L.faults outside.dialler result.1.dialler)
+        (at_source S.gives S.fails S.ended S.faults outside.input result.1.input) wanted.now token.now result.0 }
+    ensures count { NoFall (S.faults outside.input) (S.faults result.1.input) }
+
+    // Nothing else was reached.
+    ensures outputs { (result.1.output ≡ outside.output) × (result.1.error ≡ outside.error) }
+    ensures rest { (result.1.stage ≡ outside.stage) × (result.1.files ≡ outside.files) }
+    ensures others { (result.1.token ≡ outside.token) × (result.1.link ≡ outside.link) }
+{
+    let mut outside = outside;
+    let mut aside = Aside {
+        pause: outside.pause,
+        lines: ProgressLines::new(outside.error, false),
     };
+    let end = publish(
+        alloc,
+        wanted,
+        token,
+        &mut outside.input,
+        &mut outside.dialler,
+        &mut aside,
+    );
+    outside.pause = aside.pause;
+    outside.error = aside.lines.into_sink();
     (end, outside)
 }

@@ -5,10 +5,9 @@ ghost use Rattle.std.specs.Prelude.{◌≡◌, ℕ, Bool, ◌⊎◌, List, Optio
 ghost use Rattle.oc_commands.specs.AtReplay.{status_for};
 ghost use Rattle.oc_keep.specs.Files.{disks_in};
 ghost use Rattle.oc_commands.specs.Ends.{status_of};
-ghost use Rattle.oc_commands.specs.Lines.{line_of};
+ghost use Rattle.oc_commands.specs.Lines.{file_told, line_of};
 ghost use Rattle.oc_commands.specs.Outside.{at_files, at_link, at_node, at_stage};
 ghost use Rattle.oc_commands.specs.Run.{Happened};
-ghost use Rattle.oc_words.specs.Paths.{file_asked};
 ghost use Rattle.oc_words.specs.Status.{number_of};
 ghost use Rattle.oc_program.specs.Streams.{IsCountOfLineOrFront, IsLineOrFront, at_bytes, at_input, at_output, at_text};
 ghost use Rattle.oc_words.specs.Words.{asked, texts_of};
@@ -21,6 +20,7 @@ use oc_events::Link;
 use oc_io::{Disk, ReaderSource, Traffic, WriterSink};
 use oc_keep::Files;
 use oc_link::Link as Dialler;
+use oc_put::Pause;
 use oc_replay::Stage;
 use oc_words::Request;
 use std::alloc::Global;
@@ -28,50 +28,56 @@ use std::io::{Read, Stderr, Stdout};
 
 /// What a run reaches besides its streams.
 #[derive(Drop)]
-pub struct Things<T: Stage, D: Disk, L: Dialler, N: Link> {
+pub struct Things<T: Stage, D: Disk, L: Dialler, N: Link, P: Pause> {
     pub stage: T,
     pub files: Files<D>,
     pub dialler: L,
     pub link: N,
+    pub pause: P,
 }
 
-/// The streams of a run: an input, which is the standard one or a file, and the standard outputs.
+/// The streams of a run: an input, which is the standard one or a file, the file of a token, and the standard outputs.
 #[derive(Drop)]
 pub struct Streams<R: Read> {
     pub input: R,
+    pub token: R,
     pub output: Stdout,
     pub error: Stderr,
 }
 
 /// What a run over bytes in memory left.
 #[derive(Drop)]
-pub struct MemoryRun<T: Stage, D: Disk, L: Dialler, N: Link> {
+pub struct MemoryRun<T: Stage, D: Disk, L: Dialler, N: Link, P: Pause> {
     /// The status.
     pub status: u8,
     /// How many bytes of the input were read.
     pub read: u64,
+    /// How many of the file of the token.
+    pub token_read: u64,
     /// The output.
     pub output: Vec<u8>,
     /// The error output.
     pub error: Vec<u8>,
-    pub things: Things<T, D, L, N>,
+    pub things: Things<T, D, L, N, P>,
 }
 
-/// [`run`] over the bytes of an input, into memory. A read of bytes never fails, but a [`ReaderSource`] is
+/// [`run`] over the bytes of an input and of the file of a token, into memory. A read of bytes never fails, but a [`ReaderSource`] is
 /// proved for every reader, of which its relations don't say that; so the ends at which the input failed
 /// are not excluded here.
-pub fn run_in_memory<T: Stage, D: Disk, L: Dialler, N: Link>(
+pub fn run_in_memory<T: Stage, D: Disk, L: Dialler, N: Link, P: Pause>(
     alloc: Global,
     words: &[String],
     input: &[u8],
-    things: Things<T, D, L, N>,
-) -> MemoryRun<T, D, L, N>
+    token: &[u8],
+    things: Things<T, D, L, N, P>,
+) -> MemoryRun<T, D, L, N, P>
     ensures ended { (end : End) × (usage : List ℕ)
         × (result.status ≡ number_of (status_of end))
-        × IsLineOrFront result.error.items (line_of end (file_asked (asked (texts_of words.now))) usage)
+        × IsLineOrFront result.error.items (line_of end (file_told (asked (texts_of words.now)) end) usage)
         × Happened (record {
           asked = asked (texts_of words.now);
           input = at_bytes input.now result.read;
+          token = at_bytes token.now result.token_read;
           output = at_text result.output.items;
           stage = at_stage T.world things.stage result.things.stage;
           files = at_files D.view (disks_in things.files) (disks_in result.things.files);
@@ -84,21 +90,25 @@ pub fn run_in_memory<T: Stage, D: Disk, L: Dialler, N: Link>(
         → (result.status ≡ status_for (schedule_of input.now)) ⊎ (result.status ≡ 1) ⊎ (result.status ≡ 4) }
 {
     let source = ReaderSource::new(input);
+    let token_source = ReaderSource::new(token);
     let out = WriterSink::new(Vec::new(alloc));
     let err = WriterSink::new(Vec::new(alloc));
     let outside = Outside {
         input: source,
+        token: token_source,
         output: out,
         error: err,
         stage: things.stage,
         files: things.files,
         dialler: things.dialler,
         link: things.link,
+        pause: things.pause,
     };
     let Ended { status, outside } = run(alloc, words, outside);
     MemoryRun {
         status,
         read: outside.input.traffic().bytes,
+        token_read: outside.token.traffic().bytes,
         output: outside.output.into_writer(),
         error: outside.error.into_writer(),
         things: Things {
@@ -106,22 +116,25 @@ pub fn run_in_memory<T: Stage, D: Disk, L: Dialler, N: Link>(
             files: outside.files,
             dialler: outside.dialler,
             link: outside.link,
+            pause: outside.pause,
         },
     }
 }
 
 /// What a run over the standard streams left.
 #[derive(Drop)]
-pub struct StreamsRun<T: Stage, D: Disk, L: Dialler, N: Link> {
+pub struct StreamsRun<T: Stage, D: Disk, L: Dialler, N: Link, P: Pause> {
     /// The status.
     pub status: u8,
     /// What was read on the input.
     pub input: Traffic,
+    /// What was read of the file of the token.
+    pub token: Traffic,
     /// What was written on standard output.
     pub output: Traffic,
     /// What was written on standard error.
     pub error: Traffic,
-    pub things: Things<T, D, L, N>,
+    pub things: Things<T, D, L, N, P>,
 }
 
 /// [`run`] over streams. No contract can say
@@ -129,18 +142,19 @@ pub struct StreamsRun<T: Stage, D: Disk, L: Dialler, N: Link> {
 /// many were read as some text has that says what the end tells, and exactly as many were written as the
 /// text that had to be written has, for `node` as many as the lines of its deeds have. Where
 /// no end blames the input or the output, no call on it failed.
-pub fn run_on_streams<R: Read + Drop, T: Stage, D: Disk, L: Dialler, N: Link>(
+pub fn run_on_streams<R: Read + Drop, T: Stage, D: Disk, L: Dialler, N: Link, P: Pause>(
     alloc: Global,
     words: &[String],
     streams: Streams<R>,
-    things: Things<T, D, L, N>,
-) -> StreamsRun<T, D, L, N>
+    things: Things<T, D, L, N, P>,
+) -> StreamsRun<T, D, L, N, P>
     ensures ended { (end : End) × (usage : List ℕ)
         × (result.status ≡ number_of (status_of end))
-        × IsCountOfLineOrFront result.error (line_of end (file_asked (asked (texts_of words.now))) usage)
+        × IsCountOfLineOrFront result.error (line_of end (file_told (asked (texts_of words.now)) end) usage)
         × Happened (record {
           asked = asked (texts_of words.now);
           input = at_input result.input;
+          token = at_input result.token;
           output = at_output result.output;
           stage = at_stage T.world things.stage result.things.stage;
           files = at_files D.view (disks_in things.files) (disks_in result.things.files);
@@ -149,21 +163,25 @@ pub fn run_on_streams<R: Read + Drop, T: Stage, D: Disk, L: Dialler, N: Link>(
         }) end }
 {
     let stdin = ReaderSource::new(streams.input);
+    let token = ReaderSource::new(streams.token);
     let stdout = WriterSink::new(streams.output);
     let stderr = WriterSink::new(streams.error);
     let outside = Outside {
         input: stdin,
+        token,
         output: stdout,
         error: stderr,
         stage: things.stage,
         files: things.files,
         dialler: things.dialler,
         link: things.link,
+        pause: things.pause,
     };
     let Ended { status, outside } = run(alloc, words, outside);
     StreamsRun {
         status,
         input: outside.input.traffic(),
+        token: outside.token.traffic(),
         output: outside.output.traffic(),
         error: outside.error.traffic(),
         things: Things {
@@ -171,6 +189,7 @@ pub fn run_on_streams<R: Read + Drop, T: Stage, D: Disk, L: Dialler, N: Link>(
             files: outside.files,
             dialler: outside.dialler,
             link: outside.link,
+            pause: outside.pause,
         },
     }
 }

@@ -7,10 +7,9 @@ ghost use Rattle.oc_keep.specs.KeptView.{header_of};
 ghost use Rattle.oc_model.specs.World.{ids, node as node_in};
 ghost use Rattle.oc_io.specs.MemDiskView.{view_of};
 ghost use Rattle.oc_commands.specs.Ends.{status_of};
-ghost use Rattle.oc_commands.specs.Lines.{line_of};
+ghost use Rattle.oc_commands.specs.Lines.{file_told, line_of};
 ghost use Rattle.oc_commands.specs.Outside.{at_files, at_link, at_node, at_sink, at_source, at_stage};
 ghost use Rattle.oc_commands.specs.Run.{Happened, IsWrittenOrCut};
-ghost use Rattle.oc_words.specs.Paths.{file_asked};
 ghost use Rattle.oc_words.specs.Status.{number_of};
 ghost use Rattle.oc_commands.specs.declared.ending.End.{End};
 ghost use Rattle.oc_words.specs.Words.{asked, texts_of};
@@ -21,16 +20,17 @@ use oc_events::Link;
 use oc_io::{Disk, MemDisk, Sink, Source};
 use oc_link::Link as Dialler;
 use oc_program::{Ended, Outside, run};
+use oc_put::Pause;
 use oc_world::World;
 use std::alloc::Global;
 
 /// What a run over a world in memory left: of the world the disks of one of its nodes.
 #[derive(Drop)]
-pub struct Left<S: Source, K: Sink, E: Sink, D: Disk, L: Dialler, N: Link> {
+pub struct Left<S: Source, K: Sink, E: Sink, D: Disk, L: Dialler, N: Link, P: Pause> {
     pub status: u8,
     pub disks: Option<(MemDisk, MemDisk, MemDisk)>,
     /// With a new world.
-    pub outside: Outside<S, K, E, World, D, L, N>,
+    pub outside: Outside<S, K, E, World, D, L, N, P>,
 }
 
 /// [`run`] over a world in memory, new or not, and then the disks of one of its nodes: those of the control files before
@@ -38,15 +38,15 @@ pub struct Left<S: Source, K: Sink, E: Sink, D: Disk, L: Dialler, N: Link> {
 ///
 /// The world is where the schedule led, and every crash of the disks leaves what is durable of the node in
 /// it. A prefix of a schedule is one too, so this holds after each event.
-pub fn run_to_disks<S: Source, K: Sink, E: Sink, D: Disk, L: Dialler, N: Link>(
+pub fn run_to_disks<S: Source, K: Sink, E: Sink, D: Disk, L: Dialler, N: Link, P: Pause>(
     alloc: Global,
     words: &[String],
-    outside: Outside<S, K, E, World, D, L, N>,
+    outside: Outside<S, K, E, World, D, L, N, P>,
     node: NodeId,
-) -> Left<S, K, E, D, L, N>
+) -> Left<S, K, E, D, L, N, P>
     ensures { (end : End) × (usage : List ℕ) × (last : WorldView)
         × (result.status ≡ number_of (status_of end))
-        × IsWrittenOrCut E.takes E.fails E.faults outside.error result.outside.error (line_of end (file_asked (asked (texts_of words.now))) usage)
+        × IsWrittenOrCut E.takes E.fails E.faults outside.error result.outside.error (line_of end (file_told (asked (texts_of words.now)) end) usage)
         × Happened (record {
           asked = asked (texts_of words.now);
           input = at_source S.gives S.fails S.ended S.faults outside.input result.outside.input;
@@ -54,32 +54,20 @@ pub fn run_to_disks<S: Source, K: Sink, E: Sink, D: Disk, L: Dialler, N: Link>(
           stage = at_stage (λ (w : WorldView). w.world) outside.stage last;
           files = at_files D.view (disks_in outside.files) (disks_in result.outside.files);
           link = at_link L.story L.faults outside.dialler result.outside.dialler;
+          token = at_source S.gives S.fails S.ended S.faults outside.token result.outside.token;
           node = at_node D.view N.story N.counts (disks_in outside.files) (disks_in result.outside.files) outside.link result.outside.link;
         }) end
         × (IsSome result.disks ↔ IsNode (length (ids last.world)) node)
         × IfSome result.disks (λ left. let n = node_in last.world node in
         Survives view_of (header_of n.control) node (disks left.0 left.1 left.2) n) }
 {
-    let Ended { status, outside } = run(alloc, words, outside);
-    let Outside {
-        input,
-        output,
-        error,
-        stage,
-        files,
-        dialler,
-        link,
-    } = outside;
+    let Ended {
+        status,
+        mut outside,
+    } = run(alloc, words, outside);
+    let stage = outside.stage;
+    outside.stage = World::empty(alloc);
     let disks = stage.into_disks(node);
-    let outside = Outside {
-        input,
-        output,
-        error,
-        stage: World::empty(alloc),
-        files,
-        dialler,
-        link,
-    };
     Left {
         status,
         disks,

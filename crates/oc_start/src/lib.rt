@@ -7,6 +7,7 @@
 
 mod disks;
 mod places;
+mod second;
 mod starting;
 mod words;
 

@@ -1,4 +1,4 @@
-//! Where the input and the three files of a run are.
+//! Where the input, the token and the three files of a run are.
 
 ghost use Rattle.std.specs.Prelude.{◌≡◌, ℕ, List, Option, IfErr, IfOk, codes, option_map, string_bytes, unwrap_or};
 ghost use Rattle.oc_start.specs.Places.{AreAsked, AreNamed, path_in};
@@ -17,13 +17,15 @@ const ALTERNATE: &str = "control.alt";
 /// The content file of a node.
 const CONTENT: &str = "content.log";
 
-/// The paths of the input and of the three files of a node.
+/// The paths of the input, of the file of a token and of the three files of a node.
 #[derive(Drop)]
 pub struct Places {
     /// The node that is to run, if one is.
     pub(crate) node: Option<u64>,
     /// The file that takes the place of the standard input, if any does.
     pub(crate) input: Option<String>,
+    /// The file of a client's token, if there is one.
+    pub(crate) token: Option<String>,
     /// The folder of the three files.
     folder: String,
     control: String,
@@ -43,26 +45,30 @@ impl Places {
                 alloc,
                 request.node(),
                 request.file(),
+                request.token_file(),
                 request.folder(),
             )),
-            Err(WordsFault::Usage) => or_no_memory(Places::named(alloc, None, None, None)),
+            Err(WordsFault::Usage) => or_no_memory(Places::named(alloc, None, None, None, None)),
             Err(WordsFault::Memory) => Err(End::NoMemory),
         }
     }
 
-    /// This node, if any, this file, if any, and the files of this folder, or of the present one.
+    /// This node, if any, these files of the input and of a token, if any, and the files of this folder, or of the
+    /// present one.
     fn named(
         alloc: Global,
         node: Option<u64>,
         input: Option<&str>,
+        token: Option<&str>,
         folder: Option<&str>,
     ) -> Result<Places, AllocError>
-        ensures { IfOk result (AreNamed node (option_map (λ name. name.now) input.entry) (option_map (λ name. name.now) folder.entry)) }
+        ensures { IfOk result (AreNamed node (option_map (λ name. name.now) input.entry) (option_map (λ name. name.now) token.entry) (option_map (λ name. name.now) folder.entry)) }
     {
         let folder = or_present(folder);
         Ok(Places {
             node,
             input: copied(alloc, input)?,
+            token: copied(alloc, token)?,
             folder: String::from_str(alloc, folder)?,
             control: path_in(alloc, folder, CONTROL)?,
             alternate: path_in(alloc, folder, ALTERNATE)?,
@@ -106,8 +112,8 @@ fn or_present(folder: Option<&str>) -> &str
 
 /// Without memory, that is how the program ends.
 fn or_no_memory(places: Result<Places, AllocError>) -> Result<Places, End>
-    ensures same { (node : Option ℕ) (input folder : Option (List ℕ)) → IfOk places (AreNamed node input folder)
-        → IfOk result (AreNamed node input folder) }
+    ensures same { (node : Option ℕ) (input token folder : Option (List ℕ)) → IfOk places (AreNamed node input token folder)
+        → IfOk result (AreNamed node input token folder) }
     ensures memory { IfErr result (λ end. end ≡ End.NoMemory) }
 {
     match places {

@@ -5,6 +5,7 @@ ghost use Rattle.oc_start.specs.Started.{HasRun};
 ghost use Rattle.oc_words.specs.Words.{asked, texts_of};
 
 use crate::places::Places;
+use crate::second::Second;
 use oc_keep::Files;
 use oc_program::{
     End, Status, Streams, StreamsRun, Things, Traffic, WriterSink, run_on_streams, tell,
@@ -35,6 +36,8 @@ pub struct Started {
     pub status: u8,
     /// What was read on the input.
     pub input: Traffic,
+    /// What was read of the file of a token.
+    pub token: Traffic,
     /// What was written on standard output.
     pub output: Traffic,
     /// What was written on standard error.
@@ -72,8 +75,13 @@ fn start_at(rt: &HostRuntime, words: &[String], places: &Places) -> Started
         Some(path) => Input::Named(NamedFile::new(rt, path.as_str())),
         None => Input::Standard(rt.stdin()),
     };
+    let mut token = match &places.token {
+        Some(path) => Input::Named(NamedFile::new(rt, path.as_str())),
+        None => Input::Standard(rt.stdin()),
+    };
     let streams = Streams {
         input: &mut input,
+        token: &mut token,
         output: rt.stdout(),
         error: rt.stderr(),
     };
@@ -83,6 +91,7 @@ fn start_at(rt: &HostRuntime, words: &[String], places: &Places) -> Started
     let content = FileDisk::new(rt, places.content());
     let dialler = DialLink::new(rt, alloc);
     let link = SocketLink::new(rt, alloc, places.node);
+    let pause = Second::new(rt);
     let things = Things {
         stage,
         files: Files {
@@ -92,11 +101,13 @@ fn start_at(rt: &HostRuntime, words: &[String], places: &Places) -> Started
         },
         dialler,
         link,
+        pause,
     };
     let ran = run_on_streams(alloc, words, streams, things);
     let StreamsRun {
         status,
         input: came,
+        token: shown,
         output,
         error,
         mut things,
@@ -104,6 +115,7 @@ fn start_at(rt: &HostRuntime, words: &[String], places: &Places) -> Started
     things.link.send_rest();
     if status == Status::Failed.number() {
         tell_trouble(rt, input.trouble());
+        tell_trouble(rt, token.trouble());
         tell_trouble(rt, things.files.control.trouble());
         tell_trouble(rt, things.files.alternate.trouble());
         tell_trouble(rt, things.files.content.trouble());
@@ -113,6 +125,7 @@ fn start_at(rt: &HostRuntime, words: &[String], places: &Places) -> Started
     Started {
         status,
         input: came,
+        token: shown,
         output,
         error,
     }

@@ -11,17 +11,18 @@ use Rattle.clap.specs.Walk.{nothing_held, rows_after}
 use Rattle.clap.proofs.OnLiterals.{clap_on_literals}
 use Rattle.oc_base.specs.Words.{is_number, number_in}
 use Rattle.oc_base.specs.Steps.{◌>>=◌}
-use Rattle.oc_base.specs.declared.limits.TheConstants.{MAX_NODES}
+use Rattle.oc_base.specs.declared.limits.TheConstants.{MAX_NODES, MAX_START}
 use Rattle.oc_base.specs.declared.why.Why.TheVariants.{Number, Range}
 use Rattle.oc_words.specs.Arguments.{IsNoFlag}
-use Rattle.oc_words.specs.Command.{bare_command, check_shape, command, gen_shape, get_shape, node_shape, replay_shape, rules_shape}
-use Rattle.oc_words.specs.Requests.{download_in, id_in, member_in, sample_in, service_in, times_in, turns_in}
-use Rattle.oc_words.specs.Words.{IsPlain, plain_replay, plain_summary, plain_file, plain_gen, plain_endless, plain_placed, plain_node, plain_probing, plain_check, plain_configured, plain_configured_there, plain_checked, plain_get, plain_follow, plain_rules, plain_listed, plain_version}
-use Rattle.oc_words.specs.Words.{asked, asked_by, asking, check_at, check_in, node_at, request_by, verdict_among, verdict_of}
+use Rattle.oc_words.specs.Command.{bare_command, check_shape, command, gen_shape, get_shape, node_shape, put_shape, replay_shape, rules_shape}
+use Rattle.oc_words.specs.Requests.{download_in, id_in, member_in, sample_in, service_in, start_in, times_in, turns_in}
+use Rattle.oc_words.specs.Words.{IsPlain, plain_replay, plain_summary, plain_file, plain_gen, plain_endless, plain_placed, plain_node, plain_probing, plain_check, plain_configured, plain_configured_there, plain_checked, plain_get, plain_follow, plain_from, plain_get_as, plain_put, plain_append, plain_resume, plain_seal, plain_append_seal, plain_resume_seal, plain_put_as, plain_rules, plain_listed, plain_version}
+use Rattle.oc_words.specs.Words.{asked, asked_by, asking, check_at, check_in, node_at, put_at, request_by, verdict_among, verdict_of}
 use Rattle.oc_words.specs.declared.request.Download.{Download}
 use Rattle.oc_words.specs.declared.request.Member.{Member}
+use Rattle.oc_words.specs.declared.request.Onto.TheVariants.{New, Append, Resume}
 use Rattle.oc_words.specs.declared.request.Request.{Request}
-use Rattle.oc_words.specs.declared.request.Request.TheVariants.{Replay, Gen, Get, Rules, Version}
+use Rattle.oc_words.specs.declared.request.Request.TheVariants.{Replay, Gen, Get, Put, Rules, Version}
 use Rattle.oc_words.specs.declared.request.Sample.{Sample}
 use Rattle.oc_words.specs.declared.request.Service.{Service}
 use Rattle.oc_words.specs.declared.request.TheConstants.{MAX_EVENTS, MAX_FOLLOWED}
@@ -69,15 +70,65 @@ asked_by_probing id turns i t =
     row_asks (codes "node") (built_of node_shape) (free id ∷ fixed (codes "--turns") ∷ free turns ∷ fixed (codes "--probe") ∷ []) (i, (tt, (t, (tt, tt)))) refl refl refl
 
 pub asked_by_get : (url : Text) → IsNoFlag url
-    → asked (codes "get" ∷ url ∷ []) ≡ result_ok (asking Get (download_in url None))
+    → asked (codes "get" ∷ url ∷ []) ≡ result_ok (asking Get (download_in url None None None))
 unfolding command clap_on_literals
 asked_by_get url u = row_asks (codes "get") (built_of get_shape) (free url ∷ []) (u, tt) refl refl refl
 
 pub asked_by_follow : (url times : Text) → IsNoFlag url → IsNoFlag times
-    → asked (codes "get" ∷ url ∷ codes "--follow" ∷ times ∷ []) ≡ result_ok (asking Get (download_in url (Some times)))
+    → asked (codes "get" ∷ url ∷ codes "--follow" ∷ times ∷ []) ≡ result_ok (asking Get (download_in url (Some times) None None))
 unfolding command clap_on_literals
 asked_by_follow url times u t =
     row_asks (codes "get") (built_of get_shape) (free url ∷ fixed (codes "--follow") ∷ free times ∷ []) (u, (tt, (t, tt))) refl refl refl
+
+pub asked_by_from : (url start : Text) → IsNoFlag url → IsNoFlag start
+    → asked (codes "get" ∷ url ∷ codes "--from" ∷ start ∷ []) ≡ result_ok (asking Get (download_in url None (Some start) None))
+unfolding command clap_on_literals
+asked_by_from url start u s =
+    row_asks (codes "get") (built_of get_shape) (free url ∷ fixed (codes "--from") ∷ free start ∷ []) (u, (tt, (s, tt))) refl refl refl
+
+pub asked_by_get_as : (url file : Text) → IsNoFlag url → IsNoFlag file
+    → asked (codes "get" ∷ url ∷ codes "--token-file" ∷ file ∷ []) ≡ result_ok (asking Get (download_in url None None (Some file)))
+unfolding command clap_on_literals
+asked_by_get_as url file u f =
+    row_asks (codes "get") (built_of get_shape) (free url ∷ fixed (codes "--token-file") ∷ free file ∷ []) (u, (tt, (f, tt))) refl refl refl
+
+pub asked_by_put : (url : Text) → IsNoFlag url → asked (codes "put" ∷ url ∷ []) ≡ Some (put_at url New false None)
+unfolding command clap_on_literals
+asked_by_put url u = row_asks (codes "put") (built_of put_shape) (free url ∷ []) (u, tt) refl refl refl
+
+-- with one flag, and with two
+pub asked_by_append : (url : Text) → IsNoFlag url → asked (codes "put" ∷ url ∷ codes "--append" ∷ []) ≡ Some (put_at url Append false None)
+unfolding command clap_on_literals
+asked_by_append url u = row_asks (codes "put") (built_of put_shape) (free url ∷ fixed (codes "--append") ∷ []) (u, (tt, tt)) refl refl refl
+
+pub asked_by_resume : (url : Text) → IsNoFlag url → asked (codes "put" ∷ url ∷ codes "--resume" ∷ []) ≡ Some (put_at url Resume false None)
+unfolding command clap_on_literals
+asked_by_resume url u = row_asks (codes "put") (built_of put_shape) (free url ∷ fixed (codes "--resume") ∷ []) (u, (tt, tt)) refl refl refl
+
+pub asked_by_seal : (url : Text) → IsNoFlag url → asked (codes "put" ∷ url ∷ codes "--seal" ∷ []) ≡ Some (put_at url New true None)
+unfolding command clap_on_literals
+asked_by_seal url u = row_asks (codes "put") (built_of put_shape) (free url ∷ fixed (codes "--seal") ∷ []) (u, (tt, tt)) refl refl refl
+
+asked_by_append_seal : (url : Text) → IsNoFlag url → asked (codes "put" ∷ url ∷ codes "--append" ∷ codes "--seal" ∷ []) ≡ Some (put_at url Append true None)
+unfolding command clap_on_literals
+asked_by_append_seal url u =
+    row_asks (codes "put") (built_of put_shape) (free url ∷ fixed (codes "--append") ∷ fixed (codes "--seal") ∷ []) (u, (tt, (tt, tt))) refl refl refl
+
+asked_by_resume_seal : (url : Text) → IsNoFlag url → asked (codes "put" ∷ url ∷ codes "--resume" ∷ codes "--seal" ∷ []) ≡ Some (put_at url Resume true None)
+unfolding command clap_on_literals
+asked_by_resume_seal url u =
+    row_asks (codes "put") (built_of put_shape) (free url ∷ fixed (codes "--resume") ∷ fixed (codes "--seal") ∷ []) (u, (tt, (tt, tt))) refl refl refl
+
+pub asked_both : (url : Text) → IsNoFlag url → asked (codes "put" ∷ url ∷ codes "--append" ∷ codes "--resume" ∷ []) ≡ None
+unfolding command clap_on_literals
+asked_both url u =
+    row_asks (codes "put") (built_of put_shape) (free url ∷ fixed (codes "--append") ∷ fixed (codes "--resume") ∷ []) (u, (tt, (tt, tt))) refl refl refl
+
+pub asked_by_put_as : (url file : Text) → IsNoFlag url → IsNoFlag file
+    → asked (codes "put" ∷ url ∷ codes "--token-file" ∷ file ∷ []) ≡ Some (put_at url New false (Some file))
+unfolding command clap_on_literals
+asked_by_put_as url file u f =
+    row_asks (codes "put") (built_of put_shape) (free url ∷ fixed (codes "--token-file") ∷ free file ∷ []) (u, (tt, (f, tt))) refl refl refl
 
 pub asked_by_endless : (id : Text) → IsNoFlag id
     → asked (codes "node" ∷ id ∷ []) ≡ result_ok (asking (node_at None None) (service_in id None false))
@@ -187,11 +238,17 @@ member_words id nodes chain member is =
     let (c, third, last) = both_gave (number_in 1 a id) _ member more in
     (no_flag _ _ id c third, no_flag _ _ nodes a first, no_flag _ _ chain b second)
 
-times_word : (url times : Text) (download : Download) → download_in url (Some times) ≡ Ok download → IsNoFlag times
+times_word : (url times : Text) (download : Download) → download_in url (Some times) None None ≡ Ok download → IsNoFlag times
 times_word url times download is =
     let (a, first, rest) = both_gave (times_in (Some times)) _ download is in
     let (b, second, last) = both_gave (number_in 1 MAX_FOLLOWED times) _ a first in
     no_flag _ _ times b second
+
+start_word : (url start : Text) (download : Download) → download_in url None (Some start) None ≡ Ok download → IsNoFlag start
+start_word url start download is =
+    let (a, first, rest) = both_gave (start_in (Some start)) _ download is in
+    let (b, second, last) = both_gave (number_in 0 MAX_START start) _ a first in
+    no_flag _ _ start b second
 
 -- a request of fields that are as they have to be
 of_fields : {A : Type 0} (make : A → Request) (said : Result A _) (fields : A) → said ≡ Ok fields → result_ok (asking make said) ≡ Some (make fields)
@@ -230,6 +287,17 @@ plain_asks words (plain_checked id nodes chain folder member is f said) =
     let free = member_words id nodes chain member said in
     something words _ (check_at (Some folder) member) is (asked_by_checked id nodes chain folder free.0 free.1 free.2 f ∙ of_fields (check_at (Some folder)) _ member said)
 plain_asks words (plain_get url is u) =
-    something words _ (Get (record { address = url; times = None })) is (asked_by_get url u)
+    something words _ (Get (record { address = url; times = None; start = None; token_file = None })) is (asked_by_get url u)
 plain_asks words (plain_follow url times download is u said) =
     something words _ (Get download) is (asked_by_follow url times u (times_word url times download said) ∙ of_fields Get _ download said)
+plain_asks words (plain_from url start download is u said) =
+    something words _ (Get download) is (asked_by_from url start u (start_word url start download said) ∙ of_fields Get _ download said)
+plain_asks words (plain_get_as url file is u f) =
+    something words _ (Get (record { address = url; times = None; start = None; token_file = Some file })) is (asked_by_get_as url file u f)
+plain_asks words (plain_put url is u) = something words _ _ is (asked_by_put url u)
+plain_asks words (plain_append url is u) = something words _ _ is (asked_by_append url u)
+plain_asks words (plain_resume url is u) = something words _ _ is (asked_by_resume url u)
+plain_asks words (plain_seal url is u) = something words _ _ is (asked_by_seal url u)
+plain_asks words (plain_append_seal url is u) = something words _ _ is (asked_by_append_seal url u)
+plain_asks words (plain_resume_seal url is u) = something words _ _ is (asked_by_resume_seal url u)
+plain_asks words (plain_put_as url file is u f) = something words _ _ is (asked_by_put_as url file u f)

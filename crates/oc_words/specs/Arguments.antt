@@ -1,12 +1,12 @@
 -- The words that the arguments of a subcommand were given, and what they ask for.
-use Rattle.std.specs.Prelude.{◌≢◌, Bool, false, Some, Result, List, ok_or, slice_get, codes}
+use Rattle.std.specs.Prelude.{◌≢◌, Bool, false, Some, Result, Ok, List, ok_or, slice_get, codes}
 use Rattle.std.specs.Option.{option_map_or}
 use Rattle.std.specs.Str.{byte, bytes_eq}
 use Rattle.clap.specs.Words.{Row, Text, first_of}
 use Rattle.oc_base.specs.Steps.{◌>>=◌}
 use Rattle.oc_base.specs.declared.why.Why.{Why}
 use Rattle.oc_base.specs.declared.why.Why.TheVariants.{Count}
-use Rattle.oc_words.specs.Requests.{download_in, member_without, sample_in, service_in}
+use Rattle.oc_words.specs.Requests.{download_in, member_without, onto_in, sample_in, service_in}
 use Rattle.oc_words.specs.declared.request.Download.{Download}
 use Rattle.oc_words.specs.declared.request.Member.{Member}
 use Rattle.oc_words.specs.declared.request.Paths.{Paths}
@@ -14,6 +14,7 @@ use Rattle.oc_words.specs.declared.request.Request.{Request}
 use Rattle.oc_words.specs.declared.request.Request.TheVariants.{Replay}
 use Rattle.oc_words.specs.declared.request.Sample.{Sample}
 use Rattle.oc_words.specs.declared.request.Service.{Service}
+use Rattle.oc_words.specs.declared.request.Upload.{Upload}
 
 -- the word of an argument
 abbrev pub word_of : Text → List Row → Result Text Why
@@ -57,4 +58,16 @@ member_of id nodes rows = member_without id nodes (first_of (codes "CHAIN") rows
 abbrev pub download_of : List Row → Result Download Why
 download_of rows = do
   address ← word_of (codes "URL") rows
-  download_in address (first_of (codes "follow") rows)
+  download_in address (first_of (codes "follow") rows) (first_of (codes "from") rows) (first_of (codes "token-file") rows)
+
+-- what the arguments of `put` ask for
+abbrev pub upload_of : List Row → Result Upload Why
+upload_of rows = do
+  address ← word_of (codes "URL") rows
+  onto ← onto_in (is_flagged (codes "append") rows) (is_flagged (codes "resume") rows)
+  Ok (record {
+    address = address;
+    onto = onto;
+    seals = is_flagged (codes "seal") rows;
+    token_file = first_of (codes "token-file") rows;
+  })

@@ -59,9 +59,17 @@ check_shape = record (new_shape (codes "check")) {
   rules = required_rule (codes "ID") ∷ optional_rule (codes "NODES") ∷ optional_rule (codes "CHAIN") ∷ option_rule (codes "config") ∷ option_rule (codes "dir") ∷ [];
 }
 
--- `get URL`, with the option `--follow N`
+-- `get URL`, with the options `--follow N`, `--from N` and `--token-file FILE`
 abbrev pub get_shape : Shape
-get_shape = record (new_shape (codes "get")) { rules = required_rule (codes "URL") ∷ option_rule (codes "follow") ∷ [] }
+get_shape = record (new_shape (codes "get")) {
+  rules = required_rule (codes "URL") ∷ option_rule (codes "follow") ∷ option_rule (codes "from") ∷ option_rule (codes "token-file") ∷ [];
+}
+
+-- `put URL`, with the flags `--append`, `--resume` and `--seal` and the option `--token-file FILE`
+abbrev pub put_shape : Shape
+put_shape = record (new_shape (codes "put")) {
+  rules = required_rule (codes "URL") ∷ flag_rule (codes "append") ∷ flag_rule (codes "resume") ∷ flag_rule (codes "seal") ∷ option_rule (codes "token-file") ∷ [];
+}
 
 -- `rules`, with the option `--config FILE`
 abbrev pub rules_shape : Shape
@@ -75,9 +83,13 @@ stateless_command = with_subcommand (with_subcommand bare_command replay_shape) 
 abbrev pub local_command : App
 local_command = with_subcommand (with_subcommand stateless_command check_shape) rules_shape
 
+-- and with all that are no client's
+abbrev pub serving_command : App
+serving_command = with_subcommand local_command node_shape
+
 -- the command with each of its subcommands
 unfoldable pub command : App
-command = with_subcommand (with_subcommand local_command node_shape) get_shape
+command = with_subcommand (with_subcommand serving_command get_shape) put_shape
 
 -- a is an argument of this rule, and reaches no subcommand
 pub record IsArgument (rule : Rule) (a : Arg) : Type 0 where

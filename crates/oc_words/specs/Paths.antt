@@ -1,9 +1,8 @@
--- The node, the file and the folder that a request names.
-use Rattle.std.specs.Prelude.{ℕ, Option, Some, None, Result, Ok, Err}
+-- The node, the files and the folder that a request names.
+use Rattle.std.specs.Prelude.{ℕ, Option, Some, None}
 use Rattle.clap.specs.Words.{Text}
 use Rattle.oc_words.specs.declared.request.Request.{Request}
-use Rattle.oc_words.specs.declared.request.Request.TheVariants.{Replay, Node, Check, CheckConfigured, Rules}
-use Rattle.oc_words.specs.declared.words.WordsFault.{WordsFault}
+use Rattle.oc_words.specs.declared.request.Request.TheVariants.{Replay, Node, Check, CheckConfigured, Get, Put, Rules}
 
 -- the id of the node that is to run
 abbrev pub node_of : Request → Option ℕ
@@ -25,6 +24,12 @@ folder_of (Check member folder) = folder
 folder_of (CheckConfigured id paths) = paths.folder
 folder_of request = None
 
+-- the file of a client's token
+abbrev pub token_file_of : Request → Option Text
+token_file_of (Get download) = download.token_file
+token_file_of (Put upload) = upload.token_file
+token_file_of request = None
+
 -- the node that words name which ask for this, if for anything
 abbrev pub node_asked : Option Request → Option ℕ
 node_asked None = None
@@ -35,12 +40,12 @@ abbrev pub file_asked : Option Request → Option Text
 file_asked None = None
 file_asked (Some request) = file_of request
 
--- and the folder
+-- the folder
 abbrev pub folder_asked : Option Request → Option Text
 folder_asked None = None
 folder_asked (Some request) = folder_of request
 
--- the file that was found in words that were read
-abbrev pub file_read : Result Request WordsFault → Option Text
-file_read (Ok request) = file_of request
-file_read (Err fault) = None
+-- and the file of a client's token
+abbrev pub token_file_asked : Option Request → Option Text
+token_file_asked None = None
+token_file_asked (Some request) = token_file_of request

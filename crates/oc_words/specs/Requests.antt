@@ -1,13 +1,15 @@
 -- What the words of each command ask for.
-use Rattle.std.specs.Prelude.{◌≡◌, ℕ, ◌-◌, ◌^◌, ◌≤◌, ◌⊎◌, min, Bool, Option, Some, None, Result, Ok, Err, List}
+use Rattle.std.specs.Prelude.{◌≡◌, ℕ, ◌-◌, ◌^◌, ◌≤◌, ◌⊎◌, min, Bool, true, false, Option, Some, None, Result, Ok, Err, List}
 use Rattle.std.specs.Option.{ForSome}
 use Rattle.oc_base.specs.Steps.{◌>>=◌}
 use Rattle.oc_base.specs.Words.{number_in}
-use Rattle.oc_base.specs.declared.limits.TheConstants.{MAX_CHAIN, MAX_NODES}
+use Rattle.oc_base.specs.declared.limits.TheConstants.{MAX_CHAIN, MAX_NODES, MAX_START}
 use Rattle.oc_base.specs.declared.why.Why.{Why}
 use Rattle.oc_base.specs.declared.why.Why.TheVariants.{Count}
 use Rattle.oc_words.specs.declared.request.Download.{Download}
 use Rattle.oc_words.specs.declared.request.Member.{Member}
+use Rattle.oc_words.specs.declared.request.Onto.{Onto}
+use Rattle.oc_words.specs.declared.request.Onto.TheVariants.{New, Append, Resume}
 use Rattle.oc_words.specs.declared.request.Sample.{Sample}
 use Rattle.oc_words.specs.declared.request.Service.{Service}
 use Rattle.oc_words.specs.declared.request.TheConstants.{ENDLESS, MAX_EVENTS, MAX_FOLLOWED, MAX_TURNS}
@@ -85,15 +87,36 @@ times_in (Some word) = do
   times ← number_in 1 MAX_FOLLOWED word
   Ok (Some times)
 
--- the address, any text, and how many replies are followed
-abbrev pub download_in : List ℕ → Option (List ℕ) → Result Download Why
-download_in address follow = do
+-- the byte to begin at, if the option was given
+abbrev pub start_in : Option (List ℕ) → Result (Option ℕ) Why
+start_in None = Ok None
+start_in (Some word) = do
+  start ← number_in 0 MAX_START word
+  Ok (Some start)
+
+-- the address, any text, how many replies are followed, where to begin, and the file of a token
+abbrev pub download_in : List ℕ → Option (List ℕ) → Option (List ℕ) → Option (List ℕ) → Result Download Why
+download_in address follow from token_file = do
   times ← times_in follow
-  Ok (record { address = address; times = times })
+  start ← start_in from
+  Ok (record { address = address; times = times; start = start; token_file = token_file })
 
 -- the number of replies is within its range
 abbrev pub IsTimes : Option ℕ → Type 0
 IsTimes times = ForSome times (λ n. (1 ≤ n) × (n ≤ MAX_FOLLOWED))
 
+-- the byte to begin at is within its range
+abbrev pub IsStart : Option ℕ → Type 0
+IsStart start = ForSome start (λ n. n ≤ MAX_START)
+
 abbrev pub IsDownload : Download → Type 0
-IsDownload d = IsTimes d.times
+IsDownload d = IsTimes d.times × IsStart d.start
+
+-- ---- `put URL`
+
+-- where the input goes, by the flags `--append` and `--resume`, of which one at most is given
+abbrev pub onto_in : Bool → Bool → Result Onto Why
+onto_in false false = Ok New
+onto_in true false = Ok Append
+onto_in false true = Ok Resume
+onto_in true true = Err Count

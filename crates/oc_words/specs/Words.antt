@@ -1,6 +1,6 @@
 -- What the words of the program ask for: what `clap` makes of them by one command, and what the
 -- arguments of the subcommand say.
-use Rattle.std.specs.Prelude.{◌≡◌, ℕ, ◌⊎◌, List, [], ◌∷◌, map, codes, Option, Some, None, true, false, Result, Ok, Err, ok_or, String, string_bytes, if◌then◌else◌}
+use Rattle.std.specs.Prelude.{◌≡◌, ℕ, ◌⊎◌, List, [], ◌∷◌, map, codes, Option, Some, None, Bool, true, false, Result, Ok, Err, ok_or, String, string_bytes, if◌then◌else◌}
 use Rattle.std.specs.Result.{result_ok}
 use Rattle.std.specs.Str.{bytes_eq}
 use Rattle.clap.specs.Words.{Kinds, Row, Text, fault_of, first_of, subcommand_of}
@@ -10,12 +10,13 @@ use Rattle.oc_base.specs.Steps.{◌>>=◌}
 use Rattle.oc_base.specs.declared.why.Why.{Why}
 use Rattle.oc_base.specs.declared.why.Why.TheVariants.{Count}
 use Rattle.oc_words.specs.Requests.{IsDownload, IsMember, IsSample, IsService, download_in, id_in, member_in, sample_in, service_in}
-use Rattle.oc_words.specs.Arguments.{IsNoFlag, download_of, member_of, paths_of, replay_of, sample_of, service_of, word_of}
+use Rattle.oc_words.specs.Arguments.{IsNoFlag, download_of, member_of, paths_of, replay_of, sample_of, service_of, upload_of, word_of}
 use Rattle.oc_words.specs.Command.{command}
 use Rattle.oc_words.specs.declared.request.Download.{Download}
 use Rattle.oc_words.specs.declared.request.Member.{Member}
+use Rattle.oc_words.specs.declared.request.Onto.{Onto}
 use Rattle.oc_words.specs.declared.request.Request.{Request}
-use Rattle.oc_words.specs.declared.request.Request.TheVariants.{Gen, Node, Check, CheckConfigured, Get, Rules, Help, Version}
+use Rattle.oc_words.specs.declared.request.Request.TheVariants.{Gen, Node, Check, CheckConfigured, Get, Put, Rules, Help, Version}
 use Rattle.oc_words.specs.declared.request.Sample.{Sample}
 use Rattle.oc_words.specs.declared.request.Service.{Service}
 use Rattle.oc_words.specs.declared.words.WordsFault.{WordsFault}
@@ -66,6 +67,10 @@ check_at folder member = Check member folder
 abbrev pub check_in : Option Text → Option Text → ℕ → Request
 check_in config folder id = CheckConfigured id (record { config = config; folder = folder })
 
+-- the publishing of the input at this address
+abbrev pub put_at : Text → Onto → Bool → Option Text → Request
+put_at address onto seals token_file = Put (record { address = address; onto = onto; seals = seals; token_file = token_file })
+
 -- what `node` asks for
 abbrev pub node_of : List Row → Result Request Why
 node_of rows = asking (node_at (first_of (codes "config") rows) (first_of (codes "dir") rows)) (service_of rows)
@@ -88,7 +93,15 @@ check_of rows = do
   id ← word_of (codes "ID") rows
   check_by id (first_of (codes "NODES") rows) rows
 
--- what a subcommand other than `get` asks for
+-- what `get` asks for
+abbrev pub get_of : List Row → Result Request Why
+get_of rows = asking Get (download_of rows)
+
+-- what `put` asks for
+abbrev pub put_of : List Row → Result Request Why
+put_of rows = asking Put (upload_of rows)
+
+-- what a subcommand that is no client's asks for
 abbrev pub other_by : Text → List Row → Result Request Why
 other_by name rows =
     if bytes_eq name (codes "replay") then Ok (replay_of rows)
@@ -100,7 +113,10 @@ other_by name rows =
 
 -- what a subcommand of this name asks for, by what its arguments were given
 abbrev pub request_by : Text → List Row → Result Request Why
-request_by name rows = if bytes_eq name (codes "get") then asking Get (download_of rows) else other_by name rows
+request_by name rows =
+    if bytes_eq name (codes "get") then get_of rows
+    else if bytes_eq name (codes "put") then put_of rows
+    else other_by name rows
 
 -- the same, of the subcommand that `clap` found, if any
 abbrev pub request_of : Option (Text × List Row) → Result Request Why
@@ -147,7 +163,19 @@ pub data IsPlain (words : List Text) : Type 0 where
       → IsNoFlag folder → member_in id nodes chain ≡ Ok member → IsPlain words
   plain_get : (url : Text) → words ≡ codes "get" ∷ url ∷ [] → IsNoFlag url → IsPlain words
   plain_follow : (url times : Text) (download : Download) → words ≡ codes "get" ∷ url ∷ codes "--follow" ∷ times ∷ []
-      → IsNoFlag url → download_in url (Some times) ≡ Ok download → IsPlain words
+      → IsNoFlag url → download_in url (Some times) None None ≡ Ok download → IsPlain words
+  plain_from : (url start : Text) (download : Download) → words ≡ codes "get" ∷ url ∷ codes "--from" ∷ start ∷ []
+      → IsNoFlag url → download_in url None (Some start) None ≡ Ok download → IsPlain words
+  plain_get_as : (url file : Text) → words ≡ codes "get" ∷ url ∷ codes "--token-file" ∷ file ∷ []
+      → IsNoFlag url → IsNoFlag file → IsPlain words
+  plain_put : (url : Text) → words ≡ codes "put" ∷ url ∷ [] → IsNoFlag url → IsPlain words
+  plain_append : (url : Text) → words ≡ codes "put" ∷ url ∷ codes "--append" ∷ [] → IsNoFlag url → IsPlain words
+  plain_resume : (url : Text) → words ≡ codes "put" ∷ url ∷ codes "--resume" ∷ [] → IsNoFlag url → IsPlain words
+  plain_seal : (url : Text) → words ≡ codes "put" ∷ url ∷ codes "--seal" ∷ [] → IsNoFlag url → IsPlain words
+  plain_append_seal : (url : Text) → words ≡ codes "put" ∷ url ∷ codes "--append" ∷ codes "--seal" ∷ [] → IsNoFlag url → IsPlain words
+  plain_resume_seal : (url : Text) → words ≡ codes "put" ∷ url ∷ codes "--resume" ∷ codes "--seal" ∷ [] → IsNoFlag url → IsPlain words
+  plain_put_as : (url file : Text) → words ≡ codes "put" ∷ url ∷ codes "--token-file" ∷ file ∷ []
+      → IsNoFlag url → IsNoFlag file → IsPlain words
   plain_rules : words ≡ codes "rules" ∷ [] → IsPlain words
   plain_version : words ≡ codes "--version" ∷ [] → IsPlain words
   plain_listed : (config : Text) → words ≡ codes "rules" ∷ codes "--config" ∷ config ∷ [] → IsNoFlag config → IsPlain words

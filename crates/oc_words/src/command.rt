@@ -1,10 +1,11 @@
 //! The command by which `clap` reads the words of the program.
 ghost use Rattle.std.specs.Prelude.{◌≡◌, IfOk};
 ghost use Rattle.clap.specs.Words.{App, Shape, app_of, with_subcommand};
-ghost use Rattle.oc_words.specs.Command.{IsSubcommand, bare_command, command, local_command, stateless_command};
+ghost use Rattle.oc_words.specs.Command.{IsSubcommand, bare_command, command, local_command, serving_command, stateless_command};
 
 use crate::subcommands::{
-    check_command, gen_command, get_command, node_command, replay_command, rules_command,
+    check_command, gen_command, get_command, node_command, put_command, replay_command,
+    rules_command,
 };
 use clap::Command;
 use std::alloc::{AllocError, Global};
@@ -16,8 +17,15 @@ pub const VERSION: &str = "1.0.0";
 pub fn command<'a>(alloc: Global) -> Result<Command<'a>, AllocError>
     ensures { IfOk result (λ c. app_of c ≡ command) }
 {
-    let local = local_command(alloc);
-    with(with(local, node_command(alloc)), get_command(alloc))
+    let serving = serving_command(alloc);
+    with(with(serving, get_command(alloc)), put_command(alloc))
+}
+
+/// The command with the subcommands that are no client's.
+fn serving_command<'a>(alloc: Global) -> Result<Command<'a>, AllocError>
+    ensures { IfOk result (λ c. app_of c ≡ serving_command) }
+{
+    with(local_command(alloc), node_command(alloc))
 }
 
 /// The command with the subcommands that make no connection.

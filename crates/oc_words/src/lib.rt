@@ -22,7 +22,8 @@ mod words;
 pub use command::VERSION;
 pub use name::Name;
 pub use request::{
-    Download, ENDLESS, MAX_EVENTS, MAX_FOLLOWED, MAX_TURNS, Member, Paths, Request, Sample, Service,
+    Download, ENDLESS, MAX_EVENTS, MAX_FOLLOWED, MAX_TURNS, Member, Onto, Paths, Request, Sample,
+    Service, Upload,
 };
 pub use status::Status;
-pub use words::{WordsFault, places_ask, read_words, rows_ask};
+pub use words::{WordsFault, clients_ask, places_ask, read_words, rows_ask};

@@ -1,10 +1,10 @@
 //! The numbers of a request, from the words that stand for them.
 ghost use Rattle.std.specs.Prelude.{◌≡◌, ◌≤◌, ◌⊎◌, IfOk, option_map};
-ghost use Rattle.oc_words.specs.Requests.{IsMember, IsSample, IsService, IsTimes, id_in, member_in, member_without, sample_in, service_in, times_in, turns_in};
+ghost use Rattle.oc_words.specs.Requests.{IsMember, IsSample, IsService, IsStart, IsTimes, id_in, member_in, member_without, onto_in, sample_in, service_in, start_in, times_in, turns_in};
 
-use crate::request::{ENDLESS, MAX_EVENTS, MAX_FOLLOWED, MAX_TURNS, Member, Sample, Service};
+use crate::request::{ENDLESS, MAX_EVENTS, MAX_FOLLOWED, MAX_TURNS, Member, Onto, Sample, Service};
 use oc_base::words::number;
-use oc_base::{MAX_CHAIN, MAX_NODES, Why};
+use oc_base::{MAX_CHAIN, MAX_NODES, MAX_START, Why};
 
 /// The sample that three words ask for.
 pub(crate) fn sample_in(seed: &str, nodes: &str, events: &str) -> Result<Sample, Why>
@@ -94,5 +94,28 @@ pub(crate) fn times_in(word: Option<&str>) -> Result<Option<u64>, Why>
     match word {
         Some(word) => Ok(Some(number(word.as_bytes(), 1, MAX_FOLLOWED)?)),
         None => Ok(None),
+    }
+}
+
+/// The byte to begin at, by the word of the option.
+pub(crate) fn start_in(word: Option<&str>) -> Result<Option<u64>, Why>
+    ensures said { result ≡ start_in (option_map (λ word. word.now) word.entry) }
+    ensures range { IfOk result IsStart }
+{
+    match word {
+        Some(word) => Ok(Some(number(word.as_bytes(), 0, MAX_START)?)),
+        None => Ok(None),
+    }
+}
+
+/// Where in its group an input goes, by two flags of which one at most is given.
+pub(crate) fn onto_in(appends: bool, resumes: bool) -> Result<Onto, Why>
+    ensures { result ≡ onto_in appends resumes }
+{
+    match (appends, resumes) {
+        (false, false) => Ok(Onto::New),
+        (true, false) => Ok(Onto::Append),
+        (false, true) => Ok(Onto::Resume),
+        (true, true) => Err(Why::Count),
     }
 }

@@ -3,13 +3,13 @@ ghost use Rattle.std.specs.Prelude.{◌≡◌, IfOk};
 ghost use Rattle.std.specs.Result.{result_ok};
 ghost use Rattle.clap.specs.Words.{found_of, rows_of};
 ghost use Rattle.oc_words.specs.Requests.{IsDownload, IsMember, IsSample, IsService};
-ghost use Rattle.oc_words.specs.Arguments.{download_of, member_of, paths_of, replay_of, sample_of, service_of};
+ghost use Rattle.oc_words.specs.Arguments.{download_of, member_of, paths_of, replay_of, sample_of, service_of, upload_of};
 ghost use Rattle.oc_words.specs.Words.{Answers};
 
 use crate::arguments::{copied, given, is_flagged, word};
-use crate::parsing::{member_without, sample_in, service_in, times_in};
+use crate::parsing::{member_without, onto_in, sample_in, service_in, start_in, times_in};
 use crate::words::WordsFault;
-use crate::{Download, Member, Name, Paths, Request, Sample, Service};
+use crate::{Download, Member, Name, Paths, Request, Sample, Service, Upload};
 use clap::ArgMatches;
 use oc_base::Why;
 use std::alloc::{AllocError, Global};
@@ -71,8 +71,25 @@ pub(crate) fn download_of(alloc: Global, matches: &ArgMatches<'_>) -> Result<Dow
 {
     let url = word(matches, "URL")?;
     let times = times_in(given(matches, "follow"))?;
+    let start = start_in(given(matches, "from"))?;
     Ok(Download {
         address: Name::of(alloc, url)?,
         times,
+        start,
+        token_file: copied(alloc, matches, "token-file")?,
+    })
+}
+
+/// The publishing that the arguments of `put` ask for.
+pub(crate) fn upload_of(alloc: Global, matches: &ArgMatches<'_>) -> Result<Upload, WordsFault>
+    ensures answers { Answers (result_ok (upload_of (rows_of (found_of matches.now)))) result }
+{
+    let url = word(matches, "URL")?;
+    let onto = onto_in(is_flagged(matches, "append"), is_flagged(matches, "resume"))?;
+    Ok(Upload {
+        address: Name::of(alloc, url)?,
+        onto,
+        seals: is_flagged(matches, "seal"),
+        token_file: copied(alloc, matches, "token-file")?,
     })
 }

@@ -1,5 +1,5 @@
 ghost use Rattle.std.specs.Prelude.{◌≡◌, option_map};
-ghost use Rattle.oc_words.specs.Paths.{file_of, folder_of, node_of};
+ghost use Rattle.oc_words.specs.Paths.{file_of, folder_of, node_of, token_file_of};
 
 use crate::name::Name;
 
@@ -30,6 +30,8 @@ pub enum Request {
     CheckConfigured(u64, Paths),
     /// To download.
     Get(Download),
+    /// To publish the input.
+    Put(Upload),
     /// To list the access rules of the configuration in this file, or on the input.
     Rules(Option<Name>),
     /// To print the help.
@@ -59,6 +61,7 @@ impl Request {
             | Request::Check(..)
             | Request::CheckConfigured(..)
             | Request::Get(_)
+            | Request::Put(_)
             | Request::Rules(_)
             | Request::Help
             | Request::Version => None,
@@ -76,6 +79,7 @@ impl Request {
             Request::Gen(_)
             | Request::Check(..)
             | Request::Get(_)
+            | Request::Put(_)
             | Request::Help
             | Request::Version => None,
         }
@@ -91,6 +95,25 @@ impl Request {
             Request::Replay { .. }
             | Request::Gen(_)
             | Request::Get(_)
+            | Request::Put(_)
+            | Request::Rules(_)
+            | Request::Help
+            | Request::Version => None,
+        }
+    }
+
+    /// The file of a client's token; none where it has none, or where no client is asked for.
+    pub fn token_file(&self) -> Option<&str>
+        ensures { option_map (λ name. name.now) result ≡ token_file_of self.now }
+    {
+        match self {
+            Request::Get(download) => text_of(&download.token_file),
+            Request::Put(upload) => text_of(&upload.token_file),
+            Request::Replay { .. }
+            | Request::Gen(_)
+            | Request::Node(..)
+            | Request::Check(..)
+            | Request::CheckConfigured(..)
             | Request::Rules(_)
             | Request::Help
             | Request::Version => None,
@@ -148,4 +171,32 @@ pub struct Download {
     pub address: Name,
     /// How many replies are followed, from 1 to 1,000,000; none for a single download.
     pub times: Option<u64>,
+    /// The byte to begin at, up to 2^40; none where the address says it.
+    pub start: Option<u64>,
+    /// The file of the client's token.
+    pub token_file: Option<Name>,
+}
+
+/// The publishing that `put` is asked for.
+#[derive(Debug, Drop)]
+pub struct Upload {
+    /// The address of the group.
+    pub address: Name,
+    /// Where in the group the input goes.
+    pub onto: Onto,
+    /// Whether the group is sealed behind it.
+    pub seals: bool,
+    /// The file of the client's token.
+    pub token_file: Option<Name>,
+}
+
+/// Where in its group an input goes.
+#[derive(Clone, Copy, Debug, PartialEq, Eq)]
+pub enum Onto {
+    /// Into a group that has no bytes yet.
+    New,
+    /// Behind what the group has.
+    Append,
+    /// The group has the first bytes of this very input, and the rest goes behind them.
+    Resume,
 }

@@ -2,7 +2,7 @@
 ghost use Rattle.std.specs.Prelude.{◌≡◌, IfOk};
 ghost use Rattle.clap.specs.Simple.{new_shape};
 ghost use Rattle.clap.specs.Words.{Rule, Shape};
-ghost use Rattle.oc_words.specs.Command.{IsArgument, IsSubcommand, check_shape, gen_shape, get_shape, node_shape, replay_shape, rules_shape, with_argument};
+ghost use Rattle.oc_words.specs.Command.{IsArgument, IsSubcommand, check_shape, gen_shape, get_shape, node_shape, put_shape, replay_shape, rules_shape, with_argument};
 
 use crate::arguments::{flag, option, optional, required};
 use clap::{Arg, Command};
@@ -49,12 +49,25 @@ pub(crate) fn check_command<'a>(alloc: Global) -> Result<Command<'a>, AllocError
     with(four, option(alloc, "dir"))
 }
 
-/// `get URL`, with the option `--follow N`.
+/// `get URL`, with the options `--follow N`, `--from N` and `--token-file FILE`.
 pub(crate) fn get_command<'a>(alloc: Global) -> Result<Command<'a>, AllocError>
     ensures { IfOk result (IsSubcommand get_shape) }
 {
     let one = with(named(alloc, "get"), required(alloc, "URL"));
-    with(one, option(alloc, "follow"))
+    let two = with(one, option(alloc, "follow"));
+    let three = with(two, option(alloc, "from"));
+    with(three, option(alloc, "token-file"))
+}
+
+/// `put URL`, with the flags `--append`, `--resume` and `--seal` and the option `--token-file FILE`.
+pub(crate) fn put_command<'a>(alloc: Global) -> Result<Command<'a>, AllocError>
+    ensures { IfOk result (IsSubcommand put_shape) }
+{
+    let one = with(named(alloc, "put"), required(alloc, "URL"));
+    let two = with(one, flag(alloc, "append"));
+    let three = with(two, flag(alloc, "resume"));
+    let four = with(three, flag(alloc, "seal"));
+    with(four, option(alloc, "token-file"))
 }
 
 /// `rules`, with the option `--config FILE`.

@@ -3,15 +3,18 @@ ghost use Rattle.std.specs.Prelude.{◌≡◌, ◌≢◌, ◌∷◌, [], List, S
 ghost use Rattle.std.specs.Result.{result_ok};
 ghost use Rattle.clap.specs.Words.{Text, found_of, rows_of, subcommand_rows_of};
 ghost use Rattle.oc_words.specs.Arguments.{IsNoFlag};
+ghost use Rattle.oc_words.specs.declared.request.Onto.TheVariants.{New, Append, Resume};
 ghost use Rattle.oc_words.specs.Requests.{download_in, id_in, member_in, sample_in, service_in};
-ghost use Rattle.oc_words.specs.Words.{Answers, IsPlain, IsRequest, asked, asked_by, asking, check_at, check_by_config, check_by_numbers, check_in, check_of, node_at, node_of};
-ghost use Rattle.oc_words.specs.Words.{other_by, request_by, request_of, texts_of, verdict_by};
+ghost use Rattle.oc_words.specs.Words.{Answers, IsPlain, IsRequest, asked, asked_by, asking, check_at, check_by_config, check_by_numbers, check_in, check_of, get_of, node_at, node_of};
+ghost use Rattle.oc_words.specs.Words.{other_by, put_at, put_of, request_by, request_of, texts_of, verdict_by};
 
 use crate::Request;
 use crate::arguments::{copied, given, word};
 use crate::command::command;
 use crate::parsing::id_in;
-use crate::reading::{download_of, member_of, paths_of, replay_of, sample_of, service_of};
+use crate::reading::{
+    download_of, member_of, paths_of, replay_of, sample_of, service_of, upload_of,
+};
 use clap::ArgMatches;
 use clap::error::ErrorKind;
 use oc_base::Why;
@@ -88,13 +91,31 @@ fn request_by(alloc: Global, name: &str, arguments: &ArgMatches<'_>) -> Result<R
     ensures range { IfOk result IsRequest }
 {
     if name == "get" {
-        Ok(Request::Get(download_of(alloc, arguments)?))
+        get_of(alloc, arguments)
+    } else if name == "put" {
+        put_of(alloc, arguments)
     } else {
         other_by(alloc, name, arguments)
     }
 }
 
-/// What a subcommand other than `get` asks for.
+/// What `get` asks for.
+fn get_of(alloc: Global, arguments: &ArgMatches<'_>) -> Result<Request, WordsFault>
+    ensures answers { Answers (result_ok (get_of (rows_of (found_of arguments.now)))) result }
+    ensures range { IfOk result IsRequest }
+{
+    Ok(Request::Get(download_of(alloc, arguments)?))
+}
+
+/// What `put` asks for.
+fn put_of(alloc: Global, arguments: &ArgMatches<'_>) -> Result<Request, WordsFault>
+    ensures answers { Answers (result_ok (put_of (rows_of (found_of arguments.now)))) result }
+    ensures range { IfOk result IsRequest }
+{
+    Ok(Request::Put(upload_of(alloc, arguments)?))
+}
+
+/// What a subcommand that is no client's asks for.
 fn other_by(alloc: Global, name: &str, arguments: &ArgMatches<'_>) -> Result<Request, WordsFault>
     ensures answers { Answers (result_ok (other_by name.now (rows_of (found_of arguments.now)))) result }
     ensures range { IfOk result IsRequest }
@@ -196,10 +217,10 @@ pub fn rows_ask()
         ≡ result_ok (asking (check_at None) (member_in id nodes chain)) }
     ensures getting { (url : Text) → IsNoFlag url
         → asked (codes "get" ∷ url ∷ [])
-        ≡ result_ok (asking Request.Get (download_in url None)) }
+        ≡ result_ok (asking Request.Get (download_in url None None None)) }
     ensures following { (url times : Text) → IsNoFlag url → IsNoFlag times
         → asked (codes "get" ∷ url ∷ codes "--follow" ∷ times ∷ [])
-        ≡ result_ok (asking Request.Get (download_in url (Some times))) }
+        ≡ result_ok (asking Request.Get (download_in url (Some times) None None)) }
 
     ensures plain { (words : List Text) → IsPlain words → asked words ≢ None }
 {}
@@ -229,4 +250,27 @@ pub fn places_ask()
     ensures unchained { (id nodes : Text) → IsNoFlag id → IsNoFlag nodes → asked (codes "check" ∷ id ∷ nodes ∷ []) ≡ None }
     ensures said_twice { (id nodes chain config : Text) → IsNoFlag id → IsNoFlag nodes → IsNoFlag chain → IsNoFlag config
         → asked (codes "check" ∷ id ∷ nodes ∷ chain ∷ codes "--config" ∷ config ∷ []) ≡ None }
+{}
+
+/// What words ask for that publish, and those of a client that begin at a byte or name the file of a token.
+pub fn clients_ask()
+    ensures publishing { (url : Text) → IsNoFlag url
+        → asked (codes "put" ∷ url ∷ []) ≡ Some (put_at url New false None) }
+    ensures appending { (url : Text) → IsNoFlag url
+        → asked (codes "put" ∷ url ∷ codes "--append" ∷ []) ≡ Some (put_at url Append false None) }
+    ensures resuming { (url : Text) → IsNoFlag url
+        → asked (codes "put" ∷ url ∷ codes "--resume" ∷ []) ≡ Some (put_at url Resume false None) }
+    ensures sealing { (url : Text) → IsNoFlag url
+        → asked (codes "put" ∷ url ∷ codes "--seal" ∷ []) ≡ Some (put_at url New true None) }
+    ensures publishing_as { (url file : Text) → IsNoFlag url → IsNoFlag file
+        → asked (codes "put" ∷ url ∷ codes "--token-file" ∷ file ∷ []) ≡ Some (put_at url New false (Some file)) }
+
+    // An input goes behind what the group has, or has the group's bytes in front.
+    ensures said_both { (url : Text) → IsNoFlag url → asked (codes "put" ∷ url ∷ codes "--append" ∷ codes "--resume" ∷ []) ≡ None }
+    ensures getting_from { (url start : Text) → IsNoFlag url → IsNoFlag start
+        → asked (codes "get" ∷ url ∷ codes "--from" ∷ start ∷ [])
+        ≡ result_ok (asking Request.Get (download_in url None (Some start) None)) }
+    ensures getting_as { (url file : Text) → IsNoFlag url → IsNoFlag file
+        → asked (codes "get" ∷ url ∷ codes "--token-file" ∷ file ∷ [])
+        ≡ result_ok (asking Request.Get (download_in url None None (Some file))) }
 {}

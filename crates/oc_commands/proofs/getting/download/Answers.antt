@@ -1,14 +1,19 @@
+use Rattle.std.proofs.Common.{ap}
 use Rattle.oc_commands.proofs.Gotten.{got_news, got_once}
 use Rattle.oc_commands.proofs.getting.download.Goals as goal
 
 pub returns-in-None-clause-happened : goal.returns-in-None-clause-happened
 returns-in-None-clause-happened g c =
     let e = c.get.ensures in
-    got_once g.K.Sink.takes g.K.Sink.fails g.K.Sink.faults g.L.Link.story g.L.Link.faults c.args.link.now c.get.new.link c.args.out.now c.get.new.sink c.args.wanted.now
-    c.as_str.result.now c.as_str.ensures c.get.result e.sink_cause e.link_cause e.bad c.in-None.is e.talked e.complete
+    got_once g.K.Sink.takes g.K.Sink.fails g.K.Sink.faults g.L.Link.story g.L.Link.faults c.args.link.now c.get.new.link c.args.out.now c.get.new.sink c.args.wanted.now c.args.token.now
+    c.as_str-address.result.now c.as_str-address.ensures
+    (record { from = c.args.wanted.now.start; token = _ }) (ap (λ t. record { from = c.args.wanted.now.start; token = t }) c.text_of.ensures)
+    c.get.result e.sink_cause e.link_cause e.bad c.in-None.is e.talked e.complete
 
 pub returns-in-Some-clause-happened : goal.returns-in-Some-clause-happened
 returns-in-Some-clause-happened g c =
     let e = c.follow.ensures in
-    got_news g.K.Sink.takes g.K.Sink.fails g.K.Sink.faults g.L.Link.story g.L.Link.faults c.args.link.now c.follow.new.link c.args.out.now c.follow.new.sink c.args.wanted.now
-    c.as_str-in-Some.result.now c.as_str-in-Some.ensures c.follow.result e.sink_cause e.link_cause e.bad c.in-Some.times c.in-Some.is e.talked
+    got_news g.K.Sink.takes g.K.Sink.fails g.K.Sink.faults g.L.Link.story g.L.Link.faults c.args.link.now c.follow.new.link c.args.out.now c.follow.new.sink c.args.wanted.now c.args.token.now
+    c.as_str-address.result.now c.as_str-address.ensures
+    (record { from = c.args.wanted.now.start; token = _ }) (ap (λ t. record { from = c.args.wanted.now.start; token = t }) c.text_of.ensures)
+    c.follow.result e.sink_cause e.link_cause e.bad c.in-Some.times c.in-Some.is e.talked

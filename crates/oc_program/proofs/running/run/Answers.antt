@@ -1,8 +1,7 @@
 use Rattle.std.proofs.Common.{ℕ, List, ◌∙◌, ap, subst, sym}
-use Rattle.oc_commands.specs.Lines.{line_of}
+use Rattle.oc_commands.specs.Lines.{file_known, line_of}
 use Rattle.oc_commands.specs.Run.{IsWrittenOrCut}
 use Rattle.oc_io.specs.Faults.{NoFall}
-use Rattle.oc_words.specs.Paths.{file_read}
 use Rattle.oc_words.specs.Status.{number_of}
 use Rattle.oc_words.specs.Words.{asked, texts_of}
 use Rattle.oc_words.proofs.PlainWords.{plain_asks}
@@ -22,7 +21,7 @@ returns-clause-ended g c =
       usage,
       c.number.ensures ∙ ap number_of c.status.ensures,
       subst (λ (text : List ℕ). IsWrittenOrCut g.E.Sink.takes g.E.Sink.fails g.E.Sink.faults c.args.outside.error c.tell_of.new.err text) line
-          (subst (λ err. IsWrittenOrCut g.E.Sink.takes g.E.Sink.fails g.E.Sink.faults err c.tell_of.new.err (line_of c.perform-end.result.0 (file_read c.read_words-given.result) usage)) c.perform-end.ensures.error written),
+          (subst (λ err. IsWrittenOrCut g.E.Sink.takes g.E.Sink.fails g.E.Sink.faults err c.tell_of.new.err (line_of c.perform-end.result.0 (file_known c.read_words-given.result c.perform-end.result.0) usage)) c.perform-end.ensures.error written),
       c.perform-end.ensures.happened,
     )
 

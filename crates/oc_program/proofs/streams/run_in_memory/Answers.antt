@@ -23,12 +23,16 @@ returns g c =
     let fits : c.traffic.result.bytes ≤ 2 ^ 64 - 1 = search rules in
     let input = bytes_told c.new-source.result outside.input (λ r. r.now) c.new-source.ensures.passed
     c.args.input.now (ap (λ r. r.now) c.new-source.ensures.reader) few c.traffic.result.bytes c.traffic.ensures.bytes fits in
+    let token_few : length c.args.token.now ≤ 2 ^ 64 - 1 = search rules in
+    let token_fits : c.traffic-2.result.bytes ≤ 2 ^ 64 - 1 = search rules in
+    let token = bytes_told c.new-token_source.result outside.token (λ r. r.now) c.new-token_source.ensures.passed
+    c.args.token.now (ap (λ r. r.now) c.new-token_source.ensures.reader) token_few c.traffic-2.result.bytes c.traffic-2.ensures.bytes token_fits in
     let output = text_told c.new-out.result outside.output (λ v. v.items) (ap (λ v. v.items) c.new-out.ensures.writer ∙ c.new.ensures.items)
     c.into_writer.result.items (ap (λ v. v.items) c.into_writer.ensures) in
     let written = line_told c.new-err.result outside.error (λ v. v.items) (ap (λ v. v.items) c.new-err.ensures.writer ∙ c.new-2.ensures.items)
     c.into_writer-2.result.items (ap (λ v. v.items) c.into_writer-2.ensures) _ line in
-    let told = happened_told _ _ _ _ stage input output words files link node end happened in
+    let told = happened_told _ _ _ _ stage input output words files link node _ _ token end happened in
     record {
       ended = (end, usage, is, written, told);
-      replayed = λ summary file asks. subst (λ n. (n ≡ status_for (schedule_of c.args.input.now)) ⊎ (n ≡ 1) ⊎ (n ≡ 4)) (sym is) (replayed_of c.args.input.now c.traffic.result.bytes _ stage files link node summary file words end asks told);
+      replayed = λ summary file asks. subst (λ n. (n ≡ status_for (schedule_of c.args.input.now)) ⊎ (n ≡ 1) ⊎ (n ≡ 4)) (sym is) (replayed_of c.args.input.now c.traffic.result.bytes _ stage files link _ node summary file words end asks told);
     }

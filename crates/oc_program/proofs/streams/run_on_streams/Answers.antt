@@ -17,12 +17,15 @@ returns g c =
     let link = at_link g.L.Link.story g.L.Link.faults things.dialler outside.dialler in
     let node = at_node g.D.Disk.view g.N.Link.story g.N.Link.counts (disks_in things.files) (disks_in outside.files) things.link outside.link in
     let read : c.traffic.result.bytes ≤ 2 ^ 64 - 1 = search rules in
-    let written : c.traffic-2.result.bytes ≤ 2 ^ 64 - 1 = search rules in
-    let told : c.traffic-3.result.bytes ≤ 2 ^ 64 - 1 = search rules in
+    let written : c.traffic-3.result.bytes ≤ 2 ^ 64 - 1 = search rules in
+    let told : c.traffic-4.result.bytes ≤ 2 ^ 64 - 1 = search rules in
     let input = input_told c.new-stdin.result outside.input g.R.Read.remaining c.new-stdin.ensures.passed c.new-stdin.ensures.faults
     c.traffic.result c.traffic.ensures.bytes c.traffic.ensures.faults read in
+    let bearer : c.traffic-2.result.bytes ≤ 2 ^ 64 - 1 = search rules in
+    let token = input_told c.new-token.result outside.token g.R.Read.remaining c.new-token.ensures.passed c.new-token.ensures.faults
+    c.traffic-2.result c.traffic-2.ensures.bytes c.traffic-2.ensures.faults bearer in
     let output = output_told c.new-stdout.result outside.output (λ w. None) c.new-stdout.ensures.passed c.new-stdout.ensures.faults
-    c.traffic-2.result c.traffic-2.ensures.bytes c.traffic-2.ensures.faults written in
+    c.traffic-3.result c.traffic-3.ensures.bytes c.traffic-3.ensures.faults written in
     let line_is = count_told c.new-stderr.result outside.error (λ w. None) c.new-stderr.ensures.passed c.new-stderr.ensures.faults
-    c.traffic-3.result c.traffic-3.ensures.bytes c.traffic-3.ensures.faults told _ line in
-    record { ended = (end, usage, is, line_is, happened_told _ _ _ _ stage input output words files link node end happened) }
+    c.traffic-4.result c.traffic-4.ensures.bytes c.traffic-4.ensures.faults told _ line in
+    record { ended = (end, usage, is, line_is, happened_told _ _ _ _ stage input output words files link node _ _ token end happened) }

@@ -3,6 +3,7 @@ use Rattle.oc_start.proofs.starting.start_at.Goals as goal
 pub returns : goal.returns
 returns c =
     let (end, usage, is, line, happened) = c.run_on_streams-ran.ensures.ended in
+    let left = c.run_on_streams-ran.result.things in
     record {
       ended = record {
         first = record {
@@ -10,8 +11,9 @@ returns c =
           files = record { control = c.new-control.result; alternate = c.new-alternate.result; content = c.new-content.result };
           dialler = c.new-dialler.result;
           link = c.new-link.result;
+          pause = tt;
         };
-        last = c.run_on_streams-ran.result.things;
+        last = record { stage = left.stage; files = left.files; dialler = left.dialler; link = left.link; pause = tt };
         new_dialler = c.new-dialler.ensures.dialling;
         new_link = c.new-link.ensures.counts;
         end = end;

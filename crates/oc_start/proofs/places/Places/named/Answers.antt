@@ -8,6 +8,7 @@ returns c =
     record {
       node_is = refl;
       input = c.in_ok-copied.ensures;
+      token = c.in_ok-copied-2.ensures;
       folder = c.in_ok-from_str.ensures.ok ∙ folder;
       control = c.in_ok-path_in.ensures ∙ ap (λ (f : List ℕ). path_in f (codes "control.log")) folder;
       alternate = c.in_ok-path_in-2.ensures ∙ ap (λ (f : List ℕ). path_in f (codes "control.alt")) folder;

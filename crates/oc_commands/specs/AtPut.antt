@@ -1,0 +1,60 @@
+-- What had happened at each end of `put`, with a token or without.
+use Rattle.std.specs.Prelude.{◌⊎◌, ℕ, Bool, true, false, Option, List, ⊤}
+use Rattle.oc_fetch.specs.Addresses.{IsAddressOf, IsBadAddress}
+use Rattle.oc_put.specs.Publishing.{IsUnasked, Publishes}
+use Rattle.oc_put.specs.Requests.{Goal}
+use Rattle.oc_put.specs.Turns.{Turn}
+use Rattle.oc_put.specs.declared.end.PutEnd.{PutEnd}
+use Rattle.oc_put.specs.declared.end.PutEnd.TheVariants as ends
+use Rattle.oc_put.specs.declared.plan.Place.{Place}
+use Rattle.oc_put.specs.declared.plan.Place.TheVariants as places
+use Rattle.oc_put.specs.declared.plan.Plan.{Plan}
+use Rattle.oc_words.specs.declared.request.Onto.{Onto}
+use Rattle.oc_words.specs.declared.request.Onto.TheVariants.{New, Append, Resume}
+use Rattle.oc_words.specs.declared.request.Upload.{Upload}
+use Rattle.oc_commands.specs.Outside.{Input, OnLink}
+use Rattle.url.specs.Parts.{Parts}
+
+-- where the input goes
+abbrev pub place_of : Onto → Place
+place_of New = places.New
+place_of Append = places.Append
+place_of Resume = places.Resume
+
+-- how it is published
+abbrev pub plan_of : Upload → Plan
+plan_of u = record { place = place_of u.onto; seal = u.seals }
+
+-- these bytes came of the input, and it ended where `over` says so; where it is to blame a call on it then failed
+abbrev pub CameSo : Input → List ℕ → Bool → Type 0
+CameSo input bytes true = input.whole bytes
+CameSo input bytes false = input.gave bytes
+
+abbrev pub Came : Input → List ℕ → Bool → PutEnd → Type 0
+Came input bytes over ends.Input = input.broke bytes
+Came input bytes over end = CameSo input bytes over
+
+-- where the link is to blame a dial failed
+abbrev pub Blames : OnLink → PutEnd → Type 0
+Blames link ends.Link = link.has_failed
+Blames link end = ⊤
+
+-- the turns with the source there, and what was read of the input
+pub record PublishedAt (link : OnLink) (input : Input) (plan : Plan) (goal : Goal) (end : PutEnd) : Type 0 where
+  pub turns : List Turn
+  pub bytes : List ℕ
+  pub over : Bool
+  pub publishes : Publishes plan turns bytes over end
+  pub makes : link.publishes goal turns
+  pub came : Came input bytes over end
+
+-- nothing was asked, or the input was published at the URL of the address, with this token
+abbrev pub Published : OnLink → Input → Plan → List ℕ → Option (List ℕ) → PutEnd → Type 0
+Published link input plan address token end =
+    (IsUnasked address end × link.silent × input.unread)
+    ⊎ ((url : Parts) × IsAddressOf address url × PublishedAt link input plan (record { url = url; token = token }) end)
+
+pub record HappenedAtPut (link : OnLink) (input : Input) (u : Upload) (token : Option (List ℕ)) (end : PutEnd) : Type 0 where
+  pub published : Published link input (plan_of u) u.address token end
+  pub bad : IsBadAddress u.address → IsUnasked u.address end
+  pub blames : Blames link end

@@ -1,10 +1,11 @@
-//! Links, clocks and probes, and conversations of the client with servers in memory.
+//! Links, clocks and probes, and conversations of the clients with servers in memory.
 
 mod clocks;
 mod conversations;
 mod links;
 mod peers;
 mod probes;
+mod publishings;
 mod rates;
 mod texts;
 
@@ -24,6 +25,7 @@ impl Cases for ConnectionTables {
             "peers" => peers::put_words(alloc, given, said),
             "probes" => probes::put_words(alloc, given, said),
             "conversations" => conversations::put_words(alloc, given, said),
+            "publishings" => publishings::put_words(alloc, given, said),
             _ => Err(Fault::Field),
         }
     }
@@ -38,6 +40,7 @@ pub fn play(rt: &HostRuntime) -> io::Result<()> {
         "peers",
         "probes",
         "conversations",
+        "publishings",
     ];
     test_tools::play::<ConnectionTables, _>(rt, "connections", &tables)
 }

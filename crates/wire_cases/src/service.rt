@@ -3,6 +3,7 @@
 mod asking;
 mod chunked;
 mod configurations;
+mod judged;
 mod lines;
 mod locations;
 mod measure_lines;
@@ -18,13 +19,14 @@ use std::io;
 use test_tools::{Cases, Fault};
 
 /// The tables, in their order.
-const TABLES: [&str; 9] = [
+const TABLES: [&str; 10] = [
     "configurations",
     "verdicts",
     "chunked",
     "measure_lines",
     "locations",
     "requests",
+    "judged",
     "responses",
     "replies",
     "lines",
@@ -42,6 +44,7 @@ impl Cases for ServiceTables {
             "measure_lines" => measure_lines::put_words(alloc, given, said),
             "locations" => locations::put_words(alloc, given, said),
             "requests" => requests::put_words(alloc, given, said),
+            "judged" => judged::put_words(alloc, given, said),
             "responses" => responses::put_words(alloc, given, said),
             "replies" => replies::put_words(alloc, given, said),
             "lines" => lines::put_words(alloc, given, said),

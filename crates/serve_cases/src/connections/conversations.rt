@@ -1,7 +1,7 @@
 //! Downloads over a link and onto a sink in memory.
 
 use crate::connections::texts::{put_text, text_in, texts_in};
-use oc_fetch::{GetEnd, follow, get};
+use oc_fetch::{GetEnd, Manner, follow, get};
 use oc_io::{MemSink, Sink};
 use oc_link::{Link, MemLink};
 use std::alloc::Global;
@@ -39,7 +39,12 @@ fn put_conversation(
 }
 
 /// A link with these replies, of which one read gives at most `cut` bytes, and whose calls of these numbers fail.
-fn link_in(alloc: Global, replies: RowFields<'_>, cut: u32, fails: &str) -> Result<MemLink, Fault> {
+pub fn link_in(
+    alloc: Global,
+    replies: RowFields<'_>,
+    cut: u32,
+    fails: &str,
+) -> Result<MemLink, Fault> {
     let cut = cut as usize;
     if cut < 1 {
         return Err(Fault::Field);
@@ -61,9 +66,37 @@ fn download<L: Link, S: Sink>(
         return Err(Fault::Field);
     };
     match call.word {
-        "get" => Ok(get(alloc, address, link, sink)),
-        "follow" => Ok(follow(alloc, address, call.fields.number()?, link, sink)),
+        "get" => {
+            let manner = manner_in(&mut call.fields)?;
+            Ok(get(alloc, address, &manner, link, sink))
+        }
+        "follow" => {
+            let times = call.fields.number()?;
+            let manner = manner_in(&mut call.fields)?;
+            Ok(follow(alloc, address, times, &manner, link, sink))
+        }
         _ => Err(Fault::Field),
+    }
+}
+
+/// The byte to begin from and the token, where they are given.
+fn manner_in<'a>(fields: &mut RowFields<'a>) -> Result<Manner<'a>, Fault> {
+    let from = given(fields.text());
+    let token = given(fields.text());
+    Ok(Manner {
+        from: match from {
+            Some(from) => Some(RowFields::of(from, ' ').number()?),
+            None => None,
+        },
+        token,
+    })
+}
+
+/// A field that may be `-` or missing.
+fn given(field: &str) -> Option<&str> {
+    match field {
+        "" | "-" => None,
+        field => Some(field),
     }
 }
 

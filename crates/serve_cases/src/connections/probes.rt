@@ -3,7 +3,7 @@
 ghost use Rattle.oc_http.specs.Writing.{HasPhrase};
 
 use oc_base::Bytes;
-use oc_http::{Reply, write_response};
+use oc_http::{ContentType, Reply, write_response};
 use oc_link::{Clock, FixedClock, Link, MemLink};
 use oc_probe::probe;
 use std::alloc::Global;
@@ -96,9 +96,11 @@ fn reply_of(alloc: Global, status: u16, length: usize) -> Result<Vec<u8>, Fault>
     let reply = Reply {
         status,
         location: None,
-        content_type: true,
+        content_type: Some(ContentType::Octets),
         body: Bytes::of(body),
         rule: None,
+        group_length: None,
+        mac: None,
     };
     Ok(write_response(alloc, &reply)?)
 }

@@ -7,7 +7,7 @@ ghost use Rattle.oc_routes.specs.Lawful.{IsAsked};
 use oc_base::MAX_BODY_BYTES;
 use oc_http::{Head, read_body, read_head};
 use oc_io::MemSource;
-use oc_policy::{Action, MAX_RULES, Prefix, Rule};
+use oc_policy::{Action, Demand, MAX_RULES, Prefix, Rule, Token};
 use oc_routes::{Operation, Refused, RouteFault, route};
 use std::alloc::Global;
 use test_tools::{Fault, RowFields};
@@ -39,7 +39,7 @@ pub fn request_in(alloc: Global, bytes: Vec<u8>, rules: &[Rule]) -> Result<ReadR
 }
 
 /// The rules of a text, with commas between them, or `-` for none. Each is `allow` or `deny`, `get`, `post`
-/// or `any`, a prefix, and an area or `any`, with colons between them.
+/// or `any`, a prefix, an area or `any`, and a token where one is demanded, with colons between them.
 pub fn rules_in(alloc: Global, text: &str) -> Result<Vec<Rule>, Fault>
     ensures { IfOk result (λ rules. length rules.items ≤ MAX_RULES) }
 {
@@ -73,10 +73,22 @@ fn rule_in(mut fields: RowFields<'_>) -> Result<Rule, Fault> {
         "any" => None,
         text => Some(RowFields::of(text, ' ').byte()?),
     };
+    let token = demand_in(fields.text())?;
     Ok(Rule {
         allow,
         action,
         prefix,
         area,
+        token,
     })
+}
+
+fn demand_in(text: &str) -> Result<Demand, Fault> {
+    if text.is_empty() {
+        return Ok(Demand::nothing());
+    }
+    match Token::parse(text.as_bytes()) {
+        Ok(token) => Ok(Demand::of(Some(token))),
+        Err(_) => Err(Fault::Field),
+    }
 }

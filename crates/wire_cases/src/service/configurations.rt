@@ -21,12 +21,15 @@ fn put_read(alloc: Global, text: &[u8], said: &mut String) -> Result<(), Fault> 
     }
 }
 
-/// Puts what a configuration says: the chain, the chunk where it is not the first one, the address and the area of
+/// Puts what a configuration says: the chain, the chunk where it is not the first one, `key` where it has one, the address and the area of
 /// each node, the measures and the rules.
 fn put_config(said: &mut String, config: &Config) -> Result<(), Fault> {
     let chain = config.chain;
     write!(said, "{chain}")?;
     put_chunk(said, config.chunk())?;
+    if config.key.is_some() {
+        said.push_str(" key")?;
+    }
     said.push_str(" |")?;
     let listens = config.listens.iter();
     for ((address, listen), area) in config.addresses.iter().zip(listens).zip(&config.areas) {

@@ -40,7 +40,8 @@ fn line_of(alloc: Global, bytes: Vec<u8>, rules: &[Rule], me: NodeId) -> Result<
     Ok(line)
 }
 
-fn put_refusal(alloc: Global, said: &mut String, refused: Refused) -> Result<(), Fault> {
+/// Puts the line and the reply of a refused request.
+pub(crate) fn put_refusal(alloc: Global, said: &mut String, refused: Refused) -> Result<(), Fault> {
     let mut line = Vec::new(alloc);
     put_refusal_line(&mut line, refused)?;
     put_line(said, &line)?;

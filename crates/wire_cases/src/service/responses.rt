@@ -8,7 +8,7 @@ ghost use Rattle.oc_wire.specs.Spelling.{HasSpelling};
 use crate::service::asking::{ReadRequest, request_in};
 use oc_base::NodeId;
 use oc_model::{Answer, Message};
-use oc_routes::{Answered, Persistence, Response, is_last, respond};
+use oc_routes::{Answered, Network, Operation, Persistence, Response, is_last, respond};
 use oc_wire::decode;
 use std::alloc::Global;
 use test_tools::{Fault, RowFields, put_spelled, spelled_in};
@@ -79,20 +79,20 @@ fn answer_in(mut fields: RowFields<'_>) -> Result<Answer, Fault> {
     }
 }
 
-/// The response, where the message of these bytes goes back to the sender, if there are any.
+/// The response, where the message of these bytes goes back to the sender, or this is what the node tells of itself.
 fn response_of(
     alloc: Global,
     request: &ReadRequest,
     turn: Turn,
-    reply: &[u8],
+    back: &[u8],
 ) -> Result<Response, Fault>
     requires { IsAsked request.now.asks }
 {
-    if reply.is_empty() {
-        return respond_with(alloc, request, turn, None);
+    if back.is_empty() || matches!(request.asks, Operation::Report { .. }) {
+        return respond_with(alloc, request, turn, None, back);
     }
-    match decode(alloc, reply, 3) {
-        Ok(message) => respond_with(alloc, request, turn, Some(&message)),
+    match decode(alloc, back, 3) {
+        Ok(message) => respond_with(alloc, request, turn, Some(&message), b""),
         Err(_) => Err(Fault::Field),
     }
 }
@@ -102,6 +102,7 @@ fn respond_with(
     request: &ReadRequest,
     turn: Turn,
     reply: Option<&Message>,
+    report: &[u8],
 ) -> Result<Response, Fault>
     requires asks { IsAsked request.now.asks }
     requires reply { ForSome (option_map (λ m. m.now) reply) (λ m. HasSpelling m.body) }
@@ -112,8 +113,13 @@ fn respond_with(
         answer: turn.answer,
         sealed: turn.sealed,
         last,
+        report,
     };
-    Ok(respond(alloc, &request.asks, answered, reply, &addresses)?)
+    let network = Network {
+        addresses: &addresses,
+        key: None,
+    };
+    Ok(respond(alloc, &request.asks, answered, reply, &network)?)
 }
 
 fn addresses(alloc: Global) -> Result<Vec<String>, Fault> {

@@ -30,7 +30,11 @@ fn put_rule(said: &mut String, number: u32, rule: &Rule) -> Result<(), Fault> {
     let prefix = rule.prefix;
     write!(said, " {number} {verb} {method} {prefix} ")?;
     match rule.area {
-        Some(area) => Ok(write!(said, "{area}")?),
-        None => Ok(said.push_str("any")?),
+        Some(area) => write!(said, "{area}")?,
+        None => said.push_str("any")?,
     }
+    if rule.token.is_some() {
+        said.push_str(" token")?;
+    }
+    Ok(())
 }

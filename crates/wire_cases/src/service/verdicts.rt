@@ -16,26 +16,49 @@ pub fn put_words(alloc: Global, given: &str, said: &mut String) -> Result<(), Fa
         "post" => Action::Post,
         _ => return Err(Fault::Field),
     };
-    let group = group_in(fields.text())?;
+    let group = some_group(fields.text())?;
     let area = fields.byte()?;
+    let shown = shown_in(alloc, fields.text())?;
+    let shown = shown.as_ref().map(|bytes| bytes.as_slice());
     match read(alloc, &text_in(alloc, text.trim())?) {
-        Ok(config) => put_verdict(&config.rules, action, &group, area, said),
+        Ok(config) => put_verdict(&config.rules, action, group.as_ref(), area, shown, said),
         Err(_) => Err(Fault::Unready),
     }
 }
 
+/// The group that is asked for; none for `!`, the pages of a node.
+fn some_group(text: &str) -> Result<Option<GroupName>, Fault> {
+    match text {
+        "!" => Ok(None),
+        _ => Ok(Some(group_in(text)?)),
+    }
+}
+
+/// The value of an Authorization field, in which `_` is written for a space; none where nothing is written.
+fn shown_in(alloc: Global, text: &str) -> Result<Option<Vec<u8>>, Fault> {
+    if text.is_empty() {
+        return Ok(None);
+    }
+    let mut value = Vec::new(alloc);
+    for byte in text.bytes() {
+        value.push(if byte == b'_' { b' ' } else { byte })?;
+    }
+    Ok(Some(value))
+}
+
 /// Puts what rules say of a request.
-fn put_verdict(
-    rules: &[Rule],
+fn put_verdict<'a>(
+    rules: &'a [Rule],
     action: Action,
-    group: &GroupName,
+    group: Option<&'a GroupName>,
     area: u8,
+    shown: Option<&'a [u8]>,
     said: &mut String,
 ) -> Result<(), Fault> {
     if rules.len() > MAX_RULES {
         return Err(Fault::Unready);
     }
-    match decide(rules, action, group, area) {
+    match decide(rules, action, group, area, shown) {
         Verdict::Allowed => Ok(said.push_str("allowed")?),
         Verdict::Denied(rule) => Ok(write!(said, "denied {rule}")?),
     }

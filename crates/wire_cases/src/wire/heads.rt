@@ -253,7 +253,28 @@ fn put_head(said: &mut String, head: &Head) -> Result<(), Fault> {
     put_value(said, " length=", head.length)?;
     put_value(said, " expects=", head.expects)?;
     put_value(said, " minor=", head.minor)?;
-    put_value(said, " closes=", head.closes)
+    put_value(said, " closes=", head.closes)?;
+    put_some(said, " authorization=", &head.authorization)?;
+    put_some(said, " mac=", &head.mac)
+}
+
+/// Puts a text with its name, where there is one.
+fn put_some(said: &mut String, name: &str, text: &Option<Text>) -> Result<(), Fault> {
+    match text {
+        Some(text) => {
+            put(said, name)?;
+            put_spelled(said, text.items())
+        }
+        None => Ok(()),
+    }
+}
+
+/// Puts how many bytes a group has, where that is told.
+fn put_group_length(said: &mut String, length: Option<u64>) -> Result<(), Fault> {
+    match length {
+        Some(length) => put_value(said, " group=", length),
+        None => Ok(()),
+    }
 }
 
 fn put_reply_head(said: &mut String, head: &ReplyHead) -> Result<(), Fault> {
@@ -263,7 +284,9 @@ fn put_reply_head(said: &mut String, head: &ReplyHead) -> Result<(), Fault> {
         None => put(said, " length=none")?,
     }
     put_value(said, " chunked=", head.chunked)?;
-    put_value(said, " closes=", head.closes)
+    put_value(said, " closes=", head.closes)?;
+    put_group_length(said, head.group_length)?;
+    put_some(said, " mac=", &head.mac)
 }
 
 /// Puts a reply that was read; reading gives neither a content type nor a rule.
@@ -271,10 +294,11 @@ fn put_reply(said: &mut String, reply: &Reply) -> Result<(), Fault> {
     put_status(said, reply.status, &reply.location)?;
     put(said, " body=")?;
     put_spelled(said, reply.body.items())?;
-    if reply.content_type || reply.rule.is_some() {
+    if reply.content_type.is_some() || reply.rule.is_some() {
         put(said, " and more")?;
     }
-    Ok(())
+    put_group_length(said, reply.group_length)?;
+    put_some(said, " mac=", &reply.mac)
 }
 
 fn put_status(said: &mut String, status: u16, location: &Option<Text>) -> Result<(), Fault> {

@@ -62,7 +62,7 @@ fn put_written(
 fn put_brought(alloc: Global, said: &mut String, message: &Message, nodes: u32) -> Result<(), Fault>
     requires { HasSpelling message.now.body }
 {
-    match from_http(alloc, &to_http(alloc, message, "node2")?, nodes) {
+    match from_http(alloc, &to_http(alloc, message, "node2", None)?, nodes) {
         Ok(brought) => put_message(said, &brought),
         Err(fault) => put_fault(said, fault),
     }

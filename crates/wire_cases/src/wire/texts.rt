@@ -6,8 +6,8 @@ ghost use Rattle.oc_http.specs.Writing.{HasPhrase};
 use crate::wire::words::put_text;
 use oc_base::{Bytes, Text};
 use oc_http::{
-    Framing, Persistence, Reply, write_follow, write_get, write_probe, write_reply_head,
-    write_request, write_response, write_response_head,
+    ContentType, Framing, Persistence, Reply, write_follow, write_get, write_probe,
+    write_reply_head, write_request, write_response, write_response_head,
 };
 use std::alloc::Global;
 use test_tools::{Fault, RowFields, spelled_in};
@@ -21,6 +21,7 @@ pub fn put_words(alloc: Global, given: &str, said: &mut String) -> Result<(), Fa
         "probe" => put_text(said, write_probe(alloc, fields.text())),
         "follow" => put_follow(alloc, fields, said),
         "reply" => put_reply(alloc, fields, said),
+        "told" => put_told(alloc, fields, said),
         "head" => put_head(alloc, fields, said),
         "stream" => put_stream(alloc, fields, said),
         _ => Err(Fault::Field),
@@ -32,7 +33,7 @@ fn put_request(alloc: Global, mut fields: RowFields<'_>, said: &mut String) -> R
         return Err(Fault::Field);
     }
     let body = spelled_in(alloc, fields.text())?;
-    put_text(said, write_request(alloc, "node2", &body))
+    put_text(said, write_request(alloc, "node2", &body, None))
 }
 
 fn put_get(alloc: Global, mut fields: RowFields<'_>, said: &mut String) -> Result<(), Fault> {
@@ -50,6 +51,16 @@ fn put_follow(alloc: Global, mut fields: RowFields<'_>, said: &mut String) -> Re
 
 fn put_reply(alloc: Global, fields: RowFields<'_>, said: &mut String) -> Result<(), Fault> {
     let reply = reply_in(alloc, fields)?;
+    put_text(said, write_response(alloc, &reply))
+}
+
+fn put_told(alloc: Global, mut fields: RowFields<'_>, said: &mut String) -> Result<(), Fault> {
+    let group_length = group_length_in(fields.text())?;
+    let mac = fields.text();
+    let mac = location_in(alloc, mac)?;
+    let mut reply = reply_in(alloc, fields)?;
+    reply.group_length = group_length;
+    reply.mac = mac;
     put_text(said, write_response(alloc, &reply))
 }
 
@@ -81,14 +92,13 @@ fn connection_in(text: &str) -> Result<Persistence, Fault> {
     }
 }
 
-/// The reply of the next fields: its status, its location, whether it has a content type, the rule, and the
-/// body.
+/// The reply of the next fields: its status, its location, the type of its content, the rule, and the body.
 fn reply_in(alloc: Global, mut fields: RowFields<'_>) -> Result<Reply, Fault>
     ensures { IfOk result (λ reply. HasPhrase reply.status) }
 {
     let status = status_in(fields.small()?)?;
     let location = fields.text();
-    let content_type = fields.text() == "octets";
+    let content_type = content_type_in(fields.text())?;
     let rule = rule_in(fields.text())?;
     let location = location_in(alloc, location)?;
     Ok(Reply {
@@ -97,7 +107,27 @@ fn reply_in(alloc: Global, mut fields: RowFields<'_>) -> Result<Reply, Fault>
         content_type,
         body: Bytes::of(spelled_in(alloc, fields.text())?),
         rule,
+        group_length: None,
+        mac: None,
     })
+}
+
+fn content_type_in(text: &str) -> Result<Option<ContentType>, Fault> {
+    match text {
+        "-" => Ok(None),
+        "octets" => Ok(Some(ContentType::Octets)),
+        "json" => Ok(Some(ContentType::Json)),
+        "metrics" => Ok(Some(ContentType::Metrics)),
+        "html" => Ok(Some(ContentType::Html)),
+        _ => Err(Fault::Field),
+    }
+}
+
+fn group_length_in(text: &str) -> Result<Option<u64>, Fault> {
+    match some_text(text) {
+        Some(text) => Ok(Some(RowFields::of(text, ' ').number()?)),
+        None => Ok(None),
+    }
 }
 
 /// A status that has a phrase.
@@ -135,6 +165,6 @@ fn has_phrase(status: u16) -> bool
 {
     matches!(
         status,
-        200 | 204 | 302 | 400 | 403 | 404 | 405 | 411 | 413 | 431 | 501
+        200 | 204 | 302 | 400 | 403 | 404 | 405 | 409 | 411 | 413 | 431 | 501
     )
 }

@@ -1,0 +1,89 @@
+//! Publishings over a link and of an input in memory.
+
+use crate::connections::conversations::link_in;
+use crate::connections::texts::{put_text, text_in};
+use oc_fetch::ProgressLines;
+use oc_io::{MemSink, MemSource};
+use oc_link::MemLink;
+use oc_put::{Aside, Destination, Pause, Place, Plan, PutEnd, put};
+use std::alloc::Global;
+use std::str;
+use test_tools::{Fault, RowFields, RowStep};
+
+/// The room of the lines.
+const ROOM: usize = 10_000;
+
+/// More dials than a row makes.
+const MOST_DIALS: u64 = 20;
+
+/// The pauses that were made.
+#[derive(Drop)]
+struct Pauses(u64);
+
+impl Pause for Pauses {
+    fn pause(&mut self) {
+        self.0 = self.0.saturating_add(1);
+    }
+}
+
+/// Puts the words of a row: how the publishing ended, the pauses, the lines, and what each dial was sent.
+pub fn put_words(alloc: Global, given: &str, said: &mut String) -> Result<(), Fault> {
+    let mut fields = RowFields::of(given, ' ');
+    let mut call = RowStep::of(fields.text());
+    let plan = plan_in(&mut call)?;
+    let token = call.fields.text();
+    let address = text_in(alloc, fields.text())?;
+    let Ok(address) = str::from_utf8(&address) else {
+        return Err(Fault::Field);
+    };
+    let to = Destination {
+        address,
+        token: if token == "-" { None } else { Some(token) },
+    };
+    let text = text_in(alloc, fields.text())?;
+    let cut = fields.small()?;
+    let link_fails = fields.text();
+    let mut input = MemSource::new(text, fields.numbers(alloc)?);
+    let mut link = link_in(alloc, fields.list(), cut, link_fails)?;
+    let mut aside = Aside {
+        pause: Pauses(0),
+        lines: ProgressLines::new(MemSink::new(alloc, ROOM, Vec::new(alloc))?, true),
+    };
+    let end = put(alloc, &to, plan, &mut input, &mut link, &mut aside);
+    if end == PutEnd::Done {
+        aside.lines.finish();
+    }
+    tell(end, &link, aside, said)
+}
+
+/// How a row publishes: `new`, `append` or `resume`, and `seal` or `-`.
+fn plan_in(call: &mut RowStep<'_>) -> Result<Plan, Fault> {
+    let place = match call.word {
+        "new" => Place::New,
+        "append" => Place::Append,
+        "resume" => Place::Resume,
+        _ => return Err(Fault::Field),
+    };
+    let seal = call.fields.text() == "seal";
+    Ok(Plan { place, seal })
+}
+
+/// Tells how a publishing ended, how many pauses it made, its lines, and what each dial was sent.
+fn tell(
+    end: PutEnd,
+    link: &MemLink,
+    aside: Aside<Pauses, MemSink>,
+    said: &mut String,
+) -> Result<(), Fault> {
+    let Aside { pause, lines } = aside;
+    write!(said, "{end:?} {} ", pause.0)?;
+    put_text(said, lines.into_sink().text())?;
+    for at in 0..MOST_DIALS {
+        let Some(request) = link.dialled(at) else {
+            break;
+        };
+        said.push_str(" ")?;
+        put_text(said, request)?;
+    }
+    Ok(())
+}

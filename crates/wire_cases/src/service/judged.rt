@@ -1,0 +1,106 @@
+//! What is to be done with the bytes that came on a connection.
+
+use crate::service::requests::put_refusal;
+use oc_base::NodeId;
+use oc_events::{Arrival, Coming, ConnectionId};
+use oc_http::HeadReader;
+use oc_mac::Key;
+use oc_reply::{Hint, Request, Terms, Verdict, judge};
+use oc_routes::{Operation, Report};
+use std::alloc::Global;
+use test_tools::{Fault, RowFields, spelled_in};
+
+/// The number of nodes.
+const NODES: u32 = 3;
+
+/// Puts the words of a row: the verdict.
+pub fn put_words(alloc: Global, given: &str, said: &mut String) -> Result<(), Fault> {
+    let (came, rest) = given.split_once(' ').unwrap_or((given, ""));
+    let (key, text) = rest.split_once(' ').unwrap_or((rest, ""));
+    let arrival = arrival_in(RowFields::of(came, ','))?;
+    let key = key_in(key)?;
+    let terms = Terms {
+        me: NodeId(1),
+        nodes: NODES,
+        rules: &[],
+        key: key.as_ref(),
+    };
+    let bytes = spelled_in(alloc, text)?;
+    let mut heads = HeadReader::new(alloc)?;
+    let verdict = judge(alloc, &mut heads, &terms, arrival, &bytes)?;
+    put_verdict(alloc, said, &verdict)
+}
+
+/// What came, of a text such as `open,1` or `ended,16,permitted`.
+fn arrival_in(mut fields: RowFields<'_>) -> Result<Arrival, Fault> {
+    let coming = match fields.text() {
+        "open" => Coming::Open,
+        "ended" => Coming::Ended,
+        "failed" => Coming::Failed,
+        _ => return Err(Fault::Field),
+    };
+    let number = fields.number()?;
+    Ok(Arrival {
+        connection: ConnectionId(7),
+        number,
+        permitted: fields.text() == "permitted",
+        coming,
+    })
+}
+
+/// The key of the network; none for `-`.
+fn key_in(text: &str) -> Result<Option<Key>, Fault> {
+    if text == "-" {
+        return Ok(None);
+    }
+    match Key::parse(text.as_bytes()) {
+        Some(key) => Ok(Some(key)),
+        None => Err(Fault::Field),
+    }
+}
+
+fn put_verdict(alloc: Global, said: &mut String, verdict: &Verdict) -> Result<(), Fault> {
+    match verdict {
+        Verdict::Wait => Ok(said.push_str("wait")?),
+        Verdict::Leave => Ok(said.push_str("leave")?),
+        Verdict::Permit => Ok(said.push_str("permit")?),
+        Verdict::Refuse(why) => put_refusal(alloc, said, *why),
+        Verdict::Ask(request) => put_request(said, request),
+    }
+}
+
+/// Puts how many bytes a request has, what it asks, and what else it tells.
+fn put_request(said: &mut String, request: &Request) -> Result<(), Fault> {
+    let count = request.count;
+    let asks = word_of(&request.operation);
+    write!(said, "{count} {asks}")?;
+    put_hint(said, request.hint)?;
+    if request.last {
+        said.push_str(" last")?;
+    }
+    Ok(())
+}
+
+fn word_of(operation: &Operation) -> &'static str {
+    match operation {
+        Operation::Message => "message",
+        Operation::Publish { .. } => "publish",
+        Operation::Seal { .. } => "seal",
+        Operation::Client { .. } => "client",
+        Operation::Probe { .. } => "probe",
+        Operation::Report { report, .. } => match report {
+            Report::Status => "status",
+            Report::Metrics => "metrics",
+            Report::Page => "page",
+        },
+    }
+}
+
+fn put_hint(said: &mut String, hint: Hint) -> Result<(), Fault> {
+    match hint {
+        Hint::Plain => Ok(()),
+        Hint::Here => Ok(said.push_str(" here")?),
+        Hint::Known => Ok(said.push_str(" known")?),
+        Hint::Of(length) => Ok(write!(said, " of {length}")?),
+    }
+}

@@ -3,6 +3,7 @@
 import http.client
 import os
 import re
+import resource
 import signal
 import socket
 import subprocess
@@ -11,8 +12,7 @@ import tempfile
 import time
 
 TOP = os.path.dirname(os.path.dirname(os.path.abspath(__file__)))
-PROGRAM = os.path.join(TOP, "crates", "overcast", "out", "overcast")
-MANY_TURNS = 1_000_000_000
+PROGRAM = os.environ.get("OVERCAST", os.path.join(TOP, "crates", "overcast", "out", "overcast"))
 
 
 def need_program():
@@ -67,14 +67,16 @@ class Network:
         os.makedirs(path, exist_ok=True)
         return path
 
-    def start(self, node, turns=MANY_TURNS, probe=False):
-        """Starts a node, and comes back once it listens."""
-        words = [PROGRAM, "node", str(node), "--turns", str(turns)] + ["--probe"] * probe
-        with open(os.path.join(self.home(node), "lines"), "ab") as lines, \
-                open(os.path.join(self.home(node), "errors"), "ab") as errors:
-            it = subprocess.Popen(words, cwd=self.home(node), stdin=subprocess.PIPE, stdout=lines, stderr=errors)
-        it.stdin.write(self.configuration.encode())
-        it.stdin.close()
+    def start(self, node, *words, head="", files=None):
+        """Starts a node with further words, with these lines at the head of its configuration, and with at most so many open
+        files; comes back once it listens."""
+        home = self.home(node)
+        with open(os.path.join(home, "network.toml"), "w") as it:
+            it.write(head + self.configuration)
+        words = [PROGRAM, "node", str(node), "--config", "network.toml", *words]
+        with open(os.path.join(home, "lines"), "ab") as lines, open(os.path.join(home, "errors"), "ab") as errors:
+            it = subprocess.Popen(words, cwd=home, stdin=subprocess.DEVNULL, stdout=lines, stderr=errors,
+                                  preexec_fn=files and (lambda: resource.setrlimit(resource.RLIMIT_NOFILE, (files, files))))
         self.nodes[node] = it
         self.wait_for(lambda: self.listens(node), f"node {node} listens")
         return it
@@ -103,11 +105,11 @@ class Network:
     def url(self, node, path):
         return f"http://127.0.0.1:{self.ports[node - 1]}{path}"
 
-    def ask(self, node, method, path, body=None, timeout=10):
+    def ask(self, node, method, path, body=None, timeout=10, fields=None):
         """The status, the fields and the body that a node answers."""
         it = http.client.HTTPConnection("127.0.0.1", self.ports[node - 1], timeout=timeout)
         try:
-            it.request(method, path, body=body)
+            it.request(method, path, body=body, headers=fields or {})
             reply = it.getresponse()
             return reply.status, dict(reply.getheaders()), reply.read()
         finally:
@@ -122,7 +124,7 @@ class Network:
 
     def has_joined(self, node):
         """Whether the last `yes` came to a node: it takes what its parent has from then on."""
-        return any(re.match(rf"recv {node} [0-9a-f]{{16}}04", line) for line in self.lines(node))
+        return any(re.match(rf"recv {node} [0-9a-f]{{16}}04|is joined ", line) for line in self.lines(node))
 
     @staticmethod
     def wait_for(holds, what, seconds=60):

@@ -18,7 +18,7 @@ use Rattle.oc_routes.specs.declared.refused.Refused.{Refused}
 use Rattle.oc_server.specs.Answered.{AreAnswered, AreAnsweredBy, IsAnsweredBy, answer_of, back_of}
 use Rattle.oc_server.specs.Asks.{has_to_wait, obeys, refuses_or, responds, takes_on, takes_up, waiting}
 use Rattle.oc_server.specs.Choices.{due_place, next_to_dial, prospect_of, wait_for}
-use Rattle.oc_server.specs.Deeds.{Deed, Sees, Reads, Tells, Takes, Accepts, Notes, Permits, Waits, Replies, Refuses, BreaksOff, Gives, LaysAside, Drops, Dials, Probes, Running, Setting, after, after_all}
+use Rattle.oc_server.specs.Deeds.{Deed, Sees, Reads, Tells, Takes, Accepts, Says, Notes, Permits, Waits, Replies, Refuses, BreaksOff, Gives, LaysAside, Drops, Dials, Probes, Running, Setting, after, after_all}
 use Rattle.oc_server.specs.Hurries.{came_hurries}
 use Rattle.oc_server.specs.Pace.{wait_until}
 use Rattle.oc_server.specs.Parts.{nothing}
@@ -56,6 +56,7 @@ silent_one answer back s (Reads t) a silent = tt
 silent_one answer back s (Tells t) a silent = tt
 silent_one answer back s (Takes i) a silent = tt
 silent_one answer back s (Accepts i) a silent = tt
+silent_one answer back s (Says text) a silent = tt
 silent_one answer back s (Notes why) a silent = tt
 silent_one answer back s (Permits c) a silent = tt
 silent_one answer back s (Waits w) a silent = tt
@@ -70,12 +71,12 @@ silent_one answer back s (Probes peer d now) a silent = tt
 
 silent_all : (answer : Answer) (back : Option Message) (s : Setting) (ds : List Deed) (a : Running) → AreSilent ds → AreAnsweredBy answer back s ds a
 silent_all answer back s [] a silent = tt
-silent_all answer back s (d ∷ ds) a silent = (silent_one answer back s d a (silent.0), silent_all (answer_of d a) (back_of d a) s ds (after d a) (silent.1))
+silent_all answer back s (d ∷ ds) a silent = (silent_one answer back s d a (silent.0), silent_all (answer_of answer d a) (back_of back d a) s ds (after d a) (silent.1))
 
 -- behind those that answer
 answered_then : (answer : Answer) (back : Option Message) (s : Setting) (ds es : List Deed) (a : Running) → AreAnsweredBy answer back s ds a → AreSilent es → AreAnsweredBy answer back s (ds ++ es) a
 answered_then answer back s [] es a first second = silent_all answer back s es a second
-answered_then answer back s (d ∷ ds) es a first second = (first.0, answered_then (answer_of d a) (back_of d a) s ds es (after d a) (first.1) second)
+answered_then answer back s (d ∷ ds) es a first second = (first.0, answered_then (answer_of answer d a) (back_of back d a) s ds es (after d a) (first.1) second)
 
 -- Ticks and messages
 
@@ -83,7 +84,7 @@ silent_ticks : (pace : Pace) (now seconds : ℕ) (s : Setting) (a : Running) →
 silent_ticks pace now seconds s a = by_test (wait_until pace now == 0)
   where
     by_test : (b : Bool) → AreSilent ((if b then ticked seconds else nothing) s a)
-    by_test true = (tt, (tt, tt))
+    by_test true = (tt, (tt, (tt, tt)))
     by_test false = tt
 
 silent_dial : (place : ℕ) (m : Option Message) (s : Setting) (a : Running) → AreSilent (dials_it place m s a)
@@ -124,7 +125,7 @@ silent_measures probing peer (Some fault) median s a = (tt, tt)
 
 silent_brought : (input : Option Input) (s : Setting) (a : Running) → AreSilent (brought input s a)
 silent_brought None s a = tt
-silent_brought (Some i) s a = (tt, tt)
+silent_brought (Some i) s a = (tt, (tt, tt))
 
 silent_probe : (peer : Option ℕ) (started : ℕ) (s : Setting) (a : Running) → AreSilent (probes_it peer started s a)
 silent_probe None started s a = tt
@@ -132,7 +133,7 @@ silent_probe (Some peer) started s a = (tt, (tt, tt))
 
 responded : (r : Pending) (input : Option Input) (now : ℕ) (s : Setting) (a : Running) → AreAnswered s (responds r input now s a) a
 responded r None now s a = (refl, tt)
-responded r (Some i) now s a = (tt, (refl, tt))
+responded r (Some i) now s a = (tt, (tt, (refl, tt)))
 
 took_on : (c : ℕ) (request : Request) (now : ℕ) (s : Setting) (a : Running) → AreAnswered s (takes_on c request now s a) a
 took_on c request now s a = by_condition (unmet request.operation a.node.control.me (shelf a.node.groups))

@@ -14,9 +14,9 @@ use Rattle.oc_server.specs.Scenes.{CountsAll}
 -- Lists
 
 -- the lines of deeds behind deeds
-pub lines_append : (me : ℕ) (ds es : List Deed) → lines me (ds ++ es) ≡ lines me ds ++ lines me es
-lines_append me [] es = refl
-lines_append me (d ∷ ds) es = ap (λ (t : List ℕ). line me d ++ t) (lines_append me ds es) ∙ sym (append_assoc (line me d) (lines me ds) (lines me es))
+pub lines_append : (s : Setting) (ds es : List Deed) → lines s (ds ++ es) ≡ lines s ds ++ lines s es
+lines_append s [] es = refl
+lines_append s (d ∷ ds) es = ap (λ (t : List ℕ). line s d ++ t) (lines_append s ds es) ∙ sym (append_assoc (line s d) (lines s ds) (lines s es))
 
 -- an input before inputs
 with_append : (o : Option Input) (is js : List Input) → with_input o (is ++ js) ≡ with_input o is ++ js
@@ -59,6 +59,7 @@ node_behind (deeds.Reads t) a = refl
 node_behind (deeds.Tells t) a = refl
 node_behind (deeds.Takes i) a = refl
 node_behind (deeds.Accepts i) a = refl
+node_behind (deeds.Says text) a = refl
 node_behind (deeds.Notes why) a = refl
 node_behind (deeds.Permits c) a = refl
 node_behind (deeds.Waits w) a = refl
@@ -87,6 +88,7 @@ counts_append (deeds.Reads t ∷ ds) es a b c first second = counts_append ds es
 counts_append (deeds.Tells t ∷ ds) es a b c first second = counts_append ds es a b c first second
 counts_append (deeds.Takes i ∷ ds) es a b c first second = counts_append ds es a b c first second
 counts_append (deeds.Accepts i ∷ ds) es a b c first second = counts_append ds es a b c first second
+counts_append (deeds.Says text ∷ ds) es a b c first second = counts_append ds es a b c first second
 counts_append (deeds.Notes why ∷ ds) es a b c first second = counts_append ds es a b c first second
 counts_append (deeds.Permits x ∷ ds) es a b c first second = counts_append ds es a b c first second
 counts_append (deeds.Waits w ∷ ds) es a b c first second = counts_append ds es a b c first second
@@ -107,6 +109,7 @@ counts_listening (deeds.Reads t ∷ ds) a b done = counts_listening ds a b done
 counts_listening (deeds.Tells t ∷ ds) a b done = counts_listening ds a b done
 counts_listening (deeds.Takes i ∷ ds) a b done = counts_listening ds a b done
 counts_listening (deeds.Accepts i ∷ ds) a b done = counts_listening ds a b done
+counts_listening (deeds.Says text ∷ ds) a b done = counts_listening ds a b done
 counts_listening (deeds.Notes why ∷ ds) a b done = counts_listening ds a b done
 counts_listening (deeds.Permits x ∷ ds) a b done = counts_listening ds a b done
 counts_listening (deeds.Waits w ∷ ds) a b done = counts_listening ds a b done

@@ -9,7 +9,7 @@ use Rattle.oc_model.proofs.Groups.{group_of-name, group_of-with_group}
 use Rattle.oc_model.specs.Node.{Node}
 use Rattle.oc_model.specs.Step.{Piece, grown, kept_at, piece_of, plan, step}
 use Rattle.oc_model.specs.declared.input.Input.{Input}
-use Rattle.oc_server.specs.Deeds.{Deed, Sees, Reads, Tells, Takes, Accepts, Notes, Permits, Waits, Replies, Refuses, BreaksOff, Gives, LaysAside, Drops, Dials, Probes, Running, after, after_all}
+use Rattle.oc_server.specs.Deeds.{Deed, Sees, Reads, Tells, Takes, Accepts, Says, Notes, Permits, Waits, Replies, Refuses, BreaksOff, Gives, LaysAside, Drops, Dials, Probes, Running, after, after_all}
 
 -- the bytes of each group are a beginning of what they are later
 abbrev pub Grows : List Group → List Group → Type 0
@@ -64,6 +64,7 @@ grows_after (Accepts i) a = grows_step a.node i
 grows_after (Sees e wait bytes) a = grows_none a.node.groups
 grows_after (Reads t) a = grows_none a.node.groups
 grows_after (Tells t) a = grows_none a.node.groups
+grows_after (Says text) a = grows_none a.node.groups
 grows_after (Notes why) a = grows_none a.node.groups
 grows_after (Permits c) a = grows_none a.node.groups
 grows_after (Waits w) a = grows_none a.node.groups

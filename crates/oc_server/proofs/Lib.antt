@@ -11,6 +11,7 @@ pub mod Dialled
 pub mod Pieces
 pub mod Parts
 pub mod Stopping
+pub mod ToldInputs
 pub mod Outgoing
 pub mod Responding
 pub mod Turning

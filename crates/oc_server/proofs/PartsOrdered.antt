@@ -55,15 +55,17 @@ use Rattle.oc_routes.specs.declared.routes.Operation.TheVariants as asks
 use Rattle.oc_server.proofs.ChunksThere.{here_there, step_there}
 use Rattle.oc_server.proofs.Settled.{IsLeft, IsOrderly, all_quiet, breaks, drops, fits_if, gives, lays, one_at_most, orderly_behind, orderly_none, orderly_then, permits, quiet_behind, refuses_request, replies_request, settled_by, waits}
 use Rattle.oc_server.specs.Asks.{has_to_wait, holding_for, obeys, refuses_or, replies, report_for, responds, response_now, takes_on, takes_up, waiting}
+use Rattle.oc_server.specs.Brief.{told_of}
 use Rattle.oc_server.specs.Brought.{comes_back}
 use Rattle.oc_server.specs.Choices.{due_place, next_to_dial, prospect_of, wait_for}
-use Rattle.oc_server.specs.Deeds.{Deed, Sees, Reads, Takes, Accepts, Waits, Running, Setting, after, after_all, back_to, calls_of, content_in, sender_of}
+use Rattle.oc_server.specs.Deeds.{Deed, Sees, Reads, Accepts, Says, Waits, Running, Setting, after, after_all, back_to, calls_of, content_in, sender_of}
 use Rattle.oc_server.specs.Hurries.{came_hurries}
 use Rattle.oc_server.specs.Pace.{wait_until}
 use Rattle.oc_server.specs.Parts.{nothing}
 use Rattle.oc_server.specs.Replying.{HasContent, IsGivable, MayAnswer, stage_on, works_on}
 use Rattle.oc_server.specs.Rooms.{goes_on, has_failed, is_told, moves, room, room_for}
 use Rattle.oc_server.specs.Rooms as rooms
+use Rattle.oc_server.specs.Telling.{takes_in}
 use Rattle.oc_server.specs.Sends.{dials_at, dials_it, dials_next, sends}
 use Rattle.oc_server.specs.Settled.{Fits, IsSettled}
 use Rattle.oc_server.specs.Turns.{Means, MeansBack, Told, brought, deals, happens, measures, next_peer, probes_it, quickened, takes_at, takes_due, takes_next, takes_one, ticked, ticks, ticks_and_sends, turn}
@@ -205,11 +207,13 @@ responding s made r None now a may is settled =
     replies_request s made r (response_now r answers.Ok None s a) now a may
     (at_once r.asked.operation r.asked.hint r.last None a.node.groups s.addresses s.key (report_for r.asked.operation a) is) settled
 responding s made r (Some i) now a may is settled =
-    quiet_behind s made (Accepts i) (replies r now (step a.node i).answer (back_to (sender_of i) (step a.node i).sends) s (after (Accepts i) a)) a tt settled
-    (λ behind. replies_request s (made ++ []) r
+    let ds : List Deed = replies r now (step a.node i).answer (back_to (sender_of i) (step a.node i).sends) s (after (Accepts i) a) in
+    quiet_behind s made (Accepts i) (Says (told_of s.log a.node i) ∷ ds) a tt settled
+    (λ taken. quiet_behind s (made ++ []) (Says (told_of s.log a.node i)) ds (after (Accepts i) a) tt taken
+    (λ behind. replies_request s ((made ++ []) ++ []) r
     (response_now r (step a.node i).answer (back_to (sender_of i) (step a.node i).sends) s (after (Accepts i) a)) now (after (Accepts i) a)
-    (subst (λ (cs : List Call). MayAnswer r.waited r.connection cs a.works) (sym (append-nil made)) may)
-    (by_step r.asked.operation r.asked.hint r.last i (back_to (sender_of i) (step a.node i).sends) a.node s.addresses s.key (report_for r.asked.operation (after (Accepts i) a)) is) behind)
+    (subst (λ (cs : List Call). MayAnswer r.waited r.connection cs a.works) (sym (append-nil (made ++ []) ∙ append-nil made)) may)
+    (by_step r.asked.operation r.asked.hint r.last i (back_to (sender_of i) (step a.node i).sends) a.node s.addresses s.key (report_for r.asked.operation (after (Accepts i) a)) is) behind))
 
 taking_on : (s : Setting) (made : List Call) (c : ℕ) (request : Request) (now : ℕ) (a : Running) → stage_on c made ≡ Awaiting → IsInputOf request.operation request.hint request.input → IsSettled made a.works
     → IsOrderly s made (takes_on c request now s a) a
@@ -313,7 +317,7 @@ no_fault s made peer probing (Some fault) median a settled = all_quiet s made _ 
 
 bringing : (s : Setting) (made : List Call) (input : Option Input) (a : Running) → IsSettled made a.works → IsOrderly s made (brought input s a) a
 bringing s made None a settled = orderly_none s made a settled
-bringing s made (Some i) a settled = all_quiet s made (Takes i ∷ []) a (tt, tt) settled
+bringing s made (Some i) a settled = all_quiet s made (takes_in i s a) a (tt, (tt, tt)) settled
 
 probing_it : (s : Setting) (made : List Call) (peer : Option ℕ) (started : ℕ) (a : Running) → IsSettled made a.works → IsOrderly s made (probes_it peer started s a) a
 probing_it s made None started a settled = orderly_none s made a settled
@@ -333,7 +337,7 @@ ticking : (s : Setting) (made : List Call) (pace : Pace) (now seconds : ℕ) (a 
 ticking s made pace now seconds a settled = by_test (wait_until pace now == 0)
   where
     by_test : (b : Bool) → IsOrderly s made ((if b then ticked seconds else nothing) s a) a
-    by_test true = all_quiet s made (ticked seconds s a) a (tt, (tt, tt)) settled
+    by_test true = all_quiet s made (ticked seconds s a) a (tt, (tt, (tt, tt))) settled
     by_test false = orderly_none s made a settled
 
 dialling_it : (s : Setting) (made : List Call) (place : ℕ) (m : Option Message) (a : Running) → IsSettled made a.works → IsOrderly s made (dials_it place m s a) a

@@ -23,7 +23,7 @@ use Rattle.oc_server.proofs.Givings.{Holds, IsGiving, content_left, content_unde
 use Rattle.oc_server.proofs.Grown.{Grows, grows_after, grows_all, grows_none, grows_then}
 use Rattle.oc_server.proofs.Replying.{first_at, left_on, other_left, over, permitted, refused, rest_at, taken, taken_other, taken_out, text_given, text_other, waiting}
 use Rattle.oc_server.proofs.WorksOn.{other_pushed, other_without, own_pushed}
-use Rattle.oc_server.specs.Deeds.{Deed, Sees, Reads, Tells, Takes, Accepts, Notes, Permits, Waits, Replies, Refuses, BreaksOff, Gives, LaysAside, Drops, Dials, Probes, Running, Setting, after, after_all, calls, calls_of, content_in, finish, first_piece, first_rest, keeps, piece, place_of, refuses, rest, takes_request, with_content}
+use Rattle.oc_server.specs.Deeds.{Deed, Sees, Reads, Tells, Takes, Accepts, Says, Notes, Permits, Waits, Replies, Refuses, BreaksOff, Gives, LaysAside, Drops, Dials, Probes, Running, Setting, after, after_all, calls, calls_of, content_in, finish, first_piece, first_rest, keeps, piece, place_of, refuses, rest, takes_request, with_content}
 use Rattle.oc_server.specs.Replying.{HasContent, IsGivable, IsOrdered, MayAnswer, MayDo, replied, replies, stage_on, text_or_none, whole_reply, works_on}
 use Rattle.oc_server.specs.Scenes.{IsFront}
 use Rattle.oc_server.specs.Works.{without}
@@ -267,6 +267,7 @@ done s (Reads t) c a made later g w grows may h = holds_still (stage_on c made) 
 done s (Tells t) c a made later g w grows may h = holds_still (stage_on c made) (works_on c a.works) a.node.groups a.node.groups later g w (grows_none a.node.groups) h
 done s (Takes i) c a made later g w grows may h = holds_still (stage_on c made) (works_on c a.works) a.node.groups (after (Takes i) a).node.groups later g w (grows_after (Takes i) a) h
 done s (Accepts i) c a made later g w grows may h = holds_still (stage_on c made) (works_on c a.works) a.node.groups (after (Accepts i) a).node.groups later g w (grows_after (Accepts i) a) h
+done s (Says text) c a made later g w grows may h = holds_still (stage_on c made) (works_on c a.works) a.node.groups a.node.groups later g w (grows_none a.node.groups) h
 done s (Notes why) c a made later g w grows may h = holds_still (stage_on c made) (works_on c a.works) a.node.groups a.node.groups later g w (grows_none a.node.groups) h
 done s (Permits d) c a made later g w grows may h = permits c d a made later g w may h
 done s (Waits x) c a made later g w grows may h = waits c x a made later g w may h

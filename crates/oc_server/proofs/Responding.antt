@@ -18,11 +18,12 @@ use Rattle.oc_reply.specs.declared.verdict.Request.{Request}
 use Rattle.oc_routes.specs.declared.refused.Refused.{Refused}
 use Rattle.oc_routes.specs.declared.response.Response.{Response}
 use Rattle.oc_server.specs.Asks.{answers_or_waits, has_to_wait, holding_in, refuses_or, replies, responds, takes_on, waiting}
-use Rattle.oc_server.specs.Deeds.{Accepts, Replies, Running, Setting, Waits, back_to, sender_of}
+use Rattle.oc_server.specs.Deeds.{Replies, Running, Setting, Waits, back_to, sender_of}
 use Rattle.oc_server.specs.Hurries.{hurries_unless, request_hurries}
 use Rattle.oc_server.specs.Looks.{LooksOnly}
 use Rattle.oc_server.specs.Parts.{Does, Part, Stops, nothing, one, ◌>>◌}
-use Rattle.oc_server.specs.Scenes.{Breaks, Did, Idle, Taking, running, setting}
+use Rattle.oc_server.specs.Scenes.{Breaks, Did, Idle, running, setting}
+use Rattle.oc_server.specs.Telling.{accepts_in}
 use Rattle.oc_server.specs.Works.{pending}
 use Rattle.oc_server.specs.declared.ends.TurnEnd.{TurnEnd}
 use Rattle.oc_server.specs.declared.server.Server.{Server}
@@ -30,7 +31,7 @@ use Rattle.oc_server.specs.declared.work.Pending.{Pending}
 use Rattle.oc_server.proofs.Lawful.{lawful_of}
 use Rattle.oc_server.proofs.Parts.{does_after, does_as, does_one, stops_after, stops_as, stops_in}
 use Rattle.oc_server.proofs.Steps.{did_look}
-use Rattle.oc_server.proofs.Stopping.{accepts_stops, stops_idle}
+use Rattle.oc_server.proofs.Stopping.{stops_idle}
 
 -- Which deeds they are
 
@@ -62,7 +63,7 @@ module _ {D L K : Type 0} (view : D → DiskView) (takes fails : K → List ℕ 
       → Does view takes faults story counts nothing old (record old { kept = kept })
   looked_on takes_nothing old kept looks = record {
     deeds = [];
-    did = did_look view takes fails faults story counts takes_nothing old (record old { kept = kept }) refl refl refl refl refl refl
+    did = did_look view takes fails faults story counts takes_nothing old (record old { kept = kept }) refl refl refl refl refl refl refl
         (lawful_of old (record old { kept = kept }) looks.same (λ all. all) (λ all. all) (λ all. all)) looks;
     are = λ honest. refl;
   }
@@ -77,11 +78,8 @@ module _ {D L K : Type 0} (view : D → DiskView) (takes fails : K → List ℕ 
       (λ honest. ap (λ (x : Response). Replies r x now ∷ [])
       (sym (is ∙ ap (λ (ls : List Shelf). response_for r.asked r.last answer back (holding_in r.asked.operation ls) a.config.addresses a.config.key (report_of r.asked.operation a.kept.node.control ls (length a.outbox))) (held honest)))) did
 
-  module _ (takes_nothing : (k : K) → takes k [] k) (takes_then : (a b c : K) (x y : List ℕ) → takes a x b → takes b y c → takes a (x ++ y) c) (r : Pending) (i : Input) (now : ℕ) (answer : Answer) (back : Option Message) (a b : Server D L K) (did : Did view takes faults story counts (Accepts i ∷ []) a b)
+  module _ (takes_nothing : (k : K) → takes k [] k) (takes_then : (a b c : K) (x y : List ℕ) → takes a x b → takes b y c → takes a (x ++ y) c) (r : Pending) (i : Input) (now : ℕ) (answer : Answer) (back : Option Message) (a b : Server D L K) (accepted : Does view takes faults story counts (accepts_in i) a b)
       (answer_is : IsHonest view a.kept → answer ≡ (step (node_of a.kept) i).answer) (back_is : IsHonest view a.kept → back ≡ back_to (sender_of i) (step (node_of a.kept) i).sends) where
-    accepted : Does view takes faults story counts (one (Accepts i)) a b
-    accepted = does_one view takes fails faults story counts (Accepts i) (one (Accepts i)) a b (λ honest. refl) did
-
     abbrev as_told : Part
     as_told = replies r now (step (node_of a.kept) i).answer (back_to (sender_of i) (step (node_of a.kept) i).sends)
 
@@ -93,21 +91,20 @@ module _ {D L K : Type 0} (view : D → DiskView) (takes fails : K → List ℕ 
     -- its input was taken, and then it was answered
     pub responded : (c : Server D L K) → Does view takes faults story counts (replies r now answer back) b c → Does view takes faults story counts (responds r (Some i) now) a c
     responded c does =
-        does_as view takes fails faults story counts (one (Accepts i) >> as_told) (responds r (Some i) now) a c (λ honest. refl)
-        (does_after view takes fails faults story counts takes_then (one (Accepts i)) as_told (replies r now answer back) a b c accepted same does)
+        does_as view takes fails faults story counts (accepts_in i >> as_told) (responds r (Some i) now) a c (λ honest. refl)
+        (does_after view takes fails faults story counts takes_then (accepts_in i) as_told (replies r now answer back) a b c accepted same does)
 
     -- its input was taken, and then it ended so
     pub responds_stops : (end : TurnEnd) (c : Server D L K) → b.kept.closed ≡ false → Breaks view takes fails faults story counts end Idle b c
         → Stops view takes fails faults story counts end (responds r (Some i) now) a c
     responds_stops end c is_open breaks =
-        stops_as view takes fails faults story counts end (one (Accepts i) >> as_told) (responds r (Some i) now) a c (λ honest. refl)
-        (stops_after view takes fails faults story counts takes_then end (one (Accepts i)) as_told (replies r now answer back) a b c accepted same
+        stops_as view takes fails faults story counts end (accepts_in i >> as_told) (responds r (Some i) now) a c (λ honest. refl)
+        (stops_after view takes fails faults story counts takes_then end (accepts_in i) as_told (replies r now answer back) a b c accepted same
         (stops_idle view takes fails faults story counts takes_nothing end (replies r now answer back) b c is_open breaks))
 
   -- it ended so as its input was taken
-  pub accept_stops : (takes_nothing : (k : K) → takes k [] k) (r : Pending) (i : Input) (now : ℕ) (end : TurnEnd) (a c : Server D L K) → a.kept.closed ≡ false
-      → Breaks view takes fails faults story counts end (Taking i) a c → Stops view takes fails faults story counts end (responds r (Some i) now) a c
-  accept_stops takes_nothing r i now end a c is_open breaks =
-      stops_as view takes fails faults story counts end (one (Accepts i) >> replies r now (step (node_of a.kept) i).answer (back_to (sender_of i) (step (node_of a.kept) i).sends)) (responds r (Some i) now) a c (λ honest. refl)
-      (stops_in view takes fails faults story counts end (one (Accepts i)) (replies r now (step (node_of a.kept) i).answer (back_to (sender_of i) (step (node_of a.kept) i).sends)) a c
-      (accepts_stops view takes fails faults story counts takes_nothing end i (one (Accepts i)) a c is_open (λ honest. refl) breaks))
+  pub accept_stops : (r : Pending) (i : Input) (now : ℕ) (end : TurnEnd) (a c : Server D L K) → Stops view takes fails faults story counts end (accepts_in i) a c
+      → Stops view takes fails faults story counts end (responds r (Some i) now) a c
+  accept_stops r i now end a c stops =
+      stops_as view takes fails faults story counts end (accepts_in i >> replies r now (step (node_of a.kept) i).answer (back_to (sender_of i) (step (node_of a.kept) i).sends)) (responds r (Some i) now) a c (λ honest. refl)
+      (stops_in view takes fails faults story counts end (accepts_in i) (replies r now (step (node_of a.kept) i).answer (back_to (sender_of i) (step (node_of a.kept) i).sends)) a c stops)

@@ -24,6 +24,7 @@ use Rattle.oc_server.specs.Looks.{Renews}
 use Rattle.oc_server.specs.Scenes.{AreDone, Breaks, BreaksBehind, Did, HasCause, IsPlaced, IsServing, KeepsAll, LeavesAt, LeavesUnder, Under, Idle, Taking, Noting, WritesAt, running, setting, under_line}
 use Rattle.oc_server.specs.declared.ends.TurnEnd.{TurnEnd}
 use Rattle.oc_server.specs.declared.ends.TurnEnd.TheVariants as ends
+use Rattle.oc_server.specs.declared.log.Log.{Log}
 use Rattle.oc_server.specs.declared.server.Server.{Server}
 use Rattle.oc_server.proofs.Chains.{after_append, calls_append, counts_append, counts_listening, inputs_append, lines_append, nodes_behind}
 use Rattle.oc_server.proofs.Looking.{go_on_none, keeps_no_fall, keeps_then, looks_none, named}
@@ -50,6 +51,7 @@ module _ {D L K : Type 0} (view : D → DiskView) (takes fails : K → List ℕ 
     is_open = is_open;
     same = record { me = refl; header = refl };
     config = refl;
+    log = refl;
     goes_on = go_on_none view (disks_of a.kept);
     no_fall = omega arith;
     counted = refl;
@@ -61,18 +63,19 @@ module _ {D L K : Type 0} (view : D → DiskView) (takes fails : K → List ℕ 
 
   -- Deeds behind deeds
 
-  -- which node it is, at which addresses
-  pub setting_stays : (a b : Server D L K) → IsSameNode a.kept.node.control b.kept.node.control → b.config ≡ a.config → setting b ≡ setting a
-  setting_stays a b same config =
-      ap (λ (me : ℕ). record { me = me; addresses = b.config.addresses; key = b.config.key }) same.me
-      ∙ ap (λ (c : Settings). record { me = a.kept.node.control.me; addresses = c.addresses; key = c.key }) config
+  -- which node it is, at which addresses, and what it writes
+  pub setting_stays : (a b : Server D L K) → IsSameNode a.kept.node.control b.kept.node.control → b.config ≡ a.config → b.log ≡ a.log → setting b ≡ setting a
+  setting_stays a b same config log =
+      ap (λ (me : ℕ). record { me = me; addresses = b.config.addresses; key = b.config.key; log = b.log }) same.me
+      ∙ ap (λ (c : Settings). record { me = a.kept.node.control.me; addresses = c.addresses; key = c.key; log = b.log }) config
+      ∙ ap (λ (x : Log). record { me = a.kept.node.control.me; addresses = a.config.addresses; key = a.config.key; log = x }) log
 
   -- the lines behind lines, told of the same node
-  text_then : (takes_then : (a b c : K) (x y : List ℕ) → takes a x b → takes b y c → takes a (x ++ y) c) (me other : ℕ) (ds es : List Deed) (a b c : K)
-      → other ≡ me → takes a (lines me ds) b → takes b (lines other es) c → takes a (lines me (ds ++ es)) c
-  text_then takes_then me other ds es a b c same first second =
-      subst (λ (t : List ℕ). takes a t c) (sym (lines_append me ds es))
-      (takes_then a b c (lines me ds) (lines me es) first (subst (λ (x : ℕ). takes b (lines x es) c) same second))
+  text_then : (takes_then : (a b c : K) (x y : List ℕ) → takes a x b → takes b y c → takes a (x ++ y) c) (s other : Setting) (ds es : List Deed) (a b c : K)
+      → other ≡ s → takes a (lines s ds) b → takes b (lines other es) c → takes a (lines s (ds ++ es)) c
+  text_then takes_then s other ds es a b c same first second =
+      subst (λ (t : List ℕ). takes a t c) (sym (lines_append s ds es))
+      (takes_then a b c (lines s ds) (lines s es) first (subst (λ (x : Setting). takes b (lines x es) c) same second))
 
   pub did_then : (takes_then : (a b c : K) (x y : List ℕ) → takes a x b → takes b y c → takes a (x ++ y) c) (ds es : List Deed) (a b c : Server D L K)
       → Did view takes faults story counts ds a b → Did view takes faults story counts es b c → Did view takes faults story counts (ds ++ es) a c
@@ -80,14 +83,15 @@ module _ {D L K : Type 0} (view : D → DiskView) (takes fails : K → List ℕ 
     is_open = second.is_open;
     same = record { me = second.same.me ∙ first.same.me; header = second.same.header ∙ first.same.header };
     config = second.config ∙ first.config;
+    log = second.log ∙ first.log;
     goes_on = all_go_on_then view (disks_of a.kept) (disks_of b.kept) (disks_of c.kept) first.goes_on second.goes_on;
     no_fall = omega (arith, first.no_fall, second.no_fall);
     counted = counts_append ds es (counts a.link) (counts b.link) (counts c.link) first.counted second.counted;
     keeps = subst (λ (is : List Input). KeepsAll view is a.kept c.kept) (sym (inputs_append ds es)) (keeps_then view (inputs_of ds) (inputs_of es) a.kept b.kept c.kept first.keeps second.keeps);
     lawful = λ lawful. second.lawful (first.lawful lawful);
-    text = text_then takes_then a.kept.node.control.me b.kept.node.control.me ds es a.sink b.sink c.sink first.same.me first.text second.text;
+    text = text_then takes_then (setting a) (setting b) ds es a.sink b.sink c.sink (setting_stays a b first.same first.config first.log) first.text second.text;
     done = λ honest. done_then (setting a) ds es (running a) (running b) (running c) (story a.link) (story b.link) (story c.link) (first.done honest)
-        (subst (λ (s : Setting). AreDone s es (running b) (running c) (story b.link) (story c.link)) (setting_stays a b first.same first.config)
+        (subst (λ (s : Setting). AreDone s es (running b) (running c) (story b.link) (story c.link)) (setting_stays a b first.same first.config first.log)
         (second.done (all_honest view (disks_of a.kept) (disks_of b.kept) first.goes_on honest)));
   }
 
@@ -164,10 +168,10 @@ module _ {D L K : Type 0} (view : D → DiskView) (takes fails : K → List ℕ 
   -- the lines of the deeds were written, and where the output failed some prefix of the one under way
   pub broken_text : (takes_then : (a b c : K) (x y : List ℕ) → takes a x b → takes b y c → takes a (x ++ y) c) (takes_fails : (a b c : K) (x y : List ℕ) → takes a x b → fails b y c → fails a (x ++ y) c)
       → (ds : List Deed) (under : Under) (end : TurnEnd) (a c : Server D L K) → BreaksBehind view takes fails faults story counts end ds under a c
-      → WritesAt takes fails a.sink c.sink end (lines a.kept.node.control.me ds) (under_line a.kept.node.control.me under)
+      → WritesAt takes fails a.sink c.sink end (lines (setting a) ds) (under_line (setting a) under)
   broken_text takes_then takes_fails ds under end a c (b, did, breaks) =
-      write_then takes_then takes_fails a.sink b.sink c.sink end (lines a.kept.node.control.me ds) (under_line a.kept.node.control.me under) did.text
-      (subst (λ (me : ℕ). WritesAt takes fails b.sink c.sink end [] (under_line me under)) did.same.me breaks.text)
+      write_then takes_then takes_fails a.sink b.sink c.sink end (lines (setting a) ds) (under_line (setting a) under) did.text
+      (subst (λ (s : Setting). WritesAt takes fails b.sink c.sink end [] (under_line s under)) (setting_stays a b did.same did.config did.log) breaks.text)
 
   cause_of : (a b c : KeptView D) (end : TurnEnd) (under : Under) (x y z : K) (p q r : Counts) → AllGoOn view (disks_of a) (disks_of b) → NoFall (faults x) (faults y) → q.listening ≡ p.listening
       → HasCause view faults end under b c y z q r → HasCause view faults end under a c x z p r

@@ -34,22 +34,23 @@ use Rattle.oc_server.proofs.Scenes.{done_none}
 module _ {D L K : Type 0} (view : D → DiskView) (takes fails : K → List ℕ → K → Type 0) (faults : K → ℕ) (story : L → Option (List Call)) (counts : L → Counts) where
   -- One deed that takes no input
 
-  pub did_step : (d : Deed) (old new : Server D L K) → input_of d ≡ None → new.config ≡ old.config
-      → takes old.sink (line old.kept.node.control.me d) new.sink → NoFall (faults old.sink) (faults new.sink)
+  pub did_step : (d : Deed) (old new : Server D L K) → input_of d ≡ None → new.config ≡ old.config → new.log ≡ old.log
+      → takes old.sink (line (setting old) d) new.sink → NoFall (faults old.sink) (faults new.sink)
       → CountsAll (d ∷ []) (counts old.link) (counts new.link) → LooksOnly view old.kept new.kept → (IsLawful old → IsLawful new)
       → (IsHonest view old.kept → running new ≡ after d (running old))
       → (IsHonest view old.kept → AddsAll (calls (setting old) d (running old)) (story old.link) (story new.link))
       → Did view takes faults story counts (d ∷ []) old new
-  did_step d old new none config text few counted looks lawful is made = record {
+  did_step d old new none config log text few counted looks lawful is made = record {
     is_open = looks.is_open;
     same = looks.same;
     config = config;
+    log = log;
     goes_on = looks.goes_on;
     no_fall = few;
     counted = counted;
     keeps = subst (λ (o : Option Input). KeepsAll view (with_input o []) old.kept new.kept) (sym none) looks;
     lawful = lawful;
-    text = subst (λ (t : List ℕ). takes old.sink t new.sink) (sym (append-nil (line old.kept.node.control.me d))) text;
+    text = subst (λ (t : List ℕ). takes old.sink t new.sink) (sym (append-nil (line (setting old) d))) text;
     done = λ honest. record {
       after = is honest;
       calls = subst (λ (cs : List Call). AddsAll cs (story old.link) (story new.link)) (sym (append-nil (calls (setting old) d (running old)))) (made honest);
@@ -57,34 +58,34 @@ module _ {D L K : Type 0} (view : D → DiskView) (takes fails : K → List ℕ 
   }
 
   -- one that changes what is under way and the link
-  pub did_works : (takes_nothing : (k : K) → takes k [] k) (d : Deed) (old : Server D L K) (ws : List Work) (link : L) → input_of d ≡ None → line old.kept.node.control.me d ≡ []
+  pub did_works : (takes_nothing : (k : K) → takes k [] k) (d : Deed) (old : Server D L K) (ws : List Work) (link : L) → input_of d ≡ None → line (setting old) d ≡ []
       → old.kept.closed ≡ false → CountsAll (d ∷ []) (counts old.link) (counts link)
       → (AllByRecursion (IsLawfulWork old.kept.node.control.nodes old.kept.node.control.me) old.works → AllByRecursion (IsLawfulWork old.kept.node.control.nodes old.kept.node.control.me) ws)
       → record (running old) { works = ws } ≡ after d (running old) → AddsAll (calls (setting old) d (running old)) (story old.link) (story link)
       → Did view takes faults story counts (d ∷ []) old (record old { works = ws; link = link })
   did_works takes_nothing d old ws link none silent is_open counted lawful is made =
-      did_step d old (record old { works = ws; link = link }) none refl (subst (λ (t : List ℕ). takes old.sink t old.sink) (sym silent) (takes_nothing old.sink)) (omega arith)
+      did_step d old (record old { works = ws; link = link }) none refl refl (subst (λ (t : List ℕ). takes old.sink t old.sink) (sym silent) (takes_nothing old.sink)) (omega arith)
       counted (looks_none view old.kept is_open) (lawful_of old (record old { works = ws; link = link }) (record { me = refl; header = refl }) (λ all. all) lawful (λ all. all)) (λ honest. is) (λ honest. made)
 
   -- one that writes a line, and changes what is under way and the link
   pub did_line : (d : Deed) (old : Server D L K) (sink : K) (ws : List Work) (link : L) → input_of d ≡ None
-      → old.kept.closed ≡ false → CountsAll (d ∷ []) (counts old.link) (counts link) → takes old.sink (line old.kept.node.control.me d) sink → NoFall (faults old.sink) (faults sink)
+      → old.kept.closed ≡ false → CountsAll (d ∷ []) (counts old.link) (counts link) → takes old.sink (line (setting old) d) sink → NoFall (faults old.sink) (faults sink)
       → (AllByRecursion (IsLawfulWork old.kept.node.control.nodes old.kept.node.control.me) old.works → AllByRecursion (IsLawfulWork old.kept.node.control.nodes old.kept.node.control.me) ws)
       → record (running old) { works = ws } ≡ after d (running old) → AddsAll (calls (setting old) d (running old)) (story old.link) (story link)
       → Did view takes faults story counts (d ∷ []) old (record old { sink = sink; works = ws; link = link })
   did_line d old sink ws link none is_open counted text few lawful is made =
-      did_step d old (record old { sink = sink; works = ws; link = link }) none refl text few counted (looks_none view old.kept is_open)
+      did_step d old (record old { sink = sink; works = ws; link = link }) none refl refl text few counted (looks_none view old.kept is_open)
       (lawful_of old (record old { sink = sink; works = ws; link = link }) (record { me = refl; header = refl }) (λ all. all) lawful (λ all. all)) (λ honest. is) (λ honest. made)
 
   -- one behind a look that changes what is under way and the link
-  pub did_given : (takes_nothing : (k : K) → takes k [] k) (d : Deed) (old : Server D L K) (kept : KeptView D) (ws left : List Work) (link : L) → input_of d ≡ None → line old.kept.node.control.me d ≡ []
+  pub did_given : (takes_nothing : (k : K) → takes k [] k) (d : Deed) (old : Server D L K) (kept : KeptView D) (ws left : List Work) (link : L) → input_of d ≡ None → line (setting old) d ≡ []
       → LooksOnly view old.kept kept → CountsAll (d ∷ []) (counts old.link) (counts link)
       → (AllByRecursion (IsLawfulWork old.kept.node.control.nodes old.kept.node.control.me) old.works → AllByRecursion (IsLawfulWork old.kept.node.control.nodes old.kept.node.control.me) ws)
       → after d (running old) ≡ record (running old) { works = left } → (IsHonest view old.kept → ws ≡ left)
       → (IsHonest view old.kept → AddsAll (calls (setting old) d (running old)) (story old.link) (story link))
       → Did view takes faults story counts (d ∷ []) old (record old { kept = kept; works = ws; link = link })
   did_given takes_nothing d old kept ws left link none silent looks counted lawful behind is made =
-      did_step d old (record old { kept = kept; works = ws; link = link }) none refl (subst (λ (t : List ℕ). takes old.sink t old.sink) (sym silent) (takes_nothing old.sink)) (omega arith)
+      did_step d old (record old { kept = kept; works = ws; link = link }) none refl refl (subst (λ (t : List ℕ). takes old.sink t old.sink) (sym silent) (takes_nothing old.sink)) (omega arith)
       counted looks (lawful_of old (record old { kept = kept; works = ws; link = link }) looks.same (λ all. all) lawful (λ all. all))
       (λ honest.
       ap (λ (n : Node). record { node = n; outbox = old.outbox; works = ws; dials = old.dials }) (looks.node honest)
@@ -92,13 +93,14 @@ module _ {D L K : Type 0} (view : D → DiskView) (takes fails : K → List ℕ 
       ∙ sym behind) made
 
   -- none, and the files were looked at
-  pub did_look : (takes_nothing : (k : K) → takes k [] k) (old new : Server D L K) → new.config ≡ old.config → new.sink ≡ old.sink → new.link ≡ old.link
+  pub did_look : (takes_nothing : (k : K) → takes k [] k) (old new : Server D L K) → new.config ≡ old.config → new.log ≡ old.log → new.sink ≡ old.sink → new.link ≡ old.link
       → new.outbox ≡ old.outbox → new.works ≡ old.works → new.dials ≡ old.dials → (IsLawful old → IsLawful new)
       → LooksOnly view old.kept new.kept → Did view takes faults story counts [] old new
-  did_look takes_nothing old new config sink link outbox works dials lawful looks = record {
+  did_look takes_nothing old new config log sink link outbox works dials lawful looks = record {
     is_open = looks.is_open;
     same = looks.same;
     config = config;
+    log = log;
     goes_on = looks.goes_on;
     no_fall = subst (λ (k : K). NoFall (faults old.sink) (faults k)) (sym sink) (omega arith);
     counted = ap counts link;

@@ -24,9 +24,9 @@ use Rattle.oc_model.specs.declared.input.Input.{Input}
 use Rattle.oc_model.specs.declared.input.Input.TheVariants as inputs
 use Rattle.oc_model.specs.declared.message.Message.{Message}
 use Rattle.oc_node.specs.OutcomeView.{OutcomeView}
-use Rattle.oc_routes.specs.Inputs.{HasLine, input_line}
+use Rattle.oc_routes.specs.Inputs.{HasLine}
 use Rattle.oc_wire.specs.Spelling.{HasSpelling}
-use Rattle.oc_server.specs.Deeds.{Accepts, Deed, Running, Takes, after, calls, for_outbox, input_of, line, sender_of, with_input}
+use Rattle.oc_server.specs.Deeds.{Accepts, Deed, Running, Takes, after, calls, for_outbox, input_of, line, sender_of, taken_line, with_input}
 use Rattle.oc_server.specs.Noting.{LineStops}
 use Rattle.oc_server.specs.Outboxes.{with_messages}
 use Rattle.oc_server.specs.Scenes.{Breaks, CountsAll, Did, IsFront, IsLawfulDial, IsLawfulWork, KeepStops, KeepsAll, KeepsOne, Taking, end_of, running, setting}
@@ -92,17 +92,18 @@ module _ {D : Type 0} (view : D → DiskView) (law : Law view) (old new : KeptVi
 module _ {D L K : Type 0} (view : D → DiskView) (takes fails : K → List ℕ → K → Type 0) (faults : K → ℕ) (story : L → Option (List Call)) (counts : L → Counts) where
   -- an input was taken with its line, and these of its messages went to the outbox
   did_input : (d : Deed) (i : Input) (outcome : OutcomeView) (kept : List Message → List Message) (old new : Server D L K)
-      → (KeepsAll view (i ∷ []) old.kept new.kept → KeepsAll view (with_input (input_of d) []) old.kept new.kept) → line old.kept.node.control.me d ≡ input_line old.kept.node.control.me i
+      → (KeepsAll view (i ∷ []) old.kept new.kept → KeepsAll view (with_input (input_of d) []) old.kept new.kept) → line (setting old) d ≡ taken_line old.log old.kept.node.control.me i
       → ((a : Running) → after d a ≡ record a { node = (step a.node i).node; outbox = with_messages a.outbox (kept (step a.node i).sends) }) → ((a : Running) → calls (setting old) d a ≡ [])
       → CountsAll (d ∷ []) (counts old.link) (counts old.link)
       → ((ms : List Message) → AreSendable old.kept.node.control.nodes ms → AreSendable old.kept.node.control.nodes (kept ms))
-      → old.kept.closed ≡ false → KeepsOne view i outcome old.kept new.kept → takes old.sink (input_line old.kept.node.control.me i) new.sink → NoFall (faults old.sink) (faults new.sink)
-      → new.config ≡ old.config → new.link ≡ old.link → new.works ≡ old.works → new.dials ≡ old.dials → new.outbox ≡ with_messages old.outbox (kept outcome.sends)
+      → old.kept.closed ≡ false → KeepsOne view i outcome old.kept new.kept → takes old.sink (taken_line old.log old.kept.node.control.me i) new.sink → NoFall (faults old.sink) (faults new.sink)
+      → new.config ≡ old.config → new.log ≡ old.log → new.link ≡ old.link → new.works ≡ old.works → new.dials ≡ old.dials → new.outbox ≡ with_messages old.outbox (kept outcome.sends)
       → Did view takes faults story counts (d ∷ []) old new
-  did_input d i outcome kept old new input lined behind silent counted can is_open keeps text few config link works dials outbox = record {
+  did_input d i outcome kept old new input lined behind silent counted can is_open keeps text few config log link works dials outbox = record {
     is_open = keeps.is_open;
     same = keeps.same;
     config = config;
+    log = log;
     goes_on = keeps.goes_on;
     no_fall = few;
     counted = subst (λ (l : L). CountsAll (d ∷ []) (counts old.link) (counts l)) (sym link) counted;
@@ -111,7 +112,7 @@ module _ {D L K : Type 0} (view : D → DiskView) (takes fails : K → List ℕ 
         (λ before. subst (λ (ms : List Message). AreSendable old.kept.node.control.nodes ms) (sym outbox) (with_sendable old.kept.node.control.nodes old.outbox (kept outcome.sends) before (can outcome.sends keeps.sendable)))
         (λ before. subst (λ (ws : List Work). AllByRecursion (IsLawfulWork old.kept.node.control.nodes old.kept.node.control.me) ws) (sym works) before)
         (λ before. subst (λ (ds : List Dialling). AllByRecursion (IsLawfulDial old.kept.node.control.nodes) ds) (sym dials) before);
-    text = subst (λ (t : List ℕ). takes old.sink t new.sink) (sym (append-nil (line old.kept.node.control.me d) ∙ lined)) text;
+    text = subst (λ (t : List ℕ). takes old.sink t new.sink) (sym (append-nil (line (setting old) d) ∙ lined)) text;
     done = λ honest. record {
       after = is honest ∙ sym (behind (running old));
       calls = subst (λ (cs : List Call). AddsAll cs (story old.link) (story new.link)) (sym (append-nil (calls (setting old) d (running old)) ∙ silent (running old)))
@@ -130,15 +131,15 @@ module _ {D L K : Type 0} (view : D → DiskView) (takes fails : K → List ℕ 
 
   -- all messages went to the outbox
   pub did_take : (i : Input) (outcome : OutcomeView) (old new : Server D L K) → old.kept.closed ≡ false → KeepsOne view i outcome old.kept new.kept
-      → takes old.sink (input_line old.kept.node.control.me i) new.sink → NoFall (faults old.sink) (faults new.sink)
-      → new.config ≡ old.config → new.link ≡ old.link → new.works ≡ old.works → new.dials ≡ old.dials → new.outbox ≡ with_messages old.outbox outcome.sends
+      → takes old.sink (taken_line old.log old.kept.node.control.me i) new.sink → NoFall (faults old.sink) (faults new.sink)
+      → new.config ≡ old.config → new.log ≡ old.log → new.link ≡ old.link → new.works ≡ old.works → new.dials ≡ old.dials → new.outbox ≡ with_messages old.outbox outcome.sends
       → Did view takes faults story counts (Takes i ∷ []) old new
   did_take i outcome old new = did_input (Takes i) i outcome (λ ms. ms) old new (λ k. k) refl (λ a. refl) (λ a. refl) refl (λ ms all. all)
 
   -- all but what goes back to the sender
   pub did_accept : (i : Input) (outcome : OutcomeView) (old new : Server D L K) → old.kept.closed ≡ false → KeepsOne view i outcome old.kept new.kept
-      → takes old.sink (input_line old.kept.node.control.me i) new.sink → NoFall (faults old.sink) (faults new.sink)
-      → new.config ≡ old.config → new.link ≡ old.link → new.works ≡ old.works → new.dials ≡ old.dials → new.outbox ≡ with_messages old.outbox (for_outbox i outcome.sends)
+      → takes old.sink (taken_line old.log old.kept.node.control.me i) new.sink → NoFall (faults old.sink) (faults new.sink)
+      → new.config ≡ old.config → new.log ≡ old.log → new.link ≡ old.link → new.works ≡ old.works → new.dials ≡ old.dials → new.outbox ≡ with_messages old.outbox (for_outbox i outcome.sends)
       → Did view takes faults story counts (Accepts i ∷ []) old new
   did_accept i outcome old new = did_input (Accepts i) i outcome (for_outbox i) old new (λ k. k) refl (λ a. refl) (λ a. refl) refl (λ ms all. kept_sendable old.kept.node.control.nodes ms (sender_of i) all)
 
@@ -165,7 +166,7 @@ module _ {D L K : Type 0} (view : D → DiskView) (takes fails : K → List ℕ 
 
   -- the output failed in the line of an input that the files have
   pub write_breaks : (end : TurnEnd) (i : Input) (outcome : OutcomeView) (old new : Server D L K) → story new.link ≡ story old.link → counts new.link ≡ counts old.link
-      → KeepsOne view i outcome old.kept new.kept → LineStops fails faults end (input_line old.kept.node.control.me i) old.sink new.sink
+      → KeepsOne view i outcome old.kept new.kept → LineStops fails faults end (taken_line old.log old.kept.node.control.me i) old.sink new.sink
       → Breaks view takes fails faults story counts end (Taking i) old new
   write_breaks ends.Sink i outcome old new told counted kept (front, is, failed, rose) = record {
     text = (front, is, failed);
@@ -189,7 +190,7 @@ module _ {D L K : Type 0} (view : D → DiskView) (takes fails : K → List ℕ 
 
 module _ {D L K : Type 0} (view : D → DiskView) (takes fails : K → List ℕ → K → Type 0) (faults : K → ℕ) (story : L → Option (List Call)) (counts : L → Counts) where
   -- the same of a line that is another text
-  pub write_breaks_as : (end : TurnEnd) (i : Input) (outcome : OutcomeView) (old new : Server D L K) (text : List ℕ) → text ≡ input_line old.kept.node.control.me i → story new.link ≡ story old.link → counts new.link ≡ counts old.link
+  pub write_breaks_as : (end : TurnEnd) (i : Input) (outcome : OutcomeView) (old new : Server D L K) (text : List ℕ) → text ≡ taken_line old.log old.kept.node.control.me i → story new.link ≡ story old.link → counts new.link ≡ counts old.link
       → KeepsOne view i outcome old.kept new.kept → LineStops fails faults end text old.sink new.sink
       → Breaks view takes fails faults story counts end (Taking i) old new
   write_breaks_as end i outcome old new text same told counted kept stops =

@@ -99,6 +99,7 @@ module _ {D L K : Type 0} (view : D → DiskView) (takes fails : K → List ℕ 
     is_open = did.is_open;
     same = did.same;
     config = did.config;
+    log = did.log;
     goes_on = did.goes_on;
     no_fall = did.no_fall;
     counted = did.counted;

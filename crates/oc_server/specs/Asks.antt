@@ -21,9 +21,10 @@ use Rattle.oc_routes.specs.declared.refused.Refused.{Refused}
 use Rattle.oc_routes.specs.declared.response.Response.{Response}
 use Rattle.oc_routes.specs.declared.routes.Operation.{Operation}
 use Rattle.oc_routes.specs.declared.routes.Operation.TheVariants as asks
-use Rattle.oc_server.specs.Deeds.{Accepts, BreaksOff, Permits, Refuses, Replies, Running, Setting, Waits, back_to, sender_of}
+use Rattle.oc_server.specs.Deeds.{BreaksOff, Permits, Refuses, Replies, Running, Setting, Waits, back_to, sender_of}
 use Rattle.oc_server.specs.Parts.{Part, nothing, one, ◌>>◌}
 use Rattle.oc_server.specs.Rooms.{goes_on}
+use Rattle.oc_server.specs.Telling.{accepts_in}
 use Rattle.oc_server.specs.Works.{client_input, pending}
 use Rattle.oc_server.specs.declared.taking_up.Due.{Due}
 use Rattle.oc_server.specs.declared.taking_up.Due.TheVariants as dues
@@ -56,7 +57,7 @@ replies r now answer back s a = Replies r (response_now r answer back s a) now �
 -- its input is taken, and the answer of its step is what it is answered; without an input it is answered at once
 abbrev pub responds : Pending → Option Input → ℕ → Part
 responds r None now s a = replies r now answers.Ok None s a
-responds r (Some i) now s a = (one (Accepts i) >> replies r now (step a.node i).answer (back_to (sender_of i) (step a.node i).sends)) s a
+responds r (Some i) now s a = (accepts_in i >> replies r now (step a.node i).answer (back_to (sender_of i) (step a.node i).sends)) s a
 
 -- the answer that a request with this input would have now
 abbrev pub answer_now : Option Input → Node → Answer

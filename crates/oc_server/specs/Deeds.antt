@@ -33,17 +33,20 @@ use Rattle.oc_server.specs.Works.{without}
 use Rattle.oc_server.specs.declared.dials.Dialling.{Dialling}
 use Rattle.oc_server.specs.declared.dials.Errand.{Errand}
 use Rattle.oc_server.specs.declared.dials.Errand.TheVariants as errands
+use Rattle.oc_server.specs.declared.log.Log.{Log}
+use Rattle.oc_server.specs.declared.log.Log.TheVariants.{Brief, Inputs}
 use Rattle.oc_server.specs.declared.work.Pending.{Pending}
 use Rattle.oc_server.specs.declared.work.Place.{Place}
 use Rattle.oc_server.specs.declared.work.Waiting.{Waiting}
 use Rattle.oc_server.specs.declared.work.Work.{Work}
 use Rattle.oc_server.specs.declared.work.Work.TheVariants as works
 
--- which node it is, the addresses of all by their ids, and the key of the network, where it has one
+-- which node it is, the addresses of all by their ids, the key of the network, where it has one, and what is written of inputs
 pub record Setting : Type 0 where
   pub me : ℕ
   pub addresses : List (List ℕ)
   pub key : Option (List ℕ)
+  pub log : Log
 
 abbrev pub address_at : List (List ℕ) → ℕ → List ℕ
 address_at addresses node = slice_index_or addresses (node - 1) []
@@ -65,10 +68,12 @@ pub data Deed : Type 0 where
   Reads : ℕ → Deed
   -- the clock gave this number of seconds
   Tells : ℕ → Deed
-  -- an input was taken, and its line was written; its messages go to the outbox
+  -- an input was taken, and its line was written, where each has one; its messages go to the outbox
   Takes : Input → Deed
   -- the same for the input of a request: a message back to its sender is the reply
   Accepts : Input → Deed
+  -- what is told of an input was written: these lines, or none
+  Says : List ℕ → Deed
   -- the line `! WHY` was written
   Notes : List ℕ → Deed
   -- a connection was given the permission to send the body of its request
@@ -102,14 +107,20 @@ note_line why = codes "! " ++ why ++ codes "\n"
 abbrev pub drop_line : Bool → List ℕ
 drop_line told = if told then note_line (codes "write") else []
 
--- the line of a deed of the node me
-abbrev pub line : ℕ → Deed → List ℕ
-line me (Takes i) = input_line me i
-line me (Accepts i) = input_line me i
-line me (Notes why) = note_line why
-line me (Refuses c count why) = note_line (why_text why)
-line me (Drops c told) = drop_line told
-line me d = []
+-- the line of an input that is taken
+abbrev pub taken_line : Log → ℕ → Input → List ℕ
+taken_line Inputs me i = input_line me i
+taken_line Brief me i = []
+
+-- the lines of a deed
+abbrev pub line : Setting → Deed → List ℕ
+line s (Takes i) = taken_line s.log s.me i
+line s (Accepts i) = taken_line s.log s.me i
+line s (Says text) = text
+line s (Notes why) = note_line why
+line s (Refuses c count why) = note_line (why_text why)
+line s (Drops c told) = drop_line told
+line s d = []
 
 -- What a content gives
 
@@ -251,9 +262,9 @@ abbrev pub after_all : List Deed → Running → Running
 after_all [] a = a
 after_all (d ∷ ds) a = after_all ds (after d a)
 
-abbrev pub lines : ℕ → List Deed → List ℕ
-lines me [] = []
-lines me (d ∷ ds) = line me d ++ lines me ds
+abbrev pub lines : Setting → List Deed → List ℕ
+lines s [] = []
+lines s (d ∷ ds) = line s d ++ lines s ds
 
 abbrev pub calls_of : Setting → List Deed → Running → List Call
 calls_of s [] a = []

@@ -23,12 +23,13 @@ use Rattle.oc_server.specs.Deeds.{Accepts, Deed, Dials, Drops, Gives, Notes, Rep
 use Rattle.oc_server.specs.Dials.{dialling}
 use Rattle.oc_server.specs.declared.dials.Errand.TheVariants as errands
 use Rattle.oc_server.specs.declared.work.Pending.{Pending}
+use Rattle.oc_server.specs.declared.log.Log.TheVariants.{Inputs}
 use Rattle.oc_server.specs.declared.work.Place.{Place}
 use Rattle.oc_server.specs.declared.work.Work.TheVariants as works
 
 -- node 1 of 2, at these addresses
 abbrev example : Setting
-example = record { me = 1; addresses = codes "a:1" ∷ codes "b:2" ∷ []; key = None }
+example = record { me = 1; addresses = codes "a:1" ∷ codes "b:2" ∷ []; key = None; log = Inputs }
 
 -- node 1, new, with these messages to send
 abbrev started : List Message → Running
@@ -88,10 +89,10 @@ reply = events.Reply 3 Ended
 pub record AreRuns : Type 0 where
   pub published_calls : calls_of example publish (started [])
       ≡ acts.Next (came 7) (codes "POST") ∷ acts.Take 7 43 ∷ acts.Give 7 (codes "200") ∷ acts.Finish 7 (record { keeps = false; watched = true }) ∷ []
-  pub published_lines : lines 1 publish ≡ input_line 1 (inputs.Publish (codes "/a") (codes "abc")) ++ []
+  pub published_lines : lines example publish ≡ input_line 1 (inputs.Publish (codes "/a") (codes "abc")) ++ []
   pub published_bytes : bytes_of (codes "/a") published.node.groups ≡ codes "abc"
   pub published_works : published.works ≡ []
-  pub noted_lines : lines 1 (Notes (codes "ended") ∷ Drops 7 true ∷ Drops 8 false ∷ []) ≡ codes "! ended\n! write\n"
+  pub noted_lines : lines example (Notes (codes "ended") ∷ Drops 7 true ∷ Drops 8 false ∷ []) ≡ codes "! ended\n! write\n"
   pub content_calls : calls_of example content published
       ≡ acts.Take 8 40 ∷ acts.Give 8 (codes "200:abc") ∷ acts.Give 8 (codes "def") ∷ acts.Finish 8 (record { keeps = true; watched = true }) ∷ []
   pub content_left : (after_all (head_deed ∷ []) published).works ≡ works.Content left ∷ []

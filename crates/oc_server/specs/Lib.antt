@@ -4,6 +4,7 @@ pub mod Dials
 pub mod Outboxes
 pub mod Sending
 pub mod Looks
+pub mod Brief
 pub mod Deeds
 pub mod Scenes
 pub mod Noting
@@ -11,6 +12,7 @@ pub mod Giving
 pub mod Examples
 pub mod Choices
 pub mod Parts
+pub mod Telling
 pub mod Rooms
 pub mod Sends
 pub mod Brought
@@ -20,6 +22,7 @@ pub mod Turns
 pub mod Runs
 pub mod Lawful
 pub mod TurnExamples
+pub mod BriefExamples
 pub mod Replying
 pub mod ReplyExamples
 pub mod Settled

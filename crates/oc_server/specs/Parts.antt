@@ -5,7 +5,7 @@ use Rattle.oc_events.specs.declared.counts.Counts.{Counts}
 use Rattle.oc_io.specs.DiskView.{DiskView}
 use Rattle.oc_keep.specs.KeptView.{IsHonest}
 use Rattle.oc_routes.specs.Refusals.{why_text}
-use Rattle.oc_server.specs.Deeds.{Deed, Takes, Accepts, Notes, Refuses, Drops, Running, Setting, after_all, note_line}
+use Rattle.oc_server.specs.Deeds.{Deed, Takes, Accepts, Says, Notes, Refuses, Drops, Running, Setting, after_all, note_line}
 use Rattle.oc_server.specs.Scenes.{BreaksBehind, Did, Idle, Noting, Taking, Under, running, setting}
 use Rattle.oc_server.specs.declared.ends.TurnEnd.{TurnEnd}
 use Rattle.oc_server.specs.declared.server.Server.{Server}
@@ -35,6 +35,7 @@ pub record Does {D L K : Type 0} (view : D → DiskView) (takes : K → List ℕ
 abbrev pub under_of : Deed → Under
 under_of (Takes i) = Taking i
 under_of (Accepts i) = Taking i
+under_of (Says text) = Noting text
 under_of (Notes why) = Noting (note_line why)
 under_of (Refuses c count why) = Noting (note_line (why_text why))
 under_of (Drops c true) = Noting (note_line (codes "write"))

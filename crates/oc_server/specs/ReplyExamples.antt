@@ -9,11 +9,12 @@ use Rattle.oc_routes.specs.declared.manner.Manner.TheVariants.{Follow}
 use Rattle.oc_routes.specs.declared.routes.Operation.TheVariants as asks
 use Rattle.oc_server.specs.Deeds.{Accepts, BreaksOff, Deed, Gives, Permits, Replies, Running, Setting, after_all, calls_of}
 use Rattle.oc_server.specs.Replying.{IsOrdered, replies}
+use Rattle.oc_server.specs.declared.log.Log.TheVariants.{Inputs}
 use Rattle.oc_server.specs.declared.work.Place.{Place}
 
 -- node 1 of 2, which holds three bytes of a group
 abbrev node_one : Setting
-node_one = record { me = 1; addresses = codes "a:1" ∷ codes "b:2" ∷ []; key = None }
+node_one = record { me = 1; addresses = codes "a:1" ∷ codes "b:2" ∷ []; key = None; log = Inputs }
 
 abbrev holds_three : Running
 holds_three = record {

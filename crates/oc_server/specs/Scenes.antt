@@ -21,9 +21,8 @@ use Rattle.oc_model.specs.Node.{Node}
 use Rattle.oc_model.specs.Step.{step}
 use Rattle.oc_node.specs.OutcomeView.{OutcomeView}
 use Rattle.oc_policy.specs.declared.deciding.TheConstants.{MAX_RULES}
-use Rattle.oc_routes.specs.Inputs.{input_line}
 use Rattle.oc_routes.specs.Lawful.{IsAsked}
-use Rattle.oc_server.specs.Deeds.{Deed, Sees, Running, Setting, after_all, calls_of, inputs_of, lines}
+use Rattle.oc_server.specs.Deeds.{Deed, Sees, Running, Setting, after_all, calls_of, inputs_of, lines, taken_line}
 use Rattle.oc_server.specs.Looks.{LooksOnly}
 use Rattle.oc_server.specs.Sending.{AreSendable}
 use Rattle.oc_server.specs.Works.{client_input}
@@ -43,7 +42,7 @@ abbrev pub running : {D L K : Type 0} → Server D L K → Running
 running s = record { node = node_of s.kept; outbox = s.outbox; works = s.works; dials = s.dials }
 
 abbrev pub setting : {D L K : Type 0} → Server D L K → Setting
-setting s = record { me = s.kept.node.control.me; addresses = s.config.addresses; key = s.config.key }
+setting s = record { me = s.kept.node.control.me; addresses = s.config.addresses; key = s.config.key; log = s.log }
 
 -- What holds between any two calls
 
@@ -118,12 +117,13 @@ pub record Did {D L K : Type 0} (view : D → DiskView) (takes : K → List ℕ 
   pub is_open : new.kept.closed ≡ false
   pub same : IsSameNode old.kept.node.control new.kept.node.control
   pub config : new.config ≡ old.config
+  pub log : new.log ≡ old.log
   pub goes_on : AllGoOn view (disks_of old.kept) (disks_of new.kept)
   pub no_fall : NoFall (faults old.sink) (faults new.sink)
   pub counted : CountsAll deeds (counts old.link) (counts new.link)
   pub keeps : KeepsAll view (inputs_of deeds) old.kept new.kept
   pub lawful : IsLawful old → IsLawful new
-  pub text : takes old.sink (lines old.kept.node.control.me deeds) new.sink
+  pub text : takes old.sink (lines (setting old) deeds) new.sink
   pub done : IsHonest view old.kept → AreDone (setting old) deeds (running old) (running new) (story old.link) (story new.link)
 
 -- What is under way where it ends
@@ -136,10 +136,10 @@ pub data Under : Type 0 where
   Noting : List ℕ → Under
 
 -- the line that is under way
-abbrev pub under_line : ℕ → Under → List ℕ
-under_line me Idle = []
-under_line me (Taking i) = input_line me i
-under_line me (Noting line) = line
+abbrev pub under_line : Setting → Under → List ℕ
+under_line s Idle = []
+under_line s (Taking i) = taken_line s.log s.me i
+under_line s (Noting line) = line
 
 -- What every crash leaves where a disk or the output failed: with one more input under way, the node before it or after it.
 abbrev pub LeavesUnder : {D : Type 0} → (D → DiskView) → KeptView D → KeptView D → Node → Under → Type 0
@@ -186,7 +186,7 @@ CountsAt end old new = new ≡ old
 
 -- It ended so at once, perhaps with one input or one line under way.
 pub record Breaks {D L K : Type 0} (view : D → DiskView) (takes fails : K → List ℕ → K → Type 0) (faults : K → ℕ) (story : L → Option (List Call)) (counts : L → Counts) (end : TurnEnd) (under : Under) (old new : Server D L K) : Type 0 where
-  pub text : WritesAt takes fails old.sink new.sink end [] (under_line old.kept.node.control.me under)
+  pub text : WritesAt takes fails old.sink new.sink end [] (under_line (setting old) under)
   pub leaves : IsHonest view old.kept → LeavesAt view old.kept new.kept end (node_of old.kept) under
   pub goes_on : AllGoOn view (disks_of old.kept) (disks_of new.kept)
   pub cause : HasCause view faults end under old.kept new.kept old.sink new.sink (counts old.link) (counts new.link)

@@ -14,7 +14,7 @@ use Rattle.oc_routes.specs.declared.manner.Manner.TheVariants.{Follow}
 use Rattle.oc_routes.specs.declared.routes.Operation.TheVariants as asks
 use Rattle.oc_server.specs.Asks.{obeys, waiting}
 use Rattle.oc_server.specs.Choices.{due_place, free_number, next_to_dial, wait_for}
-use Rattle.oc_server.specs.Deeds.{Accepts, BreaksOff, Drops, Gives, LaysAside, Permits, Reads, Running, Sees, Setting, Takes, Tells, Waits, after_all}
+use Rattle.oc_server.specs.Deeds.{Accepts, BreaksOff, Drops, Gives, LaysAside, Permits, Reads, Running, Says, Sees, Setting, Takes, Tells, Waits, after_all}
 use Rattle.oc_server.specs.Dials.{dialling}
 use Rattle.oc_server.specs.Pace.{first_pace}
 use Rattle.oc_server.specs.Rooms.{gone, room}
@@ -22,13 +22,14 @@ use Rattle.oc_server.specs.Turns.{Told, ticks, turn}
 use Rattle.oc_server.specs.declared.came.Came.TheVariants as comes
 use Rattle.oc_server.specs.declared.dials.Errand.TheVariants as errands
 use Rattle.oc_server.specs.declared.pace.Pace.{Pace}
+use Rattle.oc_server.specs.declared.log.Log.TheVariants.{Inputs}
 use Rattle.oc_server.specs.declared.work.Place.{Place}
 use Rattle.oc_server.specs.declared.work.Work.{Work}
 use Rattle.oc_server.specs.declared.work.Work.TheVariants as works
 
 -- node 1 of 2, at these addresses
 abbrev example : Setting
-example = record { me = 1; addresses = codes "a:1" ∷ codes "b:2" ∷ []; key = None }
+example = record { me = 1; addresses = codes "a:1" ∷ codes "b:2" ∷ []; key = None; log = Inputs }
 
 -- node 1, new, with this under way
 abbrev started : List Work → Running
@@ -93,7 +94,7 @@ pub record AreTurns : Type 0 where
   -- a client that follows a group and has all of it waits
   pub waits : obeys 7 40 (verdicts.Ask follows) 9 example (held []) ≡ Waits (waiting 7 follows 9) ∷ []
   -- a tick
-  pub first_tick : ticks first_pace 5 7 example (started []) ≡ Tells 7 ∷ Takes (inputs.Tick 7) ∷ []
+  pub first_tick : ticks first_pace 5 7 example (started []) ≡ Tells 7 ∷ Takes (inputs.Tick 7) ∷ Says [] ∷ []
   pub no_tick : ticks ticked_once 5 7 example (started []) ≡ []
   -- a first turn in which nothing happens
-  pub quiet_turn : turn first_pace None quiet example (started []) ≡ Reads 0 ∷ Sees events.Quiet 0 [] ∷ Reads 5 ∷ Tells 7 ∷ Takes (inputs.Tick 7) ∷ []
+  pub quiet_turn : turn first_pace None quiet example (started []) ≡ Reads 0 ∷ Sees events.Quiet 0 [] ∷ Reads 5 ∷ Tells 7 ∷ Takes (inputs.Tick 7) ∷ Says [] ∷ []

@@ -28,6 +28,7 @@ use Rattle.oc_server.specs.Pace.{after_tick, hurried, wait_until}
 use Rattle.oc_server.specs.Parts.{Part, nothing, one, ◌>>◌}
 use Rattle.oc_server.specs.Rooms.{gone, room}
 use Rattle.oc_server.specs.Sends.{sends}
+use Rattle.oc_server.specs.Telling.{takes_in}
 use Rattle.oc_server.specs.declared.came.Came.{Came}
 use Rattle.oc_server.specs.declared.came.Came.TheVariants as comes
 use Rattle.oc_server.specs.declared.choosing.TheConstants.{MAX_DIALS}
@@ -82,7 +83,7 @@ probe_note peer fault = codes "probe " ++ decimal peer ++ fault_word fault
 abbrev pub notes_fault : ℕ → ProbeFault → Part
 notes_fault peer fault s a = Notes (probe_note peer fault) ∷ []
 
--- a rate is taken with the hops of the last record
+-- a rate is taken with the hops of the last record; nothing is told of it
 abbrev pub measured : ℕ → ℕ → Part
 measured peer rate s a = Takes (inputs.Measured peer rate (reading_of a.node.control.kept.measures peer).hops) ∷ []
 
@@ -114,7 +115,7 @@ probes_next probing started s a = probes_it (next_peer probing a.dials) started 
 -- the input that results from a message's reply is taken
 abbrev pub brought : Option Input → Part
 brought None s a = []
-brought (Some i) s a = Takes i ∷ []
+brought (Some i) s a = takes_in i s a
 
 -- what is done with what came: at this time, with the median of the rates of a peer that was probed, and the time when a probe begins
 abbrev pub happens : Option Probing → Came → ℕ → ℕ → ℕ → Part
@@ -127,7 +128,7 @@ happens probing comes.Nothing now median started = probes_next probing started
 
 -- a tick is taken, where it is due
 abbrev pub ticked : ℕ → Part
-ticked seconds s a = Tells seconds ∷ Takes (inputs.Tick (min seconds MAX_TIME)) ∷ []
+ticked seconds s a = (one (Tells seconds) >> takes_in (inputs.Tick (min seconds MAX_TIME))) s a
 
 abbrev pub ticks : Pace → ℕ → ℕ → Part
 ticks pace now seconds = if wait_until pace now == 0 then ticked seconds else nothing

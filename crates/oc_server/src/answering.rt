@@ -162,7 +162,7 @@ impl<D: Disk, L: Link, K: Sink> Server<D, L, K> {
         ensures hurries { IfOk result (λ hurries. IsHonest D.view self.old.kept → hurries ≡ input_hurries pending.asked.operation (Some input) (node_of self.old.kept)) }
         ensures breaks { IfErr result (λ end. Stops D.view K.takes K.fails K.faults L.story L.counts end (responds pending (Some input) now) self.old self.new) }
     {
-        let accepted = self.accepts(input)?;
+        let accepted = self.accepts_in(input)?;
         self.gives_answer(pending, &accepted, now)?;
         Ok(hurries(&pending.asked.operation, accepted.answer))
     }

@@ -6,6 +6,9 @@
 //! done (`Did`), or how it broke (`Breaks`): why, what every crash leaves, and which part of a line was written
 //! (`specs/Scenes`). What holds between any two calls is `IsServing`.
 //!
+//! What a node writes of its inputs goes by its [`Log`]: a line for each, or what people and log collectors are told of it
+//! (`specs/Brief`).
+//!
 //! A content under way is a place in a group and not bytes ([`Place`]): each piece is read when it is given, so nothing
 //! grows with its length. A follower that has all of a group waits ([`Waiting`]). [`connections_are_given_their_replies`]
 //! says that whatever is done in whatever order, each connection is given the replies to its requests.
@@ -19,6 +22,7 @@
 
 mod answering;
 mod asking;
+mod brief;
 mod came;
 mod choosing;
 mod dialling;
@@ -27,6 +31,7 @@ mod ends;
 mod giving;
 mod hearing;
 mod law;
+mod log;
 mod noting;
 mod order_law;
 mod outbox;
@@ -38,6 +43,7 @@ mod server;
 mod serving;
 mod taking;
 mod taking_up;
+mod telling;
 mod tidying;
 mod turn_law;
 mod turns;
@@ -52,12 +58,13 @@ pub use ends::TurnEnd;
 pub use law::{
     connections_are_given_their_replies, examples_compute, what_is_given_in_chunks_is_there,
 };
+pub use log::Log;
 pub use order_law::turns_are_in_order;
 pub use outbox::Outbox;
 pub use pace::Pace;
 pub use server::Server;
 pub use taking::Accepted;
-pub use turn_law::turns_compute;
+pub use turn_law::{brief_lines_compute, turns_compute};
 pub use turns::Turns;
 pub use work::{Pending, Place, Waiting, Work};
 pub use works::Works;

@@ -47,7 +47,7 @@ pub(crate) fn comes_back(
     match errand {
         Errand::Message { to, .. } => {
             let taken = is_taken(hearer.key, &reply);
-            let input = input_of(alloc, hearer, to, reply)?;
+            let input = input_of(alloc, hearer, to, reply, taken)?;
             Ok(Came::Reply { input, taken })
         }
         Errand::Probe { peer, since } => match fault_of(reply) {
@@ -82,20 +82,23 @@ fn brings_message(key: Option<&Key>, reply: &Reply) -> bool
     reply.status == 200 && is_authentic(key, reply.mac.as_ref(), reply.body.items())
 }
 
-/// The input that results from what a peer replied to a message.
+/// The input that results from what a peer replied to a message. `taken` is whether it is a response of 200 that has its MAC,
+/// which is computed once, since it takes as long as all else.
 fn input_of(
     alloc: Global,
     hearer: &Hearer<'_>,
     peer: NodeId,
     reply: Result<Reply, HttpFault>,
+    taken: bool,
 ) -> Result<Option<Input>, Memory>
-    requires { IsNode hearer.now.nodes peer }
+    requires peer { IsNode hearer.now.nodes peer }
+    requires taken { taken ≡ is_taken (option_map (λ k. k.now) hearer.now.key) reply }
     ensures input { IfOk result (λ input. input ≡ input_of hearer.now.me hearer.now.nodes (option_map (λ k. k.now) hearer.now.key) peer reply) }
     ensures memory { OnOk result (HadMemory reply) }
     ensures lawful { IfOk result (λ input. IfSome input (IsInput hearer.now.nodes hearer.now.me)) }
 {
     match reply {
-        Ok(reply) => input_of_reply(alloc, hearer, peer, &reply),
+        Ok(reply) => input_of_reply(alloc, hearer, peer, &reply, taken),
         Err(HttpFault::Memory) => Err(Memory),
         Err(_) => Ok(Some(Input::Unreachable(peer))),
     }
@@ -107,15 +110,17 @@ fn input_of_reply(
     hearer: &Hearer<'_>,
     peer: NodeId,
     reply: &Reply,
+    brings: bool,
 ) -> Result<Option<Input>, Memory>
-    requires { IsNode hearer.now.nodes peer }
+    requires peer { IsNode hearer.now.nodes peer }
+    requires brings { brings ≡ brings_message (option_map (λ k. k.now) hearer.now.key) reply.now }
     ensures input { IfOk result (λ input. input ≡ input_of_reply hearer.now.me hearer.now.nodes (option_map (λ k. k.now) hearer.now.key) peer reply.now) }
     ensures lawful { IfOk result (λ input. IfSome input (IsInput hearer.now.nodes hearer.now.me)) }
 {
     if reply.status == 204 {
         return Ok(None);
     }
-    let message = message_in(alloc, hearer, reply)?;
+    let message = message_in(alloc, hearer, reply, brings)?;
     Ok(Some(delivered_or(peer, message)))
 }
 
@@ -130,11 +135,17 @@ fn delivered_or(peer: NodeId, message: Option<Message>) -> Input
 }
 
 /// The message of a response of 200 to this node, if it is one, and has its MAC.
-fn message_in(alloc: Global, hearer: &Hearer<'_>, reply: &Reply) -> Result<Option<Message>, Memory>
+fn message_in(
+    alloc: Global,
+    hearer: &Hearer<'_>,
+    reply: &Reply,
+    brings: bool,
+) -> Result<Option<Message>, Memory>
+    requires { brings ≡ brings_message (option_map (λ k. k.now) hearer.now.key) reply.now }
     ensures message { IfOk result (λ message. message ≡ message_in hearer.now.me hearer.now.nodes (option_map (λ k. k.now) hearer.now.key) reply.now) }
     ensures lawful { IfOk result (λ message. IfSome message (λ m. IsInput hearer.now.nodes hearer.now.me (Input.Delivered m))) }
 {
-    if brings_message(hearer.key, reply) {
+    if brings {
         message_to(alloc, hearer, reply.body.items())
     } else {
         Ok(None)

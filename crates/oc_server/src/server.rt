@@ -1,4 +1,5 @@
 use crate::dials::Dials;
+use crate::log::Log;
 use crate::outbox::Outbox;
 use crate::works::Works;
 use oc_config::Config;
@@ -21,6 +22,8 @@ pub struct Server<D: Disk, L: Link, K: Sink> {
     /// What it has dialled.
     pub dials: Dials,
     pub config: Config,
+    /// What it writes of its inputs.
+    pub log: Log,
     pub link: L,
     /// Where its lines go.
     pub sink: K,

@@ -4,14 +4,15 @@ ghost use Rattle.std.specs.Prelude.{◌≡◌, List, [], ◌∷◌, false, IfOk,
 ghost use Rattle.oc_model.specs.Lawful.{IsInput};
 ghost use Rattle.oc_model.specs.Step.{step};
 ghost use Rattle.oc_keep.specs.KeptView.{IsHonest, node_of};
-ghost use Rattle.oc_routes.specs.Inputs.{input_line};
+ghost use Rattle.oc_routes.specs.Inputs as inputs;
 ghost use Rattle.oc_wire.specs.Spelling.{HasSpelling};
-ghost use Rattle.oc_server.specs.Deeds.{Accepts, Takes, back_to, others_than, sender_of};
+ghost use Rattle.oc_server.specs.Deeds.{Accepts, Takes, back_to, others_than, sender_of, taken_line};
 ghost use Rattle.oc_server.specs.Deeds as deeds;
 ghost use Rattle.oc_server.specs.Scenes as scenes;
 ghost use Rattle.oc_server.specs.Scenes.{Breaks, Did, IsServing, KeepStops, KeepsOne, Taking};
 
 use crate::ends::TurnEnd;
+use crate::log::Log;
 use crate::noting::write_line;
 use crate::outbox::put_all;
 use crate::sendable::sendable;
@@ -34,21 +35,23 @@ pub struct Accepted {
 }
 
 impl<D: Disk, L: Link, K: Sink> Server<D, L, K> {
-    /// Takes an input: makes its frame safe, changes the node, and then writes its line. What it sends goes to the
-    /// outbox.
-    pub fn takes(&mut self, input: Input) -> Result<(), TurnEnd>
+    /// Takes an input: makes its frame safe, changes the node, and then writes its line, where each input has one. What
+    /// it sends goes to the outbox. It answers what the step does.
+    pub fn takes(&mut self, input: Input) -> Result<Answer, TurnEnd>
         requires serving { IsServing self.old }
         requires input { IsInput self.old.kept.node.control.nodes self.old.kept.node.control.me input }
         ensures did { OnOk result (Did D.view K.takes K.faults L.story L.counts (Takes input ∷ []) self.old self.new) }
+        ensures answer { IfOk result (λ answer. IsHonest D.view self.old.kept → answer ≡ (step (node_of self.old.kept) input).answer) }
         ensures breaks { IfErr result (λ end. Breaks D.view K.takes K.fails K.faults L.story L.counts end (Taking input) self.old self.new) }
     {
         self.kept.recovers();
-        let line = line_of(self.alloc, &self.kept, &input)?;
+        let line = line_of(self.alloc, self.log, &self.kept, &input)?;
         let outcome = keep(&mut self.kept, input)?;
         // Where the output fails, the disks have the input already.
         write_line(&mut self.sink, &line)?;
+        let answer = outcome.answer;
         put_all(&mut self.outbox, outcome.sends);
-        Ok(())
+        Ok(answer)
     }
 
     /// Takes the input of a request. The first message that goes back to the sender of a message is its reply, and
@@ -63,7 +66,7 @@ impl<D: Disk, L: Link, K: Sink> Server<D, L, K> {
         ensures breaks { IfErr result (λ end. Breaks D.view K.takes K.fails K.faults L.story L.counts end (Taking input) self.old self.new) }
     {
         self.kept.recovers();
-        let line = line_of(self.alloc, &self.kept, &input)?;
+        let line = line_of(self.alloc, self.log, &self.kept, &input)?;
         let sender = sender_of(&input);
         let outcome = keep(&mut self.kept, input)?;
         write_line(&mut self.sink, &line)?;
@@ -76,10 +79,26 @@ impl<D: Disk, L: Link, K: Sink> Server<D, L, K> {
     }
 }
 
-/// The line of an input of this node.
-fn line_of<D: Disk>(alloc: Global, kept: &Kept<D>, input: &Input) -> Result<Vec<u8>, Memory>
+/// The line of an input of this node that is taken; none where not each input has one.
+fn line_of<D: Disk>(
+    alloc: Global,
+    log: Log,
+    kept: &Kept<D>,
+    input: &Input,
+) -> Result<Vec<u8>, Memory>
     requires { IsInput kept.now.node.control.nodes kept.now.node.control.me input.now }
-    ensures { IfOk result (λ line. line.items ≡ input_line kept.now.node.control.me input.now) }
+    ensures { IfOk result (λ line. line.items ≡ taken_line log kept.now.node.control.me input.now) }
+{
+    match log {
+        Log::Inputs => input_line(alloc, kept, input),
+        Log::Brief => Ok(Vec::new(alloc)),
+    }
+}
+
+/// The line of an input of this node.
+fn input_line<D: Disk>(alloc: Global, kept: &Kept<D>, input: &Input) -> Result<Vec<u8>, Memory>
+    requires { IsInput kept.now.node.control.nodes kept.now.node.control.me input.now }
+    ensures { IfOk result (λ line. line.items ≡ inputs.input_line kept.now.node.control.me input.now) }
 {
     spellings_are_read();
     kept.recovers();

@@ -67,7 +67,7 @@ impl<D: Disk, L: Link, K: Sink> Server<D, L, K> {
         ensures breaks { IfErr result (λ end. Stops D.view K.takes K.fails K.faults L.story L.counts end (brought input) self.old self.new) }
     {
         match input {
-            Some(input) => self.takes(input),
+            Some(input) => self.takes_in(input),
             None => Ok(()),
         }
     }
@@ -82,7 +82,8 @@ impl<D: Disk, L: Link, K: Sink> Server<D, L, K> {
     {
         self.kept.recovers();
         let (_rate, hops) = self.kept.node().measures().get(peer);
-        self.takes(Input::Measured { peer, rate, hops })
+        let _answer = self.takes(Input::Measured { peer, rate, hops })?;
+        Ok(())
     }
 
     /// Begins the probe of a node now.
@@ -104,7 +105,7 @@ impl<D: Disk, L: Link, K: Sink> Server<D, L, K> {
         ensures breaks { IfErr result (λ end. (seconds : ℕ) × Stops D.view K.takes K.fails K.faults L.story L.counts end (ticked seconds) self.old self.new) }
     {
         let seconds = self.tells();
-        self.takes(Input::Tick(seconds.min(MAX_TIME)))
+        self.takes_in(Input::Tick(seconds.min(MAX_TIME)))
     }
 
     /// Tells why a probe took nothing.

@@ -56,7 +56,7 @@ module _ {D L K : Type 0} (view : D → DiskView) (c : Settings) (me : ℕ) (pro
   ready = record { serving = serving; probing = subst (λ (n : ℕ). IfSome turns.probing (IsMadeFor n)) (sym nodes_are) made }
 
 -- as the machine of what a node does
-pub loaded_machine : {D L K : Type 0} (view : D → DiskView) (c : Settings) (task : Task) (site : Site D L K) (turns : Turns D L K) → IsLoaded view c task.me task.probes site turns → AreHonest view (disks_in site.files)
+pub loaded_machine : {D L K : Type 0} (view : D → DiskView) (c : Settings) (task : Task) (site : Site D L K) (turns : Turns D L K) → IsLoaded view c task site turns → AreHonest view (disks_in site.files)
     → machine turns ≡ machine_on view c task (disks_in site.files)
 loaded_machine view c task site turns loaded honest =
     ap (λ (ms : List Message). record { running = record { node = node_of turns.server.kept; outbox = ms; works = turns.server.works; dials = turns.server.dials }; pace = turns.pace; probing = turns.probing }) loaded.outbox

@@ -1,5 +1,5 @@
 -- Turns of a server, as turns of the machine of what a node does.
-use Rattle.std.proofs.Common.{◌≡◌, ◌∙◌, ℕ, zero, suc, ◌+◌, Bool, false, Option, None, Some, List, [], ◌∷◌, ◌++◌, length, refl, sym, ap, ap₂, subst}
+use Rattle.std.proofs.Common.{◌≡◌, ◌∙◌, ℕ, zero, suc, Bool, false, Option, None, Some, List, [], ◌∷◌, ◌++◌, length, refl, sym, ap, ap₂, subst}
 use Rattle.oc_config.specs.Settings.{Settings}
 use Rattle.oc_events.specs.Told.{AddsAll}
 use Rattle.oc_events.specs.declared.call.Call.{Call}
@@ -118,7 +118,7 @@ module _ {D L K : Type 0} (view : D → DiskView) (takes fails : K → List ℕ 
     honest_at honest = still_honest view takes fails faults story counts turned.does.deeds old.server at.server did honest
 
     setting_is : setting at.server ≡ setting old.server
-    setting_is = setting_stays view takes fails faults story counts old.server at.server did.same did.config
+    setting_is = setting_stays view takes fails faults story counts old.server at.server did.same did.config did.log
 
     -- the story at the end of the first turn is told where the later one is
     follows_at : IsHonest view old.server.kept → (all : Option (List Call)) → Follows (story new.server.link) all → Follows (story at.server.link) all

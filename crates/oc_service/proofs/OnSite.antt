@@ -26,6 +26,7 @@ use Rattle.oc_server.specs.Scenes.{BreaksBehind, CountsAll, Did, HasCause, Idle,
 use Rattle.oc_server.specs.Turns.{Told}
 use Rattle.oc_server.specs.declared.ends.TurnEnd.{TurnEnd}
 use Rattle.oc_server.specs.declared.ends.TurnEnd.TheVariants as ends
+use Rattle.oc_server.specs.declared.log.Log.{Log}
 use Rattle.oc_server.specs.declared.server.Server.{Server}
 use Rattle.oc_server.specs.declared.turns.Turns.{Turns}
 use Rattle.oc_server.proofs.Scenes.{broken_cause, broken_leaves, broken_text, did_node}
@@ -34,7 +35,7 @@ use Rattle.oc_service.specs.Loading.{IsLoaded}
 use Rattle.oc_service.specs.declared.site.Site.{Site}
 use Rattle.oc_service.proofs.Loaded.{loaded_machine}
 use Rattle.oc_service.specs.Running.{Halts, IsDeaf, Listens, RunEnds, Runs, listens_at, machine}
-use Rattle.oc_service.specs.WhatNodeDoes.{Machine, due_at, measured, node_behind, node_deeds, turn_deeds}
+use Rattle.oc_service.specs.WhatNodeDoes.{Machine, begun, due_at, node_behind, node_deeds, turn_deeds}
 use Rattle.oc_service.specs.WhatNodeHears.{AreHeard, MayHear, all_calls_behind, until}
 use Rattle.oc_service.specs.declared.running.NodeEnd.TheVariants.{Turned}
 use Rattle.oc_service.specs.declared.running.Task.{Task}
@@ -46,7 +47,7 @@ module _ {D L K : Type 0} (view : D → DiskView) (takes fails : K → List ℕ 
     (task : Task) (d : Disks D) (first last : Turns D L K)
     (loaded : IsNodeOf view (header_of_settings first.server.config) task.me d first.server.kept)
     (safely : LoadsSafely view (header_of_settings first.server.config) task.me d (disks_of first.server.kept))
-    (begins : AreHonest view d → machine first ≡ machine_on view first.server.config task d)
+    (log : first.server.log ≡ task.log) (begins : AreHonest view d → machine first ≡ machine_on view first.server.config task d)
     (recovers : last.server.kept.closed ≡ false → IsHonest view last.server.kept → NodeSurvives view last.server.kept (node_of last.server.kept)) where
   abbrev c : Settings
   c = first.server.config
@@ -69,8 +70,10 @@ module _ {D L K : Type 0} (view : D → DiskView) (takes fails : K → List ℕ 
   honest_kept : AreHonest view d → IsHonest view first.server.kept
   honest_kept honest = all_honest view d (disks_of first.server.kept) safely.goes_on honest
 
-  setting_is : setting first.server ≡ setting_of c me
-  setting_is = ap (λ (x : ℕ). record { me = x; addresses = c.addresses; key = c.key }) loaded.id
+  setting_is : setting first.server ≡ setting_of c task
+  setting_is =
+      ap (λ (x : ℕ). record { me = x; addresses = c.addresses; key = c.key; log = first.server.log }) loaded.id
+      ∙ ap (λ (x : Log). record { me = me; addresses = c.addresses; key = c.key; log = x }) log
 
   terms_is : reads_by first.server ≡ terms_in c me
   terms_is =
@@ -97,44 +100,44 @@ module _ {D L K : Type 0} (view : D → DiskView) (takes fails : K → List ℕ 
     heard_is all follows = until_then (acts.Listen (listens_at c.listens me) ∷ []) (story first.server.link) (story link) all adds_listen follows
 
     heard_on : AreHonest view d → (told : List Told) → Follows (story link) (story last.server.link)
-        → AreHeard (setting first.server) (reads_by first.server) (until (story link) (story last.server.link)) told (measured first.server.kept.node.control.me c.measures (machine first))
-        → AreHeard (setting_of c me) (terms_in c me) (heard_before c me (story first.server.link) (story last.server.link)) told (measured me c.measures m)
+        → AreHeard (setting first.server) (reads_by first.server) (until (story link) (story last.server.link)) told (begun (setting first.server) c.measures (machine first))
+        → AreHeard (setting_of c task) (terms_in c me) (heard_before c me (story first.server.link) (story last.server.link)) told (begun (setting_of c task) c.measures m)
     heard_on honest told follows heard =
-        subst (λ (calls : Option (List Call)). AreHeard (setting_of c me) (terms_in c me) calls told (measured me c.measures m)) (heard_is (story last.server.link) follows)
-        (subst (λ (x : Machine). AreHeard (setting_of c me) (terms_in c me) (until (story link) (story last.server.link)) told (measured me c.measures x)) (begins honest)
-        (subst (λ (x : NodeTerms). AreHeard (setting_of c me) x (until (story link) (story last.server.link)) told (measured me c.measures (machine first))) terms_is
-        (subst (λ (x : ℕ). AreHeard (setting_of c x) (reads_by first.server) (until (story link) (story last.server.link)) told (measured x c.measures (machine first))) loaded.id heard)))
+        subst (λ (calls : Option (List Call)). AreHeard (setting_of c task) (terms_in c me) calls told (begun (setting_of c task) c.measures m)) (heard_is (story last.server.link) follows)
+        (subst (λ (x : Machine). AreHeard (setting_of c task) (terms_in c me) (until (story link) (story last.server.link)) told (begun (setting_of c task) c.measures x)) (begins honest)
+        (subst (λ (x : NodeTerms). AreHeard (setting_of c task) x (until (story link) (story last.server.link)) told (begun (setting_of c task) c.measures (machine first))) terms_is
+        (subst (λ (x : Setting). AreHeard x (reads_by first.server) (until (story link) (story last.server.link)) told (begun x c.measures (machine first))) setting_is heard)))
 
     calls_on : AreHonest view d → (deeds : List Deed) → AddsAll (calls_of (setting l) deeds (running l)) (story link) (story last.server.link)
-        → AddsAll (node_calls c me deeds m) (story first.server.link) (story last.server.link)
+        → AddsAll (node_calls c task deeds m) (story first.server.link) (story last.server.link)
     calls_on honest deeds adds =
-        adds-then (acts.Listen (listens_at c.listens me) ∷ []) (calls_of (setting_of c me) deeds m.running) (story first.server.link) (story link) (story last.server.link) adds_listen
-        (subst (λ (x : Machine). AddsAll (calls_of (setting_of c me) deeds x.running) (story link) (story last.server.link)) (begins honest)
+        adds-then (acts.Listen (listens_at c.listens me) ∷ []) (calls_of (setting_of c task) deeds m.running) (story first.server.link) (story link) (story last.server.link) adds_listen
+        (subst (λ (x : Machine). AddsAll (calls_of (setting_of c task) deeds x.running) (story link) (story last.server.link)) (begins honest)
         (subst (λ (x : Setting). AddsAll (calls_of x deeds (running first.server)) (story link) (story last.server.link)) setting_is adds))
 
-    abbrev Choice : List Told → Told → List Deed → Setting → NodeTerms → ℕ → Machine → Option (List Call) → Type 0
-    Choice told next deeds s terms x y calls =
+    abbrev Choice : List Told → Told → List Deed → Setting → NodeTerms → Machine → Option (List Call) → Type 0
+    Choice told next deeds s terms y calls =
         (length deeds < length (node_deeds s c.measures told y) + 3)
-        ⊎ MayHear terms (all_calls_behind s told (measured x c.measures y) calls) (due_at next (node_behind s c.measures told y)) next (node_behind s c.measures told y)
+        ⊎ MayHear terms (all_calls_behind s told (begun s c.measures y) calls) (due_at next (node_behind s c.measures told y)) next (node_behind s c.measures told y)
 
     last_on : AreHonest view d → (told : List Told) (next : Told) (deeds : List Deed) → Follows (story link) (story last.server.link)
         → (length deeds < length (node_deeds (setting first.server) c.measures told (machine first)) + 3)
-        ⊎ MayHear (reads_by first.server) (all_calls_behind (setting first.server) told (measured first.server.kept.node.control.me c.measures (machine first)) (until (story link) (story last.server.link)))
+        ⊎ MayHear (reads_by first.server) (all_calls_behind (setting first.server) told (begun (setting first.server) c.measures (machine first)) (until (story link) (story last.server.link)))
         (due_at next (node_behind (setting first.server) c.measures told (machine first))) next (node_behind (setting first.server) c.measures told (machine first))
-        → (length deeds < length (node_deeds (setting_of c me) c.measures told m) + 3)
-        ⊎ MayHear (terms_in c me) (all_calls_behind (setting_of c me) told (measured me c.measures m) (heard_before c me (story first.server.link) (story last.server.link)))
-        (due_at next (node_behind (setting_of c me) c.measures told m)) next (node_behind (setting_of c me) c.measures told m)
+        → (length deeds < length (node_deeds (setting_of c task) c.measures told m) + 3)
+        ⊎ MayHear (terms_in c me) (all_calls_behind (setting_of c task) told (begun (setting_of c task) c.measures m) (heard_before c me (story first.server.link) (story last.server.link)))
+        (due_at next (node_behind (setting_of c task) c.measures told m)) next (node_behind (setting_of c task) c.measures told m)
     last_on honest told next deeds follows heard =
-        subst (λ (calls : Option (List Call)). Choice told next deeds (setting_of c me) (terms_in c me) me m calls) (heard_is (story last.server.link) follows)
-        (subst (λ (x : Machine). Choice told next deeds (setting_of c me) (terms_in c me) me x (until (story link) (story last.server.link))) (begins honest)
-        (subst (λ (x : NodeTerms). Choice told next deeds (setting_of c me) x me (machine first) (until (story link) (story last.server.link))) terms_is
-        (subst (λ (x : ℕ). Choice told next deeds (setting_of c x) (reads_by first.server) x (machine first) (until (story link) (story last.server.link))) loaded.id heard)))
+        subst (λ (calls : Option (List Call)). Choice told next deeds (setting_of c task) (terms_in c me) m calls) (heard_is (story last.server.link) follows)
+        (subst (λ (x : Machine). Choice told next deeds (setting_of c task) (terms_in c me) x (until (story link) (story last.server.link))) (begins honest)
+        (subst (λ (x : NodeTerms). Choice told next deeds (setting_of c task) x (machine first) (until (story link) (story last.server.link))) terms_is
+        (subst (λ (x : Setting). Choice told next deeds x (reads_by first.server) (machine first) (until (story link) (story last.server.link))) setting_is heard)))
 
     -- All turns
 
     did_on : (told : List Told) (deeds : List Deed) → length told ≡ task.turns → Did view takes faults story counts deeds l last.server
         → (IsHonest view first.server.kept → deeds ≡ node_deeds (setting first.server) c.measures told (machine first))
-        → (IsHonest view first.server.kept → AreHeard (setting first.server) (reads_by first.server) (until (story link) (story last.server.link)) told (measured first.server.kept.node.control.me c.measures (machine first)))
+        → (IsHonest view first.server.kept → AreHeard (setting first.server) (reads_by first.server) (until (story link) (story last.server.link)) told (begun (setting first.server) c.measures (machine first)))
         → DidOn view story counts c task deeds d e first.server.link last.server.link
     did_on told deeds many did are heard = record {
       told = told;
@@ -212,14 +215,14 @@ module _ {D L K : Type 0} (view : D → DiskView) (takes fails : K → List ℕ 
           subst (λ (y : Option (List Call)). AddsAll (calls_of (setting l) deeds (running l)) (story link) y) (sym breaks.told) (did.done (honest_kept honest)).calls
 
       writes_on : (end : TurnEnd) → BreaksBehind view takes fails faults story counts end deeds under l last.server
-          → Writes (λ text. takes first.server.sink text last.server.sink) (λ text. fails first.server.sink text last.server.sink × Rose (faults first.server.sink) (faults last.server.sink)) me end deeds under
+          → Writes (λ text. takes first.server.sink text last.server.sink) (λ text. fails first.server.sink text last.server.sink × Rose (faults first.server.sink) (faults last.server.sink)) (setting_of c task) end deeds under
       writes_on end breaks =
           by_end end (broken_cause view takes fails faults story counts deeds under end l last.server breaks)
-          (subst (λ (x : ℕ). WritesAt takes fails first.server.sink last.server.sink end (lines x deeds) (under_line x under)) loaded.id
+          (subst (λ (x : Setting). WritesAt takes fails first.server.sink last.server.sink end (lines x deeds) (under_line x under)) setting_is
           (broken_text view takes fails faults story counts takes_then takes_fails deeds under end l last.server breaks)) where
             by_end : (x : TurnEnd) → HasCause view faults x under first.server.kept last.server.kept first.server.sink last.server.sink (counts link) (counts last.server.link)
-                → WritesAt takes fails first.server.sink last.server.sink x (lines me deeds) (under_line me under)
-                → Writes (λ text. takes first.server.sink text last.server.sink) (λ text. fails first.server.sink text last.server.sink × Rose (faults first.server.sink) (faults last.server.sink)) me x deeds under
+                → WritesAt takes fails first.server.sink last.server.sink x (lines (setting_of c task) deeds) (under_line (setting_of c task) under)
+                → Writes (λ text. takes first.server.sink text last.server.sink) (λ text. fails first.server.sink text last.server.sink × Rose (faults first.server.sink) (faults last.server.sink)) (setting_of c task) x deeds under
             by_end ends.Sink cause text = (text.0, text.1, (text.2, cause))
             by_end ends.Served cause text = text
             by_end ends.Quiet cause text = text
@@ -229,18 +232,18 @@ module _ {D L K : Type 0} (view : D → DiskView) (takes fails : K → List ℕ 
             by_end ends.Memory cause text = text
 
   runs_on : Runs view takes faults story counts task.turns first last
-      → (deeds : List Deed) × takes first.server.sink (lines me deeds) last.server.sink × DidOn view story counts c task deeds d e first.server.link last.server.link
+      → (deeds : List Deed) × takes first.server.sink (lines (setting_of c task) deeds) last.server.sink × DidOn view story counts c task deeds d e first.server.link last.server.link
   runs_on r =
       let link = r.listening.link in
       let listens = subst (λ (x : Server D L K). Listens story counts first.server x) r.listens.rest r.listens in
       let did = subst (λ (x : Server D L K). Did view takes faults story counts r.deeds x last.server) r.listens.rest r.did in (
         r.deeds,
-        subst (λ (x : ℕ). takes first.server.sink (lines x r.deeds) last.server.sink) loaded.id did.text,
+        subst (λ (x : Setting). takes first.server.sink (lines x r.deeds) last.server.sink) setting_is did.text,
         did_on link listens r.told r.deeds r.many did r.are r.heard,
       )
 
   halts_on : (end : TurnEnd) → Halts view takes fails faults story counts task.turns end first last
-      → Stops (at_run view story counts c task d e first.server.link last.server.link) (λ text. takes first.server.sink text last.server.sink) (λ text. fails first.server.sink text last.server.sink × Rose (faults first.server.sink) (faults last.server.sink)) me end
+      → Stops (at_run view story counts c task d e first.server.link last.server.link) (λ text. takes first.server.sink text last.server.sink) (λ text. fails first.server.sink text last.server.sink × Rose (faults first.server.sink) (faults last.server.sink)) (setting_of c task) end
   halts_on end r =
       let link = r.listening.link in
       let listens = subst (λ (x : Server D L K). Listens story counts first.server x) r.listens.rest r.listens in
@@ -255,7 +258,7 @@ module _ {D L K : Type 0} (view : D → DiskView) (takes fails : K → List ℕ 
           last = r.last;
           few = r.few;
           cut = λ honest.
-              subst (λ (x : Machine). Cuts (node_deeds (setting_of c me) c.measures r.told x ++ turn_deeds (setting_of c me) r.last (node_behind (setting_of c me) c.measures r.told x)) r.deeds r.under) (begins honest)
+              subst (λ (x : Machine). Cuts (node_deeds (setting_of c task) c.measures r.told x ++ turn_deeds (setting_of c task) r.last (node_behind (setting_of c task) c.measures r.told x)) r.deeds r.under) (begins honest)
               (subst (λ (x : Setting). Cuts (node_deeds x c.measures r.told (machine first) ++ turn_deeds x r.last (node_behind x c.measures r.told (machine first))) r.deeds r.under) setting_is (r.cut (honest_kept honest)));
           heard = λ honest. heard_on link listens honest r.told (follows honest) (r.heard (honest_kept honest));
           last_heard = λ honest. last_on link listens honest r.told r.last r.deeds (follows honest) (r.last_heard (honest_kept honest));
@@ -282,7 +285,7 @@ module _ {D L K : Type 0} (view : D → DiskView) (takes fails : K → List ℕ 
   )
 
   pub ends_on : (end : TurnEnd) → RunEnds view takes fails faults story counts task.turns end first last
-      → NodeEnds (at_run view story counts c task d e first.server.link last.server.link) (λ text. takes first.server.sink text last.server.sink) (λ text. fails first.server.sink text last.server.sink × Rose (faults first.server.sink) (faults last.server.sink)) me (Turned end)
+      → NodeEnds (at_run view story counts c task d e first.server.link last.server.link) (λ text. takes first.server.sink text last.server.sink) (λ text. fails first.server.sink text last.server.sink × Rose (faults first.server.sink) (faults last.server.sink)) (setting_of c task) (Turned end)
   ends_on ends.Served r = runs_on r
   ends_on ends.Quiet r = absurd r
   ends_on ends.Link (inl deaf) = inl (deaf_on deaf)
@@ -295,13 +298,13 @@ module _ {D L K : Type 0} (view : D → DiskView) (takes fails : K → List ℕ 
 -- how it ended, of these files, links and outputs
 abbrev pub EndsAs : {D L K : Type 0} → (D → DiskView) → (K → List ℕ → K → Type 0) → (K → List ℕ → K → Type 0) → (K → ℕ) → (L → Option (List Call)) → (L → Counts) → Settings → Task → Disks D → TurnEnd → Disks D → L → L → K → K → Type 0
 EndsAs view takes fails faults story counts s task d end e l m k j =
-    NodeEnds (at_run view story counts s task d e l m) (λ text. takes k text j) (λ text. fails k text j × Rose (faults k) (faults j)) task.me (Turned end)
+    NodeEnds (at_run view story counts s task d e l m) (λ text. takes k text j) (λ text. fails k text j × Rose (faults k) (faults j)) (setting_of s task) (Turned end)
 
 -- the same of what it was handed and what came back
 pub told_of : {D L K : Type 0} (view : D → DiskView) (takes fails : K → List ℕ → K → Type 0) (faults : K → ℕ) (story : L → Option (List Call)) (counts : L → Counts)
     (takes_nothing : (k : K) → takes k [] k) (takes_then : (a b c : K) (x y : List ℕ) → takes a x b → takes b y c → takes a (x ++ y) c)
     (takes_fails : (a b c : K) (x y : List ℕ) → takes a x b → fails b y c → fails a (x ++ y) c)
-    (s : Settings) (task : Task) (site back : Site D L K) (first last : Turns D L K) → IsLoaded view s task.me task.probes site first
+    (s : Settings) (task : Task) (site back : Site D L K) (first last : Turns D L K) → IsLoaded view s task site first
     → disks_in back.files ≡ disks_of last.server.kept → back.link ≡ last.server.link → back.sink ≡ last.server.sink
     → (last.server.kept.closed ≡ false → IsHonest view last.server.kept → NodeSurvives view last.server.kept (node_of last.server.kept))
     → (end : TurnEnd) → RunEnds view takes fails faults story counts task.turns end first last
@@ -309,8 +312,8 @@ pub told_of : {D L K : Type 0} (view : D → DiskView) (takes fails : K → List
 told_of {D} {L} {K} view takes fails faults story counts takes_nothing takes_then takes_fails s task site back first last loaded files link sink recovers end ends =
     let d = disks_in site.files in
     let e = disks_of last.server.kept in
-    let own = subst (λ (x : Settings). IsLoaded view x task.me task.probes site first) (sym loaded.config) loaded in
-    let told = ends_on view takes fails faults story counts takes_nothing takes_then takes_fails task d first last own.node own.safely (loaded_machine view first.server.config task site first own) recovers end ends in
+    let own = subst (λ (x : Settings). IsLoaded view x task site first) (sym loaded.config) loaded in
+    let told = ends_on view takes fails faults story counts takes_nothing takes_then takes_fails task d first last own.node own.safely own.log (loaded_machine view first.server.config task site first own) recovers end ends in
     subst (λ (j : K). EndsAs view takes fails faults story counts s task d end (disks_in back.files) site.link back.link site.sink j) (sym sink)
     (subst (λ (k : K). EndsAs view takes fails faults story counts s task d end (disks_in back.files) site.link back.link k last.server.sink) loaded.sink
     (subst (λ (m : L). EndsAs view takes fails faults story counts s task d end (disks_in back.files) site.link m first.server.sink last.server.sink) (sym link)

@@ -6,7 +6,7 @@ use Rattle.oc_events.specs.declared.call.Call.{Call}
 use Rattle.oc_events.specs.declared.counts.Counts.{Counts}
 use Rattle.oc_events.specs.declared.event.Event.TheVariants as events
 use Rattle.oc_io.specs.DiskView.{DiskView}
-use Rattle.oc_keep.specs.KeptView.{IsHonest, KeptView}
+use Rattle.oc_keep.specs.KeptView.{IsHonest, KeptView, node_of}
 use Rattle.oc_model.specs.declared.input.Input.{Input}
 use Rattle.oc_model.specs.declared.input.Input.TheVariants.{Measured}
 use Rattle.oc_reply.specs.Verdicts.{NodeTerms}
@@ -24,9 +24,9 @@ use Rattle.oc_updown.specs.declared.measure_lines.Measure.{Measure}
 use Rattle.oc_server.proofs.Chains.{calls_append}
 use Rattle.oc_server.proofs.Parts.{cuts_behind, cuts_more}
 use Rattle.oc_server.proofs.Scenes.{breaks_then, did_then, setting_stays, still_honest}
-use Rattle.oc_service.specs.Measuring.{takes_own_measures}
+use Rattle.oc_service.specs.Measuring.{begins_with}
 use Rattle.oc_service.specs.Running.{Halts, Listens, RunEnds, Runs, machine}
-use Rattle.oc_service.specs.WhatNodeDoes.{Machine, behind_turns, due_at, measured, node_behind, node_deeds, own_measure, own_measures, turn_deeds, turns_deeds}
+use Rattle.oc_service.specs.WhatNodeDoes.{Machine, begins, begun, behind_turns, due_at, node_behind, node_deeds, own_measure, own_measures, turn_deeds, turns_deeds}
 use Rattle.oc_service.specs.WhatNodeHears.{AreHeard, MayHear, all_calls_behind, until}
 use Rattle.oc_service.proofs.Machines.{Made, heard_at, machine_of, made, reads_stay}
 use Rattle.oc_service.proofs.Stories.{Follows, follows_adds, follows_self, follows_then, until_then}
@@ -52,17 +52,17 @@ module _ {D L K : Type 0} (view : D → DiskView) (takes fails : K → List ℕ 
   abbrev me : ℕ
   me = old.server.kept.node.control.me
 
-  abbrev own : List Deed
-  own = own_measures me old.server.config.measures
-
   abbrev s : Setting
   s = setting old.server
+
+  abbrev own : List Deed
+  own = begins s old.server.config.measures (node_of old.server.kept)
 
   abbrev terms : NodeTerms
   terms = reads_by old.server
 
   abbrev m : Machine
-  m = measured me old.server.config.measures (machine old)
+  m = begun s old.server.config.measures (machine old)
 
   kept_is : listening.kept ≡ old.server.kept
   kept_is = ap (λ (x : Server D L K). x.kept) listens.rest
@@ -89,7 +89,7 @@ module _ {D L K : Type 0} (view : D → DiskView) (takes fails : K → List ℕ 
     honest_at honest = still_honest view takes fails faults story counts own listening at did (honest_listening honest)
 
     setting_at : setting at ≡ s
-    setting_at = setting_stays view takes fails faults story counts listening at did.same did.config ∙ listening_setting
+    setting_at = setting_stays view takes fails faults story counts listening at did.same did.config did.log ∙ listening_setting
 
     terms_at : reads_by at ≡ terms
     terms_at = reads_stay listening at did.same did.config ∙ listening_terms
@@ -166,7 +166,7 @@ module _ {D L K : Type 0} (view : D → DiskView) (takes fails : K → List ℕ 
         honest_last honest = still_honest view takes fails faults story counts turns.deeds at last.server turns.did (honest_at honest)
 
         setting_last : setting last.server ≡ s
-        setting_last = setting_stays view takes fails faults story counts at last.server turns.did.same turns.did.config ∙ setting_at
+        setting_last = setting_stays view takes fails faults story counts at last.server turns.did.same turns.did.config turns.did.log ∙ setting_at
 
         terms_last : reads_by last.server ≡ terms
         terms_last = reads_stay at last.server turns.did.same turns.did.config ∙ terms_at
@@ -242,10 +242,10 @@ module _ {D L K : Type 0} (view : D → DiskView) (takes fails : K → List ℕ 
   abbrev no_told : Told
   no_told = record { before = 0; event = events.Quiet; bytes = []; came = comes.Nothing; now = 0; median = 0; started = 0; seconds = 0 }
 
-  module _ (end : TurnEnd) (new : Turns D L K) (stops : Stops view takes fails faults story counts end (takes_own_measures old.server.config.measures) listening new.server) where
+  module _ (end : TurnEnd) (new : Turns D L K) (stops : Stops view takes fails faults story counts end (begins_with old.server.config.measures) listening new.server) where
     front : IsHonest view old.server.kept → Cuts own stops.deeds stops.under
     front honest =
-        subst (λ (x : ℕ). Cuts (own_measures x old.server.config.measures) stops.deeds stops.under) (ap (λ (x : Setting). x.me) listening_setting) (stops.cut (honest_listening honest))
+        subst (λ (x : Server D L K). Cuts (begins (setting x) old.server.config.measures (node_of x.kept)) stops.deeds stops.under) listens.rest (stops.cut (honest_listening honest))
 
     early : Halts view takes fails faults story counts most end old new
     early = record {
@@ -264,7 +264,7 @@ module _ {D L K : Type 0} (view : D → DiskView) (takes fails : K → List ℕ 
       last_heard = λ honest. inl (omega (arith, ap length (front honest).front, length-append stops.deeds (front honest).behind, length-append own []));
     }
 
-  pub early_ends : (end : TurnEnd) (new : Turns D L K) → Stops view takes fails faults story counts end (takes_own_measures old.server.config.measures) listening new.server
+  pub early_ends : (end : TurnEnd) (new : Turns D L K) → Stops view takes fails faults story counts end (begins_with old.server.config.measures) listening new.server
       → RunEnds view takes fails faults story counts most end old new
   early_ends ends.Served new stops = absurd stops.breaks.2.cause
   early_ends ends.Quiet new stops = absurd stops.breaks.2.cause
@@ -276,12 +276,12 @@ module _ {D L K : Type 0} (view : D → DiskView) (takes fails : K → List ℕ 
 
   -- and told of the measures of the server that listens
 
-  pub served_ends : (at : Server D L K) → Did view takes faults story counts (own_measures listening.kept.node.control.me listening.config.measures) listening at
+  pub served_ends : (at : Server D L K) → Did view takes faults story counts (begins (setting listening) listening.config.measures (node_of listening.kept)) listening at
       → (end : TurnEnd) (new : Turns D L K) → ServeEnds view takes fails faults story counts most end (record old { server = at }) new → RunEnds view takes fails faults story counts most end old new
   served_ends at did =
-      serve_ends at (subst (λ (ds : List Deed). Did view takes faults story counts ds listening at) (ap (λ (x : Server D L K). own_measures x.kept.node.control.me x.config.measures) listens.rest) did)
+      serve_ends at (subst (λ (ds : List Deed). Did view takes faults story counts ds listening at) (ap (λ (x : Server D L K). begins (setting x) x.config.measures (node_of x.kept)) listens.rest) did)
 
-  pub halted_ends : (end : TurnEnd) (new : Turns D L K) → Stops view takes fails faults story counts end (takes_own_measures listening.config.measures) listening new.server
+  pub halted_ends : (end : TurnEnd) (new : Turns D L K) → Stops view takes fails faults story counts end (begins_with listening.config.measures) listening new.server
       → RunEnds view takes fails faults story counts most end old new
   halted_ends end new stops =
-      early_ends end new (subst (λ (ms : List Measure). Stops view takes fails faults story counts end (takes_own_measures ms) listening new.server) (ap (λ (x : Server D L K). x.config.measures) listens.rest) stops)
+      early_ends end new (subst (λ (ms : List Measure). Stops view takes fails faults story counts end (begins_with ms) listening new.server) (ap (λ (x : Server D L K). x.config.measures) listens.rest) stops)

@@ -9,7 +9,7 @@ use Rattle.oc_io.specs.Faults.{Rose}
 use Rattle.oc_keep.specs.Files.{Disks, AreHonest, OneRose}
 use Rattle.oc_keep.specs.Promises.{HoldFiles}
 use Rattle.oc_server.specs.declared.ends.TurnEnd.TheVariants as ends
-use Rattle.oc_service.specs.OnSite.{EndsUnfailed, NodeEnds, at_run}
+use Rattle.oc_service.specs.OnSite.{EndsUnfailed, NodeEnds, at_run, setting_of}
 use Rattle.oc_service.specs.declared.running.NodeEnd.{NodeEnd}
 use Rattle.oc_service.specs.declared.running.NodeEnd.TheVariants.{Load, Turned}
 use Rattle.oc_service.specs.declared.running.Task.{Task}
@@ -17,7 +17,7 @@ use Rattle.oc_service.specs.declared.running.Task.{Task}
 module _ {D L : Type 0} (view : D → DiskView) (story : L → Option (List Call)) (counts : L → Counts) (written cut_off : List ℕ → Type 0) (c : Settings) (task : Task) (old new : Disks D) (link after : L)
     (honest : AreHonest view old) (files : HoldFiles view (length c.addresses) old) (sound : OneRose view old new → ⊥)
     (asked : Rose (counts link).listening (counts after).listening → ⊥) (sink : (text : List ℕ) → cut_off text → ⊥) where
-  pub unfailed : (end : NodeEnd) → NodeEnds (at_run view story counts c task old new link after) written cut_off task.me end → EndsUnfailed end
+  pub unfailed : (end : NodeEnd) → NodeEnds (at_run view story counts c task old new link after) written cut_off (setting_of c task) end → EndsUnfailed end
   unfailed (Load error) h = only_memory view (length c.addresses) old new honest files sound error h.0.0
   unfailed (Turned ends.Served) h = tt
   unfailed (Turned ends.Quiet) h = absurd h

@@ -14,6 +14,7 @@ use Rattle.oc_server.specs.Lawful.{IsMadeFor, IsReady}
 use Rattle.oc_server.specs.Pace.{first_pace}
 use Rattle.oc_server.specs.declared.turns.Turns.{Turns}
 use Rattle.oc_service.specs.OnSite.{header_of_settings, probing_at_first}
+use Rattle.oc_service.specs.declared.running.Task.{Task}
 use Rattle.oc_service.specs.declared.site.Site.{Site}
 
 -- what a node keeps besides its files: the areas, nothing to be sent, and what it probes by
@@ -25,16 +26,17 @@ pub record IsEquipped (c : Settings) (probes : Bool) (me : ℕ) (areas : List �
   pub made : IfSome probing (IsMadeFor (length c.addresses))
 
 -- It is the node that the files recover, ready to turn, with nothing to send and nothing under way.
-pub record IsLoaded {D L K : Type 0} (view : D → DiskView) (c : Settings) (me : ℕ) (probes : Bool) (site : Site D L K) (turns : Turns D L K) : Type 0 where
+pub record IsLoaded {D L K : Type 0} (view : D → DiskView) (c : Settings) (task : Task) (site : Site D L K) (turns : Turns D L K) : Type 0 where
   pub ready : IsReady turns
-  pub node : IsNodeOf view (header_of_settings c) me (disks_in site.files) turns.server.kept
-  pub safely : LoadsSafely view (header_of_settings c) me (disks_in site.files) (disks_of turns.server.kept)
+  pub node : IsNodeOf view (header_of_settings c) task.me (disks_in site.files) turns.server.kept
+  pub safely : LoadsSafely view (header_of_settings c) task.me (disks_in site.files) (disks_of turns.server.kept)
   pub outbox : turns.server.outbox ≡ []
   pub works : turns.server.works ≡ []
   pub dials : turns.server.dials ≡ []
   pub pace : turns.pace ≡ first_pace
-  pub probing : turns.probing ≡ probing_at_first probes me (length c.addresses)
+  pub probing : turns.probing ≡ probing_at_first task.probes task.me (length c.addresses)
   pub config : turns.server.config ≡ c
+  pub log : turns.server.log ≡ task.log
   pub link : turns.server.link ≡ site.link
   pub sink : turns.server.sink ≡ site.sink
 

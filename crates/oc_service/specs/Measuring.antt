@@ -3,7 +3,7 @@ use Rattle.std.specs.Prelude.{List}
 use Rattle.oc_model.specs.declared.input.Input.{Input}
 use Rattle.oc_model.specs.declared.input.Input.TheVariants.{Measured}
 use Rattle.oc_server.specs.Parts.{Part}
-use Rattle.oc_service.specs.WhatNodeDoes.{own_measures}
+use Rattle.oc_service.specs.WhatNodeDoes.{begins, own_measures}
 use Rattle.oc_updown.specs.declared.measure_lines.Measure.{Measure}
 
 -- the input that a measure is
@@ -13,3 +13,7 @@ input_of m = Measured m.peer m.rate m.hops
 -- each of these is taken, if it is the node's own
 abbrev pub takes_own_measures : List Measure → Part
 takes_own_measures ms s a = own_measures s.me ms
+
+-- how a node begins with these
+abbrev pub begins_with : List Measure → Part
+begins_with ms s a = begins s ms a.node

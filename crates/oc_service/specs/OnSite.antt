@@ -28,7 +28,7 @@ use Rattle.oc_server.specs.Turns.{Told}
 use Rattle.oc_server.specs.declared.ends.TurnEnd.{TurnEnd}
 use Rattle.oc_server.specs.declared.ends.TurnEnd.TheVariants as ends
 use Rattle.oc_service.specs.Running.{listens_at}
-use Rattle.oc_service.specs.WhatNodeDoes.{Machine, at_first, due_at, measured, node_behind, node_deeds, turn_deeds}
+use Rattle.oc_service.specs.WhatNodeDoes.{Machine, at_first, begun, due_at, node_behind, node_deeds, turn_deeds}
 use Rattle.oc_service.specs.WhatNodeHears.{AreHeard, MayHear, all_calls_behind, until}
 use Rattle.oc_service.specs.declared.running.NodeEnd.{NodeEnd}
 use Rattle.oc_service.specs.declared.running.NodeEnd.TheVariants.{Load, Turned}
@@ -40,9 +40,9 @@ use Rattle.oc_service.specs.declared.running.Task.{Task}
 abbrev pub header_of_settings : Settings → Header
 header_of_settings c = header (length c.addresses) c.chain c.chunk c.areas
 
--- which node it is, the addresses of all, and the key of the network
-abbrev pub setting_of : Settings → ℕ → Setting
-setting_of c me = record { me = me; addresses = c.addresses; key = c.key }
+-- which node it is, the addresses of all, the key of the network, and what is written of inputs
+abbrev pub setting_of : Settings → Task → Setting
+setting_of c task = record { me = task.me; addresses = c.addresses; key = c.key; log = task.log }
 
 -- by what it reads requests
 abbrev pub terms_in : Settings → ℕ → NodeTerms
@@ -63,8 +63,8 @@ machine_on view c task d = at_first (probing_at_first task.probes task.me (lengt
 -- Its link
 
 -- it waits where the node listens, and then each deed makes its calls
-abbrev pub node_calls : Settings → ℕ → List Deed → Machine → List Call
-node_calls c me ds m = acts.Listen (listens_at c.listens me) ∷ calls_of (setting_of c me) ds m.running
+abbrev pub node_calls : Settings → Task → List Deed → Machine → List Call
+node_calls c task ds m = acts.Listen (listens_at c.listens task.me) ∷ calls_of (setting_of c task) ds m.running
 
 -- the calls before its first turn, if the link tells them to the end
 abbrev pub heard_before : Settings → ℕ → Option (List Call) → Option (List Call) → Option (List Call)
@@ -77,10 +77,10 @@ heard_before c me old new = option_map (λ (cs : List Call). cs ++ acts.Listen (
 pub record DidOn {D L : Type 0} (view : D → DiskView) (story : L → Option (List Call)) (counts : L → Counts) (c : Settings) (task : Task) (deeds : List Deed) (old new : Disks D) (link after : L) : Type 0 where
   pub told : List Told
   pub many : length told ≡ task.turns
-  pub are : AreHonest view old → deeds ≡ node_deeds (setting_of c task.me) c.measures told (machine_on view c task old)
+  pub are : AreHonest view old → deeds ≡ node_deeds (setting_of c task) c.measures told (machine_on view c task old)
   pub heard : AreHonest view old
-      → AreHeard (setting_of c task.me) (terms_in c task.me) (heard_before c task.me (story link) (story after)) told (measured task.me c.measures (machine_on view c task old))
-  pub calls : AreHonest view old → AddsAll (node_calls c task.me deeds (machine_on view c task old)) (story link) (story after)
+      → AreHeard (setting_of c task) (terms_in c task.me) (heard_before c task.me (story link) (story after)) told (begun (setting_of c task) c.measures (machine_on view c task old))
+  pub calls : AreHonest view old → AddsAll (node_calls c task deeds (machine_on view c task old)) (story link) (story after)
   pub counted : CountsAll deeds (counts link) (counts after)
   pub goes_on : AllGoOn view old new
   pub survives : AreHonest view old → Survives view (header_of_settings c) task.me new (after_inputs (first_node view (header_of_settings c) task.me old) (inputs_of deeds))
@@ -118,15 +118,15 @@ pub record StoppedOn {D L : Type 0} (view : D → DiskView) (story : L → Optio
   pub last : Told
   pub few : length told < task.turns + 1
   pub cut : AreHonest view old
-      → Cuts (node_deeds (setting_of c task.me) c.measures told (machine_on view c task old) ++ turn_deeds (setting_of c task.me) last (node_behind (setting_of c task.me) c.measures told (machine_on view c task old))) deeds under
+      → Cuts (node_deeds (setting_of c task) c.measures told (machine_on view c task old) ++ turn_deeds (setting_of c task) last (node_behind (setting_of c task) c.measures told (machine_on view c task old))) deeds under
   pub heard : AreHonest view old
-      → AreHeard (setting_of c task.me) (terms_in c task.me) (heard_before c task.me (story link) (story after)) told (measured task.me c.measures (machine_on view c task old))
+      → AreHeard (setting_of c task) (terms_in c task.me) (heard_before c task.me (story link) (story after)) told (begun (setting_of c task) c.measures (machine_on view c task old))
   pub last_heard : AreHonest view old
-      → (length deeds < length (node_deeds (setting_of c task.me) c.measures told (machine_on view c task old)) + 3)
+      → (length deeds < length (node_deeds (setting_of c task) c.measures told (machine_on view c task old)) + 3)
       ⊎ MayHear (terms_in c task.me)
-      (all_calls_behind (setting_of c task.me) told (measured task.me c.measures (machine_on view c task old)) (heard_before c task.me (story link) (story after)))
-      (due_at last (node_behind (setting_of c task.me) c.measures told (machine_on view c task old))) last (node_behind (setting_of c task.me) c.measures told (machine_on view c task old))
-  pub calls : AreHonest view old → AddsAll (node_calls c task.me deeds (machine_on view c task old)) (story link) (story after)
+      (all_calls_behind (setting_of c task) told (begun (setting_of c task) c.measures (machine_on view c task old)) (heard_before c task.me (story link) (story after)))
+      (due_at last (node_behind (setting_of c task) c.measures told (machine_on view c task old))) last (node_behind (setting_of c task) c.measures told (machine_on view c task old))
+  pub calls : AreHonest view old → AddsAll (node_calls c task deeds (machine_on view c task old)) (story link) (story after)
   pub goes_on : AllGoOn view old new
   pub leaves : AreHonest view old → LeavesBehind view (header_of_settings c) task.me new end (after_inputs (first_node view (header_of_settings c) task.me old) (inputs_of deeds)) under
   pub cause : HasCauseOn view end under (after_inputs (first_node view (header_of_settings c) task.me old) (inputs_of deeds)) old new (counts link) (counts after)
@@ -141,9 +141,9 @@ pub record WasDeaf {D L : Type 0} (view : D → DiskView) (story : L → Option 
 -- All ends
 
 -- the lines of these deeds were written; where the output is to blame, some prefix of the one under way behind them, and then it failed
-abbrev pub Writes : (List ℕ → Type 0) → (List ℕ → Type 0) → ℕ → TurnEnd → List Deed → Under → Type 0
-Writes written cut_off me ends.Sink deeds under = (front : List ℕ) × IsFront front (under_line me under) × cut_off (lines me deeds ++ front)
-Writes written cut_off me end deeds under = written (lines me deeds)
+abbrev pub Writes : (List ℕ → Type 0) → (List ℕ → Type 0) → Setting → TurnEnd → List Deed → Under → Type 0
+Writes written cut_off s ends.Sink deeds under = (front : List ℕ) × IsFront front (under_line s under) × cut_off (lines s deeds ++ front)
+Writes written cut_off s end deeds under = written (lines s deeds)
 
 -- what can be said of the files and the link of a run
 pub record OnRun : Type 1 where
@@ -164,14 +164,14 @@ at_run view story counts c task old new link after = record {
   deaf = WasDeaf view story counts c task old new link after;
 }
 
-module _ (run : OnRun) (written cut_off : List ℕ → Type 0) (me : ℕ) where
+module _ (run : OnRun) (written cut_off : List ℕ → Type 0) (s : Setting) where
   abbrev pub Stops : TurnEnd → Type 0
-  Stops end = (deeds : List Deed) × (under : Under) × Writes written cut_off me end deeds under × run.stopped end deeds under
+  Stops end = (deeds : List Deed) × (under : Under) × Writes written cut_off s end deeds under × run.stopped end deeds under
 
-  -- How the run of the node `me` ended: it was not loaded, or made all its turns, or ended before.
+  -- How the run of a node with this setting ended: it was not loaded, or made all its turns, or ended before.
   abbrev pub NodeEnds : NodeEnd → Type 0
   NodeEnds (Load error) = run.refused error × written []
-  NodeEnds (Turned ends.Served) = (deeds : List Deed) × written (lines me deeds) × run.did deeds
+  NodeEnds (Turned ends.Served) = (deeds : List Deed) × written (lines s deeds) × run.did deeds
   NodeEnds (Turned ends.Quiet) = ⊥
   NodeEnds (Turned ends.Link) = (written [] × run.deaf) ⊎ Stops ends.Link
   NodeEnds (Turned end) = Stops end

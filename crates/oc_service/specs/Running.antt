@@ -16,7 +16,7 @@ use Rattle.oc_server.specs.declared.ends.TurnEnd.{TurnEnd}
 use Rattle.oc_server.specs.declared.ends.TurnEnd.TheVariants as ends
 use Rattle.oc_server.specs.declared.server.Server.{Server}
 use Rattle.oc_server.specs.declared.turns.Turns.{Turns}
-use Rattle.oc_service.specs.WhatNodeDoes.{Machine, due_at, measured, node_behind, node_deeds, turn_deeds}
+use Rattle.oc_service.specs.WhatNodeDoes.{Machine, begun, due_at, node_behind, node_deeds, turn_deeds}
 use Rattle.oc_service.specs.WhatNodeHears.{AreHeard, MayHear, all_calls_behind, until}
 
 -- a running node as the machine
@@ -50,7 +50,7 @@ pub record Runs {D L K : Type 0} (view : D → DiskView) (takes : K → List ℕ
   pub did : Did view takes faults story counts deeds listening new.server
   pub are : IsHonest view old.server.kept → deeds ≡ node_deeds (setting old.server) old.server.config.measures told (machine old)
   pub heard : IsHonest view old.server.kept
-      → AreHeard (setting old.server) (reads_by old.server) (until (story listening.link) (story new.server.link)) told (measured old.server.kept.node.control.me old.server.config.measures (machine old))
+      → AreHeard (setting old.server) (reads_by old.server) (until (story listening.link) (story new.server.link)) told (begun (setting old.server) old.server.config.measures (machine old))
 
 -- It listened, and ended so behind these deeds: behind whole turns, in the midst of one, or before the first. What came was read, where
 -- more was done in that one than to ask for it.
@@ -66,11 +66,11 @@ pub record Halts {D L K : Type 0} (view : D → DiskView) (takes fails : K → L
   pub cut : IsHonest view old.server.kept
       → Cuts (node_deeds (setting old.server) old.server.config.measures told (machine old) ++ turn_deeds (setting old.server) last (node_behind (setting old.server) old.server.config.measures told (machine old))) deeds under
   pub heard : IsHonest view old.server.kept
-      → AreHeard (setting old.server) (reads_by old.server) (until (story listening.link) (story new.server.link)) told (measured old.server.kept.node.control.me old.server.config.measures (machine old))
+      → AreHeard (setting old.server) (reads_by old.server) (until (story listening.link) (story new.server.link)) told (begun (setting old.server) old.server.config.measures (machine old))
   pub last_heard : IsHonest view old.server.kept
       → (length deeds < length (node_deeds (setting old.server) old.server.config.measures told (machine old)) + 3)
       ⊎ MayHear (reads_by old.server)
-      (all_calls_behind (setting old.server) told (measured old.server.kept.node.control.me old.server.config.measures (machine old)) (until (story listening.link) (story new.server.link)))
+      (all_calls_behind (setting old.server) told (begun (setting old.server) old.server.config.measures (machine old)) (until (story listening.link) (story new.server.link)))
       (due_at last (node_behind (setting old.server) old.server.config.measures told (machine old))) last (node_behind (setting old.server) old.server.config.measures told (machine old))
 
 -- how a loaded node ran

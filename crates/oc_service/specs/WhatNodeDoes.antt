@@ -5,8 +5,9 @@ use Rattle.oc_base.specs.Groups.{shelf}
 use Rattle.oc_model.specs.declared.input.Input.TheVariants.{Measured}
 use Rattle.oc_model.specs.Node.{Node}
 use Rattle.oc_probe.specs.declared.probing.Probing.{Probing}
+use Rattle.oc_server.specs.Brief.{told_first}
 use Rattle.oc_server.specs.Choices.{due_place}
-use Rattle.oc_server.specs.Deeds.{Deed, Running, Setting, Takes, after_all}
+use Rattle.oc_server.specs.Deeds.{Deed, Running, Says, Setting, Takes, after_all}
 use Rattle.oc_server.specs.Pace.{first_pace}
 use Rattle.oc_server.specs.Turns.{Told, pace_behind, probing_behind, turn}
 use Rattle.oc_server.specs.declared.pace.Pace.{Pace}
@@ -30,8 +31,12 @@ abbrev pub own_measures : ℕ → List Measure → List Deed
 own_measures me [] = []
 own_measures me (m ∷ ms) = own_measure me m ++ own_measures me ms
 
-abbrev pub measured : ℕ → List Measure → Machine → Machine
-measured me ms m = record m { running = after_all (own_measures me ms) m.running }
+-- how a node begins: it tells where it is in the tree, where that is told, and takes what was measured
+abbrev pub begins : Setting → List Measure → Node → List Deed
+begins s ms n = Says (told_first s.log n.control) ∷ own_measures s.me ms
+
+abbrev pub begun : Setting → List Measure → Machine → Machine
+begun s ms m = record m { running = after_all (begins s ms m.running.node) m.running }
 
 -- the deeds of a turn by what it is told, and the node behind it
 abbrev pub turn_deeds : Setting → Told → Machine → List Deed
@@ -56,9 +61,9 @@ abbrev pub behind_turns : Setting → List Told → Machine → Machine
 behind_turns s [] m = m
 behind_turns s (t ∷ ts) m = behind_turns s ts (behind_turn s t m)
 
--- All that a node does: it takes what was measured, and turns.
+-- All that a node does: it begins, and turns.
 abbrev pub node_deeds : Setting → List Measure → List Told → Machine → List Deed
-node_deeds s ms ts m = own_measures s.me ms ++ turns_deeds s ts (measured s.me ms m)
+node_deeds s ms ts m = begins s ms m.running.node ++ turns_deeds s ts (begun s ms m)
 
 abbrev pub node_behind : Setting → List Measure → List Told → Machine → Machine
-node_behind s ms ts m = behind_turns s ts (measured s.me ms m)
+node_behind s ms ts m = behind_turns s ts (begun s ms m)

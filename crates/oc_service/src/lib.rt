@@ -16,6 +16,6 @@ mod probing;
 mod running;
 mod site;
 
-pub use oc_server::TurnEnd;
+pub use oc_server::{Log, TurnEnd};
 pub use running::{NodeEnd, Ran, Task, run_node};
 pub use site::Site;

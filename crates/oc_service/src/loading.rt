@@ -12,6 +12,7 @@ ghost use Rattle.oc_service.specs.Loading.{IsEquipped, IsLoaded, IsUnloaded};
 ghost use Rattle.oc_service.specs.OnSite.{header_of_settings, probing_at_first};
 
 use crate::probing::first_probing;
+use crate::running::Task;
 use crate::site::Site;
 use oc_base::{Memory, NodeId};
 use oc_config::Config;
@@ -32,31 +33,30 @@ struct Equipment {
     probing: Option<Probing>,
 }
 
-/// Loads the node `me` of a configuration. Where it is not loaded, what it runs on comes back.
+/// Loads the node of a task. Where it is not loaded, what it runs on comes back.
 pub(crate) fn load<D: Disk, L: Link, K: Sink>(
     alloc: Global,
     config: Config,
-    me: NodeId,
-    probes: bool,
+    task: Task,
     site: Site<D, L, K>,
 ) -> Result<Turns<D, L, K>, (Site<D, L, K>, KeepLoad)>
     requires config { IsConfig config }
-    requires me { IsNode (length config.addresses) me }
-    ensures loaded { IfOk result (IsLoaded D.view config me probes site) }
-    ensures unloaded { IfErr result (λ refused. IsUnloaded D.view config me site refused.0 refused.1) }
+    requires me { IsNode (length config.addresses) task.me }
+    ensures loaded { IfOk result (IsLoaded D.view config task site) }
+    ensures unloaded { IfErr result (λ refused. IsUnloaded D.view config task.me site refused.0 refused.1) }
 {
     let Equipment {
         areas,
         outbox,
         heads,
         probing,
-    } = match equip(alloc, &config, me, probes) {
+    } = match equip(alloc, &config, task.me, task.probes) {
         Ok(equipment) => equipment,
         Err(Memory) => return Err((site, KeepLoad::Memory)),
     };
     let Site { files, link, sink } = site;
     let seat = Seat {
-        id: me,
+        id: task.me,
         nodes: nodes_of(&config),
         chain: config.chain,
         chunk: config.chunk(),
@@ -71,6 +71,7 @@ pub(crate) fn load<D: Disk, L: Link, K: Sink>(
                 works: Works::new(alloc),
                 dials: Dials::new(alloc),
                 config,
+                log: task.log,
                 link,
                 sink,
                 heads,

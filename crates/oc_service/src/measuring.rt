@@ -1,11 +1,12 @@
 //! What was measured before a node runs.
 
 ghost use Rattle.std.specs.Prelude.{◌≡◌, ◌∷◌, [], All, IfErr, OnOk};
+ghost use Rattle.oc_keep.specs.KeptView.{node_of};
 ghost use Rattle.oc_server.specs.Deeds.{Takes};
 ghost use Rattle.oc_server.specs.Parts.{Stops};
-ghost use Rattle.oc_server.specs.Scenes.{Breaks, Did, IsServing, Taking};
-ghost use Rattle.oc_service.specs.Measuring.{input_of, takes_own_measures};
-ghost use Rattle.oc_service.specs.WhatNodeDoes.{own_measure, own_measures};
+ghost use Rattle.oc_server.specs.Scenes.{Breaks, Did, IsServing, Taking, setting};
+ghost use Rattle.oc_service.specs.Measuring.{begins_with, input_of, takes_own_measures};
+ghost use Rattle.oc_service.specs.WhatNodeDoes.{begins, own_measure, own_measures};
 ghost use Rattle.oc_updown.specs.MeasureLines.{IsMeasure};
 
 use oc_events::Link;
@@ -14,10 +15,21 @@ use oc_model::Input;
 use oc_server::{Server, TurnEnd};
 use oc_updown::Measure;
 
+/// Tells where the node is in the tree, where that is told, and takes what was measured.
+pub(crate) fn begin<D: Disk, L: Link, K: Sink>(server: &mut Server<D, L, K>) -> Result<(), TurnEnd>
+    requires serving { IsServing server.old }
+    requires lawful { All (IsMeasure server.old.kept.node.control.nodes) server.old.config.measures }
+    ensures did { OnOk result (Did D.view K.takes K.faults L.story L.counts
+        (begins (setting server.old) server.old.config.measures (node_of server.old.kept)) server.old server.new) }
+    ensures stops { IfErr result (λ end. Stops D.view K.takes K.fails K.faults L.story L.counts end
+        (begins_with server.old.config.measures) server.old server.new) }
+{
+    server.says_first()?;
+    take_measures(server)
+}
+
 /// Takes each measure of the configuration that is the node's own as an input, in their order.
-pub(crate) fn take_measures<D: Disk, L: Link, K: Sink>(
-    server: &mut Server<D, L, K>,
-) -> Result<(), TurnEnd>
+fn take_measures<D: Disk, L: Link, K: Sink>(server: &mut Server<D, L, K>) -> Result<(), TurnEnd>
     requires serving { IsServing server.old }
     requires lawful { All (IsMeasure server.old.kept.node.control.nodes) server.old.config.measures }
     ensures did { OnOk result (Did D.view K.takes K.faults L.story L.counts
@@ -47,9 +59,10 @@ fn take_measure<D: Disk, L: Link, K: Sink>(
     if measure.from != server.kept.node().id() {
         return Ok(());
     }
-    server.takes(Input::Measured {
+    let _answer = server.takes(Input::Measured {
         peer: measure.peer,
         rate: measure.rate,
         hops: measure.hops,
-    })
+    })?;
+    Ok(())
 }

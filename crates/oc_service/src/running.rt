@@ -9,19 +9,19 @@ ghost use Rattle.oc_keep.specs.KeptView.{IsHonest, NodeSurvives, disks_of, node_
 ghost use Rattle.oc_keep.specs.Promises.{HoldFiles};
 ghost use Rattle.oc_server.specs.Lawful.{IsReady};
 ghost use Rattle.oc_server.specs.Scenes.{IsServing};
-ghost use Rattle.oc_service.specs.OnSite.{EndsUnfailed, NodeEnds, at_run};
+ghost use Rattle.oc_service.specs.OnSite.{EndsUnfailed, NodeEnds, at_run, setting_of};
 ghost use Rattle.oc_service.specs.Running.{IsDeaf, Listens, RunEnds};
 ghost use Rattle.oc_updown.specs.MeasureLines.{IsMeasure};
 
 use crate::loading::load;
-use crate::measuring::take_measures;
+use crate::measuring::begin;
 use crate::site::Site;
 use oc_base::NodeId;
 use oc_config::Config;
 use oc_events::Link;
 use oc_io::{Disk, Sink};
 use oc_keep::{Files, KeepLoad};
-use oc_server::{Server, TurnEnd, Turns};
+use oc_server::{Log, Server, TurnEnd, Turns};
 use std::alloc::Global;
 
 /// What a node is asked to do.
@@ -33,6 +33,8 @@ pub struct Task {
     pub turns: u64,
     /// Whether it probes its peers.
     pub probes: bool,
+    /// What it writes of its inputs.
+    pub log: Log,
 }
 
 /// How the run of a node ended.
@@ -51,8 +53,8 @@ pub struct Ran<D: Disk, L: Link, K: Sink> {
     pub site: Site<D, L, K>,
 }
 
-/// Runs a node of a configuration: loads it from its files, waits where it listens, takes what was measured before, and
-/// makes its turns.
+/// Runs a node of a configuration: loads it from its files, waits where it listens, tells where it is in the tree where
+/// that is told, takes what was measured before, and makes its turns.
 pub fn run_node<D: Disk, L: Link, K: Sink>(
     alloc: Global,
     config: Config,
@@ -62,13 +64,13 @@ pub fn run_node<D: Disk, L: Link, K: Sink>(
     requires config { IsConfig config }
     requires me { IsNode (length config.addresses) task.me }
 
-    // What it did: with all its turns made, exactly what a node does in so many. Where it ended before: a front of
+    // What it did: with all its turns made, exactly what a node does in them. Where it ended before: a front of
     // that, and why. Where it was not loaded: which file is to blame. And what every crash leaves.
     ensures ends { NodeEnds
         (at_run D.view L.story L.counts config task (disks_in site.files) (disks_in result.site.files) site.link result.site.link)
         (λ text. K.takes site.sink text result.site.sink)
         (λ text. K.fails site.sink text result.site.sink × Rose (K.faults site.sink) (K.faults result.site.sink))
-        task.me result.end }
+        (setting_of config task) result.end }
 
     // Over the files of a node on honest disks, where neither a disk nor the output fails, nor the link in being asked,
     // all turns are made, unless there is no memory or a file is full.
@@ -82,9 +84,10 @@ pub fn run_node<D: Disk, L: Link, K: Sink>(
     // Where all turns are made the output's count of faults does not fall.
     ensures count { result.end ≡ NodeEnd.Turned TurnEnd.Served → NoFall (K.faults site.sink) (K.faults result.site.sink) }
 {
-    match load(alloc, config, task.me, task.probes, site) {
+    let most = task.turns;
+    match load(alloc, config, task, site) {
         Ok(mut turns) => {
-            let end = run(&mut turns, task.turns);
+            let end = run(&mut turns, most);
             Ran {
                 end: NodeEnd::Turned(end),
                 site: leave(turns),
@@ -108,7 +111,7 @@ fn run<D: Disk, L: Link, K: Sink>(turns: &mut Turns<D, L, K>, most: u64) -> Turn
         Ok(()) => {}
         Err(end) => return end,
     }
-    match take_measures(&mut turns.server) {
+    match begin(&mut turns.server) {
         Ok(()) => turns.serve(Some(most)),
         Err(end) => end,
     }
@@ -162,6 +165,7 @@ fn leave<D: Disk, L: Link, K: Sink>(turns: Turns<D, L, K>) -> Site<D, L, K>
         works,
         dials,
         config,
+        log: _,
         link,
         sink,
         heads,

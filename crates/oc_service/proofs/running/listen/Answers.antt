@@ -1,4 +1,4 @@
-use Rattle.std.proofs.Common.{◌≡◌, ◌∙◌, ◌-◌, ℕ, List, Option, [], ap, refl, rules, subst}
+use Rattle.std.proofs.Common.{◌≡◌, ◌∙◌, ℕ, List, Option, [], ap, refl, rules, subst}
 use Rattle.std.specs.Prelude.{unwrap_or}
 use Rattle.oc_events.specs.Told.{Adds}
 use Rattle.oc_events.specs.declared.call.Call.TheVariants as acts

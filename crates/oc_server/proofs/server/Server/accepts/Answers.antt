@@ -14,7 +14,7 @@ returns-clause-did g c =
     let s = c.args.self.now in
     did_accept g.D.Disk.view g.K.Sink.takes g.K.Sink.fails g.K.Sink.faults g.L.Link.story g.L.Link.counts c.args.input c.in_ok-outcome.outcome s _ c.requires.serving.is_open c.in_ok-outcome.ensures.kept
     (subst (λ (t : List ℕ). g.K.Sink.takes s.sink t c.write_line.new.sink) (c.deref.ensures.value ∙ c.in_ok-line.ensures) c.in_ok-write_line.ensures.wrote) c.write_line.ensures.count
-    refl refl refl refl (search rules)
+    refl refl refl refl refl (search rules)
 
 pub returns-in_err-line-clause-breaks : goal.returns-in_err-line-clause-breaks
 returns-in_err-line-clause-breaks g c =

@@ -1,5 +1,5 @@
 use Rattle.oc_server.proofs.Takes.{has_line}
-use Rattle.oc_server.proofs.taking.line_of.Goals as goal
+use Rattle.oc_server.proofs.taking.input_line.Goals as goal
 
 pub put_input_line-requires : goal.put_input_line-requires
 put_input_line-requires g c =

@@ -352,14 +352,20 @@ impl Connection {
         }
     }
 
-    /// Looks whether its time has run out; true where something is to be done about it. That of a request stands
-    /// still as long as it waits for others. One that was told, can be answered, and was left is dropped in the end.
-    pub(crate) fn expire(&mut self, now: u64) -> bool {
+    /// Whether its time has run out and nothing was done about that so far. That of a request stands still as long as
+    /// it waits for others.
+    pub(crate) fn is_due(&mut self, now: u64) -> bool {
         if self.is_held() {
             self.deadline.progress(now);
         }
-        if self.is_late || !self.deadline.is_over(now) {
-            return false;
+        !self.is_late && self.deadline.is_over(now)
+    }
+
+    /// Notes that its time has run out, where it has. One that was told, can be answered, and was left is dropped in
+    /// the end.
+    pub(crate) fn expire(&mut self, now: u64) {
+        if !self.is_due(now) {
+            return;
         }
         match self.stage {
             Stage::Awaiting if self.unsent.is_empty() => {
@@ -370,7 +376,6 @@ impl Connection {
             Stage::Lingering => self.stage = Stage::Over,
             _ => self.incoming.has_failed = true,
         }
-        true
     }
 
     /// What is to be done about it.

@@ -222,9 +222,23 @@ impl Dial {
             let head = self.bytes.get(..end).unwrap_or(&[]);
             if let Extent::Begun(outline) = response_extent(head, &mut tools.spans) {
                 self.outline = Some(outline);
+                return self.make_room();
             }
         }
         true
+    }
+
+    /// Makes room for the whole of its reply, so that what came is not copied again as the rest comes; false where there
+    /// is no memory for it.
+    fn make_room(&mut self) -> bool {
+        let Some(outline) = &self.outline else {
+            return true;
+        };
+        let body = outline.body.unwrap_or(0).min(MAX_BODY_BYTES) as usize;
+        let rest = body
+            .saturating_add(outline.head)
+            .saturating_sub(self.bytes.len());
+        self.bytes.reserve(rest).is_ok()
     }
 
     /// Whether its reply has come as far as its Content-Length says.
@@ -250,13 +264,16 @@ impl Dial {
         }
     }
 
-    /// Looks whether its time has run out; true where it has.
-    pub(crate) fn expire(&mut self, now: u64) -> bool {
-        let is_over = self.stage != Stage::Over && self.deadline.is_over(now);
-        if is_over {
+    /// Whether its time has run out.
+    pub(crate) fn is_due(&self, now: u64) -> bool {
+        self.stage != Stage::Over && self.deadline.is_over(now)
+    }
+
+    /// Ends it where its time has run out.
+    pub(crate) fn expire(&mut self, now: u64) {
+        if self.is_due(now) {
             self.end(Coming::Failed);
         }
-        is_over
     }
 
     /// Whether there may be more to read than `advance` read: it would not be told again.

@@ -16,8 +16,9 @@ pub(crate) const LARGE_BYTES: usize = 65_536;
 
 pub(crate) const MOST_LARGE: usize = 64;
 
-/// The most bytes that a connection was given and that did not go out: a chunk of 524,288 bytes and what is about it.
-pub(crate) const MOST_UNSENT: usize = 589_824;
+/// The most bytes that a connection was given and that did not go out. Nothing that is given at once has many more, and
+/// what its socket takes at once is not counted.
+pub(crate) const MOST_UNSENT: usize = 524_288;
 
 /// The send buffer that the system is asked for. The system's own choice grows to several MB, which hide for
 /// minutes whether a slow reader takes anything.
@@ -74,6 +75,9 @@ pub(crate) const MOST_READS: u32 = 32;
 
 /// How often an interrupted call is made again at most, and a wait.
 pub(crate) const MOST_TRIES: u32 = 1_000_000;
+
+/// The length of the block that is taken and given back before anything else (`warm_memory`), in bytes.
+pub(crate) const WARM_BYTES: usize = 16_777_216;
 
 /// How many events one wait gives, and the length of the buffer into which sockets are read, in bytes.
 pub(crate) const EVENTS: usize = 512;

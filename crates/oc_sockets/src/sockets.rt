@@ -43,7 +43,7 @@ struct Lost {
 /// The sockets of a running node: those of the connections that came in, those of its dials, and the one that
 /// listens. One wait serves them all.
 ///
-/// Each place at which something may be done stands once in one queue, and is looked at in its turn: what can be
+/// Each place at which something may be done is once in one queue, and is looked at in its turn: what can be
 /// done is done, and where something is to be told, it is. So no connection is served twice while another waits.
 #[derive(Drop)]
 pub(crate) struct Sockets {
@@ -201,11 +201,12 @@ impl Sockets {
         }
     }
 
-    /// Looks for those whose time has run out. They are looked at in their turn.
+    /// Looks for those whose time has run out. They are looked at in their turn, and what has come or may go out by
+    /// then counts: a node that had to wait for its disk, or was stopped for a while, finds its peers' answers there.
     fn sweep(&mut self, now: u64) {
         for place in 0..PLACES {
             if let Some(connection) = self.places.get_mut(place) {
-                if connection.expire(now) {
+                if connection.is_due(now) {
                     self.turns.push(place);
                 }
             }
@@ -218,7 +219,7 @@ impl Sockets {
         }
         for place in PLACES..LISTENER {
             if let Some(dial) = dial_at(&mut self.dials, place) {
-                if dial.expire(now) {
+                if dial.is_due(now) {
                     self.turns.push(place);
                 }
             }

@@ -31,6 +31,11 @@ impl<'a, R: Net<Stream = TcpStream> + Clock> Dials<'a, R> {
         }
     }
 
+    /// Where the outgoing connection leads, or the last one did.
+    pub(crate) fn address(&self) -> &str {
+        self.address.as_str()
+    }
+
     /// Connects, and writes what is to be said first.
     pub(crate) fn reach(&mut self, address: &str, bytes: &[u8]) -> io::Result<()> {
         self.asked.clear();

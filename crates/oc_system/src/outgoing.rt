@@ -9,6 +9,9 @@ use std::time::Duration;
 /// How long a call waits at most, in milliseconds. A node may keep one that follows waiting for ten seconds.
 const CALL_MILLIS: u64 = 40_000;
 
+/// How long one of the addresses of a name is tried at most, so that there is time for the next one.
+const ADDRESS_MILLIS: u64 = 10_000;
+
 /// How often a call is made at most, as long as it is interrupted or its bytes are not all written.
 const MOST_TRIES: u32 = 1_000_000;
 
@@ -108,7 +111,9 @@ fn connected<R: Net<Stream = TcpStream> + Clock>(rt: &R, address: &str) -> io::R
     let until = deadline(rt);
     let mut last = io::Error::from(ErrorKind::AddrNotAvailable);
     for each in address.to_socket_addrs(rt)? {
-        match TcpStream::connect_timeout(rt, &each, time_left(rt, until)?) {
+        let end = millis(rt).saturating_add(ADDRESS_MILLIS).min(until);
+        let patience = time_left(rt, end)?;
+        match TcpStream::connect_timeout(rt, &each, patience) {
             Ok(stream) => return Ok(stream),
             Err(error) => last = error,
         }

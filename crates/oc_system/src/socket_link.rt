@@ -16,7 +16,7 @@ pub struct SocketLink<'a, R> {
     listening: u64,
     talking: u64,
     dialling: u64,
-    /// Where the last dial failed, and why.
+    /// Where the last call that failed did, and why.
     place: String,
     error: Option<io::Error>,
 }
@@ -38,7 +38,7 @@ impl<'a, R: Net<Stream = TcpStream> + Clock> SocketLink<'a, R> {
         }
     }
 
-    /// Why a dial failed, if one did.
+    /// Why a call on a dial failed, if one did.
     pub fn trouble(&self) -> Option<Trouble<'_>> {
         match self.error {
             Some(error) => Some(Trouble {
@@ -101,7 +101,13 @@ impl<R: Net<Stream = TcpStream> + Clock> Link for SocketLink<'_, R> {
     fn dial_more(&mut self, bytes: &[u8]) -> Result<(), Failed> {
         match self.dials.ask(bytes) {
             Ok(()) => Ok(()),
-            Err(_) => {
+            Err(error) => {
+                keep(
+                    &mut self.error,
+                    &mut self.place,
+                    self.dials.address(),
+                    error,
+                );
                 self.dialling = self.dialling.saturating_add(1);
                 Err(Failed)
             }
@@ -111,7 +117,13 @@ impl<R: Net<Stream = TcpStream> + Clock> Link for SocketLink<'_, R> {
     fn dial_read(&mut self, buf: &mut [u8]) -> Result<usize, Failed> {
         match self.dials.hear(buf) {
             Ok(count) => Ok(count),
-            Err(_) => {
+            Err(error) => {
+                keep(
+                    &mut self.error,
+                    &mut self.place,
+                    self.dials.address(),
+                    error,
+                );
                 self.dialling = self.dialling.saturating_add(1);
                 Err(Failed)
             }

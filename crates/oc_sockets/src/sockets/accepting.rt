@@ -43,12 +43,13 @@ impl Sockets {
                         self.knocks = false;
                         self.restore_spare();
                     }
-                    ErrorKind::OutOfMemory => {
+                    // The connection that waited is over, or the call was interrupted: the next one is taken.
+                    ErrorKind::ConnectionAborted | ErrorKind::Interrupted => {}
+                    // Memory is wanting, or else something that does not pass by asking again at once.
+                    _ => {
                         self.shut(now);
                         return;
                     }
-                    // The connection that waited is over, or the call was interrupted: the next one is taken.
-                    _ => {}
                 },
             }
         }

@@ -105,6 +105,7 @@ impl Sockets {
             self.connect(rt, place);
         }
         let dial = dial_at(&mut self.dials, place)?;
+        dial.expire(now);
         if dial.is_busy() {
             self.turns.push(place);
         }

@@ -29,16 +29,17 @@ impl Sockets {
     /// Does what can be done on the connection at this place, and tells what happened on it, if anything did.
     fn look_at(&mut self, place: usize, now: u64) -> Option<Happened> {
         let connection = self.places.get_mut(place)?;
-        if connection.is_left() {
-            self.drop_at(place);
-            return None;
-        }
         let most = if connection.is_large || self.large < MOST_LARGE {
             MOST_MESSAGE
         } else {
             LARGE_BYTES
         };
         connection.advance(&mut self.tools, now, most);
+        connection.expire(now);
+        if connection.is_left() {
+            self.drop_at(place);
+            return None;
+        }
         if connection.incoming.len() > LARGE_BYTES && !connection.is_large {
             connection.is_large = true;
             self.large = self.large.saturating_add(1);

@@ -1,5 +1,5 @@
 -- What had happened leaves no other end to a command that has what it needs.
-use Rattle.std.proofs.Common.{◌≡◌, ℕ, inl, inr, refl, subst, ap, List, Option, Some, None}
+use Rattle.std.proofs.Common.{◌≡◌, ℕ, Bool, inl, inr, refl, subst, ap, List, Option, Some, None}
 use Rattle.oc_check.proofs.Complete.{only_memory}
 use Rattle.oc_fetch.specs.Completeness.{Completes, IsUnrefused}
 use Rattle.oc_fetch.specs.declared.end.GetEnd.{GetEnd}
@@ -14,12 +14,12 @@ use Rattle.oc_words.specs.declared.request.Download.{Download}
 use Rattle.oc_words.specs.declared.request.Member.{Member}
 use Rattle.oc_words.specs.declared.request.Request.{Request}
 use Rattle.oc_words.specs.declared.request.Request.TheVariants.{Check, Get}
-use Rattle.oc_commands.specs.AtGet.{HappenedAtGet}
+use Rattle.oc_commands.specs.AtGet.{Downloaded}
 use Rattle.oc_check.specs.declared.network.Network.{Network}
 use Rattle.oc_commands.specs.AtCheck.{HappenedAtCheck, network_of}
 use Rattle.oc_commands.specs.Complete.{IsDoneOrMemory, IsServed, once, plainly}
 use Rattle.oc_commands.specs.Ends.{status_of, status_of_check, status_of_get, status_of_load}
-use Rattle.oc_commands.specs.Outside.{Input, OnFiles, OnLink, OnNode, OnStage, Output, at_files, at_link}
+use Rattle.oc_commands.specs.Outside.{Input, OnError, OnFiles, OnLink, OnNode, OnStage, Output, at_files, at_link}
 use Rattle.oc_commands.specs.Run.{Happened}
 use Rattle.oc_words.specs.Status.{number_of}
 use Rattle.oc_commands.specs.declared.checking.CheckEnd.{CheckEnd}
@@ -46,65 +46,65 @@ module _ {D : Type 0} (view : D → DiskView) (old new : Disks D) (output : Outp
   check_done n id (checks.Load error) files h =
       inr (ap (λ e. number_of (status_of_load e)) (only_memory view n.nodes old new honest files unfailed error h.0.0))
 
-  pub checked : (input : Input) (stage : OnStage) (link : OnLink) (token : Input) (node : OnNode) (asked : Option Request) (m : Member) (f : Option (List ℕ)) (end : End) → asked ≡ Some (Check m f) → HoldFiles view m.nodes old
-      → Happened (record { asked = asked; input = input; output = output; stage = stage; files = at_files view old new; link = link; token = token; node = node }) end
+  pub checked : (input : Input) (error : OnError) (stage : OnStage) (link : OnLink) (token : Input) (node : OnNode) (asked : Option Request) (m : Member) (f : Option (List ℕ)) (end : End) → asked ≡ Some (Check m f) → HoldFiles view m.nodes old
+      → Happened (record { asked = asked; input = input; output = output; error = error; stage = stage; files = at_files view old new; link = link; token = token; node = node }) end
       → IsDoneOrMemory (number_of (status_of end))
-  checked input stage link token node asked m f Helped is files h = let also = h.0 in cc
-  checked input stage link token node asked m f HelpFailed is files h = let also = h.0 in cc
-  checked input stage link token node asked m f Versioned is files h = let also = h.0 in cc
-  checked input stage link token node asked m f VersionFailed is files h = let also = h.0 in cc
-  checked input stage link token node asked m f Misused is files h = let also = h.0 in cc
-  checked input stage link token node asked m f NoMemory is files h = inr refl
-  checked input stage link token node asked m f (Replayed end) is files h = let also = h.0.2 in cc
-  checked input stage link token node asked m f (Generated end) is files h = let also = h.0.1 in cc
-  checked input stage link token node asked m f (Listed end) is files h = let also = h.0.1 in cc
-  checked input stage link token node asked m f (Checked end) is files h =
+  checked input error stage link token node asked m f Helped is files h = let also = h.0 in cc
+  checked input error stage link token node asked m f HelpFailed is files h = let also = h.0 in cc
+  checked input error stage link token node asked m f Versioned is files h = let also = h.0 in cc
+  checked input error stage link token node asked m f VersionFailed is files h = let also = h.0 in cc
+  checked input error stage link token node asked m f Misused is files h = let also = h.0 in cc
+  checked input error stage link token node asked m f NoMemory is files h = inr refl
+  checked input error stage link token node asked m f (Replayed end) is files h = let also = h.0.2 in cc
+  checked input error stage link token node asked m f (Generated end) is files h = let also = h.0.1 in cc
+  checked input error stage link token node asked m f (Listed end) is files h = let also = h.0.1 in cc
+  checked input error stage link token node asked m f (Checked end) is files h =
       let (n, g, also, at) = h.0 in
       check_done (network_of m) m.id end files (subst (λ (x : Member). HappenedAtCheck (at_files view old new) output (network_of x) x.id end) (same_member asked m n f g is also) at)
-  checked input stage link token node asked m f (CheckedConfigured end) is files h = let also = h.0.2 in cc
-  checked input stage link token node asked m f (NoToken end) is files h = absurd (untokened asked (Check m f) h.0.0 is refl h.0.1)
-  checked input stage link token node asked m f (Got end) is files h = let also = h.0.1 in cc
-  checked input stage link token node asked m f (Published end) is files h = let also = h.0.1 in cc
-  checked input stage link token node asked m f (Served end) is files h = let also = h.0.2 in cc
+  checked input error stage link token node asked m f (CheckedConfigured end) is files h = let also = h.0.2 in cc
+  checked input error stage link token node asked m f (NoToken end) is files h = absurd (untokened asked (Check m f) h.0.0 is refl h.0.1)
+  checked input error stage link token node asked m f (Got end) is files h = let also = h.0.1 in cc
+  checked input error stage link token node asked m f (Published end) is files h = let also = h.0.1 in cc
+  checked input error stage link token node asked m f (Served end) is files h = let also = h.0.2 in cc
 
 module _ {L : Type 0} (story : L → Option Story) (faults : L → LinkFaults) (old new : L) (output : Output) (sound : IsSound output) (unfailed : Rose (faults old).dialling (faults new).dialling → ⊥) where
-  unrefused : (address : List ℕ) (start : Option ℕ) (end : GetEnd) → IsServed address start (story old) (story new) → HappenedAtGet (at_link story faults old new) output (once address start) None end → IsUnrefused end
-  unrefused address start end s h =
+  unrefused : (address : List ℕ) (start : Option ℕ) (progress : Bool) (end : GetEnd) → IsServed address start (story old) (story new) → Downloaded (at_link story faults old new) output (once address start progress) None end → IsUnrefused end
+  unrefused address start progress end s h =
       let told : Told (Completes (plainly start) s.url end) (Some s.before) (Some s.after) = subst (λ o. Told (Completes (plainly start) s.url end) o (Some s.after)) s.told_before (subst (λ o. Told (Completes (plainly start) s.url end) (story old) o) s.told_after (h.complete s.url s.address_is)) in
       told s.made s.dials_are s.lead
 
-  get_done : (address : List ℕ) (start : Option ℕ) (end : GetEnd) → IsUnrefused end → HappenedAtGet (at_link story faults old new) output (once address start) None end → IsDoneOrMemory (number_of (status_of_get end))
-  get_done address start gets.Done u h = inl refl
-  get_done address start gets.BadUrl u h = absurd u
-  get_done address start (gets.Refused status) u h = absurd u
-  get_done address start gets.Redirects u h = absurd u
-  get_done address start gets.Reply u h = absurd u
-  get_done address start gets.Link u h = absurd (unfailed h.blames)
-  get_done address start gets.Sink u h = absurd (sound _ h.wrote)
-  get_done address start gets.Memory u h = inr refl
+  get_done : (address : List ℕ) (start : Option ℕ) (progress : Bool) (end : GetEnd) → IsUnrefused end → Downloaded (at_link story faults old new) output (once address start progress) None end → IsDoneOrMemory (number_of (status_of_get end))
+  get_done address start progress gets.Done u h = inl refl
+  get_done address start progress gets.BadUrl u h = absurd u
+  get_done address start progress (gets.Refused status) u h = absurd u
+  get_done address start progress gets.Redirects u h = absurd u
+  get_done address start progress gets.Reply u h = absurd u
+  get_done address start progress gets.Link u h = absurd (unfailed h.blames)
+  get_done address start progress gets.Sink u h = absurd (sound _ h.wrote)
+  get_done address start progress gets.Memory u h = inr refl
 
-  pub fetched : (input : Input) (stage : OnStage) (files : OnFiles) (token : Input) (node : OnNode) (asked : Option Request) (address : List ℕ) (start : Option ℕ) (end : End) → asked ≡ Some (Get (once address start)) → IsServed address start (story old) (story new)
-      → Happened (record { asked = asked; input = input; output = output; stage = stage; files = files; link = at_link story faults old new; token = token; node = node }) end
+  pub fetched : (input : Input) (error : OnError) (stage : OnStage) (files : OnFiles) (token : Input) (node : OnNode) (asked : Option Request) (address : List ℕ) (start : Option ℕ) (progress : Bool) (end : End) → asked ≡ Some (Get (once address start progress)) → IsServed address start (story old) (story new)
+      → Happened (record { asked = asked; input = input; output = output; error = error; stage = stage; files = files; link = at_link story faults old new; token = token; node = node }) end
       → IsDoneOrMemory (number_of (status_of end))
-  fetched input stage files token node asked address start Helped is s h = let also = h.0 in cc
-  fetched input stage files token node asked address start HelpFailed is s h = let also = h.0 in cc
-  fetched input stage files token node asked address start Versioned is s h = let also = h.0 in cc
-  fetched input stage files token node asked address start VersionFailed is s h = let also = h.0 in cc
-  fetched input stage files token node asked address start Misused is s h = let also = h.0 in cc
-  fetched input stage files token node asked address start NoMemory is s h = inr refl
-  fetched input stage files token node asked address start (Replayed end) is s h = let also = h.0.2 in cc
-  fetched input stage files token node asked address start (Generated end) is s h = let also = h.0.1 in cc
-  fetched input stage files token node asked address start (Listed end) is s h = let also = h.0.1 in cc
-  fetched input stage files token node asked address start (Checked end) is s h = let also = h.0.2 in cc
-  fetched input stage files token node asked address start (CheckedConfigured end) is s h = let also = h.0.2 in cc
-  fetched input stage files token node asked address start (NoToken end) is s h = absurd (untokened asked (Get (once address start)) h.0.0 is refl h.0.1)
-  fetched input stage files token node asked address start (Got end) is s h =
+  fetched input error stage files token node asked address start progress Helped is s h = let also = h.0 in cc
+  fetched input error stage files token node asked address start progress HelpFailed is s h = let also = h.0 in cc
+  fetched input error stage files token node asked address start progress Versioned is s h = let also = h.0 in cc
+  fetched input error stage files token node asked address start progress VersionFailed is s h = let also = h.0 in cc
+  fetched input error stage files token node asked address start progress Misused is s h = let also = h.0 in cc
+  fetched input error stage files token node asked address start progress NoMemory is s h = inr refl
+  fetched input error stage files token node asked address start progress (Replayed end) is s h = let also = h.0.2 in cc
+  fetched input error stage files token node asked address start progress (Generated end) is s h = let also = h.0.1 in cc
+  fetched input error stage files token node asked address start progress (Listed end) is s h = let also = h.0.1 in cc
+  fetched input error stage files token node asked address start progress (Checked end) is s h = let also = h.0.2 in cc
+  fetched input error stage files token node asked address start progress (CheckedConfigured end) is s h = let also = h.0.2 in cc
+  fetched input error stage files token node asked address start progress (NoToken end) is s h = absurd (untokened asked (Get (once address start progress)) h.0.0 is refl h.0.1)
+  fetched input error stage files token node asked address start progress (Got end) is s h =
       let (d, also, bearer, took, at) = h.0 in
-      let same_d = same_download asked (once address start) d is also in
+      let same_d = same_download asked (once address start progress) d is also in
       let none = untaken token d.token_file bearer (ap (λ (x : Download). x.token_file) same_d) took in
       let same =
-      subst (λ x. HappenedAtGet (at_link story faults old new) output x None end) same_d
-      (subst (λ t. HappenedAtGet (at_link story faults old new) output d t end) none at) in
-      get_done address start end (unrefused address start end s same) same
-  fetched input stage files token node asked address start (Published end) is s h = let also = h.0.1 in cc
-  fetched input stage files token node asked address start (Served end) is s h = let also = h.0.2 in cc
+      subst (λ x. Downloaded (at_link story faults old new) output x None end) same_d
+      (subst (λ t. Downloaded (at_link story faults old new) output d t end) none at.did) in
+      get_done address start progress end (unrefused address start progress end s same) same
+  fetched input error stage files token node asked address start progress (Published end) is s h = let also = h.0.1 in cc
+  fetched input error stage files token node asked address start progress (Served end) is s h = let also = h.0.2 in cc

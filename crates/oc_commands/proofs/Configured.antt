@@ -16,7 +16,7 @@ use Rattle.oc_words.specs.declared.request.Request.TheVariants.{CheckConfigured 
 use Rattle.oc_commands.specs.AtCheck.{HappenedAtCheck, network_in}
 use Rattle.oc_commands.specs.AtConfigured.{HappenedAtConfigured, HasShownStatus, IsShownOf, IsShownOver}
 use Rattle.oc_commands.specs.Ends.{status_of, status_of_check, status_of_configured}
-use Rattle.oc_commands.specs.Outside.{Input, OnLink, OnNode, OnStage, Output, at_files, at_source}
+use Rattle.oc_commands.specs.Outside.{Input, OnError, OnLink, OnNode, OnStage, Output, at_files, at_source}
 use Rattle.oc_commands.specs.Run.{Happened}
 use Rattle.oc_words.specs.Status.{number_of}
 use Rattle.oc_commands.specs.declared.checking.CheckEnd.{CheckEnd}
@@ -72,23 +72,23 @@ module _ {S D : Type 0} (gives fails : S → List ℕ → S → Type 0) (ended :
       let (bytes, whole, is) = read in
       told id (Ok s) (number_of (status_of_check end)) bytes whole.0 whole.1 is.line is.gives (check_has s id end rest.0 rest.1)
 
-  pub shown : (stage : OnStage) (link : OnLink) (token : Input) (node : OnNode) (asked : Option Request) (id : ℕ) (p : Paths) (end : End) → asked ≡ Some (CheckRequest id p)
-      → Happened (record { asked = asked; input = at_source gives fails ended faulty old new; output = output; stage = stage; files = at_files view d e; link = link; token = token; node = node }) end
+  pub shown : (error : OnError) (stage : OnStage) (link : OnLink) (token : Input) (node : OnNode) (asked : Option Request) (id : ℕ) (p : Paths) (end : End) → asked ≡ Some (CheckRequest id p)
+      → Happened (record { asked = asked; input = at_source gives fails ended faulty old new; output = output; error = error; stage = stage; files = at_files view d e; link = link; token = token; node = node }) end
       → HasShownStatus gives ended view d id old new (number_of (status_of end)) ⊎ (number_of (status_of end) ≡ 4)
-  shown stage link token node asked id p Helped is h = let also = h.0 in cc
-  shown stage link token node asked id p HelpFailed is h = let also = h.0 in cc
-  shown stage link token node asked id p Versioned is h = let also = h.0 in cc
-  shown stage link token node asked id p VersionFailed is h = let also = h.0 in cc
-  shown stage link token node asked id p Misused is h = let also = h.0 in cc
-  shown stage link token node asked id p NoMemory is h = inr refl
-  shown stage link token node asked id p (Replayed end) is h = let also = h.0.2 in cc
-  shown stage link token node asked id p (Generated end) is h = let also = h.0.1 in cc
-  shown stage link token node asked id p (Listed end) is h = let also = h.0.1 in cc
-  shown stage link token node asked id p (Checked end) is h = let also = h.0.2 in cc
-  shown stage link token node asked id p (CheckedConfigured end) is h =
+  shown error stage link token node asked id p Helped is h = let also = h.0 in cc
+  shown error stage link token node asked id p HelpFailed is h = let also = h.0 in cc
+  shown error stage link token node asked id p Versioned is h = let also = h.0 in cc
+  shown error stage link token node asked id p VersionFailed is h = let also = h.0 in cc
+  shown error stage link token node asked id p Misused is h = let also = h.0 in cc
+  shown error stage link token node asked id p NoMemory is h = inr refl
+  shown error stage link token node asked id p (Replayed end) is h = let also = h.0.2 in cc
+  shown error stage link token node asked id p (Generated end) is h = let also = h.0.1 in cc
+  shown error stage link token node asked id p (Listed end) is h = let also = h.0.1 in cc
+  shown error stage link token node asked id p (Checked end) is h = let also = h.0.2 in cc
+  shown error stage link token node asked id p (CheckedConfigured end) is h =
       let (n, q, also, at) = h.0 in
       configured_has id end (subst (λ x. HappenedAtConfigured (at_source gives fails ended faulty old new) (at_files view d e) output x end) (same_id asked id n p q is also) at)
-  shown stage link token node asked id p (NoToken end) is h = absurd (untokened asked (CheckRequest id p) h.0.0 is refl h.0.1)
-  shown stage link token node asked id p (Got end) is h = let also = h.0.1 in cc
-  shown stage link token node asked id p (Published end) is h = let also = h.0.1 in cc
-  shown stage link token node asked id p (Served end) is h = let also = h.0.2 in cc
+  shown error stage link token node asked id p (NoToken end) is h = absurd (untokened asked (CheckRequest id p) h.0.0 is refl h.0.1)
+  shown error stage link token node asked id p (Got end) is h = let also = h.0.1 in cc
+  shown error stage link token node asked id p (Published end) is h = let also = h.0.1 in cc
+  shown error stage link token node asked id p (Served end) is h = let also = h.0.2 in cc

@@ -5,6 +5,7 @@ pub mod Statuses
 mod Replayed
 pub mod Completes
 pub mod Configured
+mod LinesTold
 mod Gotten
 mod Posted
 pub mod Tokens

@@ -1,7 +1,9 @@
 -- What a publishing did, told of a link and an input.
-use Rattle.std.proofs.Common.{◌≡◌, ℕ, Bool, true, false, Option, List, refl, subst, inl, inr}
+use Rattle.std.proofs.Common.{◌≡◌, ℕ, Bool, true, false, Option, List, ◌++◌, length, refl, subst, inl, inr}
 use Rattle.oc_fetch.specs.Addresses.{IsBadAddress}
 use Rattle.oc_fetch.specs.Lines.{Tells}
+use Rattle.oc_fetch.specs.ProgressLines.{Grows}
+use Rattle.oc_fetch.specs.declared.progress_lines.ProgressLines.{ProgressLines}
 use Rattle.oc_io.specs.Faults.{Rose}
 use Rattle.oc_link.specs.LinkCalls.{LinkFaults}
 use Rattle.oc_link.specs.Story.{Story}
@@ -10,8 +12,13 @@ use Rattle.oc_put.specs.declared.end.PutEnd.{PutEnd}
 use Rattle.oc_put.specs.declared.end.PutEnd.TheVariants as puts
 use Rattle.oc_put.specs.declared.plan.Plan.{Plan}
 use Rattle.oc_words.specs.declared.request.Upload.{Upload}
-use Rattle.oc_commands.specs.AtPut.{Blames, Came, CameSo, HappenedAtPut, Published, plan_of}
-use Rattle.oc_commands.specs.Outside.{Input, OnLink, at_link, at_source}
+use Rattle.oc_commands.specs.AtPut.{Blames, Came, CameSo, HappenedAtPut, Published, is_done, plan_of}
+use Rattle.oc_commands.specs.AtPut as posted_at
+use Rattle.oc_commands.specs.Counting.{Fails, Takes}
+use Rattle.oc_commands.specs.Outside.{Input, OnError, OnLink, at_link, at_source}
+use Rattle.oc_commands.specs.Telling.{at_error, last_line}
+use Rattle.oc_commands.specs.declared.progress.Counting.{Counting}
+use Rattle.oc_commands.proofs.LinesTold.{silent_of, told_of}
 
 blames_of : (link : OnLink) (end : PutEnd) → (end ≡ puts.Link → link.has_failed) → Blames link end
 blames_of link puts.Link cause = cause refl
@@ -66,17 +73,40 @@ module _ {S : Type 0} (gives fails : S → List ℕ → S → Type 0) (ended : S
     pub posted : (address : List ℕ) (shown : Option (List ℕ)) (plan : Plan) → address ≡ u.address → shown ≡ token → plan ≡ plan_of u
         → IsPublished gives fails ended plan address shown (story before) (story after) old new end → (IsBadAddress address → IsUnasked address end)
         → (end ≡ puts.Input → Rose (count old) (count new)) → (end ≡ puts.Link → Rose (faults before).dialling (faults after).dialling)
-        → HappenedAtPut link input u token end
-    posted address shown plan address_is shown_is plan_is is bad input_cause link_cause = record {
+        → (error : OnError) → posted_at.Tells error input u.progress end → HappenedAtPut link input error u token end
+    posted address shown plan address_is shown_is plan_is is bad input_cause link_cause error tells = record {
       published =
           subst (λ p. Published link input p u.address token end) plan_is
           (subst (λ t. Published link input plan u.address t end) shown_is
           (subst (λ a. Published link input plan a shown end) address_is (published_of plan address shown is input_cause)));
       bad = subst (λ a. IsBadAddress a → IsUnasked a end) address_is bad;
       blames = blames_of link end link_cause;
+      tells = tells;
     }
 
--- where no lines are wanted, nothing is written
-pub untold : {E : Type 0} (takes fails : E → List ℕ → E → Type 0) (old new : E) (wanted active : Bool) (text : List ℕ) → wanted ≡ false → Tells takes fails old new wanted active text → new ≡ old
-untold takes fails old new false active text is told = told.0
-untold takes fails old new true active text is told = cc
+  -- what was told of it
+  module _ {E : Type 0} (writes breaks : E → List ℕ → E → Type 0) (faults : E → ℕ)
+      (then : (a b c : E) (x y : List ℕ) → writes a x b → writes b y c → writes a (x ++ y) c) (then_breaks : (a b c : E) (x y : List ℕ) → writes a x b → breaks b y c → breaks a (x ++ y) c)
+      (first mid : ProgressLines (Counting E)) (last : Counting E) (active : Bool) (zero : first.count ≡ 0) where
+    abbrev T : Counting E → List ℕ → Counting E → Type 0
+    T = Takes writes faults
+
+    abbrev F : Counting E → List ℕ → Counting E → Type 0
+    F = Fails breaks faults
+
+    pub tells_of : (wanted : Bool) (end : PutEnd) → first.active ≡ wanted → ((more : ℕ) × Grows T F first more mid)
+        → (end ≡ puts.Done → (came : List ℕ) × gives old came new × Grows T F first (length came) mid)
+        → Tells T F mid.sink last mid.active active (last_line (is_done end) mid.count)
+        → posted_at.Tells (at_error writes breaks faults first.sink.sink last.sink) input wanted end
+    tells_of false end is (more, grows) done ends = silent_of writes breaks faults then then_breaks first mid last active (is_done end) more grows ends is
+    tells_of true puts.Done is grows done ends =
+        let (came, gave, all) = done refl in
+        (length came, told_of writes breaks faults then then_breaks first mid last active true (length came) all ends zero is, λ e. (came, gave, refl))
+    tells_of true puts.BadUrl is (more, grows) done ends = (more, told_of writes breaks faults then then_breaks first mid last active false more grows ends zero is, λ e. cc)
+    tells_of true (puts.Refused status) is (more, grows) done ends = (more, told_of writes breaks faults then then_breaks first mid last active false more grows ends zero is, λ e. cc)
+    tells_of true (puts.Length found) is (more, grows) done ends = (more, told_of writes breaks faults then then_breaks first mid last active false more grows ends zero is, λ e. cc)
+    tells_of true puts.Short is (more, grows) done ends = (more, told_of writes breaks faults then then_breaks first mid last active false more grows ends zero is, λ e. cc)
+    tells_of true puts.Reply is (more, grows) done ends = (more, told_of writes breaks faults then then_breaks first mid last active false more grows ends zero is, λ e. cc)
+    tells_of true puts.Link is (more, grows) done ends = (more, told_of writes breaks faults then then_breaks first mid last active false more grows ends zero is, λ e. cc)
+    tells_of true puts.Input is (more, grows) done ends = (more, told_of writes breaks faults then then_breaks first mid last active false more grows ends zero is, λ e. cc)
+    tells_of true puts.Memory is (more, grows) done ends = (more, told_of writes breaks faults then then_breaks first mid last active false more grows ends zero is, λ e. cc)

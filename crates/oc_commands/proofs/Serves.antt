@@ -11,7 +11,7 @@ use Rattle.oc_io.specs.DiskView.{DiskView}
 use Rattle.oc_io.specs.Faults.{Rose}
 use Rattle.oc_keep.specs.Files.{Disks, AreHonest, OneRose}
 use Rattle.oc_keep.specs.declared.errors.KeepLoad.TheVariants as loads
-use Rattle.oc_service.specs.OnSite.{NodeEnds, at_run}
+use Rattle.oc_service.specs.OnSite.{NodeEnds, at_run, setting_of}
 use Rattle.oc_service.specs.declared.running.NodeEnd.{NodeEnd}
 use Rattle.oc_service.specs.declared.running.NodeEnd.TheVariants as nodes
 use Rattle.oc_server.specs.declared.ends.TurnEnd.TheVariants as turns
@@ -21,7 +21,7 @@ use Rattle.oc_words.specs.declared.request.Request.TheVariants.{Node}
 use Rattle.oc_words.specs.declared.request.Service.{Service}
 use Rattle.oc_commands.specs.AtNode.{HappenedAtNode, HasNode, HasServiceStatus, IsStatusOf, IsStatusOver, task_of}
 use Rattle.oc_commands.specs.Ends.{status_of, status_of_run, status_of_service}
-use Rattle.oc_commands.specs.Outside.{Input, OnLink, OnStage, Output, at_files, at_node, at_source}
+use Rattle.oc_commands.specs.Outside.{Input, OnError, OnLink, OnStage, Output, at_files, at_node, at_source}
 use Rattle.oc_commands.specs.Run.{Happened}
 use Rattle.oc_words.specs.Status.{number_of}
 use Rattle.oc_commands.specs.declared.configuring.ConfigEnd.TheVariants as configs
@@ -44,7 +44,7 @@ module _ {S D N : Type 0} (gives fails : S → List ℕ → S → Type 0) (ended
   OrMemory P status = P status ⊎ (status ≡ 4)
 
   -- over the files of a node
-  run_has : (s : Settings) (v : Service) (end : NodeEnd) → HasNode s v → NodeEnds (at_run view story counts s (task_of v) d e link after) output.written output.cut_off v.id end
+  run_has : (s : Settings) (v : Service) (end : NodeEnd) → HasNode s v → NodeEnds (at_run view story counts s (task_of v) d e link after) output.written output.cut_off (setting_of s (task_of v)) end
       → OrMemory (IsStatusOver view d s v) (number_of (status_of_run end))
   run_has s v (nodes.Load loads.Memory) node h = inr refl
   run_has s v (nodes.Load loads.Disk) node h =
@@ -85,23 +85,23 @@ module _ {S D N : Type 0} (gives fails : S → List ℕ → S → Type 0) (ended
       let (bytes, whole, is) = read in
       told v (Ok s) (number_of (status_of_run end)) bytes whole.0 whole.1 is.line is.gives (run_has s v end rest.0 rest.1)
 
-  pub served : (stage : OnStage) (dialler : OnLink) (token : Input) (asked : Option Request) (v : Service) (p : Paths) (end : End) → asked ≡ Some (Node v p)
-      → Happened (record { asked = asked; input = at_source gives fails ended faulty old new; output = output; stage = stage; files = at_files view d e; link = dialler; token = token; node = at_node view story counts d e link after }) end
+  pub served : (error : OnError) (stage : OnStage) (dialler : OnLink) (token : Input) (asked : Option Request) (v : Service) (p : Paths) (end : End) → asked ≡ Some (Node v p)
+      → Happened (record { asked = asked; input = at_source gives fails ended faulty old new; output = output; error = error; stage = stage; files = at_files view d e; link = dialler; token = token; node = at_node view story counts d e link after }) end
       → HasServiceStatus gives ended view d v old new (number_of (status_of end)) ⊎ (number_of (status_of end) ≡ 4)
-  served stage dialler token asked v p Helped is h = let also = h.0 in cc
-  served stage dialler token asked v p HelpFailed is h = let also = h.0 in cc
-  served stage dialler token asked v p Versioned is h = let also = h.0 in cc
-  served stage dialler token asked v p VersionFailed is h = let also = h.0 in cc
-  served stage dialler token asked v p Misused is h = let also = h.0 in cc
-  served stage dialler token asked v p NoMemory is h = inr refl
-  served stage dialler token asked v p (Replayed end) is h = let also = h.0.2 in cc
-  served stage dialler token asked v p (Generated end) is h = let also = h.0.1 in cc
-  served stage dialler token asked v p (Listed end) is h = let also = h.0.1 in cc
-  served stage dialler token asked v p (Checked end) is h = let also = h.0.2 in cc
-  served stage dialler token asked v p (CheckedConfigured end) is h = let also = h.0.2 in cc
-  served stage dialler token asked v p (NoToken end) is h = absurd (untokened asked (Node v p) h.0.0 is refl h.0.1)
-  served stage dialler token asked v p (Got end) is h = let also = h.0.1 in cc
-  served stage dialler token asked v p (Published end) is h = let also = h.0.1 in cc
-  served stage dialler token asked v p (Served end) is h =
+  served error stage dialler token asked v p Helped is h = let also = h.0 in cc
+  served error stage dialler token asked v p HelpFailed is h = let also = h.0 in cc
+  served error stage dialler token asked v p Versioned is h = let also = h.0 in cc
+  served error stage dialler token asked v p VersionFailed is h = let also = h.0 in cc
+  served error stage dialler token asked v p Misused is h = let also = h.0 in cc
+  served error stage dialler token asked v p NoMemory is h = inr refl
+  served error stage dialler token asked v p (Replayed end) is h = let also = h.0.2 in cc
+  served error stage dialler token asked v p (Generated end) is h = let also = h.0.1 in cc
+  served error stage dialler token asked v p (Listed end) is h = let also = h.0.1 in cc
+  served error stage dialler token asked v p (Checked end) is h = let also = h.0.2 in cc
+  served error stage dialler token asked v p (CheckedConfigured end) is h = let also = h.0.2 in cc
+  served error stage dialler token asked v p (NoToken end) is h = absurd (untokened asked (Node v p) h.0.0 is refl h.0.1)
+  served error stage dialler token asked v p (Got end) is h = let also = h.0.1 in cc
+  served error stage dialler token asked v p (Published end) is h = let also = h.0.1 in cc
+  served error stage dialler token asked v p (Served end) is h =
       let (w, q, also, at) = h.0 in
       service_has v end (subst (λ x. HappenedAtNode (at_source gives fails ended faulty old new) (at_node view story counts d e link after) output x end) (same_service asked v w p q is also) at)

@@ -1,5 +1,5 @@
 -- What had happened, told of the outside in other words that follow.
-use Rattle.std.proofs.Common.{ℕ, Bool, true, false, List, Option, Some, None, Result, Ok, Err, inl, inr, take}
+use Rattle.std.proofs.Common.{ℕ, Bool, true, false, List, length, Option, Some, None, Result, Ok, Err, inl, inr, take}
 use Rattle.oc_config.specs.Settings.{Settings}
 use Rattle.oc_config.specs.declared.fault.ConfigFault.TheVariants as faults
 use Rattle.oc_fetch.specs.declared.end.GetEnd.{GetEnd}
@@ -22,14 +22,14 @@ use Rattle.oc_commands.specs.AtCheck.{HappenedAtCheck, network_in, network_of}
 use Rattle.oc_commands.specs.AtConfig.{ReadsConfig}
 use Rattle.oc_commands.specs.AtConfigured.{HappenedAtConfigured}
 use Rattle.oc_commands.specs.AtGen.{HappenedAtGen}
-use Rattle.oc_commands.specs.AtGet.{HappenedAtGet, Wrote}
+use Rattle.oc_commands.specs.AtGet.{Downloaded, HappenedAtGet, Tells as GetTells, Wrote, is_done as is_got}
 use Rattle.oc_commands.specs.AtNode.{HappenedAtNode, task_of}
-use Rattle.oc_commands.specs.AtPut.{Came, CameSo, HappenedAtPut, Published as Posted, plan_of}
+use Rattle.oc_commands.specs.AtPut.{Came, CameSo, HappenedAtPut, Published as Posted, Tells as PutTells, is_done as is_put, plan_of}
 use Rattle.oc_commands.specs.AtReplay.{HappenedAtReplay}
 use Rattle.oc_commands.specs.AtRules.{HappenedAtRules}
 use Rattle.oc_commands.specs.AtToken.{ReadsToken, TakesToken}
 use Rattle.oc_commands.specs.Lines.{version_line}
-use Rattle.oc_commands.specs.Outside.{Input, Output, OnFiles, OnLink, OnNode, OnStage, Outside}
+use Rattle.oc_commands.specs.Outside.{Input, OnError, OnFiles, OnLink, OnNode, OnStage, Output, Outside}
 use Rattle.oc_commands.specs.Run.{Happened, IsAlone, IsFileless, IsOffline, IsUnplayed}
 use Rattle.oc_commands.specs.declared.checking.CheckEnd.{CheckEnd}
 use Rattle.oc_commands.specs.declared.checking.CheckEnd.TheVariants as checks
@@ -47,7 +47,8 @@ use Rattle.oc_commands.specs.declared.serving.ServiceEnd.{ServiceEnd}
 use Rattle.oc_commands.specs.declared.serving.ServiceEnd.TheVariants as services
 use Rattle.oc_commands.specs.declared.token.TokenEnd.{TokenEnd}
 use Rattle.oc_commands.specs.declared.token.TokenEnd.TheVariants as tokens
-use Rattle.oc_service.specs.OnSite.{NodeEnds, OnRun, Stops}
+use Rattle.oc_server.specs.Deeds.{Setting}
+use Rattle.oc_service.specs.OnSite.{NodeEnds, OnRun, Stops, setting_of}
 use Rattle.oc_service.specs.declared.running.NodeEnd.{NodeEnd}
 use Rattle.oc_service.specs.declared.running.NodeEnd.TheVariants as nodes
 use Rattle.oc_server.specs.declared.ends.TurnEnd.{TurnEnd}
@@ -70,7 +71,12 @@ pub record TellsOutput (o p : Output) : Type 0 where
   pub written : (text : List ℕ) → o.written text → p.written text
   pub cut_off : (text : List ℕ) → o.cut_off text → p.cut_off text
 
-module _ (i j : Input) (o p : Output) (stage : OnStage) (input : TellsInput i j) (output : TellsOutput o p) where
+-- and of the error output
+pub record TellsError (d e : OnError) : Type 0 where
+  pub told : (whole : Bool) (count : ℕ) → d.told whole count → e.told whole count
+  pub silent : d.silent → e.silent
+
+module _ (i j : Input) (o p : Output) (d e : OnError) (stage : OnStage) (input : TellsInput i j) (output : TellsOutput o p) (error : TellsError d e) where
   -- at the end of a replay
   replay_told : (summary : Bool) (end : ReplayEnd) → HappenedAtReplay i o stage summary end → HappenedAtReplay j p stage summary end
   replay_told summary replays.Done h = let (s, says, lawful, written, played, holds) = h in (s, input.says _ says, lawful, output.written _ written, played, holds)
@@ -130,8 +136,8 @@ module _ (i j : Input) (o p : Output) (stage : OnStage) (input : TellsInput i j)
   wrote_told bytes gets.Link h = output.written _ h
   wrote_told bytes gets.Memory h = output.written _ h
 
-  get_told : (link : OnLink) (download : Download) (token : Option (List ℕ)) (end : GetEnd) → HappenedAtGet link o download token end → HappenedAtGet link p download token end
-  get_told link download token end h = record {
+  downloaded_told : (link : OnLink) (download : Download) (token : Option (List ℕ)) (end : GetEnd) → Downloaded link o download token end → Downloaded link p download token end
+  downloaded_told link download token end h = record {
     turns = h.turns;
     written = h.written;
     makes = h.makes;
@@ -140,6 +146,17 @@ module _ (i j : Input) (o p : Output) (stage : OnStage) (input : TellsInput i j)
     bad = h.bad;
     blames = h.blames;
     complete = h.complete;
+  }
+
+  got_told : (wanted : Bool) (end : GetEnd) (count : ℕ) → GetTells d wanted end count → GetTells e wanted end count
+  got_told false end count h = error.silent h
+  got_told true end count h = error.told (is_got end) count h
+
+  get_told : (link : OnLink) (download : Download) (token : Option (List ℕ)) (end : GetEnd) → HappenedAtGet link o d download token end → HappenedAtGet link p e download token end
+  unfolding downloaded_told
+  get_told link download token end h = record {
+    did = downloaded_told link download token end h.did;
+    tells = got_told download.progress end (length h.did.written) h.tells;
   }
 
   -- at the end of `put`
@@ -173,54 +190,59 @@ module _ (i j : Input) (o p : Output) (stage : OnStage) (input : TellsInput i j)
     },
   )
 
-  put_told : (link : OnLink) (u : Upload) (token : Option (List ℕ)) (end : PutEnd) → HappenedAtPut link i u token end → HappenedAtPut link j u token end
+  posted_told : (wanted : Bool) (end : PutEnd) → PutTells d i wanted end → PutTells e j wanted end
+  posted_told false end h = error.silent h
+  posted_told true end h = (h.0, error.told (is_put end) h.0 h.1, λ is. let (bytes, gave, all) = h.2 is in (bytes, input.gave bytes gave, all))
+
+  put_told : (link : OnLink) (u : Upload) (token : Option (List ℕ)) (end : PutEnd) → HappenedAtPut link i d u token end → HappenedAtPut link j e u token end
   put_told link u token end h = record {
     published = published_told link (plan_of u) u.address token end h.published;
     bad = h.bad;
     blames = h.blames;
+    tells = posted_told u.progress end h.tells;
   }
 
   -- at the end of `node`
-  stops_told : (run : OnRun) (me : ℕ) (end : TurnEnd) → Stops run o.written o.cut_off me end → Stops run p.written p.cut_off me end
-  stops_told run me turns.Sink h = let (deeds, under, cut, stopped) = h in (deeds, under, (cut.0, cut.1, output.cut_off _ cut.2), stopped)
-  stops_told run me turns.Served h = let (deeds, under, written, stopped) = h in (deeds, under, output.written _ written, stopped)
-  stops_told run me turns.Quiet h = let (deeds, under, written, stopped) = h in (deeds, under, output.written _ written, stopped)
-  stops_told run me turns.Link h = let (deeds, under, written, stopped) = h in (deeds, under, output.written _ written, stopped)
-  stops_told run me turns.Disk h = let (deeds, under, written, stopped) = h in (deeds, under, output.written _ written, stopped)
-  stops_told run me turns.Full h = let (deeds, under, written, stopped) = h in (deeds, under, output.written _ written, stopped)
-  stops_told run me turns.Memory h = let (deeds, under, written, stopped) = h in (deeds, under, output.written _ written, stopped)
+  stops_told : (run : OnRun) (s : Setting) (end : TurnEnd) → Stops run o.written o.cut_off s end → Stops run p.written p.cut_off s end
+  stops_told run s turns.Sink h = let (deeds, under, cut, stopped) = h in (deeds, under, (cut.0, cut.1, output.cut_off _ cut.2), stopped)
+  stops_told run s turns.Served h = let (deeds, under, written, stopped) = h in (deeds, under, output.written _ written, stopped)
+  stops_told run s turns.Quiet h = let (deeds, under, written, stopped) = h in (deeds, under, output.written _ written, stopped)
+  stops_told run s turns.Link h = let (deeds, under, written, stopped) = h in (deeds, under, output.written _ written, stopped)
+  stops_told run s turns.Disk h = let (deeds, under, written, stopped) = h in (deeds, under, output.written _ written, stopped)
+  stops_told run s turns.Full h = let (deeds, under, written, stopped) = h in (deeds, under, output.written _ written, stopped)
+  stops_told run s turns.Memory h = let (deeds, under, written, stopped) = h in (deeds, under, output.written _ written, stopped)
 
-  run_told : (run : OnRun) (me : ℕ) (end : NodeEnd) → NodeEnds run o.written o.cut_off me end → NodeEnds run p.written p.cut_off me end
-  run_told run me (nodes.Load error) h = (h.0, output.written _ h.1)
-  run_told run me (nodes.Turned turns.Served) h = let (deeds, written, did) = h in (deeds, output.written _ written, did)
-  run_told run me (nodes.Turned turns.Quiet) h = h
-  run_told run me (nodes.Turned turns.Link) (inl h) = inl (output.written _ h.0, h.1)
-  run_told run me (nodes.Turned turns.Link) (inr h) = inr (stops_told run me turns.Link h)
-  run_told run me (nodes.Turned turns.Disk) h = stops_told run me turns.Disk h
-  run_told run me (nodes.Turned turns.Full) h = stops_told run me turns.Full h
-  run_told run me (nodes.Turned turns.Sink) h = stops_told run me turns.Sink h
-  run_told run me (nodes.Turned turns.Memory) h = stops_told run me turns.Memory h
+  run_told : (run : OnRun) (s : Setting) (end : NodeEnd) → NodeEnds run o.written o.cut_off s end → NodeEnds run p.written p.cut_off s end
+  run_told run s (nodes.Load error) h = (h.0, output.written _ h.1)
+  run_told run s (nodes.Turned turns.Served) h = let (deeds, written, did) = h in (deeds, output.written _ written, did)
+  run_told run s (nodes.Turned turns.Quiet) h = h
+  run_told run s (nodes.Turned turns.Link) (inl h) = inl (output.written _ h.0, h.1)
+  run_told run s (nodes.Turned turns.Link) (inr h) = inr (stops_told run s turns.Link h)
+  run_told run s (nodes.Turned turns.Disk) h = stops_told run s turns.Disk h
+  run_told run s (nodes.Turned turns.Full) h = stops_told run s turns.Full h
+  run_told run s (nodes.Turned turns.Sink) h = stops_told run s turns.Sink h
+  run_told run s (nodes.Turned turns.Memory) h = stops_told run s turns.Memory h
 
   node_told : (node : OnNode) (v : Service) (end : ServiceEnd) → HappenedAtNode i node o v end → HappenedAtNode j node p v end
   node_told node v (services.Config end) h = (config_told (Err end) h.0, output.written _ h.1)
   node_told node v services.Stranger h = let (settings, read, rest) = h in (settings, config_told (Ok settings) read, (rest.0, output.written _ rest.1))
-  node_told node v (services.Ran end) h = let (settings, read, rest) = h in (settings, config_told (Ok settings) read, (rest.0, run_told (node.run settings (task_of v)) v.id end rest.1))
+  node_told node v (services.Ran end) h = let (settings, read, rest) = h in (settings, config_told (Ok settings) read, (rest.0, run_told (node.run settings (task_of v)) (setting_of settings (task_of v)) end rest.1))
 
   module _ (asked : Option Request) (files : OnFiles) (link : OnLink) (node : OnNode) (t u : Input) (token : TellsInput t u) where
     abbrev before : Outside
-    before = record { asked = asked; input = i; output = o; stage = stage; files = files; link = link; token = t; node = node }
+    before = record { asked = asked; input = i; output = o; error = d; stage = stage; files = files; link = link; token = t; node = node }
 
     abbrev after : Outside
-    after = record { asked = asked; input = j; output = p; stage = stage; files = files; link = link; token = u; node = node }
+    after = record { asked = asked; input = j; output = p; error = e; stage = stage; files = files; link = link; token = u; node = node }
 
     unplayed_told : IsUnplayed before → IsUnplayed after
     unplayed_told n = record { input = input.unread n.input; stage = n.stage }
 
     alone_told : IsAlone before → IsAlone after
-    alone_told a = record { files = a.files; link = a.link; token = token.unread a.token; node = a.node }
+    alone_told a = record { error = error.silent a.error; files = a.files; link = a.link; token = token.unread a.token; node = a.node }
 
     offline_told : IsOffline before → IsOffline after
-    offline_told a = record { link = a.link; token = token.unread a.token; node = a.node }
+    offline_told a = record { error = error.silent a.error; link = a.link; token = token.unread a.token; node = a.node }
 
     fileless_told : IsFileless before → IsFileless after
     fileless_told a = record { files = a.files; node = a.node }
@@ -252,7 +274,7 @@ module _ (i j : Input) (o p : Output) (stage : OnStage) (input : TellsInput i j)
     happened_told (Listed end) h = let (a, at, unplayed, n) = h in (a, rules_told end at, unplayed, alone_told n)
     happened_told (Checked end) h = let ((member, folder, a, at), x, n) = h in ((member, folder, a, check_told files (network_of member) member.id end at), unplayed_told x, offline_told n)
     happened_told (CheckedConfigured end) h = let ((id, paths, a, at), unplayed, n, f) = h in ((id, paths, a, configured_told files id end at), unplayed, offline_told n, f)
-    happened_told (NoToken end) h = let ((file, a, read), written, x, l, n) = h in ((file, a, token_told (Err end) read), output.written _ written, unplayed_told x, l, fileless_told n)
+    happened_told (NoToken end) h = let ((file, a, read), written, x, l, n, q) = h in ((file, a, token_told (Err end) read), output.written _ written, unplayed_told x, l, fileless_told n, error.silent q)
     happened_told (Got end) h = let ((download, a, bearer, took, at), x, n) = h in ((download, a, bearer, took_told download.token_file bearer took, get_told link download bearer end at), unplayed_told x, fileless_told n)
     happened_told (Published end) h = let ((upload, a, bearer, took, at), written, unplayed, n) = h in ((upload, a, bearer, took_told upload.token_file bearer took, put_told link upload bearer end at), output.written _ written, unplayed, fileless_told n)
-    happened_told (Served end) h = let ((service, paths, a, at), unplayed, f, l, k, c) = h in ((service, paths, a, node_told node service end at), unplayed, f, l, token.unread k, c)
+    happened_told (Served end) h = let ((service, paths, a, at), unplayed, f, l, k, c, q) = h in ((service, paths, a, node_told node service end at), unplayed, f, l, token.unread k, c, error.silent q)

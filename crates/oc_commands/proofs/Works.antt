@@ -19,7 +19,7 @@ use Rattle.oc_commands.specs.AtReplay.{HappenedAtReplay, HasStatus, status_for}
 use Rattle.oc_commands.specs.AtRules.{HappenedAtRules, HasConfigStatus}
 use Rattle.oc_commands.specs.Complete.{IsDoneOrMemory}
 use Rattle.oc_commands.specs.Ends.{status_of, status_of_gen, status_of_replay, status_of_rules}
-use Rattle.oc_commands.specs.Outside.{Input, OnFiles, OnLink, OnNode, OnStage, Outside, Output, at_source}
+use Rattle.oc_commands.specs.Outside.{Input, OnError, OnFiles, OnLink, OnNode, OnStage, Outside, Output, at_source}
 use Rattle.oc_commands.specs.Run.{Happened}
 use Rattle.oc_words.specs.Status.{number_of}
 use Rattle.oc_commands.specs.declared.configuring.ConfigEnd.TheVariants as configs
@@ -130,9 +130,9 @@ module _ {S : Type 0} (gives fails : S → List ℕ → S → Type 0) (ended : S
   rules_have (lists.Config (configs.Fault (config_faults.Measure number why))) h = let (bytes, whole, is) = h.0 in inl (record { bytes = bytes; came = whole.0; status_is = inl (whole.1, sym (status_read is.line bytes _ is.gives)) })
   rules_have (lists.Config (configs.Fault (config_faults.Unknown place key))) h = let (bytes, whole, is) = h.0 in inl (record { bytes = bytes; came = whole.0; status_is = inl (whole.1, sym (status_read is.line bytes _ is.gives)) })
 
-  module _ (asked : Option Request) (files : OnFiles) (link : OnLink) (token : Input) (node : OnNode) where
+  module _ (asked : Option Request) (error : OnError) (files : OnFiles) (link : OnLink) (token : Input) (node : OnNode) where
     abbrev outside : Outside
-    outside = record { asked = asked; input = at_source gives fails ended faulty old new; output = output; stage = stage; files = files; link = link; token = token; node = node }
+    outside = record { asked = asked; input = at_source gives fails ended faulty old new; output = output; error = error; stage = stage; files = files; link = link; token = token; node = node }
 
     pub replayed : (summary : Bool) (file : Option (List ℕ)) (end : End) → asked ≡ Some (Replay summary file) → Happened outside end
         → HasStatus gives ended old new (number_of (status_of end)) ⊎ (number_of (status_of end) ≡ 4)

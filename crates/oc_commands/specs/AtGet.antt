@@ -1,5 +1,5 @@
 -- What had happened at each end of `get`, with a token or without.
-use Rattle.std.specs.Prelude.{ℕ, Option, Some, None, List, ⊤}
+use Rattle.std.specs.Prelude.{ℕ, Bool, true, false, Option, Some, None, List, length, ⊤}
 use Rattle.oc_fetch.specs.Addresses.{IsAddressOf, IsBadAddress}
 use Rattle.oc_fetch.specs.Downloads.{Downloads, IsUnasked, content_of, news_of}
 use Rattle.oc_fetch.specs.Manners.{Manner}
@@ -8,7 +8,7 @@ use Rattle.oc_fetch.specs.Wishes.{Wish}
 use Rattle.oc_fetch.specs.declared.end.GetEnd.{GetEnd}
 use Rattle.oc_fetch.specs.declared.end.GetEnd.TheVariants as ends
 use Rattle.oc_words.specs.declared.request.Download.{Download}
-use Rattle.oc_commands.specs.Outside.{OnLink, Output}
+use Rattle.oc_commands.specs.Outside.{OnError, OnLink, Output}
 use Rattle.url.specs.Parts.{Parts}
 
 -- how the client asks: from this byte, with this token
@@ -40,8 +40,17 @@ abbrev pub CompletesOnce : OnLink → Option ℕ → Manner → List ℕ → Get
 CompletesOnce link None manner address end = (url : Parts) → IsAddressOf address url → link.completes manner url end
 CompletesOnce link (Some times) manner address end = ⊤
 
+abbrev pub is_done : GetEnd → Bool
+is_done ends.Done = true
+is_done end = false
+
+-- where that is wanted, lines told of so many bytes, and at the end of all where all is done
+abbrev pub Tells : OnError → Bool → GetEnd → ℕ → Type 0
+Tells error false end count = error.silent
+Tells error true end count = error.told (is_done end) count
+
 -- the turns with the servers, and what was written of their replies
-pub record HappenedAtGet (link : OnLink) (output : Output) (d : Download) (token : Option (List ℕ)) (end : GetEnd) : Type 0 where
+pub record Downloaded (link : OnLink) (output : Output) (d : Download) (token : Option (List ℕ)) (end : GetEnd) : Type 0 where
   pub turns : List Turn
   pub written : List ℕ
   pub makes : link.makes turns
@@ -50,3 +59,8 @@ pub record HappenedAtGet (link : OnLink) (output : Output) (d : Download) (token
   pub bad : IsBadAddress d.address → IsUnasked d.address end
   pub blames : Blames link end
   pub complete : CompletesOnce link d.times (manner_of d token) d.address end
+
+-- and what was told of it
+pub record HappenedAtGet (link : OnLink) (output : Output) (error : OnError) (d : Download) (token : Option (List ℕ)) (end : GetEnd) : Type 0 where
+  pub did : Downloaded link output d token end
+  pub tells : Tells error d.progress end (length did.written)

@@ -8,8 +8,12 @@ use Rattle.oc_config.specs.declared.fault.ConfigFault.{ConfigFault}
 use Rattle.oc_io.specs.DiskView.{DiskView}
 use Rattle.oc_keep.specs.Files.{Disks}
 use Rattle.oc_keep.specs.Promises.{HoldFiles}
-use Rattle.oc_service.specs.OnSite.{NodeEnds}
+use Rattle.oc_server.specs.declared.log.Log.{Log}
+use Rattle.oc_server.specs.declared.log.Log.TheVariants as logs
+use Rattle.oc_service.specs.OnSite.{NodeEnds, setting_of}
 use Rattle.oc_service.specs.declared.running.Task.{Task}
+use Rattle.oc_words.specs.declared.request.LogWord.{LogWord}
+use Rattle.oc_words.specs.declared.request.LogWord.TheVariants.{Brief, Inputs}
 use Rattle.oc_words.specs.declared.request.Service.{Service}
 use Rattle.oc_commands.specs.AtConfig.{ReadsConfig}
 use Rattle.oc_commands.specs.AtRules.{status_of_settings}
@@ -21,14 +25,19 @@ use Rattle.oc_commands.specs.declared.serving.ServiceEnd.TheVariants.{Config, St
 abbrev pub HasNode : Settings → Service → Type 0
 HasNode s v = IsNode (length s.addresses) v.id
 
+-- what it writes of its inputs
+abbrev pub log_of : LogWord → Log
+log_of Inputs = logs.Inputs
+log_of Brief = logs.Brief
+
 -- what that node is asked to do
 abbrev pub task_of : Service → Task
-task_of v = record { me = v.id; turns = v.turns; probes = v.probes }
+task_of v = record { me = v.id; turns = v.turns; probes = v.probes; log = log_of v.log }
 
 -- no node of the configuration has this id, or the node was run
 abbrev pub RunsService : OnNode → Output → Settings → Service → ServiceEnd → Type 0
 RunsService node output s v Stranger = (HasNode s v → ⊥) × output.written []
-RunsService node output s v (Ran end) = HasNode s v × NodeEnds (node.run s (task_of v)) output.written output.cut_off v.id end
+RunsService node output s v (Ran end) = HasNode s v × NodeEnds (node.run s (task_of v)) output.written output.cut_off (setting_of s (task_of v)) end
 RunsService node output s v (Config end) = ⊥
 
 -- what had happened

@@ -1,5 +1,5 @@
 -- What had happened at each end of `put`, with a token or without.
-use Rattle.std.specs.Prelude.{◌⊎◌, ℕ, Bool, true, false, Option, List, ⊤}
+use Rattle.std.specs.Prelude.{◌≡◌, ◌⊎◌, ℕ, Bool, true, false, Option, List, length, ⊤}
 use Rattle.oc_fetch.specs.Addresses.{IsAddressOf, IsBadAddress}
 use Rattle.oc_put.specs.Publishing.{IsUnasked, Publishes}
 use Rattle.oc_put.specs.Requests.{Goal}
@@ -12,7 +12,7 @@ use Rattle.oc_put.specs.declared.plan.Plan.{Plan}
 use Rattle.oc_words.specs.declared.request.Onto.{Onto}
 use Rattle.oc_words.specs.declared.request.Onto.TheVariants.{New, Append, Resume}
 use Rattle.oc_words.specs.declared.request.Upload.{Upload}
-use Rattle.oc_commands.specs.Outside.{Input, OnLink}
+use Rattle.oc_commands.specs.Outside.{Input, OnError, OnLink}
 use Rattle.url.specs.Parts.{Parts}
 
 -- where the input goes
@@ -54,7 +54,18 @@ Published link input plan address token end =
     (IsUnasked address end × link.silent × input.unread)
     ⊎ ((url : Parts) × IsAddressOf address url × PublishedAt link input plan (record { url = url; token = token }) end)
 
-pub record HappenedAtPut (link : OnLink) (input : Input) (u : Upload) (token : Option (List ℕ)) (end : PutEnd) : Type 0 where
+abbrev pub is_done : PutEnd → Bool
+is_done ends.Done = true
+is_done end = false
+
+-- where that is wanted, lines told of so many bytes; where all is done these are all bytes of the input
+abbrev pub Tells : OnError → Input → Bool → PutEnd → Type 0
+Tells error input false end = error.silent
+Tells error input true end = (count : ℕ) × error.told (is_done end) count × (end ≡ ends.Done → (bytes : List ℕ) × input.gave bytes × (count ≡ length bytes))
+
+-- what was published, and what was told of it
+pub record HappenedAtPut (link : OnLink) (input : Input) (error : OnError) (u : Upload) (token : Option (List ℕ)) (end : PutEnd) : Type 0 where
   pub published : Published link input (plan_of u) u.address token end
   pub bad : IsBadAddress u.address → IsUnasked u.address end
   pub blames : Blames link end
+  pub tells : Tells error input u.progress end

@@ -1,5 +1,5 @@
 -- When a command can only do its work, or run out of memory.
-use Rattle.std.specs.Prelude.{◌≡◌, ◌⊎◌, ℕ, Option, Some, None, List, ◌++◌, map}
+use Rattle.std.specs.Prelude.{◌≡◌, ◌⊎◌, ℕ, Bool, Option, Some, None, List, ◌++◌, map}
 use Rattle.oc_fetch.specs.Addresses.{IsAddressOf}
 use Rattle.oc_fetch.specs.Completeness.{LeadToContent, text_of}
 use Rattle.oc_fetch.specs.Downloads.{first_state}
@@ -12,9 +12,9 @@ use Rattle.oc_words.specs.declared.request.Download.{Download}
 abbrev pub IsDoneOrMemory : ℕ → Type 0
 IsDoneOrMemory status = (status ≡ 0) ⊎ (status ≡ 4)
 
--- one download of an address, from this byte on where one is said
-abbrev pub once : List ℕ → Option ℕ → Download
-once address start = record { address = address; times = None; start = start; token_file = None }
+-- one download of an address, from this byte on where one is said, of which lines tell or not
+abbrev pub once : List ℕ → Option ℕ → Bool → Download
+once address start progress = record { address = address; times = None; start = start; token_file = None; progress = progress }
 
 -- how a client asks that has no token
 abbrev pub plainly : Option ℕ → Manner

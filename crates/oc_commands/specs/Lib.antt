@@ -15,3 +15,6 @@ pub mod Complete
 pub mod Ends
 pub mod Lines
 pub mod Run
+pub mod Telling
+pub mod TellingExamples
+pub mod Counting

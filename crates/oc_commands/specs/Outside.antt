@@ -1,12 +1,12 @@
--- What can be said of the outside once a run has ended: of the words, of the input, of the output, of the
--- stage, of the files, of the link of a client and the file of its token, and of a node with its own link.
+-- What can be said of the outside once a run has ended: of the words, of the input, of the output, of what a client told on the
+-- error output, of the stage, of the files, of the link of a client and the file of its token, and of a node with its own link.
 --
 -- The input is one object, whatever the words name: the file that they name, else the standard input. Who calls `run` hands in that
 -- object, which he finds by `Request::file`; and the three files are those of the folder that `Request::folder` gives. So nothing that is
 -- said here depends on whether a file was named, but the line on the error output where the input failed (`Lines`), which names it. A
 -- file is opened at the first call on its object, as a node's files are: an opening that is refused is a call that failed, no more. The
 -- file of a token is an object of its own.
-use Rattle.std.specs.Prelude.{◌≡◌, ℕ, ◌<◌, Option, Result, List, length}
+use Rattle.std.specs.Prelude.{◌≡◌, ℕ, ◌<◌, Bool, Option, Result, List, length}
 use Rattle.oc_base.specs.declared.limits.TheConstants.{MAX_SCHEDULE_BYTES}
 use Rattle.oc_check.specs.Checks.{Shows}
 use Rattle.oc_config.specs.Settings.{Settings}
@@ -65,6 +65,13 @@ pub record Output : Type 1 where
   -- this was written, and then the output failed
   pub cut_off : List ℕ → Type 0
 
+-- of the error output, before the line that says how the run ended
+pub record OnError : Type 1 where
+  -- lines told of so many bytes, as they became more, and with `true` one of all at the end; as far as the error output took them
+  pub told : Bool → ℕ → Type 0
+  -- nothing was written
+  pub silent : Type 0
+
 -- of the stage
 pub record OnStage : Type 1 where
   -- it is where these events of a schedule lead
@@ -110,6 +117,7 @@ pub record Outside : Type 1 where
   pub asked : Option Request
   pub input : Input
   pub output : Output
+  pub error : OnError
   pub stage : OnStage
   pub files : OnFiles
   pub link : OnLink

@@ -39,15 +39,17 @@ pub record IsUnplayed (o : Outside) : Type 0 where
   pub input : o.input.unread
   pub stage : o.stage.unplayed
 
--- no file and no link was asked for
+-- no file and no link was asked for, and nothing was told
 pub record IsAlone (o : Outside) : Type 0 where
+  pub error : o.error.silent
   pub files : o.files.untouched
   pub link : o.link.untouched
   pub token : o.token.unread
   pub node : o.node.untouched
 
--- no link was asked for
+-- no link was asked for, and nothing was told
 pub record IsOffline (o : Outside) : Type 0 where
+  pub error : o.error.silent
   pub link : o.link.untouched
   pub token : o.token.unread
   pub node : o.node.untouched
@@ -71,10 +73,10 @@ Happened o (Listed end) = ((file : Option (List ℕ)) × (o.asked ≡ Some (Rule
 Happened o (Checked end) = ((member : Member) × (folder : Option (List ℕ)) × (o.asked ≡ Some (Check member folder)) × HappenedAtCheck o.files o.output (network_of member) member.id end) × IsUnplayed o × IsOffline o
 Happened o (CheckedConfigured end) = ((id : ℕ) × (paths : Paths) × (o.asked ≡ Some (CheckConfigured id paths)) × HappenedAtConfigured o.input o.files o.output id end) × o.stage.unplayed × IsOffline o
     × UnlessChecked end o.files.untouched
-Happened o (NoToken end) = LacksToken o.token (token_file_asked o.asked) end × o.output.written [] × IsUnplayed o × o.link.untouched × IsFileless o
+Happened o (NoToken end) = LacksToken o.token (token_file_asked o.asked) end × o.output.written [] × IsUnplayed o × o.link.untouched × IsFileless o × o.error.silent
 Happened o (Got end) = ((download : Download) × (o.asked ≡ Some (Get download)) × (token : Option (List ℕ)) × TakesToken o.token download.token_file token
-    × HappenedAtGet o.link o.output download token end) × IsUnplayed o × IsFileless o
+    × HappenedAtGet o.link o.output o.error download token end) × IsUnplayed o × IsFileless o
 Happened o (Published end) = ((upload : Upload) × (o.asked ≡ Some (Put upload)) × (token : Option (List ℕ)) × TakesToken o.token upload.token_file token
-    × HappenedAtPut o.link o.input upload token end) × o.output.written [] × o.stage.unplayed × IsFileless o
+    × HappenedAtPut o.link o.input o.error upload token end) × o.output.written [] × o.stage.unplayed × IsFileless o
 Happened o (Served end) = ((service : Service) × (paths : Paths) × (o.asked ≡ Some (Node service paths)) × HappenedAtNode o.input o.node o.output service end) × o.stage.unplayed
-    × UnlessRan end o.files.untouched × o.link.untouched × o.token.unread × UnlessRan end o.node.untouched
+    × UnlessRan end o.files.untouched × o.link.untouched × o.token.unread × UnlessRan end o.node.untouched × o.error.silent

@@ -99,7 +99,8 @@ pub(crate) fn node_help() -> &'static str
     "\
 overcast node: runs a node of a network
 
-Usage: overcast node ID [--turns N] [--probe] [--config FILE] [--dir FOLDER]
+Usage: overcast node ID [--turns N] [--probe] [--log inputs|brief]
+                     [--config FILE] [--dir FOLDER]
 
 Reads the configuration, loads the node with this id from its three files, waits
 for connections where the configuration says that it listens, and serves turns
@@ -111,6 +112,7 @@ says on standard error.
   ID        the node, one of the configuration
   --turns   ends it after this number of turns, 0 to 1000000000
   --probe   measures the rate to a peer in each turn in which nobody came
+  --log     the lines on standard output: `inputs`, as without it, or `brief`
   --config  the file of the configuration; standard input where none is named
   --dir     the folder of the three files; the present one where none is named
 
@@ -120,7 +122,11 @@ acknowledged is in them, also after a crash. One program at a time uses them.
 
 Each input that the node takes is written as a line, once it is in the files and
 before it is answered. A line that begins with `!` says which request was
-refused, and why.
+refused, and why. With `--log brief` there is instead a line only for what is
+published, sealed or told of a failure, with the answer where that is not `ok`;
+`lost P` for each child whose lease ended; and `is idle`, `is asking P`,
+`is joined P rank E.D` or `is acting rank E.D` at the start and where that is
+another: a node in which nothing changes writes nothing.
 
 Example: the first of three nodes (examples/three_nodes.toml), which then answers
 requests at 127.0.0.1:7001. A POST to the source publishes bytes in a group.
@@ -188,7 +194,8 @@ pub(crate) fn get_help() -> &'static str
     "\
 overcast get: downloads a group
 
-Usage: overcast get URL [--follow N] [--from N] [--token-file FILE] > CONTENT
+Usage: overcast get URL [--follow N] [--from N] [--token-file FILE] [--progress]
+                    > CONTENT
 
 Writes the content of the URL on standard output as it comes. It follows two
 redirections, so that it may ask any chain member: `http://HOST:PORT/GROUP`, with
@@ -199,6 +206,8 @@ redirections, so that it may ask any chain member: `http://HOST:PORT/GROUP`, wit
   --from        begins at this byte, 0 to 2^40: as many as are there already
   --token-file  shows the token in the first line of this file to each node, where
                 the access rules of the network want one
+  --progress    says `overcast: N bytes` on standard error, N what was written of
+                the content, at each 16777216 bytes and at the end
 
 Example: the content of a group, and later what has come since.
 
@@ -225,7 +234,7 @@ pub(crate) fn put_help() -> &'static str
 overcast put: publishes its input into a group
 
 Usage: overcast put URL [--append | --resume] [--seal] [--token-file FILE]
-                    < CONTENT
+                    [--progress] < CONTENT
 
 Sends what comes on standard input to the source, node 1, at
 `http://HOST:PORT/GROUP`, in pieces, each behind the one before. Where a piece has
@@ -239,6 +248,8 @@ made where the input is empty.
   --seal        then closes the group, so that nothing more goes into it
   --token-file  shows the token in the first line of this file, where the access
                 rules of the network want one
+  --progress    says `overcast: N bytes` on standard error, N what is in the group
+                of the input, at each 16777216 bytes and at the end
 
 Example: a file, which ends as it is.
 

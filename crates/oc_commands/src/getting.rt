@@ -1,24 +1,55 @@
 //! The command `get`, which downloads.
 ghost use Rattle.std.specs.Prelude.{◌≡◌, option_map};
 ghost use Rattle.oc_io.specs.Faults.{NoFall};
-ghost use Rattle.oc_commands.specs.AtGet.{HappenedAtGet};
+ghost use Rattle.oc_commands.specs.AtGet.{Downloaded, HappenedAtGet, is_done};
 ghost use Rattle.oc_commands.specs.Outside.{at_link, at_sink};
+ghost use Rattle.oc_commands.specs.Telling.{at_error};
 
-use oc_fetch::{GetEnd, Manner, follow, get};
+use crate::progress::{Counting, finish};
+use oc_fetch::{GetEnd, Manner, Metered, follow, get};
 use oc_io::Sink;
 use oc_link::Link;
 use oc_words::{Download, Name};
 use std::alloc::Global;
 
-/// Writes the content of a URL, or what is new of a group, again and again, with a token or without.
-pub fn download<K: Sink, L: Link>(
+/// Writes the content of a URL, or what is new of a group, again and again, with a token or without. Where lines are
+/// wanted, they tell how much was written.
+pub fn download<K: Sink, E: Sink, L: Link>(
+    alloc: Global,
+    wanted: &Download,
+    token: &Option<Name>,
+    out: &mut Metered<K, Counting<E>>,
+    link: &mut L,
+) -> GetEnd
+    requires lines { out.old.lines.active ≡ wanted.now.progress }
+    requires new { out.old.lines.count ≡ 0 }
+    ensures happened { HappenedAtGet (at_link L.story L.faults link.old link.new)
+        (at_sink K.takes K.fails K.faults out.old.sink out.new.sink)
+        (at_error E.takes E.fails E.faults out.old.lines.sink.sink out.new.lines.sink.sink) wanted.now token.now result }
+    ensures count { NoFall (K.faults out.old.sink) (K.faults out.new.sink) }
+    ensures error_count { NoFall (E.faults out.old.lines.sink.sink) (E.faults out.new.lines.sink.sink) }
+{
+    let end = pass_on(alloc, wanted, token, out, link);
+    finish(&mut out.lines, is_done(end));
+    end
+}
+
+/// Whether all was downloaded.
+fn is_done(end: GetEnd) -> bool
+    ensures { result ≡ is_done end }
+{
+    matches!(end, GetEnd::Done)
+}
+
+/// Passes the content on as it comes.
+fn pass_on<K: Sink, L: Link>(
     alloc: Global,
     wanted: &Download,
     token: &Option<Name>,
     out: &mut K,
     link: &mut L,
 ) -> GetEnd
-    ensures happened { HappenedAtGet (at_link L.story L.faults link.old link.new)
+    ensures downloaded { Downloaded (at_link L.story L.faults link.old link.new)
         (at_sink K.takes K.fails K.faults out.old out.new) wanted.now token.now result }
     ensures count { NoFall (K.faults out.old) (K.faults out.new) }
 {

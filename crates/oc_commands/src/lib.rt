@@ -1,7 +1,8 @@
 //! The commands of the program: what each does, how it ends, and with which status and which line.
 //!
 //! Each command is a file: `replaying`, `generating`, `listing` (`rules`), `checking`, `getting`, `putting`
-//! and `serving` (`node`), besides `helping`, which answers `--help` and `--version`, and `token`, which reads that of a client. [`End`] is the end of any of them, from which
+//! and `serving` (`node`), besides `helping`, which answers `--help` and `--version`, `token`, which reads that of a client, and
+//! `progress`, which tells how far one came. [`End`] is the end of any of them, from which
 //! [`End::status`] and [`tell`] make the status and the line on the error output. `Outside` in `specs/` is all that
 //! their contracts speak of, and `Happened` says for each end what then holds.
 //!
@@ -22,6 +23,7 @@ mod helping;
 mod limits;
 mod lines;
 mod listing;
+mod progress;
 mod putting;
 mod replaying;
 mod serving;
@@ -39,6 +41,7 @@ pub use helping::{write_help, write_version};
 pub use limits::limits_are_as_published;
 pub use listing::{RulesEnd, list_rules};
 pub use oc_words::Status;
+pub use progress::{Counting, error_of, progress_computes, progress_on};
 pub use putting::publish;
 pub use replaying::replay_input;
 pub use serving::{Served, ServiceEnd, run_service};

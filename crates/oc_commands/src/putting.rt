@@ -1,31 +1,35 @@
 //! The command `put`, which publishes its input.
-ghost use Rattle.std.specs.Prelude.{◌≡◌, false};
+ghost use Rattle.std.specs.Prelude.{◌≡◌};
 ghost use Rattle.oc_io.specs.Faults.{NoFall};
-ghost use Rattle.oc_commands.specs.AtPut.{HappenedAtPut, place_of};
+ghost use Rattle.oc_commands.specs.AtPut.{HappenedAtPut, is_done, place_of};
 ghost use Rattle.oc_commands.specs.Outside.{at_link, at_source};
+ghost use Rattle.oc_commands.specs.Telling.{at_error};
 
 use crate::getting::text_of;
+use crate::progress::{Counting, finish};
 use oc_io::{Sink, Source};
 use oc_link::Link;
 use oc_put::{Aside, Destination, Pause, Place, Plan, PutEnd, put};
 use oc_words::{Name, Onto, Upload};
 use std::alloc::Global;
 
-/// Publishes the input into a group, with a token or without. It pauses behind each failure but the last.
+/// Publishes the input into a group, with a token or without. It pauses behind each failure but the last. Where lines are
+/// wanted, they tell how much of the input is in the group.
 pub fn publish<S: Source, L: Link, P: Pause, E: Sink>(
     alloc: Global,
     wanted: &Upload,
     token: &Option<Name>,
     input: &mut S,
     link: &mut L,
-    aside: &mut Aside<P, E>,
+    aside: &mut Aside<P, Counting<E>>,
 ) -> PutEnd
+    requires lines { aside.old.lines.active ≡ wanted.now.progress }
+    requires new { aside.old.lines.count ≡ 0 }
     ensures happened { HappenedAtPut (at_link L.story L.faults link.old link.new)
-        (at_source S.gives S.fails S.ended S.faults input.old input.new) wanted.now token.now result }
+        (at_source S.gives S.fails S.ended S.faults input.old input.new)
+        (at_error E.takes E.fails E.faults aside.old.lines.sink.sink aside.new.lines.sink.sink) wanted.now token.now result }
     ensures count { NoFall (S.faults input.old) (S.faults input.new) }
-
-    // Where no lines are wanted, none are written.
-    ensures quiet { aside.old.lines.active ≡ false → aside.new.lines.sink ≡ aside.old.lines.sink }
+    ensures error_count { NoFall (E.faults aside.old.lines.sink.sink) (E.faults aside.new.lines.sink.sink) }
 {
     let to = Destination {
         address: wanted.address.as_str(),
@@ -35,7 +39,16 @@ pub fn publish<S: Source, L: Link, P: Pause, E: Sink>(
         place: place_of(wanted.onto),
         seal: wanted.seals,
     };
-    put(alloc, &to, plan, input, link, aside)
+    let end = put(alloc, &to, plan, input, link, aside);
+    finish(&mut aside.lines, is_done(end));
+    end
+}
+
+/// Whether all was published.
+fn is_done(end: PutEnd) -> bool
+    ensures { result ≡ is_done end }
+{
+    matches!(end, PutEnd::Done)
 }
 
 /// Where the input goes.

@@ -3,7 +3,7 @@ ghost use Rattle.std.specs.Prelude.{◌≡◌, length};
 ghost use Rattle.oc_config.specs.Reading.{IsConfig};
 ghost use Rattle.oc_keep.specs.Files.{disks_in};
 ghost use Rattle.oc_io.specs.Faults.{NoFall};
-ghost use Rattle.oc_commands.specs.AtNode.{HappenedAtNode, IsMemberOf, RunsService, UnlessRan};
+ghost use Rattle.oc_commands.specs.AtNode.{HappenedAtNode, IsMemberOf, RunsService, UnlessRan, log_of};
 ghost use Rattle.oc_commands.specs.Ends.{status_of_service};
 ghost use Rattle.oc_commands.specs.Outside.{at_node, at_sink, at_source};
 ghost use Rattle.oc_words.specs.Status.{number_of};
@@ -13,8 +13,8 @@ use oc_base::NodeId;
 use oc_config::Config;
 use oc_events::Link;
 use oc_io::{Disk, Sink, Source};
-use oc_service::{NodeEnd, Ran, Site, Task, run_node};
-use oc_words::Service;
+use oc_service::{Log, NodeEnd, Ran, Site, Task, run_node};
+use oc_words::{LogWord, Service};
 use std::alloc::Global;
 
 /// How `node` ended.
@@ -81,6 +81,7 @@ fn serve_config<D: Disk, L: Link, K: Sink>(
                 me,
                 turns: service.turns,
                 probes: service.probes,
+                log: log_of(service.log),
             };
             let Ran { end, site } = run_node(alloc, config, task, site);
             Served {
@@ -92,6 +93,16 @@ fn serve_config<D: Disk, L: Link, K: Sink>(
             end: ServiceEnd::Stranger,
             site,
         },
+    }
+}
+
+/// What a node writes of its inputs.
+fn log_of(word: LogWord) -> Log
+    ensures { result ≡ log_of word }
+{
+    match word {
+        LogWord::Inputs => Log::Inputs,
+        LogWord::Brief => Log::Brief,
     }
 }
 

@@ -42,12 +42,14 @@ overcast: multicast from one source over nodes that keep what they get
 Node 1 is the source, and publishes bytes in groups. The other nodes form a tree
 beneath it, and each passes on what it gets. Clients read groups over HTTP.
 
-Usage: overcast node ID [--turns N] [--probe] [--config FILE] [--dir FOLDER]
+Usage: overcast node ID [--turns N] [--probe] [--log inputs|brief]
+                     [--config FILE] [--dir FOLDER]
        overcast check ID [--config FILE] [--dir FOLDER]
        overcast check ID NODES CHAIN [--dir FOLDER]
-       overcast get URL [--follow N] [--from N] [--token-file FILE] > CONTENT
+       overcast get URL [--follow N] [--from N] [--token-file FILE] [--progress]
+                    > CONTENT
        overcast put URL [--append | --resume] [--seal] [--token-file FILE]
-                    < CONTENT
+                    [--progress] < CONTENT
        overcast rules [--config FILE]
        overcast replay [FILE] [--summary] > REPORT
        overcast gen SEED NODES EVENTS > SCHEDULE
@@ -85,12 +87,14 @@ With each status but 0, one line on standard error says why.
 /// The text after the line `overcast: usage`, which says what the words may be.
 pub fn usage() -> &'static str {
     "\
-Usage: overcast node ID [--turns N] [--probe] [--config FILE] [--dir FOLDER]
+Usage: overcast node ID [--turns N] [--probe] [--log inputs|brief]
+                     [--config FILE] [--dir FOLDER]
        overcast check ID [--config FILE] [--dir FOLDER]
        overcast check ID NODES CHAIN [--dir FOLDER]
-       overcast get URL [--follow N] [--from N] [--token-file FILE] > CONTENT
+       overcast get URL [--follow N] [--from N] [--token-file FILE] [--progress]
+                    > CONTENT
        overcast put URL [--append | --resume] [--seal] [--token-file FILE]
-                    < CONTENT
+                    [--progress] < CONTENT
        overcast rules [--config FILE]
        overcast replay [FILE] [--summary] > REPORT
        overcast gen SEED NODES EVENTS > SCHEDULE

@@ -3,11 +3,11 @@ use Rattle.std.specs.Prelude.{◌≡◌, ℕ, ◌+◌, ◌*◌, ◌-◌, ◌/◌
 use Rattle.oc_fetch.specs.declared.progress_lines.TheConstants.{PROGRESS_STEP}
 use Rattle.oc_link.specs.LinkCalls.{IsFront}
 
--- the line of so many bytes
+-- the line of this count of bytes
 abbrev pub progress_line : ℕ → List ℕ
 progress_line count = codes "overcast: " ++ decimal count ++ codes " bytes\n"
 
--- the lines of so many multiples, behind the one of this number
+-- the lines of this count of multiples, behind the one of this number
 abbrev pub lines_behind : ℕ → ℕ → List ℕ
 lines_behind done zero = []
 lines_behind done (suc many) = progress_line ((done + 1) * PROGRESS_STEP) ++ lines_behind (done + 1) many

@@ -43,7 +43,7 @@ impl<E: Sink> ProgressLines<E> {
         self.count
     }
 
-    /// There are so many bytes more. A line is written for each multiple of `PROGRESS_STEP` that is reached or passed.
+    /// Counts `more` bytes. A line is written for each multiple of `PROGRESS_STEP` that is reached or passed.
     pub fn add(&mut self, more: u64)
         ensures { Grows E.takes E.fails self.old more self.new }
     {
@@ -93,7 +93,7 @@ fn write_lines<E: Sink>(sink: &mut E, done: u64, last: u64) -> Result<(), Failed
     Ok(())
 }
 
-/// Writes the line of so many bytes.
+/// Writes the line that tells this count of bytes.
 fn write_line<E: Sink>(sink: &mut E, count: u64) -> Result<(), Failed>
     ensures written { OnOk result (E.takes sink.old (progress_line count) sink.new) }
     ensures front { OnErr result (WritesFront E.fails sink.old sink.new (progress_line count)) }

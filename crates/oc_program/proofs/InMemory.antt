@@ -8,14 +8,14 @@ use Rattle.oc_words.specs.declared.request.Request.TheVariants.{Replay}
 use Rattle.oc_commands.specs.AtReplay.{HappenedAtReplay, status_for}
 use Rattle.oc_commands.specs.Ends.{status_of, status_of_replay}
 use Rattle.oc_commands.proofs.Tokens.{untokened}
-use Rattle.oc_commands.specs.Outside.{Input, OnFiles, OnLink, OnNode, OnStage, Output}
+use Rattle.oc_commands.specs.Outside.{Input, OnError, OnFiles, OnLink, OnNode, OnStage, Output}
 use Rattle.oc_commands.specs.Run.{Happened}
 use Rattle.oc_words.specs.Status.{number_of}
 use Rattle.oc_commands.specs.declared.ending.End.{End}
 use Rattle.oc_commands.specs.declared.ending.End.TheVariants.{Helped, HelpFailed, Versioned, VersionFailed, Misused, NoMemory, Replayed, Generated, Listed, Checked, CheckedConfigured, NoToken, Got, Published, Served}
 use Rattle.oc_program.specs.Streams.{at_bytes}
 
-module _ (bytes : List ℕ) (read : ℕ) (output : Output) (stage : OnStage) where
+module _ (bytes : List ℕ) (read : ℕ) (output : Output) (error : OnError) (stage : OnStage) where
   -- the status of what the bytes say, or that of a failure, or want of memory
   abbrev IsRightOf : ℕ → Type 0
   IsRightOf status = (status ≡ status_for (schedule_of bytes)) ⊎ (status ≡ 1) ⊎ (status ≡ 4)
@@ -29,7 +29,7 @@ module _ (bytes : List ℕ) (read : ℕ) (output : Output) (stage : OnStage) whe
   replay_is_right_of summary replays.Memory h = inr (inr refl)
 
   pub replayed_of : (files : OnFiles) (link : OnLink) (token : Input) (node : OnNode) (summary : Bool) (file : Option (List ℕ)) (asked : Option Request) (end : End) → asked ≡ Some (Replay summary file)
-      → Happened (record { asked = asked; input = at_bytes bytes read; output = output; stage = stage; files = files; link = link; token = token; node = node }) end
+      → Happened (record { asked = asked; input = at_bytes bytes read; output = output; error = error; stage = stage; files = files; link = link; token = token; node = node }) end
       → IsRightOf (number_of (status_of end))
   replayed_of files link token node summary file asked Helped is h = let asks = h.0 in cc
   replayed_of files link token node summary file asked HelpFailed is h = let asks = h.0 in cc

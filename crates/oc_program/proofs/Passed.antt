@@ -1,5 +1,5 @@
 -- What passed through the adapters, over bytes in memory and over streams of which the counts are known.
-use Rattle.std.proofs.Common.{◌≡◌, ◌∙◌, ℕ, ◌+◌, ◌-◌, ◌^◌, ◌<◌, ◌≤◌, min, cond, List, [], ◌++◌, length, Option, Some, None, Result, Err, ap, sym, subst, inl, inr, arith, append-nil, length-append}
+use Rattle.std.proofs.Common.{◌≡◌, ◌∙◌, ℕ, ◌+◌, ◌-◌, ◌^◌, ◌<◌, ◌≤◌, min, cond, refl, take, List, [], ◌++◌, length, Option, Some, None, Result, Err, ap, sym, subst, inl, inr, arith, append-nil, length-append}
 use Rattle.std.proofs.lemmas.Bool.{lt-ltb}
 use Rattle.std.specs.Str.Lines.{lines}
 use Rattle.oc_io.specs.Counts.{Rises}
@@ -19,18 +19,28 @@ use Rattle.oc_schedule.specs.declared.fault.What.{What}
 use Rattle.oc_schedule.specs.declared.fault.What.TheVariants as limits
 use Rattle.oc_commands.specs.Outside.{at_sink, at_source}
 use Rattle.oc_commands.specs.Run.{IsWrittenOrCut}
-use Rattle.oc_program.specs.Streams.{HasFailed, IsCountOf, IsCountOfLineOrFront, IsFrontRead, IsLineOrFront, IsSoundCountOf, at_bytes, at_input, at_output, at_text}
-use Rattle.oc_commands.proofs.Told.{TellsInput, TellsOutput}
+use Rattle.oc_commands.specs.Telling.{at_error, progress_text}
+use Rattle.oc_program.specs.Streams.{HasFailed, IsCountBehind, IsCountOf, IsCountOfLineOrFront, IsFrontRead, IsLineOrFront, IsSoundCountOf, at_bytes, at_input, at_lines, at_output, at_text, at_told, no_traffic}
+use Rattle.oc_commands.proofs.Told.{TellsError, TellsInput, TellsOutput}
 
 -- a counter that began at 0 and is a u64 is the number of the bytes, where a u64 has it
 count_is : (a n b : ℕ) → a ≡ 0 → b ≤ 2 ^ 64 - 1 → Rises a n b → b ≡ min n (2 ^ 64 - 1)
 count_is a n b began fits (inl e) = omega (arith, began, fits, e)
 count_is a n b began fits (inr h) = omega (arith, began, fits, h.0, h.1)
 
--- where a count rose from 0 a call failed
-failed_since : (a b : ℕ) → a ≡ 0 → Rose a b → 0 < b
-failed_since a b began (inl more) = omega (arith, began, more)
-failed_since a b began (inr last) = omega (arith, last)
+-- and one that goes on from another, counted as far as a u64 goes
+count_goes_on : (a n b : ℕ) → b ≤ 2 ^ 64 - 1 → Rises a n b → b ≡ min (min a (2 ^ 64 - 1) + n) (2 ^ 64 - 1)
+count_goes_on a n b fits (inl e) = omega (arith, fits, e)
+count_goes_on a n b fits (inr h) = omega (arith, fits, h.0, h.1)
+
+count_begins : (a n b : ℕ) → a ≡ 0 → Rises a n b → min b (2 ^ 64 - 1) ≡ min (0 + n) (2 ^ 64 - 1)
+count_begins a n b began (inl e) = omega (arith, began, e)
+count_begins a n b began (inr h) = omega (arith, began, h.0, h.1)
+
+-- where a count rose a call failed
+failed_since : (a b : ℕ) → Rose a b → 0 < b
+failed_since a b (inl more) = omega (arith, more)
+failed_since a b (inr last) = omega (arith, last)
 
 -- a text of too many bytes is refused for them
 pub long_refused : (bytes : List ℕ) → MAX_SCHEDULE_BYTES < length bytes → schedule_of bytes ≡ Err (Limit limits.Bytes)
@@ -121,9 +131,25 @@ module _ {W : Type 0} (old new : WriterSink W) (held : W → List ℕ) (began : 
     cut_off = λ text h. is_held text h.0.passed;
   }
 
-  pub line_told : (line : List ℕ) → IsWrittenOrCut (writers.Went held_by) (writers.WentAndFailed held_by) (λ s. s.faults) old new line → IsLineOrFront output line
-  line_told line (inl h) = inl (is_held line h.passed)
-  line_told line (inr h) = inr (h.0.0, is_held _ h.0.1.passed)
+module _ {W : Type 0} (old mid new : WriterSink W) (held : W → List ℕ) (began : held old.writer ≡ []) (output : List ℕ) (output_is : output ≡ held new.writer) where
+  abbrev told_by : W → Option (List ℕ)
+  told_by w = Some (held w)
+
+  told_it : (text : List ℕ) → IsWrittenOrCut (writers.Went told_by) (writers.WentAndFailed told_by) (λ s. s.faults) old mid text → IsLineOrFront (held mid.writer) [] text
+  told_it text (inl h) = inl (is_held old mid held began (held mid.writer) refl text h.passed)
+  told_it text (inr h) = inr (h.0.0, is_held old mid held began (held mid.writer) refl (take h.0.0 text) h.0.1.passed)
+
+  -- what was told of a client
+  pub lines_told : TellsError (at_error (writers.Went told_by) (writers.WentAndFailed told_by) (λ s. s.faults) old mid) (at_lines (held mid.writer))
+  lines_told = record {
+    told = λ whole bytes h. (h.0, h.1, told_it (progress_text whole h.0) h.2);
+    silent = λ same. ap (λ s. held s.writer) same ∙ began;
+  }
+
+  -- and the line behind it
+  pub line_told : (line : List ℕ) → IsWrittenOrCut (writers.Went told_by) (writers.WentAndFailed told_by) (λ s. s.faults) mid new line → IsLineOrFront output (held mid.writer) line
+  line_told line (inl h) = inl (output_is ∙ h.passed.known)
+  line_told line (inr h) = inr (h.0.0, output_is ∙ h.0.1.passed.known)
 
 -- ---- at streams
 
@@ -141,10 +167,10 @@ module _ {R : Type 0} (old new : ReaderSource R) (remaining : R → Option (List
     passes = λ what h. let (bytes, came, refused) = passing _ _ old new what h in (bytes, all_came bytes came, refused);
     whole = λ bytes h. all_came bytes h.0;
     long = λ h. let (bytes, came, more) = h in (bytes, all_came bytes came, more);
-    failed = λ h. subst (λ n. 0 < n) (sym faults_are) (failed_since old.faults new.faults sound h.1);
+    failed = λ h. subst (λ n. 0 < n) (sym faults_are) (failed_since old.faults new.faults h.1);
     came = λ h. (h.0, all_came h.0 h.1);
     gave = λ bytes h. all_came bytes h;
-    broke = λ bytes h. (was_read bytes h.0.passed, subst (λ n. 0 < n) (sym faults_are) (failed_since old.faults new.faults sound h.1));
+    broke = λ bytes h. (was_read bytes h.0.passed, subst (λ n. 0 < n) (sym faults_are) (failed_since old.faults new.faults h.1));
     unread = λ same. (bytes_are ∙ ap (λ s. s.passed) same ∙ began, faults_are ∙ ap (λ s. s.faults) same ∙ sound);
   }
 
@@ -154,7 +180,7 @@ module _ {W : Type 0} (old new : WriterSink W) (contents : W → Option (List �
   was_written text p = count_is old.passed (length text) traffic.bytes began fits (subst (λ n. Rises old.passed (length text) n) (sym bytes_are) p.counts)
 
   has_failed : Rose old.faults new.faults → HasFailed traffic
-  has_failed rose = subst (λ n. 0 < n) (sym faults_are) (failed_since old.faults new.faults sound rose)
+  has_failed rose = subst (λ n. 0 < n) (sym faults_are) (failed_since old.faults new.faults rose)
 
   pub output_told : TellsOutput (at_sink (writers.Went contents) (writers.WentAndFailed contents) (λ s. s.faults) old new) (at_output traffic)
   output_told = record {
@@ -162,6 +188,29 @@ module _ {W : Type 0} (old new : WriterSink W) (contents : W → Option (List �
     cut_off = λ text h. (was_written text h.0.passed, has_failed h.1);
   }
 
-  pub count_told : (line : List ℕ) → IsWrittenOrCut (writers.Went contents) (writers.WentAndFailed contents) (λ s. s.faults) old new line → IsCountOfLineOrFront traffic line
-  count_told line (inl h) = inl (was_written line h.passed)
-  count_told line (inr h) = inr ((h.0.0, was_written _ h.0.1.passed), has_failed h.1)
+module _ {W : Type 0} (old mid new : WriterSink W) (contents : W → Option (List ℕ)) (began : old.passed ≡ 0) (sound : old.faults ≡ 0)
+    (traffic : Traffic) (bytes_are : traffic.bytes ≡ new.passed) (faults_are : traffic.faults ≡ new.faults) (fits : traffic.bytes ≤ 2 ^ 64 - 1) where
+  -- what had passed before the line
+  abbrev pub told_traffic : Traffic
+  told_traffic = record { bytes = min mid.passed (2 ^ 64 - 1); faults = mid.faults }
+
+  counted_it : (text : List ℕ) → IsWrittenOrCut (writers.Went contents) (writers.WentAndFailed contents) (λ s. s.faults) old mid text → IsCountOfLineOrFront no_traffic told_traffic text
+  counted_it text (inl h) = inl (count_begins old.passed (length text) mid.passed began h.passed.counts)
+  counted_it text (inr h) = inr ((h.0.0, count_begins old.passed (length (take h.0.0 text)) mid.passed began h.0.1.passed.counts), failed_since old.faults mid.faults h.1)
+
+  -- what was told of a client
+  pub counts_told : TellsError (at_error (writers.Went contents) (writers.WentAndFailed contents) (λ s. s.faults) old mid) (at_told told_traffic)
+  counts_told = record {
+    told = λ whole bytes h. (h.0, h.1, counted_it (progress_text whole h.0) h.2);
+    silent = λ same.
+        let none : mid.passed ≡ 0 = ap (λ s. s.passed) same ∙ began in
+        (omega (arith, none), ap (λ s. s.faults) same ∙ sound);
+  }
+
+  was_behind : (text : List ℕ) → writers.Passed contents mid text new → IsCountBehind told_traffic traffic text
+  was_behind text p = count_goes_on mid.passed (length text) traffic.bytes fits (subst (λ n. Rises mid.passed (length text) n) (sym bytes_are) p.counts)
+
+  -- and of the line behind it
+  pub count_told : (line : List ℕ) → IsWrittenOrCut (writers.Went contents) (writers.WentAndFailed contents) (λ s. s.faults) mid new line → IsCountOfLineOrFront told_traffic traffic line
+  count_told line (inl h) = inl (was_behind line h.passed)
+  count_told line (inr h) = inr ((h.0.0, was_behind _ h.0.1.passed), subst (λ n. 0 < n) (sym faults_are) (failed_since mid.faults new.faults h.1))

@@ -1,9 +1,10 @@
 -- What had happened leaves each request its status.
 use Rattle.std.proofs.Common.{◌≡◌, ◌∙◌, ℕ, ◌⊎◌, List, Option, Some, None, inl, inr, refl, ap}
 use Rattle.oc_commands.specs.Outside as sayings
-use Rattle.oc_commands.specs.Outside.{Input, OnFiles, OnLink, OnNode, OnStage, Output, at_files, at_link, at_node, at_sink, at_source, at_stage}
+use Rattle.oc_commands.specs.Outside.{Input, OnError, OnFiles, OnLink, OnNode, OnStage, Output, at_files, at_link, at_node, at_sink, at_source, at_stage}
 use Rattle.oc_commands.specs.Ends.{status_of}
 use Rattle.oc_commands.specs.Run.{Happened}
+use Rattle.oc_commands.specs.Telling.{at_error}
 use Rattle.oc_commands.specs.declared.ending.End.{End}
 use Rattle.oc_commands.specs.declared.ending.End.TheVariants.{Misused, NoMemory}
 use Rattle.oc_commands.proofs.Completes.{IsSound, checked, fetched}
@@ -31,16 +32,19 @@ misused_number end (inl is) = inl (ap (λ e. number_of (status_of e)) is)
 misused_number end (inr is) = inr (ap (λ e. number_of (status_of e)) is)
 
 module _ {S K E T D L N P : Type 0} (gives gives_less : S → List ℕ → S → Type 0) (ended : S → Type 0) (input_faults : S → ℕ)
-    (takes takes_less : K → List ℕ → K → Type 0) (output_faults : K → ℕ) (world : T → World) (view : D → DiskView)
-    (dials : L → Option Story) (dial_faults : L → LinkFaults) (calls : N → Option (List Call)) (counts : N → Counts) (old new : Outside S K E T D L N P) where
+    (takes takes_less : K → List ℕ → K → Type 0) (output_faults : K → ℕ) (writes writes_less : E → List ℕ → E → Type 0) (error_faults : E → ℕ) (world : T → World) (view : D → DiskView)
+    (dials : L → Option Story) (dial_faults : L → LinkFaults) (calls : N → Option (List Call)) (counts : N → Counts) (old : Outside S K E T D L N P) (told : E) (new : Outside S K E T D L N P) where
   abbrev o : Option Request → sayings.Outside
-  o asked = seen gives gives_less ended input_faults takes takes_less output_faults world view dials dial_faults calls counts asked old new
+  o asked = seen gives gives_less ended input_faults takes takes_less output_faults writes writes_less error_faults world view dials dial_faults calls counts asked old told new
 
   abbrev For : Option Request → ℕ → Type 0
   For asked status = StatusFor gives ended input_faults output_faults view dials dial_faults counts old new asked status
 
   abbrev output : Output
   output = at_sink takes takes_less output_faults old.output new.output
+
+  abbrev error : OnError
+  error = at_error writes writes_less error_faults old.error told
 
   abbrev stage : OnStage
   stage = at_stage world old.stage new.stage
@@ -70,9 +74,9 @@ module _ {S K E T D L N P : Type 0} (gives gives_less : S → List ℕ → S →
       → StatusForGet gives ended input_faults output_faults view dials dial_faults counts old new d.address d.start times file (number_of (status_of end))
   get_for d None None end is_once is_plain h = λ whole dialled held.
       fetched dials dial_faults old.dialler new.dialler output (sound_of held) dialled
-      (o None).input stage files token node (Some (Get d)) d.address d.start end
-      (ap (λ t. Some (Get (record { address = d.address; times = t; start = d.start; token_file = d.token_file }))) is_once
-      ∙ ap (λ f. Some (Get (record { address = d.address; times = None; start = d.start; token_file = f }))) is_plain) whole h
+      (o None).input error stage files token node (Some (Get d)) d.address d.start d.progress end
+      (ap (λ t. Some (Get (record { address = d.address; times = t; start = d.start; token_file = d.token_file; progress = d.progress }))) is_once
+      ∙ ap (λ f. Some (Get (record { address = d.address; times = None; start = d.start; token_file = f; progress = d.progress }))) is_plain) whole h
   get_for d None (Some file) end is_once is_plain h = tt
   get_for d (Some times) file end is_once is_plain h = tt
 
@@ -83,18 +87,18 @@ module _ {S K E T D L N P : Type 0} (gives gives_less : S → List ℕ → S →
   status_for (Some (Gen sample)) end h misused = λ held. generated (o (Some (Gen sample))) (sound_of held) sample end refl h
   status_for (Some (Replay summary file)) end h misused = λ came held.
       replayed gives gives_less ended input_faults old.input new.input output stage came (sound_of held)
-      (Some (Replay summary file)) files link token node summary file end refl h
+      (Some (Replay summary file)) error files link token node summary file end refl h
   status_for (Some (Rules file)) end h misused = λ came held.
       listed gives gives_less ended input_faults old.input new.input output stage came (sound_of held)
-      (Some (Rules file)) files link token node file end refl h
+      (Some (Rules file)) error files link token node file end refl h
   status_for (Some (Check member folder)) end h misused = λ kept held there.
       checked view before behind output (sound_of held) kept.0 kept.1
-      (o None).input stage link token node (Some (Check member folder)) member folder end refl there h
+      (o None).input error stage link token node (Some (Check member folder)) member folder end refl there h
   status_for (Some (CheckConfigured id paths)) end h misused = λ kept came held.
       shown gives gives_less ended input_faults old.input new.input view before behind output kept.0 kept.1 came (sound_of held)
-      stage link token node (Some (CheckConfigured id paths)) id paths end refl h
+      error stage link token node (Some (CheckConfigured id paths)) id paths end refl h
   status_for (Some (Get download)) end h misused = get_for download download.times download.token_file end refl refl h
   status_for (Some (Put upload)) end h misused = tt
   status_for (Some (Node service paths)) end h misused = λ kept waiting came held.
       served gives gives_less ended input_faults old.input new.input view before behind calls counts old.link new.link output kept.0 kept.1 waiting came (sound_of held)
-      stage link token (Some (Node service paths)) service paths end refl h
+      error stage link token (Some (Node service paths)) service paths end refl h

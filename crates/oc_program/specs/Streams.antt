@@ -1,11 +1,12 @@
 -- A run over bytes in memory, and a run over streams of which it is known how many bytes passed.
-use Rattle.std.specs.Prelude.{◌≡◌, ℕ, ◌<◌, ◌≤◌, ◌^◌, ◌-◌, ◌⊎◌, List, length, ◌++◌, min, Err}
+use Rattle.std.specs.Prelude.{◌≡◌, ℕ, ◌<◌, ◌≤◌, ◌^◌, ◌-◌, ◌+◌, ◌⊎◌, List, [], length, ◌++◌, min, Err}
 use Rattle.oc_io.specs.declared.traffic.Traffic.{Traffic}
 use Rattle.oc_base.specs.declared.limits.TheConstants.{MAX_SCHEDULE_BYTES}
 use Rattle.oc_replay.specs.Pieces.{SomeFront}
 use Rattle.oc_schedule.specs.Schedule.{schedule_of}
 use Rattle.oc_schedule.specs.declared.fault.ScheduleFault.TheVariants.{Limit}
-use Rattle.oc_commands.specs.Outside.{Input, Output}
+use Rattle.oc_commands.specs.Outside.{Input, OnError, Output}
+use Rattle.oc_commands.specs.Telling.{IsToldOf}
 
 -- ---- in memory
 
@@ -31,9 +32,16 @@ at_bytes bytes read = record {
 abbrev pub at_text : List ℕ → Output
 at_text output = record { written = λ text. output ≡ text; cut_off = λ text. output ≡ text }
 
--- the error output is this line, or a prefix of it
-abbrev pub IsLineOrFront : List ℕ → List ℕ → Type 0
-IsLineOrFront output line = (output ≡ line) ⊎ SomeFront line (λ front. output ≡ front)
+-- the error output is what was told and behind it this line, or a prefix of it
+abbrev pub IsLineOrFront : List ℕ → List ℕ → List ℕ → Type 0
+IsLineOrFront output told line = (output ≡ told ++ line) ⊎ SomeFront line (λ front. output ≡ told ++ front)
+
+-- this was told on the error output
+abbrev pub at_lines : List ℕ → OnError
+at_lines told = record {
+  told = λ whole bytes. IsToldOf (λ text. IsLineOrFront told [] text) whole bytes;
+  silent = told ≡ [];
+}
 
 -- ---- at streams
 
@@ -70,6 +78,21 @@ at_output traffic = record {
   cut_off = λ text. IsCountOf traffic text × HasFailed traffic;
 }
 
--- as many bytes were written as the line has, or as a prefix of it, and then a call failed
-abbrev pub IsCountOfLineOrFront : Traffic → List ℕ → Type 0
-IsCountOfLineOrFront traffic line = IsCountOf traffic line ⊎ (SomeFront line (IsCountOf traffic) × HasFailed traffic)
+-- as many bytes more were written as these are
+abbrev pub IsCountBehind : Traffic → Traffic → List ℕ → Type 0
+IsCountBehind before traffic bytes = traffic.bytes ≡ min (before.bytes + length bytes) (2 ^ 64 - 1)
+
+-- as many bytes more were written as the line has, or as a prefix of it, and then a call failed
+abbrev pub IsCountOfLineOrFront : Traffic → Traffic → List ℕ → Type 0
+IsCountOfLineOrFront before traffic line = IsCountBehind before traffic line ⊎ (SomeFront line (λ front. IsCountBehind before traffic front) × HasFailed traffic)
+
+-- nothing passed
+abbrev pub no_traffic : Traffic
+no_traffic = record { bytes = 0; faults = 0 }
+
+-- this much was told on the error output
+abbrev pub at_told : Traffic → OnError
+at_told told = record {
+  told = λ whole bytes. IsToldOf (λ text. IsCountOfLineOrFront no_traffic told text) whole bytes;
+  silent = (told.bytes ≡ 0) × (told.faults ≡ 0);
+}

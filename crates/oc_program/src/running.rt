@@ -5,12 +5,14 @@ ghost use Rattle.oc_keep.specs.Files.{disks_in};
 ghost use Rattle.oc_io.specs.Faults.{NoFall};
 ghost use Rattle.oc_commands.specs.AtCheck.{HappenedAtCheck, network_of};
 ghost use Rattle.oc_commands.specs.AtConfigured.{HappenedAtConfigured, UnlessChecked};
+ghost use Rattle.oc_commands.specs.AtGet.{HappenedAtGet};
 ghost use Rattle.oc_commands.specs.AtNode.{HappenedAtNode, UnlessRan};
 ghost use Rattle.oc_commands.specs.AtPut.{HappenedAtPut};
 ghost use Rattle.oc_commands.specs.Ends.{status_of, status_of_service};
 ghost use Rattle.oc_commands.specs.Lines.{file_at, file_known, file_told, line_of};
 ghost use Rattle.oc_commands.specs.Outside.{at_files, at_link, at_node, at_sink, at_source};
 ghost use Rattle.oc_commands.specs.Run.{Happened, IsNoNode, IsWrittenOrCut};
+ghost use Rattle.oc_commands.specs.Telling.{at_error};
 ghost use Rattle.oc_program.specs.Seen.{seen};
 ghost use Rattle.oc_program.specs.StatusFor.{StatusFor};
 ghost use Rattle.oc_words.specs.Requests.{IsMember};
@@ -20,35 +22,36 @@ ghost use Rattle.oc_words.specs.Words.{Answers, IsPlain, IsRequest, asked, texts
 use crate::outside::{Ended, Outside};
 use oc_commands::{
     CheckEnd, ConfiguredEnd, End, Served, ServiceEnd, check_configured, check_files, download,
-    list_rules, publish, replay_input, run_service, take_token, tell, write_help, write_sample,
-    write_version,
+    error_of, list_rules, progress_on, publish, replay_input, run_service, take_token, tell,
+    write_help, write_sample, write_version,
 };
 use oc_events::Link;
-use oc_fetch::ProgressLines;
+use oc_fetch::{GetEnd, Metered};
 use oc_io::{Disk, Sink, Source};
 use oc_link::Link as Dialler;
 use oc_put::{Aside, Pause, PutEnd};
 use oc_replay::Stage;
 use oc_service::Site;
-use oc_words::{Member, Name, Request, Service, Upload, WordsFault, read_words};
+use oc_words::{Download, Member, Name, Request, Service, Upload, WordsFault, read_words};
 use std::alloc::Global;
 
 /// Runs the program: what the words ask for, from the input to the output, over the stage, the three files
 /// of a node, and the links of a client and of a node. All of it comes back.
 ///
 /// The status is that of [`Status`](crate::Status); with each status other than 0 a line on the error output
-/// says why. What the words have no use for stays as it was.
+/// says why, behind those that tell how far a client came where they are wanted. What the words have no use for stays as
+/// it was.
 pub fn run<S: Source, K: Sink, E: Sink, T: Stage, D: Disk, L: Dialler, N: Link, P: Pause>(
     alloc: Global,
     words: &[String],
     outside: Outside<S, K, E, T, D, L, N, P>,
 ) -> Ended<S, K, E, T, D, L, N, P>
-    // How it ended: the status, the line on the error output, and what had happened.
-    ensures ended { (end : End) × (usage : List ℕ)
+    // How it ended: the status, the line on the error output behind what was told, and what had happened.
+    ensures ended { (end : End) × (usage : List ℕ) × (told : E)
         × (result.status ≡ number_of (status_of end))
-        × IsWrittenOrCut E.takes E.fails E.faults outside.error result.outside.error (line_of end (file_told (asked (texts_of words.now)) end) usage)
-        × Happened (seen S.gives S.fails S.ended S.faults K.takes K.fails K.faults T.world D.view L.story L.faults N.story N.counts
-        (asked (texts_of words.now)) outside result.outside) end }
+        × IsWrittenOrCut E.takes E.fails E.faults told result.outside.error (line_of end (file_told (asked (texts_of words.now)) end) usage)
+        × Happened (seen S.gives S.fails S.ended S.faults K.takes K.fails K.faults E.takes E.fails E.faults T.world D.view L.story L.faults N.story N.counts
+        (asked (texts_of words.now)) outside told result.outside) end }
 
     // Where nothing fails that the command names in its status, this one comes: by what its input says, and by what
     // its files or its link have. Or memory runs out.
@@ -107,14 +110,14 @@ fn perform<S: Source, K: Sink, E: Sink, T: Stage, D: Disk, L: Dialler, N: Link, 
 ) -> (End, Outside<S, K, E, T, D, L, N, P>)
     requires answers { Answers (asked (texts_of words.now)) given.now }
     requires range { IfOk given.now IsRequest }
-    ensures happened { Happened (seen S.gives S.fails S.ended S.faults K.takes K.fails K.faults T.world D.view L.story L.faults N.story N.counts
-        (asked (texts_of words.now)) outside result.1) result.0 }
+    ensures happened { Happened (seen S.gives S.fails S.ended S.faults K.takes K.fails K.faults E.takes E.fails E.faults T.world D.view L.story L.faults N.story N.counts
+        (asked (texts_of words.now)) outside result.1.error result.1) result.0 }
     ensures misused { asked (texts_of words.now) ≡ None → (result.0 ≡ End.Misused) ⊎ (result.0 ≡ End.NoMemory) }
     ensures no_memory { given.now ≡ Err WordsFault.Memory → result.0 ≡ End.NoMemory }
     ensures input_count { NoFall (S.faults outside.input) (S.faults result.1.input) }
     ensures output_count { IsNoNode (asked (texts_of words.now)) → NoFall (K.faults outside.output) (K.faults result.1.output) }
     ensures done_count { number_of (status_of result.0) ≡ 0 → NoFall (K.faults outside.output) (K.faults result.1.output) }
-    ensures error { result.1.error ≡ outside.error }
+    ensures error_count { NoFall (E.faults outside.error) (E.faults result.1.error) }
 {
     let mut outside = outside;
     match given {
@@ -151,8 +154,7 @@ fn perform<S: Source, K: Sink, E: Sink, T: Stage, D: Disk, L: Dialler, N: Link, 
         Ok(Request::Get(wanted)) => {
             match take_token(alloc, &wanted.token_file, &mut outside.token) {
                 Ok(token) => {
-                    let output = &mut outside.output;
-                    let end = download(alloc, wanted, &token, output, &mut outside.dialler);
+                    let (end, outside) = fetch(alloc, wanted, &token, outside);
                     (End::Got(end), outside)
                 }
                 Err(end) => (End::NoToken(end), outside),
@@ -262,6 +264,36 @@ fn check_one_of<S: Source, K: Sink, E: Sink, T: Stage, D: Disk, L: Dialler, N: L
     (end, outside)
 }
 
+/// Downloads.
+fn fetch<S: Source, K: Sink, E: Sink, T: Stage, D: Disk, L: Dialler, N: Link, P: Pause>(
+    alloc: Global,
+    wanted: &Download,
+    token: &Option<Name>,
+    outside: Outside<S, K, E, T, D, L, N, P>,
+) -> (GetEnd, Outside<S, K, E, T, D, L, N, P>)
+    ensures happened { HappenedAtGet
+        (at_link L.story L.faults outside.dialler result.1.dialler)
+        (at_sink K.takes K.fails K.faults outside.output result.1.output)
+        (at_error E.takes E.fails E.faults outside.error result.1.error) wanted.now token.now result.0 }
+    ensures count { NoFall (K.faults outside.output) (K.faults result.1.output) }
+    ensures error_count { NoFall (E.faults outside.error) (E.faults result.1.error) }
+
+    // Nothing else was reached.
+    ensures inputs { (result.1.input ≡ outside.input) × (result.1.token ≡ outside.token) }
+    ensures rest { (result.1.stage ≡ outside.stage) × (result.1.files ≡ outside.files) }
+    ensures link { result.1.link ≡ outside.link }
+{
+    let mut outside = outside;
+    let mut out = Metered {
+        sink: outside.output,
+        lines: progress_on(outside.error, wanted.progress),
+    };
+    let end = download(alloc, wanted, token, &mut out, &mut outside.dialler);
+    outside.output = out.sink;
+    outside.error = error_of(out.lines);
+    (end, outside)
+}
+
 /// Publishes the input.
 fn post<S: Source, K: Sink, E: Sink, T: Stage, D: Disk, L: Dialler, N: Link, P: Pause>(
     alloc: Global,
@@ -271,18 +303,20 @@ fn post<S: Source, K: Sink, E: Sink, T: Stage, D: Disk, L: Dialler, N: Link, P: 
 ) -> (PutEnd, Outside<S, K, E, T, D, L, N, P>)
     ensures happened { HappenedAtPut
         (at_link L.story L.faults outside.dialler result.1.dialler)
-        (at_source S.gives S.fails S.ended S.faults outside.input result.1.input) wanted.now token.now result.0 }
+        (at_source S.gives S.fails S.ended S.faults outside.input result.1.input)
+        (at_error E.takes E.fails E.faults outside.error result.1.error) wanted.now token.now result.0 }
     ensures count { NoFall (S.faults outside.input) (S.faults result.1.input) }
+    ensures error_count { NoFall (E.faults outside.error) (E.faults result.1.error) }
 
     // Nothing else was reached.
-    ensures outputs { (result.1.output ≡ outside.output) × (result.1.error ≡ outside.error) }
+    ensures output { result.1.output ≡ outside.output }
     ensures rest { (result.1.stage ≡ outside.stage) × (result.1.files ≡ outside.files) }
     ensures others { (result.1.token ≡ outside.token) × (result.1.link ≡ outside.link) }
 {
     let mut outside = outside;
     let mut aside = Aside {
         pause: outside.pause,
-        lines: ProgressLines::new(outside.error, false),
+        lines: progress_on(outside.error, wanted.progress),
     };
     let end = publish(
         alloc,
@@ -293,6 +327,6 @@ fn post<S: Source, K: Sink, E: Sink, T: Stage, D: Disk, L: Dialler, N: Link, P: 
         &mut aside,
     );
     outside.pause = aside.pause;
-    outside.error = aside.lines.into_sink();
+    outside.error = error_of(aside.lines);
     (end, outside)
 }

@@ -9,7 +9,7 @@ ghost use Rattle.oc_commands.specs.Lines.{file_told, line_of};
 ghost use Rattle.oc_commands.specs.Outside.{at_files, at_link, at_node, at_stage};
 ghost use Rattle.oc_commands.specs.Run.{Happened};
 ghost use Rattle.oc_words.specs.Status.{number_of};
-ghost use Rattle.oc_program.specs.Streams.{IsCountOfLineOrFront, IsLineOrFront, at_bytes, at_input, at_output, at_text};
+ghost use Rattle.oc_program.specs.Streams.{IsCountOfLineOrFront, IsLineOrFront, at_bytes, at_input, at_lines, at_output, at_text, at_told};
 ghost use Rattle.oc_words.specs.Words.{asked, texts_of};
 ghost use Rattle.oc_commands.specs.declared.ending.End.{End};
 ghost use Rattle.oc_schedule.specs.Schedule.{schedule_of};
@@ -71,14 +71,15 @@ pub fn run_in_memory<T: Stage, D: Disk, L: Dialler, N: Link, P: Pause>(
     token: &[u8],
     things: Things<T, D, L, N, P>,
 ) -> MemoryRun<T, D, L, N, P>
-    ensures ended { (end : End) × (usage : List ℕ)
+    ensures ended { (end : End) × (usage : List ℕ) × (told : List ℕ)
         × (result.status ≡ number_of (status_of end))
-        × IsLineOrFront result.error.items (line_of end (file_told (asked (texts_of words.now)) end) usage)
+        × IsLineOrFront result.error.items told (line_of end (file_told (asked (texts_of words.now)) end) usage)
         × Happened (record {
           asked = asked (texts_of words.now);
           input = at_bytes input.now result.read;
           token = at_bytes token.now result.token_read;
           output = at_text result.output.items;
+          error = at_lines told;
           stage = at_stage T.world things.stage result.things.stage;
           files = at_files D.view (disks_in things.files) (disks_in result.things.files);
           link = at_link L.story L.faults things.dialler result.things.dialler;
@@ -148,14 +149,15 @@ pub fn run_on_streams<R: Read + Drop, T: Stage, D: Disk, L: Dialler, N: Link, P:
     streams: Streams<R>,
     things: Things<T, D, L, N, P>,
 ) -> StreamsRun<T, D, L, N, P>
-    ensures ended { (end : End) × (usage : List ℕ)
+    ensures ended { (end : End) × (usage : List ℕ) × (told : Traffic)
         × (result.status ≡ number_of (status_of end))
-        × IsCountOfLineOrFront result.error (line_of end (file_told (asked (texts_of words.now)) end) usage)
+        × IsCountOfLineOrFront told result.error (line_of end (file_told (asked (texts_of words.now)) end) usage)
         × Happened (record {
           asked = asked (texts_of words.now);
           input = at_input result.input;
           token = at_input result.token;
           output = at_output result.output;
+          error = at_told told;
           stage = at_stage T.world things.stage result.things.stage;
           files = at_files D.view (disks_in things.files) (disks_in result.things.files);
           link = at_link L.story L.faults things.dialler result.things.dialler;

@@ -22,7 +22,7 @@ seal = record { piece = []; seals = true }
 pub data Request : Type 0 where
   -- how long is the group?
   ask : Request
-  -- take this, if the group has so many bytes
+  -- take this, if the group has this length
   publish : ℕ → Load → Request
 
 abbrev pub is_ask : Request → Bool

@@ -22,7 +22,7 @@ pub record Post : Type 0 where
   pub at : ℕ
   pub load : Load
 
--- a source may take it only where the group has so many bytes; bytes only into an open group, a seal only on one that is held
+-- a source may take it only where the group has that length; bytes only into an open group, a seal only on one that is held
 abbrev pub may_take : Group → Post → Bool
 may_take group post =
     post.at == length group.content && (post.load.seals || not group.sealed) && (group.held || not post.load.seals)

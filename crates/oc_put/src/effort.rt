@@ -116,7 +116,7 @@ fn try_again(effort: Effort, failure: Failure) -> Next
     })
 }
 
-/// Whether another try follows a failure, where there were so many before.
+/// Whether another try follows a failure, behind `count` others.
 fn may_try(failure: Failure, count: u8) -> bool
     ensures { result ≡ may_try failure count }
 {

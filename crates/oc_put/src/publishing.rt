@@ -179,7 +179,7 @@ fn carry<L: Link, S: Source, P: Pause, E: Sink>(
     }
 }
 
-/// Whether a piece of so many bytes is not sent: one of none is sent only where that is wanted.
+/// Whether a piece of this length is left out: an empty one is sent only where that is wanted.
 fn is_left_out(count: usize, may_be_empty: bool) -> bool
     ensures left_out { result ≡ true → (count ≡ 0) × (may_be_empty ≡ false) }
     ensures sent { result ≡ false → count ≡ 0 → may_be_empty ≡ true }

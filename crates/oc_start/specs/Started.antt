@@ -15,7 +15,7 @@ use Rattle.oc_keep.specs.Files.{disks_in}
 use Rattle.oc_link.specs.LinkCalls.{LinkFaults}
 use Rattle.oc_link.specs.Story.{Story}
 use Rattle.oc_model.specs.World.{World}
-use Rattle.oc_program.specs.Streams.{IsCountOfLineOrFront, at_input, at_output}
+use Rattle.oc_program.specs.Streams.{IsCountOfLineOrFront, at_input, at_output, at_told}
 use Rattle.oc_program.specs.declared.streams.Things.{Things}
 use Rattle.oc_start.specs.declared.starting.Started.{Started}
 use Rattle.oc_words.specs.Status.{number_of}
@@ -23,12 +23,14 @@ use Rattle.oc_words.specs.declared.request.Request.{Request}
 
 module _ {T D L N P : Type 0} (world : T → World) (view : D → DiskView) (dials : L → Option Story) (dial_faults : L → LinkFaults)
     (calls : N → Option (List Call)) (counts : N → Counts) where
-  -- what can be said of streams of which this passed, and of things that were the first and became the last
-  abbrev pub seen_over : Option Request → Started → Things T D L N P → Things T D L N P → sayings.Outside
-  seen_over asked ran first last = record {
+  -- what can be said of streams of which this passed, on the error output `told` before the last line, and of things that were the first
+  -- and became the last
+  abbrev pub seen_over : Option Request → Started → Traffic → Things T D L N P → Things T D L N P → sayings.Outside
+  seen_over asked ran told first last = record {
     asked = asked;
     input = at_input ran.input;
     output = at_output ran.output;
+    error = at_told told;
     stage = at_stage world first.stage last.stage;
     files = at_files view (disks_in first.files) (disks_in last.files);
     link = at_link dials dial_faults first.dialler last.dialler;
@@ -36,7 +38,7 @@ module _ {T D L N P : Type 0} (world : T → World) (view : D → DiskView) (dia
     node = at_node view calls counts (disks_in first.files) (disks_in last.files) first.link last.link;
   }
 
--- how it ended: the status, the line on the error output, and what had happened to things on whose links nothing had failed before; of the
+-- how it ended: the status, the line on the error output behind what was told, and what had happened to things on whose links nothing had failed before; of the
 -- pause between tries nothing is said
 pub record HasRun {T D L N : Type 0} (world : T → World) (view : D → DiskView) (dials : L → Option Story) (dial_faults : L → LinkFaults) (calls : N → Option (List Call)) (counts : N → Counts) (asked : Option Request) (ran : Started) : Type 0 where
   pub first : Things T D L N (Unit {0})
@@ -45,6 +47,7 @@ pub record HasRun {T D L N : Type 0} (world : T → World) (view : D → DiskVie
   pub new_link : counts first.link ≡ no_counts
   pub end : End
   pub usage : List ℕ
+  pub told : Traffic
   pub status_is : ran.status ≡ number_of (status_of end)
-  pub line : IsCountOfLineOrFront ran.error (line_of end (file_told asked end) usage)
-  pub happened : Happened (seen_over world view dials dial_faults calls counts asked ran first last) end
+  pub line : IsCountOfLineOrFront told ran.error (line_of end (file_told asked end) usage)
+  pub happened : Happened (seen_over world view dials dial_faults calls counts asked ran told first last) end

@@ -10,6 +10,7 @@ ghost use Rattle.oc_commands.specs.Ends.{status_of};
 ghost use Rattle.oc_commands.specs.Lines.{file_told, line_of};
 ghost use Rattle.oc_commands.specs.Outside.{at_files, at_link, at_node, at_sink, at_source, at_stage};
 ghost use Rattle.oc_commands.specs.Run.{Happened, IsWrittenOrCut};
+ghost use Rattle.oc_commands.specs.Telling.{at_error};
 ghost use Rattle.oc_words.specs.Status.{number_of};
 ghost use Rattle.oc_commands.specs.declared.ending.End.{End};
 ghost use Rattle.oc_words.specs.Words.{asked, texts_of};
@@ -44,13 +45,14 @@ pub fn run_to_disks<S: Source, K: Sink, E: Sink, D: Disk, L: Dialler, N: Link, P
     outside: Outside<S, K, E, World, D, L, N, P>,
     node: NodeId,
 ) -> Left<S, K, E, D, L, N, P>
-    ensures { (end : End) × (usage : List ℕ) × (last : WorldView)
+    ensures { (end : End) × (usage : List ℕ) × (told : E) × (last : WorldView)
         × (result.status ≡ number_of (status_of end))
-        × IsWrittenOrCut E.takes E.fails E.faults outside.error result.outside.error (line_of end (file_told (asked (texts_of words.now)) end) usage)
+        × IsWrittenOrCut E.takes E.fails E.faults told result.outside.error (line_of end (file_told (asked (texts_of words.now)) end) usage)
         × Happened (record {
           asked = asked (texts_of words.now);
           input = at_source S.gives S.fails S.ended S.faults outside.input result.outside.input;
           output = at_sink K.takes K.fails K.faults outside.output result.outside.output;
+          error = at_error E.takes E.fails E.faults outside.error told;
           stage = at_stage (λ (w : WorldView). w.world) outside.stage last;
           files = at_files D.view (disks_in outside.files) (disks_in result.outside.files);
           link = at_link L.story L.faults outside.dialler result.outside.dialler;

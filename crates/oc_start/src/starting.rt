@@ -12,6 +12,7 @@ use oc_program::{
 };
 use oc_sockets::SocketLink;
 use oc_system::{FileDisk, Input, NamedFile, SocketLink as DialLink, Trouble};
+use oc_words::tip;
 use oc_world::World;
 use std::io;
 
@@ -63,7 +64,8 @@ pub fn start(rt: &HostRuntime, words: &[String]) -> Result<Started, End>
 }
 
 /// The same, with the input and the files at these places. Where the status is that of an object that failed, a
-/// second line tells of that object, where it knows more.
+/// second line tells of that object, where it knows more; where it is that of words that are refused, what they may have
+/// been meant to be, where that is known.
 fn start_at(rt: &HostRuntime, words: &[String], places: &Places) -> Started
     ensures ended { HasRun ⟦<World as oc_replay::Stage>⟧.world ⟦<FileDisk<'static, HostRuntime> as oc_io::Disk>⟧.view
         ⟦<DialLink<'static, HostRuntime> as oc_link::Link>⟧.story ⟦<DialLink<'static, HostRuntime> as oc_link::Link>⟧.faults
@@ -113,6 +115,9 @@ fn start_at(rt: &HostRuntime, words: &[String], places: &Places) -> Started
         mut things,
     } = ran;
     things.link.send_rest();
+    if status == Status::Usage.number() {
+        tell_tip(rt, words);
+    }
     if status == Status::Failed.number() {
         tell_trouble(rt, input.trouble());
         tell_trouble(rt, token.trouble());
@@ -128,6 +133,13 @@ fn start_at(rt: &HostRuntime, words: &[String], places: &Places) -> Started
         token: shown,
         output,
         error,
+    }
+}
+
+/// Tells on the error output what words that were refused may have been meant to be, where that is known.
+fn tell_tip(rt: &HostRuntime, words: &[String]) {
+    if let Some(tip) = tip(rt.alloc(), words) {
+        let _ = eprintln!(rt; "overcast: {tip}");
     }
 }
 

@@ -1,5 +1,5 @@
 -- What the program answers to the words is what they ask for.
-use Rattle.std.proofs.Common.{◌≡◌, ◌≢◌, ◌⊎◌, ◌∙◌, ap, ap₂, refl, sym, subst, inl, inr, true, List, [], Option, None, Result, Err, ⊎_elim}
+use Rattle.std.proofs.Common.{◌≡◌, ◌≢◌, ◌⊎◌, ◌∙◌, ap, ap₂, refl, sym, subst, inl, inr, true, List, [], Option, None, Result, Ok, Err, ⊎_elim}
 use Rattle.std.specs.Prelude.{ok_or}
 use Rattle.std.specs.Result.{result_ok}
 use Rattle.clap.specs.Words.{App, HasKind, Row, Text, fault_of, is_simple, is_simple_and_free, kind_of, subcommand_of}
@@ -7,11 +7,12 @@ use Rattle.clap.specs.Simple.{built}
 use Rattle.clap.specs.declared.error.Error.{Error}
 use Rattle.clap.specs.declared.error.kind.ErrorKind.{ErrorKind}
 use Rattle.clap.specs.declared.error.kind.ErrorKind.TheVariants as kind
+use Rattle.oc_base.specs.declared.why.Why.{Why}
 use Rattle.oc_words.specs.declared.request.Request.{Request}
 use Rattle.oc_words.specs.declared.words.WordsFault.{WordsFault}
 use Rattle.oc_words.specs.declared.words.WordsFault.TheVariants.{Usage, Memory}
 use Rattle.oc_words.specs.Command.{command}
-use Rattle.oc_words.specs.Words.{Answers, Verdict, asked, asked_by, request_of, verdict_among, verdict_by, verdict_of}
+use Rattle.oc_words.specs.Words.{Answers, Verdict, asked, asked_by, asking, request_of, verdict_among, verdict_by, verdict_of}
 use Rattle.oc_words.proofs.PureKinds.{pure_faults}
 
 -- memory is answered by memory, and each other kind by its verdict
@@ -29,6 +30,17 @@ by_kind : (v : Verdict) (named : Option (Text × List Row)) (k : ErrorKind) (r :
 by_kind v named kind.OutOfMemory r a h = inr (a.0 refl)
 by_kind v named k r a (inl e) = cc
 by_kind v named k r a (inr e) = inl (a.1 (λ m. cc) ∙ ap (λ (o : Option Request). ok_or o Usage) (not_accepted k named ∙ ap (λ w. asked_by w named) e))
+
+-- what answers the words of a command's fields answers those of the command
+abbrev over : {A : Type 0} → (A → Request) → Result A WordsFault → Result Request WordsFault
+over make (Ok fields) = Ok (make fields)
+over make (Err why) = Err why
+
+pub asks_with : {A : Type 0} (make : A → Request) (said : Result A Why) (fields : A)
+    → Answers (result_ok said) (Ok fields) → Answers (result_ok (asking make said)) (Ok (make fields))
+asks_with make (Ok x) fields (inl same) = inl (ap (over make) same)
+asks_with make (Err why) fields (inl same) = inl (ap (over make) same)
+asks_with make said fields (inr memory) = inr (ap (over make) memory)
 
 -- all that `clap` says of its answers holds of the command
 is_exact : is_simple_and_free command ≡ true

@@ -44,7 +44,7 @@ replay_of rows = Replay (is_flagged (codes "summary") rows) (first_of (codes "FI
 abbrev pub service_of : List Row → Result Service Why
 service_of rows = do
   id_word ← word_of (codes "ID") rows
-  service_in id_word (first_of (codes "turns") rows) (is_flagged (codes "probe") rows)
+  service_in id_word (first_of (codes "turns") rows) (is_flagged (codes "probe") rows) (first_of (codes "log") rows)
 
 -- where the arguments of `node` and `check` say that it reads and keeps
 abbrev pub paths_of : List Row → Paths
@@ -58,7 +58,7 @@ member_of id nodes rows = member_without id nodes (first_of (codes "CHAIN") rows
 abbrev pub download_of : List Row → Result Download Why
 download_of rows = do
   address ← word_of (codes "URL") rows
-  download_in address (first_of (codes "follow") rows) (first_of (codes "from") rows) (first_of (codes "token-file") rows)
+  download_in address (first_of (codes "follow") rows) (first_of (codes "from") rows) (first_of (codes "token-file") rows) (is_flagged (codes "progress") rows)
 
 -- what the arguments of `put` ask for
 abbrev pub upload_of : List Row → Result Upload Why
@@ -70,4 +70,5 @@ upload_of rows = do
     onto = onto;
     seals = is_flagged (codes "seal") rows;
     token_file = first_of (codes "token-file") rows;
+    progress = is_flagged (codes "progress") rows;
   })

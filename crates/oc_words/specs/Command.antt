@@ -47,10 +47,10 @@ gen_shape = record (new_shape (codes "gen")) {
   rules = required_rule (codes "SEED") ∷ required_rule (codes "NODES") ∷ required_rule (codes "EVENTS") ∷ [];
 }
 
--- `node ID`, with the options `--turns N`, `--config FILE` and `--dir FOLDER` and the flag `--probe`
+-- `node ID`, with the options `--turns N`, `--config FILE`, `--dir FOLDER` and `--log WORD` and the flag `--probe`
 abbrev pub node_shape : Shape
 node_shape = record (new_shape (codes "node")) {
-  rules = required_rule (codes "ID") ∷ option_rule (codes "turns") ∷ flag_rule (codes "probe") ∷ option_rule (codes "config") ∷ option_rule (codes "dir") ∷ [];
+  rules = required_rule (codes "ID") ∷ option_rule (codes "turns") ∷ flag_rule (codes "probe") ∷ option_rule (codes "config") ∷ option_rule (codes "dir") ∷ option_rule (codes "log") ∷ [];
 }
 
 -- `check ID` and `check ID NODES CHAIN`, with the options `--config FILE` and `--dir FOLDER`
@@ -59,16 +59,16 @@ check_shape = record (new_shape (codes "check")) {
   rules = required_rule (codes "ID") ∷ optional_rule (codes "NODES") ∷ optional_rule (codes "CHAIN") ∷ option_rule (codes "config") ∷ option_rule (codes "dir") ∷ [];
 }
 
--- `get URL`, with the options `--follow N`, `--from N` and `--token-file FILE`
+-- `get URL`, with the options `--follow N`, `--from N` and `--token-file FILE` and the flag `--progress`
 abbrev pub get_shape : Shape
 get_shape = record (new_shape (codes "get")) {
-  rules = required_rule (codes "URL") ∷ option_rule (codes "follow") ∷ option_rule (codes "from") ∷ option_rule (codes "token-file") ∷ [];
+  rules = required_rule (codes "URL") ∷ option_rule (codes "follow") ∷ option_rule (codes "from") ∷ option_rule (codes "token-file") ∷ flag_rule (codes "progress") ∷ [];
 }
 
--- `put URL`, with the flags `--append`, `--resume` and `--seal` and the option `--token-file FILE`
+-- `put URL`, with the flags `--append`, `--resume`, `--seal` and `--progress` and the option `--token-file FILE`
 abbrev pub put_shape : Shape
 put_shape = record (new_shape (codes "put")) {
-  rules = required_rule (codes "URL") ∷ flag_rule (codes "append") ∷ flag_rule (codes "resume") ∷ flag_rule (codes "seal") ∷ option_rule (codes "token-file") ∷ [];
+  rules = required_rule (codes "URL") ∷ flag_rule (codes "append") ∷ flag_rule (codes "resume") ∷ flag_rule (codes "seal") ∷ option_rule (codes "token-file") ∷ flag_rule (codes "progress") ∷ [];
 }
 
 -- `rules`, with the option `--config FILE`

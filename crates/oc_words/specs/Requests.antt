@@ -1,12 +1,15 @@
 -- What the words of each command ask for.
-use Rattle.std.specs.Prelude.{◌≡◌, ℕ, ◌-◌, ◌^◌, ◌≤◌, ◌⊎◌, min, Bool, true, false, Option, Some, None, Result, Ok, Err, List}
+use Rattle.std.specs.Prelude.{◌≡◌, ℕ, ◌-◌, ◌^◌, ◌≤◌, ◌⊎◌, min, Bool, true, false, if◌then◌else◌, Option, Some, None, Result, Ok, Err, List, codes}
 use Rattle.std.specs.Option.{ForSome}
+use Rattle.std.specs.Str.{bytes_eq}
 use Rattle.oc_base.specs.Steps.{◌>>=◌}
 use Rattle.oc_base.specs.Words.{number_in}
 use Rattle.oc_base.specs.declared.limits.TheConstants.{MAX_CHAIN, MAX_NODES, MAX_START}
 use Rattle.oc_base.specs.declared.why.Why.{Why}
-use Rattle.oc_base.specs.declared.why.Why.TheVariants.{Count}
+use Rattle.oc_base.specs.declared.why.Why.TheVariants.{Count, Word}
 use Rattle.oc_words.specs.declared.request.Download.{Download}
+use Rattle.oc_words.specs.declared.request.LogWord.{LogWord}
+use Rattle.oc_words.specs.declared.request.LogWord.TheVariants.{Inputs, Brief}
 use Rattle.oc_words.specs.declared.request.Member.{Member}
 use Rattle.oc_words.specs.declared.request.Onto.{Onto}
 use Rattle.oc_words.specs.declared.request.Onto.TheVariants.{New, Append, Resume}
@@ -31,7 +34,7 @@ pub record IsSample (s : Sample) : Type 0 where
   pub all_start : s.nodes ≤ s.events
   pub not_more : s.events ≤ MAX_EVENTS
 
--- ---- `node ID`, `node ID --turns N`
+-- ---- `node ID`, with `--turns N` and `--log WORD`
 
 -- the number of turns, or that of a node that serves until it is ended
 abbrev pub turns_in : Option (List ℕ) → Result ℕ Why
@@ -42,12 +45,21 @@ turns_in (Some word) = number_in 0 MAX_TURNS word
 abbrev pub id_in : List ℕ → Result ℕ Why
 id_in word = number_in 0 (2 ^ 64 - 1) word
 
--- an id, and a number of turns
-abbrev pub service_in : List ℕ → Option (List ℕ) → Bool → Result Service Why
-service_in id_word turns_word probes = do
+-- what is written of inputs, by one of two words
+abbrev pub log_by : List ℕ → Result LogWord Why
+log_by word = if bytes_eq word (codes "inputs") then Ok Inputs else if bytes_eq word (codes "brief") then Ok Brief else Err Word
+
+abbrev pub log_in : Option (List ℕ) → Result LogWord Why
+log_in None = Ok Inputs
+log_in (Some word) = log_by word
+
+-- an id, a number of turns, and what is written of inputs
+abbrev pub service_in : List ℕ → Option (List ℕ) → Bool → Option (List ℕ) → Result Service Why
+service_in id_word turns_word probes log_word = do
   id ← id_in id_word
   turns ← turns_in turns_word
-  Ok (record { id = id; turns = turns; probes = probes })
+  log ← log_in log_word
+  Ok (record { id = id; turns = turns; probes = probes; log = log })
 
 -- the number of turns is within its range
 abbrev pub IsService : Service → Type 0
@@ -94,12 +106,12 @@ start_in (Some word) = do
   start ← number_in 0 MAX_START word
   Ok (Some start)
 
--- the address, any text, how many replies are followed, where to begin, and the file of a token
-abbrev pub download_in : List ℕ → Option (List ℕ) → Option (List ℕ) → Option (List ℕ) → Result Download Why
-download_in address follow from token_file = do
+-- the address, any text, how many replies are followed, where to begin, the file of a token, and whether lines tell how far it came
+abbrev pub download_in : List ℕ → Option (List ℕ) → Option (List ℕ) → Option (List ℕ) → Bool → Result Download Why
+download_in address follow from token_file progress = do
   times ← times_in follow
   start ← start_in from
-  Ok (record { address = address; times = times; start = start; token_file = token_file })
+  Ok (record { address = address; times = times; start = start; token_file = token_file; progress = progress })
 
 -- the number of replies is within its range
 abbrev pub IsTimes : Option ℕ → Type 0

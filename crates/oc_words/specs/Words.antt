@@ -68,8 +68,8 @@ abbrev pub check_in : Option Text → Option Text → ℕ → Request
 check_in config folder id = CheckConfigured id (record { config = config; folder = folder })
 
 -- the publishing of the input at this address
-abbrev pub put_at : Text → Onto → Bool → Option Text → Request
-put_at address onto seals token_file = Put (record { address = address; onto = onto; seals = seals; token_file = token_file })
+abbrev pub put_at : Text → Onto → Bool → Option Text → Bool → Request
+put_at address onto seals token_file progress = Put (record { address = address; onto = onto; seals = seals; token_file = token_file; progress = progress })
 
 -- what `node` asks for
 abbrev pub node_of : List Row → Result Request Why
@@ -143,15 +143,17 @@ pub data IsPlain (words : List Text) : Type 0 where
   plain_gen : (seed nodes events : Text) (sample : Sample) → words ≡ codes "gen" ∷ seed ∷ nodes ∷ events ∷ []
       → sample_in seed nodes events ≡ Ok sample → IsPlain words
   plain_endless : (id : Text) (service : Service) → words ≡ codes "node" ∷ id ∷ []
-      → service_in id None false ≡ Ok service → IsPlain words
+      → service_in id None false None ≡ Ok service → IsPlain words
   plain_placed : (id config folder : Text) (service : Service)
       → words ≡ codes "node" ∷ id ∷ codes "--config" ∷ config ∷ codes "--dir" ∷ folder ∷ []
-      → IsNoFlag config → IsNoFlag folder → service_in id None false ≡ Ok service → IsPlain words
+      → IsNoFlag config → IsNoFlag folder → service_in id None false None ≡ Ok service → IsPlain words
   plain_node : (id turns : Text) (service : Service) → words ≡ codes "node" ∷ id ∷ codes "--turns" ∷ turns ∷ []
-      → service_in id (Some turns) false ≡ Ok service → IsPlain words
+      → service_in id (Some turns) false None ≡ Ok service → IsPlain words
   plain_probing : (id turns : Text) (service : Service)
       → words ≡ codes "node" ∷ id ∷ codes "--turns" ∷ turns ∷ codes "--probe" ∷ []
-      → service_in id (Some turns) true ≡ Ok service → IsPlain words
+      → service_in id (Some turns) true None ≡ Ok service → IsPlain words
+  plain_logging : (id log : Text) (service : Service) → words ≡ codes "node" ∷ id ∷ codes "--log" ∷ log ∷ []
+      → IsNoFlag log → service_in id None false (Some log) ≡ Ok service → IsPlain words
   plain_check : (id nodes chain : Text) (member : Member) → words ≡ codes "check" ∷ id ∷ nodes ∷ chain ∷ []
       → member_in id nodes chain ≡ Ok member → IsPlain words
   plain_configured : (id : Text) (number : ℕ) → words ≡ codes "check" ∷ id ∷ [] → id_in id ≡ Ok number → IsPlain words
@@ -163,11 +165,12 @@ pub data IsPlain (words : List Text) : Type 0 where
       → IsNoFlag folder → member_in id nodes chain ≡ Ok member → IsPlain words
   plain_get : (url : Text) → words ≡ codes "get" ∷ url ∷ [] → IsNoFlag url → IsPlain words
   plain_follow : (url times : Text) (download : Download) → words ≡ codes "get" ∷ url ∷ codes "--follow" ∷ times ∷ []
-      → IsNoFlag url → download_in url (Some times) None None ≡ Ok download → IsPlain words
+      → IsNoFlag url → download_in url (Some times) None None false ≡ Ok download → IsPlain words
   plain_from : (url start : Text) (download : Download) → words ≡ codes "get" ∷ url ∷ codes "--from" ∷ start ∷ []
-      → IsNoFlag url → download_in url None (Some start) None ≡ Ok download → IsPlain words
+      → IsNoFlag url → download_in url None (Some start) None false ≡ Ok download → IsPlain words
   plain_get_as : (url file : Text) → words ≡ codes "get" ∷ url ∷ codes "--token-file" ∷ file ∷ []
       → IsNoFlag url → IsNoFlag file → IsPlain words
+  plain_get_told : (url : Text) → words ≡ codes "get" ∷ url ∷ codes "--progress" ∷ [] → IsNoFlag url → IsPlain words
   plain_put : (url : Text) → words ≡ codes "put" ∷ url ∷ [] → IsNoFlag url → IsPlain words
   plain_append : (url : Text) → words ≡ codes "put" ∷ url ∷ codes "--append" ∷ [] → IsNoFlag url → IsPlain words
   plain_resume : (url : Text) → words ≡ codes "put" ∷ url ∷ codes "--resume" ∷ [] → IsNoFlag url → IsPlain words
@@ -176,6 +179,7 @@ pub data IsPlain (words : List Text) : Type 0 where
   plain_resume_seal : (url : Text) → words ≡ codes "put" ∷ url ∷ codes "--resume" ∷ codes "--seal" ∷ [] → IsNoFlag url → IsPlain words
   plain_put_as : (url file : Text) → words ≡ codes "put" ∷ url ∷ codes "--token-file" ∷ file ∷ []
       → IsNoFlag url → IsNoFlag file → IsPlain words
+  plain_put_told : (url : Text) → words ≡ codes "put" ∷ url ∷ codes "--progress" ∷ [] → IsNoFlag url → IsPlain words
   plain_rules : words ≡ codes "rules" ∷ [] → IsPlain words
   plain_version : words ≡ codes "--version" ∷ [] → IsPlain words
   plain_listed : (config : Text) → words ≡ codes "rules" ∷ codes "--config" ∷ config ∷ [] → IsNoFlag config → IsPlain words

@@ -6,6 +6,8 @@
 //! takes the arguments of a subcommand, and `parsing` their numbers, each spelled as in every text of the program and
 //! within its range (`IsSample` and its like in `specs/Requests`).
 //!
+//! [`tip`] tells what words that make none may have been meant to be, where `clap` knows.
+//!
 //! A [`Status`] is how the program ended, and its number is the exit status of the process.
 #![tactic(auto)]
 
@@ -17,13 +19,15 @@ mod reading;
 mod request;
 mod status;
 mod subcommands;
+mod tips;
 mod words;
 
 pub use command::VERSION;
 pub use name::Name;
 pub use request::{
-    Download, ENDLESS, MAX_EVENTS, MAX_FOLLOWED, MAX_TURNS, Member, Onto, Paths, Request, Sample,
-    Service, Upload,
+    Download, ENDLESS, LogWord, MAX_EVENTS, MAX_FOLLOWED, MAX_TURNS, Member, Onto, Paths, Request,
+    Sample, Service, Upload,
 };
 pub use status::Status;
-pub use words::{WordsFault, clients_ask, places_ask, read_words, rows_ask};
+pub use tips::tip;
+pub use words::{WordsFault, clients_ask, logs_ask, places_ask, read_words, rows_ask};

@@ -1,8 +1,11 @@
 //! The numbers of a request, from the words that stand for them.
 ghost use Rattle.std.specs.Prelude.{◌≡◌, ◌≤◌, ◌⊎◌, IfOk, option_map};
-ghost use Rattle.oc_words.specs.Requests.{IsMember, IsSample, IsService, IsStart, IsTimes, id_in, member_in, member_without, onto_in, sample_in, service_in, start_in, times_in, turns_in};
+ghost use Rattle.oc_words.specs.Requests.{IsMember, IsSample, IsService, IsStart, IsTimes, id_in, log_by, log_in, member_in, member_without};
+ghost use Rattle.oc_words.specs.Requests.{onto_in, sample_in, service_in, start_in, times_in, turns_in};
 
-use crate::request::{ENDLESS, MAX_EVENTS, MAX_FOLLOWED, MAX_TURNS, Member, Onto, Sample, Service};
+use crate::request::{
+    ENDLESS, LogWord, MAX_EVENTS, MAX_FOLLOWED, MAX_TURNS, Member, Onto, Sample, Service,
+};
 use oc_base::words::number;
 use oc_base::{MAX_CHAIN, MAX_NODES, MAX_START, Why};
 
@@ -21,15 +24,21 @@ pub(crate) fn sample_in(seed: &str, nodes: &str, events: &str) -> Result<Sample,
     })
 }
 
-/// The run that a word and that of an option ask for, which probes or not.
-pub(crate) fn service_in(id: &str, turns: Option<&str>, probes: bool) -> Result<Service, Why>
-    ensures said { result ≡ service_in id.now (option_map (λ word. word.now) turns.entry) probes }
+/// The run that a word and those of two options ask for, which probes or not.
+pub(crate) fn service_in(
+    id: &str,
+    turns: Option<&str>,
+    probes: bool,
+    log: Option<&str>,
+) -> Result<Service, Why>
+    ensures said { result ≡ service_in id.now (option_map (λ word. word.now) turns.entry) probes (option_map (λ word. word.now) log.entry) }
     ensures range { IfOk result IsService }
 {
     Ok(Service {
         id: id_in(id)?,
         turns: turns_in(turns)?,
         probes,
+        log: log_in(log)?,
     })
 }
 
@@ -41,6 +50,29 @@ fn turns_in(word: Option<&str>) -> Result<u64, Why>
     match word {
         Some(word) => number(word.as_bytes(), 0, MAX_TURNS),
         None => Ok(ENDLESS),
+    }
+}
+
+/// What is written of inputs, by the word of the option.
+fn log_in(word: Option<&str>) -> Result<LogWord, Why>
+    ensures { result ≡ log_in (option_map (λ word. word.now) word.entry) }
+{
+    match word {
+        Some(word) => log_by(word),
+        None => Ok(LogWord::Inputs),
+    }
+}
+
+/// What is written of inputs, by this word.
+fn log_by(word: &str) -> Result<LogWord, Why>
+    ensures { result ≡ log_by word.now }
+{
+    if word == "inputs" {
+        Ok(LogWord::Inputs)
+    } else if word == "brief" {
+        Ok(LogWord::Brief)
+    } else {
+        Err(Why::Word)
     }
 }
 

@@ -32,7 +32,8 @@ pub(crate) fn service_of(matches: &ArgMatches<'_>) -> Result<Service, Why>
 {
     let id = word(matches, "ID")?;
     let turns = given(matches, "turns");
-    service_in(id, turns, is_flagged(matches, "probe"))
+    let log = given(matches, "log");
+    service_in(id, turns, is_flagged(matches, "probe"), log)
 }
 
 /// Where the arguments of `node` and `check` say that it reads and keeps.
@@ -77,6 +78,7 @@ pub(crate) fn download_of(alloc: Global, matches: &ArgMatches<'_>) -> Result<Dow
         times,
         start,
         token_file: copied(alloc, matches, "token-file")?,
+        progress: is_flagged(matches, "progress"),
     })
 }
 
@@ -91,5 +93,6 @@ pub(crate) fn upload_of(alloc: Global, matches: &ArgMatches<'_>) -> Result<Uploa
         onto,
         seals: is_flagged(matches, "seal"),
         token_file: copied(alloc, matches, "token-file")?,
+        progress: is_flagged(matches, "progress"),
     })
 }

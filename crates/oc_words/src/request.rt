@@ -151,6 +151,17 @@ pub struct Service {
     pub turns: u64,
     /// Whether it probes its peers.
     pub probes: bool,
+    /// What it writes of its inputs.
+    pub log: LogWord,
+}
+
+/// What a node writes of its inputs, by the word of `--log`.
+#[derive(Clone, Copy, Debug, PartialEq, Eq)]
+pub enum LogWord {
+    /// `inputs`: a line for each.
+    Inputs,
+    /// `brief`: what people and log collectors are told.
+    Brief,
 }
 
 /// The node that `check` is asked for: one of a network.
@@ -175,6 +186,8 @@ pub struct Download {
     pub start: Option<u64>,
     /// The file of the client's token.
     pub token_file: Option<Name>,
+    /// Whether lines tell how far it came.
+    pub progress: bool,
 }
 
 /// The publishing that `put` is asked for.
@@ -188,6 +201,8 @@ pub struct Upload {
     pub seals: bool,
     /// The file of the client's token.
     pub token_file: Option<Name>,
+    /// Whether lines tell how far it came.
+    pub progress: bool,
 }
 
 /// Where in its group an input goes.

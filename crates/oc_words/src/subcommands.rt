@@ -27,7 +27,7 @@ pub(crate) fn gen_command<'a>(alloc: Global) -> Result<Command<'a>, AllocError>
     )
 }
 
-/// `node ID`, with the options `--turns N`, `--config FILE` and `--dir FOLDER` and the flag `--probe`.
+/// `node ID`, with the options `--turns N`, `--config FILE`, `--dir FOLDER` and `--log WORD` and the flag `--probe`.
 pub(crate) fn node_command<'a>(alloc: Global) -> Result<Command<'a>, AllocError>
     ensures { IfOk result (IsSubcommand node_shape) }
 {
@@ -35,7 +35,8 @@ pub(crate) fn node_command<'a>(alloc: Global) -> Result<Command<'a>, AllocError>
     let two = with(one, option(alloc, "turns"));
     let three = with(two, flag(alloc, "probe"));
     let four = with(three, option(alloc, "config"));
-    with(four, option(alloc, "dir"))
+    let five = with(four, option(alloc, "dir"));
+    with(five, option(alloc, "log"))
 }
 
 /// `check ID` and `check ID NODES CHAIN`, with the options `--config FILE` and `--dir FOLDER`.
@@ -49,17 +50,18 @@ pub(crate) fn check_command<'a>(alloc: Global) -> Result<Command<'a>, AllocError
     with(four, option(alloc, "dir"))
 }
 
-/// `get URL`, with the options `--follow N`, `--from N` and `--token-file FILE`.
+/// `get URL`, with the options `--follow N`, `--from N` and `--token-file FILE` and the flag `--progress`.
 pub(crate) fn get_command<'a>(alloc: Global) -> Result<Command<'a>, AllocError>
     ensures { IfOk result (IsSubcommand get_shape) }
 {
     let one = with(named(alloc, "get"), required(alloc, "URL"));
     let two = with(one, option(alloc, "follow"));
     let three = with(two, option(alloc, "from"));
-    with(three, option(alloc, "token-file"))
+    let four = with(three, option(alloc, "token-file"));
+    with(four, flag(alloc, "progress"))
 }
 
-/// `put URL`, with the flags `--append`, `--resume` and `--seal` and the option `--token-file FILE`.
+/// `put URL`, with the flags `--append`, `--resume`, `--seal` and `--progress` and the option `--token-file FILE`.
 pub(crate) fn put_command<'a>(alloc: Global) -> Result<Command<'a>, AllocError>
     ensures { IfOk result (IsSubcommand put_shape) }
 {
@@ -67,7 +69,8 @@ pub(crate) fn put_command<'a>(alloc: Global) -> Result<Command<'a>, AllocError>
     let two = with(one, flag(alloc, "append"));
     let three = with(two, flag(alloc, "resume"));
     let four = with(three, flag(alloc, "seal"));
-    with(four, option(alloc, "token-file"))
+    let five = with(four, option(alloc, "token-file"));
+    with(five, flag(alloc, "progress"))
 }
 
 /// `rules`, with the option `--config FILE`.

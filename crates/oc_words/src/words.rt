@@ -208,19 +208,19 @@ pub fn rows_ask()
         ≡ result_ok (asking Request.Gen (sample_in seed nodes events)) }
     ensures serving { (id turns : Text) → IsNoFlag id → IsNoFlag turns
         → asked (codes "node" ∷ id ∷ codes "--turns" ∷ turns ∷ [])
-        ≡ result_ok (asking (node_at None None) (service_in id (Some turns) false)) }
+        ≡ result_ok (asking (node_at None None) (service_in id (Some turns) false None)) }
     ensures probing { (id turns : Text) → IsNoFlag id → IsNoFlag turns
         → asked (codes "node" ∷ id ∷ codes "--turns" ∷ turns ∷ codes "--probe" ∷ [])
-        ≡ result_ok (asking (node_at None None) (service_in id (Some turns) true)) }
+        ≡ result_ok (asking (node_at None None) (service_in id (Some turns) true None)) }
     ensures checking { (id nodes chain : Text) → IsNoFlag id → IsNoFlag nodes → IsNoFlag chain
         → asked (codes "check" ∷ id ∷ nodes ∷ chain ∷ [])
         ≡ result_ok (asking (check_at None) (member_in id nodes chain)) }
     ensures getting { (url : Text) → IsNoFlag url
         → asked (codes "get" ∷ url ∷ [])
-        ≡ result_ok (asking Request.Get (download_in url None None None)) }
+        ≡ result_ok (asking Request.Get (download_in url None None None false)) }
     ensures following { (url times : Text) → IsNoFlag url → IsNoFlag times
         → asked (codes "get" ∷ url ∷ codes "--follow" ∷ times ∷ [])
-        ≡ result_ok (asking Request.Get (download_in url (Some times) None None)) }
+        ≡ result_ok (asking Request.Get (download_in url (Some times) None None false)) }
 
     ensures plain { (words : List Text) → IsPlain words → asked words ≢ None }
 {}
@@ -233,10 +233,10 @@ pub fn places_ask()
     ensures listing { (config : Text) → IsNoFlag config
         → asked (codes "rules" ∷ codes "--config" ∷ config ∷ []) ≡ Some (Request.Rules (Some config)) }
     ensures serving { (id : Text) → IsNoFlag id
-        → asked (codes "node" ∷ id ∷ []) ≡ result_ok (asking (node_at None None) (service_in id None false)) }
+        → asked (codes "node" ∷ id ∷ []) ≡ result_ok (asking (node_at None None) (service_in id None false None)) }
     ensures serving_there { (id config folder : Text) → IsNoFlag id → IsNoFlag config → IsNoFlag folder
         → asked (codes "node" ∷ id ∷ codes "--config" ∷ config ∷ codes "--dir" ∷ folder ∷ [])
-        ≡ result_ok (asking (node_at (Some config) (Some folder)) (service_in id None false)) }
+        ≡ result_ok (asking (node_at (Some config) (Some folder)) (service_in id None false None)) }
     ensures checking { (id : Text) → IsNoFlag id
         → asked (codes "check" ∷ id ∷ []) ≡ result_ok (asking (check_in None None) (id_in id)) }
     ensures checking_there { (id config folder : Text) → IsNoFlag id → IsNoFlag config → IsNoFlag folder
@@ -255,22 +255,40 @@ pub fn places_ask()
 /// What words ask for that publish, and those of a client that begin at a byte or name the file of a token.
 pub fn clients_ask()
     ensures publishing { (url : Text) → IsNoFlag url
-        → asked (codes "put" ∷ url ∷ []) ≡ Some (put_at url New false None) }
+        → asked (codes "put" ∷ url ∷ []) ≡ Some (put_at url New false None false) }
     ensures appending { (url : Text) → IsNoFlag url
-        → asked (codes "put" ∷ url ∷ codes "--append" ∷ []) ≡ Some (put_at url Append false None) }
+        → asked (codes "put" ∷ url ∷ codes "--append" ∷ []) ≡ Some (put_at url Append false None false) }
     ensures resuming { (url : Text) → IsNoFlag url
-        → asked (codes "put" ∷ url ∷ codes "--resume" ∷ []) ≡ Some (put_at url Resume false None) }
+        → asked (codes "put" ∷ url ∷ codes "--resume" ∷ []) ≡ Some (put_at url Resume false None false) }
     ensures sealing { (url : Text) → IsNoFlag url
-        → asked (codes "put" ∷ url ∷ codes "--seal" ∷ []) ≡ Some (put_at url New true None) }
+        → asked (codes "put" ∷ url ∷ codes "--seal" ∷ []) ≡ Some (put_at url New true None false) }
     ensures publishing_as { (url file : Text) → IsNoFlag url → IsNoFlag file
-        → asked (codes "put" ∷ url ∷ codes "--token-file" ∷ file ∷ []) ≡ Some (put_at url New false (Some file)) }
+        → asked (codes "put" ∷ url ∷ codes "--token-file" ∷ file ∷ []) ≡ Some (put_at url New false (Some file) false) }
 
     // An input goes behind what the group has, or has the group's bytes in front.
     ensures said_both { (url : Text) → IsNoFlag url → asked (codes "put" ∷ url ∷ codes "--append" ∷ codes "--resume" ∷ []) ≡ None }
     ensures getting_from { (url start : Text) → IsNoFlag url → IsNoFlag start
         → asked (codes "get" ∷ url ∷ codes "--from" ∷ start ∷ [])
-        ≡ result_ok (asking Request.Get (download_in url None (Some start) None)) }
+        ≡ result_ok (asking Request.Get (download_in url None (Some start) None false)) }
     ensures getting_as { (url file : Text) → IsNoFlag url → IsNoFlag file
         → asked (codes "get" ∷ url ∷ codes "--token-file" ∷ file ∷ [])
-        ≡ result_ok (asking Request.Get (download_in url None None (Some file))) }
+        ≡ result_ok (asking Request.Get (download_in url None None (Some file) false)) }
+
+    // Lines tell how far it came.
+    ensures publishing_told { (url : Text) → IsNoFlag url
+        → asked (codes "put" ∷ url ∷ codes "--progress" ∷ []) ≡ Some (put_at url New false None true) }
+    ensures getting_told { (url : Text) → IsNoFlag url
+        → asked (codes "get" ∷ url ∷ codes "--progress" ∷ [])
+        ≡ result_ok (asking Request.Get (download_in url None None None true)) }
+{}
+
+/// What words ask for that say what a node writes of its inputs: one of two words, once.
+pub fn logs_ask()
+    ensures logging { (id log : Text) → IsNoFlag id → IsNoFlag log
+        → asked (codes "node" ∷ id ∷ codes "--log" ∷ log ∷ [])
+        ≡ result_ok (asking (node_at None None) (service_in id None false (Some log))) }
+    ensures unknown { (id log : Text) → IsNoFlag id → IsNoFlag log → log ≢ codes "inputs" → log ≢ codes "brief"
+        → asked (codes "node" ∷ id ∷ codes "--log" ∷ log ∷ []) ≡ None }
+    ensures said_twice { (id one other : Text) → IsNoFlag id → IsNoFlag one → IsNoFlag other
+        → asked (codes "node" ∷ id ∷ codes "--log" ∷ one ∷ codes "--log" ∷ other ∷ []) ≡ None }
 {}

@@ -1,19 +1,22 @@
-use Rattle.std.proofs.Common.{ap}
-use Rattle.oc_commands.proofs.Gotten.{got_news, got_once}
+use Rattle.std.proofs.Common.{Bool, subst}
+use Rattle.oc_fetch.specs.Lines.{Tells}
+use Rattle.oc_commands.specs.Counting.{Fails, Takes}
+use Rattle.oc_commands.specs.Outside.{at_link}
+use Rattle.oc_commands.specs.Telling.{last_line}
+use Rattle.oc_commands.proofs.Gotten.{gotten, gotten_count}
 use Rattle.oc_commands.proofs.getting.download.Goals as goal
 
-pub returns-in-None-clause-happened : goal.returns-in-None-clause-happened
-returns-in-None-clause-happened g c =
-    let e = c.get.ensures in
-    got_once g.K.Sink.takes g.K.Sink.fails g.K.Sink.faults g.L.Link.story g.L.Link.faults c.args.link.now c.get.new.link c.args.out.now c.get.new.sink c.args.wanted.now c.args.token.now
-    c.as_str-address.result.now c.as_str-address.ensures
-    (record { from = c.args.wanted.now.start; token = _ }) (ap (λ t. record { from = c.args.wanted.now.start; token = t }) c.text_of.ensures)
-    c.get.result e.sink_cause e.link_cause e.bad c.in-None.is e.talked e.complete
+pub returns-clause-happened : goal.returns-clause-happened
+returns-clause-happened g c =
+    let mid = c.pass_on-end.new.out in
+    let last =
+    subst (λ (whole : Bool). Tells (Takes g.E.Sink.takes g.E.Sink.faults) (Fails g.E.Sink.fails g.E.Sink.faults) mid.lines.sink c.finish.new.lines.sink mid.lines.active c.finish.new.lines.active (last_line whole mid.lines.count))
+    c.is_done.ensures c.finish.ensures in
+    gotten g.K.Sink.takes g.K.Sink.fails g.K.Sink.faults g.E.Sink.takes g.E.Sink.fails g.E.Sink.faults g.met.E.Sink.takes_then g.met.E.Sink.takes_fails c.args.out.now mid c.finish.new.lines
+    (at_link g.L.Link.story g.L.Link.faults c.args.link.now c.pass_on-end.new.link) c.args.wanted.now c.args.token.now c.pass_on-end.result c.pass_on-end.ensures.downloaded last c.requires.new c.requires.lines
 
-pub returns-in-Some-clause-happened : goal.returns-in-Some-clause-happened
-returns-in-Some-clause-happened g c =
-    let e = c.follow.ensures in
-    got_news g.K.Sink.takes g.K.Sink.fails g.K.Sink.faults g.L.Link.story g.L.Link.faults c.args.link.now c.follow.new.link c.args.out.now c.follow.new.sink c.args.wanted.now c.args.token.now
-    c.as_str-address.result.now c.as_str-address.ensures
-    (record { from = c.args.wanted.now.start; token = _ }) (ap (λ t. record { from = c.args.wanted.now.start; token = t }) c.text_of.ensures)
-    c.follow.result e.sink_cause e.link_cause e.bad c.in-Some.times c.in-Some.is e.talked
+pub returns-clause-error_count : goal.returns-clause-error_count
+returns-clause-error_count g c =
+    let mid = c.pass_on-end.new.out in
+    gotten_count g.K.Sink.takes g.K.Sink.fails g.K.Sink.faults g.E.Sink.takes g.E.Sink.fails g.E.Sink.faults g.met.E.Sink.takes_then g.met.E.Sink.takes_fails c.args.out.now mid c.finish.new.lines
+    (at_link g.L.Link.story g.L.Link.faults c.args.link.now c.pass_on-end.new.link) c.args.wanted.now c.args.token.now c.pass_on-end.result c.is_done.result c.pass_on-end.ensures.downloaded c.finish.ensures

@@ -4,14 +4,14 @@ use Rattle.oc_commands.specs.AtReplay.{status_for}
 use Rattle.oc_keep.specs.Files.{disks_in}
 use Rattle.oc_commands.specs.Outside.{at_files, at_link, at_node, at_stage}
 use Rattle.oc_words.specs.Words.{asked, texts_of}
-use Rattle.oc_program.proofs.Passed.{bytes_told, line_told, text_told}
+use Rattle.oc_program.proofs.Passed.{bytes_told, line_told, lines_told, text_told}
 use Rattle.oc_program.proofs.InMemory.{replayed_of}
 use Rattle.oc_commands.proofs.Told.{happened_told}
 use Rattle.oc_program.proofs.streams.run_in_memory.Goals as goal
 
 pub returns : goal.returns
 returns g c =
-    let (end, usage, is, line, happened) = c.run-status.ensures.ended in
+    let (end, usage, error, is, line, happened) = c.run-status.ensures.ended in
     let words = asked (texts_of c.args.words.now) in
     let things = c.args.things in
     let outside = c.run-status.result.outside in
@@ -29,10 +29,12 @@ returns g c =
     c.args.token.now (ap (λ r. r.now) c.new-token_source.ensures.reader) token_few c.traffic-2.result.bytes c.traffic-2.ensures.bytes token_fits in
     let output = text_told c.new-out.result outside.output (λ v. v.items) (ap (λ v. v.items) c.new-out.ensures.writer ∙ c.new.ensures.items)
     c.into_writer.result.items (ap (λ v. v.items) c.into_writer.ensures) in
-    let written = line_told c.new-err.result outside.error (λ v. v.items) (ap (λ v. v.items) c.new-err.ensures.writer ∙ c.new-2.ensures.items)
-    c.into_writer-2.result.items (ap (λ v. v.items) c.into_writer-2.ensures) _ line in
-    let told = happened_told _ _ _ _ stage input output words files link node _ _ token end happened in
+    let empty = ap (λ v. v.items) c.new-err.ensures.writer ∙ c.new-2.ensures.items in
+    let whole = ap (λ v. v.items) c.into_writer-2.ensures in
+    let lines = lines_told c.new-err.result error outside.error (λ v. v.items) empty c.into_writer-2.result.items whole in
+    let written = line_told c.new-err.result error outside.error (λ v. v.items) empty c.into_writer-2.result.items whole _ line in
+    let told = happened_told _ _ _ _ _ _ stage input output lines words files link node _ _ token end happened in
     record {
-      ended = (end, usage, is, written, told);
-      replayed = λ summary file asks. subst (λ n. (n ≡ status_for (schedule_of c.args.input.now)) ⊎ (n ≡ 1) ⊎ (n ≡ 4)) (sym is) (replayed_of c.args.input.now c.traffic.result.bytes _ stage files link _ node summary file words end asks told);
+      ended = (end, usage, error.writer.items, is, written, told);
+      replayed = λ summary file asks. subst (λ n. (n ≡ status_for (schedule_of c.args.input.now)) ⊎ (n ≡ 1) ⊎ (n ≡ 4)) (sym is) (replayed_of c.args.input.now c.traffic.result.bytes _ _ stage files link _ node summary file words end asks told);
     }

@@ -2,13 +2,13 @@ use Rattle.std.proofs.Common.{◌≤◌, ◌^◌, ◌-◌, None, rules}
 use Rattle.oc_keep.specs.Files.{disks_in}
 use Rattle.oc_commands.specs.Outside.{at_files, at_link, at_node, at_stage}
 use Rattle.oc_words.specs.Words.{asked, texts_of}
-use Rattle.oc_program.proofs.Passed.{count_told, input_told, output_told}
+use Rattle.oc_program.proofs.Passed.{count_told, counts_told, input_told, output_told}
 use Rattle.oc_commands.proofs.Told.{happened_told}
 use Rattle.oc_program.proofs.streams.run_on_streams.Goals as goal
 
 pub returns : goal.returns
 returns g c =
-    let (end, usage, is, line, happened) = c.run-status.ensures.ended in
+    let (end, usage, error, is, line, happened) = c.run-status.ensures.ended in
     let words = asked (texts_of c.args.words.now) in
     let things = c.args.things in
     let outside = c.run-status.result.outside in
@@ -26,6 +26,8 @@ returns g c =
     c.traffic-2.result c.traffic-2.ensures.bytes c.traffic-2.ensures.faults bearer in
     let output = output_told c.new-stdout.result outside.output (λ w. None) c.new-stdout.ensures.passed c.new-stdout.ensures.faults
     c.traffic-3.result c.traffic-3.ensures.bytes c.traffic-3.ensures.faults written in
-    let line_is = count_told c.new-stderr.result outside.error (λ w. None) c.new-stderr.ensures.passed c.new-stderr.ensures.faults
+    let lines = counts_told c.new-stderr.result error outside.error (λ w. None) c.new-stderr.ensures.passed c.new-stderr.ensures.faults
+    c.traffic-4.result c.traffic-4.ensures.bytes c.traffic-4.ensures.faults told in
+    let line_is = count_told c.new-stderr.result error outside.error (λ w. None) c.new-stderr.ensures.passed c.new-stderr.ensures.faults
     c.traffic-4.result c.traffic-4.ensures.bytes c.traffic-4.ensures.faults told _ line in
-    record { ended = (end, usage, is, line_is, happened_told _ _ _ _ stage input output words files link node _ _ token end happened) }
+    record { ended = (end, usage, _, is, line_is, happened_told _ _ _ _ _ _ stage input output lines words files link node _ _ token end happened) }

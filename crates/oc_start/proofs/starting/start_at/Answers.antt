@@ -2,7 +2,7 @@ use Rattle.oc_start.proofs.starting.start_at.Goals as goal
 
 pub returns : goal.returns
 returns c =
-    let (end, usage, is, line, happened) = c.run_on_streams-ran.ensures.ended in
+    let (end, usage, told, is, line, happened) = c.run_on_streams-ran.ensures.ended in
     let left = c.run_on_streams-ran.result.things in
     record {
       ended = record {
@@ -18,6 +18,7 @@ returns c =
         new_link = c.new-link.ensures.counts;
         end = end;
         usage = usage;
+        told = told;
         status_is = is;
         line = line;
         happened = happened;

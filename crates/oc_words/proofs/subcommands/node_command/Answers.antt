@@ -19,9 +19,13 @@ three = with_argument two (flag_rule (codes "probe"))
 abbrev four : Shape
 four = with_argument three (option_rule (codes "config"))
 
+abbrev five : Shape
+five = with_argument four (option_rule (codes "dir"))
+
 pub returns : goal.returns
-returns c = c.with.ensures four (option_rule (codes "dir"))
+returns c = c.with.ensures five (option_rule (codes "log"))
+    (c.with-five.ensures four (option_rule (codes "dir"))
     (c.with-four.ensures three (option_rule (codes "config"))
     (c.with-three.ensures two (flag_rule (codes "probe"))
     (c.with-two.ensures one (option_rule (codes "turns"))
-    (c.with-one.ensures none (required_rule (codes "ID")) c.named.ensures c.required.ensures) c.option.ensures) c.flag.ensures) c.option-2.ensures) c.option-3.ensures
+    (c.with-one.ensures none (required_rule (codes "ID")) c.named.ensures c.required.ensures) c.option.ensures) c.flag.ensures) c.option-2.ensures) c.option-3.ensures) c.option-4.ensures

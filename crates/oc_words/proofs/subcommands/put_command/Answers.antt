@@ -19,9 +19,13 @@ three = with_argument two (flag_rule (codes "resume"))
 abbrev four : Shape
 four = with_argument three (flag_rule (codes "seal"))
 
+abbrev five : Shape
+five = with_argument four (option_rule (codes "token-file"))
+
 pub returns : goal.returns
-returns c = c.with.ensures four (option_rule (codes "token-file"))
+returns c = c.with.ensures five (flag_rule (codes "progress"))
+    (c.with-five.ensures four (option_rule (codes "token-file"))
     (c.with-four.ensures three (flag_rule (codes "seal"))
     (c.with-three.ensures two (flag_rule (codes "resume"))
     (c.with-two.ensures one (flag_rule (codes "append"))
-    (c.with-one.ensures none (required_rule (codes "URL")) c.named.ensures c.required.ensures) c.flag.ensures) c.flag-2.ensures) c.flag-3.ensures) c.option.ensures
+    (c.with-one.ensures none (required_rule (codes "URL")) c.named.ensures c.required.ensures) c.flag.ensures) c.flag-2.ensures) c.flag-3.ensures) c.option.ensures) c.flag-4.ensures

@@ -1,5 +1,5 @@
-use Rattle.oc_words.proofs.PlainWords.{asked_both, asked_by_append, asked_by_from, asked_by_get_as, asked_by_put}
-use Rattle.oc_words.proofs.PlainWords.{asked_by_put_as, asked_by_resume, asked_by_seal}
+use Rattle.oc_words.proofs.PlainWords.{asked_both, asked_by_append, asked_by_from, asked_by_get_as, asked_by_get_told, asked_by_put}
+use Rattle.oc_words.proofs.PlainWords.{asked_by_put_as, asked_by_put_told, asked_by_resume, asked_by_seal}
 use Rattle.oc_words.proofs.words.clients_ask.Goals as goal
 
 pub returns-clause-publishing : goal.returns-clause-publishing
@@ -25,3 +25,9 @@ returns-clause-getting_from c = asked_by_from
 
 pub returns-clause-getting_as : goal.returns-clause-getting_as
 returns-clause-getting_as c = asked_by_get_as
+
+pub returns-clause-publishing_told : goal.returns-clause-publishing_told
+returns-clause-publishing_told c = asked_by_put_told
+
+pub returns-clause-getting_told : goal.returns-clause-getting_told
+returns-clause-getting_told c = asked_by_get_told

@@ -1,0 +1,26 @@
+-- The lines that tell on the error output how far a client came.
+use Rattle.std.specs.Prelude.{◌≡◌, ℕ, Bool, if◌then◌else◌, List, [], ◌++◌}
+use Rattle.oc_fetch.specs.Lines.{lines_between, progress_line}
+use Rattle.oc_io.specs.Counts.{Rises}
+use Rattle.oc_commands.specs.Outside.{OnError}
+use Rattle.oc_commands.specs.Run.{IsWrittenOrCut}
+
+-- the line of all bytes, where all is done
+abbrev pub last_line : Bool → ℕ → List ℕ
+last_line whole count = if whole then progress_line count else []
+
+-- a line for each multiple that so many bytes reach or pass, and the last one
+abbrev pub progress_text : Bool → ℕ → List ℕ
+progress_text whole count = lines_between 0 count ++ last_line whole count
+
+-- this was written of so many bytes, which are counted as far as a u64 goes
+abbrev pub IsToldOf : (List ℕ → Type 0) → Bool → ℕ → Type 0
+IsToldOf written whole bytes = (count : ℕ) × Rises 0 bytes count × written (progress_text whole count)
+
+module _ {E : Type 0} (takes fails : E → List ℕ → E → Type 0) (faults : E → ℕ) where
+  -- at an error output, from the old value to the new one
+  abbrev pub at_error : E → E → OnError
+  at_error old new = record {
+    told = λ whole bytes. IsToldOf (λ text. IsWrittenOrCut takes fails faults old new text) whole bytes;
+    silent = new ≡ old;
+  }

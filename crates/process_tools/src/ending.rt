@@ -1,6 +1,6 @@
 //! How a run ends.
 
-use crate::texts::{cut_line, excerpt, first_difference, from_event};
+use crate::texts::{cut_line, excerpt, first_difference, first_missing, from_event};
 use std::alloc::{AllocError, Global};
 use std::process::Output;
 use std::{fs, io};
@@ -53,7 +53,8 @@ impl<'a> Ending<'a> {
     }
 
     /// Where the output differs from what has to come. A file `NAME.tail` has the end of the output, from the event
-    /// on with which the file begins; `NAME.excerpt` has its length and some of its lines; any other file all of it.
+    /// on with which the file begins; `NAME.excerpt` has its length and some of its lines; `NAME.some` has some of its
+    /// lines, in their order; any other file all of it.
     fn output_difference(&self, rt: &HostRuntime, seen: &[u8]) -> io::Result<Option<String>> {
         let Some(file) = self.output else {
             return told_difference(rt, "output", seen, b"");
@@ -62,6 +63,9 @@ impl<'a> Ending<'a> {
         if file.ends_with(".excerpt") {
             let seen = excerpt(rt.alloc(), seen, &wanted)?;
             return told_difference(rt, "excerpt", &seen, &wanted);
+        }
+        if file.ends_with(".some") {
+            return told_missing(rt, seen, &wanted);
         }
         if file.ends_with(".tail") {
             return told_difference(rt, "tail", from_event(seen, &wanted), &wanted);
@@ -99,6 +103,14 @@ fn told_difference(
         return Ok(None);
     };
     Ok(Some(format!(in rt.alloc(); "line {} of the {}, {}", number, name, shown(line))?))
+}
+
+/// Tells the first of some lines that a text does not have, behind the others.
+fn told_missing(rt: &HostRuntime, seen: &[u8], wanted: &[u8]) -> io::Result<Option<String>> {
+    let Some(line) = first_missing(seen, wanted) else {
+        return Ok(None);
+    };
+    Ok(Some(format!(in rt.alloc(); "the output has no line {}", shown(line))?))
 }
 
 /// Bytes as a report shows them.

@@ -1,19 +1,23 @@
 //! Runs of a program as processes, on real files and sockets, row by row.
 //!
 //! The program is the one that runs: it starts itself, with the words of a row. [`play`] plays the rows of `runs.txt`,
-//! each a run with its words and its input; then those of `served.txt`, beside a node that it has started; and at last
-//! it kills nodes in the middle of publishing. It prints a line for each: its name and `ok`, or where it first differs
-//! from what has to come.
+//! each a run with its words and its input; those of `served.txt`, beside a node that it has started, and those of
+//! `talks.txt`, conversations with that node; those of `peers.txt`, beside a peer that it plays itself; three nodes, of
+//! which it kills one; and at last it kills a node in the middle of publishing, again and again. It prints a line for
+//! each: its name and `ok`, or where it first differs from what has to come.
 #![tactic(auto)]
 
 mod asking;
 mod case;
 mod ending;
+mod following;
 mod killing;
 mod node;
+mod peering;
 mod playing;
 mod serving;
 mod starting;
+mod talking;
 mod texts;
 
 pub use playing::play;

@@ -1,4 +1,4 @@
-//! A node of a network of one, as a process in a folder of its own.
+//! Nodes of a network, each as a process in a folder of its own.
 
 use crate::starting::program;
 use std::io::{self, Write};
@@ -15,20 +15,30 @@ const MOST_TRIES: u32 = 1_000;
 
 const TRY_MILLIS: u64 = 10;
 
-/// Where a node runs: its folder, and its port.
+/// Where a node runs: its number, its folder, its port, and the configuration of its network.
 #[derive(Drop)]
 pub struct Home {
+    pub node: u16,
     pub folder: String,
     pub port: u16,
+    configuration: String,
 }
 
 impl Home {
-    /// A new folder of that name, and a port on which nobody listens.
+    /// A new folder of that name, for a node on a port on which nobody listens, in a network of its own.
     pub fn new(rt: &HostRuntime, name: &str) -> io::Result<Home> {
+        let port = free_port(rt)?;
+        Home::of(rt, name, 1, &[port])
+    }
+
+    /// A new folder of that name, for this node of a network whose nodes have these ports, that of node 1 first.
+    pub fn of(rt: &HostRuntime, name: &str, node: u16, ports: &[u16]) -> io::Result<Home> {
         fs::create_dir(rt, name)?;
         Ok(Home {
+            node,
             folder: String::from_str(rt.alloc(), name)?,
-            port: free_port(rt)?,
+            port: port_of(ports, node),
+            configuration: configuration_of(rt, ports)?,
         })
     }
 
@@ -41,7 +51,8 @@ impl Home {
 
     /// Starts the node, which waits for its configuration.
     fn spawn(&self, rt: &HostRuntime) -> io::Result<Child> {
-        self.program(rt, &["node", "1", "--turns", TURNS])?
+        let node = format!(in rt.alloc(); "{}", self.node)?;
+        self.program(rt, &["node", node.as_str(), "--turns", TURNS])?
             .stdin(Stdio::piped())
             .stdout(Stdio::null())
             .spawn(rt)
@@ -50,19 +61,14 @@ impl Home {
     /// Gives the node its configuration, and waits until it listens.
     fn begin(&self, rt: &HostRuntime, node: &mut Child) -> io::Result<()> {
         if let Some(input) = node.stdin.take() {
-            self.configure(rt, input)?;
+            self.configure(input)?;
         }
         self.wait(rt)
     }
 
-    /// Writes the configuration of a network of this one node.
-    fn configure(&self, rt: &HostRuntime, input: ChildStdin) -> io::Result<()> {
-        let mut input = input;
-        let configuration = format!(in rt.alloc();
-            "chain = 1\n\n[[node]]\nid = 1\naddress = \"localhost:{}\"\n",
-            self.port
-        )?;
-        input.write_all(configuration.as_bytes())
+    /// Writes the configuration, and ends the input.
+    fn configure(&self, mut input: ChildStdin) -> io::Result<()> {
+        input.write_all(self.configuration.as_bytes())
     }
 
     /// Waits until the node listens.
@@ -109,6 +115,29 @@ pub fn end(mut node: Child) -> io::Result<()> {
     node.kill()?;
     node.wait()?;
     Ok(())
+}
+
+/// The port of a node.
+fn port_of(ports: &[u16], node: u16) -> u16 {
+    ports
+        .get(usize::from(node).saturating_sub(1))
+        .copied()
+        .unwrap_or(0)
+}
+
+/// The configuration of a network whose nodes have these ports.
+fn configuration_of(rt: &HostRuntime, ports: &[u16]) -> io::Result<String> {
+    let mut text = String::from_str(rt.alloc(), "chain = 1\n")?;
+    let mut node = 0u16;
+    for port in ports {
+        let port = *port;
+        node = node.saturating_add(1);
+        let table = format!(in rt.alloc();
+            "\n[[node]]\nid = {node}\naddress = \"localhost:{port}\"\n"
+        )?;
+        text.push_str(table.as_str())?;
+    }
+    Ok(text)
 }
 
 /// A port on which nobody listens.

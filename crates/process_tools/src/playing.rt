@@ -1,8 +1,10 @@
 //! Runs of the rows.
 
 use crate::case::{Case, CommandLine};
+use crate::following::follow_the_living;
 use crate::killing::kill_often;
 use crate::node::free_port;
+use crate::peering::play_peers;
 use crate::serving::play_served;
 use crate::starting::program;
 use std::alloc::{AllocError, Global};
@@ -13,19 +15,41 @@ use std::{fs, io};
 /// The files of a node.
 const NODE_FILES: [&str; 3] = ["control.log", "control.alt", "content.log"];
 
+/// The ports that rows name.
+#[derive(Clone, Copy)]
+pub struct Ports {
+    /// In the places of `PORT`: that of a node, or one on which nobody listens.
+    pub port: u16,
+    /// In the places of `PEER`: that of a peer, if there is one.
+    pub peer: Option<u16>,
+}
+
+impl Ports {
+    /// This port, and no peer.
+    pub fn only(port: u16) -> Ports {
+        Ports { port, peer: None }
+    }
+}
+
 /// Plays the cases, one after another.
 pub fn play(rt: &HostRuntime) -> io::Result<()> {
-    play_rows(rt, "runs.txt", free_port(rt)?)?;
+    play_rows(rt, "runs.txt", Ports::only(free_port(rt)?))?;
     play_served(rt)?;
+    play_peers(rt, "peers.txt")?;
+    tell(
+        rt,
+        "three nodes of which one is killed",
+        follow_the_living(rt),
+    )?;
     tell(rt, "fifty kills lose nothing", kill_often(rt))
 }
 
-/// Plays the rows of a table in which `PORT` stands for this port, and prints a line for each.
-pub fn play_rows(rt: &HostRuntime, table: &str, port: u16) -> io::Result<()> {
-    let rows = with_port(rt, table, port)?;
+/// Plays the rows of a table, and prints a line for each.
+pub fn play_rows(rt: &HostRuntime, table: &str, ports: Ports) -> io::Result<()> {
+    let rows = with_ports(rt, table, ports)?;
     for row in rows.lines() {
         if let Some(case) = Case::read(row) {
-            tell(rt, case.name, play_case(rt, &case, port))?;
+            tell(rt, case.name, play_case(rt, &case, ports))?;
         }
     }
     Ok(())
@@ -41,25 +65,31 @@ pub fn tell(rt: &HostRuntime, name: &str, seen: io::Result<Option<String>>) -> i
 }
 
 /// Plays a case, and says how it differs from what has to come, if it does.
-fn play_case(rt: &HostRuntime, case: &Case<'_>, port: u16) -> io::Result<Option<String>> {
-    let got = outcome(rt, case, port)?;
+fn play_case(rt: &HostRuntime, case: &Case<'_>, ports: Ports) -> io::Result<Option<String>> {
+    let got = outcome(rt, case, ports)?;
     case.ending.difference(rt, &got)
 }
 
 /// What the run of a case gives.
-fn outcome(rt: &HostRuntime, case: &Case<'_>, port: u16) -> io::Result<Output> {
+fn outcome(rt: &HostRuntime, case: &Case<'_>, ports: Ports) -> io::Result<Output> {
     match case.run.split_once(" | ") {
-        Some((front, back)) => piped(rt, case.name, front, back, port),
-        None => command(rt, case.name, case.run, port)?.output(rt),
+        Some((front, back)) => piped(rt, case.name, front, back, ports),
+        None => command(rt, case.name, case.run, ports)?.output(rt),
     }
 }
 
 /// What the second of two command lines gives on the output of the first, which is waited for once the second has ended.
-fn piped(rt: &HostRuntime, name: &str, front: &str, back: &str, port: u16) -> io::Result<Output> {
-    let mut feeder = command(rt, name, front, port)?
+fn piped(
+    rt: &HostRuntime,
+    name: &str,
+    front: &str,
+    back: &str,
+    ports: Ports,
+) -> io::Result<Output> {
+    let mut feeder = command(rt, name, front, ports)?
         .stdout(Stdio::piped())
         .spawn(rt)?;
-    let got = run_behind(rt, &mut feeder, name, back, port)?;
+    let got = run_behind(rt, &mut feeder, name, back, ports)?;
     feeder.wait()?;
     Ok(got)
 }
@@ -70,9 +100,9 @@ fn run_behind(
     feeder: &mut Child,
     name: &str,
     line: &str,
-    port: u16,
+    ports: Ports,
 ) -> io::Result<Output> {
-    let mut second = command(rt, name, line, port)?;
+    let mut second = command(rt, name, line, ports)?;
     if let Some(output) = feeder.stdout.take() {
         second.stdin(output);
     }
@@ -80,9 +110,9 @@ fn run_behind(
 }
 
 /// The program with the words, the streams and the files of a command line.
-fn command(rt: &HostRuntime, name: &str, line: &str, port: u16) -> io::Result<Command> {
+pub fn command(rt: &HostRuntime, name: &str, line: &str, ports: Ports) -> io::Result<Command> {
     let mut command = program(rt)?;
-    prepare(rt, &mut command, name, CommandLine(line), port)?;
+    prepare(rt, &mut command, name, CommandLine(line), ports)?;
     Ok(command)
 }
 
@@ -92,10 +122,10 @@ fn prepare(
     command: &mut Command,
     name: &str,
     line: CommandLine<'_>,
-    port: u16,
+    ports: Ports,
 ) -> io::Result<()> {
     line.put_words(command)?;
-    command.stdin(input(rt, name, line.input(), port)?);
+    command.stdin(input(rt, name, line.input(), ports)?);
     put_outputs(rt, command, line)?;
     if let Some(folder) = line.folder() {
         copy_files(rt, folder, name)?;
@@ -116,9 +146,9 @@ fn put_outputs(rt: &HostRuntime, command: &mut Command, line: CommandLine<'_>) -
 }
 
 /// The input of a run: this file, or nothing.
-fn input(rt: &HostRuntime, name: &str, file: Option<&str>, port: u16) -> io::Result<Stdio> {
+fn input(rt: &HostRuntime, name: &str, file: Option<&str>, ports: Ports) -> io::Result<Stdio> {
     match file {
-        Some(file) if file.ends_with(".toml") => configuration(rt, name, file, port),
+        Some(file) if file.ends_with(".toml") => configuration(rt, name, file, ports),
         Some(file) => opened(rt, file),
         None => Ok(Stdio::null()),
     }
@@ -129,23 +159,28 @@ fn opened(rt: &HostRuntime, file: &str) -> io::Result<Stdio> {
     Ok(Stdio::from(File::open(rt, file)?))
 }
 
-/// A configuration in which `PORT` stands for this port.
-fn configuration(rt: &HostRuntime, name: &str, file: &str, port: u16) -> io::Result<Stdio> {
+/// A configuration in which `PORT` and `PEER` stand for these ports.
+fn configuration(rt: &HostRuntime, name: &str, file: &str, ports: Ports) -> io::Result<Stdio> {
     let copy = format!(in rt.alloc(); "{name}.toml")?;
-    write_with_port(rt, copy.as_str(), file, port)?;
+    write_with_ports(rt, copy.as_str(), file, ports)?;
     opened(rt, copy.as_str())
 }
 
-/// Writes the text of a file, with a port in the places of `PORT`, to another.
-fn write_with_port(rt: &HostRuntime, copy: &str, file: &str, port: u16) -> io::Result<()> {
-    fs::write(rt, copy, with_port(rt, file, port)?)
+/// Writes the text of a file, with the ports that it names, to another.
+fn write_with_ports(rt: &HostRuntime, copy: &str, file: &str, ports: Ports) -> io::Result<()> {
+    fs::write(rt, copy, with_ports(rt, file, ports)?)
 }
 
-/// The text of a file, with a port in the places of `PORT`.
-fn with_port(rt: &HostRuntime, file: &str, port: u16) -> io::Result<String> {
+/// The text of a file, with ports in the places of `PORT` and `PEER`.
+pub fn with_ports(rt: &HostRuntime, file: &str, ports: Ports) -> io::Result<String> {
     let text = fs::read_to_string(rt, file)?;
-    let port = format!(in rt.alloc(); "{port}")?;
-    Ok(text.replace(rt.alloc(), "PORT", port.as_str())?)
+    let port = format!(in rt.alloc(); "{}", ports.port)?;
+    let text = text.replace(rt.alloc(), "PORT", port.as_str())?;
+    let Some(peer) = ports.peer else {
+        return Ok(text);
+    };
+    let peer = format!(in rt.alloc(); "{peer}")?;
+    Ok(text.replace(rt.alloc(), "PEER", peer.as_str())?)
 }
 
 /// A file as an output. `&-` is one that is closed to writers.

@@ -2,10 +2,12 @@
 
 use crate::asking::{ask, publish_text};
 use crate::node::{Home, end};
-use crate::playing::play_rows;
+use crate::playing::{Ports, play_rows};
+use crate::talking::play_talks;
 use std::io;
 
-/// Plays the rows of `served.txt` beside a node that holds five bytes of one group, and three of one that is sealed.
+/// Plays the rows of `served.txt` beside a node that holds five bytes of one group, and three of one that is sealed; then
+/// those of `talks.txt`, conversations with it.
 pub fn play_served(rt: &HostRuntime) -> io::Result<()> {
     let home = Home::new(rt, "served")?;
     let node = home.start(rt)?;
@@ -18,7 +20,8 @@ fn play_beside(rt: &HostRuntime, home: &Home) -> io::Result<()> {
     publish(rt, home, "/news/a", "hello")?;
     publish(rt, home, "/news/b", "bye")?;
     publish(rt, home, "/news/b?seal", "")?;
-    play_rows(rt, "served.txt", home.port)
+    play_rows(rt, "served.txt", Ports::only(home.port))?;
+    play_talks(rt, home, "talks.txt")
 }
 
 /// Publishes bytes, or seals a group. The rows tell whether the node took them.

@@ -70,6 +70,31 @@ pub fn excerpt(alloc: Global, text: &[u8], like: &[u8]) -> io::Result<Vec<u8>> {
     Ok(out)
 }
 
+/// The first of the lines that are wanted which is not among those of the text, behind the ones before it.
+pub fn first_missing<'w>(text: &[u8], wanted: &'w [u8]) -> Option<&'w [u8]> {
+    let mut rest = text;
+    for line in wanted.split(is_end) {
+        match behind_line(rest, line) {
+            Some(behind) => rest = behind,
+            None => return Some(line),
+        }
+    }
+    None
+}
+
+/// What follows the first such line of a text.
+fn behind_line<'a>(text: &'a [u8], wanted: &[u8]) -> Option<&'a [u8]> {
+    let mut rest = text;
+    for _ in 0..text.len().saturating_add(1) {
+        let (line, behind) = cut_line(rest);
+        if line == wanted {
+            return Some(behind);
+        }
+        rest = behind;
+    }
+    None
+}
+
 /// The number with which a line begins.
 fn number_of(line: &[u8]) -> Option<usize> {
     std::str::from_utf8(first_word(line))

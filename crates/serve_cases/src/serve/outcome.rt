@@ -7,7 +7,7 @@ use crate::serve::steps::{said_by, small_in};
 use oc_events::{Call, ConnectionId, Event, MemLink, given};
 use oc_io::{MemDisk, MemSink};
 use oc_keep::Files;
-use oc_service::{NodeEnd, Ran, Site};
+use oc_service::{Log, NodeEnd, Ran, Site};
 use std::alloc::Global;
 use test_tools::{Fault, put_spelled};
 
@@ -60,6 +60,7 @@ fn live(
         me: setting.node,
         turns: small_in(scene, "turns", count)?,
         probes: said_by(scene, "probes").is_some(),
+        log: log_in(scene),
     };
     let site = Site {
         files,
@@ -67,6 +68,14 @@ fn live(
         sink: sink_in(alloc, scene)?,
     };
     run(alloc, &setting.config, play, site)
+}
+
+/// What the node writes of its inputs: where there is a step `brief`, what is told to people.
+fn log_in(scene: &str) -> Log {
+    match said_by(scene, "brief") {
+        Some(_) => Log::Brief,
+        None => Log::Inputs,
+    }
 }
 
 /// What the words of a row tell of an outcome.

@@ -42,7 +42,7 @@ impl Scenes for RequestScenes {
     }
 }
 
-/// The scene of a connection, with the steps behind it, whose bytes come so many at a time. Its end is told once more,
+/// The scene of a connection, with the steps behind it, whose bytes come `cut` at a time. Its end is told once more,
 /// as behind the permission to send a body.
 pub fn scene_of(alloc: Global, text: &str, cut: usize) -> Result<String, Fault> {
     Ok(format!(in alloc; "cut:{cut} ^ come:{text} ^ again:1")?)
@@ -73,7 +73,7 @@ fn first_other(
     Ok(None)
 }
 
-/// The words of a connection that comes so many bytes at a time, where they are others.
+/// The words of a connection whose bytes come `cut` at a time, where they are others.
 fn other(
     alloc: Global,
     setting: &Setting,

@@ -4,7 +4,7 @@ use oc_base::NodeId;
 use oc_config::read;
 use oc_events::Link;
 use oc_io::{Disk, Sink};
-use oc_service::{Ran, Site, Task, run_node};
+use oc_service::{Log, Ran, Site, Task, run_node};
 use std::alloc::Global;
 use test_tools::Fault;
 
@@ -14,6 +14,7 @@ pub struct Play {
     pub me: NodeId,
     pub turns: u32,
     pub probes: bool,
+    pub log: Log,
 }
 
 /// Runs a node of the configuration of this text.
@@ -33,6 +34,7 @@ pub fn run<D: Disk + Drop, L: Link + Drop, K: Sink + Drop>(
         me: play.me,
         turns: u64::from(play.turns),
         probes: play.probes,
+        log: play.log,
     };
     Ok(run_node(alloc, config, task, site))
 }

@@ -1,0 +1,105 @@
+//! The program beside a peer that this process plays: one that resets, that ends, or that says nothing.
+
+use crate::case::{Case, CommandLine};
+use crate::node::free_port;
+use crate::playing::{Ports, command, tell, with_ports};
+use crate::talking::talk;
+use std::io::{self, ErrorKind};
+use std::net::{TcpListener, TcpStream};
+use std::process::Stdio;
+use std::thread;
+use std::time::Duration;
+
+/// How often a connection is looked for, and the time between two looks.
+const MOST_LOOKS: u32 = 1_500;
+
+const LOOK_MILLIS: u64 = 10;
+
+/// Plays the rows of a table of which each is a run of the program, and behind ` ^ ` what its peer does. `PEER` stands for
+/// the port at which the peer listens, and `PORT` for one on which nobody does.
+pub fn play_peers(rt: &HostRuntime, table: &str) -> io::Result<()> {
+    let listener = TcpListener::bind(rt, "localhost:0")?;
+    listener.set_nonblocking(true)?;
+    let ports = Ports {
+        port: free_port(rt)?,
+        peer: Some(listener.local_addr()?.port()),
+    };
+    let rows = with_ports(rt, table, ports)?;
+    for row in rows.lines() {
+        if let Some(case) = Case::read(row) {
+            tell(rt, case.name, play_beside(rt, &case, ports, &listener))?;
+        }
+    }
+    Ok(())
+}
+
+/// Plays a case, and says how it differs from what has to come, if it does, or what the peer heard in place of what it
+/// had to hear.
+fn play_beside(
+    rt: &HostRuntime,
+    case: &Case<'_>,
+    ports: Ports,
+    listener: &TcpListener,
+) -> io::Result<Option<String>> {
+    let (line, steps) = case.run.split_once(" ^ ").unwrap_or((case.run, ""));
+    drop_waiting(listener);
+    let mut prepared = command(rt, case.name, line, ports)?;
+    prepared.stderr(Stdio::piped());
+    if CommandLine(line).output().is_none() {
+        prepared.stdout(Stdio::piped());
+    }
+    let mut running = prepared.spawn(rt)?;
+    let heard = play_peer(rt, listener, steps);
+    if heard.is_err() {
+        running.kill()?;
+    }
+    let got = running.wait_with_output(rt.alloc())?;
+    match heard? {
+        Some(told) => Ok(Some(told)),
+        None => case.ending.difference(rt, &got),
+    }
+}
+
+/// Takes the connections that come, one behind the other. What is done on each begins with `accept`, and behind it the
+/// connection is dropped: where not all that came was read, the system then sends a reset.
+fn play_peer(rt: &HostRuntime, listener: &TcpListener, steps: &str) -> io::Result<Option<String>> {
+    let mut rest = steps.strip_prefix("accept ^ ").unwrap_or(steps);
+    for _ in 0..steps.len() {
+        let (steps, behind) = rest.split_once(" ^ accept ^ ").unwrap_or((rest, ""));
+        let mut stream = accepted(rt, listener)?;
+        if let Some(told) = talk(rt, &mut stream, steps)? {
+            return Ok(Some(told));
+        }
+        if behind.is_empty() {
+            break;
+        }
+        rest = behind;
+    }
+    Ok(None)
+}
+
+/// Drops the connections that wait: those that a run before made and its peer did not take.
+fn drop_waiting(listener: &TcpListener) {
+    for _ in 0..MOST_LOOKS {
+        if listener.accept().is_err() {
+            return;
+        }
+    }
+}
+
+/// The connection that comes next, if one does in time.
+fn accepted(rt: &HostRuntime, listener: &TcpListener) -> io::Result<TcpStream> {
+    for _ in 0..MOST_LOOKS {
+        match listener.accept() {
+            Ok((stream, _)) => {
+                stream.set_nonblocking(false)?;
+                return Ok(stream);
+            }
+            Err(error) if error.kind() == ErrorKind::WouldBlock => {
+                thread::sleep(rt, Duration::from_millis(LOOK_MILLIS));
+            }
+            Err(error) => return Err(error),
+        }
+    }
+    Err(io::Error::from(ErrorKind::TimedOut))
+}

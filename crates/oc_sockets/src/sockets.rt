@@ -207,6 +207,7 @@ impl Sockets {
         for place in 0..PLACES {
             if let Some(connection) = self.places.get_mut(place) {
                 if connection.is_due(now) {
+                    connection.is_readable = true;
                     self.turns.push(place);
                 }
             }
@@ -220,6 +221,8 @@ impl Sockets {
         for place in PLACES..LISTENER {
             if let Some(dial) = dial_at(&mut self.dials, place) {
                 if dial.is_due(now) {
+                    // A wait that was interrupted tells nothing of what has come.
+                    dial.is_readable = true;
                     self.turns.push(place);
                 }
             }

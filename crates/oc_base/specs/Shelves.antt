@@ -1,5 +1,6 @@
 -- A shelf: what a node holds, a line for each group, ascending by name.
 use Rattle.std.specs.Prelude.{◌≤◌, ◌<◌, ℕ, if◌then◌else◌, Option, Some, None, option_map, IsSomeAnd, List, [], ◌∷◌, length}
+use Rattle.std.specs.List.{sum_by}
 use Rattle.oc_base.specs.declared.limits.TheConstants.{MAX_GROUPS, MAX_GROUP_BYTES}
 use Rattle.oc_base.specs.declared.shelf.Shelf.{Shelf}
 use Rattle.oc_base.specs.declared.named.Lookup.{Lookup}
@@ -14,6 +15,10 @@ line_of g (l ∷ ls) = if same_name g l.group then Some l else line_of g ls
 -- the number of bytes held of the group of this name, if it is there
 abbrev pub held_of : List ℕ → List Shelf → Option ℕ
 held_of g ls = option_map (λ l. l.held) (line_of g ls)
+
+-- all that is held, in bytes
+abbrev pub held_in_all : List Shelf → ℕ
+held_in_all ls = sum_by (λ l. l.held) ls
 
 -- the group of this name is there and has a byte at this offset
 abbrev pub IsHeldAt : List ℕ → List Shelf → ℕ → Type 0

@@ -7,6 +7,11 @@ abbrev pub ◌>>=◌ : {A B E : Type 0} → Result A E → (A → Result B E) �
 Ok x >>= f = f x
 Err e >>= f = Err e
 
+-- another fault in the place of each
+abbrev pub map_fault : {A E F : Type 0} → (E → F) → Result A E → Result A F
+map_fault f (Ok x) = Ok x
+map_fault f (Err e) = Err (f e)
+
 -- this fault in the place of each
 abbrev pub with_fault : {A E F : Type 0} → F → Result A E → Result A F
 with_fault fault (Ok x) = Ok x

@@ -10,14 +10,14 @@ pub fn cut(bytes: &[u8], separator: u8) -> (&[u8], Option<&[u8]>)
         ≡ result.0.now ∷ slice_split (λ b. b == separator) rest.now) }
     ensures shorter { IfSome result.1 (λ rest. length rest.now < length bytes.now) }
 {
-    match first_of(bytes, separator) {
+    match place_of(bytes, separator) {
         None => (bytes, None),
         Some(at) => (&bytes[..at], Some(&bytes[at + 1..])),
     }
 }
 
 /// The place of the first such byte.
-fn first_of(bytes: &[u8], byte: u8) -> Option<usize>
+pub fn place_of(bytes: &[u8], byte: u8) -> Option<usize>
     ensures { result ≡ position (λ b. b == byte) bytes.now }
 {
     bytes.iter().position(|b| *b == byte)

@@ -41,7 +41,7 @@ pub mod writing;
 
 pub use cert::{Cert, Child, Line};
 pub use code_row::{CodeRow, distinct, row_of};
-pub use cutter::cut;
+pub use cutter::{cut, place_of};
 pub use field::{Short, take_bytes, take_u8, take_u16, take_u32, take_u64};
 pub use field_fault::FieldFault;
 pub use group::Group;
@@ -61,7 +61,7 @@ pub use node_id::NodeId;
 pub use rank::Rank;
 pub use refusal::Refusal;
 pub use reserved::push_reserved;
-pub use shelf::Shelf;
+pub use shelf::{Shelf, held_in_all};
 pub use slots::Slots;
 pub use texts::{put, put_number, put_with_number};
 pub use why::Why;

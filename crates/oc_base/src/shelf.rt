@@ -1,3 +1,6 @@
+ghost use Rattle.std.specs.Prelude.{◌≡◌, ◌^◌, ◌<◌};
+ghost use Rattle.oc_base.specs.Shelves.{held_in_all};
+
 use crate::GroupName;
 
 /// What a node has of one group: how many bytes, and whether it is sealed.
@@ -7,4 +10,16 @@ pub struct Shelf {
     /// Bytes held.
     pub held: u64,
     pub sealed: bool,
+}
+
+/// All that is held, in bytes.
+pub fn held_in_all(shelf: &[Shelf]) -> u64
+    requires { held_in_all shelf.now < 2 ^ 64 }
+    ensures { result ≡ held_in_all shelf.now }
+{
+    let mut held = 0;
+    for line in shelf {
+        held += line.held;
+    }
+    held
 }

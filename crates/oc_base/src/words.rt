@@ -140,7 +140,7 @@ pub fn number(field: &[u8], least: u64, most: u64) -> Result<u64, Why>
     if !is_spelled(field) {
         return Err(Why::Number);
     }
-    match value(field) {
+    match value_of(field) {
         Some(number) if least <= number && number <= most => Ok(number),
         _ => Err(Why::Range),
     }
@@ -162,18 +162,20 @@ fn is_spelled(field: &[u8]) -> bool
     !field.is_empty() && !(field.len() > 1 && field[0] == b'0') && are_digits(field)
 }
 
-fn are_digits(field: &[u8]) -> bool
+/// Whether each byte is a decimal digit.
+pub fn are_digits(field: &[u8]) -> bool
     ensures { result ≡ list_all is_ascii_digit field.now }
 {
     field.iter().all(|b| b.is_ascii_digit())
 }
 
-/// The value of a number; `None` where it does not fit.
-fn value(number: &[u8]) -> Option<u64>
-    requires { IsTrue (is_number number.now) }
-    ensures { SomeIff result (digits_value 10 number.now < 2 ^ 64) (digits_value 10 number.now) }
+/// The value of some digits; `None` where it does not fit.
+pub fn value_of(digits: &[u8]) -> Option<u64>
+    requires some { 0 < length digits.now }
+    requires digits { IsTrue (list_all is_ascii_digit digits.now) }
+    ensures { SomeIff result (digits_value 10 digits.now < 2 ^ 64) (digits_value 10 digits.now) }
 {
-    match str::from_utf8(number) {
+    match str::from_utf8(digits) {
         Ok(text) => text.parse().ok(),
         Err(_) => None,
     }

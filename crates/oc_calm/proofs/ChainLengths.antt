@@ -3,11 +3,12 @@ use Rattle.std.proofs.Common.{◌≡◌, ℕ, zero, suc, ◌+◌, ◌-◌, ◌<�
 use Rattle.std.proofs.lemmas.List.{length-map}
 use Rattle.oc_model.specs.declared.mode.Mode.{Mode}
 use Rattle.oc_model.specs.declared.mode.Mode.TheVariants.{Idle, Asking, Joined, Acting}
-use Rattle.oc_model.specs.Chains.{IsUp, IsJoined, IsTrueChain, climb_from, chain_from, last_from, ending_at}
+use Rattle.oc_model.specs.Chains.{IsUp, IsJoined, IsTrueChain, climb_from, chain_from, ending_at}
 use Rattle.oc_model.specs.Ready.{is_root}
 use Rattle.oc_model.specs.World.{World, ids, is_up, mode_of}
 use Rattle.oc_model.proofs.Chains.{chain_short, chain_to-finds, chain_to-true}
 use Rattle.oc_model.proofs.Ready.{root_true, root_test}
+use Rattle.oc_model.specs.Numbers.{last_of}
 use Rattle.oc_calm.specs.Tree.{parent_as, parent_of, nodes_in, chain_length, length_alone, above_of, above, is_positive}
 
 -- True chains as they are computed
@@ -16,8 +17,8 @@ use Rattle.oc_calm.specs.Tree.{parent_as, parent_of, nodes_in, chain_length, len
 ended : (r : ℕ) (found : Option (List ℕ)) (c : List ℕ) → ending_at r found ≡ Some c → found ≡ Some c
 ended r None c e = absurd cc
 ended r (Some []) c e = absurd cc
-ended r (Some (x ∷ xs)) c e = by_test (last_from x xs == r) refl where
-  by_test : (b : Bool) → (last_from x xs == r) ≡ b → Some (x ∷ xs) ≡ Some c
+ended r (Some (x ∷ xs)) c e = by_test (last_of x xs == r) refl where
+  by_test : (b : Bool) → (last_of x xs == r) ≡ b → Some (x ∷ xs) ≡ Some c
   by_test true t = rw t at e
   by_test false t = let none : None ≡ Some c = rw t at e in absurd cc
 
@@ -41,8 +42,8 @@ not_empty (suc n) w x false m e = absurd cc
 pub found_true : (w : World) (x : ℕ) (c : List ℕ) → chain_from w x ≡ Some c → (r : ℕ) × IsTrueChain w x r c
 found_true w x [] e = absurd (not_empty (length w.processes) w x (is_up w x) (mode_of w x) e)
 found_true w x (a ∷ c) e =
-    let ends : (last_from a c == last_from a c) ≡ true = eq-eqb (last_from a c) (last_from a c) refl in
-    (last_from a c, chain_to-true w x (last_from a c) (a ∷ c) (rw (e, ends) refl))
+    let ends : (last_of a c == last_of a c) ≡ true = eq-eqb (last_of a c) (last_of a c) refl in
+    (last_of a c, chain_to-true w x (last_of a c) (a ∷ c) (rw (e, ends) refl))
 
 -- Parents
 

@@ -5,12 +5,13 @@ use Rattle.std.proofs.lemmas.Bool.{and_parts, cases_eq}
 use Rattle.oc_base.specs.declared.cert.Cert.{Cert}
 use Rattle.oc_model.specs.declared.mode.Mode.{Mode}
 use Rattle.oc_model.specs.declared.mode.Mode.TheVariants.{Idle, Asking, Joined, Acting}
-use Rattle.oc_model.specs.Ready.{is_current, is_empty, holds_current, has_told}
+use Rattle.oc_model.specs.Ready.{is_current, holds_current, has_told}
 use Rattle.oc_model.specs.Records.{is_joined}
 use Rattle.oc_model.specs.Table.{leased_by}
 use Rattle.oc_model.specs.World.{World, node, ids, mode_of}
 use Rattle.oc_model.specs.WorldBounds.{IsOneOf}
 use Rattle.oc_model.proofs.Members.{all_test, test_all}
+use Rattle.oc_model.specs.Numbers.{is_empty}
 use Rattle.oc_calm.specs.Cluster.{HasNoStranger}
 use Rattle.oc_calm.proofs.Fitting.{same_truth}
 

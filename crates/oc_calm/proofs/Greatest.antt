@@ -1,18 +1,18 @@
 -- The greatest length, from which on those who tell are sorted.
-use Rattle.std.proofs.Common.{◌≡◌, ℕ, zero, suc, ◌+◌, ◌-◌, ◌<◌, ◌≤◌, min, max, Bool, true, false, nat_lt, Option, Some, None, List, [], ◌∷◌, ◌++◌, filter, length, drop, get_or, refl, ap, sym, ◌∙◌, arith, ne_eqb, ltb-true, ltb-false}
+use Rattle.std.proofs.Common.{◌≡◌, ℕ, zero, suc, ◌+◌, ◌-◌, ◌<◌, ◌≤◌, min, max, Bool, true, false, nat_lt, Option, Some, None, List, [], ◌∷◌, ◌++◌, filter, length, drop, get_or, refl, ap, sym, ◌∙◌, arith, ne_eqb, ltb-true, ltb-false, unwrap_or}
 use Rattle.std.proofs.lemmas.List.{get_or_past, drop_more, drop_all}
 use Rattle.oc_model.specs.Adopting.{is_number}
 use Rattle.oc_model.specs.Numbers.{at}
-use Rattle.oc_calm.specs.Longest.{length_in, greatest_length, has_found, longest_first}
+use Rattle.oc_calm.specs.Longest.{greatest_length, has_found, longest_first}
 
 -- In a loop
 
 -- one more was looked at
-pub greatest_more : (ls : List (Option ℕ)) (i g h all : ℕ) → i < length ls → h ≡ max g (length_in (get_or ls i None)) → max g (greatest_length (drop i ls)) ≡ all
+pub greatest_more : (ls : List (Option ℕ)) (i g h all : ℕ) → i < length ls → h ≡ max g (unwrap_or (get_or ls i None) 0) → max g (greatest_length (drop i ls)) ≡ all
     → max h (greatest_length (drop (i + 1) ls)) ≡ all
 unfolding greatest_length
 greatest_more ls i g h all within new so_far =
-    let next : greatest_length (drop i ls) ≡ max (length_in (get_or ls i None)) (greatest_length (drop (i + 1) ls)) = ap greatest_length (drop_more ls i None within) in
+    let next : greatest_length (drop i ls) ≡ max (unwrap_or (get_or ls i None) 0) (greatest_length (drop (i + 1) ls)) = ap greatest_length (drop_more ls i None within) in
     omega (arith, new, next, so_far)
 
 -- all were
@@ -28,7 +28,7 @@ greatest_over ls i g all past so_far =
 up_to : (ls : List (Option ℕ)) (i n : ℕ) → get_or ls i None ≡ Some n → n ≤ greatest_length ls
 unfolding greatest_length
 up_to [] i n e = let none : None ≡ Some n = sym (get_or_past [] i None (omega arith)) ∙ e in absurd cc
-up_to (f ∷ fs) zero n e = let same : length_in f ≡ n = ap length_in e in omega (arith, same)
+up_to (f ∷ fs) zero n e = let same : unwrap_or f 0 ≡ n = ap (λ (o : Option ℕ). unwrap_or o 0) e in omega (arith, same)
 up_to (f ∷ fs) (suc i) n e = omega (arith, up_to fs i n e)
 
 -- where a test always fails, nothing is left

@@ -4,9 +4,10 @@ use Rattle.std.specs.List.{AllByRecursion, list_all, range_with_len}
 use Rattle.std.proofs.lemmas.Bool.{le-leb, lt-leb, leb-false, le-ltb, lt-ltb}
 use Rattle.std.proofs.lemmas.List.{drop_more, drop_all}
 use Rattle.std.proofs.lemmas.List.Elements.{filter-append}
-use Rattle.oc_model.specs.Heal.{first_of, last_of, member_before, up_members, up_others}
+use Rattle.oc_model.specs.Heal.{member_before, up_members, up_others}
 use Rattle.oc_model.specs.Plan.{is_member}
 use Rattle.oc_model.specs.World.{World, node, ids, is_up, up_ids}
+use Rattle.oc_model.specs.Numbers.{first_of, last_of}
 use Rattle.oc_calm.specs.Cluster.{IsNodeOf, IsRoll, HasChain}
 use Rattle.oc_calm.specs.CalmRuns.{greatest_up}
 use Rattle.oc_calm.specs.CalmRuns.{joiners, leader_of, member_below}

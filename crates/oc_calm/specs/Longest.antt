@@ -1,16 +1,12 @@
 -- Nodes by the lengths of their true chains, the longest first.
-use Rattle.std.specs.Prelude.{ℕ, zero, suc, max, Bool, Option, Some, None, List, [], ◌∷◌, ◌++◌, filter}
+use Rattle.std.specs.Prelude.{ℕ, zero, suc, max, Bool, Option, None, unwrap_or, List, [], ◌∷◌, ◌++◌, filter}
 use Rattle.oc_model.specs.Adopting.{is_number}
 use Rattle.oc_model.specs.Numbers.{at}
 
 -- the greatest length that was found, 0 where there is none
-abbrev pub length_in : Option ℕ → ℕ
-length_in None = 0
-length_in (Some n) = n
-
 unfoldable pub greatest_length : List (Option ℕ) → ℕ
 greatest_length [] = 0
-greatest_length (f ∷ fs) = max (length_in f) (greatest_length fs)
+greatest_length (f ∷ fs) = max (unwrap_or f 0) (greatest_length fs)
 
 -- whether this length was found for x
 unfoldable pub has_found : List (Option ℕ) → ℕ → ℕ → Bool

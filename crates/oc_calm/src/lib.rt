@@ -8,7 +8,7 @@
 //! Each call inside that plays acts says `Plays` of a run of the model, or `Begins` where memory ran out
 //! (`specs/Way`). `playing` has single acts and the few that belong together, `rounds` those of many nodes;
 //! `tree` and `lengths` the links of the nodes and how long each way up to the root is; `readiness`,
-//! `first_steps` and `settling` are for settle, `placing`, `join_steps` and `joining` for heal. The runs stand
+//! `first_steps` and `settling` are for settle, `placing`, `join_steps` and `joining` for heal. The runs are
 //! in `specs/Played` and `specs/CalmRuns` under names that stay shut, so that a proof reads no further than it
 //! needs.
 #![tactic(auto)]

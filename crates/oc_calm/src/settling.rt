@@ -5,7 +5,7 @@ ghost use Rattle.std.specs.List.{AllByRecursion};
 ghost use Rattle.oc_base.specs.Lawful.{IsNode};
 ghost use Rattle.oc_base.specs.declared.limits.TheConstants.{MAX_NODES, LAST_SECOND};
 ghost use Rattle.oc_calm.specs.CalmRuns.{deepest_nodes, settle_run, telling_run, tellings_run};
-ghost use Rattle.oc_calm.specs.Longest.{greatest_length, has_found, length_in, longest_first};
+ghost use Rattle.oc_calm.specs.Longest.{greatest_length, has_found, longest_first};
 ghost use Rattle.oc_calm.specs.Cluster.{IsUpNode, IsRoll, UpAreBefore};
 ghost use Rattle.oc_calm.specs.Timely.{AreTimely};
 ghost use Rattle.oc_calm.specs.Way.{Begins, Plays, acts_of, IsOnTheWay};
@@ -129,19 +129,9 @@ fn greatest_of(lengths: &[Option<u32>]) -> u32
 {
     let mut greatest: u32 = 0;
     for found in lengths {
-        greatest = greatest.max(length_in(*found));
+        greatest = greatest.max(found.unwrap_or(0));
     }
     greatest
-}
-
-/// The length that was found, 0 where there is none.
-fn length_in(found: Option<u32>) -> u32
-    ensures { result ≡ length_in found }
-{
-    match found {
-        Some(length) => length,
-        None => 0,
-    }
 }
 
 /// Puts at the end those of these nodes for which this length was found.

@@ -93,7 +93,7 @@ fn text_of<D: Disk>(alloc: Global, kept: &Kept<D>, id: NodeId) -> Result<Vec<u8>
     ensures memory { IfErr result (λ error. error ≡ KeepLoad.Memory) }
     ensures groups { IsHonest D.view kept.now → kept.now.content.shelves ≡ shelf (node_of kept.now).groups }
 {
-    let _shelf = kept.shelf();
+    kept.recovers();
     match show(alloc, kept, id) {
         Ok(text) => Ok(text),
         Err(Memory) => Err(KeepLoad::Memory),

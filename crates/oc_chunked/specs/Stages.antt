@@ -4,8 +4,8 @@ use Rattle.oc_chunked.specs.declared.fault.ChunkFault.{ChunkFault}
 use Rattle.oc_chunked.specs.declared.fault.ChunkFault.TheVariants as faults
 use Rattle.oc_chunked.specs.declared.state.State.{State}
 use Rattle.oc_chunked.specs.declared.state.State.TheVariants as states
-use Rattle.oc_chunked.specs.declared.state.Refusal.{Refusal}
-use Rattle.oc_chunked.specs.declared.state.Refusal.TheVariants as refusals
+use Rattle.oc_chunked.specs.declared.state.BadText.{BadText}
+use Rattle.oc_chunked.specs.declared.state.BadText.TheVariants as refusals
 
 pub data Stage : Type 0 where
   -- in a size line, of which these bytes came
@@ -46,7 +46,7 @@ wanted_at stage = 1
 abbrev pub StillWants : Stage → ℕ → Stage → Type 0
 StillWants old count new = fault_in new ≡ None → wanted_at old ≤ count + wanted_at new
 
-abbrev pub fault_of : Refusal → ChunkFault
+abbrev pub fault_of : BadText → ChunkFault
 fault_of refusals.Bad = faults.Bad
 fault_of refusals.Long = faults.Long
 

@@ -4,7 +4,7 @@ use Rattle.oc_base.specs.declared.limits.TheConstants.{MAX_FIELDS}
 use Rattle.oc_chunked.specs.declared.limits.TheConstants.{MAX_CHUNK_SIZE, MAX_TRAILER_BYTES}
 use Rattle.oc_chunked.specs.declared.state.State.{State}
 use Rattle.oc_chunked.specs.declared.state.State.TheVariants.{Size, Chunk, Trailer, End, Refused}
-use Rattle.oc_chunked.specs.declared.state.Refusal.TheVariants.{Bad, Long}
+use Rattle.oc_chunked.specs.declared.state.BadText.TheVariants.{Bad, Long}
 use Rattle.oc_chunked.specs.declared.progress.Progress.{Progress}
 use Rattle.oc_chunked.specs.Stages.{Stage, stage_at}
 use Rattle.oc_chunked.specs.Taken.{Takes}

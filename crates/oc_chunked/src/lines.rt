@@ -7,7 +7,7 @@ ghost use Rattle.oc_chunked.specs.Taken.{Takes};
 ghost use Rattle.oc_chunked.specs.Views.{GoesOn, behind_size_line, behind_fields, state_within};
 
 use crate::limits::{MAX_CHUNK_SIZE, MAX_SIZE_LINE_BYTES, MAX_TRAILER_BYTES};
-use crate::state::{Refusal, State};
+use crate::state::{BadText, State};
 use httparse::spans::{HeaderSpan, parse_headers};
 use httparse::{Status, parse_chunk_size};
 use oc_base::MAX_FIELDS;
@@ -23,7 +23,7 @@ pub(crate) fn behind_size(line: &[u8], byte: u8) -> Option<State>
     match parse_chunk_size(line) {
         Ok(Status::Complete((_, size))) => Some(behind_size_line(size)),
         Ok(Status::Partial) => state_within(line, MAX_SIZE_LINE_BYTES),
-        Err(_) => Some(State::Refused(Refusal::Bad)),
+        Err(_) => Some(State::Refused(BadText::Bad)),
     }
 }
 
@@ -38,7 +38,7 @@ fn behind_size_line(size: u64) -> State
             left: size as u32 + 2,
         }
     } else {
-        State::Refused(Refusal::Bad)
+        State::Refused(BadText::Bad)
     }
 }
 
@@ -54,7 +54,7 @@ pub(crate) fn behind_trailer(line: &[u8], spans: &mut [HeaderSpan], byte: u8) ->
     match parse_headers(line, spans) {
         Ok(Status::Complete((_, count))) => Some(behind_fields(count)),
         Ok(Status::Partial) => state_within(line, MAX_TRAILER_BYTES),
-        Err(_) => Some(State::Refused(Refusal::Bad)),
+        Err(_) => Some(State::Refused(BadText::Bad)),
     }
 }
 
@@ -65,7 +65,7 @@ fn behind_fields(count: usize) -> State
     if count <= MAX_FIELDS {
         State::End
     } else {
-        State::Refused(Refusal::Bad)
+        State::Refused(BadText::Bad)
     }
 }
 
@@ -77,7 +77,7 @@ fn state_within(line: &[u8], most: usize) -> Option<State>
     if line.len() < most {
         None
     } else {
-        Some(State::Refused(Refusal::Long))
+        Some(State::Refused(BadText::Long))
     }
 }
 
@@ -89,6 +89,6 @@ pub(crate) fn behind_end(left: u32, byte: u8) -> State
     match (left, byte) {
         (2, b'\r') => State::Chunk { left: 1 },
         (1, b'\n') => State::Size,
-        _ => State::Refused(Refusal::Bad),
+        _ => State::Refused(BadText::Bad),
     }
 }

@@ -15,23 +15,23 @@ pub(crate) enum State {
     /// After the text.
     End,
     /// After bytes that are refused.
-    Refused(Refusal),
+    Refused(BadText),
 }
 
 /// Why bytes are refused.
 #[derive(Clone, Copy, Debug, PartialEq, Eq)]
-pub(crate) enum Refusal {
+pub(crate) enum BadText {
     Bad,
     Long,
 }
 
-impl Refusal {
+impl BadText {
     pub(crate) fn fault(self) -> ChunkFault
         ensures { result ≡ fault_of self }
     {
         match self {
-            Refusal::Bad => ChunkFault::Bad,
-            Refusal::Long => ChunkFault::Long,
+            BadText::Bad => ChunkFault::Bad,
+            BadText::Long => ChunkFault::Long,
         }
     }
 }

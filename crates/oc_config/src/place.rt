@@ -35,7 +35,7 @@ impl Place {
     }
 }
 
-/// What stands before a fault: the table, where it is not the whole text.
+/// What comes before a fault: the table, where it is not the whole text.
 impl fmt::Display for Place {
     fn fmt<W: fmt::Write>(&self, f: &mut fmt::Formatter<W>) -> fmt::Result {
         match self {

@@ -1,5 +1,5 @@
 -- Why the content of a disk is refused.
-use Rattle.std.proofs.Common.{◌≡◌, ◌≢◌, ℕ, suc, IsTrue, IsSome, Option, None, Some, Result, Ok, Err, IfErr, List, [], ◌∷◌, take, drop, fold, refl, sym, ap, subst, ◌∙◌, take-append-drop, arith}
+use Rattle.std.proofs.Common.{◌≡◌, ◌≢◌, ℕ, suc, IsTrue, IsSome, Option, None, Some, Result, Ok, Err, IfErr, List, [], take, drop, fold, refl, sym, ap, subst, ◌∙◌, take-append-drop, arith}
 use Rattle.std.proofs.lemmas.List.Sums.{fold-append}
 use Rattle.std.specs.Result.{IsErrOf, OnErr}
 use Rattle.oc_io.specs.DiskView.{DiskView, GoesOn, FailsToRead}
@@ -16,7 +16,7 @@ use Rattle.oc_base.specs.declared.group.Group.{Group}
 use Rattle.oc_content.specs.declared.errors.ContentError.{ContentError}
 use Rattle.oc_content.specs.declared.errors.ContentError.TheVariants.{Disk, NotJournal, BadFrame, Memory}
 use Rattle.oc_content.specs.ContentFile.{content_of, more, IsFirstBad}
-use Rattle.oc_content.specs.ContentView.{RefusesIndex, parts}
+use Rattle.oc_content.specs.ContentView.{RefusesIndex, content_with}
 use Rattle.oc_content.specs.declared.index.Index.{Index}
 use Rattle.oc_content.specs.Indexes.{rooms, memory_of}
 use Rattle.oc_content.specs.Errors.{load_error}
@@ -80,12 +80,12 @@ frames_kept view body old new (Err appends.Full) same disk = λ honest. ap (λ j
 frames_kept view body old new (Err appends.Disk) same disk = λ honest. (disk refl).frames honest
 
 -- a commit that was refused but by the disk changed nothing
-pub parts_kept : {D : Type 0} (j k : JournalView D) (x y : Index) (r : Result ℕ AppendError) → IfErr r (λ e. e ≢ appends.Disk → k ≡ j) → OnErr r (y ≡ x) → IfErr r (λ e. e ≢ appends.Disk → parts k y ≡ parts j x)
+pub parts_kept : {D : Type 0} (j k : JournalView D) (x y : Index) (r : Result ℕ AppendError) → IfErr r (λ e. e ≢ appends.Disk → k ≡ j) → OnErr r (y ≡ x) → IfErr r (λ e. e ≢ appends.Disk → content_with k y ≡ content_with j x)
 parts_kept j k x y (Ok n) journal index = tt
-parts_kept j k x y (Err e) journal index = λ other. ap (λ a. parts a y) (journal other) ∙ ap (λ b. parts j b) index
+parts_kept j k x y (Err e) journal index = λ other. ap (λ a. content_with a y) (journal other) ∙ ap (λ b. content_with j b) index
 
 -- and one that the disk refused closed the journal
-pub closed_parts : {D : Type 0} (view : D → DiskView) (body : List ℕ) (j k : JournalView D) (x y : Index) (r : Result ℕ AppendError) → (IsErrOf r appends.Disk → ClosesByAppend view body j k) → OnErr r (y ≡ x) → IsErrOf r appends.Disk → ClosesByCommit view body (parts j x) (parts k y)
+pub closed_parts : {D : Type 0} (view : D → DiskView) (body : List ℕ) (j k : JournalView D) (x y : Index) (r : Result ℕ AppendError) → (IsErrOf r appends.Disk → ClosesByAppend view body j k) → OnErr r (y ≡ x) → IsErrOf r appends.Disk → ClosesByCommit view body (content_with j x) (content_with k y)
 closed_parts view body j k x y (Ok n) closes index is = let f : Ok n ≡ Err appends.Disk = is in absurd cc
 closed_parts view body j k x y (Err e) closes index is = record {
   journal = closes is;

@@ -1,5 +1,5 @@
 -- Lists: a change or an insert at an index.
-use Rattle.std.proofs.Common.{◌≡◌, ℕ, zero, suc, ◌<◌, ◌≤◌, List, [], ◌∷◌, ◌++◌, length, get_or, map, insert, set, refl, sym, ap, ◌∙◌, arith}
+use Rattle.std.proofs.Common.{◌≡◌, ℕ, zero, suc, ◌<◌, ◌≤◌, List, [], ◌∷◌, length, get_or, map, insert, set, refl, sym, ap, ◌∙◌, arith}
 use Rattle.oc_content.specs.Indexes.{changed}
 
 -- a change keeps the length

@@ -1,5 +1,5 @@
 -- An error of a load is one of its kinds and no other.
-use Rattle.std.proofs.Common.{ℕ, IsErrOf, Ok, Err, refl}
+use Rattle.std.proofs.Common.{ℕ, IsErrOf, Err, refl}
 use Rattle.oc_journal.specs.declared.errors.FrameError.{FrameError}
 use Rattle.oc_journal.specs.declared.errors.FrameError.TheVariants as frames
 use Rattle.oc_content.specs.declared.errors.ContentError.TheVariants.{Disk, NotJournal, BadFrame, Memory}

@@ -20,7 +20,7 @@ use Rattle.oc_content.specs.Entries.{Entry, entry_of}
 use Rattle.oc_content.specs.ContentFile.{fits, taken, content_of, groups_in, bytes_in, with_entry, IsShelved, IsSameElsewhere, groups_after}
 use Rattle.oc_content.specs.Indexes.{IsIndexOf, IsSized, AreTracked, OnlyReserves, paths, helds, bytes_at, IsTracked}
 use Rattle.oc_content.specs.Founds.{IsRest, BeginsWithin, IsSpot}
-use Rattle.oc_content.specs.ContentView.{IsIndexed, IsOpened, parts}
+use Rattle.oc_content.specs.ContentView.{IsIndexed, IsOpened, content_with}
 use Rattle.oc_content.specs.Promises.{PutsNothing}
 use Rattle.oc_content.proofs.Adding.{IsSized-good}
 use Rattle.oc_content.proofs.Lines.{line_of-shelf, length-shelf}
@@ -91,7 +91,7 @@ IsIndexed-same view j k x is honest frames =
     IsIndexed-kept view j k x x is honest frames (record { lines = refl; tracks = record { paths = refl; rooms = λ i. omega arith }; memory = omega arith })
 
 -- and what is seen of the content then
-pub PutsNothing-by : {D : Type 0} (view : D → DiskView) (j k : JournalView D) (x y : Index) → OnlyReads view j k → OnlyReserves x y → PutsNothing view (parts j x) (parts k y)
+pub PutsNothing-by : {D : Type 0} (view : D → DiskView) (j k : JournalView D) (x y : Index) → OnlyReads view j k → OnlyReserves x y → PutsNothing view (content_with j x) (content_with k y)
 PutsNothing-by view j k x y reads keeps = record {
   journal = reads;
   shelves = ap (λ v. v.items) keeps.lines;
@@ -204,7 +204,7 @@ read_there view j x g at start spans skip is stands finds honest =
     ap (λ (bs : List (List ℕ)). drop skip (flat_map (bytes_at bs) spans)) (is.frames honest) ∙ (sym rest.rest ∙ ap (drop start) (sym (bytes_there view j x g there.group is honest there.found)))
 
 -- a journal that was only read, with its index
-pub opened : {D : Type 0} (view : D → DiskView) (j k : JournalView D) (x : Index) → OnlyReads view j k → NoneFailed view j k → IsIndexed view k x → IsOpened view j (parts k x)
+pub opened : {D : Type 0} (view : D → DiskView) (j k : JournalView D) (x : Index) → OnlyReads view j k → NoneFailed view j k → IsIndexed view k x → IsOpened view j (content_with k x)
 opened view j k x reads none is = record {
   reads = reads;
   none_failed = none;

@@ -23,8 +23,8 @@ pub record ContentView (D : Type 0) : Type 0 where
   pub memory : ℕ
 
 -- what is seen of a journal and the index of its frames
-abbrev pub parts : {D : Type 0} → JournalView D → Index → ContentView D
-parts j x = record { journal = j; shelves = x.shelves.items; rooms = rooms x.tracks.items; memory = memory_of x }
+abbrev pub content_with : {D : Type 0} → JournalView D → Index → ContentView D
+content_with j x = record { journal = j; shelves = x.shelves.items; rooms = rooms x.tracks.items; memory = memory_of x }
 
 -- the body of its frame, what it says, the place of its group, and the memory that a new group brings
 pub record PieceView : Type 0 where

@@ -3,7 +3,7 @@
 ghost use Rattle.std.specs.Prelude.{◌≡◌, ◌≢◌, ◌↔◌, ◌+◌, ◌<◌, false, length, IsTrue, IsOk, IsErrOf, OnErr, IfOk, IfErr};
 ghost use Rattle.oc_io.specs.DiskView.{CannotFail};
 ghost use Rattle.oc_journal.specs.Promises.{AppendsSafely, ClosesByAppend, IsFullFor};
-ghost use Rattle.oc_content.specs.ContentView.{IsIndexed, CanAppend, parts};
+ghost use Rattle.oc_content.specs.ContentView.{IsIndexed, CanAppend, content_with};
 ghost use Rattle.oc_content.specs.Promises.{Commits};
 
 use crate::index::Index;
@@ -20,7 +20,7 @@ pub fn append<D: Disk>(
     requires { CanAppend D.view journal.old index.old piece }
     ensures indexed { IsIndexed D.view journal.new index.new }
     ensures commits { IfOk result (λ held.
-        Commits D.view piece held (parts journal.old index.old) (parts journal.new index.new)) }
+        Commits D.view piece held (content_with journal.old index.old) (content_with journal.new index.new)) }
     ensures safely { AppendsSafely D.view piece.body journal.old journal.new }
     ensures closed { IsErrOf result AppendError.Closed ↔ IsTrue journal.old.closed }
     ensures full { IsErrOf result AppendError.Full

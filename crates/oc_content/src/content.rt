@@ -15,11 +15,11 @@ ghost use Rattle.oc_content.specs.Putting.{group_state_in, fault_of};
 
 use crate::committing::append;
 use crate::errors::{ContentError, PutError, ReadError};
+use crate::frame_reads::read_group;
 use crate::index::Index;
 use crate::indexing::index_frames;
 use crate::piece::Piece;
-use crate::putting::ready;
-use crate::reading::read_group;
+use crate::putting::{NewBytes, ready};
 use crate::spot::Spot;
 use oc_base::{GroupName, MAX_GROUP_BYTES, MAX_GROUPS, MAX_PUBLISH_BYTES, Shelf};
 use oc_io::{Disk, MemDisk};
@@ -36,11 +36,11 @@ pub struct Content<D: Disk> {
 }
 
 impl<D: Disk> Model for Content<D> {
-    ghost use Rattle.oc_content.specs.ContentView.{ContentView, IsIndexed, parts};
+    ghost use Rattle.oc_content.specs.ContentView.{ContentView, IsIndexed, content_with};
 
     ghost Value = { ContentView D };
 
-    ghost view = { λ c. parts c.journal c.index };
+    ghost view = { λ c. content_with c.journal c.index };
 
     ghost invariant = { λ c. IsIndexed D.view c.journal c.index };
 }
@@ -103,38 +103,23 @@ impl<D: Disk> Content<D> {
         self.index.spot(group, start)
     }
 
-    /// Makes ready the bytes of a group from an offset on, and takes all memory for them. Bytes that are
+    /// Makes ready bytes of a group, and takes all memory for them. Bytes that are
     /// held already are left out. On a refusal nothing is put.
-    pub fn prepare(
-        &mut self,
-        alloc: Global,
-        group: &GroupName,
-        start: u64,
-        bytes: &[u8],
-        last: bool,
-    ) -> Result<Piece, PutError>
-        requires name { IsGroupName group.now }
-        requires few { length bytes.now ≤ MAX_PUBLISH_BYTES }
-        ensures prepares { IfOk result
-            (λ piece. Prepares D.view group.now start bytes.now last self.old self.new piece) }
+    pub fn prepare(&mut self, alloc: Global, added: &NewBytes<'_>) -> Result<Piece, PutError>
+        requires name { IsGroupName added.now.group.now }
+        requires few { length added.now.bytes.now ≤ MAX_PUBLISH_BYTES }
+        ensures prepares { IfOk result (λ piece. Prepares D.view added.now.group.now added.now.start added.now.bytes.now added.now.last
+            self.old self.new piece) }
         ensures same { PutsNothing D.view self.old self.new }
         ensures none_failed { NoneFailed D.view self.old.journal self.new.journal }
 
         // When it refuses.
         ensures fault { IfErr result (λ error. error ≢ PutError.Memory
-            → fault_of (group_state_in self.old.shelves group.now) start (length bytes.now) ≡ Some error) }
+            → fault_of (group_state_in self.old.shelves added.now.group.now) added.now.start (length added.now.bytes.now) ≡ Some error) }
         ensures none { OnOk result
-            (fault_of (group_state_in self.old.shelves group.now) start (length bytes.now) ≡ None) }
+            (fault_of (group_state_in self.old.shelves added.now.group.now) added.now.start (length added.now.bytes.now) ≡ None) }
     {
-        ready(
-            alloc,
-            &mut self.journal,
-            &mut self.index,
-            group,
-            start,
-            bytes,
-            last,
-        )
+        ready(alloc, &mut self.journal, &mut self.index, added)
     }
 
     /// Appends what was prepared, and answers how many bytes of the group are held. It takes no

@@ -8,7 +8,7 @@ ghost use Rattle.oc_base.specs.Shelves.{LooksUpLine};
 ghost use Rattle.oc_base.specs.Named.{IsThere};
 ghost use Rattle.oc_content.specs.Indexes.{IsSized, HasTrackRoom, OnlyReserves, rooms};
 ghost use Rattle.oc_content.specs.Putting.{group_state, group_state_in, fault_of, put_entry};
-ghost use Rattle.oc_content.specs.ContentView.{IsIndexed, parts};
+ghost use Rattle.oc_content.specs.ContentView.{IsIndexed, content_with};
 ghost use Rattle.oc_content.specs.Promises.{Prepares, PutsNothing};
 ghost use Rattle.oc_journal.specs.Promises.{NoneFailed};
 
@@ -22,57 +22,64 @@ use oc_io::Disk;
 use oc_journal::Journal;
 use std::alloc::{AllocError, Global};
 
-/// Makes ready bytes of a group from the offset `start` on, with all memory for them.
+/// Bytes that are to be put to a group.
+#[derive(Clone, Copy)]
+pub struct NewBytes<'a> {
+    pub group: &'a GroupName,
+    /// The offset in the group from which on they are.
+    pub start: u64,
+    pub bytes: &'a [u8],
+    /// Whether they are the last: the group is sealed after them.
+    pub last: bool,
+}
+
+/// Makes ready bytes of a group, with all memory for them.
 pub fn ready<D: Disk>(
     alloc: Global,
     journal: &mut Journal<D>,
     index: &mut Index,
-    group: &GroupName,
-    start: u64,
-    bytes: &[u8],
-    last: bool,
+    added: &NewBytes<'_>,
 ) -> Result<Piece, PutError>
     requires indexed { IsIndexed D.view journal.old index.old }
-    requires name { IsGroupName group.now }
-    requires few { length bytes.now ≤ MAX_PUBLISH_BYTES }
+    requires name { IsGroupName added.now.group.now }
+    requires few { length added.now.bytes.now ≤ MAX_PUBLISH_BYTES }
     ensures indexed { IsIndexed D.view journal.new index.new }
-    ensures prepares { IfOk result (λ piece. Prepares D.view group.now start bytes.now last
-        (parts journal.old index.old) (parts journal.new index.new) piece) }
-    ensures same { PutsNothing D.view (parts journal.old index.old) (parts journal.new index.new) }
+    ensures prepares { IfOk result (λ piece. Prepares D.view added.now.group.now added.now.start added.now.bytes.now added.now.last
+        (content_with journal.old index.old) (content_with journal.new index.new) piece) }
+    ensures same { PutsNothing D.view (content_with journal.old index.old) (content_with journal.new index.new) }
     ensures none_failed { NoneFailed D.view journal.old journal.new }
     ensures fault { IfErr result (λ error. error ≢ PutError.Memory
-        → fault_of (group_state_in index.old.shelves.items group.now) start (length bytes.now) ≡ Some error) }
+        → fault_of (group_state_in index.old.shelves.items added.now.group.now) added.now.start (length added.now.bytes.now) ≡ Some error) }
     ensures none { OnOk result
-        (fault_of (group_state_in index.old.shelves.items group.now) start (length bytes.now) ≡ None) }
+        (fault_of (group_state_in index.old.shelves.items added.now.group.now) added.now.start (length added.now.bytes.now) ≡ None) }
 {
-    let piece = piece_for(alloc, index, group, start, bytes, last)?;
+    let piece = piece_for(alloc, index, added)?;
     journal.reserve(piece.frame())?;
     Ok(piece)
 }
 
-/// The piece of these bytes of a group from the offset `start` on, with the memory of the index for it.
-fn piece_for(
-    alloc: Global,
-    index: &mut Index,
-    group: &GroupName,
-    start: u64,
-    bytes: &[u8],
-    last: bool,
-) -> Result<Piece, PutError>
+/// The piece of these bytes of a group, with the memory of the index for it.
+fn piece_for(alloc: Global, index: &mut Index, added: &NewBytes<'_>) -> Result<Piece, PutError>
     requires sized { IsSized index.old }
-    requires name { IsGroupName group.now }
-    requires few { length bytes.now ≤ MAX_PUBLISH_BYTES }
+    requires name { IsGroupName added.now.group.now }
+    requires few { length added.now.bytes.now ≤ MAX_PUBLISH_BYTES }
     ensures fault { IfErr result (λ error. error ≢ PutError.Memory
-        → fault_of (group_state_in index.old.shelves.items group.now) start (length bytes.now) ≡ Some error) }
+        → fault_of (group_state_in index.old.shelves.items added.now.group.now) added.now.start (length added.now.bytes.now) ≡ Some error) }
     ensures none { OnOk result
-        (fault_of (group_state_in index.old.shelves.items group.now) start (length bytes.now) ≡ None) }
+        (fault_of (group_state_in index.old.shelves.items added.now.group.now) added.now.start (length added.now.bytes.now) ≡ None) }
     ensures entry { IfOk result (λ piece. piece.entry
-        ≡ put_entry (group_state_in index.old.shelves.items group.now) group.now start bytes.now last) }
+        ≡ put_entry (group_state_in index.old.shelves.items added.now.group.now) added.now.group.now added.now.start added.now.bytes.now added.now.last) }
     ensures body { IfOk result (λ piece. piece.body ≡ written piece.entry) }
-    ensures place { IfOk result (λ piece. LooksUpLine index.old.shelves.items group.now piece.place) }
+    ensures place { IfOk result (λ piece. LooksUpLine index.old.shelves.items added.now.group.now piece.place) }
     ensures room { IfOk result (λ piece. HasTrackRoom (rooms index.new.tracks.items) piece.room piece.place) }
     ensures keeps { OnlyReserves index.old index.new }
 {
+    let NewBytes {
+        group,
+        start,
+        bytes,
+        last,
+    } = *added;
     let place = look_up(&index.shelves, group);
     let state = state_at(&index.shelves, place);
     if let Some(fault) = refusal(&state, start, bytes.len() as u64) {

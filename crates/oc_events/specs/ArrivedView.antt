@@ -1,10 +1,10 @@
 -- The bytes that an event lends, as a source.
 use Rattle.std.specs.Prelude.{◌≡◌, ℕ, Bool, true, false, List, [], ◌++◌, refl}
 use Rattle.std.proofs.Common.{sym, ◌∙◌, ap}
-use Rattle.std.proofs.lemmas.List.{append_assoc}
+use Rattle.oc_io.specs.SourceView.{fronts}
 use Rattle.oc_io.specs.Tally.{counted}
 use Rattle.oc_events.specs.declared.event.Coming.{Coming}
-use Rattle.oc_events.specs.declared.event.Coming.TheVariants as comings
+use Rattle.oc_events.specs.Failures.{has_failed}
 
 pub record ArrivedView : Type 0 where
   -- the bytes that are left
@@ -14,14 +14,9 @@ pub record ArrivedView : Type 0 where
   -- how many calls failed
   pub faults : ℕ
 
--- a call fails behind bytes that end so
-abbrev pub fails_behind : Coming → Bool
-fails_behind comings.Failed = true
-fails_behind coming = false
-
 -- nothing was read of these bytes yet
 abbrev pub arrived : List ℕ → Coming → ArrivedView
-arrived bytes coming = record { left = bytes; fails = fails_behind coming; faults = 0 }
+arrived bytes coming = record { left = bytes; fails = has_failed coming; faults = 0 }
 
 -- these bytes came from the front of what was left
 pub record GivesFront (old : ArrivedView) (bytes : List ℕ) (new : ArrivedView) : Type 0 where
@@ -41,10 +36,6 @@ pub record FailsBehind (old : ArrivedView) (bytes : List ℕ) (new : ArrivedView
 pub record IsAtEnd (s : ArrivedView) : Type 0 where
   pub none : s.left ≡ []
   pub passes : s.fails ≡ false
-
--- a prefix of a prefix
-fronts : (a b c x y : List ℕ) → a ≡ x ++ b → b ≡ y ++ c → a ≡ (x ++ y) ++ c
-fronts a b c x y e f = e ∙ ap (λ (rest : List ℕ). x ++ rest) f ∙ sym (append_assoc x y c)
 
 pub GivesFront-nothing : (s : ArrivedView) → GivesFront s [] s
 GivesFront-nothing s = record { front = refl; fails = refl; faults = refl }

@@ -40,7 +40,7 @@ Lends (events.Reply d coming) bytes lent calls = lent ≡ bytes
 Lends event bytes lent calls = Unit {0}
 
 -- the event, which could come, came and lends this
-pub record Gives (event : Event) (lent : List ℕ) (old new : List Call) : Type 0 where
+pub record GivesEvent (event : Event) (lent : List ℕ) (old new : List Call) : Type 0 where
   pub bytes : List ℕ
   pub could : IsTrue (may event old)
   pub made : IsMade (acts.Next event bytes) old new
@@ -48,5 +48,5 @@ pub record Gives (event : Event) (lent : List ℕ) (old new : List Call) : Type 
 
 -- what `next` answers, and what it lends
 abbrev pub NextGives : Result Event Failed → List ℕ → Option (List Call) → Option (List Call) → Type 0
-NextGives (Ok event) lent old new = Told (Gives event lent) old new
+NextGives (Ok event) lent old new = Told (GivesEvent event lent) old new
 NextGives (Err failed) lent old new = new ≡ old

@@ -1,6 +1,6 @@
 ghost use Rattle.std.specs.Prelude.{◌≡◌, ◌+◌, ◌≤◌, ◌<◌, length, min, take, IfOk, OnErr};
 ghost use Rattle.oc_io.specs.Faults.{NoFall, Rose};
-ghost use Rattle.oc_events.specs.ArrivedView.{arrived, fails_behind, GivesFront, FailsBehind, IsAtEnd, GivesFront-nothing, GivesFront-then, GivesFront-fails};
+ghost use Rattle.oc_events.specs.ArrivedView.{arrived, GivesFront, FailsBehind, IsAtEnd, GivesFront-nothing, GivesFront-then, GivesFront-fails};
 
 use crate::event::Coming;
 use oc_io::{Failed, Source};
@@ -30,7 +30,7 @@ impl<'a> Arrived<'a> {
     {
         Arrived {
             left: bytes,
-            fails: fails_behind(coming),
+            fails: coming.has_failed(),
             faults: 0,
         }
     }
@@ -40,16 +40,6 @@ impl<'a> Arrived<'a> {
         ensures { result ≡ length self.now.left }
     {
         self.left.len()
-    }
-}
-
-/// Whether a call fails behind bytes that end so.
-fn fails_behind(coming: Coming) -> bool
-    ensures { result ≡ fails_behind coming }
-{
-    match coming {
-        Coming::Failed => true,
-        _ => false,
     }
 }
 

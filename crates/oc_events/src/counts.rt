@@ -2,7 +2,7 @@ ghost use Rattle.std.specs.Prelude.{◌≡◌};
 ghost use Rattle.oc_io.specs.Tally.{counted};
 ghost use Rattle.oc_events.specs.Failures as kinds;
 
-use crate::event::{Coming, Event, Loss};
+use crate::event::{Event, Loss};
 
 /// How often the calls of a link failed, by their kind, and how long it has waited. A count that has reached the
 /// greatest `u64` stays there.
@@ -49,7 +49,7 @@ impl Counts {
         }
     }
 
-    /// After `next` gave this event and waited for so many milliseconds at most.
+    /// After `next` gave this event and waited for at most this number of milliseconds.
     pub fn with_event(self, event: Event, wait: u64) -> Counts
         ensures { CountsEvent event wait self result }
     {
@@ -82,7 +82,7 @@ fn fails_reading(event: &Event) -> bool
     ensures { result ≡ kinds.fails_reading event.now }
 {
     match event {
-        Event::Request(arrival) => has_failed(&arrival.coming),
+        Event::Request(arrival) => arrival.coming.has_failed(),
         _ => false,
     }
 }
@@ -102,17 +102,7 @@ fn fails_dialling(event: &Event) -> bool
     ensures { result ≡ kinds.fails_dialling event.now }
 {
     match event {
-        Event::Reply(_, coming) => has_failed(coming),
-        _ => false,
-    }
-}
-
-/// Whether what came failed.
-fn has_failed(coming: &Coming) -> bool
-    ensures { result ≡ kinds.has_failed coming.now }
-{
-    match coming {
-        Coming::Failed => true,
+        Event::Reply(_, coming) => coming.has_failed(),
         _ => false,
     }
 }

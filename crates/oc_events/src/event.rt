@@ -1,3 +1,5 @@
+ghost use Rattle.std.specs.Prelude.{◌≡◌};
+
 use crate::ids::{ConnectionId, DialId};
 
 /// One thing that happened at a link.
@@ -36,6 +38,20 @@ pub enum Coming {
     Ended,
     /// A call failed, or the time ran out.
     Failed,
+}
+
+impl Coming {
+    ghost use Rattle.oc_events.specs.Failures.{has_failed};
+
+    /// Whether what came failed.
+    pub fn has_failed(self) -> bool
+        ensures { result ≡ has_failed self }
+    {
+        match self {
+            Coming::Failed => true,
+            _ => false,
+        }
+    }
 }
 
 /// Why a connection is over before its reply was sent whole.

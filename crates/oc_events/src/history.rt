@@ -11,7 +11,7 @@ use crate::ids::{ConnectionId, DialId};
 use crate::stage::Standing;
 use std::alloc::{AllocError, Global};
 
-/// How a connection stands after these calls.
+/// What a connection is doing after these calls.
 pub fn standing_of(calls: &[Call], connection: ConnectionId) -> Standing
     ensures { result ≡ stands.standing_of connection calls.now }
 {
@@ -96,7 +96,7 @@ fn came_on(call: &Call, connection: ConnectionId) -> &[u8]
     }
 }
 
-/// How many of so many bytes of a connection were taken.
+/// How many bytes of a connection were taken, of which there are `most`.
 fn taken(calls: &[Call], connection: ConnectionId, most: usize) -> usize
     ensures { result ≡ min (traffic.taken connection calls.now) most }
 {

@@ -6,7 +6,7 @@
 //! it was dialled and the clock was read.
 //!
 //! The story of a link, where it tells one, is the list of the calls that were made on it, each with what it
-//! answered ([`Call`]). What a connection read and was given and how it stands is read off that list, by the
+//! answered ([`Call`]). What a connection read and was given and what it is doing is read off that list, by the
 //! definitions of `specs/Traffic.antt` and `specs/Stands.antt`. The layer above uses the contract of each call: it
 //! adds itself to the story; and of `next` that its event is one that may come after the calls so far.
 //!

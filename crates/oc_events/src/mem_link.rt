@@ -5,7 +5,7 @@ ghost use Rattle.oc_events.specs.Counts.{Counted, CountsListening, no_counts};
 ghost use Rattle.oc_events.specs.Plays as plays;
 ghost use Rattle.oc_events.specs.Plays.{PlaysAs, fails_at, time_after};
 ghost use Rattle.oc_events.specs.Stands as stands;
-ghost use Rattle.oc_events.specs.Told.{Adds, Gives, IfTold, Lends, NextGives, Told};
+ghost use Rattle.oc_events.specs.Told.{Adds, GivesEvent, IfTold, Lends, NextGives, Told};
 
 use crate::call::{Call, Ending};
 use crate::counts::Counts;

@@ -19,7 +19,7 @@ pub enum Stage {
     Broken,
 }
 
-/// How a connection stands.
+/// What a connection is doing, and what may come on it next.
 #[derive(Clone, Copy, Debug)]
 pub struct Standing {
     pub stage: Stage,
@@ -70,7 +70,7 @@ impl Standing {
         }
     }
 
-    /// How this connection stands after one more call of its link.
+    /// What this connection is doing after one more call of its link.
     pub fn after(self, connection: ConnectionId, call: &Call) -> Standing
         ensures { result ≡ stands connection call.now self }
     {
@@ -111,7 +111,7 @@ impl Standing {
         }
     }
 
-    /// How it stands after an event.
+    /// The same after an event.
     fn after_event(self, connection: ConnectionId, event: Event) -> Standing
         ensures { result ≡ sees connection event self }
     {
@@ -139,7 +139,7 @@ impl Standing {
         }
     }
 
-    /// How it stands behind a whole reply.
+    /// The same behind a whole reply.
     fn after_reply(self, ending: Ending) -> Standing
         ensures { result ≡ after_finish ending self }
     {
@@ -160,7 +160,7 @@ impl Standing {
         }
     }
 
-    /// How it stands once it is over.
+    /// The same once it is over.
     fn ended(self, stage: Stage) -> Standing
         ensures { result ≡ record self { stage = stage; watched = false } }
     {

@@ -30,7 +30,7 @@ pub record IsHost (host : List ℕ) : Type 0 where
 abbrev pub is_mac_digit : ℕ → Bool
 is_mac_digit b = is_ascii_digit b || (nat_le 97 b && nat_le b 102)
 
--- the MAC of a body, as it stands in a head: 64 hexadecimal digits in lower case
+-- the MAC of a body, as it is written in a head: 64 hexadecimal digits in lower case
 pub record IsMac (mac : List ℕ) : Type 0 where
   pub long : length mac ≡ 64
   pub digits : IsTrue (list_all is_mac_digit mac)

@@ -29,7 +29,7 @@ abbrev pub IsEmptied : SourceView → Type 0
 IsEmptied s = s.left ≡ []
 
 -- a prefix of a prefix
-fronts : (a b c x y : List ℕ) → a ≡ x ++ b → b ≡ y ++ c → a ≡ (x ++ y) ++ c
+pub fronts : (a b c x y : List ℕ) → a ≡ x ++ b → b ≡ y ++ c → a ≡ (x ++ y) ++ c
 fronts a b c x y e f = e ∙ ap (λ rest. x ++ rest) f ∙ sym (append_assoc x y c)
 
 -- nothing came

@@ -27,10 +27,11 @@ use Rattle.oc_laws_step.proofs.Steps.{writes as plan_writes}
 use Rattle.oc_model.specs.declared.record.Record.{Record}
 use Rattle.oc_model.specs.declared.record.Record.TheVariants as records
 use Rattle.oc_model.specs.declared.want.Want.{Want}
-use Rattle.oc_model.specs.NextWorld.{has_change, is_empty}
+use Rattle.oc_model.specs.NextWorld.{has_change}
 use Rattle.oc_model.specs.Node.{Control}
 use Rattle.oc_model.specs.Plan.{Plan}
 use Rattle.oc_model.specs.Step.{Piece, filled, finished, kept_at, piece_of, plan, step}
+use Rattle.oc_model.specs.Numbers.{is_empty}
 use Rattle.oc_node.specs.Applying.{CanApply}
 use Rattle.oc_node.specs.NodeView.{NodeView}
 use Rattle.oc_node.specs.Planned.{PlanView, control_after, planned}

@@ -313,11 +313,13 @@ impl<D: Disk> Kept<D> {
     }
 
     /// What holds between any two calls: the node is as inputs and starts leave it, its change log is within its
-    /// limit, and while no disk failed every crash leaves what is durable of it.
+    /// limit, the lines of the content are those of its groups, and while no disk failed every crash leaves what is
+    /// durable of it.
     pub fn recovers(&self)
         ensures reached { IsReached self.now.node.control }
         ensures lawful { IsHonest D.view self.now → IsLawfulNode self.now.node.control.nodes (node_of self.now) }
         ensures short { self.now.node.control.kept.log.length ≤ MAX_LOG_LENGTH }
+        ensures groups { IsHonest D.view self.now → self.now.content.shelves ≡ shelf (node_of self.now).groups }
         ensures survives { self.now.closed ≡ false → IsHonest D.view self.now
             → NodeSurvives D.view self.now (node_of self.now) }
     {

@@ -16,7 +16,7 @@ ghost use Rattle.oc_record.specs.Spelling.{HaveSpellings};
 use crate::errors::CommitError;
 use crate::ready::Write;
 use oc_base::{GroupName, Memory};
-use oc_content::{Content, Piece, PutError};
+use oc_content::{Content, NewBytes, Piece, PutError};
 use oc_io::Disk;
 use oc_model::{Body, Input};
 use oc_node::Plan;
@@ -66,7 +66,13 @@ fn piece<D: Disk>(
     let Some((group, bytes)) = brought(input) else {
         unreachable!()
     };
-    match content.prepare(alloc, group, start, bytes, closes) {
+    let added = NewBytes {
+        group,
+        start,
+        bytes,
+        last: closes,
+    };
+    match content.prepare(alloc, &added) {
         Ok(piece) => Ok(piece),
         Err(PutError::Memory) => Err(Memory),
         // The limits of the content log are those of the step.

@@ -13,9 +13,9 @@ use Rattle.oc_model.specs.declared.soft.Search.{Search}
 use Rattle.oc_model.specs.declared.soft.Search.TheVariants.{Descend}
 use Rattle.oc_model.specs.Adoption.{rank_or_last, precedes_any}
 use Rattle.oc_base.specs.declared.limits.TheConstants.{MAX_DEPTH, MAX_ANCESTORS}
-use Rattle.oc_model.specs.Asking.{lost_from, lost, send_ask, ask, next_epoch, act, descend, is_empty, try_at, try_first, next_try, set_tries, round, ask_before, is_asking, ancestors_by, joins, took_yes, refused, took_no, not_seen, not_reached, unreachable, relocate}
+use Rattle.oc_model.specs.Asking.{lost_from, lost, send_ask, ask, next_epoch, act, descend, try_at, try_first, next_try, set_tries, round, ask_before, is_asking, ancestors_by, joins, took_yes, refused, took_no, not_seen, not_reached, unreachable, relocate}
 use Rattle.oc_model.specs.Choice.{ask_order}
-use Rattle.oc_model.specs.Numbers.{number_end}
+use Rattle.oc_model.specs.Numbers.{number_end, is_empty}
 use Rattle.oc_model.specs.Plan.{Plan, write, answers, with_soft, searching, ignored, is_member}
 use Rattle.oc_laws_step.proofs.Goes.{Goes, either, goes_itself, goes_then, goes_within, goes_write, goes_soft, then_send, then_soft, then_answers, then_other, goes_free, goes_says}
 

@@ -1,5 +1,5 @@
 -- What the small decisions give is within the ranges of what they are given.
-use Rattle.std.proofs.Common.{◌≡◌, ℕ, zero, suc, ◌+◌, ◌-◌, ◌*◌, ◌<◌, ◌≤◌, min, Bool, true, false, not, ◌&&◌, ◌||◌, ◌==◌, nat_lt, nat_le, if◌then◌else◌, Option, Some, None, option_map, unwrap_or, List, [], ◌∷◌, ◌++◌, length, map, filter, find, take, set, get_or, refl, arith}
+use Rattle.std.proofs.Common.{◌≡◌, ℕ, zero, suc, ◌+◌, ◌-◌, ◌*◌, ◌<◌, ◌≤◌, min, Bool, true, false, not, ◌&&◌, ◌||◌, ◌==◌, nat_lt, nat_le, if◌then◌else◌, Option, Some, None, option_map, unwrap_or, List, [], ◌∷◌, ◌++◌, length, map, filter, find, take, set, get_or, refl, arith, option_to_list}
 use Rattle.std.specs.List.{AllByRecursion, range_with_len}
 use Rattle.std.specs.Option.{option_or}
 use Rattle.std.proofs.lemmas.Bool.{cond_both, eqb-false}
@@ -13,7 +13,7 @@ use Rattle.oc_model.specs.declared.place.Review.TheVariants as reviews
 use Rattle.oc_model.specs.declared.reading.Reading.{Reading}
 use Rattle.oc_model.specs.Adoption.{Host, rank_or_last, chain_refusal, rank_refusal, adoption_refusal, precedes_any}
 use Rattle.oc_base.specs.declared.limits.TheConstants.{MAX_DEPTH}
-use Rattle.oc_model.specs.Choice.{nearer_of, nearest, is_nearer, is_suitable, chosen, View, go_beneath, reviewed_with, reviewed, below, each_once, just, ask_order}
+use Rattle.oc_model.specs.Choice.{nearer_of, nearest, is_nearer, is_suitable, chosen, View, go_beneath, reviewed_with, reviewed, below, each_once, ask_order}
 use Rattle.oc_base.specs.Lawful.{IsNode, AreNodes, IsLong, IsRate, IsRank, IsRankOrNone, IsCert, AreCerts, IsRefusal}
 use Rattle.oc_model.specs.Measures.{reading_of}
 use Rattle.oc_model.specs.Node.{no_reading}
@@ -172,7 +172,7 @@ range_nodes nodes b (suc n) low high = ((low, omega arith), range_nodes nodes (b
 -- all nodes that a node may ask are nodes
 pub order_nodes : (nodes me chain : ℕ) (ancestors : List ℕ) (without : Option ℕ) → me ≤ nodes → chain ≤ nodes → AreNodes nodes ancestors → AreNodes nodes (ask_order me chain ancestors without)
 order_nodes nodes me chain ancestors without mine line all =
-    once_nodes nodes (me ∷ just without) (if nat_le me chain then below me else ancestors ++ range_with_len 1 chain)
+    once_nodes nodes (me ∷ option_to_list without) (if nat_le me chain then below me else ancestors ++ range_with_len 1 chain)
     (cond_both (nat_le me chain) (below me) (ancestors ++ range_with_len 1 chain) (AreNodes nodes)
     (λ _. below_nodes nodes me mine)
     (λ _. all_append (IsNode nodes) ancestors (range_with_len 1 chain) all (range_nodes nodes 1 chain (omega arith) (omega arith))))

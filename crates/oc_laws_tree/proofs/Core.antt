@@ -11,13 +11,13 @@ use Rattle.oc_model.specs.declared.record.Record.TheVariants as records
 use Rattle.oc_model.specs.declared.soft.Search.TheVariants as searches
 use Rattle.oc_model.specs.Adopting.{raises}
 use Rattle.oc_model.specs.Adoption.{rank_or_last}
-use Rattle.oc_model.specs.Asking.{lost_from, lost, send_ask, ask, next_epoch, act, descend, is_empty, try_at, try_first, set_tries, round}
+use Rattle.oc_model.specs.Asking.{lost_from, lost, send_ask, ask, next_epoch, act, descend, try_at, try_first, set_tries, round}
 use Rattle.oc_model.specs.Checking.{counts_clients, notes_time, reports, checks_as, next_check, checks, merges, merges_all, at_time, starts_leases, dies, ends_each, ends_leases, looks_at_each, looks_round, is_due, forgets_refusal, checks_in_time, has_news, reports_news_as, reports_news, checks_if_due, fetches_as, tick}
 use Rattle.oc_model.specs.Choice.{below}
 use Rattle.oc_model.specs.Heal.{epoch_in}
 use Rattle.oc_model.specs.Leases.{ended}
 use Rattle.oc_model.specs.Node.{Control}
-use Rattle.oc_model.specs.Numbers.{number_end, raise, capped}
+use Rattle.oc_model.specs.Numbers.{number_end, raise, capped, is_empty}
 use Rattle.oc_model.specs.Plan.{Plan, write, send, answers, with_soft, searching, is_member}
 use Rattle.oc_model.specs.Table.{newest, is_news}
 use Rattle.oc_model.proofs.Rules.{either}

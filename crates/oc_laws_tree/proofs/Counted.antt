@@ -19,7 +19,7 @@ use Rattle.oc_laws_tree.proofs.FiveSteps.{HasStayed, stayed_then, up_of, FiveSte
 use Rattle.oc_laws_tree.proofs.Held.{IsHeld}
 use Rattle.oc_laws_tree.proofs.ReadyStays.{AreHeld, held_stay, up_ids_stay, joined_stays}
 use Rattle.oc_laws_tree.proofs.Reached.{Reached}
-use Rattle.oc_laws_tree.proofs.Told.{CheckInKeeps, checks_in_keeps, parent_apart}
+use Rattle.oc_laws_tree.proofs.CheckedIn.{CheckInKeeps, checks_in_keeps, parent_apart}
 
 -- a tick is one act
 tick_acts : (more : ℕ) (xs : List ℕ) (w : World) → length (for_each xs (ticks more) w).acts ≡ length xs

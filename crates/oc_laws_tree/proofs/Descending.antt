@@ -28,7 +28,7 @@ use Rattle.oc_laws_tree.proofs.Held.{Steady, steady_itself, stays_then, IsHeld}
 use Rattle.oc_laws_tree.proofs.Levels.{for_each-append}
 use Rattle.oc_laws_tree.proofs.ReadyStays.{chain_first_up, chain_root}
 use Rattle.oc_laws_tree.proofs.Reached.{Reached, of_reached}
-use Rattle.oc_laws_tree.proofs.Told.{CheckInKeeps, checks_in_keeps, parent_apart}
+use Rattle.oc_laws_tree.proofs.CheckedIn.{CheckInKeeps, checks_in_keeps, parent_apart}
 
 -- The rank that is taken
 

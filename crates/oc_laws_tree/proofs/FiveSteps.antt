@@ -23,7 +23,7 @@ use Rattle.oc_laws_tree.proofs.Passes.{IsTurn, HasPassed, each_passes}
 use Rattle.oc_laws_tree.proofs.Reached.{Reached}
 use Rattle.oc_laws_tree.proofs.Spans.{ids_distinct, up_id}
 use Rattle.oc_laws_tree.proofs.Ticking.{TickKeeps, tick_keeps, row_fresh, none_over, all_stale, fresh_row, less_stale, IsStaleBy, IsFreshBy, stale_other, fresh_other, leased_id, ends_ahead}
-use Rattle.oc_laws_tree.proofs.Told.{CheckInKeeps, keeps_before, checks_in_keeps}
+use Rattle.oc_laws_tree.proofs.CheckedIn.{CheckInKeeps, keeps_before, checks_in_keeps}
 
 -- What the steps keep
 

@@ -36,7 +36,7 @@ use Rattle.oc_laws_tree.proofs.Checks.{from_to, HasSameRest}
 use Rattle.oc_laws_tree.proofs.Core.{Core, core_of, asking}
 use Rattle.oc_laws_tree.proofs.Held.{tree_of}
 use Rattle.oc_laws_tree.proofs.Reached.{Reached, reached_act}
-use Rattle.oc_laws_tree.proofs.Told.{reached_delivers, number_held}
+use Rattle.oc_laws_tree.proofs.CheckedIn.{reached_delivers, number_held}
 
 -- The three acts
 

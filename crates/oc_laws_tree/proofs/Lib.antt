@@ -38,7 +38,7 @@ pub mod CheckIns
 pub mod Ends
 pub mod Merging
 pub mod Held
-pub mod Told
+pub mod CheckedIn
 pub mod Passes
 pub mod Ticking
 pub mod FiveSteps

@@ -1,6 +1,6 @@
 -- The chain is one line: a chain member asks earlier members alone, and looks for no place; a root is above all. What every rule
 -- keeps of that.
-use Rattle.std.proofs.Common.{◌≡◌, ℕ, zero, suc, ◌+◌, ◌-◌, ◌<◌, ◌≤◌, Bool, true, false, not, ◌&&◌, ◌||◌, ◌==◌, nat_lt, nat_le, if◌then◌else◌, Option, Some, None, List, [], ◌∷◌, ◌++◌, filter, length, refl, ap, sym, subst, ◌∙◌, arith, eqb-true, ltb-true, ltb-false}
+use Rattle.std.proofs.Common.{◌≡◌, ℕ, zero, suc, ◌+◌, ◌-◌, ◌<◌, ◌≤◌, Bool, true, false, not, ◌&&◌, ◌||◌, ◌==◌, nat_lt, nat_le, if◌then◌else◌, Option, Some, None, List, [], ◌∷◌, ◌++◌, filter, length, refl, ap, sym, subst, ◌∙◌, arith, eqb-true, ltb-true, ltb-false, option_to_list}
 use Rattle.std.specs.List.{AllByRecursion, range_with_len}
 use Rattle.std.proofs.lemmas.Bool.{cond_both, and_parts, or_left, or_right, true≢false, eqb-false}
 use Rattle.oc_base.specs.declared.rank.Rank.{Rank}
@@ -20,13 +20,13 @@ use Rattle.oc_model.specs.declared.soft.Search.{Search}
 use Rattle.oc_model.specs.declared.soft.Search.TheVariants as searches
 use Rattle.oc_model.specs.Adopting.{is_acting, raises, raises_over}
 use Rattle.oc_model.specs.Adoption.{precedes, precedes_any, rank_or_last, is_better}
-use Rattle.oc_model.specs.Asking.{lost_from, lost, send_ask, ask, next_epoch, act, descend, is_empty, try_at, try_first, next_try, set_tries, round, ask_before, is_asking, ancestors_by, joins, took_yes, refused, took_no, not_seen, not_reached, unreachable, relocate}
+use Rattle.oc_model.specs.Asking.{lost_from, lost, send_ask, ask, next_epoch, act, descend, try_at, try_first, next_try, set_tries, round, ask_before, is_asking, ancestors_by, joins, took_yes, refused, took_no, not_seen, not_reached, unreachable, relocate}
 use Rattle.oc_model.specs.ChangeLog.{is_ahead}
 use Rattle.oc_model.specs.Checking.{counts_clients, notes_time, reports, checks_as, next_check, checks, looks_at_each, looks_round, is_due, forgets_refusal, checks_in_time, has_news, reports_news_as, reports_news, checks_if_due, fetches_as, is_joined_to, takes_place, takes_rank, same_ids, takes_ancestors, took_ack, is_peer, took_rejoin}
-use Rattle.oc_model.specs.Choice.{below, each_once, just, ask_order, chosen, reviewed}
+use Rattle.oc_model.specs.Choice.{below, each_once, ask_order, chosen, reviewed}
 use Rattle.oc_model.specs.Looking.{Stand, goes_down, candidates, descends, goes_where, view, reviews_place, prefers, keeps_line, sees_as, sees}
 use Rattle.oc_model.specs.Node.{Control}
-use Rattle.oc_model.specs.Numbers.{number_end, raise, capped, has}
+use Rattle.oc_model.specs.Numbers.{number_end, raise, capped, has, is_empty}
 use Rattle.oc_model.specs.Plan.{Plan, write, send, answers, with_soft, searching, ignored, is_member, rate_to}
 use Rattle.oc_model.proofs.Rules.{either}
 
@@ -56,9 +56,9 @@ once_count out (x ∷ xs) = cond_both (has out x) (each_once out xs) (x ∷ each
 -- it asks earlier members, no more than there are
 pub order_below : (me chain : ℕ) (ancestors : List ℕ) (without : Option ℕ) → nat_le me chain ≡ true → AreBelow me (ask_order me chain ancestors without) × (length (ask_order me chain ancestors without) ≤ me - 1)
 order_below me chain ancestors without member =
-    let earlier : ask_order me chain ancestors without ≡ each_once (me ∷ just without) (below me) = ap (λ b. each_once (me ∷ just without) (if b then below me else ancestors ++ range_with_len 1 chain)) member in (
-      subst (AreBelow me) (sym earlier) (once_below me (me ∷ just without) (below me) (below_less me me (omega arith))),
-      subst (λ xs. length xs ≤ me - 1) (sym earlier) (omega (arith, once_count (me ∷ just without) (below me), below_count me)),
+    let earlier : ask_order me chain ancestors without ≡ each_once (me ∷ option_to_list without) (below me) = ap (λ b. each_once (me ∷ option_to_list without) (if b then below me else ancestors ++ range_with_len 1 chain)) member in (
+      subst (AreBelow me) (sym earlier) (once_below me (me ∷ option_to_list without) (below me) (below_less me me (omega arith))),
+      subst (λ xs. length xs ≤ me - 1) (sym earlier) (omega (arith, once_count (me ∷ option_to_list without) (below me), below_count me)),
     )
 
 -- A node in its line

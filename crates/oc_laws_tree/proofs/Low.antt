@@ -16,7 +16,7 @@ use Rattle.oc_laws_tree.proofs.FiveSteps.{up_of, up_distinct}
 use Rattle.oc_laws_tree.proofs.Passes.{IsTurn, HasPassed, each_passes}
 use Rattle.oc_laws_tree.proofs.Reached.{Reached}
 use Rattle.oc_laws_tree.proofs.Ticking.{TickKeeps, tick_keeps}
-use Rattle.oc_laws_tree.proofs.Told.{CheckInKeeps, checks_in_keeps}
+use Rattle.oc_laws_tree.proofs.CheckedIn.{CheckInKeeps, checks_in_keeps}
 
 -- the epoch of y is no past this one, nor its ask number past that
 abbrev pub IsLow : ℕ → ℕ → World → ℕ → Type 0

@@ -3,13 +3,14 @@ use Rattle.std.proofs.Common.{◌≡◌, ℕ, Bool, true, false, ◌==◌, if◌
 use Rattle.std.proofs.lemmas.Bool.{cases_eq}
 use Rattle.oc_model.specs.declared.mode.Mode.{Mode}
 use Rattle.oc_model.specs.declared.mode.Mode.TheVariants.{Idle, Asking, Joined, Acting}
-use Rattle.oc_model.specs.Chains.{IsUp, IsJoined, IsRoot, IsTrueChain, chain_from, last_from, ending_at}
+use Rattle.oc_model.specs.Chains.{IsUp, IsJoined, IsRoot, IsTrueChain, chain_from, ending_at}
 use Rattle.oc_model.specs.ClaimsTree.{seq_of}
 use Rattle.oc_model.specs.Node.{Header}
 use Rattle.oc_model.specs.Ready.{HoldsLease, IsLeased, IsReadyUnder}
 use Rattle.oc_model.specs.Records.{is_joined}
 use Rattle.oc_model.specs.World.{World, is_up, mode_of, ids, up_ids}
 use Rattle.oc_model.proofs.Chains.{acting_alone, joined_once, chain_to-finds}
+use Rattle.oc_model.specs.Numbers.{last_of}
 use Rattle.oc_laws_tree.proofs.FiveSteps.{HasStayed}
 use Rattle.oc_laws_tree.proofs.Held.{Stays, Steady, IsHeld}
 use Rattle.oc_laws_tree.proofs.Reached.{Reached}
@@ -115,4 +116,4 @@ chain_from-finds w x r c chain = by_found (chain_from w x) (chain_to-finds w x r
   by_found : (found : Option (List ℕ)) → ending_at r found ≡ Some c → found ≡ Some c
   by_found None e = absurd cc
   by_found (Some []) e = absurd cc
-  by_found (Some (a ∷ rest)) e = by_test a rest (last_from a rest == r) e
+  by_found (Some (a ∷ rest)) e = by_test a rest (last_of a rest == r) e

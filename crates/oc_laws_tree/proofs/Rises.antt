@@ -10,13 +10,13 @@ use Rattle.oc_model.specs.declared.mode.Mode.{Mode}
 use Rattle.oc_model.specs.declared.mode.Mode.TheVariants as modes
 use Rattle.oc_model.specs.declared.record.Record.TheVariants as records
 use Rattle.oc_model.specs.Adoption.{rank_or_last}
-use Rattle.oc_model.specs.Asking.{lost_from, lost, send_ask, ask, act, descend, is_empty, try_at, try_first, next_try, set_tries, round, not_seen, not_reached, unreachable}
+use Rattle.oc_model.specs.Asking.{lost_from, lost, send_ask, ask, act, descend, try_at, try_first, next_try, set_tries, round, not_seen, not_reached, unreachable}
 use Rattle.oc_model.specs.Chains.{IsUp}
 use Rattle.oc_model.specs.Checking.{next_check, checks_as, checks}
 use Rattle.oc_model.specs.ClaimsTree.{seq_of}
 use Rattle.oc_model.specs.Heal.{epoch_in, rises, rises_in, comes_to_act}
 use Rattle.oc_model.specs.Node.{Header, Control}
-use Rattle.oc_model.specs.Numbers.{number_end}
+use Rattle.oc_model.specs.Numbers.{number_end, is_empty}
 use Rattle.oc_model.specs.Plan.{Plan, begun, write, answers, with_soft, searching, is_member}
 use Rattle.oc_model.specs.Runs.{Run, rests, does, and_then}
 use Rattle.oc_model.specs.Step.{step}

@@ -21,7 +21,7 @@ use Rattle.oc_laws_tree.proofs.Core.{Core, core_of, IsCounted}
 use Rattle.oc_laws_tree.proofs.FiveSteps.{stayed_then, HasCalmed}
 use Rattle.oc_laws_tree.proofs.Held.{IsHeld, current_stays}
 use Rattle.oc_laws_tree.proofs.Reached.{Reached, of_reached}
-use Rattle.oc_laws_tree.proofs.Told.{CheckInKeeps, keeps_before, checks_in_keeps, parent_apart}
+use Rattle.oc_laws_tree.proofs.CheckedIn.{CheckInKeeps, keeps_before, checks_in_keeps, parent_apart}
 
 -- The log after an acknowledgement
 

@@ -42,7 +42,7 @@ Copying = IsMerge two copying
 abbrev pub CopyingAt2 : Type 0
 CopyingAt2 = entries_of 2 copying ≡ Starts ∷ Takes (Pull 1) ∷ Takes (Delivered chunk) ∷ Starts ∷ []
 
--- the fetch is the first message of the net, and the chunk the second; a crash stands before the second start
+-- the fetch is the first message of the net, and the chunk the second; a crash comes before the second start
 abbrev pub CopyingScheduled : Type 0
 CopyingScheduled = IsScheduleOf (new_world two) copying
     (Up 2 ∷ Do (At 2 (Pull 1)) ∷ Up 1 ∷ Do (At 1 (Publish (codes "/a") (codes "hello"))) ∷ Do (Deliver 1) ∷ Do (Deliver 2) ∷ Crash 2 ∷ Up 2 ∷ [])

@@ -21,7 +21,7 @@ use crate::{
 /// Records of running nodes are a schedule.
 ///
 /// A merge has the entries of each node in their order, starts and inputs, the first of them a start;
-/// and each message stands where it was sent before, to that node, by a step of the merge. Then there is
+/// and each message comes where it was sent before, to that node, by a step of the merge. Then there is
 /// a schedule of it: its inputs, with each delivery named by its place in the net, and its starts, with a
 /// crash before each but the first of a node. Whatever that schedule is, it leads to a world in which
 /// each node is the fold of its own entries, and the net has exactly what their steps sent.

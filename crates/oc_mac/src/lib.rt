@@ -8,7 +8,7 @@
 //! None of them takes memory, and none copies the body. [`macs_are_digits`] says what a reader of heads needs to know
 //! of a MAC, and [`no_two_digests_have_one_spelling`] that its digits stand for nothing else.
 //!
-//! [`is_mac_of`] looks at all digits, wherever the first that differs stands, so that the time which it takes tells
+//! [`is_mac_of`] looks at all digits, wherever the first that differs is, so that the time which it takes tells
 //! nobody how many were right. No contract says so: its loop has no way out.
 #![tactic(auto)]
 

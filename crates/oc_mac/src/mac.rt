@@ -11,7 +11,7 @@ use std::marker::Model;
 /// How many digits a MAC has.
 pub const MAC_DIGITS: usize = 64;
 
-/// A MAC as it stands in a head: 64 hexadecimal digits in lower case. Contracts see the digits.
+/// A MAC as it is written in a head: 64 hexadecimal digits in lower case. Contracts see the digits.
 #[derive(Drop)]
 pub struct Mac {
     digits: [u8; MAC_DIGITS],

@@ -3,7 +3,7 @@ use Rattle.std.proofs.Common.{◌≡◌, ℕ, ◌≤◌, true, nat_le, Option, S
 use Rattle.std.specs.List.{list_all}
 use Rattle.std.proofs.lemmas.Bool.{and_parts, le-leb}
 use Rattle.oc_model.specs.Chains.{IsUp, chain_to}
-use Rattle.oc_model.specs.Heal.{IsMember, up_members, first_of, leader, epoch_in, most_seq, most_epoch, IsAble, has_room, is_able, AreLeased, IsPlaced, are_leased, placed_by, is_placed}
+use Rattle.oc_model.specs.Heal.{IsMember, up_members, leader, epoch_in, most_seq, most_epoch, IsAble, has_room, is_able, AreLeased, IsPlaced, are_leased, placed_by, is_placed}
 use Rattle.oc_model.specs.Plan.{is_member}
 use Rattle.oc_model.specs.Ready.{is_leased}
 use Rattle.oc_model.specs.World.{World, node, is_up, ids, up_ids}
@@ -12,6 +12,7 @@ use Rattle.oc_model.specs.WorldBounds.{IsOneOf}
 use Rattle.oc_model.proofs.Members.{all_test, test_all, of_filter, in_filter}
 use Rattle.oc_model.proofs.Processes.{up_in}
 use Rattle.oc_model.proofs.Ready.{leased_true, leased_test}
+use Rattle.oc_model.specs.Numbers.{first_of}
 
 -- a node that is up is among those that are
 pub among_up : (w : World) (x : ℕ) → IsUp w x → IsOneOf x (up_ids w)

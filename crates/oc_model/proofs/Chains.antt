@@ -4,12 +4,13 @@ use Rattle.std.specs.List.{AllByRecursion}
 use Rattle.std.proofs.lemmas.List.{length-map}
 use Rattle.oc_model.specs.declared.mode.Mode.{Mode}
 use Rattle.oc_model.specs.declared.mode.Mode.TheVariants.{Idle, Asking, Joined, Acting}
-use Rattle.oc_model.specs.Chains.{IsUp, IsJoined, IsTrueChain, climb_from, chain_from, last_from, ending_at, chain_to}
+use Rattle.oc_model.specs.Chains.{IsUp, IsJoined, IsTrueChain, climb_from, chain_from, ending_at, chain_to}
 use Rattle.oc_model.specs.World.{World, is_up, mode_of, ids}
 use Rattle.oc_model.proofs.Lists.{all_weaker}
 use Rattle.oc_model.specs.WorldBounds.{IsOneOf, IsDistinct}
 use Rattle.oc_model.proofs.Members.{AreAmong, no_longer}
 use Rattle.oc_model.proofs.Processes.{up_in}
+use Rattle.oc_model.specs.Numbers.{last_of}
 
 -- a node that acts is joined to none
 pub acting_alone : (w : World) (x p : ℕ) → mode_of w x ≡ Acting → IsJoined w x p → ⊥
@@ -71,7 +72,7 @@ chain_short w x r c h =
     omega (arith, no_longer c (ids w) (chain_distinct w x r c h) among, length-map w.processes (λ p. p.node.control.me))
 
 -- it ends at its root
-pub chain_last : (w : World) (x r a : ℕ) (c : List ℕ) → IsTrueChain w x r (a ∷ c) → last_from a c ≡ r
+pub chain_last : (w : World) (x r a : ℕ) (c : List ℕ) → IsTrueChain w x r (a ∷ c) → last_of a c ≡ r
 chain_last w x r a [] h = h.0 ∙ h.1
 chain_last w x r a (d ∷ ds) h = chain_last w d r d ds h.3
 
@@ -120,21 +121,21 @@ pub chain_to-finds : (w : World) (x r : ℕ) (c : List ℕ) → IsTrueChain w x 
 chain_to-finds w x r [] h = absurd h
 chain_to-finds w x r (a ∷ c) h =
     let found : chain_from w x ≡ Some (a ∷ c) = climb_finds (length w.processes) w x r (a ∷ c) h (chain_short w x r (a ∷ c) h) in
-    let ends : (last_from a c == r) ≡ true = eq-eqb (last_from a c) r (chain_last w x r a c h) in
+    let ends : (last_of a c == r) ≡ true = eq-eqb (last_of a c) r (chain_last w x r a c h) in
     rw (found, ends)
 
 -- and what is computed is one
 pub chain_to-true : (w : World) (x r : ℕ) (c : List ℕ) → chain_to w r x ≡ Some c → IsTrueChain w x r c
 unfolding IsChain
 chain_to-true w x r c e = by_found (chain_from w x) refl e where
-  by_test : (a : ℕ) (as' : List ℕ) → IsChain w x (a ∷ as') → (b : Bool) → (last_from a as' == r) ≡ b → (if b then Some (a ∷ as') else None) ≡ Some c → IsTrueChain w x r c
+  by_test : (a : ℕ) (as' : List ℕ) → IsChain w x (a ∷ as') → (b : Bool) → (last_of a as' == r) ≡ b → (if b then Some (a ∷ as') else None) ≡ Some c → IsTrueChain w x r c
   by_test a as' chain true ends e =
       let same : (a ∷ as') ≡ c = cc in
-      let root : chain.0 ≡ r = sym (chain_last w x chain.0 a as' chain.1) ∙ eqb-true (last_from a as') r ends in
+      let root : chain.0 ≡ r = sym (chain_last w x chain.0 a as' chain.1) ∙ eqb-true (last_of a as') r ends in
       subst (λ d. IsTrueChain w x r d) same (subst (λ z. IsTrueChain w x z (a ∷ as')) root chain.1)
   by_test a as' chain false ends e = absurd cc
 
   by_found : (found : Option (List ℕ)) → chain_from w x ≡ found → ending_at r found ≡ Some c → IsTrueChain w x r c
   by_found None f e = absurd cc
   by_found (Some []) f e = absurd cc
-  by_found (Some (a ∷ as')) f e = by_test a as' (climb_true (length w.processes) w x (a ∷ as') f) (last_from a as' == r) refl e
+  by_found (Some (a ∷ as')) f e = by_test a as' (climb_true (length w.processes) w x (a ∷ as') f) (last_of a as' == r) refl e

@@ -9,8 +9,8 @@ use Rattle.oc_model.specs.Chains.{IsUp, IsJoined}
 use Rattle.oc_model.specs.ChangeLog.{IsWaiting}
 use Rattle.oc_model.specs.Checking.{is_joined_to}
 use Rattle.oc_base.specs.Stops.{IsKeptNew, is_kept_new}
-use Rattle.oc_model.specs.Numbers.{IsAmong}
-use Rattle.oc_model.specs.Ready.{IsSettled, is_ready, is_current, is_empty, holds_current, has_told, is_calm, is_settled}
+use Rattle.oc_model.specs.Numbers.{IsAmong, is_empty}
+use Rattle.oc_model.specs.Ready.{IsSettled, is_ready, is_current, holds_current, has_told, is_calm, is_settled}
 use Rattle.oc_model.specs.Records.{is_joined}
 use Rattle.oc_model.specs.Table.{leased_by}
 use Rattle.oc_model.specs.World.{World, node, is_up, mode_of, ids}

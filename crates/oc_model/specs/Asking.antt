@@ -13,7 +13,7 @@ use Rattle.oc_model.specs.declared.soft.Search.TheVariants.{Descend}
 use Rattle.oc_model.specs.Adoption.{rank_or_last, precedes_any}
 use Rattle.oc_base.specs.declared.limits.TheConstants.{MAX_ANCESTORS, MAX_DEPTH}
 use Rattle.oc_model.specs.Choice.{ask_order}
-use Rattle.oc_model.specs.Numbers.{number_end, raise}
+use Rattle.oc_model.specs.Numbers.{number_end, raise, is_empty}
 use Rattle.oc_model.specs.Plan.{Plan, write, send, answers, with_soft, searching, ignored, is_member}
 
 -- How a node comes by a parent, and becomes a root: the rules Ask, Next try, Round, Become acting, Take a yes, Take a no,
@@ -53,10 +53,6 @@ act o = write (write o records.Acting) (records.Epoch (next_epoch (rank_or_last 
 -- p is asked for its position, on the way down to a place
 abbrev pub descend : Plan → ℕ → Plan
 descend o p = send (searching o (Some (Descend p))) p bodies.Look
-
-abbrev pub is_empty : List ℕ → Bool
-is_empty [] = true
-is_empty (x ∷ xs) = false
 
 -- p is tried: a node that has been in no place yet looks for a good one, the others ask
 abbrev pub try_at : Plan → ℕ → Plan

@@ -1,6 +1,7 @@
 use Rattle.std.specs.Prelude.{◌≡◌, ℕ, zero, suc, Bool, true, ◌==◌, if◌then◌else◌, Option, Some, None, option_map, List, [], ◌∷◌, ◌++◌, length}
 use Rattle.oc_model.specs.declared.mode.Mode.{Mode}
 use Rattle.oc_model.specs.declared.mode.Mode.TheVariants.{Joined, Acting}
+use Rattle.oc_model.specs.Numbers.{last_of}
 use Rattle.oc_model.specs.World.{World, is_up, mode_of}
 
 -- The live tree: who is joined to whom, up to a root.
@@ -47,16 +48,11 @@ climb_from (suc n) w x up mode = None
 abbrev pub chain_from : World → ℕ → Option (List ℕ)
 chain_from w x = climb_from (length w.processes) w x (is_up w x) (mode_of w x)
 
--- the last of x and these
-abbrev pub last_from : ℕ → List ℕ → ℕ
-last_from x [] = x
-last_from x (y ∷ ys) = last_from y ys
-
 -- the chain, if it ends at r
 abbrev pub ending_at : ℕ → Option (List ℕ) → Option (List ℕ)
 ending_at r None = None
 ending_at r (Some []) = None
-ending_at r (Some (x ∷ c)) = if last_from x c == r then Some (x ∷ c) else None
+ending_at r (Some (x ∷ c)) = if last_of x c == r then Some (x ∷ c) else None
 
 -- the true chain of x to r
 abbrev pub chain_to : World → ℕ → ℕ → Option (List ℕ)

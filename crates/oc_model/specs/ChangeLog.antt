@@ -1,7 +1,7 @@
-use Rattle.std.specs.Prelude.{◌≡◌, ℕ, ◌+◌, ◌-◌, Bool, true, false, ◌&&◌, nat_lt, nat_le, if◌then◌else◌, List, [], ◌∷◌, ◌++◌, length, take, drop}
+use Rattle.std.specs.Prelude.{◌≡◌, ℕ, ◌+◌, ◌-◌, Bool, not, ◌&&◌, nat_lt, nat_le, if◌then◌else◌, List, [], ◌∷◌, ◌++◌, length, take, drop}
 use Rattle.oc_base.specs.declared.cert.Cert.{Cert}
 use Rattle.oc_model.specs.Node.{Log}
-use Rattle.oc_model.specs.Numbers.{IsAmong}
+use Rattle.oc_model.specs.Numbers.{IsAmong, is_empty}
 use Rattle.oc_base.specs.declared.limits.TheConstants.{MAX_CHECK_IN_CERTS}
 
 -- The change log: the certificates for the parent, in the order in which they came. Places are counted from its beginning.
@@ -32,8 +32,7 @@ IsWaiting l x = (c : Cert) × IsAmong c l.waiting × (c.subject ≡ x)
 
 -- whether there is anything of that
 abbrev pub waits : List Cert → Bool
-waits [] = false
-waits (c ∷ cs) = true
+waits cs = not (is_empty cs)
 
 -- the certificates of the next check-in, and the place after them
 abbrev pub next_certs : Log → List Cert

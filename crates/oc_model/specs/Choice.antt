@@ -1,4 +1,4 @@
-use Rattle.std.specs.Prelude.{ℕ, ◌*◌, min, Bool, not, ◌&&◌, ◌||◌, ◌==◌, nat_lt, nat_le, if◌then◌else◌, Option, Some, None, List, [], ◌∷◌, ◌++◌, filter, option_map, zero, suc}
+use Rattle.std.specs.Prelude.{ℕ, ◌*◌, min, Bool, not, ◌&&◌, ◌||◌, ◌==◌, nat_lt, nat_le, if◌then◌else◌, Option, Some, None, option_to_list, List, [], ◌∷◌, ◌++◌, filter, option_map, zero, suc}
 use Rattle.std.specs.List.{range_with_len}
 use Rattle.oc_model.specs.declared.place.Candidate.{Candidate}
 use Rattle.oc_model.specs.declared.place.Review.{Review}
@@ -63,12 +63,8 @@ abbrev pub each_once : List ℕ → List ℕ → List ℕ
 each_once out [] = []
 each_once out (x ∷ xs) = if has out x then each_once out xs else x ∷ each_once (x ∷ out) xs
 
-abbrev pub just : Option ℕ → List ℕ
-just None = []
-just (Some q) = q ∷ []
-
 -- the nodes that a node asks for a place, in their order: a chain member the earlier ones, the nearest first; any other node its
 -- ancestors and then the chain; never itself, nor the one that is left out
 abbrev pub ask_order : ℕ → ℕ → List ℕ → Option ℕ → List ℕ
 ask_order me chain ancestors without =
-    each_once (me ∷ just without) (if nat_le me chain then below me else ancestors ++ range_with_len 1 chain)
+    each_once (me ∷ option_to_list without) (if nat_le me chain then below me else ancestors ++ range_with_len 1 chain)

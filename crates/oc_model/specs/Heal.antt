@@ -11,6 +11,7 @@ use Rattle.oc_model.specs.Ready.{IsLeased, is_leased}
 use Rattle.oc_model.specs.Runs.{Run, rests, does, and_then, for_each, delivers_last}
 use Rattle.oc_model.specs.Settle.{checks_in, first_five_steps, settles}
 use Rattle.oc_model.specs.World.{World, node, mode_of, up_ids}
+use Rattle.oc_model.specs.Numbers.{first_of, last_of}
 
 -- Heal: it joins every node that is up, and then settles.
 
@@ -27,10 +28,6 @@ up_members w = filter (λ x. is_member (node w x).control) (up_ids w)
 -- the nodes past the chain that are up
 abbrev pub up_others : World → List ℕ
 up_others w = filter (λ x. not (is_member (node w x).control)) (up_ids w)
-
-abbrev pub first_of : List ℕ → Option ℕ
-first_of [] = None
-first_of (x ∷ xs) = Some x
 
 -- the least chain member that is up
 abbrev pub leader : World → Option ℕ
@@ -124,10 +121,6 @@ tells_rank m p w = and_then (does (acts.At m inputs.CheckNow) w) (λ v. for_each
 -- by way of m, whose rank its ask may raise
 abbrev pub joins_by : ℕ → ℕ → ℕ → World → Run
 joins_by m p x w = and_then (and_then (asks m x w) (tells_rank m p)) (joins p x)
-
-abbrev pub last_of : ℕ → List ℕ → ℕ
-last_of m [] = m
-last_of m (x ∷ xs) = last_of x xs
 
 -- the greatest chain member that is up and less than this node
 abbrev pub member_before : World → ℕ → ℕ → ℕ

@@ -4,7 +4,6 @@ use Rattle.oc_model.specs.declared.event.Act.{Act}
 use Rattle.oc_model.specs.declared.event.Event.{Event}
 use Rattle.oc_model.specs.declared.event.Event.TheVariants.{Up, Crash, Stop, Do, Held, Show, Settle, Heal}
 use Rattle.oc_model.specs.declared.input.Input.{Input}
-use Rattle.oc_model.specs.declared.record.Record.{Record}
 use Rattle.oc_model.specs.declared.word.Word.{Word}
 use Rattle.oc_model.specs.declared.word.Word.TheVariants as words
 use Rattle.oc_base.specs.Groups.{shelf}
@@ -17,12 +16,9 @@ use Rattle.oc_model.specs.Settle.{settles}
 use Rattle.oc_model.specs.Plan.{Plan}
 use Rattle.oc_model.specs.Step.{step, plan}
 use Rattle.oc_model.specs.World.{World, Process, Arrival, down, process, node, is_up, with_process, source_after, arrival, after_act}
+use Rattle.oc_model.specs.Numbers.{is_empty}
 
 -- What one event of a schedule does, and its word.
-
-abbrev pub is_empty : List Record → Bool
-is_empty [] = true
-is_empty (r ∷ rs) = false
 
 abbrev pub put : World → Process → World
 put w p = record w { processes = with_process w.processes p }

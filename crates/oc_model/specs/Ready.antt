@@ -1,6 +1,5 @@
-use Rattle.std.specs.Prelude.{◌≡◌, ℕ, Bool, true, false, not, ◌&&◌, ◌||◌, ◌==◌, Option, Some, None, is_some, find, List, [], ◌∷◌}
+use Rattle.std.specs.Prelude.{◌≡◌, ℕ, Bool, true, false, not, ◌&&◌, ◌||◌, ◌==◌, Option, Some, None, is_some, find}
 use Rattle.std.specs.List.{list_all}
-use Rattle.oc_base.specs.declared.cert.Cert.{Cert}
 use Rattle.oc_model.specs.declared.mode.Mode.{Mode}
 use Rattle.oc_model.specs.declared.mode.Mode.TheVariants.{Joined}
 use Rattle.oc_model.specs.Adopting.{is_acting, is_number}
@@ -10,6 +9,7 @@ use Rattle.oc_model.specs.Records.{is_joined}
 use Rattle.oc_model.specs.Table.{HasLease, leased_by}
 use Rattle.oc_model.specs.ChangeLog.{IsWaiting}
 use Rattle.oc_model.specs.World.{World, node, is_up, mode_of, ids}
+use Rattle.oc_model.specs.Numbers.{is_empty}
 
 -- Where settle does its work, and what it leaves.
 
@@ -64,10 +64,6 @@ is_ready w = ready_under w (find (is_root w) (ids w))
 abbrev pub is_current : World → ℕ → ℕ → Option ℕ → Bool
 is_current w y x None = true
 is_current w y x (Some seq) = is_up w x && is_joined_to (mode_of w x) y && (node w x).control.kept.seq == seq
-
-abbrev pub is_empty : List Cert → Bool
-is_empty [] = true
-is_empty (f ∷ fs) = false
 
 -- y holds no stale lease
 abbrev pub holds_current : World → ℕ → Bool

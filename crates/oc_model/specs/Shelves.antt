@@ -5,7 +5,7 @@ use Rattle.std.specs.Cmp.Lexicographic.{slice_cmp}
 use Rattle.oc_base.specs.declared.shelf.Shelf.{Shelf}
 use Rattle.oc_model.specs.declared.answer.Answer.{Answer}
 use Rattle.oc_model.specs.declared.answer.Answer.TheVariants as words
-use Rattle.oc_base.specs.Shelves.{line_of}
+use Rattle.oc_base.specs.Shelves.{line_of, held_in_all}
 use Rattle.oc_base.specs.declared.limits.TheConstants.{MAX_GROUPS, MAX_GROUP_BYTES}
 
 abbrev pub line_or_none : List ℕ → Option Shelf → Shelf
@@ -37,11 +37,6 @@ is_behind (Some k) l = nat_lt k.held l.held || (k.held == l.held && l.sealed && 
 abbrev pub first_behind : List Shelf → List Shelf → Option Shelf
 first_behind have [] = None
 first_behind have (l ∷ ls) = if is_behind (line_of l.group have) l then Some l else first_behind have ls
-
--- all that is held, in bytes
-abbrev pub held_in_all : List Shelf → ℕ
-held_in_all [] = 0
-held_in_all (l ∷ ls) = l.held + held_in_all ls
 
 -- the place of the line whose turn it is, after chunks of this size: with each that came, the next one's
 abbrev pub turn : ℕ → List Shelf → List Shelf → ℕ

@@ -10,7 +10,7 @@ use crate::checking::merge;
 use oc_base::{Cert, IdList, Memory, NodeId, Rank};
 use oc_model::{Body, Record};
 use oc_state::ListUpdate;
-use oc_state::modes::{is_joined_to, is_peer};
+use oc_state::modes::is_peer;
 use oc_state::ranks::{ancestors_by, better_rank, rank_or_last};
 use oc_step::Step;
 
@@ -114,7 +114,7 @@ pub fn took_ack(
     ensures { OnOk result (step.new ≡ goes step.old (took_ack step.old.plan from seq upto told above.now)) }
 {
     let position = step.position();
-    if is_joined_to(position.mode, from) && seq == position.seq {
+    if position.mode.is_joined_to(from) && seq == position.seq {
         take_place(step, upto)?;
         take_rank(step, told)?;
         let ids = ancestors_by(step.alloc(), from, above)?;

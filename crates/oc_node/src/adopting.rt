@@ -10,7 +10,7 @@ use oc_base::{Cert, Memory, NodeId, Rank, Refusal};
 use oc_model::{Body, Record};
 use oc_place::{Host, may_adopt, raise};
 use oc_state::ListUpdate;
-use oc_state::modes::{in_tree, is_acting};
+use oc_state::modes::in_tree;
 use oc_state::ranks::rank_or_last;
 use oc_step::Step;
 
@@ -46,7 +46,7 @@ fn raise_over(step: &mut Step, asker: NodeId, rank: Rank) -> Result<(), Memory>
 {
     let position = step.position();
     let own = rank_or_last(position.rank);
-    if is_acting(position.mode) && !own.precedes(rank) && asker != step.id() {
+    if position.mode.is_acting() && !own.precedes(rank) && asker != step.id() {
         set_epoch(step, raise(rank.epoch))
     } else {
         Ok(())

@@ -5,7 +5,7 @@ ghost use Rattle.oc_step.specs.StepView.{goes};
 use oc_base::{MAX_DEPTH, Memory, NodeId, Rank, Refusal};
 use oc_model::{Answer, Body, Mode, Record, Search};
 use oc_state::Volatile;
-use oc_state::modes::{is_asking, is_descending, is_joined_to};
+use oc_state::modes::{is_asking, is_descending};
 use oc_state::ranks::{ancestors_by, next_epoch, precedes_any, rank_or_last};
 use oc_step::Step;
 
@@ -227,7 +227,7 @@ fn not_seen(step: &mut Step, peer: NodeId) -> Result<(), Memory>
 pub fn unreachable(step: &mut Step, peer: NodeId) -> Result<(), Memory>
     ensures { OnOk result (step.new ≡ goes step.old (unreachable step.old.plan peer)) }
 {
-    if is_joined_to(step.position().mode, peer) {
+    if step.position().mode.is_joined_to(peer) {
         lose(step)?;
         round(step, Some(peer))
     } else if is_asking(step.position().mode, peer) {

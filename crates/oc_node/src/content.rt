@@ -162,7 +162,7 @@ pub fn fetched(step: &mut Step, shelf: &[Shelf], from: NodeId, have: &[Shelf]) -
 /// Where a chunk lies in its group: the line of the group here, the places where the chunk begins and ends,
 /// and whether it is the last.
 #[derive(Drop)]
-struct Span {
+struct ChunkPlace {
     line: Shelf,
     start: u64,
     end: u64,
@@ -171,27 +171,27 @@ struct Span {
 
 /// Whether a chunk closes the group: it is last, the group is open, and the chunk does not end before
 /// what is held.
-fn adds_seal(span: &Span) -> bool
-    ensures { result ≡ adds_seal span.now.line span.now.end span.now.last }
+fn adds_seal(place: &ChunkPlace) -> bool
+    ensures { result ≡ adds_seal place.now.line place.now.end place.now.last }
 {
-    span.last && !span.line.sealed && span.line.held <= span.end
+    place.last && !place.line.sealed && place.line.held <= place.end
 }
 
 /// Whether there is anything to keep of a chunk: a new group, a byte or a seal.
-fn adds(shelf: &[Shelf], span: &Span) -> bool
-    ensures { result ≡ adds shelf.now span.now.line span.now.end span.now.last }
+fn adds(shelf: &[Shelf], place: &ChunkPlace) -> bool
+    ensures { result ≡ adds shelf.now place.now.line place.now.end place.now.last }
 {
-    line_of(shelf, &span.line.group).is_none() || span.line.held < span.end || adds_seal(span)
+    line_of(shelf, &place.line.group).is_none() || place.line.held < place.end || adds_seal(place)
 }
 
 /// The line of the group once what is new in a chunk was kept.
-fn grown_line(span: &Span) -> Shelf
-    ensures { result ≡ grown_line span.now.line span.now.end span.now.last }
+fn grown_line(place: &ChunkPlace) -> Shelf
+    ensures { result ≡ grown_line place.now.line place.now.end place.now.last }
 {
     Shelf {
-        group: span.line.group,
-        held: span.line.held.max(span.end),
-        sealed: span.line.sealed || adds_seal(span),
+        group: place.line.group,
+        held: place.line.held.max(place.end),
+        sealed: place.line.sealed || adds_seal(place),
     }
 }
 
@@ -220,33 +220,43 @@ fn ask_on(
 }
 
 /// What is new in a chunk is kept, if anything is.
-fn keep_chunk(step: &mut Step, shelf: &[Shelf], from: NodeId, span: &Span) -> Result<(), Memory>
+fn keep_chunk(
+    step: &mut Step,
+    shelf: &[Shelf],
+    from: NodeId,
+    place: &ChunkPlace,
+) -> Result<(), Memory>
     requires { IsShelf shelf.now }
-    ensures { OnOk result (step.new ≡ goes step.old (keeps_chunk step.old.plan shelf.now from span.now.line span.now.start span.now.end span.now.last)) }
+    ensures { OnOk result (step.new ≡ goes step.old (keeps_chunk step.old.plan shelf.now from place.now.line place.now.start place.now.end place.now.last)) }
 {
-    if adds(shelf, span) {
-        step.keep(span.start, adds_seal(span))?;
+    if adds(shelf, place) {
+        step.keep(place.start, adds_seal(place))?;
         let mode = step.position().mode;
-        ask_on(step, mode, from, shelf, &grown_line(span))
+        ask_on(step, mode, from, shelf, &grown_line(place))
     } else {
         step.ignore()
     }
 }
 
 /// A chunk came for this group.
-fn chunk_to(step: &mut Step, shelf: &[Shelf], from: NodeId, span: &Span) -> Result<(), Memory>
+fn chunk_to(
+    step: &mut Step,
+    shelf: &[Shelf],
+    from: NodeId,
+    place: &ChunkPlace,
+) -> Result<(), Memory>
     requires { IsShelf shelf.now }
-    ensures { OnOk result (step.new ≡ goes step.old (chunk_to step.old.plan shelf.now from span.now.line span.now.start span.now.end span.now.last)) }
+    ensures { OnOk result (step.new ≡ goes step.old (chunk_to step.old.plan shelf.now from place.now.line place.now.start place.now.end place.now.last)) }
 {
-    let line = &span.line;
-    if line.held < span.start {
+    let line = &place.line;
+    if line.held < place.start {
         step.answer(Answer::Gap)
-    } else if line.sealed && line.held < span.end {
+    } else if line.sealed && line.held < place.end {
         step.answer(Answer::Sealed)
     } else {
-        match limit(shelf, &line.group, span.end) {
+        match limit(shelf, &line.group, place.end) {
             Some(answer) => step.answer(answer),
-            None => keep_chunk(step, shelf, from, span),
+            None => keep_chunk(step, shelf, from, place),
         }
     }
 }
@@ -266,11 +276,11 @@ pub fn took_chunk(
     if step.id().0 == 1 {
         return step.ignore();
     }
-    let span = Span {
+    let place = ChunkPlace {
         line: line_at(shelf, chunk.group),
         start: chunk.start,
         end: chunk.start + chunk.bytes.len() as u64,
         last: chunk.last,
     };
-    chunk_to(step, shelf, from, &span)
+    chunk_to(step, shelf, from, &place)
 }

@@ -12,9 +12,7 @@ use crate::stand::Stand;
 use oc_base::{Child, ChildList, Memory, NodeId};
 use oc_model::{Body, Candidate, Review};
 use oc_place::{View, choose};
-use oc_state::modes::{
-    in_tree, is_descending, is_idle, is_joined_to, is_reviewing, parent_of, prefers,
-};
+use oc_state::modes::{in_tree, is_descending, is_idle, is_reviewing, parent_of, prefers};
 use oc_step::Step;
 
 // The rule Look: how a node finds a good place.
@@ -184,7 +182,7 @@ fn keep_line(step: &mut Step, from: NodeId, stand: &Stand) -> Result<(), Memory>
 fn is_review(step: &Step, from: NodeId) -> bool
     ensures { result ≡ is_joined_to step.now.plan.node.kept.mode from && is_reviewing step.now.plan.node.soft.search }
 {
-    is_joined_to(step.position().mode, from) && is_reviewing(step.volatile().search)
+    step.position().mode.is_joined_to(from) && is_reviewing(step.volatile().search)
 }
 
 /// A node tells its position.

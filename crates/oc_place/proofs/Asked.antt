@@ -1,8 +1,8 @@
 -- Who is asked for a place.
-use Rattle.std.proofs.Common.{◌≡◌, ◌≢◌, ℕ, zero, suc, ◌+◌, ◌<◌, ◌≤◌, ◌↔◌, Bool, true, false, ◌==◌, ◌||◌, nat_le, if◌then◌else◌, Option, Some, None, List, [], ◌∷◌, ◌++◌, ◌⊎◌, inl, inr, refl, ap, sym, subst, ◌∙◌, arith}
+use Rattle.std.proofs.Common.{◌≡◌, ◌≢◌, ℕ, zero, suc, ◌+◌, ◌<◌, ◌≤◌, ◌↔◌, Bool, true, false, ◌==◌, ◌||◌, nat_le, if◌then◌else◌, Option, Some, None, List, [], ◌∷◌, ◌++◌, ◌⊎◌, inl, inr, refl, ap, sym, subst, ◌∙◌, arith, option_to_list}
 use Rattle.std.proofs.lemmas.Bool.Decides.{nat_tests}
 use Rattle.std.specs.List.{range_with_len}
-use Rattle.oc_model.specs.Choice.{each_once, below, just, ask_order}
+use Rattle.oc_model.specs.Choice.{each_once, below, ask_order}
 use Rattle.oc_model.specs.Numbers.{has, IsAmong}
 use Rattle.oc_place.proofs.Causes.{at_or_behind}
 use Rattle.oc_place.proofs.Once.{is_past}
@@ -94,12 +94,12 @@ append_among (y ∷ xs) ys x (inl (inr h)) = inr (append_among xs ys x (inl h))
 append_among (y ∷ xs) ys x (inr h) = inr (append_among xs ys x (inr h))
 
 -- the test finds who is not left out
-pub free_out : (me x : ℕ) (without : Option ℕ) → has (me ∷ just without) x ≡ false → IsNotLeftOut me without x
+pub free_out : (me x : ℕ) (without : Option ℕ) → has (me ∷ option_to_list without) x ≡ false → IsNotLeftOut me without x
 free_out me x None h = (λ e. grind (arith, nat_tests), λ e. absurd cc)
 free_out me x (Some q) h = (λ e. grind (arith, nat_tests), λ e. (let same : q ≡ x = cc in grind (arith, nat_tests)))
 
 -- who is not left out passes the test
-pub out_free : (me x : ℕ) (without : Option ℕ) → IsNotLeftOut me without x → has (me ∷ just without) x ≡ false
+pub out_free : (me x : ℕ) (without : Option ℕ) → IsNotLeftOut me without x → has (me ∷ option_to_list without) x ≡ false
 out_free me x None h = let other = h.0 in grind (arith, nat_tests)
 out_free me x (Some q) h = let other = h.0 in let not_q : q ≢ x = λ e. h.1 (ap (λ (n : ℕ). Some n) e) in grind (arith, nat_tests)
 
@@ -125,11 +125,11 @@ list_may me chain ancestors x h = list_may_by me chain ancestors x (nat_le me ch
 
 -- each is asked once
 pub asked_once : (me chain : ℕ) (ancestors : List ℕ) (without : Option ℕ) → IsOnce (ask_order me chain ancestors without)
-asked_once me chain ancestors without = taken_once (me ∷ just without) (if nat_le me chain then below me else ancestors ++ range_with_len 1 chain)
+asked_once me chain ancestors without = taken_once (me ∷ option_to_list without) (if nat_le me chain then below me else ancestors ++ range_with_len 1 chain)
 
 -- who is asked
 pub asked_is : (me chain : ℕ) (ancestors : List ℕ) (without : Option ℕ) (x : ℕ) → IsAmong x (ask_order me chain ancestors without) ↔ (MayBeAsked me chain ancestors x × IsNotLeftOut me without x)
 asked_is me chain ancestors without x =
-    let out = me ∷ just without in
+    let out = me ∷ option_to_list without in
     let all = if nat_le me chain then below me else ancestors ++ range_with_len 1 chain in
     (λ h. (let o = once_among out all x h in (list_may me chain ancestors x o.0, free_out me x without o.1)), λ h. among_once out all x (may_list me chain ancestors x h.0) (out_free me x without h.1))

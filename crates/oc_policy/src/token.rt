@@ -9,7 +9,7 @@ use std::marker::Model;
 /// The greatest number of bytes of a token.
 pub const MAX_TOKEN_BYTES: usize = 200;
 
-/// What stands before the token in the value of an Authorization field (RFC 6750, section 2.1).
+/// What is before the token in the value of an Authorization field (RFC 6750, section 2.1).
 const SCHEME: &[u8] = b"Bearer ";
 
 /// A token that a request has to show: 1 to 200 bytes from 33 to 126. Contracts see the bytes.

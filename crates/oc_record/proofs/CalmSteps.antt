@@ -38,13 +38,13 @@ use Rattle.oc_model.specs.Records.{fold_one}
 use Rattle.oc_model.specs.Serving.{redirects, server_for, client_of, measured}
 use Rattle.oc_model.specs.Step.{received, plan}
 use Rattle.oc_model.specs.Table.{newest, is_news}
-use Rattle.oc_record.specs.Calm.{NoDescent, IsCalm}
+use Rattle.oc_record.specs.SeeksNoPlace.{NoDescent, SeeksNoPlace}
 use Rattle.oc_laws_step.proofs.Contents.{Stays, stays_published, stays_sealed_at, stays_fetched, stays_took_chunk}
 use Rattle.oc_laws_step.proofs.Goes.{either, either_by}
 use Rattle.oc_record.proofs.MovesAsking.{calm_write, calm_soft, calm_lost, calm_ask, calm_descend, calm_next_try, calm_round, calm_ask_before}
 
 abbrev Calm : Plan → Type 0
-Calm o = IsCalm o.node
+Calm o = SeeksNoPlace o.node
 
 calm_keep : (o : Plan) (r : Record) → (fold_one o.node.kept r).mode ≡ o.node.kept.mode → Calm o → Calm (write o r)
 calm_keep o r same calm = calm_write o r (λ e. sym same ∙ e) calm
@@ -320,7 +320,7 @@ calm_measured o p rate hops calm =
 -- Each step
 
 calm_same : (o q : Plan) → Stays o q → Calm o → Calm q
-calm_same o q h calm = subst IsCalm (sym h.node) calm
+calm_same o q h calm = subst SeeksNoPlace (sym h.node) calm
 
 calm_received : (o : Plan) (shelf : List Shelf) (p : ℕ) (b : Body) → Calm o → Calm (received o shelf p b)
 calm_received o shelf p bodies.Look calm = calm
@@ -334,7 +334,7 @@ calm_received o shelf p (bodies.Rejoin seq) calm = calm_took_rejoin o p seq calm
 calm_received o shelf p (bodies.Fetch have) calm = calm_same o (fetched o shelf p have) (stays_fetched o shelf p have) calm
 calm_received o shelf p (bodies.Chunk g start bytes last) calm = calm_same o (took_chunk o shelf p g start bytes last) (stays_took_chunk o shelf p g start bytes last) calm
 
-pub calm_planned : (n : Control) (shelf : List Shelf) (i : Input) → IsCalm n → IsCalm (plan n shelf i).node
+pub calm_planned : (n : Control) (shelf : List Shelf) (i : Input) → SeeksNoPlace n → SeeksNoPlace (plan n shelf i).node
 calm_planned n shelf (inputs.Tick t) calm = calm_tick (begun n) shelf t calm
 calm_planned n shelf inputs.CheckNow calm = calm_checks (begun n) calm
 calm_planned n shelf (inputs.Relocate p) calm = calm_relocate (begun n) p calm
@@ -348,5 +348,5 @@ calm_planned n shelf (inputs.Delivered m) calm = calm_received (begun n) shelf m
 
 -- Where it begins
 
-pub calm_started : (h : Header) (x : ℕ) (d : Durable) → 1 ≤ h.chain → IsCalm (started_with h x d)
+pub calm_started : (h : Header) (x : ℕ) (d : Durable) → 1 ≤ h.chain → SeeksNoPlace (started_with h x d)
 calm_started h x d line = record { line = line; member = λ e. tt; acting = λ e. tt }

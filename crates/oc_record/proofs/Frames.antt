@@ -29,7 +29,7 @@ use Rattle.oc_model.specs.NextWorld.{writes as writes_frame}
 use Rattle.oc_model.specs.Lawful.{IsInput}
 use Rattle.oc_model.specs.Records.{folded}
 use Rattle.oc_base.specs.Lawful.{IsNode}
-use Rattle.oc_record.specs.Calm.{NoDescent, IsCalm}
+use Rattle.oc_record.specs.SeeksNoPlace.{NoDescent, SeeksNoPlace}
 use Rattle.oc_record.specs.Quash.{IsQuashed}
 use Rattle.oc_laws_step.specs.Sound.{IsSoundAs, IsSound}
 use Rattle.oc_laws_step.proofs.Adopts.{goes_asked}
@@ -267,7 +267,7 @@ none_written n i none = by_parts (plan n.control (shelf n.groups) i).records (pl
   by_parts (r ∷ rs) at is keeps = let some : true ≡ false = sym (rw is) ∙ none in absurd cc
 
 -- a lawful input's, at a sound and calm node
-moved_at : (n : Node) (i : Input) → IsSound n.control → IsCalm n.control → ((p rate hops : ℕ) → i ≡ inputs.Measured p rate hops → IsNode n.control.nodes p)
+moved_at : (n : Node) (i : Input) → IsSound n.control → SeeksNoPlace n.control → ((p rate hops : ℕ) → i ≡ inputs.Measured p rate hops → IsNode n.control.nodes p)
     → Moved (Unit {0}) n.control.kept (plan n.control (shelf n.groups) i)
 moved_at n i sound calm fair =
     moves (Unit {0}) n.control (λ q p asking none. has_asked p asking none) (shelf n.groups) i
@@ -281,7 +281,7 @@ pub measured_fair : (nodes me : ℕ) (i : Input) → IsInput nodes me i → (p r
 measured_fair nodes me i fair p rate hops is = let here : IsInput nodes me (inputs.Measured p rate hops) = subst (IsInput nodes me) is fair in here.0
 
 -- so it writes exactly where something durable changes
-pub writes_exactly : (n : Node) (i : Input) → IsSound n.control → IsCalm n.control → ((p rate hops : ℕ) → i ≡ inputs.Measured p rate hops → IsNode n.control.nodes p) → (writes_frame n i ≡ true) ↔ (Unchanged n i → ⊥)
+pub writes_exactly : (n : Node) (i : Input) → IsSound n.control → SeeksNoPlace n.control → ((p rate hops : ℕ) → i ≡ inputs.Measured p rate hops → IsNode n.control.nodes p) → (writes_frame n i ≡ true) ↔ (Unchanged n i → ⊥)
 writes_exactly n i sound calm fair = (written, unwritten) where
   by_keeping : Keeping n i (plan n.control (shelf n.groups) i) → (plan n.control (shelf n.groups) i).records ≡ [] → writes_frame n i ≡ true → Unchanged n i → ⊥
   by_keeping (inl none) rs some same = let nothing : false ≡ true = sym (rw (rs, none)) ∙ some in absurd cc

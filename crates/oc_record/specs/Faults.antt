@@ -1,7 +1,8 @@
 -- The fault of a field as the fault of a record.
-use Rattle.std.specs.Prelude.{Result, Ok, Err}
+use Rattle.std.specs.Prelude.{Result}
 use Rattle.oc_base.specs.declared.field_fault.FieldFault.{FieldFault}
 use Rattle.oc_base.specs.declared.field_fault.FieldFault.TheVariants as fields
+use Rattle.oc_base.specs.Steps.{map_fault}
 use Rattle.oc_record.specs.declared.fault.RecordFault.{RecordFault}
 use Rattle.oc_record.specs.declared.fault.RecordFault.TheVariants.{Short, Value, Memory}
 
@@ -13,5 +14,4 @@ fault_of fields.Memory = Memory
 
 -- what was read, or such a fault
 abbrev pub of_field : {A : Type 0} → Result A FieldFault → Result A RecordFault
-of_field (Ok x) = Ok x
-of_field (Err fault) = Err (fault_of fault)
+of_field r = map_fault fault_of r

@@ -4,4 +4,4 @@ pub mod Rows
 pub mod Reading
 pub mod Examples
 pub mod Quash
-pub mod Calm
+pub mod SeeksNoPlace

@@ -15,7 +15,7 @@
 //! clauses. [`what_lawful_nodes_write_is_read`] is the law that the files of a node rest on: each frame
 //! that a lawful input makes is read as the records that the step wrote, and it is no longer than a frame
 //! may be. [`a_frame_means_a_change`] says that a step writes exactly where something durable changes;
-//! [`members_and_roots_stay_calm`] has what it needs of a node besides soundness. And
+//! [`members_and_roots_seek_no_place`] has what it needs of a node besides soundness. And
 //! [`what_is_no_news_goes_no_further`] says what the change log of a joined node takes.
 #![tactic(auto)]
 
@@ -29,7 +29,7 @@ mod law;
 mod quash;
 mod written;
 
-pub use changes::{a_frame_means_a_change, members_and_roots_stay_calm};
+pub use changes::{a_frame_means_a_change, members_and_roots_seek_no_place};
 pub use codes::CODES;
 pub use decoding::decode;
 pub use encoding::encode;

@@ -9,7 +9,8 @@ use Rattle.oc_base.specs.Groups.{shelf, shelf_of}
 use Rattle.oc_base.specs.declared.shelf.Shelf.{Shelf}
 use Rattle.oc_model.specs.World.{World, Process, node, process_in}
 use Rattle.oc_model.specs.WorldBounds.{AreWithinLimits, IsShort, IsWithinLimits}
-use Rattle.oc_replay.specs.Summary.{FitsWith, bytes_in, one_if, plus, tally_at, tally_over}
+use Rattle.oc_base.specs.Shelves.{held_in_all}
+use Rattle.oc_replay.specs.Summary.{FitsWith, one_if, plus, tally_at, tally_over}
 use Rattle.oc_replay.specs.declared.summing.Tally.{Tally}
 
 -- the numbers from i to n, the first of them apart
@@ -34,7 +35,7 @@ one_at_most true = omega arith
 one_at_most false = omega arith
 
 -- short groups hold no more than their number allows
-short_bytes : (ks : List Group) → AllByRecursion IsShort ks → bytes_in (shelf ks) ≤ length ks * MAX_GROUP_BYTES
+short_bytes : (ks : List Group) → AllByRecursion IsShort ks → held_in_all (shelf ks) ≤ length ks * MAX_GROUP_BYTES
 short_bytes [] all = omega arith
 short_bytes (k ∷ ks) all = omega (arith, sum_by-cons (λ (line : Shelf). line.held) (shelf_of k) (shelf ks), all.0, short_bytes ks all.1)
 
@@ -43,7 +44,7 @@ abbrev pub MOST_HELD : ℕ
 MOST_HELD = 70368744177664
 
 -- groups within the limits hold no more
-pub within_bytes : (ks : List Group) → AreWithinLimits ks → bytes_in (shelf ks) ≤ MOST_HELD
+pub within_bytes : (ks : List Group) → AreWithinLimits ks → held_in_all (shelf ks) ≤ MOST_HELD
 within_bytes ks within = omega (arith, within.1, short_bytes ks within.2)
 
 -- each node of a world within the limits is, whatever its id

@@ -1,7 +1,7 @@
 use Rattle.std.specs.Prelude.{ℕ, ◌+◌, ◌^◌, ◌<◌, Bool, ◌&&◌, if◌then◌else◌, List, ◌++◌, length, codes, decimal}
 use Rattle.std.specs.List.{sum_by}
-use Rattle.oc_base.specs.declared.shelf.Shelf.{Shelf}
 use Rattle.oc_base.specs.Groups.{shelf}
+use Rattle.oc_base.specs.Shelves.{held_in_all}
 use Rattle.oc_model.specs.declared.event.Event.{Event}
 use Rattle.oc_model.specs.Adopting.{is_acting}
 use Rattle.oc_model.specs.NextWorld.{world_after}
@@ -14,17 +14,13 @@ use Rattle.oc_replay.specs.declared.summing.Tally.{Tally}
 abbrev pub one_if : Bool → ℕ
 one_if is_so = if is_so then 1 else 0
 
--- the bytes that are held of these groups
-abbrev pub bytes_in : List Shelf → ℕ
-bytes_in lines = sum_by (λ line. line.held) lines
-
 -- what is counted of one node: whether it is up, and then joined, or acting as root, and the bytes that it holds
 abbrev pub tally_at : World → ℕ → Tally
 tally_at w x = record {
   up = one_if (is_up w x);
   joined = one_if (is_up w x && is_joined (mode_of w x));
   acting = one_if (is_up w x && is_acting (mode_of w x));
-  bytes = bytes_in (shelf (node w x).groups);
+  bytes = held_in_all (shelf (node w x).groups);
 }
 
 -- the same for some nodes together

@@ -1,6 +1,6 @@
 //! A run of events on a stage, reported by a summary of its last world.
 
-ghost use Rattle.std.specs.Prelude.{◌≡◌, ◌+◌, ◌^◌, ◌<◌, ◌≤◌, [], ◌++◌, length, OnOk, IfOk, IsErrOf};
+ghost use Rattle.std.specs.Prelude.{◌≡◌, ◌+◌, ◌<◌, ◌≤◌, [], ◌++◌, length, OnOk, IfOk, IsErrOf};
 ghost use Rattle.std.specs.List.{range_with_len};
 ghost use Rattle.oc_base.specs.Lawful.{IsNode};
 ghost use Rattle.oc_base.specs.declared.limits.TheConstants.{MAX_NODES};
@@ -10,12 +10,12 @@ ghost use Rattle.oc_model.specs.WorldBounds.{IsWithinLimits};
 ghost use Rattle.oc_io.specs.Faults.{NoFall, Rose};
 ghost use Rattle.oc_replay.specs.Opening.{IsOpening};
 ghost use Rattle.oc_replay.specs.Pieces.{SomeFront};
-ghost use Rattle.oc_replay.specs.Summary.{FitsWith, bytes_in, count_line, one_if, plus, run_summary, summary_of_tally, summary_text, tally_at, tally_over};
+ghost use Rattle.oc_replay.specs.Summary.{FitsWith, count_line, one_if, plus, run_summary, summary_of_tally, summary_text, tally_at, tally_over};
 
 use crate::Stage;
 use crate::fault::ReportFault;
 use crate::playing::play;
-use oc_base::{Memory, NodeId, Shelf, put, put_with_number};
+use oc_base::{Memory, NodeId, held_in_all, put, put_with_number};
 use oc_io::{Sink, write_all};
 use oc_schedule::EventList;
 use std::alloc::Global;
@@ -134,7 +134,7 @@ fn tally_at<T: Stage>(stage: &T, node: NodeId) -> Result<Tally, Memory>
         up: one_if(status.up),
         joined: one_if(status.up && status.mode.is_joined()),
         acting: one_if(status.up && status.mode.is_acting()),
-        bytes: bytes_in(&held),
+        bytes: held_in_all(&held),
     })
 }
 
@@ -143,18 +143,6 @@ fn one_if(is_so: bool) -> u64
     ensures { result ≡ one_if is_so }
 {
     if is_so { 1 } else { 0 }
-}
-
-/// The bytes that are held of these groups.
-fn bytes_in(lines: &[Shelf]) -> u64
-    requires { bytes_in lines.now < 2 ^ 64 }
-    ensures { result ≡ bytes_in lines.now }
-{
-    let mut bytes = 0;
-    for line in lines {
-        bytes += line.held;
-    }
-    bytes
 }
 
 /// Puts the six lines.

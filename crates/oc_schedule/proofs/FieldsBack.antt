@@ -1,5 +1,5 @@
 -- Numbers, names and bytes are written as words, and read back.
-use Rattle.std.proofs.Common.{◌≡◌, ℕ, zero, suc, ◌+◌, ◌*◌, ◌^◌, ◌<◌, ◌≤◌, Bool, true, false, cond, ltb, not, ◌&&◌, ◌||◌, ◌==◌, nat_lt, nat_le, Option, Some, None, Ok, Err, List, [], ◌∷◌, length, refl, ap, ◌∙◌, arith, rules, codes, decimal, ◌⊎◌, inl, inr}
+use Rattle.std.proofs.Common.{◌≡◌, ℕ, zero, suc, ◌+◌, ◌*◌, ◌^◌, ◌<◌, ◌≤◌, Bool, true, false, cond, ltb, not, ◌&&◌, ◌||◌, ◌==◌, nat_lt, nat_le, Option, Some, None, Ok, Err, List, [], ◌∷◌, length, refl, ap, ◌∙◌, arith, codes, decimal, ◌⊎◌, inl, inr}
 use Rattle.std.specs.Prelude.{slice_index}
 use Rattle.std.specs.Char.{is_ascii_digit}
 use Rattle.std.specs.List.{list_all, position, position_or_len}
@@ -9,7 +9,6 @@ use Rattle.std.proofs.lemmas.Bool.{and_parts}
 use Rattle.std.proofs.lemmas.Bool.Decides.{nat_tests}
 use Rattle.std.proofs.lemmas.Fmt.{decimal_digit, decimal_nonempty, decimal_is_IsNumeral, digits_decimal, first_decimal}
 use Rattle.std.proofs.lemmas.List.Sums.{list_all-from_AllPass}
-use Rattle.std.proofs.lemmas.Str.Parse.{IsNumeralModel, numerals_by_value}
 use Rattle.hex.proofs.HexLemmas.{decode_of-encode_lower, decode_of-ok}
 use Rattle.hex.specs.Hex.{decode_of, encode_lower, is_hex_digit, IsBytes}
 use Rattle.oc_base.specs.Names.{IsGroupName, fault_at, is_name_byte, is_path, name_or}
@@ -17,6 +16,7 @@ use Rattle.oc_base.specs.Steps.{with_fault}
 use Rattle.oc_base.specs.Words.{is_number, number_in}
 use Rattle.oc_base.specs.declared.group_name.NameFault.TheVariants.{Length}
 use Rattle.oc_base.specs.declared.why.Why.TheVariants as causes
+use Rattle.oc_base.proofs.Numerals.{numerals}
 use Rattle.oc_schedule.proofs.LineBack.{is_word}
 use Rattle.oc_schedule.specs.Fields.{bytes_in, bytes_text, group_in}
 
@@ -38,12 +38,6 @@ and_false true = refl
 and_false false = refl
 
 -- Numbers
-
-abbrev AreDigits : List ℕ → Type 0
-AreDigits field = list_all is_ascii_digit field ≡ true
-
-numerals : IsNumeralModel AreDigits (digits_value 10)
-numerals = numerals_by_value AreDigits (search rules)
 
 digit_above : (b : ℕ) → is_ascii_digit b ≡ true → nat_lt 32 b ≡ true
 digit_above b h = grind (arith, nat_tests)

@@ -3,14 +3,14 @@ use Rattle.oc_schedule.specs.declared.fault.LineFault.{LineFault}
 use Rattle.oc_schedule.specs.declared.fault.LineFault.TheVariants as lines
 use Rattle.oc_schedule.specs.declared.fault.ScheduleFault.{ScheduleFault}
 use Rattle.oc_schedule.specs.declared.fault.ScheduleFault.TheVariants.{Line, Limit, Memory}
+use Rattle.oc_base.specs.Steps.{map_fault}
 use Rattle.oc_base.specs.declared.why.Why.{Why}
 
 -- How reading is said: a function on lists gives a value or the first fault, and a call gives what it gives.
 
 -- a cause, at this line
 abbrev pub at_line : {A : Type 0} → ℕ → Result A Why → Result A ScheduleFault
-at_line i (Ok x) = Ok x
-at_line i (Err why) = Err (Line i why)
+at_line i r = map_fault (λ why. Line i why) r
 
 -- what a call gave, seen by view, is what reading says, unless memory ran out
 abbrev pub GivesBy : {X A : Type 0} → (X → A) → Result X ScheduleFault → Result A ScheduleFault → Type 0

@@ -28,8 +28,8 @@ mod law;
 mod lines;
 mod listed_event;
 mod printing;
-mod reading;
 mod schedule;
+mod schedule_text;
 mod texts;
 
 pub use act_lines::{put_act_line, put_recv_line};
@@ -39,6 +39,6 @@ pub use generating::{MAX_GENERATED_EVENTS, generate};
 pub use law::{examples_are_read, generated_schedules_are_lawful};
 pub use listed_event::ListedEvent;
 pub use printing::print;
-pub use reading::read;
 pub use schedule::Schedule;
+pub use schedule_text::read;
 pub use texts::put_bytes;

@@ -1,6 +1,7 @@
 -- Lines of a shelf, one after another.
 use Rattle.std.proofs.Common.{◌≡◌, ℕ, zero, suc, ◌+◌, ◌-◌, ◌*◌, ◌^◌, ◌<◌, ◌≤◌, Bool, true, false, if◌then◌else◌, Option, Some, None, List, [], ◌∷◌, ◌++◌, length, drop, take, get_or, set, refl, ap, sym, ◌∙◌, arith, length-drop}
 use Rattle.std.proofs.lemmas.List.{take_all}
+use Rattle.std.proofs.lemmas.List.Sums.{sum_by-cons}
 use Rattle.std.specs.Prelude.{insert}
 use Rattle.std.specs.declared.cmp.Ordering.{Ordering}
 use Rattle.std.specs.declared.cmp.Ordering.TheVariants.{Less, Equal, Greater}
@@ -9,9 +10,9 @@ use Rattle.std.specs.Cmp.Lexicographic.{slice_cmp}
 use Rattle.oc_base.specs.declared.limits.TheConstants.{MAX_GROUP_BYTES}
 use Rattle.oc_base.specs.declared.shelf.Shelf.{Shelf}
 use Rattle.oc_base.specs.Named.{same_name, AreAscending, IsFoundAt, IsFreeAt}
-use Rattle.oc_base.specs.Shelves.{line_of, IsShelf, AreLines}
+use Rattle.oc_base.specs.Shelves.{line_of, IsShelf, AreLines, held_in_all}
 use Rattle.oc_base.proofs.NameOrder.{same_name-itself}
-use Rattle.oc_model.specs.Shelves.{line_at, with_line, is_behind, first_behind, held_in_all, turn, from_place, next_behind}
+use Rattle.oc_model.specs.Shelves.{line_at, with_line, is_behind, first_behind, turn, from_place, next_behind}
 use Rattle.oc_state.proofs.Lists.{drop_at}
 
 -- Looking for a line
@@ -94,17 +95,11 @@ held_bound g ls is = bound_in g ls is.0 where
 -- it is no more than all lines may hold
 held_few : (ls : List Shelf) → AreLines ls → held_in_all ls ≤ length ls * MAX_GROUP_BYTES
 held_few [] are = omega arith
-held_few (l ∷ ls) are = let rest : held_in_all ls ≤ length ls * MAX_GROUP_BYTES = held_few ls are.2 in omega (arith, are.0.1, rest)
-
--- one line more
-pub held_goes_on : (ls : List Shelf) (i held whole : ℕ) (l : Shelf) → i < length ls → l ≡ get_or ls i l → held + held_in_all (drop i ls) ≡ whole → (held + l.held) + held_in_all (drop (i + 1) ls) ≡ whole
-held_goes_on ls i held whole l within e so =
-    let here : held_in_all (drop i ls) ≡ l.held + held_in_all (drop (i + 1) ls) = ap held_in_all (drop_at ls i l within e) in
-    omega (arith, here, so)
+held_few (l ∷ ls) are = let rest : held_in_all ls ≤ length ls * MAX_GROUP_BYTES = held_few ls are.2 in omega (arith, sum_by-cons (λ (k : Shelf). k.held) l ls, are.0.1, rest)
 
 -- and it fits a number of 64 bits
-pub held_fits : (ls : List Shelf) (i held : ℕ) (l : Shelf) → IsShelf ls → i < length ls → l ≡ get_or ls i l → held + held_in_all (drop i ls) ≡ held_in_all ls → held + l.held < 2 ^ 64
-held_fits ls i held l is within e so = omega (arith, held_goes_on ls i held (held_in_all ls) l within e so, held_few ls is.0, is.1)
+pub held_short : (ls : List Shelf) → IsShelf ls → held_in_all ls < 2 ^ 64
+held_short ls is = omega (arith, held_few ls is.0, is.1)
 
 -- Whose turn it is
 

@@ -2,7 +2,6 @@ pub mod DurableView
 pub mod Snapshots
 pub mod Position
 pub mod Volatile
-pub mod Tries
 pub mod Modes
 pub mod Children
 pub mod ListUpdates

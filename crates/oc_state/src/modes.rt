@@ -1,7 +1,7 @@
 ghost use Rattle.std.specs.Prelude.{◌≡◌};
-ghost use Rattle.oc_model.specs.Adopting.{in_tree, is_acting};
+ghost use Rattle.oc_model.specs.Adopting.{in_tree};
 ghost use Rattle.oc_model.specs.Asking.{is_asking};
-ghost use Rattle.oc_model.specs.Checking.{is_joined_to, is_peer};
+ghost use Rattle.oc_model.specs.Checking.{is_peer};
 ghost use Rattle.oc_model.specs.Looking.{parent_of, prefers};
 ghost use Rattle.oc_state.specs.Modes.{is_idle, is_descending, is_reviewing};
 
@@ -15,12 +15,6 @@ pub fn in_tree(mode: Mode) -> bool
     ensures { result ≡ in_tree mode }
 {
     matches!(mode, Mode::Joined(_) | Mode::Acting)
-}
-
-pub fn is_acting(mode: Mode) -> bool
-    ensures { result ≡ is_acting mode }
-{
-    matches!(mode, Mode::Acting)
 }
 
 pub fn is_idle(mode: Mode) -> bool
@@ -45,16 +39,6 @@ pub fn is_asking(mode: Mode, peer: NodeId) -> bool
 {
     match mode {
         Mode::Asking(asked) => asked == peer,
-        _ => false,
-    }
-}
-
-/// Whether `peer` is the parent of a node of this mode.
-pub fn is_joined_to(mode: Mode, peer: NodeId) -> bool
-    ensures { result ≡ is_joined_to mode peer }
-{
-    match mode {
-        Mode::Joined(parent) => parent == peer,
         _ => false,
     }
 }

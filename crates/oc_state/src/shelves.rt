@@ -1,9 +1,11 @@
 ghost use Rattle.std.specs.Prelude.{◌≡◌, ◌<◌, ◌≤◌, length, set, insert, IfOk};
 ghost use Rattle.oc_base.specs.Named.{same_name};
 ghost use Rattle.oc_base.specs.Shelves.{line_of, IsShelf};
-ghost use Rattle.oc_model.specs.Shelves.{line_at, with_line, limit, is_behind, first_behind, held_in_all, turn, next_behind};
+ghost use Rattle.oc_model.specs.Shelves.{line_at, with_line, limit, is_behind, first_behind, turn, next_behind};
 
-use oc_base::{GroupName, Lookup, MAX_GROUP_BYTES, MAX_GROUPS, Memory, Shelf, look_up};
+use oc_base::{
+    GroupName, Lookup, MAX_GROUP_BYTES, MAX_GROUPS, Memory, Shelf, held_in_all, look_up,
+};
 use oc_model::Answer;
 use std::alloc::Global;
 
@@ -122,20 +124,8 @@ fn first_behind(have: &[Shelf], shelf: &[Shelf]) -> Option<Shelf>
     None
 }
 
-/// All that is held, in bytes.
-#[tactic(auto, using(crate::proofs::ShelfLines::held_goes_on))]
-fn held_in_all(shelf: &[Shelf]) -> u64
-    requires { IsShelf shelf.now }
-    ensures { result ≡ held_in_all shelf.now }
-{
-    let mut held = 0;
-    for line in shelf {
-        held += line.held;
-    }
-    held
-}
-
 /// The place of the line whose turn it is, after chunks of this size: with each that came, the next one's.
+#[tactic(auto, using(crate::proofs::ShelfLines::held_short))]
 fn turn(have: &[Shelf], shelf: &[Shelf], chunk: u64) -> usize
     requires have { IsShelf have.now }
     requires chunk { 1 ≤ chunk }

@@ -1,5 +1,5 @@
 ghost use Rattle.std.specs.Prelude.{◌≡◌, ◌+◌, ◌<◌, ◌^◌, [], drop, unwrap_or, IfSome};
-ghost use Rattle.oc_state.specs.Tries.{first_of};
+ghost use Rattle.oc_model.specs.Numbers.{first_of};
 
 use oc_base::{IdList, NodeId};
 use std::alloc::Global;

@@ -6,6 +6,6 @@ use Rattle.std.specs.List.{list_all}
 abbrev pub is_plain : ℕ → Bool
 is_plain b = nat_lt 32 b && nat_lt b 127 && not (b == 34) && not (b == 92)
 
--- a text that stands in quotes as it is
+-- a text that needs no escapes in quotes
 abbrev pub IsPlain : List ℕ → Type 0
 IsPlain text = list_all is_plain text ≡ true

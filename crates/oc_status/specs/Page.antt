@@ -2,6 +2,6 @@
 use Rattle.std.specs.Prelude.{ℕ, List}
 use Rattle.oc_status.specs.declared.html.TheConstants.{PAGE}
 
--- the text that stands in this crate; nothing is said of what it draws
+-- the text of this crate; nothing is said of what it draws
 unfoldable pub page_text : List ℕ
 page_text = PAGE.now

@@ -6,7 +6,7 @@
 //! are the formats: who reads them needs nothing else. No byte of a group's name has to be escaped in either
 //! ([`names_are_plain`]), and the worked examples compute ([`examples_are_told`]).
 //!
-//! [`page`] is a text that stands in this crate and nothing more: no contract speaks of what it draws.
+//! [`page`] is a text of this crate and nothing more: no contract speaks of what it draws.
 #![tactic(auto)]
 
 mod arrays;

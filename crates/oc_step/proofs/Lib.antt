@@ -1,4 +1,4 @@
-pub mod Told
+pub mod Folded
 pub mod NextCerts
 pub mod Steps
 pub mod Rooms

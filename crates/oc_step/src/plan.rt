@@ -5,7 +5,7 @@ ghost use Rattle.oc_model.specs.Node.{Node};
 ghost use Rattle.oc_model.specs.Step.{bytes_wanted, fill};
 ghost use Rattle.oc_step.specs.Applying.{IsPlanOf, IsStepOf};
 ghost use Rattle.oc_step.specs.Planned.{empty_plan, IsWanting, filled_with};
-ghost use Rattle.oc_state.specs.Tries.{first_of};
+ghost use Rattle.oc_model.specs.Numbers.{first_of};
 
 use oc_base::{Bytes, IdList, Memory, NodeId};
 use oc_model::{Answer, Body, Message, Record, Want};

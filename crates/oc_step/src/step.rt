@@ -19,7 +19,7 @@ ghost use Rattle.oc_step.specs.Planned.{planned};
 ghost use Rattle.oc_step.specs.Since.{AreTold};
 ghost use Rattle.oc_state.specs.Position.{position_of};
 ghost use Rattle.oc_state.specs.ListUpdates.{IsListUpdate};
-ghost use Rattle.oc_state.specs.Tries.{first_of};
+ghost use Rattle.oc_model.specs.Numbers.{first_of};
 ghost use Rattle.oc_state.specs.Volatile.{soft_of, volatile_of};
 
 use crate::before::Before;
@@ -128,7 +128,7 @@ impl<'a> Step<'a> {
     }
 
     /// The nodes above, nearest first.
-    #[tactic(auto, using(crate::proofs::Told::ancestors_folded))]
+    #[tactic(auto, using(crate::proofs::Folded::ancestors_folded))]
     pub fn ancestors(&self) -> &[NodeId]
         ensures { result.now ≡ self.now.plan.node.kept.ancestors }
     {
@@ -143,7 +143,7 @@ impl<'a> Step<'a> {
     }
 
     /// The table's entry of a node.
-    #[tactic(auto, using(crate::proofs::Told::entry_folded))]
+    #[tactic(auto, using(crate::proofs::Folded::entry_folded))]
     pub fn entry(&self, subject: NodeId) -> Option<Cert>
         ensures entry { result ≡ newest self.now.plan.node.kept.table subject }
         ensures fits { IfSome result (λ entry. entry.subject ≡ subject) }
@@ -179,7 +179,7 @@ impl<'a> Step<'a> {
     }
 
     /// What was measured of a peer: bytes per second, and hops.
-    #[tactic(auto, using(crate::proofs::Told::measures_told))]
+    #[tactic(auto, using(crate::proofs::Folded::measures_told))]
     pub fn reading(&self, peer: NodeId) -> (u64, u8)
         requires { AreTold self.now.plan.records }
         ensures rate { result.0 ≡ (reading_of self.now.plan.node.kept.measures peer).rate }
@@ -219,7 +219,7 @@ impl<'a> Step<'a> {
     }
 
     /// How many certificates of the log are acknowledged.
-    #[tactic(auto, using(crate::proofs::Told::acked_told))]
+    #[tactic(auto, using(crate::proofs::Folded::acked_told))]
     pub fn acked(&self) -> u64
         requires { AreTold self.now.plan.records }
         ensures acked { result ≡ self.now.plan.node.kept.log.acked }

@@ -1,5 +1,5 @@
 -- Which of two files is current after a frame is appended, and after the other file is replaced.
-use Rattle.std.proofs.Common.{◌≡◌, ◌⊎◌, inl, inr, ℕ, ◌<◌, Bool, true, false, List, [], ◌∷◌, ◌++◌, refl, sym, ◌∙◌, ap, arith, if◌then◌else◌}
+use Rattle.std.proofs.Common.{◌≡◌, ◌⊎◌, inl, inr, ℕ, ◌<◌, Bool, true, false, List, [], ◌∷◌, ◌++◌, refl, sym, ◌∙◌, ap, arith, if◌then◌else◌, unwrap_or}
 use Rattle.std.proofs.lemmas.Bool.{lt-ltb, le-ltb}
 use Rattle.oc_io.specs.DiskView.{DiskView, LeavesOnly, IsConsistent}
 use Rattle.oc_journal.specs.JournalFile.{frames_of, IsBeforeOrAfter}
@@ -8,7 +8,7 @@ use Rattle.oc_journal.specs.Stopped.{frames_after}
 use Rattle.oc_base.specs.Stops.{is_kept_new}
 use Rattle.oc_store.specs.declared.errors.Side.{Side}
 use Rattle.oc_store.specs.declared.errors.Side.TheVariants.{First, Second}
-use Rattle.oc_store.specs.ControlFiles.{generation_in, generation_of, number_of, current_side, at_side, current_frames, recovered_frames}
+use Rattle.oc_store.specs.ControlFiles.{generation_in, generation_of, current_side, at_side, current_frames, recovered_frames}
 use Rattle.oc_store.specs.Sides.{opposite}
 use Rattle.oc_store.specs.Turning.{IsReplaced}
 
@@ -31,7 +31,7 @@ current_alone Second [] other h = absurd cc
 current_alone Second (x ∷ frames) other h = refl
 
 -- a file of a greater generation is current beside it
-pub current_other : (side : Side) (frames : List (List ℕ)) (body : List ℕ) → number_of (generation_of frames) < generation_in body → IsCurrent (opposite side) (body ∷ []) frames
+pub current_other : (side : Side) (frames : List (List ℕ)) (body : List ℕ) → unwrap_or (generation_of frames) 0 < generation_in body → IsCurrent (opposite side) (body ∷ []) frames
 current_other First [] body lt = refl
 current_other First (x ∷ frames) body lt = rw (lt-ltb (generation_in x) (generation_in body) lt) refl
 current_other Second [] body lt = refl
@@ -54,7 +54,7 @@ commit_recovers side x y frames other body h (inl e) f = inl (recovered_current 
 commit_recovers side x y frames other body h (inr e) f = inr (recovered_current side x y (frames ++ body ∷ []) other e f (current_more side frames other body h))
 
 -- the images of the other file that is replaced
-pub turn_recovers : (side : Side) (x y : List ℕ) (frames other : List (List ℕ)) (body : List ℕ) → IsCurrent side frames other → number_of (generation_of frames) < generation_in body → frames_of x ≡ frames → IsReplaced other body y
+pub turn_recovers : (side : Side) (x y : List ℕ) (frames other : List (List ℕ)) (body : List ℕ) → IsCurrent side frames other → unwrap_or (generation_of frames) 0 < generation_in body → frames_of x ≡ frames → IsReplaced other body y
     → (recovered_frames (at_side side x y) (at_side side y x) ≡ frames) ⊎ (recovered_frames (at_side side x y) (at_side side y x) ≡ body ∷ [])
 turn_recovers side x y frames other body h lt e (inl f) = inl (recovered_current side x y frames other e f h)
 turn_recovers side x y frames other body h lt e (inr (inl f)) = inl (recovered_current side x y frames [] e f (current_alone side frames other h))
@@ -79,7 +79,7 @@ commit_moments view Second c c2 o frames other body law kept h run a b left left
 
 -- at every moment of a turning over that failed
 pub failed_moments : {D : Type 0} (view : D → DiskView) (side : Side) (c o o2 : D) (frames other : List (List ℕ)) (body : List ℕ) → IsConsistent (view c) → HasFrames (view c) frames → IsCurrent side frames other
-    → number_of (generation_of frames) < generation_in body → LeavesOnly (view o) (view o2) (IsReplaced other body)
+    → unwrap_or (generation_of frames) 0 < generation_in body → LeavesOnly (view o) (view o2) (IsReplaced other body)
     → (a b : List ℕ) → (view (at_side side c o2)).since (view (at_side side c o)).moment a → (view (at_side side o2 c)).since (view (at_side side o c)).moment b
     → (recovered_frames a b ≡ frames) ⊎ (recovered_frames a b ≡ body ∷ [])
 failed_moments view First c o o2 frames other body law kept h above run a b left left_b = turn_recovers First a b frames other body h above (kept a (law.only_now a left)) (run.each b left_b)
@@ -87,7 +87,7 @@ failed_moments view Second c o o2 frames other body law kept h above run a b lef
 
 -- at every moment of one that went well
 pub turn_moments : {D : Type 0} (view : D → DiskView) (side : Side) (c o o2 : D) (frames other : List (List ℕ)) (body : List ℕ) → IsConsistent (view c) → HasFrames (view c) frames → IsCurrent side frames other
-    → number_of (generation_of frames) < generation_in body → LeavesOnly (view o) (view o2) (IsReplaced other body)
+    → unwrap_or (generation_of frames) 0 < generation_in body → LeavesOnly (view o) (view o2) (IsReplaced other body)
     → (a b : List ℕ) → (view (at_side (opposite side) o2 c)).since (view (at_side side c o)).moment a → (view (at_side (opposite side) c o2)).since (view (at_side side o c)).moment b
     → (recovered_frames a b ≡ frames) ⊎ (recovered_frames a b ≡ body ∷ [])
 turn_moments view First c o o2 frames other body law kept h above run a b left left_b = failed_moments view First c o o2 frames other body law kept h above run a b left left_b

@@ -27,11 +27,6 @@ abbrev pub generation_of : List (List ℕ) → Option ℕ
 generation_of [] = None
 generation_of (body ∷ bodies) = Some (generation_in body)
 
--- that number, 0 where there is no frame
-abbrev pub number_of : Option ℕ → ℕ
-number_of None = 0
-number_of (Some generation) = generation
-
 -- the file of the greater generation is current among two files of these frames, and the first at a tie
 abbrev pub current_side : List (List ℕ) → List (List ℕ) → Side
 current_side a b = if is_below (generation_of a) (generation_of b) then Second else First

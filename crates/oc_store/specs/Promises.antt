@@ -1,5 +1,5 @@
 -- What the calls of a store promise.
-use Rattle.std.specs.Prelude.{◌≡◌, ◌⊎◌, ℕ, ◌+◌, ◌<◌, ◌≤◌, false, true, IsTrue, List, [], ◌∷◌, ◌++◌, length}
+use Rattle.std.specs.Prelude.{◌≡◌, ◌⊎◌, ℕ, ◌+◌, ◌<◌, ◌≤◌, false, true, IsTrue, List, [], ◌∷◌, ◌++◌, length, unwrap_or}
 use Rattle.oc_io.specs.DiskView.{DiskView, Takes, Fails, FailsToRead, HasNoFault}
 use Rattle.oc_journal.specs.JournalFile.{frames_of, IsNoJournal}
 use Rattle.oc_journal.specs.Promises.{LoadsSafely, OnlyReads, NoneFailed, Appends, ClosesByAppend}
@@ -10,7 +10,7 @@ use Rattle.oc_store.specs.declared.errors.SideError.{SideError}
 use Rattle.oc_store.specs.declared.errors.SideError.TheVariants as sides
 use Rattle.oc_store.specs.declared.errors.StoreError.{StoreError}
 use Rattle.oc_store.specs.declared.errors.StoreError.TheVariants as stores
-use Rattle.oc_store.specs.ControlFiles.{generation_in, generation_of, number_of, current_side, recovered_frames, recovered, IsGood, IsBadAt}
+use Rattle.oc_store.specs.ControlFiles.{generation_in, generation_of, current_side, recovered_frames, recovered, IsGood, IsBadAt}
 use Rattle.oc_store.specs.Sides.{opposite}
 use Rattle.oc_store.specs.StoreView.{StoreView, first_disk, second_disk, AreGood, AreHonest, Recovers, RecoversEither}
 
@@ -48,7 +48,7 @@ pub record IsStoreOf {D : Type 0} (view : D → DiskView) (nodes : ℕ) (first s
   pub frames : IsTrue (view first).honest → IsTrue (view second).honest → store.current.frames ≡ recovered_frames (view first).seen (view second).seen
   pub side : IsTrue (view first).honest → IsTrue (view second).honest → store.side ≡ current_side (frames_of (view first).seen) (frames_of (view second).seen)
   pub generation : IsTrue (view first).honest → IsTrue (view second).honest
-      → store.generation ≡ number_of (generation_of (recovered_frames (view first).seen (view second).seen))
+      → store.generation ≡ unwrap_or (generation_of (recovered_frames (view first).seen (view second).seen)) 0
   pub kept : IsTrue (view first).honest → IsTrue (view second).honest → Recovers view store (recovered_frames (view first).seen (view second).seen)
   pub good : IsTrue (view first).honest → IsTrue (view second).honest → AreGood nodes store
   pub good_first : HasGood nodes (view first)

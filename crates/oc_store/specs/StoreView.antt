@@ -1,11 +1,11 @@
 -- A store of control records, as a contract sees it.
-use Rattle.std.specs.Prelude.{◌≡◌, ◌⊎◌, ℕ, ◌^◌, ◌<◌, Bool, false, IsTrue, None, List, [], ◌∷◌}
+use Rattle.std.specs.Prelude.{◌≡◌, ◌⊎◌, ℕ, ◌^◌, ◌<◌, Bool, false, IsTrue, None, List, [], ◌∷◌, unwrap_or}
 use Rattle.oc_io.specs.DiskView.{DiskView}
 use Rattle.oc_journal.specs.JournalView.{JournalView, HasFrames, HoldsJournal}
 use Rattle.oc_model.specs.declared.record.Record.{Record}
 use Rattle.oc_model.specs.declared.record.Record.TheVariants.{Snapshot}
 use Rattle.oc_store.specs.declared.errors.Side.{Side}
-use Rattle.oc_store.specs.ControlFiles.{generation_of, number_of, current_side, at_side, recovered_frames, first_bad}
+use Rattle.oc_store.specs.ControlFiles.{generation_of, current_side, at_side, recovered_frames, first_bad}
 
 -- the current file and the other one, which side the current one is, its generation, and whether a disk failed
 pub record StoreView (D : Type 0) : Type 0 where
@@ -55,7 +55,7 @@ pub record IsStore {D : Type 0} (view : D → DiskView) (current other : Journal
   pub kept_other : closed ≡ false → IsTrue (view other.disk).honest → HasFrames (view other.disk) other.frames
   pub ordered : closed ≡ false → IsTrue (view current.disk).honest → IsTrue (view other.disk).honest
       → current_side (at_side side current.frames other.frames) (at_side side other.frames current.frames) ≡ side
-  pub numbered : closed ≡ false → IsTrue (view current.disk).honest → generation ≡ number_of (generation_of current.frames)
+  pub numbered : closed ≡ false → IsTrue (view current.disk).honest → generation ≡ unwrap_or (generation_of current.frames) 0
 
 -- the list begins with a snapshot of a generation greater than this one
 abbrev pub BeginsAbove : ℕ → List Record → Type 0

@@ -1,4 +1,4 @@
-ghost use Rattle.std.specs.Prelude.{◌≡◌, ◌≢◌, ◌↔◌, ℕ, List, ◌+◌, ◌-◌, ◌^◌, ◌<◌, ◌≤◌, [], ◌∷◌, false, length, IsTrue, IsOk, IsErrOf, OnOk, IfOk, IfErr};
+ghost use Rattle.std.specs.Prelude.{◌≡◌, ◌≢◌, ◌↔◌, ℕ, List, ◌+◌, ◌-◌, ◌^◌, ◌<◌, ◌≤◌, [], ◌∷◌, false, length, IsTrue, IsOk, IsErrOf, OnOk, IfOk, IfErr, unwrap_or};
 ghost use Rattle.oc_io.specs.DiskView.{CannotFail};
 ghost use Rattle.oc_io.specs.MemDiskView.{disk_of, view_of};
 ghost use Rattle.oc_journal.specs.JournalFile.{IsJournalOf};
@@ -6,7 +6,7 @@ ghost use Rattle.oc_journal.specs.JournalView.{HasFrames};
 ghost use Rattle.oc_journal.specs.Promises.{HasRoom, IsFullFor};
 ghost use Rattle.oc_journal.specs.Stopped.{frames_after, CanStop};
 ghost use Rattle.oc_record.specs.Spelling.{records_bytes, HaveSpellings};
-ghost use Rattle.oc_store.specs.ControlFiles.{generation_in, generation_of, number_of, current_side, at_side, recovered_frames, IsGood};
+ghost use Rattle.oc_store.specs.ControlFiles.{generation_in, generation_of, current_side, at_side, recovered_frames, IsGood};
 ghost use Rattle.oc_store.specs.Promises.{IsStoreOf, LoadBothSafely, RefusesFiles, ReservesCurrent, ReservesOther, Commits, CommitsSafely, ClosesByCommit, TurnsOver, ClosesByTurn};
 ghost use Rattle.oc_store.specs.StoreView.{first_disk, second_disk, AreHonest, HoldsJournals, Recovers, RecoversEither, BeginsAbove};
 
@@ -89,7 +89,7 @@ impl<D: Disk> Store<D> {
     pub fn generation(&self) -> u64
         ensures generation { result ≡ self.now.generation }
         ensures of_file { self.now.closed ≡ false → IsTrue (D.view self.now.current.disk).honest
-            → result ≡ number_of (generation_of self.now.current.frames) }
+            → result ≡ unwrap_or (generation_of self.now.current.frames) 0 }
 
         // While no call failed, every crash leaves the frames of the current file.
         ensures kept { self.now.closed ≡ false → AreHonest D.view self.now
@@ -286,7 +286,7 @@ fn over<D: Disk>(
       current = current.journal;
       other = other;
       side = side;
-      generation = number_of current.contents.generation;
+      generation = unwrap_or current.contents.generation 0;
       closed = false;
     } }
     ensures list { result.1.items ≡ current.contents.list.items }

@@ -2,7 +2,7 @@
 use Rattle.std.specs.Prelude.{◌≡◌, ◌≢◌, ℕ, ◌+◌, ◌-◌, ◌^◌, ◌≤◌, ◌==◌, min, if◌then◌else◌, Result, Ok, Err, List, [], ◌∷◌, ◌++◌, Vec}
 use Rattle.std.specs.Str.Lines.{lines}
 use Rattle.std.specs.declared.alloc.Global.{Global}
-use Rattle.oc_base.specs.Steps.{◌>>=◌}
+use Rattle.oc_base.specs.Steps.{◌>>=◌, map_fault}
 use Rattle.oc_base.specs.Words.{words, four, number_in, node_in}
 use Rattle.oc_base.specs.declared.limits.TheConstants.{MAX_RATE, MAX_HOPS}
 use Rattle.oc_base.specs.declared.why.Why.{Why}
@@ -36,13 +36,12 @@ measure_in nodes fields = do
 
 -- a cause, at this line
 abbrev pub at_line : {A : Type 0} → ℕ → Result A Why → Result A MeasureFault
-at_line i (Ok x) = Ok x
-at_line i (Err why) = Err (Line i why)
+at_line i r = map_fault (λ why. Line i why) r
 
 -- the measures with that of one more line; an empty line has none
-abbrev pub with_line : ℕ → ℕ → List Measure → List (List ℕ) → Result (List Measure) MeasureFault
-with_line nodes i so_far [] = Ok so_far
-with_line nodes i so_far (word ∷ fields) = do
+abbrev pub with_measure : ℕ → ℕ → List Measure → List (List ℕ) → Result (List Measure) MeasureFault
+with_measure nodes i so_far [] = Ok so_far
+with_measure nodes i so_far (word ∷ fields) = do
   measure ← at_line i (measure_in nodes (word ∷ fields))
   Ok (so_far ++ measure ∷ [])
 
@@ -51,15 +50,15 @@ abbrev pub next_line : ℕ → ℕ
 next_line i = min (i + 1) (2 ^ 32 - 1)
 
 -- the measures with those of these lines, the first of which has this number
-abbrev pub with_lines : ℕ → ℕ → List Measure → List (List ℕ) → Result (List Measure) MeasureFault
-with_lines nodes i so_far [] = Ok so_far
-with_lines nodes i so_far (line ∷ rest) = do
-  next ← with_line nodes i so_far (words line)
-  with_lines nodes (next_line i) next rest
+abbrev pub with_measures : ℕ → ℕ → List Measure → List (List ℕ) → Result (List Measure) MeasureFault
+with_measures nodes i so_far [] = Ok so_far
+with_measures nodes i so_far (line ∷ rest) = do
+  next ← with_measure nodes i so_far (words line)
+  with_measures nodes (next_line i) next rest
 
 -- the measures of a text, or its first fault
 abbrev pub measures_in : ℕ → List ℕ → Result (List Measure) MeasureFault
-measures_in nodes text = with_lines nodes 1 [] (lines text)
+measures_in nodes text = with_measures nodes 1 [] (lines text)
 
 -- what a call gave is what is said, unless memory ran out
 abbrev pub Gives : Result (Vec Measure Global) MeasureFault → Result (List Measure) MeasureFault → Type 0
@@ -68,7 +67,7 @@ Gives (Err (Line i why)) said = said ≡ Err (Line i why)
 Gives (Err Memory) said = Unit {0}
 
 -- the same for one more line
-abbrev pub GivesLine : ℕ → ℕ → List Measure → List Measure → List (List ℕ) → Result (Unit {0}) MeasureFault → Type 0
-GivesLine nodes number old new fields (Ok done) = with_line nodes number old fields ≡ Ok new
-GivesLine nodes number old new fields (Err (Line i why)) = with_line nodes number old fields ≡ Err (Line i why)
-GivesLine nodes number old new fields (Err Memory) = Unit {0}
+abbrev pub PutsMeasure : ℕ → ℕ → List Measure → List Measure → List (List ℕ) → Result (Unit {0}) MeasureFault → Type 0
+PutsMeasure nodes number old new fields (Ok done) = with_measure nodes number old fields ≡ Ok new
+PutsMeasure nodes number old new fields (Err (Line i why)) = with_measure nodes number old fields ≡ Err (Line i why)
+PutsMeasure nodes number old new fields (Err Memory) = Unit {0}

@@ -2,7 +2,7 @@
 
 ghost use Rattle.std.specs.Prelude.{◌≡◌, ◌≢◌, ◌≤◌, IfOk, All};
 ghost use Rattle.oc_base.specs.Words.{words};
-ghost use Rattle.oc_updown.specs.MeasureLines.{IsMeasure, peer_in, measure_in, measures_in, Gives, GivesLine};
+ghost use Rattle.oc_updown.specs.MeasureLines.{IsMeasure, peer_in, measure_in, measures_in, Gives, PutsMeasure};
 
 use crate::measure_fault::MeasureFault;
 use oc_base::words::{first_line, first_word, four_fields, node, number};
@@ -46,7 +46,7 @@ fn put_line(
     number: u32,
     nodes: u32,
 ) -> Result<(), MeasureFault>
-    ensures exact { GivesLine nodes number measures.old.items measures.new.items (words line.now) result }
+    ensures exact { PutsMeasure nodes number measures.old.items measures.new.items (words line.now) result }
     ensures lawful { All (IsMeasure nodes) measures.old.items → All (IsMeasure nodes) measures.new.items }
 {
     if first_word(line).is_none() {

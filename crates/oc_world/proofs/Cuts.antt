@@ -5,7 +5,7 @@ use Rattle.oc_journal.specs.JournalView.{JournalView}
 use Rattle.oc_journal.specs.Stopped.{CanStop}
 use Rattle.oc_keep.specs.declared.ready.Write.{Write}
 use Rattle.oc_keep.specs.declared.ready.Write.TheVariants as written
-use Rattle.oc_keep.specs.Files.{AreReliable, Survives}
+use Rattle.oc_keep.specs.Files.{AreReliable, Survives, disks_in}
 use Rattle.oc_keep.specs.KeptView.{KeptView, disks_of, header_of, node_of}
 use Rattle.oc_keep.specs.Promises.{LeavesFiles}
 use Rattle.oc_keep.specs.ReadyView.{CanCommit, CanStopWrite, CanWrite, ReadyView, is_written, outcome_of}
@@ -21,8 +21,8 @@ use Rattle.oc_io.specs.declared.failures.Stop.{Stop}
 use Rattle.oc_store.specs.ControlFiles.{at_side}
 use Rattle.oc_store.specs.declared.errors.Side.{Side}
 use Rattle.oc_store.specs.declared.errors.Side.TheVariants.{First, Second}
-use Rattle.oc_world.specs.declared.process_state.Files.{Files}
-use Rattle.oc_world.specs.ProcessState.{IsLeft, IsOpen, disks_in}
+use Rattle.oc_keep.specs.declared.files.Files.{Files}
+use Rattle.oc_world.specs.ProcessState.{IsLeft, IsOpen}
 use Rattle.oc_world.proofs.Left.{left_of}
 
 -- where no call fails none is listed

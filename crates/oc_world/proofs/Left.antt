@@ -3,14 +3,14 @@ use Rattle.std.proofs.Common.{◌≡◌, ℕ, List, refl, sym, ap, subst, ◌∙
 use Rattle.oc_base.specs.declared.group.Group.{Group}
 use Rattle.oc_content.specs.ContentFile.{groups_in}
 use Rattle.oc_journal.specs.JournalFile.{frames_of}
-use Rattle.oc_keep.specs.Files.{Disks, MayLeave, SameDurable, Survives, recovered}
+use Rattle.oc_keep.specs.Files.{Disks, MayLeave, SameDurable, Survives, recovered, disks_in}
 use Rattle.oc_keep.specs.KeptView.{KeptView, NodeSurvives, disks_of, header_of, node_of}
 use Rattle.oc_keep.specs.Promises.{AreFiles, LeavesFiles}
 use Rattle.oc_model.specs.Node.{Control, Durable, Header, Node, restarted, started_with}
 use Rattle.oc_io.specs.DiskPast.{MayLeave as LeavesBytes}
 use Rattle.oc_io.specs.MemDiskView.{MemDiskView, disk_of, may_leave_seen, view_of}
-use Rattle.oc_world.specs.declared.process_state.Files.{Files}
-use Rattle.oc_world.specs.ProcessState.{IsLeft, IsStopped, disks_in, left_in}
+use Rattle.oc_keep.specs.declared.files.Files.{Files}
+use Rattle.oc_world.specs.ProcessState.{IsLeft, IsStopped, left_in}
 
 -- what a read gives is one of the images
 seen_images : (d : Disks MemDiskView) → MayLeave view_of d d.control.bytes d.alternate.bytes d.content.bytes

@@ -1,14 +1,14 @@
 -- A node that was loaded from copies of its files.
 use Rattle.std.proofs.Common.{◌≡◌, ℕ, sym, subst}
-use Rattle.oc_keep.specs.Files.{AreHonest, AreReliable, Disks, Survives, disks}
+use Rattle.oc_keep.specs.Files.{AreHonest, AreReliable, Disks, Survives, disks, disks_in}
 use Rattle.oc_keep.proofs.Stays.{all_honest}
 use Rattle.oc_io.specs.DiskView.{DiskView}
 use Rattle.oc_keep.specs.KeptView.{KeptView, disks_of, header_of, node_of}
 use Rattle.oc_keep.specs.Promises.{HoldFiles, IsNodeOf, LoadsSafely}
 use Rattle.oc_model.specs.Node.{Header}
 use Rattle.oc_io.specs.MemDiskView.{MemDiskView, disk_of, view_of}
-use Rattle.oc_world.specs.declared.process_state.Files.{Files}
-use Rattle.oc_world.specs.ProcessState.{IsRunning, IsStopped, disks_in}
+use Rattle.oc_keep.specs.declared.files.Files.{Files}
+use Rattle.oc_world.specs.ProcessState.{IsRunning, IsStopped}
 use Rattle.oc_world.proofs.Left.{seen_files}
 use Rattle.oc_world.proofs.Open.{reliable_on}
 

@@ -4,7 +4,7 @@ use Rattle.std.proofs.Math.Seq.{take-append_seam, take-length}
 use Rattle.std.proofs.lemmas.Bool.{eqb-true}
 use Rattle.std.proofs.lemmas.Bool.Decides.{nat_tests}
 use Rattle.std.proofs.lemmas.List.{append-nil, drop-append-le, get_or_append_left, get_or-set_other, get_or-set_same, length-drop, length-set, take-append-le, take_all}
-use Rattle.oc_world.specs.declared.pools.Place.{Place}
+use Rattle.oc_world.specs.declared.pools.PoolPart.{PoolPart}
 use Rattle.oc_world.specs.Letters.{IsKnown, IsWithin, KeepsPlaces, piece}
 
 -- what is at each place stays, from pools to pools
@@ -15,7 +15,7 @@ keeps_then a b c first second p within =
     (y.0, y.1 ∙ x.1)
 
 -- a pool that goes on has what was in it
-pub goes_on : (old new : List (List ℕ)) (p : Place) (more : List ℕ) → length old ≤ length new → get_or new p.pool [] ≡ get_or old p.pool [] ++ more → IsWithin old p → IsWithin new p × (piece new p ≡ piece old p)
+pub goes_on : (old new : List (List ℕ)) (p : PoolPart) (more : List ℕ) → length old ≤ length new → get_or new p.pool [] ≡ get_or old p.pool [] ++ more → IsWithin old p → IsWithin new p × (piece new p ≡ piece old p)
 goes_on old new p more many goes within =
     let held = get_or old p.pool [] in
     let behind : p.start ≤ length held = omega (arith, within.fits) in

@@ -1,16 +1,16 @@
 -- A process by its state.
 use Rattle.std.proofs.Common.{◌≡◌, ℕ, true, false, refl, sym, ap, subst, ◌∙◌}
-use Rattle.oc_keep.specs.Files.{Disks, Survives}
+use Rattle.oc_keep.specs.Files.{Disks, Survives, disks_in}
 use Rattle.oc_keep.specs.KeptView.{KeptView, disks_of, header_of, node_of}
 use Rattle.oc_model.specs.Node.{Header, Node, restarted}
 use Rattle.oc_model.specs.World.{Process}
 use Rattle.oc_io.specs.MemDiskView.{MemDiskView, view_of}
 use Rattle.oc_keep.specs.ReadyView.{CanCommit, ReadyView}
-use Rattle.oc_world.specs.declared.process_state.Files.{Files}
+use Rattle.oc_keep.specs.declared.files.Files.{Files}
 use Rattle.oc_world.specs.declared.process_state.ProcessState.{ProcessState}
 use Rattle.oc_world.specs.declared.process_state.ProcessState.TheVariants.{Running, Stopped}
 use Rattle.oc_world.specs.ProcessView.{CanCommitTo}
-use Rattle.oc_world.specs.ProcessState.{IsLeft, IsRunning, IsStopped, IsStateOf, disks_in, is_running, left_in, process_of}
+use Rattle.oc_world.specs.ProcessState.{IsLeft, IsRunning, IsStopped, IsStateOf, is_running, left_in, process_of}
 
 -- the node of a process is one of its header
 pub state_header : (h : Header) (x : ℕ) (s : ProcessState MemDiskView) → IsStateOf h x s → header_of (process_of h x s).process.node.control ≡ h

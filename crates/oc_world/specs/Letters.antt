@@ -2,7 +2,7 @@
 use Rattle.std.specs.Prelude.{◌≡◌, ℕ, ◌+◌, ◌<◌, ◌≤◌, List, [], ◌++◌, length, take, drop, get_or, map}
 use Rattle.oc_world.specs.declared.letter.Letter.{Letter}
 use Rattle.oc_world.specs.declared.letter.Letter.TheVariants.{Alone, Shared}
-use Rattle.oc_world.specs.declared.pools.Place.{Place}
+use Rattle.oc_world.specs.declared.pools.PoolPart.{PoolPart}
 use Rattle.oc_world.specs.declared.pools.Pool.{Pool}
 
 -- the bytes of these pools
@@ -10,19 +10,19 @@ abbrev pub contents : List Pool → List (List ℕ)
 contents pools = map (λ p. p.bytes) pools
 
 -- the bytes at a place
-abbrev pub piece : List (List ℕ) → Place → List ℕ
+abbrev pub piece : List (List ℕ) → PoolPart → List ℕ
 piece pools p = take p.count (drop p.start (get_or pools p.pool []))
 
 -- a place lies within its pool
-pub record IsWithin (pools : List (List ℕ)) (p : Place) : Type 0 where
+pub record IsWithin (pools : List (List ℕ)) (p : PoolPart) : Type 0 where
   pub there : p.pool < length pools
   pub fits : p.start + p.count ≤ length (get_or pools p.pool [])
 
 -- at each place are the bytes that were there
 abbrev pub KeepsPlaces : List (List ℕ) → List (List ℕ) → Type 0
-KeepsPlaces old new = (p : Place) → IsWithin old p → IsWithin new p × (piece new p ≡ piece old p)
+KeepsPlaces old new = (p : PoolPart) → IsWithin old p → IsWithin new p × (piece new p ≡ piece old p)
 
--- of these bytes, so many are held from an offset on, and with the others behind all that is held they all are
+-- the first of these bytes are held from an offset on, as many as are known; with the others behind all that is held, all are
 pub record IsKnown (held : List ℕ) (start : ℕ) (bytes : List ℕ) (known : ℕ) : Type 0 where
   pub few : known ≤ length bytes
   pub fits : start + length bytes ≤ length (held ++ drop known bytes)

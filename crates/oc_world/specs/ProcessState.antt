@@ -1,20 +1,16 @@
 -- A node that runs on its files, or whose files are all that is left of it.
 use Rattle.std.specs.Prelude.{◌≡◌, ℕ, Bool, true, false, Some}
-use Rattle.oc_keep.specs.Files.{AreReliable, Disks, Survives, disks, recovered}
+use Rattle.oc_keep.specs.Files.{AreReliable, Survives, disks_in, recovered}
 use Rattle.oc_keep.specs.KeptView.{IsHonest, KeptView, NodeSurvives, disks_of, header_of, node_of}
 use Rattle.oc_keep.specs.Promises.{LeavesFiles}
 use Rattle.oc_model.specs.Node.{Control, Header, Node, restarted}
 use Rattle.oc_model.specs.World.{down}
 use Rattle.oc_io.specs.DiskView.{DiskView}
 use Rattle.oc_io.specs.MemDiskView.{MemDiskView, view_of}
-use Rattle.oc_world.specs.declared.process_state.Files.{Files}
+use Rattle.oc_keep.specs.declared.files.Files.{Files}
 use Rattle.oc_world.specs.declared.process_state.ProcessState.{ProcessState}
 use Rattle.oc_world.specs.declared.process_state.ProcessState.TheVariants.{Running, Stopped}
 use Rattle.oc_world.specs.ProcessView.{ProcessView, resting}
-
--- the disks of files
-abbrev pub disks_in : {D : Type 0} → Files D → Disks D
-disks_in f = disks f.control f.alternate f.content
 
 -- the node that files in memory recover
 abbrev pub left_in : Header → ℕ → Files MemDiskView → Node

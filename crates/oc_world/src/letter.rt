@@ -5,7 +5,7 @@ ghost use Rattle.oc_base.specs.declared.limits.TheConstants.{MAX_NODES};
 ghost use Rattle.oc_world.specs.Letters.{IsPlaced, KeepsPlaces, whole};
 ghost use Rattle.oc_world.specs.Net.{IsText, message_in};
 
-use crate::pools::{Place, Pools};
+use crate::pools::{PoolPart, Pools};
 use crate::texts::message_in;
 use oc_base::{GroupName, Memory, Text};
 use oc_model::{Body, Message};
@@ -25,7 +25,7 @@ pub(crate) enum Letter {
 #[derive(Drop)]
 pub(crate) struct Sharing {
     front: Text,
-    place: Place,
+    place: PoolPart,
 }
 
 impl Letter {
@@ -88,7 +88,7 @@ impl Letter {
     }
 }
 
-/// The letter of a text that ends with so many bytes of a group, from this offset on.
+/// The letter of a text that ends with `count` bytes of a group, those from the offset `start` on.
 fn shared(
     alloc: Global,
     pools: &mut Pools,

@@ -24,6 +24,7 @@ mod process;
 mod process_acts;
 mod process_state;
 mod process_status;
+mod processes;
 mod stage;
 mod starting;
 mod stopping;

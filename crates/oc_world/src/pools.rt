@@ -7,9 +7,9 @@ use oc_base::{Bytes, GroupName, Memory};
 use std::alloc::Global;
 use std::marker::Model;
 
-/// Where bytes are: so many in this pool, from this offset on.
+/// Where bytes are: `count` bytes of this pool, from the offset `start` on.
 #[derive(Clone, Copy)]
-pub(crate) struct Place {
+pub(crate) struct PoolPart {
     pub pool: usize,
     pub start: usize,
     pub count: usize,
@@ -48,14 +48,14 @@ impl Pools {
     }
 
     /// The bytes at a place.
-    pub(crate) fn piece(&self, place: Place) -> &[u8]
+    pub(crate) fn piece(&self, place: PoolPart) -> &[u8]
         requires { IsWithin self.now place }
         ensures { result.now ≡ piece self.now place }
     {
         piece_in(&self.pools, place)
     }
 
-    /// Where these bytes of a group are, which stand in it from `start` on: where they were brought before, or put
+    /// Where these bytes of a group are, which are in it from `start` on: where they were brought before, or put
     /// behind what was. There is no place where they differ from what was brought, or bytes before them are missing.
     pub(crate) fn place(
         &mut self,
@@ -63,7 +63,7 @@ impl Pools {
         group: GroupName,
         start: u64,
         bytes: &[u8],
-    ) -> Result<Option<Place>, Memory>
+    ) -> Result<Option<PoolPart>, Memory>
         ensures keeps { KeepsPlaces self.old self.new }
         ensures place { IfOk result (λ found. IfSome found (λ place. IsWithin self.new place × (piece self.new place ≡ bytes.now))) }
     {
@@ -72,7 +72,7 @@ impl Pools {
 }
 
 /// The bytes at a place.
-fn piece_in(pools: &[Pool], place: Place) -> &[u8]
+fn piece_in(pools: &[Pool], place: PoolPart) -> &[u8]
     requires { IsWithin (contents pools.now) place }
     ensures { result.now ≡ piece (contents pools.now) place }
 {
@@ -87,7 +87,7 @@ fn place_in(
     group: GroupName,
     start: u64,
     bytes: &[u8],
-) -> Result<Option<Place>, Memory>
+) -> Result<Option<PoolPart>, Memory>
     ensures keeps { KeepsPlaces (contents pools.old.items) (contents pools.new.items) }
     ensures place { IfOk result (λ found. IfSome found (λ place. IsWithin (contents pools.new.items) place × (piece (contents pools.new.items) place ≡ bytes.now))) }
 {
@@ -97,7 +97,7 @@ fn place_in(
         None => Ok(None),
         Some(known) => {
             put_behind(pools, pool, &bytes[known..])?;
-            Ok(Some(Place {
+            Ok(Some(PoolPart {
                 pool,
                 start,
                 count: bytes.len(),

@@ -20,13 +20,13 @@ ghost use Rattle.oc_world.specs.ProcessView.{CanCommitTo, Renews, generation_of,
 ghost use Rattle.oc_world.specs.ProcessState.{IsOpen, IsRunning};
 
 use crate::network::Network;
-use crate::process_state::{Files, ProcessState};
+use crate::process_state::{ProcessState, copied, empty_files};
 use crate::process_status::{groups_of, groups_recovered, lawful_node};
 use crate::{process_acts, starting, stopping};
 use oc_base::{Memory, NodeId, Shelf};
 use oc_io::MemDisk;
 use oc_journal::is_kept_new;
-use oc_keep::{Kept, Node, Outcome, Ready, status_of, status_recovered};
+use oc_keep::{Files, Kept, Node, Outcome, Ready, status_of, status_recovered};
 use oc_model::{Input, NodeStatus};
 use std::alloc::Global;
 use std::marker::Model;
@@ -72,7 +72,7 @@ impl Process {
             id,
             network,
             areas,
-            state: ProcessState::Stopped(Files::empty(alloc)),
+            state: ProcessState::Stopped(empty_files(alloc)),
         })
     }
 
@@ -127,7 +127,7 @@ impl Process {
         match &self.state {
             ProcessState::Running(_) => unreachable!(),
             ProcessState::Stopped(files) => {
-                let copy = files.copy()?;
+                let copy = copied(files)?;
                 starting::load(self.alloc, copy, self.id, self.network, &self.areas)
             }
         }
@@ -138,7 +138,7 @@ impl Process {
         requires { self.old.process.up ≡ true }
         ensures { self.new.process ≡ stopped self.old.process.node }
     {
-        let kept = self.state.take_running(Files::empty(self.alloc));
+        let kept = self.state.take_running(empty_files(self.alloc));
         let files = stopping::crash(kept);
         self.state.set(ProcessState::Stopped(files));
     }
@@ -190,7 +190,7 @@ impl Process {
     {
         let ready = self.ready(input)?;
         let kept_new = ready.writes() && is_kept_new(calls, image);
-        let kept = self.state.take_running(Files::empty(self.alloc));
+        let kept = self.state.take_running(empty_files(self.alloc));
         let files = stopping::stop(kept, ready, calls, image);
         self.state.set(ProcessState::Stopped(files));
         Ok(kept_new)

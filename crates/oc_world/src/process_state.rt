@@ -6,17 +6,9 @@ ghost use Rattle.oc_world.specs.ProcessState.{is_running};
 
 use oc_base::Memory;
 use oc_io::{Disk, MemDisk};
-use oc_keep::Kept;
+use oc_keep::{Files, Kept};
 use std::alloc::Global;
 use std::mem;
-
-/// The disks of the three files of a node.
-#[derive(Drop)]
-pub(crate) struct Files<D: Disk> {
-    pub(crate) control: D,
-    pub(crate) alternate: D,
-    pub(crate) content: D,
-}
 
 /// A node that runs on its files, or the files of one that is down. A node that is down has no state in
 /// memory.
@@ -46,30 +38,28 @@ impl<D: Disk + Drop> ProcessState<D> {
     }
 }
 
-impl Files<MemDisk> {
-    /// Three empty files. It takes no memory.
-    pub(crate) fn empty(alloc: Global) -> Files<MemDisk>
-        ensures control { result.control ≡ disk_of [] }
-        ensures alternate { result.alternate ≡ disk_of [] }
-        ensures content { result.content ≡ disk_of [] }
-    {
-        Files {
-            control: MemDisk::new(Vec::new(alloc)),
-            alternate: MemDisk::new(Vec::new(alloc)),
-            content: MemDisk::new(Vec::new(alloc)),
-        }
+/// Three empty files. It takes no memory.
+pub(crate) fn empty_files(alloc: Global) -> Files<MemDisk>
+    ensures control { result.control ≡ disk_of [] }
+    ensures alternate { result.alternate ≡ disk_of [] }
+    ensures content { result.content ≡ disk_of [] }
+{
+    Files {
+        control: MemDisk::new(Vec::new(alloc)),
+        alternate: MemDisk::new(Vec::new(alloc)),
+        content: MemDisk::new(Vec::new(alloc)),
     }
+}
 
-    /// Copies of the files, all of them safe.
-    pub(crate) fn copy(&self) -> Result<Files<MemDisk>, Memory>
-        ensures control { IfOk result (λ copy. copy.control ≡ disk_of self.now.control.bytes) }
-        ensures alternate { IfOk result (λ copy. copy.alternate ≡ disk_of self.now.alternate.bytes) }
-        ensures content { IfOk result (λ copy. copy.content ≡ disk_of self.now.content.bytes) }
-    {
-        Ok(Files {
-            control: self.control.copy()?,
-            alternate: self.alternate.copy()?,
-            content: self.content.copy()?,
-        })
-    }
+/// Copies of files, all of them safe.
+pub(crate) fn copied(files: &Files<MemDisk>) -> Result<Files<MemDisk>, Memory>
+    ensures control { IfOk result (λ copy. copy.control ≡ disk_of files.now.control.bytes) }
+    ensures alternate { IfOk result (λ copy. copy.alternate ≡ disk_of files.now.alternate.bytes) }
+    ensures content { IfOk result (λ copy. copy.content ≡ disk_of files.now.content.bytes) }
+{
+    Ok(Files {
+        control: files.control.copy()?,
+        alternate: files.alternate.copy()?,
+        content: files.content.copy()?,
+    })
 }

@@ -2,18 +2,17 @@
 
 ghost use Rattle.std.specs.Prelude.{◌≡◌, IfOk};
 ghost use Rattle.oc_base.specs.Lawful.{IsNode};
-ghost use Rattle.oc_keep.specs.Files.{AreHonest, AreReliable};
+ghost use Rattle.oc_keep.specs.Files.{AreHonest, AreReliable, disks_in};
 ghost use Rattle.oc_keep.specs.KeptView.{header, node_of};
 ghost use Rattle.oc_keep.specs.Promises.{HoldFiles};
 ghost use Rattle.oc_keep.specs.Trials.{first_node};
 ghost use Rattle.oc_model.specs.Lawful.{IsHeader};
-ghost use Rattle.oc_world.specs.ProcessState.{IsRunning, disks_in};
+ghost use Rattle.oc_world.specs.ProcessState.{IsRunning};
 
 use crate::network::Network;
-use crate::process_state::Files;
 use oc_base::{Memory, NodeId};
 use oc_io::Disk;
-use oc_keep::{KeepLoad, Kept, Seat};
+use oc_keep::{Files, KeepLoad, Kept, Seat};
 use std::alloc::Global;
 
 /// The node that these files recover. Files of a node on disks that do not fail are refused only where memory
@@ -34,16 +33,6 @@ pub(crate) fn load<D: Disk + Drop>(
     ensures node { IfOk result (λ kept. node_of kept ≡ first_node D.view (header network.nodes network.chain network.chunk areas.now) id (disks_in files)) }
 {
     let areas = copy_of(alloc, areas)?;
-    let Files {
-        control,
-        alternate,
-        content,
-    } = files;
-    let files = oc_keep::Files {
-        control,
-        alternate,
-        content,
-    };
     let seat = Seat {
         id,
         nodes: network.nodes,

@@ -7,9 +7,8 @@ ghost use Rattle.oc_keep.specs.ReadyView.{CanCommit, is_written, outcome_of};
 ghost use Rattle.oc_io.specs.MemDiskView.{view_of};
 ghost use Rattle.oc_world.specs.ProcessState.{IsLeft, IsOpen};
 
-use crate::process_state::Files;
 use oc_io::MemDisk;
-use oc_keep::{Kept, Ready};
+use oc_keep::{Files, Kept, Ready};
 
 /// A node that runs crashes between two inputs.
 pub(crate) fn crash(kept: Kept<MemDisk>) -> Files<MemDisk>

@@ -27,6 +27,7 @@ use crate::arrivals::{arrival, message_place};
 use crate::net::Net;
 use crate::network::Network;
 use crate::process::Process;
+use crate::processes::new_processes;
 use oc_base::{Memory, NodeId, Shelf};
 use oc_calm::{heal, is_settled, settle};
 use oc_io::MemDisk;
@@ -398,17 +399,4 @@ fn stop_word(kept_new: bool) -> Word
     } else {
         Word::StoppedOld
     }
-}
-
-/// The processes of a new world.
-fn new_processes(alloc: Global, network: Network, areas: &[u8]) -> Result<Vec<Process>, Memory>
-    requires { IsHeader (header network.nodes network.chain network.chunk areas.now) }
-    ensures { IfOk result (λ processes. processes_of processes.items
-        ≡ (new_world (header network.nodes network.chain network.chunk areas.now)).processes) }
-{
-    let mut processes = Vec::with_capacity(alloc, network.nodes as usize)?;
-    for before in 0..network.nodes {
-        processes.push(Process::new(alloc, NodeId(before + 1), network, areas)?)?;
-    }
-    Ok(processes)
 }

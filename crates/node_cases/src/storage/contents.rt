@@ -2,7 +2,7 @@
 
 use crate::acting::{Acts, act_all};
 use oc_base::GroupName;
-use oc_content::{AppendError, Content, ContentError, ReadError};
+use oc_content::{AppendError, Content, ContentError, NewBytes, ReadError};
 use oc_io::Disk;
 use std::alloc::Global;
 use std::str::SplitAsciiWhitespace;
@@ -82,7 +82,13 @@ fn put<D: Disk>(
     if bytes.len() > MOST {
         return Err(Fault::Field);
     }
-    match content.prepare(alloc, &group, start, &bytes, last) {
+    let added = NewBytes {
+        group: &group,
+        start,
+        bytes: &bytes,
+        last,
+    };
+    match content.prepare(alloc, &added) {
         Ok(piece) if piece.adds() => put_held(content.commit(piece), said),
         Ok(_piece) => Ok(said.push_str("nothing ")?),
         Err(error) => put_shown(said, &error),

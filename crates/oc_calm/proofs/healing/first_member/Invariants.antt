@@ -1,9 +1,9 @@
 -- The leader is among the nodes that are left.
 use Rattle.std.proofs.Common.{◌≡◌, drop, filter}
 use Rattle.std.specs.List.{AllByRecursion}
-use Rattle.oc_model.specs.Heal.{first_of}
 use Rattle.oc_model.specs.Plan.{is_member}
 use Rattle.oc_model.specs.World.{node}
+use Rattle.oc_model.specs.Numbers.{first_of}
 use Rattle.oc_calm.specs.Cluster.{IsUpNode}
 use Rattle.oc_calm.specs.CalmRuns.{leader_of}
 use Rattle.oc_calm.proofs.healing.first_member.Given as goal

@@ -1,13 +1,13 @@
 use Rattle.std.proofs.Common.{◌≡◌, [], length}
 use Rattle.std.specs.Prelude.{All}
 use Rattle.std.specs.Str.Lines.{lines}
-use Rattle.oc_updown.specs.MeasureLines.{IsMeasure, with_lines}
+use Rattle.oc_updown.specs.MeasureLines.{IsMeasure, with_measures}
 use Rattle.oc_updown.proofs.measure_lines.read_lines.Given as goal
 
 -- what is left of the text gives what the whole of it gives
 abbrev pub invariant-lines : goal.invariant-lines
 invariant-lines l = record {
-  exact : with_lines l.nodes l.number l.measures.items (lines l.rest) ≡ with_lines l.nodes 1 [] (lines l.text);
+  exact : with_measures l.nodes l.number l.measures.items (lines l.rest) ≡ with_measures l.nodes 1 [] (lines l.text);
   lawful : All (IsMeasure l.nodes) l.measures.items;
 }
 

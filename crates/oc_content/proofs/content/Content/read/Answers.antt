@@ -1,5 +1,5 @@
 use Rattle.std.proofs.Common.{refl, subst, arith}
-use Rattle.oc_content.specs.ContentView.{ContentView, parts}
+use Rattle.oc_content.specs.ContentView.{ContentView, content_with}
 use Rattle.oc_content.specs.Promises.{PutsNothing}
 use Rattle.oc_content.proofs.Views.{IsIndexed-same}
 use Rattle.oc_content.proofs.content.Content.read.Goals as goal
@@ -11,7 +11,7 @@ invariant_of-self g c =
 
 pub returns-clause-same : goal.returns-clause-same
 returns-clause-same g c =
-    subst (λ (v : ContentView g.row.D.Denot). PutsNothing g.D.Disk.view v (parts c.read_group.new.journal c.self.inside.index)) c.self.view_is (record {
+    subst (λ (v : ContentView g.row.D.Denot). PutsNothing g.D.Disk.view v (content_with c.read_group.new.journal c.self.inside.index)) c.self.view_is (record {
       journal = c.read_group.ensures.same;
       shelves = refl;
       rooms = λ i. omega arith;

@@ -1,7 +1,6 @@
 use Rattle.std.proofs.Common.{ℕ, ◌-◌, List, length, vec_capacity, sym, ap, subst, ◌∙◌, arith}
-use Rattle.std.proofs.lemmas.List.{length-drop, length-map}
+use Rattle.std.proofs.lemmas.List.{length-drop}
 use Rattle.oc_base.specs.declared.shelf.Shelf.{Shelf}
-use Rattle.oc_content.specs.declared.track.Track.{Track}
 use Rattle.oc_content.specs.ContentFile.{with_entry}
 use Rattle.oc_content.specs.Headings.{entry_at}
 use Rattle.oc_base.specs.Shelves.{LooksUpLine}

@@ -3,7 +3,7 @@ use Rattle.oc_model.specs.ChangeLog.{waits}
 use Rattle.oc_model.specs.Node.{Log}
 use Rattle.oc_model.specs.Records.{folded, is_joined}
 use Rattle.oc_step.specs.Since.{AreTold}
-use Rattle.oc_step.proofs.Told.{waits_still, waits_now}
+use Rattle.oc_step.proofs.Folded.{waits_still, waits_now}
 use Rattle.oc_step.proofs.step.Step.is_waiting.Goals as goal
 
 pub returns-then-has_waiting : goal.returns-then-has_waiting

@@ -7,7 +7,7 @@ use Rattle.oc_model.specs.Node.{Log}
 use Rattle.oc_model.specs.Records.{folded, is_joined}
 use Rattle.oc_step.specs.Since.{AreTold, certs_in}
 use Rattle.oc_step.proofs.NextCerts.{taken_few, take_twice}
-use Rattle.oc_step.proofs.Told.{mode_told, waiting_told}
+use Rattle.oc_step.proofs.Folded.{mode_told, waiting_told}
 use Rattle.oc_step.proofs.step.Step.next_certs.Goals as goal
 
 pub push_certs-requires : goal.push_certs-requires

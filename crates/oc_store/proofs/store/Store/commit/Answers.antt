@@ -1,6 +1,6 @@
-use Rattle.std.proofs.Common.{ℕ, List, [], ◌∷◌, ◌++◌, ap, subst, ◌∙◌, rules}
+use Rattle.std.proofs.Common.{ℕ, List, [], ◌∷◌, ◌++◌, ap, subst, ◌∙◌, rules, unwrap_or}
 use Rattle.oc_journal.specs.JournalView.{HasFrames}
-use Rattle.oc_store.specs.ControlFiles.{generation_of, number_of}
+use Rattle.oc_store.specs.ControlFiles.{generation_of}
 use Rattle.oc_store.proofs.Turns.{kept_recovers, commit_moments, current_more}
 use Rattle.oc_store.proofs.store.Store.commit.Goals as goal
 
@@ -15,7 +15,7 @@ returns-in-Ok-clause-commits g c =
           kept_recovers g.D.Disk.view s.side c.append.new.self.disk s.other.disk (s.current.frames ++ c.args.frame.now ∷ []) s.other.frames kept (i.kept_other c.if-self.false honest.1) (current_more s.side s.current.frames s.other.frames c.args.frame.now (i.ordered c.if-self.false honest.0 honest.1));
       generation = search rules;
       generation_first = search rules;
-      generation_none = λ honest none. i.numbered c.if-self.false honest ∙ ap (λ (bodies : List (List ℕ)). number_of (generation_of bodies)) none;
+      generation_none = λ honest none. i.numbered c.if-self.false honest ∙ ap (λ (bodies : List (List ℕ)). unwrap_or (generation_of bodies) 0) none;
       was_open = search rules;
       unclosed = search rules;
     })

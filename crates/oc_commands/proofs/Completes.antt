@@ -8,7 +8,7 @@ use Rattle.oc_keep.specs.Files.{Disks, AreHonest, OneRose}
 use Rattle.oc_keep.specs.Promises.{HoldFiles}
 use Rattle.oc_io.specs.DiskView.{DiskView}
 use Rattle.oc_io.specs.Faults.{Rose}
-use Rattle.oc_link.specs.LinkCalls.{LinkFaults, Told}
+use Rattle.oc_link.specs.Calls.{Told}
 use Rattle.oc_link.specs.Story.{Story}
 use Rattle.oc_words.specs.declared.request.Download.{Download}
 use Rattle.oc_words.specs.declared.request.Member.{Member}
@@ -67,7 +67,7 @@ module _ {D : Type 0} (view : D → DiskView) (old new : Disks D) (output : Outp
   checked input error stage link token node asked m f (Published end) is files h = let also = h.0.1 in cc
   checked input error stage link token node asked m f (Served end) is files h = let also = h.0.2 in cc
 
-module _ {L : Type 0} (story : L → Option Story) (faults : L → LinkFaults) (old new : L) (output : Output) (sound : IsSound output) (unfailed : Rose (faults old).dialling (faults new).dialling → ⊥) where
+module _ {L : Type 0} (story : L → Option Story) (faults : L → ℕ) (old new : L) (output : Output) (sound : IsSound output) (unfailed : Rose (faults old) (faults new) → ⊥) where
   unrefused : (address : List ℕ) (start : Option ℕ) (progress : Bool) (end : GetEnd) → IsServed address start (story old) (story new) → Downloaded (at_link story faults old new) output (once address start progress) None end → IsUnrefused end
   unrefused address start progress end s h =
       let told : Told (Completes (plainly start) s.url end) (Some s.before) (Some s.after) = subst (λ o. Told (Completes (plainly start) s.url end) o (Some s.after)) s.told_before (subst (λ o. Told (Completes (plainly start) s.url end) (story old) o) s.told_after (h.complete s.url s.address_is)) in

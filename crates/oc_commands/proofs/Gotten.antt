@@ -12,7 +12,6 @@ use Rattle.oc_fetch.specs.declared.end.GetEnd.TheVariants as gets
 use Rattle.oc_fetch.specs.declared.metered.Metered.{Metered}
 use Rattle.oc_fetch.specs.declared.progress_lines.ProgressLines.{ProgressLines}
 use Rattle.oc_io.specs.Faults.{NoFall, Rose}
-use Rattle.oc_link.specs.LinkCalls.{LinkFaults}
 use Rattle.oc_link.specs.Story.{Story}
 use Rattle.oc_words.specs.declared.request.Download.{Download}
 use Rattle.oc_commands.specs.AtGet.{Blames, CompletesOnce, Downloaded, HappenedAtGet, Wrote, is_done, manner_of, replies_for, wish_for}
@@ -45,9 +44,9 @@ blames_of link gets.Reply cause = tt
 blames_of link gets.Sink cause = tt
 blames_of link gets.Memory cause = tt
 
-module _ {K L : Type 0} (takes fails : K → List ℕ → K → Type 0) (count : K → ℕ) (story : L → Option Story) (faults : L → LinkFaults) (old new : L) (before after : K)
+module _ {K L : Type 0} (takes fails : K → List ℕ → K → Type 0) (count : K → ℕ) (story : L → Option Story) (faults : L → ℕ) (old new : L) (before after : K)
     (d : Download) (token : Option (List ℕ)) (address : List ℕ) (address_is : address ≡ d.address) (manner : Manner) (manner_is : manner ≡ manner_of d token) (end : GetEnd)
-    (sink_cause : end ≡ gets.Sink → Rose (count before) (count after)) (link_cause : end ≡ gets.Link → Rose (faults old).dialling (faults new).dialling)
+    (sink_cause : end ≡ gets.Sink → Rose (count before) (count after)) (link_cause : end ≡ gets.Link → Rose (faults old) (faults new))
     (bad : IsBadAddress address → IsUnasked address end) where
   abbrev link : OnLink
   link = at_link story faults old new

@@ -6,7 +6,7 @@ use Rattle.oc_fetch.specs.ProgressLines.{Grows}
 use Rattle.oc_fetch.specs.declared.progress_lines.ProgressLines.{ProgressLines}
 use Rattle.oc_io.specs.Counts.{Rises}
 use Rattle.oc_io.specs.Faults.{NoFall}
-use Rattle.oc_link.specs.LinkCalls.{IsFront}
+use Rattle.oc_link.specs.Calls.{IsFront}
 use Rattle.oc_commands.specs.Counting.{Fails, Takes, takes_fails, takes_then}
 use Rattle.oc_commands.specs.Run.{IsWrittenOrCut}
 use Rattle.oc_commands.specs.Telling.{IsToldOf, last_line}

@@ -5,7 +5,6 @@ use Rattle.oc_fetch.specs.Lines.{Tells}
 use Rattle.oc_fetch.specs.ProgressLines.{Grows}
 use Rattle.oc_fetch.specs.declared.progress_lines.ProgressLines.{ProgressLines}
 use Rattle.oc_io.specs.Faults.{Rose}
-use Rattle.oc_link.specs.LinkCalls.{LinkFaults}
 use Rattle.oc_link.specs.Story.{Story}
 use Rattle.oc_put.specs.Publishing.{Came as CameOf, IsPublished, IsUnasked}
 use Rattle.oc_put.specs.declared.end.PutEnd.{PutEnd}
@@ -50,7 +49,7 @@ module _ {S : Type 0} (gives fails : S → List ℕ → S → Type 0) (ended : S
   came_of bytes over puts.Link came is_over cause = came_so bytes over came is_over
   came_of bytes over puts.Memory came is_over cause = came_so bytes over came is_over
 
-  module _ {L : Type 0} (story : L → Option Story) (faults : L → LinkFaults) (before after : L) (u : Upload) (token : Option (List ℕ)) (end : PutEnd) where
+  module _ {L : Type 0} (story : L → Option Story) (faults : L → ℕ) (before after : L) (u : Upload) (token : Option (List ℕ)) (end : PutEnd) where
     abbrev link : OnLink
     link = at_link story faults before after
 
@@ -72,7 +71,7 @@ module _ {S : Type 0} (gives fails : S → List ℕ → S → Type 0) (ended : S
 
     pub posted : (address : List ℕ) (shown : Option (List ℕ)) (plan : Plan) → address ≡ u.address → shown ≡ token → plan ≡ plan_of u
         → IsPublished gives fails ended plan address shown (story before) (story after) old new end → (IsBadAddress address → IsUnasked address end)
-        → (end ≡ puts.Input → Rose (count old) (count new)) → (end ≡ puts.Link → Rose (faults before).dialling (faults after).dialling)
+        → (end ≡ puts.Input → Rose (count old) (count new)) → (end ≡ puts.Link → Rose (faults before) (faults after))
         → (error : OnError) → posted_at.Tells error input u.progress end → HappenedAtPut link input error u token end
     posted address shown plan address_is shown_is plan_is is bad input_cause link_cause error tells = record {
       published =

@@ -24,7 +24,7 @@ use Rattle.oc_model.specs.World.{World}
 use Rattle.oc_model.specs.declared.event.Event.{Event}
 use Rattle.oc_io.specs.DiskView.{DiskView}
 use Rattle.oc_io.specs.Faults.{Rose}
-use Rattle.oc_link.specs.LinkCalls.{LinkFaults, Told}
+use Rattle.oc_link.specs.Calls.{Told}
 use Rattle.oc_link.specs.Story.{Story}
 use Rattle.oc_put.specs.Requests.{Goal}
 use Rattle.oc_put.specs.Turns.{Makes as Publishes, Turn as Sent}
@@ -164,11 +164,11 @@ module _ {D : Type 0} (view : D → DiskView) where
     untouched = new ≡ old;
   }
 
-module _ {L : Type 0} (story : L → Option Story) (faults : L → LinkFaults) where
+module _ {L : Type 0} (story : L → Option Story) (faults : L → ℕ) where
   abbrev pub at_link : L → L → OnLink
   at_link old new = record {
     makes = λ turns. Told (Makes turns) (story old) (story new);
-    has_failed = Rose (faults old).dialling (faults new).dialling;
+    has_failed = Rose (faults old) (faults new);
     completes = λ manner url end. Told (Completes manner url end) (story old) (story new);
     publishes = λ goal turns. Told (Publishes goal turns) (story old) (story new);
     silent = story new ≡ story old;

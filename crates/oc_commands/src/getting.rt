@@ -8,13 +8,13 @@ ghost use Rattle.oc_commands.specs.Telling.{at_error};
 use crate::progress::{Counting, finish};
 use oc_fetch::{GetEnd, Manner, Metered, follow, get};
 use oc_io::Sink;
-use oc_link::Link;
+use oc_link::Dialler;
 use oc_words::{Download, Name};
 use std::alloc::Global;
 
 /// Writes the content of a URL, or what is new of a group, again and again, with a token or without. Where lines are
 /// wanted, they tell how much was written.
-pub fn download<K: Sink, E: Sink, L: Link>(
+pub fn download<K: Sink, E: Sink, L: Dialler>(
     alloc: Global,
     wanted: &Download,
     token: &Option<Name>,
@@ -42,7 +42,7 @@ fn is_done(end: GetEnd) -> bool
 }
 
 /// Passes the content on as it comes.
-fn pass_on<K: Sink, L: Link>(
+fn pass_on<K: Sink, L: Dialler>(
     alloc: Global,
     wanted: &Download,
     token: &Option<Name>,

@@ -8,14 +8,14 @@ ghost use Rattle.oc_commands.specs.Telling.{at_error};
 use crate::getting::text_of;
 use crate::progress::{Counting, finish};
 use oc_io::{Sink, Source};
-use oc_link::Link;
+use oc_link::Dialler;
 use oc_put::{Aside, Destination, Pause, Place, Plan, PutEnd, put};
 use oc_words::{Name, Onto, Upload};
 use std::alloc::Global;
 
 /// Publishes the input into a group, with a token or without. It pauses behind each failure but the last. Where lines are
 /// wanted, they tell how much of the input is in the group.
-pub fn publish<S: Source, L: Link, P: Pause, E: Sink>(
+pub fn publish<S: Source, L: Dialler, P: Pause, E: Sink>(
     alloc: Global,
     wanted: &Upload,
     token: &Option<Name>,

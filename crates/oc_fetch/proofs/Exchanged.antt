@@ -9,8 +9,8 @@ use Rattle.oc_fetch.specs.declared.end.GetEnd.TheVariants as ends
 use Rattle.oc_fetch.specs.declared.client_state.ClientState.{ClientState}
 use Rattle.oc_fetch.proofs.Spoken.{told_so, heard, heard_speaks, broken_speaks}
 use Rattle.oc_link.specs.Exchange.{Hears, HearsThenBreaks}
-use Rattle.oc_link.specs.LinkCalls.{Told, IfTold, OnOutgoing}
-use Rattle.oc_link.specs.LinkBorrow.{BorrowView, ChangesOutgoing, Told-same, Told-then}
+use Rattle.oc_link.specs.Calls.{Told, IfTold, OnOutgoing}
+use Rattle.oc_link.specs.Borrow.{BorrowView, ChangesOutgoing, Told-same, Told-then}
 use Rattle.oc_link.specs.Story.{Story, IsHeardOut}
 
 -- What a loan of the outgoing connection says of the link

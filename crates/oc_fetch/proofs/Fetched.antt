@@ -19,14 +19,14 @@ use Rattle.oc_fetch.proofs.Completing.{unrefused}
 use Rattle.oc_fetch.proofs.Dialling.{all_dial, fronts_made}
 use Rattle.oc_fetch.proofs.OneHead.{OneAnswer}
 use Rattle.oc_fetch.proofs.Spoken.{told_so}
-use Rattle.oc_link.specs.LinkCalls.{Told}
-use Rattle.oc_link.specs.LinkBorrow.{Told-same}
+use Rattle.oc_link.specs.Calls.{Told}
+use Rattle.oc_link.specs.Borrow.{Told-same}
 use Rattle.oc_link.specs.Story.{Story, dials}
 use Rattle.url.specs.Parts.{Parts}
 
 -- no turn went by
 makes_none : (s : Story) → Makes [] s s
-makes_none s = record { made = []; told = tt; dials_are = sym (append-nil (dials s)); waiting = refl; past = refl; current = refl }
+makes_none s = record { made = []; told = tt; dials_are = sym (append-nil (dials s)) }
 
 -- nothing happened, and this ended it
 unsent : {K : Type 0} (takes breaks : K → List ℕ → K → Type 0) (address : List ℕ) (k : K) (end : GetEnd) → IsUnasked address end → takes k [] k → Sent takes breaks k [] k end

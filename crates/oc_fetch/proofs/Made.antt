@@ -116,7 +116,4 @@ shows_makes turns old new end shows hung =
       made = by.0;
       told = by.1;
       dials_are = ap dials by.2 ∙ append-nil (dials old ++ by.0);
-      waiting = ap (λ (s : Story). s.waiting) by.2;
-      past = ap (λ (s : Story). s.past) by.2;
-      current = ap (λ (s : Story). s.current) by.2;
     }

@@ -7,7 +7,7 @@ use Rattle.oc_fetch.specs.declared.end.GetEnd.TheVariants.{Done, BadUrl, Refused
 use Rattle.oc_fetch.specs.declared.extent.Extent.{Extent}
 use Rattle.oc_fetch.specs.declared.extent.Extent.TheVariants.{Counted, ToTheEnd}
 use Rattle.oc_fetch.specs.declared.extent.TheConstants.{MAX_OPEN_BYTES}
-use Rattle.oc_link.specs.LinkCalls.{IsFront}
+use Rattle.oc_link.specs.Calls.{IsFront}
 
 -- one relation after another
 abbrev pub Then : {S : Type 0} → (S → List ℕ → S → Type 0) → (S → List ℕ → S → Type 0) → Type 0

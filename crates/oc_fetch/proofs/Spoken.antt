@@ -3,8 +3,8 @@ use Rattle.std.proofs.Common.{◌≡◌, ℕ, Bool, true, false, Option, Some, N
 use Rattle.std.proofs.lemmas.List.{append-nil}
 use Rattle.oc_fetch.specs.Turns.{Turn, Talk, begun, went_on, IsTold, Carries, ready_for, Speaks, SpeaksLast, asking, IsCutAddress, IsCut}
 use Rattle.oc_fetch.proofs.Moving.{front_whole, unseen}
-use Rattle.oc_link.specs.Exchange.{Gives, Hears, Says, HearsThenBreaks, SaysThenBreaks, SaysFrontThenBreaks}
-use Rattle.oc_link.specs.LinkCalls.{Told, OnOutgoing, connection_of, address_of, DialsTo, DialFails}
+use Rattle.oc_link.specs.Exchange.{ReadsFront, Hears, Says, HearsThenBreaks, SaysThenBreaks, SaysFrontThenBreaks}
+use Rattle.oc_link.specs.Calls.{Told, OnOutgoing, connection_of, address_of, DialsTo, DialFails}
 use Rattle.oc_link.specs.Story.{Connection, Dial, Story, dials, unused, wrote, broken, hung_up, IsHeardOut}
 
 -- what is told holds, where more follows from it
@@ -83,7 +83,7 @@ abbrev pub heard : Option (List ℕ) → List ℕ → List ℕ → Bool → Turn
 heard at request reply over = record { dialled = at; request = request; reply = reply; over = over }
 
 -- a dial from which bytes were read after a request
-heard_told : (bytes : List ℕ) (over : Bool) (talk : Talk) (old new : Dial) → IsTold talk old → Gives bytes old.connection new.connection → Some new.address ≡ Some old.address → (over ≡ true → new.connection.left ≡ []) → IsTold (record { address = talk.address; written = talk.written; read = talk.read ++ bytes; over = over }) new
+heard_told : (bytes : List ℕ) (over : Bool) (talk : Talk) (old new : Dial) → IsTold talk old → ReadsFront bytes old.connection new.connection → Some new.address ≡ Some old.address → (over ≡ true → new.connection.left ≡ []) → IsTold (record { address = talk.address; written = talk.written; read = talk.read ++ bytes; over = over }) new
 heard_told bytes over talk old new told gives a end = record {
   address = some_is new.address old.address a ∙ told.address;
   written = gives.written ∙ told.written;
@@ -120,7 +120,7 @@ heard_speaks at request bytes over a b c p q end = record {
 }
 
 -- and then a call failed
-broken_told : (bytes : List ℕ) (talk : Talk) (between : Connection) (old new : Dial) → IsTold talk old → Gives bytes old.connection between → Some new.connection ≡ Some (broken between) → Some new.address ≡ Some old.address → IsTold (record { address = talk.address; written = talk.written; read = talk.read ++ bytes; over = false }) new
+broken_told : (bytes : List ℕ) (talk : Talk) (between : Connection) (old new : Dial) → IsTold talk old → ReadsFront bytes old.connection between → Some new.connection ≡ Some (broken between) → Some new.address ≡ Some old.address → IsTold (record { address = talk.address; written = talk.written; read = talk.read ++ bytes; over = false }) new
 broken_told bytes talk between old new told gives breaks a =
     let e : new.connection ≡ broken between = some_is new.connection (broken between) breaks in
     record {

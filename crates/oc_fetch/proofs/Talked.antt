@@ -11,8 +11,8 @@ use Rattle.oc_fetch.specs.declared.client_state.ClientState.{ClientState}
 use Rattle.oc_fetch.proofs.Made.{Shows, IsReady, shows_then, shows_makes, behind_turns-push, last_behind}
 use Rattle.oc_fetch.proofs.Moving.{Then, sent_then}
 use Rattle.oc_fetch.proofs.Spoken.{told_so, some_is}
-use Rattle.oc_link.specs.LinkCalls.{Told}
-use Rattle.oc_link.specs.LinkBorrow.{Told-same, Told-then}
+use Rattle.oc_link.specs.Calls.{Told}
+use Rattle.oc_link.specs.Borrow.{Told-same, Told-then}
 use Rattle.oc_link.specs.Story.{Story, hung_up}
 
 -- turns went by and led to this state

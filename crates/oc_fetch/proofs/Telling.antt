@@ -5,7 +5,7 @@ use Rattle.oc_fetch.specs.Lines.{WritesFront, progress_line, lines_behind}
 use Rattle.oc_fetch.specs.Metered.{lines_more}
 use Rattle.oc_fetch.specs.declared.progress_lines.TheConstants.{PROGRESS_STEP}
 use Rattle.oc_fetch.proofs.Moving.{front_behind}
-use Rattle.oc_link.specs.LinkCalls.{IsFront}
+use Rattle.oc_link.specs.Calls.{IsFront}
 
 -- the beginning of a text begins each that goes on from it
 pub front_of_first : (n : ℕ) (first rest : List ℕ) → IsFront (take n first) (first ++ rest)

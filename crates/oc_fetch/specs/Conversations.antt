@@ -9,7 +9,7 @@ use Rattle.oc_fetch.specs.declared.end.GetEnd.TheVariants.{Done, Refused, Reply,
 use Rattle.oc_fetch.specs.declared.end.GetEnd.TheVariants as ends
 use Rattle.oc_fetch.specs.declared.client_state.ClientState.{ClientState}
 use Rattle.oc_http.specs.declared.reply.ReplyHead.{ReplyHead}
-use Rattle.oc_link.specs.LinkCalls.{IsFront}
+use Rattle.oc_link.specs.Calls.{IsFront}
 use Rattle.url.specs.Parts.{Parts}
 
 -- a reply that is a head and bytes after it, of which this holds

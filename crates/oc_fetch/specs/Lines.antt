@@ -1,7 +1,7 @@
 -- Lines that tell how far a client came.
 use Rattle.std.specs.Prelude.{◌≡◌, ℕ, ◌+◌, ◌*◌, ◌-◌, ◌/◌, zero, suc, Bool, true, false, List, [], ◌++◌, codes, decimal}
 use Rattle.oc_fetch.specs.declared.progress_lines.TheConstants.{PROGRESS_STEP}
-use Rattle.oc_link.specs.LinkCalls.{IsFront}
+use Rattle.oc_link.specs.Calls.{IsFront}
 
 -- the line of this count of bytes
 abbrev pub progress_line : ℕ → List ℕ

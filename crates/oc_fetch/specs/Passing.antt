@@ -5,7 +5,7 @@ use Rattle.oc_fetch.specs.declared.end.GetEnd.{GetEnd}
 use Rattle.oc_fetch.specs.declared.end.GetEnd.TheVariants.{Reply, Link, Sink, Memory}
 use Rattle.oc_fetch.specs.declared.extent.Extent.{Extent}
 use Rattle.oc_fetch.specs.Turns.{Turn, Makes, MakesOnceHung, Speaks, MaySpeakLast}
-use Rattle.oc_link.specs.LinkCalls.{IsFront, Told}
+use Rattle.oc_link.specs.Calls.{IsFront, Told}
 use Rattle.oc_link.specs.Story.{Story}
 
 -- from the old source to the new one these bytes came, and with the end `Link` a call then failed

@@ -1,9 +1,10 @@
 -- What the query of a URL says to a client that follows a group.
 use Rattle.std.specs.Prelude.{ℕ, Bool, ◌==◌, ◌||◌, bytes_eq, is_some, if◌then◌else◌, Option, Some, None, unwrap_or, Result, Ok, Err, List, [], ◌∷◌, codes}
+use Rattle.std.specs.Option.{option_or}
 use Rattle.oc_base.specs.declared.limits.TheConstants.{MAX_START}
 use Rattle.oc_base.specs.declared.why.Why.{Why}
 use Rattle.oc_base.specs.Words.{number_in}
-use Rattle.oc_http.specs.Queries.{parts, or_else}
+use Rattle.oc_http.specs.Queries.{parts}
 
 -- what follows a prefix, where the bytes begin with it
 abbrev pub behind : List ℕ → List ℕ → Option (List ℕ)
@@ -14,7 +15,7 @@ behind (p ∷ prefix) (b ∷ bytes) = if b == p then behind prefix bytes else No
 -- the first value of a name with its `=`
 abbrev pub first_value : List ℕ → List (List ℕ) → Option (List ℕ)
 first_value name [] = None
-first_value name (part ∷ more) = or_else (behind name part) (first_value name more)
+first_value name (part ∷ more) = option_or (behind name part) (first_value name more)
 
 -- a start that a value spells, of at most 2^40
 abbrev pub start_spelled : Result ℕ Why → Option ℕ
@@ -29,7 +30,7 @@ start_said (Some value) = start_spelled (number_in 0 MAX_START value)
 -- the first start that some part says
 abbrev pub first_start : List (List ℕ) → Option ℕ
 first_start [] = None
-first_start (part ∷ more) = or_else (start_said (behind (codes "start=") part)) (first_start more)
+first_start (part ∷ more) = option_or (start_said (behind (codes "start=") part)) (first_start more)
 
 -- the start of a URL, and 0 where it says none
 abbrev pub start_of : Option (List ℕ) → ℕ

@@ -1,6 +1,6 @@
 -- What goes between a client and the servers: requests, and what was read after each.
 use Rattle.std.specs.Prelude.{◌≡◌, ℕ, Bool, true, false, Option, Some, None, option_map, option_to_list, List, [], ◌∷◌, ◌++◌, ⊤}
-use Rattle.oc_link.specs.LinkCalls.{IsFront}
+use Rattle.oc_link.specs.Calls.{IsFront}
 use Rattle.oc_link.specs.Story.{Dial, Story, dials, hung_up}
 
 -- a request and what was read after it
@@ -81,14 +81,11 @@ AreTold [] (dial ∷ dials) = ⊥
 AreTold (talk ∷ talks) [] = ⊥
 AreTold (talk ∷ talks) (dial ∷ dials) = IsTold talk dial × AreTold talks dials
 
--- a link made the dials of these turns, and nothing else happened on it
+-- a link made the dials of these turns, and no others
 pub record Makes (turns : List Turn) (old new : Story) : Type 0 where
   pub made : List Dial
   pub told : AreTold (talks_of turns) made
   pub dials_are : dials new ≡ dials old ++ made
-  pub waiting : new.waiting ≡ old.waiting
-  pub past : new.past ≡ old.past
-  pub current : new.current ≡ old.current
 
 -- What one turn does to a link
 

@@ -5,7 +5,6 @@ ghost use Rattle.oc_fetch.specs.Conversations.{Converses};
 ghost use Rattle.oc_fetch.specs.Passing.{IsTalked, IsTalkedThrough};
 ghost use Rattle.oc_fetch.specs.Wishes.{wish_of};
 ghost use Rattle.oc_io.specs.Faults.{NoFall, Rose};
-ghost use Rattle.oc_link.specs.LinkCalls.{CountsDialling};
 
 use crate::client_state::ClientState;
 use crate::end::GetEnd;
@@ -13,11 +12,11 @@ use crate::exchange::exchange;
 use crate::room::Room;
 use crate::wish::Wish;
 use oc_io::Sink;
-use oc_link::Link;
+use oc_link::Dialler;
 use std::alloc::Global;
 
 /// Talks with servers, from a state on, until no more replies are wanted. The connection is ended.
-pub(crate) fn converse<L: Link, K: Sink>(
+pub(crate) fn converse<L: Dialler, K: Sink>(
     alloc: Global,
     wish: &Wish<'_>,
     state: ClientState,
@@ -27,9 +26,9 @@ pub(crate) fn converse<L: Link, K: Sink>(
     requires { state.kept ≡ false }
     ensures talked { IsTalked K.takes K.fails (Converses (wish_of wish.now) state)
         (L.story link.old) (L.story link.new) sink.old sink.new result }
-    ensures link_count { CountsDialling (L.faults link.old) (L.faults link.new) }
+    ensures link_count { NoFall (L.faults link.old) (L.faults link.new) }
     ensures sink_count { NoFall (K.faults sink.old) (K.faults sink.new) }
-    ensures link_cause { result ≡ GetEnd.Link → Rose (L.faults link.old).dialling (L.faults link.new).dialling }
+    ensures link_cause { result ≡ GetEnd.Link → Rose (L.faults link.old) (L.faults link.new) }
     ensures sink_cause { result ≡ GetEnd.Sink → Rose (K.faults sink.old) (K.faults sink.new) }
 {
     let talked = talk(alloc, wish, state, link, sink);
@@ -41,7 +40,7 @@ pub(crate) fn converse<L: Link, K: Sink>(
 }
 
 /// Makes one request after another.
-fn talk<L: Link, K: Sink>(
+fn talk<L: Dialler, K: Sink>(
     alloc: Global,
     wish: &Wish<'_>,
     mut state: ClientState,
@@ -53,9 +52,9 @@ fn talk<L: Link, K: Sink>(
         (L.story link.old) (L.story link.new) sink.old sink.new GetEnd.Done) }
     ensures ended { IfErr result (λ end. IsTalkedThrough K.takes K.fails (Converses (wish_of wish.now) state)
         (L.story link.old) (L.story link.new) sink.old sink.new end) }
-    ensures link_count { CountsDialling (L.faults link.old) (L.faults link.new) }
+    ensures link_count { NoFall (L.faults link.old) (L.faults link.new) }
     ensures sink_count { NoFall (K.faults sink.old) (K.faults sink.new) }
-    ensures link_cause { IsErrOf result GetEnd.Link → Rose (L.faults link.old).dialling (L.faults link.new).dialling }
+    ensures link_cause { IsErrOf result GetEnd.Link → Rose (L.faults link.old) (L.faults link.new) }
     ensures sink_cause { IsErrOf result GetEnd.Sink → Rose (K.faults sink.old) (K.faults sink.new) }
 {
     let mut room = Room::new(alloc)?;

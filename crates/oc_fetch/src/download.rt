@@ -10,7 +10,7 @@ ghost use Rattle.oc_fetch.specs.Passing.{IsTalked};
 ghost use Rattle.oc_fetch.specs.Redirections.{StopsAtThird};
 ghost use Rattle.oc_fetch.specs.Wishes.{wish_of, from_of};
 ghost use Rattle.oc_io.specs.Faults.{NoFall, Rose};
-ghost use Rattle.oc_link.specs.LinkCalls.{Told, CountsDialling};
+ghost use Rattle.oc_link.specs.Calls.{Told};
 ghost use Rattle.url.specs.Parts.{Parts};
 
 use crate::address::{UrlFault, read_address};
@@ -24,7 +24,7 @@ use crate::wish::Wish;
 use oc_base::Memory;
 use oc_http::a_response_head_has_one_answer;
 use oc_io::Sink;
-use oc_link::Link;
+use oc_link::Dialler;
 use std::alloc::Global;
 use url::Url;
 
@@ -36,7 +36,7 @@ pub const MAX_REDIRECTIONS: u8 = 2;
 /// is followed, at most `MAX_REDIRECTIONS` of them. Where the manner has a byte to begin from, the first request has
 /// it as `start=` before the query of the URL; a Location says its own. A chunked reply ends it with `Reply`. With an end other than
 /// `Done` a prefix of the content was written, and nothing where no 200 came.
-pub fn get<L: Link, K: Sink>(
+pub fn get<L: Dialler, K: Sink>(
     alloc: Global,
     address: &str,
     manner: &Manner<'_>,
@@ -55,9 +55,9 @@ pub fn get<L: Link, K: Sink>(
     ensures complete { (url : Parts) → IsAddressOf address.now url
         → Told (Completes manner.now url result) (L.story link.old) (L.story link.new) }
 
-    ensures link_count { CountsDialling (L.faults link.old) (L.faults link.new) }
+    ensures link_count { NoFall (L.faults link.old) (L.faults link.new) }
     ensures sink_count { NoFall (K.faults sink.old) (K.faults sink.new) }
-    ensures link_cause { result ≡ GetEnd.Link → Rose (L.faults link.old).dialling (L.faults link.new).dialling }
+    ensures link_cause { result ≡ GetEnd.Link → Rose (L.faults link.old) (L.faults link.new) }
     ensures sink_cause { result ≡ GetEnd.Sink → Rose (K.faults sink.old) (K.faults sink.new) }
 {
     a_response_head_has_one_answer();
@@ -72,7 +72,7 @@ pub fn get<L: Link, K: Sink>(
 /// written, at first from the byte of the manner, or else the `start` of the URL's query, on the connection of the one before where that is
 /// kept (RFC 9112, section 9.3). A reply may be chunked. Redirections are counted over the whole call. It
 /// ends as `get` does. Requests to the address of a Location say on what its query says to be known of the group.
-pub fn follow<L: Link, K: Sink>(
+pub fn follow<L: Dialler, K: Sink>(
     alloc: Global,
     address: &str,
     times: u64,
@@ -88,9 +88,9 @@ pub fn follow<L: Link, K: Sink>(
     ensures redirects { IsTalked K.takes K.fails (λ turns written end. StopsAtThird address.now turns end)
         (L.story link.old) (L.story link.new) sink.old sink.new result }
 
-    ensures link_count { CountsDialling (L.faults link.old) (L.faults link.new) }
+    ensures link_count { NoFall (L.faults link.old) (L.faults link.new) }
     ensures sink_count { NoFall (K.faults sink.old) (K.faults sink.new) }
-    ensures link_cause { result ≡ GetEnd.Link → Rose (L.faults link.old).dialling (L.faults link.new).dialling }
+    ensures link_cause { result ≡ GetEnd.Link → Rose (L.faults link.old) (L.faults link.new) }
     ensures sink_cause { result ≡ GetEnd.Sink → Rose (K.faults sink.old) (K.faults sink.new) }
 {
     a_response_head_has_one_answer();
@@ -124,7 +124,7 @@ fn news<'a>(alloc: Global, manner: &'a Manner<'a>, url: &Url) -> Result<Wish<'a>
 }
 
 /// Talks with servers, from a URL on, until `times` replies have come.
-fn download<L: Link, K: Sink>(
+fn download<L: Dialler, K: Sink>(
     alloc: Global,
     wish: &Wish<'_>,
     url: Url,
@@ -134,9 +134,9 @@ fn download<L: Link, K: Sink>(
 ) -> GetEnd
     ensures talked { IsTalked K.takes K.fails (Converses (wish_of wish.now) (first_state (from_of (wish_of wish.now)) url times))
         (L.story link.old) (L.story link.new) sink.old sink.new result }
-    ensures link_count { CountsDialling (L.faults link.old) (L.faults link.new) }
+    ensures link_count { NoFall (L.faults link.old) (L.faults link.new) }
     ensures sink_count { NoFall (K.faults sink.old) (K.faults sink.new) }
-    ensures link_cause { result ≡ GetEnd.Link → Rose (L.faults link.old).dialling (L.faults link.new).dialling }
+    ensures link_cause { result ≡ GetEnd.Link → Rose (L.faults link.old) (L.faults link.new) }
     ensures sink_cause { result ≡ GetEnd.Sink → Rose (K.faults sink.old) (K.faults sink.new) }
 {
     let start = wish.from().unwrap_or(query::start(url.query()));

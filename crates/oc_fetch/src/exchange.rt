@@ -6,7 +6,7 @@ ghost use Rattle.oc_fetch.specs.Passing.{IsHeard, IsLastHeard, IsExchanged, IsLa
 ghost use Rattle.oc_fetch.specs.Wishes.{wish_of};
 ghost use Rattle.oc_link.specs.Exchange.{Hears, HearsThenBreaks};
 ghost use Rattle.oc_io.specs.Faults.{NoFall, Rose};
-ghost use Rattle.oc_link.specs.LinkCalls.{Told, IfTold, OnOutgoing, CountsDialling};
+ghost use Rattle.oc_link.specs.Calls.{Told, IfTold, OnOutgoing};
 ghost use Rattle.oc_link.specs.Story.{IsHeardOut};
 
 use crate::asking::ask;
@@ -16,11 +16,11 @@ use crate::hearing::hear;
 use crate::room::Room;
 use crate::wish::{Wish, write_request};
 use oc_io::Sink;
-use oc_link::{Link, Outgoing};
+use oc_link::{Dialler, Outgoing};
 
 /// Makes the request of a client in a state, passes on the content that comes, and goes to the state to
 /// which the reply leads.
-pub(crate) fn exchange<L: Link, K: Sink>(
+pub(crate) fn exchange<L: Dialler, K: Sink>(
     wish: &Wish<'_>,
     state: &mut ClientState,
     room: &mut Room,
@@ -34,9 +34,9 @@ pub(crate) fn exchange<L: Link, K: Sink>(
     ensures ends { IfErr result (λ end. IsLastExchanged K.takes K.fails
         (EndsAt (wish_of wish.now) state.old)
         (L.story link.old) (L.story link.new) sink.old sink.new end) }
-    ensures link_count { CountsDialling (L.faults link.old) (L.faults link.new) }
+    ensures link_count { NoFall (L.faults link.old) (L.faults link.new) }
     ensures sink_count { NoFall (K.faults sink.old) (K.faults sink.new) }
-    ensures link_cause { IsErrOf result GetEnd.Link → Rose (L.faults link.old).dialling (L.faults link.new).dialling }
+    ensures link_cause { IsErrOf result GetEnd.Link → Rose (L.faults link.old) (L.faults link.new) }
     ensures sink_cause { IsErrOf result GetEnd.Sink → Rose (K.faults sink.old) (K.faults sink.new) }
 {
     let request = write_request(room.alloc, wish, state)?;
@@ -45,7 +45,7 @@ pub(crate) fn exchange<L: Link, K: Sink>(
 }
 
 /// Takes a reply from the outgoing connection.
-fn hear_outgoing<L: Link, K: Sink>(
+fn hear_outgoing<L: Dialler, K: Sink>(
     wish: &Wish<'_>,
     state: &mut ClientState,
     room: &mut Room,
@@ -63,9 +63,9 @@ fn hear_outgoing<L: Link, K: Sink>(
         (λ l. IfTold (L.story l) IsHeardOut) K.takes K.fails
         (EndsWith (wish_of wish.now) state.old)
         link.old link.new sink.old sink.new end) }
-    ensures link_count { CountsDialling (L.faults link.old) (L.faults link.new) }
+    ensures link_count { NoFall (L.faults link.old) (L.faults link.new) }
     ensures sink_count { NoFall (K.faults sink.old) (K.faults sink.new) }
-    ensures link_cause { IsErrOf result GetEnd.Link → Rose (L.faults link.old).dialling (L.faults link.new).dialling }
+    ensures link_cause { IsErrOf result GetEnd.Link → Rose (L.faults link.old) (L.faults link.new) }
     ensures sink_cause { IsErrOf result GetEnd.Sink → Rose (K.faults sink.old) (K.faults sink.new) }
 {
     hear(wish, state, room, &mut Outgoing::new(link), sink)

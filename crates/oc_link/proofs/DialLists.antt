@@ -1,11 +1,11 @@
 -- Dials in memory, one after another.
-use Rattle.std.proofs.Common.{◌≡◌, ℕ, ◌+◌, ◌-◌, ◌<◌, ◌≤◌, zero, suc, Option, None, Some, List, [], ◌∷◌, ◌++◌, length, drop, refl, sym, ap, ◌∙◌, arith, length-append, replicate, add-one, length-drop}
-use Rattle.std.proofs.lemmas.List.{append-nil, append_assoc, length-replicate}
+use Rattle.std.proofs.Common.{◌≡◌, ℕ, ◌+◌, ◌-◌, ◌<◌, ◌≤◌, zero, suc, Option, None, Some, List, [], ◌∷◌, ◌++◌, length, drop, refl, sym, ap, ◌∙◌, arith, length-append, replicate, length-drop}
+use Rattle.std.proofs.lemmas.List.{append-nil, length-replicate}
 use Rattle.std.proofs.lemmas.Option.{slice_get_past}
 use Rattle.std.specs.List.{slice_get}
 use Rattle.std.specs.Option.{option_map, option_to_list}
 use Rattle.oc_link.specs.DialsView.{DialsView, dials_of, nowhere, outgoing_of, all_dials, over}
-use Rattle.oc_link.specs.LinkCalls.{connection_of}
+use Rattle.oc_link.specs.Calls.{connection_of}
 use Rattle.oc_link.specs.ByteStrings.{grown}
 use Rattle.oc_link.specs.Story.{Connection, Dial, unused, wrote, through}
 use Rattle.oc_link.specs.ConnectionsView.{ConnectionsView, at, ended, begun, further}

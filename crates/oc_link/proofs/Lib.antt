@@ -1,4 +1,4 @@
 pub mod DialLists
-pub mod MemLinkStory
+pub mod MemDiallerStory
 pub mod StringsIn
 pub mod ConnectionLists

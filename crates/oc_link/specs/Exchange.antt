@@ -3,10 +3,11 @@ use Rattle.std.specs.Prelude.{◌≡◌, ℕ, Option, None, Some, List, [], ◌+
 use Rattle.std.specs.Option.{option_map}
 use Rattle.std.proofs.Common.{sym, ◌∙◌, ap}
 use Rattle.std.proofs.lemmas.List.{append-nil, append_assoc}
+use Rattle.oc_io.specs.SourceView.{fronts}
 use Rattle.oc_link.specs.Story.{Connection, wrote, broken}
 
 -- these bytes were read, from the front of what it will give
-pub record Gives (bytes : List ℕ) (old new : Connection) : Type 0 where
+pub record ReadsFront (bytes : List ℕ) (old new : Connection) : Type 0 where
   pub left : old.left ≡ bytes ++ new.left
   pub read : new.read ≡ old.read ++ bytes
   pub written : new.written ≡ old.written
@@ -14,7 +15,7 @@ pub record Gives (bytes : List ℕ) (old new : Connection) : Type 0 where
 
 -- these bytes were read; where there is no connection there are none
 abbrev pub Hears : List ℕ → Option Connection → Option Connection → Type 0
-Hears bytes (Some old) (Some new) = Gives bytes old new
+Hears bytes (Some old) (Some new) = ReadsFront bytes old new
 Hears bytes None None = bytes ≡ []
 Hears bytes old new = ⊥
 
@@ -53,10 +54,6 @@ pub Says-nothing : (c : Option Connection) → Says [] c c
 Says-nothing None = refl
 Says-nothing (Some c) = ap (λ (written : List ℕ). record c { written = written }) (sym (append-nil c.written))
 
--- a prefix of a prefix
-fronts : (a b c x y : List ℕ) → a ≡ x ++ b → b ≡ y ++ c → a ≡ (x ++ y) ++ c
-fronts a b c x y e f = e ∙ ap (λ (rest : List ℕ). x ++ rest) f ∙ sym (append_assoc x y c)
-
 -- an addition after an addition
 adds : (a b c x y : List ℕ) → b ≡ a ++ x → c ≡ b ++ y → c ≡ a ++ (x ++ y)
 adds a b c x y e f = f ∙ ap (λ (front : List ℕ). front ++ y) e ∙ append_assoc a x y
@@ -79,20 +76,6 @@ Hears-then x y (Some a) (Some b) (Some c) p q = record {
   failed = q.failed ∙ p.failed;
 }
 
--- bytes were written, and then further ones
-pub Says-then : (x y : List ℕ) (a b c : Option Connection) → Says x a b → Says y b c → Says (x ++ y) a c
-Says-then x y None None None p q = nothing x y p q
-Says-then x y None None (Some c) p q = absurd q
-Says-then x y None (Some b) c p q = absurd p
-Says-then x y (Some a) None c p q = absurd p
-Says-then x y (Some a) (Some b) None p q = absurd q
-Says-then x y (Some a) (Some b) (Some c) p q =
-    q ∙ ap (wrote y) p ∙ ap (λ (written : List ℕ). record a { written = written }) (append_assoc a.written x y)
-
 -- bytes were read, further ones, and then a call failed
 pub Hears-breaks : (x y : List ℕ) (a b c : Option Connection) → Hears x a b → HearsThenBreaks y b c → HearsThenBreaks (x ++ y) a c
 Hears-breaks x y a b c p (between, q, breaks) = (between, Hears-then x y a b between p q, breaks)
-
--- bytes were written, further ones, and then a call failed
-pub Says-breaks : (x y : List ℕ) (a b c : Option Connection) → Says x a b → SaysThenBreaks y b c → SaysThenBreaks (x ++ y) a c
-Says-breaks x y a b c p (between, q, breaks) = (between, Says-then x y a b between p q, breaks)

@@ -1,10 +1,9 @@
 pub mod Story
 pub mod Exchange
-pub mod LinkCalls
-pub mod LinkBorrow
-pub mod ClockView
+pub mod Calls
+pub mod Borrow
 pub mod DialsView
-pub mod MemLinkView
+pub mod MemDiallerView
 pub mod Connection
 pub mod ByteStrings
 pub mod ConnectionsView

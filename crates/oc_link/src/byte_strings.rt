@@ -8,7 +8,7 @@ use std::marker::Model;
 /// Byte strings one after another in one buffer, which never grows past what was made. Only the last
 /// string grows.
 #[derive(Debug, Drop)]
-pub struct ByteStrings {
+pub(crate) struct ByteStrings {
     bytes: Vec<u8>,
     /// The place where each string begins.
     starts: Vec<usize>,
@@ -33,7 +33,11 @@ impl Model for ByteStrings {
 
 impl ByteStrings {
     /// No strings, and room for this many bytes and strings.
-    pub fn new(alloc: Global, room: usize, string_room: usize) -> Result<ByteStrings, AllocError>
+    pub(crate) fn new(
+        alloc: Global,
+        room: usize,
+        string_room: usize,
+    ) -> Result<ByteStrings, AllocError>
         ensures { IfOk result (λ r. r ≡ record { strings = []; room = room; string_room = string_room }) }
     {
         Ok(ByteStrings {
@@ -45,14 +49,14 @@ impl ByteStrings {
     }
 
     /// How many strings there are.
-    pub fn len(&self) -> usize
+    pub(crate) fn len(&self) -> usize
         ensures { result ≡ length self.now.strings }
     {
         self.starts.as_slice().len()
     }
 
     /// Begins another string, which is empty at first.
-    pub fn begin(&mut self)
+    pub(crate) fn begin(&mut self)
         requires { 0 < self.old.string_room }
         ensures { self.new ≡ record self.old { strings = self.old.strings ++ [] ∷ []; string_room = self.old.string_room - 1 } }
     {
@@ -62,7 +66,7 @@ impl ByteStrings {
     }
 
     /// Puts these bytes after the last string.
-    pub fn extend(&mut self, more: &[u8])
+    pub(crate) fn extend(&mut self, more: &[u8])
         requires room { length more.now ≤ self.old.room }
         requires some { 0 < length self.old.strings }
         ensures { self.new ≡ record self.old
@@ -73,7 +77,7 @@ impl ByteStrings {
     }
 
     /// The string at this place, counted from 0.
-    pub fn get(&self, at: usize) -> Option<&[u8]>
+    pub(crate) fn get(&self, at: usize) -> Option<&[u8]>
         ensures { option_copied result ≡ slice_get self.now.strings at }
     {
         let bytes = self.bytes.as_slice();

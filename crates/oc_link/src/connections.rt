@@ -1,4 +1,4 @@
-ghost use Rattle.std.specs.Prelude.{◌≡◌, ◌↔◌, ◌+◌, ◌-◌, ◌<◌, ◌≤◌, false, IsTrue, Option, None, Some, [], ◌++◌, not, ◌==◌, length, min, take, drop, map, IfOk, IsSome, is_some, slice_get, option_to_list};
+ghost use Rattle.std.specs.Prelude.{◌≡◌, ◌+◌, ◌-◌, ◌<◌, ◌≤◌, Option, None, Some, [], ◌++◌, not, ◌==◌, length, min, take, drop, map, IfOk, IsSome, is_some, slice_get, option_to_list};
 ghost use Rattle.std.specs.Option.{option_copied, option_map};
 ghost use Rattle.oc_link.specs.Connection.{broken, wrote};
 ghost use Rattle.oc_link.specs.ConnectionsView.{ConnectionsView, ended, begun, further, left_of};
@@ -9,15 +9,15 @@ use std::marker::Model;
 
 /// How far a connection has come: the bytes of it that were read, and whether a call on it failed.
 #[derive(Clone, Copy, Debug)]
-pub struct Progress {
-    pub read: usize,
-    pub failed: bool,
+pub(crate) struct Progress {
+    pub(crate) read: usize,
+    pub(crate) failed: bool,
 }
 
 /// Connections in memory, one after another: those that wait, those that ended, and one that may be
 /// current. What is written on them is kept.
 #[derive(Debug, Drop)]
-pub struct Connections {
+pub(crate) struct Connections {
     /// The bytes that each connection gives, oldest first.
     given: Vec<Vec<u8>>,
     /// Those that ended.
@@ -50,7 +50,11 @@ impl Model for Connections {
 impl Connections {
     /// Connections that give these bytes, all of which wait, and room for this many bytes that are
     /// written.
-    pub fn new(alloc: Global, given: Vec<Vec<u8>>, room: usize) -> Result<Connections, AllocError>
+    pub(crate) fn new(
+        alloc: Global,
+        given: Vec<Vec<u8>>,
+        room: usize,
+    ) -> Result<Connections, AllocError>
         ensures { IfOk result (λ t. t ≡ record {
           waiting = map (λ v. v.items) given.items;
           past = [];
@@ -69,7 +73,7 @@ impl Connections {
     }
 
     /// Whether a connection waits.
-    pub fn waits(&self) -> bool
+    pub(crate) fn waits(&self) -> bool
         ensures { result ≡ not (length self.now.waiting == 0) }
     {
         let taken = self.past.len() + usize::from(self.current.is_some());
@@ -77,14 +81,14 @@ impl Connections {
     }
 
     /// Whether there is a current connection.
-    pub fn is_open(&self) -> bool
+    pub(crate) fn is_open(&self) -> bool
         ensures { result ≡ is_some self.now.current }
     {
         self.current.is_some()
     }
 
     /// Ends the current connection, if there is one.
-    pub fn close(&mut self)
+    pub(crate) fn close(&mut self)
         ensures { self.new ≡ ended self.old }
     {
         if let Some(progress) = self.current {
@@ -94,7 +98,7 @@ impl Connections {
     }
 
     /// Makes the oldest connection that waits the current one, and ends the one before.
-    pub fn next(&mut self)
+    pub(crate) fn next(&mut self)
         requires { 0 < length self.old.waiting }
         ensures { self.new ≡ begun self.old }
     {
@@ -106,23 +110,9 @@ impl Connections {
         });
     }
 
-    /// Makes the oldest connection that waits the current one, where one waits, and answers whether one
-    /// did.
-    pub fn take_next(&mut self) -> bool
-        ensures waited { IsTrue result ↔ (0 < length self.old.waiting) }
-        ensures taken { IsTrue result → self.new ≡ begun self.old }
-        ensures none { result ≡ false → self.new ≡ self.old }
-    {
-        if !self.waits() {
-            return false;
-        }
-        self.next();
-        true
-    }
-
     /// Reads from the current connection, at most `most` bytes: fills a prefix of the buffer and
     /// answers its length. Without a current connection there is nothing to read.
-    pub fn read(&mut self, buf: &mut [u8], most: usize) -> usize
+    pub(crate) fn read(&mut self, buf: &mut [u8], most: usize) -> usize
         ensures count { result ≡ min (min (length buf.old) most) (length (left_of self.old.current)) }
         ensures bytes { take result buf.new ≡ take result (left_of self.old.current) }
         ensures view { self.new ≡ record self.old { current = option_map (further result) self.old.current } }
@@ -140,7 +130,7 @@ impl Connections {
     }
 
     /// Writes on the current connection.
-    pub fn write(&mut self, bytes: &[u8])
+    pub(crate) fn write(&mut self, bytes: &[u8])
         requires open { IsSome self.old.current }
         requires room { length bytes.now ≤ self.old.room }
         ensures { self.new ≡ record self.old {
@@ -152,7 +142,7 @@ impl Connections {
     }
 
     /// Notes that a call on the current connection failed, if there is one.
-    pub fn fail(&mut self)
+    pub(crate) fn fail(&mut self)
         ensures { self.new ≡ record self.old { current = option_map broken self.old.current } }
     {
         if let Some(progress) = self.current {
@@ -163,8 +153,8 @@ impl Connections {
         }
     }
 
-    /// What was written on the connection that was taken at this place, counted from 0.
-    pub fn written(&self, at: usize) -> Option<&[u8]>
+    /// What was written on the connection at this place, counted from 0, of those that ended and the current one.
+    pub(crate) fn written(&self, at: usize) -> Option<&[u8]>
         ensures { option_copied result ≡ option_map (λ c. c.written)
             (slice_get (self.now.past ++ option_to_list self.now.current) at) }
     {

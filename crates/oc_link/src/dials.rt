@@ -1,19 +1,20 @@
 ghost use Rattle.std.specs.Prelude.{◌≡◌, ◌+◌, ◌-◌, ◌^◌, ◌<◌, ◌≤◌, Some, [], not, ◌==◌, length, min, take, drop, map, IfOk, IsSome, is_some, slice_get, slice_index_or};
 ghost use Rattle.std.specs.Option.{option_copied, option_map};
 ghost use Rattle.oc_link.specs.DialsView.{DialsView, all_dials, over, with_failed};
-ghost use Rattle.oc_link.specs.LinkCalls.{connection_of};
+ghost use Rattle.oc_link.specs.Calls.{connection_of};
 ghost use Rattle.oc_link.specs.Story.{broken, wrote, unused, through};
 ghost use Rattle.oc_link.specs.ConnectionsView.{further, left_of};
 ghost use Rattle.oc_io.specs.Tally.{counted};
 
-use crate::{ByteStrings, Connections};
+use crate::byte_strings::ByteStrings;
+use crate::connections::Connections;
 use std::alloc::{AllocError, Global};
 use std::marker::Model;
 
 /// Dials in memory, one after another, of which one may be outgoing. Each takes the next of the
 /// replies.
 #[derive(Debug, Drop)]
-pub struct Dials {
+pub(crate) struct Dials {
     connections: Connections,
     /// The address of each dial that took a reply.
     addresses: ByteStrings,
@@ -45,7 +46,11 @@ impl Model for Dials {
 
 impl Dials {
     /// No dial yet, these replies, and room for this many bytes.
-    pub fn new(alloc: Global, replies: Vec<Vec<u8>>, room: usize) -> Result<Dials, AllocError>
+    pub(crate) fn new(
+        alloc: Global,
+        replies: Vec<Vec<u8>>,
+        room: usize,
+    ) -> Result<Dials, AllocError>
         ensures { IfOk result (λ d. d ≡ record {
           replies = map (λ v. v.items) replies.items;
           past = [];
@@ -65,28 +70,35 @@ impl Dials {
     }
 
     /// Whether there is an outgoing dial.
-    pub fn is_open(&self) -> bool
+    pub(crate) fn is_open(&self) -> bool
         ensures { result ≡ is_some self.now.outgoing }
     {
         self.connections.is_open()
     }
 
     /// Whether a reply is left.
-    pub fn waits(&self) -> bool
+    pub(crate) fn waits(&self) -> bool
         ensures { result ≡ not (length self.now.replies == 0) }
     {
         self.connections.waits()
     }
 
+    /// The bytes for which there is room.
+    pub(crate) fn room(&self) -> usize
+        ensures { result ≡ self.now.room }
+    {
+        self.room
+    }
+
     /// Ends the outgoing dial, if there is one.
-    pub fn close(&mut self)
+    pub(crate) fn close(&mut self)
         ensures { self.new ≡ over self.old }
     {
         self.connections.close();
     }
 
     /// Another dial, with the next reply, in the place of the outgoing one.
-    pub fn begin(&mut self, address: &[u8], bytes: &[u8])
+    pub(crate) fn begin(&mut self, address: &[u8], bytes: &[u8])
         requires reply { 0 < length self.old.replies }
         requires room { length address.now + length bytes.now ≤ self.old.room }
         ensures { self.new ≡ record (over self.old) {
@@ -107,7 +119,7 @@ impl Dials {
 
     /// Another dial, which failed, in the place of the outgoing one; it takes the next reply, if there
     /// is one. Past the last reply such dials are only counted.
-    pub fn refuse(&mut self)
+    pub(crate) fn refuse(&mut self)
         ensures view { self.old.refused < 2 ^ 64 - 1 → self.new ≡ record (with_failed self.old) { refused = self.new.refused } }
         ensures refused { self.new.refused ≤ counted self.old.refused }
         ensures room { self.new.room ≡ self.old.room }
@@ -125,7 +137,7 @@ impl Dials {
 
     /// Reads from the outgoing dial, at most `most` bytes: fills a prefix of the buffer and answers its
     /// length. Without an outgoing dial there is nothing to read.
-    pub fn read(&mut self, buf: &mut [u8], most: usize) -> usize
+    pub(crate) fn read(&mut self, buf: &mut [u8], most: usize) -> usize
         ensures count { result ≡ min (min (length buf.old) most) (length (left_of (connection_of self.old.outgoing))) }
         ensures bytes { take result buf.new ≡ take result (left_of (connection_of self.old.outgoing)) }
         ensures view { self.new ≡ record self.old { outgoing = option_map (through (further result)) self.old.outgoing } }
@@ -134,7 +146,7 @@ impl Dials {
     }
 
     /// Writes on the outgoing dial.
-    pub fn write(&mut self, bytes: &[u8])
+    pub(crate) fn write(&mut self, bytes: &[u8])
         requires open { IsSome self.old.outgoing }
         requires room { length bytes.now ≤ self.old.room }
         ensures { self.new ≡ record self.old {
@@ -147,14 +159,14 @@ impl Dials {
     }
 
     /// Notes that a call on the outgoing dial failed, if there is one.
-    pub fn fail(&mut self)
+    pub(crate) fn fail(&mut self)
         ensures { self.new ≡ record self.old { outgoing = option_map (through broken) self.old.outgoing } }
     {
         self.connections.fail();
     }
 
     /// What was written on the dial at this place, counted from 0.
-    pub fn written(&self, at: u64) -> Option<&[u8]>
+    pub(crate) fn written(&self, at: u64) -> Option<&[u8]>
         ensures { option_copied result ≡ option_map (λ d. d.connection.written) (slice_get (all_dials self.now) at) }
     {
         let taken = self.addresses.len() as u64;

@@ -1,34 +1,23 @@
-//! What lies outside a program but files and streams: connections and clocks.
+//! A client's link, over which it dials.
 //!
-//! A [`Link`] is how a node is reached and how it reaches others. Its story (`specs/Story`) tells what
-//! waits, what was read and written on each connection that was taken and on each dial, and where a call
-//! failed; each call says what it adds to the story. A link of sockets tells no story, and for it the
-//! clauses on counts and lengths hold. [`Current`] and [`Outgoing`] borrow a link, and are the connection
-//! that was taken last and the dial that was made last as a source and a sink.
+//! A [`Dialler`] makes dials, of which one at a time is the outgoing connection. Its story (`specs/Story`)
+//! tells what was read and written on each, and where a call failed; each call says what it adds to the
+//! story. A dialler of sockets tells no story, and for it the clauses on counts and lengths hold.
+//! [`Outgoing`] borrows a dialler, and is its outgoing connection as a source.
 //!
-//! A [`Clock`] gives the time in seconds and in milliseconds.
-//!
-//! In memory: [`FixedClock`] gives the times of two lists. [`MemLink`] tells its story, and its calls fail
-//! where they are listed. Its connections, and those of its dials, are [`Connections`]: those that wait,
-//! each as the bytes that it will give, those that ended, and the one that may be current. What is written
-//! on each is kept in [`ByteStrings`], so that after the beginning nothing takes memory.
+//! In memory: [`MemDialler`] tells its story, and its calls fail where they are listed. It is made with the
+//! bytes that its dials give in reply. Those and the addresses are in `Dials`, over `Connections`: those that
+//! wait, those that ended, and the one that may be current. What is written on each is kept in `ByteStrings`,
+//! so that after the beginning nothing takes memory.
 #![tactic(auto)]
 
 mod byte_strings;
-mod clock;
 mod connections;
-mod current;
+mod dialler;
 mod dials;
-mod fixed_clock;
-mod link;
-mod mem_link;
+mod mem_dialler;
 mod outgoing;
 
-pub use byte_strings::ByteStrings;
-pub use clock::Clock;
-pub use connections::{Connections, Progress};
-pub use current::Current;
-pub use fixed_clock::FixedClock;
-pub use link::{Arrival, Link};
-pub use mem_link::MemLink;
+pub use dialler::Dialler;
+pub use mem_dialler::MemDialler;
 pub use outgoing::Outgoing;

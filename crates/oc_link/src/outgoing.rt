@@ -1,20 +1,20 @@
 ghost use Rattle.std.specs.Prelude.{◌≡◌};
+ghost use Rattle.oc_link.specs.Borrow.{ChangesOutgoing, Outgoing-hears-fails, Outgoing-hears-nothing, Outgoing-hears-then};
+ghost use Rattle.oc_link.specs.Calls.{IfTold};
 ghost use Rattle.oc_link.specs.Exchange.{Hears, HearsThenBreaks};
-ghost use Rattle.oc_link.specs.LinkCalls.{IfTold};
-ghost use Rattle.oc_link.specs.LinkBorrow.{ChangesOutgoing, Outgoing-hears-nothing, Outgoing-hears-then, Outgoing-hears-fails};
 ghost use Rattle.oc_link.specs.Story.{IsHeardOut};
 
-use crate::link::Link;
+use crate::dialler::Dialler;
 use oc_io::{Failed, Source};
 
 /// The outgoing connection of a borrowed link: a source of what comes back on it.
 #[derive(Drop)]
-pub struct Outgoing<'a, L: Link> {
+pub struct Outgoing<'a, L: Dialler> {
     /// The link.
     pub link: &'a mut L,
 }
 
-impl<'a, L: Link> Outgoing<'a, L> {
+impl<'a, L: Dialler> Outgoing<'a, L> {
     /// The outgoing connection of this link. What is done to it is done to the link that is borrowed.
     pub fn new(link: &'a mut L) -> Outgoing<'a, L>
         ensures loan { result.link.ghost_name ≡ link.entry.ghost_name }
@@ -24,7 +24,7 @@ impl<'a, L: Link> Outgoing<'a, L> {
     }
 }
 
-impl<L: Link> Source for Outgoing<'_, L> {
+impl<L: Dialler> Source for Outgoing<'_, L> {
     ghost gives = { λ old bytes new. ChangesOutgoing (Hears bytes)
         (record { name = old.link.ghost_name; story = L.story old.link.now; faults = L.faults old.link.now })
         (record { name = new.link.ghost_name; story = L.story new.link.now; faults = L.faults new.link.now }) };
@@ -37,7 +37,7 @@ impl<L: Link> Source for Outgoing<'_, L> {
 
     ghost calls = { λ o. 0 };
 
-    ghost faults = { λ o. (L.faults o.link.now).dialling };
+    ghost faults = { λ o. L.faults o.link.now };
 
     ghost gives_nothing = { λ o. Outgoing-hears-nothing
         (record { name = o.link.ghost_name; story = L.story o.link.now; faults = L.faults o.link.now }) };

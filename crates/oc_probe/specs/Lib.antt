@@ -1,4 +1,3 @@
 pub mod Faults
-pub mod Probes
 pub mod Rates
 pub mod Turns

@@ -1,10 +1,7 @@
 ghost use Rattle.std.specs.Prelude.{◌≡◌};
 ghost use Rattle.oc_probe.specs.Faults.{fault_of_http};
-ghost use Rattle.oc_probe.specs.declared.fault.ProbeFault.TheVariants.{Link as LinkFault, Memory as MemoryFault};
 
-use oc_base::Memory;
 use oc_http::HttpFault;
-use oc_io::Failed;
 use std::error::Error;
 use std::fmt;
 
@@ -31,22 +28,6 @@ impl fmt::Display for ProbeFault {
 }
 
 impl Error for ProbeFault {}
-
-impl From<Failed> for ProbeFault {
-    ghost from_gives = { λ _ fault. fault ≡ LinkFault };
-
-    fn from(_failed: Failed) -> ProbeFault {
-        ProbeFault::Link
-    }
-}
-
-impl From<Memory> for ProbeFault {
-    ghost from_gives = { λ _ fault. fault ≡ MemoryFault };
-
-    fn from(_memory: Memory) -> ProbeFault {
-        ProbeFault::Memory
-    }
-}
 
 impl From<HttpFault> for ProbeFault {
     ghost from_gives = { λ http fault. fault ≡ fault_of_http http };

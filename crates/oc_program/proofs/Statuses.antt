@@ -15,7 +15,6 @@ use Rattle.oc_events.specs.declared.call.Call.{Call}
 use Rattle.oc_events.specs.declared.counts.Counts.{Counts}
 use Rattle.oc_io.specs.DiskView.{DiskView}
 use Rattle.oc_keep.specs.Files.{Disks, disks_in}
-use Rattle.oc_link.specs.LinkCalls.{LinkFaults}
 use Rattle.oc_link.specs.Story.{Story}
 use Rattle.oc_model.specs.World.{World}
 use Rattle.oc_words.specs.Status.{number_of}
@@ -33,7 +32,7 @@ misused_number end (inr is) = inr (ap (λ e. number_of (status_of e)) is)
 
 module _ {S K E T D L N P : Type 0} (gives gives_less : S → List ℕ → S → Type 0) (ended : S → Type 0) (input_faults : S → ℕ)
     (takes takes_less : K → List ℕ → K → Type 0) (output_faults : K → ℕ) (writes writes_less : E → List ℕ → E → Type 0) (error_faults : E → ℕ) (world : T → World) (view : D → DiskView)
-    (dials : L → Option Story) (dial_faults : L → LinkFaults) (calls : N → Option (List Call)) (counts : N → Counts) (old : Outside S K E T D L N P) (told : E) (new : Outside S K E T D L N P) where
+    (dials : L → Option Story) (dial_faults : L → ℕ) (calls : N → Option (List Call)) (counts : N → Counts) (old : Outside S K E T D L N P) (told : E) (new : Outside S K E T D L N P) where
   abbrev o : Option Request → sayings.Outside
   o asked = seen gives gives_less ended input_faults takes takes_less output_faults writes writes_less error_faults world view dials dial_faults calls counts asked old told new
 

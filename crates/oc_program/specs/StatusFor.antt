@@ -10,14 +10,13 @@ use Rattle.oc_io.specs.DiskView.{DiskView}
 use Rattle.oc_io.specs.Faults.{Rose}
 use Rattle.oc_keep.specs.Files.{AreHonest, OneRose, disks_in}
 use Rattle.oc_keep.specs.Promises.{HoldFiles}
-use Rattle.oc_link.specs.LinkCalls.{LinkFaults}
 use Rattle.oc_link.specs.Story.{Story}
 use Rattle.oc_words.specs.declared.request.Request.{Request}
 use Rattle.oc_words.specs.declared.request.Request.TheVariants.{Check, CheckConfigured, Gen, Get, Help, Node, Put, Replay, Rules, Version}
 use Rattle.oc_program.specs.declared.outside.Outside.{Outside}
 
 module _ {S K E T D L N P : Type 0} (gives : S → List ℕ → S → Type 0) (ended : S → Type 0) (input_faults : S → ℕ) (output_faults : K → ℕ)
-    (view : D → DiskView) (dials : L → Option Story) (dial_faults : L → LinkFaults) (counts : N → Counts) (old new : Outside S K E T D L N P) where
+    (view : D → DiskView) (dials : L → Option Story) (dial_faults : L → ℕ) (counts : N → Counts) (old new : Outside S K E T D L N P) where
   -- What did not fail: the input, the output, a disk of those that are honest, a dial, and the link of a node in being asked
 
   abbrev pub InputHeld : Type 0
@@ -30,7 +29,7 @@ module _ {S K E T D L N P : Type 0} (gives : S → List ℕ → S → Type 0) (e
   DisksHeld = AreHonest view (disks_in old.files) × (OneRose view (disks_in old.files) (disks_in new.files) → ⊥)
 
   abbrev pub DialsHeld : Type 0
-  DialsHeld = Rose (dial_faults old.dialler).dialling (dial_faults new.dialler).dialling → ⊥
+  DialsHeld = Rose (dial_faults old.dialler) (dial_faults new.dialler) → ⊥
 
   abbrev pub LinkHeld : Type 0
   LinkHeld = Rose (counts old.link).listening (counts new.link).listening → ⊥

@@ -3,7 +3,7 @@
 use oc_events::Link;
 use oc_io::{Disk, Sink, Source};
 use oc_keep::Files;
-use oc_link::Link as Dialler;
+use oc_link::Dialler;
 use oc_put::Pause;
 use oc_replay::Stage;
 

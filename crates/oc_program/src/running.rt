@@ -28,7 +28,7 @@ use oc_commands::{
 use oc_events::Link;
 use oc_fetch::{GetEnd, Metered};
 use oc_io::{Disk, Sink, Source};
-use oc_link::Link as Dialler;
+use oc_link::Dialler;
 use oc_put::{Aside, Pause, PutEnd};
 use oc_replay::Stage;
 use oc_service::Site;

@@ -19,7 +19,7 @@ use crate::running::run;
 use oc_events::Link;
 use oc_io::{Disk, ReaderSource, Traffic, WriterSink};
 use oc_keep::Files;
-use oc_link::Link as Dialler;
+use oc_link::Dialler;
 use oc_put::Pause;
 use oc_replay::Stage;
 use oc_words::Request;

@@ -1,9 +1,9 @@
 -- One dial, from what the calls on the link do.
 use Rattle.std.proofs.Common.{◌≡◌, ℕ, Bool, true, false, Option, Some, None, Result, Ok, Err, List, [], ◌∷◌, ◌++◌, refl, sym, ap, ◌∙◌, subst, option_map, IfSome}
 use Rattle.std.proofs.lemmas.List.{append-nil}
-use Rattle.oc_link.specs.Exchange.{Gives, Hears, HearsThenBreaks}
-use Rattle.oc_link.specs.LinkBorrow.{BorrowView, ChangesOutgoing}
-use Rattle.oc_link.specs.LinkCalls.{Told, IfTold, OnOutgoing, DialsTo, DialFails, IsFront, connection_of, address_of}
+use Rattle.oc_link.specs.Exchange.{ReadsFront, Hears, HearsThenBreaks}
+use Rattle.oc_link.specs.Borrow.{BorrowView, ChangesOutgoing}
+use Rattle.oc_link.specs.Calls.{Told, IfTold, OnOutgoing, DialsTo, DialFails, IsFront, connection_of, address_of}
 use Rattle.oc_link.specs.Story.{Connection, Dial, Story, dials, unused, wrote, broken, hung_up, IsHeardOut}
 use Rattle.oc_put.specs.Hearing.{Came, Hears as HearsReply}
 use Rattle.oc_put.specs.Replies.{Answers}
@@ -29,7 +29,7 @@ ended : (a b : Story) (made last : Dial) → b ≡ record (record (hung_up a) { 
 ended a b made last e = ap hung_up e
 
 -- what is read on a dial
-read_on_dial : (address text reply given : List ℕ) (over : Bool) (last : Dial) → Gives reply (made_at address text given).connection last.connection → Some last.address ≡ Some address → (over ≡ true → last.connection.left ≡ []) → IsWhole address text reply over last
+read_on_dial : (address text reply given : List ℕ) (over : Bool) (last : Dial) → ReadsFront reply (made_at address text given).connection last.connection → Some last.address ≡ Some address → (over ≡ true → last.connection.left ≡ []) → IsWhole address text reply over last
 read_on_dial address text reply given over last gives at end = record {
   address_is = some_is last.address address at;
   written_is = gives.written;
@@ -63,7 +63,7 @@ heard_dial address text reply over a b c None is (given, dialled) heard end =
     absurd (subst (λ (o : Option Dial). Hears reply (connection_of o) (connection_of None)) (ap (λ (s : Story). s.outgoing) dialled) (subst (λ (o : Option Dial). Hears reply (connection_of b.outgoing) (connection_of o)) is heard.outgoing))
 heard_dial address text reply over a b c (Some last) is (given, dialled) heard end =
     let out = ap (λ (s : Story). s.outgoing) dialled in
-    let gives : Gives reply (made_at address text given).connection last.connection = subst (λ (o : Option Dial). Hears reply (connection_of o) (connection_of (Some last))) out (subst (λ (o : Option Dial). Hears reply (connection_of b.outgoing) (connection_of o)) is heard.outgoing) in
+    let gives : ReadsFront reply (made_at address text given).connection last.connection = subst (λ (o : Option Dial). Hears reply (connection_of o) (connection_of (Some last))) out (subst (λ (o : Option Dial). Hears reply (connection_of b.outgoing) (connection_of o)) is heard.outgoing) in
     let at : Some last.address ≡ Some address = subst (λ (o : Option Dial). address_of (Some last) ≡ address_of o) out (subst (λ (o : Option Dial). address_of o ≡ address_of b.outgoing) is heard.address) in
     let left : over ≡ true → last.connection.left ≡ [] = λ e. subst (λ (o : Option Dial). IsLeft o) is (end e) in
     let last_is : c ≡ record (record (hung_up a) { outgoing = Some (made_at address text given) }) { outgoing = Some last } = heard.rest ∙ ap (λ (o : Option Dial). record b { outgoing = o }) is ∙ ap (λ (s : Story). record s { outgoing = Some last }) dialled in

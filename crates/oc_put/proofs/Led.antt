@@ -3,7 +3,7 @@ use Rattle.std.proofs.Common.{◌≡◌, ℕ, ◌+◌, ◌*◌, ◌-◌, ◌<◌
 use Rattle.std.proofs.lemmas.Bool.{ltb-true}
 use Rattle.std.specs.Prelude.{⊤}
 use Rattle.oc_fetch.specs.Addresses.{dial_address}
-use Rattle.oc_link.specs.LinkCalls.{Told}
+use Rattle.oc_link.specs.Calls.{Told}
 use Rattle.oc_link.specs.Story.{Story}
 use Rattle.oc_put.specs.Efforts.{may_try, asks, behind_of, request_of, behind_failure, end_of_failure, done, next_of, weighed_doing, Asks, Onward, LeadsTo, IsLed}
 use Rattle.oc_put.specs.Requests.{Goal, request_text}

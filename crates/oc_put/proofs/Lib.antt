@@ -8,6 +8,5 @@ mod Lines
 mod Making
 mod Pieces
 mod Published
-mod Rising
 mod Sent
 mod Texts

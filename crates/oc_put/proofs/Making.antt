@@ -1,8 +1,8 @@
 -- The dials of turns, one after another.
 use Rattle.std.proofs.Common.{Option, Some, None, List, [], ◌∷◌, ◌++◌, refl, sym, ap, ◌∙◌}
 use Rattle.std.proofs.lemmas.List.{append-nil, append_assoc}
-use Rattle.oc_link.specs.LinkBorrow.{Told-same, Told-then}
-use Rattle.oc_link.specs.LinkCalls.{Told}
+use Rattle.oc_link.specs.Borrow.{Told-same, Told-then}
+use Rattle.oc_link.specs.Calls.{Told}
 use Rattle.oc_link.specs.Story.{Dial, Story, dials}
 use Rattle.oc_fetch.specs.Addresses.{dial_address}
 use Rattle.oc_put.specs.Requests.{Goal, request_text}
@@ -10,7 +10,7 @@ use Rattle.oc_put.specs.Turns.{Turn, Dials, AreTold, Makes}
 
 -- no turn
 makes_none : (goal : Goal) (s : Story) → Makes goal [] s s
-makes_none goal s = record { made = []; told = tt; dials_are = sym (append-nil (dials s)); waiting = refl; past = refl; current = refl }
+makes_none goal s = record { made = []; told = tt; dials_are = sym (append-nil (dials s)) }
 
 -- one turn
 makes_one : (goal : Goal) (turn : Turn) (a b : Story) → Dials (dial_address goal.url) (request_text goal turn.request) turn.reply turn.over turn.answer a b → Makes goal (turn ∷ []) a b
@@ -18,9 +18,6 @@ makes_one goal turn a b one = record {
   made = one.dial ∷ [];
   told = (one.tells, tt);
   dials_are = ap dials one.new_is ∙ append-nil (dials a ++ one.dial ∷ []);
-  waiting = ap (λ (s : Story). s.waiting) one.new_is;
-  past = ap (λ (s : Story). s.past) one.new_is;
-  current = ap (λ (s : Story). s.current) one.new_is;
 }
 
 told_append : (goal : Goal) (first rest : List Turn) (xs ys : List Dial) → AreTold goal first xs → AreTold goal rest ys → AreTold goal (first ++ rest) (xs ++ ys)
@@ -35,9 +32,6 @@ makes_then goal first rest a b c p q = record {
   made = p.made ++ q.made;
   told = told_append goal first rest p.made q.made p.told q.told;
   dials_are = q.dials_are ∙ ap (λ (ds : List Dial). ds ++ q.made) p.dials_are ∙ append_assoc (dials a) p.made q.made;
-  waiting = q.waiting ∙ p.waiting;
-  past = q.past ∙ p.past;
-  current = q.current ∙ p.current;
 }
 
 -- Of a link that may not tell its story

@@ -1,6 +1,6 @@
 -- A publishing over a link and an input, from its steps.
 use Rattle.std.proofs.Common.{◌≡◌, ℕ, Bool, true, false, inl, inr, Option, List, [], ◌++◌, map, refl, sym, subst, append_assoc, append-nil}
-use Rattle.oc_link.specs.LinkCalls.{Told}
+use Rattle.oc_link.specs.Calls.{Told}
 use Rattle.oc_link.specs.Story.{Story}
 use Rattle.oc_put.specs.Carrying.{IsRefused, IsAtPlace, IsOffPlace, IsCarried, IsCutBetween, IsRefusedAt, IsCarryStopped, IsSealed, IsSealStopped}
 use Rattle.oc_put.specs.Efforts.{IsLed, IsStopped, finding}

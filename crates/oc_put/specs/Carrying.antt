@@ -1,7 +1,7 @@
 -- The steps of a publishing over a link and an input.
 use Rattle.std.specs.Prelude.{◌≡◌, ◌⊎◌, ℕ, Bool, true, Option, Result, Ok, Err, List, [], ◌∷◌, ◌++◌, map}
 use Rattle.std.specs.List.{AllByRecursion}
-use Rattle.oc_link.specs.LinkCalls.{Told}
+use Rattle.oc_link.specs.Calls.{Told}
 use Rattle.oc_link.specs.Story.{Story}
 use Rattle.oc_put.specs.Publishing.{joined, IsFull, AreCut, Sends, Begins, Seals, DoesNotBegin, IsMissing, Refuses, Came}
 use Rattle.oc_put.specs.Requests.{Goal, bytes, seal}

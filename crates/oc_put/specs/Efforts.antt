@@ -1,6 +1,6 @@
 -- What a client does next, by what was answered to it: the whole of its patience.
 use Rattle.std.specs.Prelude.{◌≡◌, ◌⊎◌, ℕ, ◌+◌, ◌-◌, ◌&&◌, ◌==◌, nat_lt, Bool, true, false, if◌then◌else◌, Option, Result, Ok, Err, List, [], ◌∷◌, length}
-use Rattle.oc_link.specs.LinkCalls.{Told}
+use Rattle.oc_link.specs.Calls.{Told}
 use Rattle.oc_link.specs.Story.{Story}
 use Rattle.oc_put.specs.Replies.{Answers}
 use Rattle.oc_put.specs.Requests.{Goal, Request, ask, publish}

@@ -1,7 +1,7 @@
 -- What goes between a client and a source: requests, each on a dial of its own, and what is made of what came back.
 use Rattle.std.specs.Prelude.{◌≡◌, ℕ, Bool, true, Result, Err, Option, List, [], ◌∷◌, ◌++◌, ⊤}
 use Rattle.oc_fetch.specs.Addresses.{dial_address}
-use Rattle.oc_link.specs.LinkCalls.{IsFront, Told}
+use Rattle.oc_link.specs.Calls.{IsFront, Told}
 use Rattle.oc_link.specs.Story.{Dial, Story, dials, hung_up}
 use Rattle.oc_put.specs.Replies.{Answers}
 use Rattle.oc_put.specs.Requests.{Goal, Request, request_text}
@@ -55,11 +55,8 @@ AreTold goal (turn ∷ turns) [] = ⊥
 AreTold goal (turn ∷ turns) (dial ∷ dials) =
     Tells (dial_address goal.url) (request_text goal turn.request) turn.reply turn.over turn.answer dial × AreTold goal turns dials
 
--- a link made the dials of these turns, and nothing else happened on it
+-- a link made the dials of these turns, and no others
 pub record Makes (goal : Goal) (turns : List Turn) (old new : Story) : Type 0 where
   pub made : List Dial
   pub told : AreTold goal turns made
   pub dials_are : dials new ≡ dials old ++ made
-  pub waiting : new.waiting ≡ old.waiting
-  pub past : new.past ≡ old.past
-  pub current : new.current ≡ old.current

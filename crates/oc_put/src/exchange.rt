@@ -1,9 +1,9 @@
 //! One request on a dial of its own, and what is made of its reply.
 
 ghost use Rattle.std.specs.Prelude.{◌≡◌, IsErrOf};
-ghost use Rattle.oc_io.specs.Faults.{Rose};
+ghost use Rattle.oc_io.specs.Faults.{NoFall, Rose};
 ghost use Rattle.oc_link.specs.Exchange.{Hears, HearsThenBreaks};
-ghost use Rattle.oc_link.specs.LinkCalls.{Told, IfTold, OnOutgoing, CountsDialling};
+ghost use Rattle.oc_link.specs.Calls.{Told, IfTold, OnOutgoing};
 ghost use Rattle.oc_link.specs.Story.{IsHeardOut};
 ghost use Rattle.oc_put.specs.Hearing.{Hears as HearsReply};
 ghost use Rattle.oc_put.specs.Replies.{Answers};
@@ -12,10 +12,10 @@ ghost use Rattle.oc_put.specs.Turns.{IsDialled};
 use crate::answer::{Answer, Failure};
 use crate::hearing::hear;
 use oc_http::HeadReader;
-use oc_link::{Link, Outgoing};
+use oc_link::{Dialler, Outgoing};
 
 /// Writes a request on a new dial, takes the reply, and ends the dial.
-pub(crate) fn exchange<L: Link>(
+pub(crate) fn exchange<L: Dialler>(
     address: &str,
     request: &[u8],
     asks: bool,
@@ -23,8 +23,8 @@ pub(crate) fn exchange<L: Link>(
     link: &mut L,
 ) -> Result<Answer, Failure>
     ensures dialled { IsDialled address.now request.now asks (L.story link.old) (L.story link.new) result }
-    ensures count { CountsDialling (L.faults link.old) (L.faults link.new) }
-    ensures cause { IsErrOf result Failure.Link → Rose (L.faults link.old).dialling (L.faults link.new).dialling }
+    ensures count { NoFall (L.faults link.old) (L.faults link.new) }
+    ensures cause { IsErrOf result Failure.Link → Rose (L.faults link.old) (L.faults link.new) }
 {
     match link.dial(address, request) {
         Ok(()) => {
@@ -40,7 +40,7 @@ pub(crate) fn exchange<L: Link>(
 }
 
 /// Takes a reply from the outgoing connection.
-fn hear_outgoing<L: Link>(
+fn hear_outgoing<L: Dialler>(
     asks: bool,
     heads: &mut HeadReader,
     link: &mut L,
@@ -50,8 +50,8 @@ fn hear_outgoing<L: Link>(
         (λ old bytes new. Told (OnOutgoing (HearsThenBreaks bytes)) (L.story old) (L.story new))
         (λ l. IfTold (L.story l) IsHeardOut)
         (λ reply over. Answers asks reply over result) link.old link.new result }
-    ensures count { CountsDialling (L.faults link.old) (L.faults link.new) }
-    ensures cause { IsErrOf result Failure.Link → Rose (L.faults link.old).dialling (L.faults link.new).dialling }
+    ensures count { NoFall (L.faults link.old) (L.faults link.new) }
+    ensures cause { IsErrOf result Failure.Link → Rose (L.faults link.old) (L.faults link.new) }
 {
     hear(asks, heads, &mut Outgoing::new(link))
 }

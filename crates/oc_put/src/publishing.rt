@@ -4,7 +4,6 @@ ghost use Rattle.std.specs.Prelude.{◌≡◌, ℕ, List, ◌<◌, true, false, 
 ghost use Rattle.oc_fetch.specs.Addresses.{IsBadAddress};
 ghost use Rattle.oc_fetch.specs.ProgressLines.{Grows};
 ghost use Rattle.oc_io.specs.Faults.{NoFall, Rose};
-ghost use Rattle.oc_link.specs.LinkCalls.{CountsDialling};
 ghost use Rattle.oc_put.specs.Jobs.{goal_of};
 ghost use Rattle.oc_put.specs.Publishing.{IsPublished, IsPublishedAt, IsUnasked};
 ghost use Rattle.oc_put.specs.Places.{passed_over};
@@ -24,7 +23,7 @@ use crate::settling::{find, send};
 use oc_base::Bytes;
 use oc_fetch::{UrlFault, read_address};
 use oc_io::{Sink, Source};
-use oc_link::Link;
+use oc_link::Dialler;
 use std::alloc::Global;
 
 /// Publishes an input at a URL, an `http` URL with a host, without a user and a password: into a group that has no
@@ -32,7 +31,7 @@ use std::alloc::Global;
 /// input is empty the group is made. The place is asked for first, and nothing of the input is read before it is
 /// known. Behind each failure but the fifth without anything done between, it pauses and tries again. What of the input is
 /// in the group is told as it grows.
-pub fn put<L: Link, S: Source, P: Pause, E: Sink>(
+pub fn put<L: Dialler, S: Source, P: Pause, E: Sink>(
     alloc: Global,
     to: &Destination<'_>,
     plan: Plan,
@@ -43,9 +42,9 @@ pub fn put<L: Link, S: Source, P: Pause, E: Sink>(
     ensures published { IsPublished S.gives S.fails S.ended plan to.now.address.now (option_map (λ t. t.now) to.now.token)
         (L.story link.old) (L.story link.new) input.old input.new result }
     ensures bad { IsBadAddress to.now.address.now → IsUnasked to.now.address.now result }
-    ensures link_count { CountsDialling (L.faults link.old) (L.faults link.new) }
+    ensures link_count { NoFall (L.faults link.old) (L.faults link.new) }
     ensures input_count { NoFall (S.faults input.old) (S.faults input.new) }
-    ensures link_cause { result ≡ PutEnd.Link → Rose (L.faults link.old).dialling (L.faults link.new).dialling }
+    ensures link_cause { result ≡ PutEnd.Link → Rose (L.faults link.old) (L.faults link.new) }
     ensures input_cause { result ≡ PutEnd.Input → Rose (S.faults input.old) (S.faults input.new) }
     ensures lines { (more : ℕ) × Grows E.takes E.fails aside.old.lines more aside.new.lines }
     ensures told { result ≡ PutEnd.Done → (came : List ℕ) × S.gives input.old came input.new × Grows E.takes E.fails aside.old.lines (length came) aside.new.lines }
@@ -61,7 +60,7 @@ pub fn put<L: Link, S: Source, P: Pause, E: Sink>(
 }
 
 /// Publishes an input.
-fn publish<L: Link, S: Source, P: Pause, E: Sink>(
+fn publish<L: Dialler, S: Source, P: Pause, E: Sink>(
     job: &Job<'_>,
     input: &mut S,
     link: &mut L,
@@ -69,9 +68,9 @@ fn publish<L: Link, S: Source, P: Pause, E: Sink>(
 ) -> PutEnd
     ensures published { IsPublishedAt S.gives S.fails S.ended job.now.plan (goal_of job.now)
         (L.story link.old) (L.story link.new) input.old input.new result }
-    ensures link_count { CountsDialling (L.faults link.old) (L.faults link.new) }
+    ensures link_count { NoFall (L.faults link.old) (L.faults link.new) }
     ensures input_count { NoFall (S.faults input.old) (S.faults input.new) }
-    ensures link_cause { result ≡ PutEnd.Link → Rose (L.faults link.old).dialling (L.faults link.new).dialling }
+    ensures link_cause { result ≡ PutEnd.Link → Rose (L.faults link.old) (L.faults link.new) }
     ensures input_cause { result ≡ PutEnd.Input → Rose (S.faults input.old) (S.faults input.new) }
     ensures lines { (more : ℕ) × Grows E.takes E.fails aside.old.lines more aside.new.lines }
     ensures told { result ≡ PutEnd.Done → (came : List ℕ) × S.gives input.old came input.new × Grows E.takes E.fails aside.old.lines (length came) aside.new.lines }
@@ -83,7 +82,7 @@ fn publish<L: Link, S: Source, P: Pause, E: Sink>(
 }
 
 /// Finds the place, sends the pieces and closes the group.
-fn publish_all<L: Link, S: Source, P: Pause, E: Sink>(
+fn publish_all<L: Dialler, S: Source, P: Pause, E: Sink>(
     job: &Job<'_>,
     input: &mut S,
     link: &mut L,
@@ -93,9 +92,9 @@ fn publish_all<L: Link, S: Source, P: Pause, E: Sink>(
         (L.story link.old) (L.story link.new) input.old input.new PutEnd.Done) }
     ensures stopped { IfErr result (λ end. IsPublishedAt S.gives S.fails S.ended job.now.plan (goal_of job.now)
         (L.story link.old) (L.story link.new) input.old input.new end) }
-    ensures link_count { CountsDialling (L.faults link.old) (L.faults link.new) }
+    ensures link_count { NoFall (L.faults link.old) (L.faults link.new) }
     ensures input_count { NoFall (S.faults input.old) (S.faults input.new) }
-    ensures link_cause { IsErrOf result PutEnd.Link → Rose (L.faults link.old).dialling (L.faults link.new).dialling }
+    ensures link_cause { IsErrOf result PutEnd.Link → Rose (L.faults link.old) (L.faults link.new) }
     ensures input_cause { IsErrOf result PutEnd.Input → Rose (S.faults input.old) (S.faults input.new) }
     ensures lines { (more : ℕ) × Grows E.takes E.fails aside.old.lines more aside.new.lines }
     ensures told { OnOk result ((came : List ℕ) × S.gives input.old came input.new × Grows E.takes E.fails aside.old.lines (length came) aside.new.lines) }
@@ -139,7 +138,7 @@ fn passed_over(place: Place, found: u64) -> u64
 }
 
 /// Sends the rest of the input, piece by piece, each behind the one before.
-fn carry<L: Link, S: Source, P: Pause, E: Sink>(
+fn carry<L: Dialler, S: Source, P: Pause, E: Sink>(
     job: &Job<'_>,
     found: Progress,
     input: &mut S,
@@ -151,9 +150,9 @@ fn carry<L: Link, S: Source, P: Pause, E: Sink>(
         (L.story link.old) (L.story link.new) input.old input.new reached) }
     ensures stopped { IfErr result (λ end. IsCarryStopped S.gives S.fails job.now.plan.place (goal_of job.now) found
         (L.story link.old) (L.story link.new) input.old input.new end) }
-    ensures link_count { CountsDialling (L.faults link.old) (L.faults link.new) }
+    ensures link_count { NoFall (L.faults link.old) (L.faults link.new) }
     ensures input_count { NoFall (S.faults input.old) (S.faults input.new) }
-    ensures link_cause { IsErrOf result PutEnd.Link → Rose (L.faults link.old).dialling (L.faults link.new).dialling }
+    ensures link_cause { IsErrOf result PutEnd.Link → Rose (L.faults link.old) (L.faults link.new) }
     ensures input_cause { IsErrOf result PutEnd.Input → Rose (S.faults input.old) (S.faults input.new) }
     ensures lines { (more : ℕ) × Grows E.takes E.fails aside.old.lines more aside.new.lines }
     ensures told { OnOk result ((came : List ℕ) × S.gives input.old came input.new × Grows E.takes E.fails aside.old.lines (length came) aside.new.lines) }
@@ -188,7 +187,7 @@ fn is_left_out(count: usize, may_be_empty: bool) -> bool
 }
 
 /// Closes the group, where that is wanted.
-fn close<L: Link, P: Pause>(
+fn close<L: Dialler, P: Pause>(
     job: &Job<'_>,
     reached: Progress,
     room: &mut Room,
@@ -197,8 +196,8 @@ fn close<L: Link, P: Pause>(
 ) -> Result<(), PutEnd>
     ensures sealed { OnOk result (IsSealed (goal_of job.now) job.now.plan.seal reached (L.story link.old) (L.story link.new)) }
     ensures stopped { IfErr result (IsSealStopped (goal_of job.now) job.now.plan.seal reached (L.story link.old) (L.story link.new)) }
-    ensures count { CountsDialling (L.faults link.old) (L.faults link.new) }
-    ensures cause { IsErrOf result PutEnd.Link → Rose (L.faults link.old).dialling (L.faults link.new).dialling }
+    ensures count { NoFall (L.faults link.old) (L.faults link.new) }
+    ensures cause { IsErrOf result PutEnd.Link → Rose (L.faults link.old) (L.faults link.new) }
 {
     if !job.plan.seal {
         return Ok(());

@@ -1,8 +1,7 @@
 //! One thing that a client wants to know or to have done: as many requests as it takes.
 
 ghost use Rattle.std.specs.Prelude.{◌≡◌, ◌+◌, length, IfOk, IfErr, IsErrOf};
-ghost use Rattle.oc_io.specs.Faults.{Rose};
-ghost use Rattle.oc_link.specs.LinkCalls.{CountsDialling};
+ghost use Rattle.oc_io.specs.Faults.{NoFall, Rose};
 ghost use Rattle.oc_put.specs.Jobs.{goal_of};
 ghost use Rattle.oc_put.specs.Carrying.{IsSent, IsRefused};
 ghost use Rattle.oc_put.specs.Efforts.{IsLed, IsStopped, finding};
@@ -18,10 +17,10 @@ use crate::load::Load;
 use crate::pause::Pause;
 use crate::room::Room;
 use oc_base::{Bytes, MAX_GROUP_BYTES};
-use oc_link::Link;
+use oc_link::Dialler;
 
 /// Asks how long the group is.
-pub(crate) fn find<L: Link, P: Pause>(
+pub(crate) fn find<L: Dialler, P: Pause>(
     job: &Job<'_>,
     room: &mut Room,
     link: &mut L,
@@ -29,8 +28,8 @@ pub(crate) fn find<L: Link, P: Pause>(
 ) -> Result<Progress, PutEnd>
     ensures found { IfOk result (λ progress. IsLed (goal_of job.now) nothing finding (L.story link.old) (L.story link.new) (Settled progress)) }
     ensures stopped { IfErr result (IsStopped (goal_of job.now) nothing finding (L.story link.old) (L.story link.new)) }
-    ensures count { CountsDialling (L.faults link.old) (L.faults link.new) }
-    ensures cause { IsErrOf result PutEnd.Link → Rose (L.faults link.old).dialling (L.faults link.new).dialling }
+    ensures count { NoFall (L.faults link.old) (L.faults link.new) }
+    ensures cause { IsErrOf result PutEnd.Link → Rose (L.faults link.old) (L.faults link.new) }
 {
     let load = Load {
         piece: Bytes::of(Vec::new(job.alloc)),
@@ -44,7 +43,7 @@ pub(crate) fn find<L: Link, P: Pause>(
 }
 
 /// Has this taken behind what the group has. No group has more than `MAX_GROUP_BYTES`.
-pub(crate) fn send<L: Link, P: Pause>(
+pub(crate) fn send<L: Dialler, P: Pause>(
     job: &Job<'_>,
     load: &Load,
     progress: Progress,
@@ -55,8 +54,8 @@ pub(crate) fn send<L: Link, P: Pause>(
     ensures sent { IfOk result (λ reached. IsSent (goal_of job.now) load.now progress (L.story link.old) (L.story link.new) reached) }
     ensures stopped { IfErr result (IsRefused (goal_of job.now) load.now progress (L.story link.old) (L.story link.new)) }
     ensures length { IfOk result (λ reached. reached.length ≡ progress.length + length load.now.piece) }
-    ensures count { CountsDialling (L.faults link.old) (L.faults link.new) }
-    ensures cause { IsErrOf result PutEnd.Link → Rose (L.faults link.old).dialling (L.faults link.new).dialling }
+    ensures count { NoFall (L.faults link.old) (L.faults link.new) }
+    ensures cause { IsErrOf result PutEnd.Link → Rose (L.faults link.old) (L.faults link.new) }
 {
     if progress.length > MAX_GROUP_BYTES {
         return Err(PutEnd::Length(progress.length));
@@ -75,7 +74,7 @@ pub(crate) fn send<L: Link, P: Pause>(
 }
 
 /// Makes one request after another, until one settles it. Behind a failure it waits.
-fn settle<L: Link, P: Pause>(
+fn settle<L: Dialler, P: Pause>(
     job: &Job<'_>,
     load: &Load,
     start: Effort,
@@ -85,8 +84,8 @@ fn settle<L: Link, P: Pause>(
 ) -> Result<Progress, PutEnd>
     ensures settled { IfOk result (λ progress. IsLed (goal_of job.now) load.now start (L.story link.old) (L.story link.new) (Settled progress)) }
     ensures stopped { IfErr result (IsStopped (goal_of job.now) load.now start (L.story link.old) (L.story link.new)) }
-    ensures count { CountsDialling (L.faults link.old) (L.faults link.new) }
-    ensures cause { IsErrOf result PutEnd.Link → Rose (L.faults link.old).dialling (L.faults link.new).dialling }
+    ensures count { NoFall (L.faults link.old) (L.faults link.new) }
+    ensures cause { IsErrOf result PutEnd.Link → Rose (L.faults link.old) (L.faults link.new) }
 {
     let mut effort = start;
     'turns: loop {

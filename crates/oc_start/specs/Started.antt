@@ -12,7 +12,6 @@ use Rattle.oc_events.specs.declared.counts.Counts.{Counts}
 use Rattle.oc_io.specs.DiskView.{DiskView}
 use Rattle.oc_io.specs.declared.traffic.Traffic.{Traffic}
 use Rattle.oc_keep.specs.Files.{disks_in}
-use Rattle.oc_link.specs.LinkCalls.{LinkFaults}
 use Rattle.oc_link.specs.Story.{Story}
 use Rattle.oc_model.specs.World.{World}
 use Rattle.oc_program.specs.Streams.{IsCountOfLineOrFront, at_input, at_output, at_told}
@@ -21,7 +20,7 @@ use Rattle.oc_start.specs.declared.starting.Started.{Started}
 use Rattle.oc_words.specs.Status.{number_of}
 use Rattle.oc_words.specs.declared.request.Request.{Request}
 
-module _ {T D L N P : Type 0} (world : T → World) (view : D → DiskView) (dials : L → Option Story) (dial_faults : L → LinkFaults)
+module _ {T D L N P : Type 0} (world : T → World) (view : D → DiskView) (dials : L → Option Story) (dial_faults : L → ℕ)
     (calls : N → Option (List Call)) (counts : N → Counts) where
   -- what can be said of streams of which this passed, on the error output `told` before the last line, and of things that were the first
   -- and became the last
@@ -40,10 +39,10 @@ module _ {T D L N P : Type 0} (world : T → World) (view : D → DiskView) (dia
 
 -- how it ended: the status, the line on the error output behind what was told, and what had happened to things on whose links nothing had failed before; of the
 -- pause between tries nothing is said
-pub record HasRun {T D L N : Type 0} (world : T → World) (view : D → DiskView) (dials : L → Option Story) (dial_faults : L → LinkFaults) (calls : N → Option (List Call)) (counts : N → Counts) (asked : Option Request) (ran : Started) : Type 0 where
+pub record HasRun {T D L N : Type 0} (world : T → World) (view : D → DiskView) (dials : L → Option Story) (dial_faults : L → ℕ) (calls : N → Option (List Call)) (counts : N → Counts) (asked : Option Request) (ran : Started) : Type 0 where
   pub first : Things T D L N (Unit {0})
   pub last : Things T D L N (Unit {0})
-  pub new_dialler : (dial_faults first.dialler).dialling ≡ 0
+  pub new_dialler : dial_faults first.dialler ≡ 0
   pub new_link : counts first.link ≡ no_counts
   pub end : End
   pub usage : List ℕ

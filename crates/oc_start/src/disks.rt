@@ -19,7 +19,7 @@ ghost use Rattle.oc_world.specs.World.{WorldView};
 use oc_base::NodeId;
 use oc_events::Link;
 use oc_io::{Disk, MemDisk, Sink, Source};
-use oc_link::Link as Dialler;
+use oc_link::Dialler;
 use oc_program::{Ended, Outside, run};
 use oc_put::Pause;
 use oc_world::World;

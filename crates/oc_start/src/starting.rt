@@ -11,7 +11,7 @@ use oc_program::{
     End, Status, Streams, StreamsRun, Things, Traffic, WriterSink, run_on_streams, tell,
 };
 use oc_sockets::SocketLink;
-use oc_system::{FileDisk, Input, NamedFile, SocketLink as DialLink, Trouble};
+use oc_system::{FileDisk, Input, NamedFile, SocketDialler, Trouble};
 use oc_words::tip;
 use oc_world::World;
 use std::io;
@@ -54,7 +54,7 @@ pub struct Started {
 pub fn start(rt: &HostRuntime, words: &[String]) -> Result<Started, End>
     // How it ended, and what had happened to the streams, the world, the files and the links.
     ensures ended { IfOk result (HasRun ⟦<World as oc_replay::Stage>⟧.world ⟦<FileDisk<'static, HostRuntime> as oc_io::Disk>⟧.view
-        ⟦<DialLink<'static, HostRuntime> as oc_link::Link>⟧.story ⟦<DialLink<'static, HostRuntime> as oc_link::Link>⟧.faults
+        ⟦<SocketDialler<'static, HostRuntime> as oc_link::Dialler>⟧.story ⟦<SocketDialler<'static, HostRuntime> as oc_link::Dialler>⟧.faults
         ⟦<SocketLink<'static, HostRuntime> as oc_events::Link>⟧.story ⟦<SocketLink<'static, HostRuntime> as oc_events::Link>⟧.counts
         (asked (texts_of words.now))) }
     ensures memory { IfErr result (λ end. end ≡ End.NoMemory) }
@@ -68,7 +68,7 @@ pub fn start(rt: &HostRuntime, words: &[String]) -> Result<Started, End>
 /// been meant to be, where that is known.
 fn start_at(rt: &HostRuntime, words: &[String], places: &Places) -> Started
     ensures ended { HasRun ⟦<World as oc_replay::Stage>⟧.world ⟦<FileDisk<'static, HostRuntime> as oc_io::Disk>⟧.view
-        ⟦<DialLink<'static, HostRuntime> as oc_link::Link>⟧.story ⟦<DialLink<'static, HostRuntime> as oc_link::Link>⟧.faults
+        ⟦<SocketDialler<'static, HostRuntime> as oc_link::Dialler>⟧.story ⟦<SocketDialler<'static, HostRuntime> as oc_link::Dialler>⟧.faults
         ⟦<SocketLink<'static, HostRuntime> as oc_events::Link>⟧.story ⟦<SocketLink<'static, HostRuntime> as oc_events::Link>⟧.counts
         (asked (texts_of words.now)) result }
 {
@@ -91,7 +91,7 @@ fn start_at(rt: &HostRuntime, words: &[String], places: &Places) -> Started
     let control = FileDisk::new(rt, places.control());
     let alternate = FileDisk::new(rt, places.alternate());
     let content = FileDisk::new(rt, places.content());
-    let dialler = DialLink::new(rt, alloc);
+    let dialler = SocketDialler::new(rt, alloc);
     let link = SocketLink::new(rt, alloc, places.node);
     let pause = Second::new(rt);
     let things = Things {

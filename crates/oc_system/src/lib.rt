@@ -10,10 +10,10 @@ mod dials;
 mod file_disk;
 mod input;
 mod outgoing;
-mod socket_link;
+mod socket_dialler;
 mod trouble;
 
 pub use file_disk::{FileDisk, Place};
 pub use input::{Input, NamedFile};
-pub use socket_link::SocketLink;
+pub use socket_dialler::SocketDialler;
 pub use trouble::Trouble;

@@ -1,10 +1,8 @@
-//! Links, clocks and probes, and conversations of the clients with servers in memory.
+//! Dials, rates and peers, and conversations of the clients with servers in memory.
 
-mod clocks;
 mod conversations;
-mod links;
+mod dials;
 mod peers;
-mod probes;
 mod publishings;
 mod rates;
 mod texts;
@@ -19,11 +17,9 @@ struct ConnectionTables;
 impl Cases for ConnectionTables {
     fn put_words(alloc: Global, table: &str, given: &str, said: &mut String) -> Result<(), Fault> {
         match table {
-            "clocks" => clocks::put_words(alloc, given, said),
-            "links" => links::put_words(alloc, given, said),
+            "dials" => dials::put_words(alloc, given, said),
             "rates" => rates::put_words(given, said),
             "peers" => peers::put_words(alloc, given, said),
-            "probes" => probes::put_words(alloc, given, said),
             "conversations" => conversations::put_words(alloc, given, said),
             "publishings" => publishings::put_words(alloc, given, said),
             _ => Err(Fault::Field),
@@ -33,14 +29,6 @@ impl Cases for ConnectionTables {
 
 /// Plays the tables, one after another.
 pub fn play(rt: &HostRuntime) -> io::Result<()> {
-    let tables = [
-        "clocks",
-        "links",
-        "rates",
-        "peers",
-        "probes",
-        "conversations",
-        "publishings",
-    ];
+    let tables = ["dials", "rates", "peers", "conversations", "publishings"];
     test_tools::play::<ConnectionTables, _>(rt, "connections", &tables)
 }

@@ -3,7 +3,7 @@
 use crate::connections::texts::{put_text, text_in, texts_in};
 use oc_fetch::{GetEnd, Manner, follow, get};
 use oc_io::{MemSink, Sink};
-use oc_link::{Link, MemLink};
+use oc_link::{Dialler, MemDialler};
 use std::alloc::Global;
 use std::str;
 use test_tools::{Fault, RowFields, RowStep};
@@ -44,18 +44,18 @@ pub fn link_in(
     replies: RowFields<'_>,
     cut: u32,
     fails: &str,
-) -> Result<MemLink, Fault> {
+) -> Result<MemDialler, Fault> {
     let cut = cut as usize;
     if cut < 1 {
         return Err(Fault::Field);
     }
     let replies = texts_in(alloc, replies)?;
     let fails = RowFields::of(fails, ' ').numbers(alloc)?;
-    Ok(MemLink::new(alloc, Vec::new(alloc), replies, ROOM, cut, fails)?)
+    Ok(MemDialler::new(alloc, replies, ROOM, cut, fails)?)
 }
 
 /// Makes the call of a row.
-fn download<L: Link, S: Sink>(
+fn download<L: Dialler, S: Sink>(
     alloc: Global,
     mut call: RowStep<'_>,
     address: &[u8],
@@ -101,7 +101,7 @@ fn given(field: &str) -> Option<&str> {
 }
 
 /// Tells how a download ended, what was written, and what each dial was sent.
-fn tell(end: GetEnd, link: &MemLink, sink: &MemSink, said: &mut String) -> Result<(), Fault> {
+fn tell(end: GetEnd, link: &MemDialler, sink: &MemSink, said: &mut String) -> Result<(), Fault> {
     write!(said, "{end:?} ")?;
     put_text(said, sink.text())?;
     for at in 0..MOST_DIALS {

@@ -4,7 +4,7 @@ use crate::connections::conversations::link_in;
 use crate::connections::texts::{put_text, text_in};
 use oc_fetch::ProgressLines;
 use oc_io::{MemSink, MemSource};
-use oc_link::MemLink;
+use oc_link::MemDialler;
 use oc_put::{Aside, Destination, Pause, Place, Plan, PutEnd, put};
 use std::alloc::Global;
 use std::str;
@@ -71,7 +71,7 @@ fn plan_in(call: &mut RowStep<'_>) -> Result<Plan, Fault> {
 /// Tells how a publishing ended, how many pauses it made, its lines, and what each dial was sent.
 fn tell(
     end: PutEnd,
-    link: &MemLink,
+    link: &MemDialler,
     aside: Aside<Pauses, MemSink>,
     said: &mut String,
 ) -> Result<(), Fault> {

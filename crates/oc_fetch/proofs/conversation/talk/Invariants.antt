@@ -3,13 +3,12 @@ use Rattle.std.proofs.Common.{◌+◌}
 use Rattle.oc_fetch.specs.Wishes.{wish_of}
 use Rattle.oc_fetch.proofs.Talked.{HasTalked}
 use Rattle.oc_io.specs.Faults.{NoFall}
-use Rattle.oc_link.specs.LinkCalls.{CountsDialling}
 use Rattle.oc_fetch.proofs.conversation.talk.Given as goal
 
 abbrev pub invariant-turns : goal.invariant-turns
 invariant-turns g l = record {
-  has : HasTalked g.K.Sink.takes (wish_of l.wish) l.fn.state (g.L.Link.story l.fn.link) (g.L.Link.story l.link) l.fn.sink l.sink l.state;
-  link_count : CountsDialling (g.L.Link.faults l.fn.link) (g.L.Link.faults l.link);
+  has : HasTalked g.K.Sink.takes (wish_of l.wish) l.fn.state (g.L.Dialler.story l.fn.link) (g.L.Dialler.story l.link) l.fn.sink l.sink l.state;
+  link_count : NoFall (g.L.Dialler.faults l.fn.link) (g.L.Dialler.faults l.link);
   sink_count : NoFall (g.K.Sink.faults l.fn.sink) (g.K.Sink.faults l.sink);
 }
 

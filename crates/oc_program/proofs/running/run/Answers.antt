@@ -27,22 +27,22 @@ returns-clause-ended g c =
 pub returns-clause-status_for : goal.returns-clause-status_for
 returns-clause-status_for g c =
     let words = asked (texts_of c.args.words.now) in
-    subst (λ n. StatusFor g.S.Source.gives g.S.Source.ended g.S.Source.faults g.K.Sink.faults g.D.Disk.view g.L.Link.story g.L.Link.faults g.N.Link.counts c.args.outside c.perform-end.result.1 words n)
+    subst (λ n. StatusFor g.S.Source.gives g.S.Source.ended g.S.Source.faults g.K.Sink.faults g.D.Disk.view g.L.Dialler.story g.L.Dialler.faults g.N.Link.counts c.args.outside c.perform-end.result.1 words n)
     (sym (c.number.ensures ∙ ap number_of c.status.ensures))
     (status_for g.S.Source.gives g.S.Source.fails g.S.Source.ended g.S.Source.faults g.K.Sink.takes g.K.Sink.fails g.K.Sink.faults g.E.Sink.takes g.E.Sink.fails g.E.Sink.faults g.T.Stage.world g.D.Disk.view
-    g.L.Link.story g.L.Link.faults g.N.Link.story g.N.Link.counts c.args.outside c.perform-end.result.1.error c.perform-end.result.1 words c.perform-end.result.0 c.perform-end.ensures.happened c.perform-end.ensures.misused)
+    g.L.Dialler.story g.L.Dialler.faults g.N.Link.story g.N.Link.counts c.args.outside c.perform-end.result.1.error c.perform-end.result.1 words c.perform-end.result.0 c.perform-end.ensures.happened c.perform-end.ensures.misused)
 
 pub returns-clause-only_misused : goal.returns-clause-only_misused
 returns-clause-only_misused g c = λ is.
     only_misused (seen g.S.Source.gives g.S.Source.fails g.S.Source.ended g.S.Source.faults g.K.Sink.takes g.K.Sink.fails g.K.Sink.faults g.E.Sink.takes g.E.Sink.fails g.E.Sink.faults g.T.Stage.world g.D.Disk.view
-    g.L.Link.story g.L.Link.faults g.N.Link.story g.N.Link.counts (asked (texts_of c.args.words.now)) c.args.outside c.perform-end.result.1.error c.perform-end.result.1)
+    g.L.Dialler.story g.L.Dialler.faults g.N.Link.story g.N.Link.counts (asked (texts_of c.args.words.now)) c.args.outside c.perform-end.result.1.error c.perform-end.result.1)
     c.perform-end.result.0 (sym (c.number.ensures ∙ ap number_of c.status.ensures) ∙ is) c.perform-end.ensures.happened
 
 pub returns-clause-plain : goal.returns-clause-plain
 returns-clause-plain g c = λ plain is.
     plain_asks (texts_of c.args.words.now) plain
     (only_misused (seen g.S.Source.gives g.S.Source.fails g.S.Source.ended g.S.Source.faults g.K.Sink.takes g.K.Sink.fails g.K.Sink.faults g.E.Sink.takes g.E.Sink.fails g.E.Sink.faults g.T.Stage.world g.D.Disk.view
-    g.L.Link.story g.L.Link.faults g.N.Link.story g.N.Link.counts (asked (texts_of c.args.words.now)) c.args.outside c.perform-end.result.1.error c.perform-end.result.1)
+    g.L.Dialler.story g.L.Dialler.faults g.N.Link.story g.N.Link.counts (asked (texts_of c.args.words.now)) c.args.outside c.perform-end.result.1.error c.perform-end.result.1)
     c.perform-end.result.0 (sym (c.number.ensures ∙ ap number_of c.status.ensures) ∙ is) c.perform-end.ensures.happened)
 
 pub returns-clause-input_count : goal.returns-clause-input_count

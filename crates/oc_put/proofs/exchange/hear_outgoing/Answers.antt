@@ -6,6 +6,6 @@ use Rattle.oc_put.proofs.exchange.hear_outgoing.Goals as goal
 
 pub returns-clause-heard : goal.returns-clause-heard
 returns-clause-heard g c =
-    outgoing_heard (λ (o : Outgoing g.row.L.Denot). record { name = o.link.ghost_name; story = g.L.Link.story o.link.now; faults = g.L.Link.faults o.link.now })
-    g.L.Link.story (λ reply over. Answers c.args.asks reply over c.hear.result)
+    outgoing_heard (λ (o : Outgoing g.row.L.Denot). record { name = o.link.ghost_name; story = g.L.Dialler.story o.link.now; faults = g.L.Dialler.faults o.link.now })
+    g.L.Dialler.story (λ reply over. Answers c.args.asks reply over c.hear.result)
     c.new.result c.hear.new.source c.args.link.now _ c.hear.result (search rules) (search rules) c.hear.ensures.heard

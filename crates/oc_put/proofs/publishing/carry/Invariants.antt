@@ -3,7 +3,6 @@ use Rattle.std.proofs.Common.{length, ℕ, List, [], ◌≡◌, ◌≢◌, ◌�
 use Rattle.oc_base.specs.declared.limits.TheConstants.{MAX_GROUP_BYTES}
 use Rattle.oc_fetch.specs.ProgressLines.{Grows}
 use Rattle.oc_io.specs.Faults.{NoFall}
-use Rattle.oc_link.specs.LinkCalls.{CountsDialling}
 use Rattle.oc_put.specs.Jobs.{goal_of}
 use Rattle.oc_put.specs.Carrying.{HasCarried}
 use Rattle.oc_put.specs.Publishing.{joined}
@@ -14,11 +13,11 @@ use Rattle.oc_put.proofs.publishing.carry.Given as goal
 abbrev pub invariant-pieces : goal.invariant-pieces
 invariant-pieces g l = record {
   pieces : List (List ℕ);
-  has : HasCarried g.S.Source.gives (goal_of l.job) l.fn.found (g.L.Link.story l.fn.link) (g.L.Link.story l.link) l.fn.input l.input l.reached pieces;
+  has : HasCarried g.S.Source.gives (goal_of l.job) l.fn.found (g.L.Dialler.story l.fn.link) (g.L.Dialler.story l.link) l.fn.input l.input l.reached pieces;
   first : l.may_be_empty ≡ true → (sends_empty l.job.plan.place ≡ true) × (pieces ≡ []);
   later : l.may_be_empty ≡ false → (sends_empty l.job.plan.place ≡ false) ⊎ (pieces ≢ []);
   grew : Grows g.E.Sink.takes g.E.Sink.fails l.fn.aside.lines (length (joined pieces)) l.aside.lines;
-  link_count : CountsDialling (g.L.Link.faults l.fn.link) (g.L.Link.faults l.link);
+  link_count : NoFall (g.L.Dialler.faults l.fn.link) (g.L.Dialler.faults l.link);
   input_count : NoFall (g.S.Source.faults l.fn.input) (g.S.Source.faults l.input);
 }
 

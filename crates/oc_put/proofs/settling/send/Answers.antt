@@ -7,5 +7,5 @@ use Rattle.oc_put.proofs.settling.send.Goals as goal
 pub returns-clause-length : goal.returns-clause-length
 returns-clause-length g c =
     IfOk-weaker c.settle.result _ _ (λ reached led.
-    let long = sent_up_to (goal_of c.args.job.now) c.args.load.now c.args.progress.length (c.args.progress.length + length c.items.result.now) c.args.progress.failures (g.L.Link.story c.args.link.now) (g.L.Link.story c.settle.new.link) reached led in
+    let long = sent_up_to (goal_of c.args.job.now) c.args.load.now c.args.progress.length (c.args.progress.length + length c.items.result.now) c.args.progress.failures (g.L.Dialler.story c.args.link.now) (g.L.Dialler.story c.settle.new.link) reached led in
     omega (arith, long, ap (λ (x : List ℕ). length x) c.items.ensures)) c.settle.ensures.settled

@@ -1,22 +1,22 @@
 use Rattle.std.proofs.Common.{◌≡◌, refl, sym, ap, ◌∙◌, inl, inr, arith}
 use Rattle.std.proofs.lemmas.Result.{err_from_is_err_and}
+use Rattle.oc_io.proofs.Counts.{Rose-after}
 use Rattle.oc_put.specs.Jobs.{goal_of}
 use Rattle.oc_put.specs.declared.effort.Next.TheVariants.{Ended}
 use Rattle.oc_put.specs.declared.end.PutEnd.TheVariants as ends
 use Rattle.oc_put.proofs.Led.{led_none, led_turn, link_end, again_less}
-use Rattle.oc_put.proofs.Rising.{rose_later, dialled_then}
 use Rattle.oc_put.proofs.settling.settle.Goals as goal
 
 pub turns-init : goal.turns-init
 turns-init g c = record {
-  led = led_none (goal_of c.args.job.now) c.args.load.now c.args.start (g.L.Link.story c.args.link.now);
-  count = record { listening = refl; talking = refl; dialling = omega arith };
+  led = led_none (goal_of c.args.job.now) c.args.load.now c.args.start (g.L.Dialler.story c.args.link.now);
+  count = omega arith;
 }
 
 pub turns-preserved : goal.turns-preserved
 turns-preserved g c = record {
-  led = led_turn (goal_of c.args.job.now) c.args.load.now c.args.start c.turns.effort (g.L.Link.story c.args.link.now) (g.L.Link.story c.turns.link) (g.L.Link.story c.exchange-answer.new.link) c.address.result.now c.deref.result.now c.asks-asks.result c.exchange-answer.result _ c.turns.invariant.led c.exchange-answer.ensures.dialled c.address.ensures (c.deref.ensures.value ∙ c.in_ok-request.ensures) c.asks-asks.ensures (sym c.in-Again.is ∙ c.react.ensures);
-  count = dialled_then (g.L.Link.faults c.args.link.now) (g.L.Link.faults c.turns.link) (g.L.Link.faults c.exchange-answer.new.link) c.turns.invariant.count c.exchange-answer.ensures.count;
+  led = led_turn (goal_of c.args.job.now) c.args.load.now c.args.start c.turns.effort (g.L.Dialler.story c.args.link.now) (g.L.Dialler.story c.turns.link) (g.L.Dialler.story c.exchange-answer.new.link) c.address.result.now c.deref.result.now c.asks-asks.result c.exchange-answer.result _ c.turns.invariant.led c.exchange-answer.ensures.dialled c.address.ensures (c.deref.ensures.value ∙ c.in_ok-request.ensures) c.asks-asks.ensures (sym c.in-Again.is ∙ c.react.ensures);
+  count = omega (arith, c.turns.invariant.count, c.exchange-answer.ensures.count);
 }
 
 pub turns-smaller : goal.turns-smaller
@@ -32,20 +32,20 @@ returns-in_err-request-clause-count g c = c.turns.invariant.count
 
 pub returns-in-Settled-clause-settled : goal.returns-in-Settled-clause-settled
 returns-in-Settled-clause-settled g c =
-    led_turn (goal_of c.args.job.now) c.args.load.now c.args.start c.turns.effort (g.L.Link.story c.args.link.now) (g.L.Link.story c.turns.link) (g.L.Link.story c.exchange-answer.new.link) c.address.result.now c.deref.result.now c.asks-asks.result c.exchange-answer.result _ c.turns.invariant.led c.exchange-answer.ensures.dialled c.address.ensures (c.deref.ensures.value ∙ c.in_ok-request.ensures) c.asks-asks.ensures (sym c.in-Settled.is ∙ c.react.ensures)
+    led_turn (goal_of c.args.job.now) c.args.load.now c.args.start c.turns.effort (g.L.Dialler.story c.args.link.now) (g.L.Dialler.story c.turns.link) (g.L.Dialler.story c.exchange-answer.new.link) c.address.result.now c.deref.result.now c.asks-asks.result c.exchange-answer.result _ c.turns.invariant.led c.exchange-answer.ensures.dialled c.address.ensures (c.deref.ensures.value ∙ c.in_ok-request.ensures) c.asks-asks.ensures (sym c.in-Settled.is ∙ c.react.ensures)
 
 pub returns-in-Settled-clause-count : goal.returns-in-Settled-clause-count
-returns-in-Settled-clause-count g c = dialled_then (g.L.Link.faults c.args.link.now) (g.L.Link.faults c.turns.link) (g.L.Link.faults c.exchange-answer.new.link) c.turns.invariant.count c.exchange-answer.ensures.count
+returns-in-Settled-clause-count g c = omega (arith, c.turns.invariant.count, c.exchange-answer.ensures.count)
 
 pub returns-in-Ended-clause-stopped : goal.returns-in-Ended-clause-stopped
 returns-in-Ended-clause-stopped g c =
-    inl (led_turn (goal_of c.args.job.now) c.args.load.now c.args.start c.turns.effort (g.L.Link.story c.args.link.now) (g.L.Link.story c.turns.link) (g.L.Link.story c.exchange-answer.new.link) c.address.result.now c.deref.result.now c.asks-asks.result c.exchange-answer.result _ c.turns.invariant.led c.exchange-answer.ensures.dialled c.address.ensures (c.deref.ensures.value ∙ c.in_ok-request.ensures) c.asks-asks.ensures (sym c.in-Ended.is ∙ c.react.ensures))
+    inl (led_turn (goal_of c.args.job.now) c.args.load.now c.args.start c.turns.effort (g.L.Dialler.story c.args.link.now) (g.L.Dialler.story c.turns.link) (g.L.Dialler.story c.exchange-answer.new.link) c.address.result.now c.deref.result.now c.asks-asks.result c.exchange-answer.result _ c.turns.invariant.led c.exchange-answer.ensures.dialled c.address.ensures (c.deref.ensures.value ∙ c.in_ok-request.ensures) c.asks-asks.ensures (sym c.in-Ended.is ∙ c.react.ensures))
 
 pub returns-in-Ended-clause-count : goal.returns-in-Ended-clause-count
-returns-in-Ended-clause-count g c = dialled_then (g.L.Link.faults c.args.link.now) (g.L.Link.faults c.turns.link) (g.L.Link.faults c.exchange-answer.new.link) c.turns.invariant.count c.exchange-answer.ensures.count
+returns-in-Ended-clause-count g c = omega (arith, c.turns.invariant.count, c.exchange-answer.ensures.count)
 
 pub returns-in-Ended-clause-cause : goal.returns-in-Ended-clause-cause
 returns-in-Ended-clause-cause g c = λ e.
     let same : c.in-Ended.end ≡ ends.Link = cc in
     let failed = link_end c.turns.effort c.exchange-answer.result (sym c.react.ensures ∙ (c.in-Ended.is ∙ ap Ended same)) in
-    rose_later (g.L.Link.faults c.args.link.now).dialling (g.L.Link.faults c.turns.link).dialling (g.L.Link.faults c.exchange-answer.new.link).dialling c.turns.invariant.count.dialling (c.exchange-answer.ensures.cause failed)
+    Rose-after (g.L.Dialler.faults c.args.link.now) (g.L.Dialler.faults c.turns.link) (g.L.Dialler.faults c.exchange-answer.new.link) c.turns.invariant.count (c.exchange-answer.ensures.cause failed)

@@ -1,5 +1,5 @@
 -- turns went by, which led to the next effort
-use Rattle.oc_link.specs.LinkCalls.{CountsDialling}
+use Rattle.oc_io.specs.Faults.{NoFall}
 use Rattle.oc_put.specs.Jobs.{goal_of}
 use Rattle.oc_put.specs.Efforts.{IsLed}
 use Rattle.oc_put.specs.declared.effort.Next.TheVariants.{Again}
@@ -8,8 +8,8 @@ use Rattle.oc_put.proofs.settling.settle.Given as goal
 
 abbrev pub invariant-turns : goal.invariant-turns
 invariant-turns g l = record {
-  led : IsLed (goal_of l.job) l.load l.fn.start (g.L.Link.story l.fn.link) (g.L.Link.story l.link) (Again l.effort);
-  count : CountsDialling (g.L.Link.faults l.fn.link) (g.L.Link.faults l.link);
+  led : IsLed (goal_of l.job) l.load l.fn.start (g.L.Dialler.story l.fn.link) (g.L.Dialler.story l.link) (Again l.effort);
+  count : NoFall (g.L.Dialler.faults l.fn.link) (g.L.Dialler.faults l.link);
 }
 
 abbrev pub decreases-turns : goal.decreases-turns

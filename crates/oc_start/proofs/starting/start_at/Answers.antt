@@ -14,7 +14,7 @@ returns c =
           pause = tt;
         };
         last = record { stage = left.stage; files = left.files; dialler = left.dialler; link = left.link; pause = tt };
-        new_dialler = c.new-dialler.ensures.dialling;
+        new_dialler = c.new-dialler.ensures;
         new_link = c.new-link.ensures.counts;
         end = end;
         usage = usage;

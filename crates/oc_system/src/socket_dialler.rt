@@ -3,36 +3,31 @@ ghost use Rattle.std.specs.Prelude.{◌≡◌};
 use crate::dials::Dials;
 use crate::trouble::Trouble;
 use oc_io::Failed;
-use oc_link::{Arrival, Link};
+use oc_link::Dialler;
 use std::alloc::Global;
 use std::io;
 use std::net::{Net, TcpStream};
 use std::rt::Clock;
 
-/// Sockets by which a client dials, as a link. Nobody is waited for on it.
+/// Sockets by which a client dials.
 #[derive(Drop)]
-pub struct SocketLink<'a, R> {
+pub struct SocketDialler<'a, R> {
     dials: Dials<'a, R>,
-    listening: u64,
-    talking: u64,
-    dialling: u64,
+    /// How many calls failed.
+    faults: u64,
     /// Where the last call that failed did, and why.
     place: String,
     error: Option<io::Error>,
 }
 
-impl<'a, R: Net<Stream = TcpStream> + Clock> SocketLink<'a, R> {
-    /// A link over the sockets of this runtime.
-    pub fn new(rt: &'a R, alloc: Global) -> SocketLink<'a, R>
-        ensures listening { result.listening ≡ 0 }
-        ensures talking { result.talking ≡ 0 }
-        ensures dialling { result.dialling ≡ 0 }
+impl<'a, R: Net<Stream = TcpStream> + Clock> SocketDialler<'a, R> {
+    /// A client's link over the sockets of this runtime.
+    pub fn new(rt: &'a R, alloc: Global) -> SocketDialler<'a, R>
+        ensures { result.faults ≡ 0 }
     {
-        SocketLink {
+        SocketDialler {
             dials: Dials::new(rt, alloc),
-            listening: 0,
-            talking: 0,
-            dialling: 0,
+            faults: 0,
             place: String::new(alloc),
             error: None,
         }
@@ -59,32 +54,12 @@ fn keep(kept: &mut Option<io::Error>, place: &mut String, address: &str, error: 
     };
 }
 
-impl<R: Net<Stream = TcpStream> + Clock> Link for SocketLink<'_, R> {
+impl<R: Net<Stream = TcpStream> + Clock> Dialler for SocketDialler<'_, R> {
     ghost use Rattle.std.specs.Prelude.{None};
 
     ghost story = { λ link. None };
 
-    ghost faults = { λ link. record { listening = link.listening; talking = link.talking; dialling = link.dialling } };
-
-    fn listen(&mut self, _address: &str) -> Result<(), Failed> {
-        self.listening = self.listening.saturating_add(1);
-        Err(Failed)
-    }
-
-    fn next(&mut self) -> Result<Arrival, Failed> {
-        Ok(Arrival::Quiet)
-    }
-
-    fn read(&mut self, _buf: &mut [u8]) -> Result<usize, Failed> {
-        Ok(0)
-    }
-
-    fn write(&mut self, _bytes: &[u8]) -> Result<usize, Failed> {
-        self.talking = self.talking.saturating_add(1);
-        Err(Failed)
-    }
-
-    fn close(&mut self) {}
+    ghost faults = { λ link. link.faults };
 
     fn dial(&mut self, address: &str, bytes: &[u8]) -> Result<(), Failed> {
         match self.dials.reach(address, bytes) {
@@ -92,7 +67,7 @@ impl<R: Net<Stream = TcpStream> + Clock> Link for SocketLink<'_, R> {
             Err(error) => {
                 keep(&mut self.error, &mut self.place, address, error);
                 self.dials.hang_up();
-                self.dialling = self.dialling.saturating_add(1);
+                self.faults = self.faults.saturating_add(1);
                 Err(Failed)
             }
         }
@@ -108,7 +83,7 @@ impl<R: Net<Stream = TcpStream> + Clock> Link for SocketLink<'_, R> {
                     self.dials.address(),
                     error,
                 );
-                self.dialling = self.dialling.saturating_add(1);
+                self.faults = self.faults.saturating_add(1);
                 Err(Failed)
             }
         }
@@ -124,7 +99,7 @@ impl<R: Net<Stream = TcpStream> + Clock> Link for SocketLink<'_, R> {
                     self.dials.address(),
                     error,
                 );
-                self.dialling = self.dialling.saturating_add(1);
+                self.faults = self.faults.saturating_add(1);
                 Err(Failed)
             }
         }

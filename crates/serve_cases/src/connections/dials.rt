@@ -1,6 +1,6 @@
-//! Links in memory: what each call gives, and what is kept.
+//! Dials of a client in memory: what each call gives, and what is kept.
 
-use oc_link::{Arrival, Link, MemLink};
+use oc_link::{Dialler, MemDialler};
 use std::alloc::Global;
 use test_tools::{Fault, RowFields, RowStep, put_hex};
 
@@ -15,8 +15,7 @@ pub fn put_words(alloc: Global, given: &str, said: &mut String) -> Result<(), Fa
 }
 
 /// The link of the first fields.
-fn link_in(alloc: Global, fields: &mut RowFields<'_>) -> Result<MemLink, Fault> {
-    let mut arrivals = fields.list();
+fn link_in(alloc: Global, fields: &mut RowFields<'_>) -> Result<MemDialler, Fault> {
     let mut replies = fields.list();
     let room = fields.small()? as usize;
     let cut = fields.small()? as usize;
@@ -24,15 +23,14 @@ fn link_in(alloc: Global, fields: &mut RowFields<'_>) -> Result<MemLink, Fault> 
         return Err(Fault::Field);
     }
     let fails = fields.numbers(alloc)?;
-    let arrivals = arrivals.all_bytes(alloc)?;
     let replies = replies.all_bytes(alloc)?;
-    Ok(MemLink::new(alloc, arrivals, replies, room, cut, fails)?)
+    Ok(MemDialler::new(alloc, replies, room, cut, fails)?)
 }
 
 /// Makes the calls, and puts what each says.
 fn play(
     alloc: Global,
-    link: &mut MemLink,
+    link: &mut MemDialler,
     mut calls: RowFields<'_>,
     said: &mut String,
 ) -> Result<(), Fault> {
@@ -48,14 +46,12 @@ fn play(
 /// Makes a call, and puts what it says.
 fn act(
     alloc: Global,
-    link: &mut MemLink,
+    link: &mut MemDialler,
     mut step: RowStep<'_>,
     said: &mut String,
 ) -> Result<(), Fault> {
     match step.word {
-        "close" => link.close(),
         "hang_up" => link.hang_up(),
-        "written" => return put_kept(link.written(step.fields.number()?), said),
         "dialled" => return put_kept(link.dialled(step.fields.number()?), said),
         _ => return put_asked(alloc, link, step, said),
     }
@@ -63,7 +59,7 @@ fn act(
 }
 
 /// Makes a call that says something, and puts that and a space.
-fn put_asked<L: Link>(
+fn put_asked<L: Dialler>(
     alloc: Global,
     link: &mut L,
     step: RowStep<'_>,
@@ -83,20 +79,16 @@ fn put_kept(kept: Option<&[u8]>, said: &mut String) -> Result<(), Fault> {
 }
 
 /// Makes a call of a link that says something, and puts that.
-fn ask<L: Link>(
+fn ask<L: Dialler>(
     alloc: Global,
     link: &mut L,
     step: RowStep<'_>,
     said: &mut String,
 ) -> Result<(), Fault> {
     match step.word {
-        "listen" => put_done(link.listen("here").is_ok(), said),
-        "next" => put_arrival(link, said),
-        "read" => read(alloc, link, step.fields, false, said),
-        "write" => write(alloc, link, step.fields, said),
         "dial" => dial(alloc, link, step.fields, said),
         "dial_more" => dial_more(alloc, link, step.fields, said),
-        "dial_read" => read(alloc, link, step.fields, true, said),
+        "dial_read" => dial_read(alloc, link, step.fields, said),
         _ => Err(Fault::Field),
     }
 }
@@ -105,47 +97,7 @@ fn put_done(done: bool, said: &mut String) -> Result<(), Fault> {
     Ok(said.push_str(if done { "ok" } else { "failed" })?)
 }
 
-fn put_arrival<L: Link>(link: &mut L, said: &mut String) -> Result<(), Fault> {
-    Ok(said.push_str(match link.next() {
-        Ok(Arrival::Conn) => "conn",
-        Ok(Arrival::Quiet) => "quiet",
-        Err(_) => "failed",
-    })?)
-}
-
-/// Reads from the connection, or from the one that was dialled.
-fn read<L: Link>(
-    alloc: Global,
-    link: &mut L,
-    mut fields: RowFields<'_>,
-    dialled: bool,
-    said: &mut String,
-) -> Result<(), Fault> {
-    let mut buffer = vec![in alloc; 0; fields.byte()? as usize]?;
-    let count = if dialled {
-        link.dial_read(&mut buffer)
-    } else {
-        link.read(&mut buffer)
-    };
-    match count {
-        Ok(count) => put_hex(said, &buffer[..count]),
-        Err(_) => Ok(said.push_str("failed")?),
-    }
-}
-
-fn write<L: Link>(
-    alloc: Global,
-    link: &mut L,
-    mut fields: RowFields<'_>,
-    said: &mut String,
-) -> Result<(), Fault> {
-    match link.write(&fields.bytes(alloc)?) {
-        Ok(count) => Ok(write!(said, "{count}")?),
-        Err(_) => Ok(said.push_str("failed")?),
-    }
-}
-
-fn dial<L: Link>(
+fn dial<L: Dialler>(
     alloc: Global,
     link: &mut L,
     mut fields: RowFields<'_>,
@@ -156,7 +108,7 @@ fn dial<L: Link>(
     put_done(link.dial(address, &bytes).is_ok(), said)
 }
 
-fn dial_more<L: Link>(
+fn dial_more<L: Dialler>(
     alloc: Global,
     link: &mut L,
     mut fields: RowFields<'_>,
@@ -164,4 +116,17 @@ fn dial_more<L: Link>(
 ) -> Result<(), Fault> {
     let bytes = fields.bytes(alloc)?;
     put_done(link.dial_more(&bytes).is_ok(), said)
+}
+
+fn dial_read<L: Dialler>(
+    alloc: Global,
+    link: &mut L,
+    mut fields: RowFields<'_>,
+    said: &mut String,
+) -> Result<(), Fault> {
+    let mut buffer = vec![in alloc; 0; fields.byte()? as usize]?;
+    match link.dial_read(&mut buffer) {
+        Ok(count) => put_hex(said, &buffer[..count]),
+        Err(_) => Ok(said.push_str("failed")?),
+    }
 }

@@ -1,4 +1,4 @@
--- What a head asks, with what its query tells, is never refused as a body that is no message.
+-- What a head asks, with what its query tells, is never refused as a body that is no message, nor as a call that failed.
 use Rattle.std.proofs.Common.{ℕ, Bool, Option, Result, Ok, Err, List, codes}
 use Rattle.oc_base.specs.declared.limits.TheConstants.{MAX_START}
 use Rattle.oc_http.specs.Queries.{parts}
@@ -42,7 +42,7 @@ spared_both (Ok (asks.Seal group at)) h s t = tt
 spared_both (Ok (asks.Probe manner)) h s t = tt
 spared_both (Err (refusals.Denied rule)) (Ok hint) s t = tt
 spared_both (Err (refusals.Denied rule)) (Err why) s t = t
-spared_both (Err refusals.Source) h s t = tt
+spared_both (Err refusals.Source) h s t = absurd s
 spared_both (Err refusals.Ended) h s t = tt
 spared_both (Err refusals.Head) h s t = tt
 spared_both (Err refusals.HeadLong) h s t = tt

@@ -1,5 +1,5 @@
 -- A content under way: a place in a group, and what is given of it piece by piece.
-use Rattle.std.specs.Prelude.{◌≡◌, ℕ, ◌+◌, ◌-◌, ◌≤◌, Bool, true, false, nat_le, min, if◌then◌else◌, Option, Some, None, List, [], ◌++◌, length, take, drop}
+use Rattle.std.specs.Prelude.{ℕ, ◌+◌, ◌-◌, ◌≤◌, Bool, true, false, nat_le, min, if◌then◌else◌, Option, Some, None, List, [], ◌++◌, length, take, drop}
 use Rattle.oc_base.specs.Groups.{bytes_of}
 use Rattle.oc_base.specs.declared.group.Group.{Group}
 use Rattle.oc_chunked.specs.Texts.{chunked_text, chunks_written, end_written}
@@ -42,11 +42,11 @@ owed (Some u) groups = owed_of u groups
 abbrev pub piece_of : UnderWay → List Group → List ℕ
 piece_of u groups = part_of u.group u.at (min PIECE_BYTES (u.end - u.at)) groups
 
--- nothing of it is left behind so many bytes more
+-- nothing of it is left behind `count` bytes more
 abbrev pub is_last : UnderWay → ℕ → Bool
 is_last u count = nat_le u.end (u.at + count)
 
--- what is under way behind so many bytes more
+-- what is under way behind `count` bytes more
 abbrev pub behind : UnderWay → ℕ → Option UnderWay
 behind u count = if is_last u count then None else Some (record u { at = u.at + count })
 
@@ -58,8 +58,3 @@ ending chunked last = []
 -- these bytes, as they are given
 abbrev pub piece_text : UnderWay → List ℕ → List ℕ
 piece_text u bytes = pieces u.chunked bytes ++ ending u.chunked (is_last u (length bytes))
-
--- a piece was made ready: its text, and what is under way behind it
-pub record GivesPiece (u : UnderWay) (groups : List Group) (text : List ℕ) (next : Option UnderWay) : Type 0 where
-  pub text_is : text ≡ piece_text u (piece_of u groups)
-  pub next_is : next ≡ behind u (length (piece_of u groups))

@@ -1,7 +1,6 @@
 pub mod Asks
 pub mod Contents
 pub mod Examples
-pub mod Fronts
 pub mod Hints
 pub mod Macs
 pub mod Reports

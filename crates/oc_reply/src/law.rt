@@ -44,7 +44,7 @@ pub fn a_condition_says_the_length()
         → (length (bytes_of group groups) ≡ other) × (other ≢ at) }
 {}
 
-/// In a network with a key a body is read as a message only where its MAC under the key stands in its head: one that is
+/// In a network with a key a body is read as a message only where its MAC under the key is in its head: one that is
 /// taken, and one that is refused since it is no message.
 pub fn a_message_has_its_mac()
     ensures taken { (t : NodeTerms) (a : Arrival) (key bytes : List ℕ) (request : Request) → t.key ≡ Some key → request.operation ≡ MessageAsked

@@ -1,5 +1,5 @@
-ghost use Rattle.std.specs.Prelude.{◌≡◌, [], ◌++◌};
-ghost use Rattle.oc_reply.specs.Fronts.{fronts, no_front};
+ghost use Rattle.std.specs.Prelude.{◌≡◌, [], ◌++◌, refl};
+ghost use Rattle.oc_io.specs.SourceView.{fronts};
 
 use oc_io::{Failed, Source};
 
@@ -29,7 +29,7 @@ impl Source for Rest<'_> {
 
     ghost faults = { λ s. 0 };
 
-    ghost gives_nothing = { λ s. no_front s.left.now };
+    ghost gives_nothing = { λ s. refl };
 
     ghost gives_then = { λ a b c. fronts a.left.now b.left.now c.left.now };
 

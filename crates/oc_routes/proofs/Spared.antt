@@ -1,4 +1,4 @@
--- What a head asks is never refused as a body that is no message.
+-- What a head asks is never refused as a body that is no message, nor as a call that failed.
 use Rattle.std.proofs.Common.{ℕ, Bool, true, false, Option, Some, None, Result, Ok, Err, List, codes, if◌then◌else◌}
 use Rattle.oc_base.specs.Names.{parsed_name}
 use Rattle.oc_base.specs.Steps.{◌>>=◌, with_fault}
@@ -28,6 +28,7 @@ use Rattle.std.specs.Str.{bytes_eq}
 -- another refusal
 abbrev pub IsOther : Refused → Type 0
 IsOther refusals.Message = ⊥
+IsOther refusals.Source = ⊥
 IsOther why = Unit {0}
 
 -- not refused so

@@ -1,11 +1,12 @@
 -- What the query of a request says.
 use Rattle.std.specs.Prelude.{ℕ, Bool, if◌then◌else◌, Option, Some, None, Result, Ok, List, [], ◌∷◌, length, take, drop, codes}
 use Rattle.std.specs.List.{list_any}
+use Rattle.std.specs.Option.{option_or}
 use Rattle.std.specs.Str.{bytes_eq}
 use Rattle.oc_base.specs.Steps.{◌>>=◌, with_fault}
 use Rattle.oc_base.specs.Words.{number_in}
 use Rattle.oc_base.specs.declared.limits.TheConstants.{MAX_AREA, MAX_GROUP_BYTES, MAX_START}
-use Rattle.oc_http.specs.Queries.{parts, or_else}
+use Rattle.oc_http.specs.Queries.{parts}
 use Rattle.oc_routes.specs.declared.query.Query.{Query}
 use Rattle.oc_routes.specs.declared.refused.Refused.{Refused}
 use Rattle.oc_routes.specs.declared.refused.Refused.TheVariants as refusals
@@ -17,7 +18,7 @@ value_in name part = if bytes_eq (take (length name) part) name then Some (drop 
 -- the first such value
 abbrev pub first_value : List ℕ → List (List ℕ) → Option (List ℕ)
 first_value name [] = None
-first_value name (part ∷ more) = or_else (value_in name part) (first_value name more)
+first_value name (part ∷ more) = option_or (value_in name part) (first_value name more)
 
 -- whether some part is exactly this one
 abbrev pub has_part : List ℕ → List (List ℕ) → Bool

@@ -3,7 +3,7 @@ use Rattle.std.proofs.Common.{◌≡◌, ℕ, Bool, false, Option, None, Some, L
 use Rattle.std.proofs.lemmas.List.{append-nil}
 use Rattle.std.specs.List.{AllByRecursion}
 use Rattle.oc_events.specs.Counts.{CountsFailure}
-use Rattle.oc_events.specs.Told.{AddsAll, Gives, Told}
+use Rattle.oc_events.specs.Told.{AddsAll, GivesEvent, Told}
 use Rattle.oc_events.specs.declared.call.Call.{Call}
 use Rattle.oc_events.specs.declared.call.Call.TheVariants as acts
 use Rattle.oc_events.specs.declared.counts.Counts.{Counts}
@@ -212,7 +212,7 @@ put_first old text new none is = is ∙ ap (λ (t : List ℕ). t ++ text) none
 -- What the link tells
 
 -- an event came by some bytes
-pub event_bytes : (event : Event) (lent : List ℕ) (a b : Option (List Call)) → Told (Gives event lent) a b → (bytes : List ℕ) × AddsAll (acts.Next event bytes ∷ []) a b
+pub event_bytes : (event : Event) (lent : List ℕ) (a b : Option (List Call)) → Told (GivesEvent event lent) a b → (bytes : List ℕ) × AddsAll (acts.Next event bytes ∷ []) a b
 event_bytes event lent a None told = ([], tt)
 event_bytes event lent None (Some b) told = absurd told
 event_bytes event lent (Some a) (Some b) told = (told.bytes, told.made)

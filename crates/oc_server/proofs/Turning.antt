@@ -5,7 +5,7 @@ use Rattle.std.proofs.lemmas.Bool.{eq-eqb, ne_eqb}
 use Rattle.oc_base.specs.Groups.{shelf}
 use Rattle.oc_config.specs.Settings.{Settings}
 use Rattle.oc_events.specs.Stands.{may}
-use Rattle.oc_events.specs.Told.{AddsAll, Gives, Told as Telling}
+use Rattle.oc_events.specs.Told.{AddsAll, GivesEvent, Told as Telling}
 use Rattle.oc_events.specs.Traffic.{held}
 use Rattle.oc_events.specs.declared.call.Call.{Call}
 use Rattle.oc_events.specs.declared.call.Call.TheVariants as acts
@@ -75,7 +75,7 @@ pub record Lent (a z : Option (List Call)) (event : Event) (bytes lent : List �
   pub could : CouldCome a z event
   pub means : (t : NodeTerms) (errand : Option Errand) (came : Came) → Means t lent errand event came → Means t bytes_lent errand event came
 
-lent_by : (event : Event) (calls now end : List Call) (bytes lent : List ℕ) → Gives event lent calls now → now ≡ calls ++ acts.Next event bytes ∷ [] → Lent (Some calls) (Some end) event bytes lent
+lent_by : (event : Event) (calls now end : List Call) (bytes lent : List ℕ) → GivesEvent event lent calls now → now ≡ calls ++ acts.Next event bytes ∷ [] → Lent (Some calls) (Some end) event bytes lent
 lent_by (events.Request a) calls now end bytes lent told is =
     record { bytes_lent = lent; is_lent = told.lends ∙ ap (λ (cs : List Call). held a.connection cs) is; could = told.could; means = λ t errand came m. m }
 lent_by (events.Reply d coming) calls now end bytes lent told is =
@@ -84,7 +84,7 @@ lent_by (events.Room c) calls now end bytes lent told is = record { bytes_lent =
 lent_by (events.Gone c loss) calls now end bytes lent told is = record { bytes_lent = bytes; is_lent = refl; could = told.could; means = λ t errand came m. m }
 lent_by events.Quiet calls now end bytes lent told is = record { bytes_lent = bytes; is_lent = refl; could = told.could; means = λ t errand came m. m }
 
-pub lent_is : (event : Event) (bytes lent : List ℕ) (more : List Call) (a b z : Option (List Call)) → Telling (Gives event lent) a b → AddsAll (acts.Next event bytes ∷ []) a b → AddsAll more b z
+pub lent_is : (event : Event) (bytes lent : List ℕ) (more : List Call) (a b z : Option (List Call)) → Telling (GivesEvent event lent) a b → AddsAll (acts.Next event bytes ∷ []) a b → AddsAll more b z
     → Lent a z event bytes lent
 lent_is event bytes lent more None b z told adds behind = record { bytes_lent = lent; is_lent = tt; could = tt; means = λ t errand came m. m }
 lent_is event bytes lent more (Some calls) b None told adds behind = record { bytes_lent = lent; is_lent = tt; could = tt; means = λ t errand came m. m }
@@ -212,7 +212,7 @@ module _ {D L K : Type 0} (view : D → DiskView) (takes fails : K → List ℕ 
     }
 
     module _ (errand : Option Errand) (lent : List ℕ) (came : Came) (now : ℕ) (c d : Server D L K) (new : Turns D L K)
-        (told : Telling (Gives event lent) (story old.server.link) (story b.link)) (errand_is : errand ≡ errand_in event old.server.dials) (means : Means (reads_by b) lent errand event came)
+        (told : Telling (GivesEvent event lent) (story old.server.link) (story b.link)) (errand_is : errand ≡ errand_in event old.server.dials) (means : Means (reads_by b) lent errand event came)
         (heads : c ≡ record b { heads = c.heads }) (read : Did view takes faults story counts (Reads now ∷ []) c d) where
       seen_whole : Did view takes faults story counts (sees ∷ []) old.server c
       seen_whole = did_heads (sees ∷ []) old.server b c heads seen

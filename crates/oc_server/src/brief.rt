@@ -12,7 +12,7 @@ use oc_base::{Child, GroupName, Memory, NodeId, Rank, put, put_number, put_with_
 use oc_model::{Answer, Input, Mode};
 use oc_node::Node;
 use oc_state::children::children;
-use oc_state::modes::{in_tree, is_acting, is_asking, is_idle, is_joined_to};
+use oc_state::modes::{in_tree, is_asking, is_idle};
 use std::alloc::Global;
 
 /// What is known before an input of what is to be told of it.
@@ -227,8 +227,8 @@ fn is_still(before: Mode, now: Mode) -> bool
     match before {
         Mode::Idle => is_idle(now),
         Mode::Asking(peer) => is_asking(now, peer),
-        Mode::Joined(parent) => is_joined_to(now, parent),
-        Mode::Acting => is_acting(now),
+        Mode::Joined(parent) => now.is_joined_to(parent),
+        Mode::Acting => now.is_acting(),
     }
 }
 

@@ -1,6 +1,10 @@
 mod Stories
 mod Machines
 mod Measured
+mod Replies
+mod HeadFaults
+mod BorneOut
+mod Alike
 mod Headers
 mod Places
 mod Probes

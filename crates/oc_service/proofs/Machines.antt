@@ -12,6 +12,7 @@ use Rattle.oc_reply.specs.Verdicts.{NodeTerms, terms_of}
 use Rattle.oc_server.specs.Deeds.{Deed, Running, Setting, after_all, calls_of}
 use Rattle.oc_server.specs.Runs.{MayRead, Serves, Turned, due_in, reads_by}
 use Rattle.oc_server.specs.Scenes.{Did, running, setting}
+use Rattle.oc_server.specs.Settled.{deeds_of}
 use Rattle.oc_server.specs.Turns.{Told, turn}
 use Rattle.oc_server.specs.declared.pace.Pace.{Pace}
 use Rattle.oc_server.specs.declared.server.Server.{Server}
@@ -76,16 +77,16 @@ module _ {D L K : Type 0} (view : D → DiskView) (takes fails : K → List ℕ 
       (subst (λ (ds : List Deed). AddsAll (calls_of (setting old.server) ds (running old.server)) (story old.server.link) (story at.server.link)) (turned.does.are honest) (turned.does.did.done honest).calls) follows
 
   -- no turn
-  made_none : (a : Turns D L K) → a.server.kept.closed ≡ false → Made zero a a
-  made_none a is_open = record {
+  made_none : (old new : Turns D L K) → old.server.kept.closed ≡ false → new ≡ old → Made zero old new
+  made_none old new is_open same = record {
     told = [];
     many = refl;
     deeds = [];
-    did = did_none view takes fails faults story counts takes_nothing a.server is_open;
+    did = subst (λ (t : Turns D L K). Did view takes faults story counts [] old.server t.server) (sym same) (did_none view takes fails faults story counts takes_nothing old.server is_open);
     are = λ honest. refl;
-    behind = λ honest. refl;
+    behind = λ honest. ap (λ (t : Turns D L K). machine t) same;
     heard = λ honest all follows. tt;
-    calls = λ honest all follows. refl;
+    calls = λ honest all follows. ap (λ (t : Turns D L K). until (story t.server.link) all) same;
   }
 
   -- turns behind one
@@ -128,5 +129,12 @@ module _ {D L K : Type 0} (view : D → DiskView) (takes fails : K → List ℕ 
 
   -- turns of a server
   pub made : (n : ℕ) (old new : Turns D L K) → old.server.kept.closed ≡ false → Serves view takes faults story counts n old new → Made n old new
-  made zero old new is_open same = subst (λ (t : Turns D L K). Made zero old t) (sym same) (made_none old is_open)
+  made zero old new is_open same = made_none old new is_open same
   made (suc n) old new is_open (served, at, turned, rest) = made_more n old at new turned (made n at new turned.does.did.is_open rest)
+
+  -- their deeds are those of the turns one by one
+  pub made_deeds : (n : ℕ) (old new : Turns D L K) (is_open : old.server.kept.closed ≡ false) (serves : Serves view takes faults story counts n old new)
+      → (made n old new is_open serves).deeds ≡ deeds_of view takes faults story counts n old new serves
+  unfolding made made_none made_more
+  made_deeds zero old new is_open same = refl
+  made_deeds (suc n) old new is_open (served, at, turned, rest) = ap (λ (ds : List Deed). turned.does.deeds ++ ds) (made_deeds n at new turned.does.did.is_open rest)

@@ -6,6 +6,7 @@ use Rattle.oc_events.specs.Told.{AddsAll}
 use Rattle.oc_events.specs.declared.call.Call.{Call}
 use Rattle.oc_events.specs.declared.call.Call.TheVariants as acts
 use Rattle.oc_events.specs.declared.counts.Counts.{Counts}
+use Rattle.oc_events.specs.declared.event.Event.TheVariants.{Quiet}
 use Rattle.oc_events.proofs.Stories.{adds-then}
 use Rattle.oc_io.specs.DiskView.{DiskView}
 use Rattle.oc_io.specs.Faults.{Rose}
@@ -19,6 +20,7 @@ use Rattle.oc_model.specs.declared.input.Input.{Input}
 use Rattle.oc_model.specs.Node.{Control, Header, Node}
 use Rattle.oc_model.specs.Step.{step}
 use Rattle.oc_reply.specs.Verdicts.{NodeTerms, terms_of}
+use Rattle.oc_server.specs.Answered.{AreAnswered}
 use Rattle.oc_server.specs.Deeds.{Deed, Setting, calls_of, inputs_of, lines}
 use Rattle.oc_server.specs.Parts.{Cuts}
 use Rattle.oc_server.specs.Runs.{reads_by}
@@ -31,14 +33,18 @@ use Rattle.oc_server.specs.declared.server.Server.{Server}
 use Rattle.oc_server.specs.declared.turns.Turns.{Turns}
 use Rattle.oc_server.proofs.Scenes.{broken_cause, broken_leaves, broken_text, did_node}
 use Rattle.oc_service.specs.OnSite.{DidOn, HasCauseOn, LeavesBehind, LeavesOne, NodeEnds, Stops, WasDeaf, Writes, at_run, header_of_settings, heard_before, machine_on, node_calls, setting_of, terms_in}
+use Rattle.oc_service.specs.Failures.{AreBorneOut}
 use Rattle.oc_service.specs.Loading.{IsLoaded}
 use Rattle.oc_service.specs.declared.site.Site.{Site}
 use Rattle.oc_service.proofs.Loaded.{loaded_machine}
 use Rattle.oc_service.specs.Running.{Halts, IsDeaf, Listens, RunEnds, Runs, listens_at, machine}
 use Rattle.oc_service.specs.WhatNodeDoes.{Machine, begun, due_at, node_behind, node_deeds, turn_deeds}
+use Rattle.oc_service.specs.WhatNodeGives.{ServesFrom}
 use Rattle.oc_service.specs.WhatNodeHears.{AreHeard, MayHear, all_calls_behind, until}
 use Rattle.oc_service.specs.declared.running.NodeEnd.TheVariants.{Turned}
 use Rattle.oc_service.specs.declared.running.Task.{Task}
+use Rattle.oc_service.proofs.BorneOut.{front_borne, node_borne}
+use Rattle.oc_service.proofs.Replies.{front_answered, node_answered, serves_until}
 use Rattle.oc_service.proofs.Stories.{Follows, follows_adds, until_then}
 
 module _ {D L K : Type 0} (view : D → DiskView) (takes fails : K → List ℕ → K → Type 0) (faults : K → ℕ) (story : L → Option (List Call)) (counts : L → Counts)
@@ -133,18 +139,48 @@ module _ {D L K : Type 0} (view : D → DiskView) (takes fails : K → List ℕ 
         (subst (λ (x : NodeTerms). Choice told next deeds (setting_of c task) x (machine first) (until (story link) (story last.server.link))) terms_is
         (subst (λ (x : Setting). Choice told next deeds x (reads_by first.server) (machine first) (until (story link) (story last.server.link))) setting_is heard)))
 
+    -- each connection was served, if nothing was under way when it was loaded
+    abbrev ServesAll : List Deed → Type 0
+    ServesAll deeds = IsHonest view first.server.kept → first.server.works ≡ [] → ServesFrom (setting first.server) deeds (running first.server) (story link) (story last.server.link)
+
+    served_on : AreHonest view d → (deeds : List Deed) → Follows (story link) (story last.server.link) → ServesAll deeds
+        → ServesFrom (setting_of c task) deeds m.running (heard_before c me (story first.server.link) (story last.server.link)) (story last.server.link)
+    served_on honest deeds follows serves =
+        subst (λ (calls : Option (List Call)). ServesFrom (setting_of c task) deeds m.running calls (story last.server.link)) (heard_is (story last.server.link) follows)
+        (serves_until (setting_of c task) deeds m.running (story link) (story last.server.link)
+        (subst (λ (x : Machine). ServesFrom (setting_of c task) deeds x.running (story link) (story last.server.link)) (begins honest)
+        (subst (λ (x : Setting). ServesFrom x deeds (running first.server) (story link) (story last.server.link)) setting_is
+        (serves (honest_kept honest) (ap (λ (x : Machine). x.running.works) (begins honest))))))
+
     -- All turns
+
+    deeds_on : AreHonest view d → (told : List Told) (deeds : List Deed) → (IsHonest view first.server.kept → deeds ≡ node_deeds (setting first.server) c.measures told (machine first))
+        → deeds ≡ node_deeds (setting_of c task) c.measures told m
+    deeds_on honest told deeds are = are (honest_kept honest) ∙ ap₂ (λ (x : Setting) (y : Machine). node_deeds x c.measures told y) setting_is (begins honest)
+
+    heard_told : AreHonest view d → (told : List Told) (deeds : List Deed) → Did view takes faults story counts deeds l last.server
+        → (IsHonest view first.server.kept → AreHeard (setting first.server) (reads_by first.server) (until (story link) (story last.server.link)) told (begun (setting first.server) c.measures (machine first)))
+        → AreHeard (setting_of c task) (terms_in c me) (heard_before c me (story first.server.link) (story last.server.link)) told (begun (setting_of c task) c.measures m)
+    heard_told honest told deeds did heard = heard_on honest told (follows_adds (calls_of (setting l) deeds (running l)) (story link) (story last.server.link) (did.done (honest_kept honest)).calls) (heard (honest_kept honest))
 
     did_on : (told : List Told) (deeds : List Deed) → length told ≡ task.turns → Did view takes faults story counts deeds l last.server
         → (IsHonest view first.server.kept → deeds ≡ node_deeds (setting first.server) c.measures told (machine first))
         → (IsHonest view first.server.kept → AreHeard (setting first.server) (reads_by first.server) (until (story link) (story last.server.link)) told (begun (setting first.server) c.measures (machine first)))
+        → ServesAll deeds
         → DidOn view story counts c task deeds d e first.server.link last.server.link
-    did_on told deeds many did are heard = record {
+    did_on told deeds many did are heard serves = record {
       told = told;
       many = many;
-      are = λ honest. are (honest_kept honest) ∙ ap₂ (λ (x : Setting) (y : Machine). node_deeds x c.measures told y) setting_is (begins honest);
-      heard = λ honest. heard_on honest told (follows_adds (calls_of (setting l) deeds (running l)) (story link) (story last.server.link) (did.done (honest_kept honest)).calls) (heard (honest_kept honest));
+      are = λ honest. deeds_on honest told deeds are;
+      heard = λ honest. heard_told honest told deeds did heard;
       calls = λ honest. calls_on honest deeds (did.done (honest_kept honest)).calls;
+      replies = λ honest. record {
+        answered = subst (λ (ds : List Deed). AreAnswered (setting_of c task) ds m.running) (sym (deeds_on honest told deeds are)) (node_answered (setting_of c task) c.measures told m);
+        served = served_on honest deeds (follows_adds (calls_of (setting l) deeds (running l)) (story link) (story last.server.link) (did.done (honest_kept honest)).calls) serves;
+      };
+      failures = λ honest.
+          subst (λ (ds : List Deed). AreBorneOut Quiet ds) (sym (deeds_on honest told deeds are))
+          (node_borne Quiet (terms_in c me) (heard_before c me (story first.server.link) (story last.server.link)) (setting_of c task) c.measures told m (heard_told honest told deeds did heard));
       counted = subst (λ (x : Counts). CountsAll deeds x (counts last.server.link)) listens.counted did.counted;
       goes_on = all_go_on_then view d (disks_of first.server.kept) e safely.goes_on did.goes_on;
       survives = λ honest.
@@ -239,7 +275,7 @@ module _ {D L K : Type 0} (view : D → DiskView) (takes fails : K → List ℕ 
       let did = subst (λ (x : Server D L K). Did view takes faults story counts r.deeds x last.server) r.listens.rest r.did in (
         r.deeds,
         subst (λ (x : Setting). takes first.server.sink (lines x r.deeds) last.server.sink) setting_is did.text,
-        did_on link listens r.told r.deeds r.many did r.are r.heard,
+        did_on link listens r.told r.deeds r.many did r.are r.heard r.serves,
       )
 
   halts_on : (end : TurnEnd) → Halts view takes fails faults story counts task.turns end first last
@@ -249,7 +285,10 @@ module _ {D L K : Type 0} (view : D → DiskView) (takes fails : K → List ℕ 
       let listens = subst (λ (x : Server D L K). Listens story counts first.server x) r.listens.rest r.listens in
       let breaks = subst (λ (x : Server D L K). BreaksBehind view takes fails faults story counts end r.deeds r.under x last.server) r.listens.rest r.breaks in
       let l = listening_by link in
-      let follows = λ (honest : AreHonest view d). follows_adds (calls_of (setting l) r.deeds (running l)) (story link) (story last.server.link) (adds_all link listens r.deeds r.under end breaks honest) in (
+      let follows = λ (honest : AreHonest view d). follows_adds (calls_of (setting l) r.deeds (running l)) (story link) (story last.server.link) (adds_all link listens r.deeds r.under end breaks honest) in
+      let cut = λ (honest : AreHonest view d).
+      subst (λ (x : Machine). Cuts (node_deeds (setting_of c task) c.measures r.told x ++ turn_deeds (setting_of c task) r.last (node_behind (setting_of c task) c.measures r.told x)) r.deeds r.under) (begins honest)
+      (subst (λ (x : Setting). Cuts (node_deeds x c.measures r.told (machine first) ++ turn_deeds x r.last (node_behind x c.measures r.told (machine first))) r.deeds r.under) setting_is (r.cut (honest_kept honest))) in (
         r.deeds,
         r.under,
         writes_on link listens r.deeds r.under end breaks,
@@ -257,12 +296,19 @@ module _ {D L K : Type 0} (view : D → DiskView) (takes fails : K → List ℕ 
           told = r.told;
           last = r.last;
           few = r.few;
-          cut = λ honest.
-              subst (λ (x : Machine). Cuts (node_deeds (setting_of c task) c.measures r.told x ++ turn_deeds (setting_of c task) r.last (node_behind (setting_of c task) c.measures r.told x)) r.deeds r.under) (begins honest)
-              (subst (λ (x : Setting). Cuts (node_deeds x c.measures r.told (machine first) ++ turn_deeds x r.last (node_behind x c.measures r.told (machine first))) r.deeds r.under) setting_is (r.cut (honest_kept honest)));
+          cut = cut;
           heard = λ honest. heard_on link listens honest r.told (follows honest) (r.heard (honest_kept honest));
           last_heard = λ honest. last_on link listens honest r.told r.last r.deeds (follows honest) (r.last_heard (honest_kept honest));
           calls = λ honest. calls_on link listens honest r.deeds (adds_all link listens r.deeds r.under end breaks honest);
+          replies = λ honest. record {
+            answered = front_answered (setting_of c task) c.measures r.told r.last m r.deeds r.under (cut honest);
+            served = served_on link listens honest r.deeds (follows honest) r.serves;
+          };
+          failures = λ honest.
+              front_borne Quiet (terms_in c me) (heard_before c me (story first.server.link) (story last.server.link)) (setting_of c task) c.measures r.told r.last m
+              (heard_on link listens honest r.told (follows honest) (r.heard (honest_kept honest))) r.deeds (cut honest).behind
+              (all_calls_behind (setting_of c task) r.told (begun (setting_of c task) c.measures m) (heard_before c me (story first.server.link) (story last.server.link))) (cut honest).front
+              (last_on link listens honest r.told r.last r.deeds (follows honest) (r.last_heard (honest_kept honest)));
           goes_on = goes_on_all link listens r.deeds r.under end breaks;
           leaves = λ honest.
               subst (λ (x : Node). LeavesBehind view h me e end (after_inputs x (inputs_of r.deeds)) r.under) (loaded.node honest)

@@ -2,6 +2,8 @@
 use Rattle.std.proofs.Common.{◌≡◌, ◌⊎◌, ◌∙◌, ℕ, ◌+◌, ◌<◌, Option, None, Some, List, [], ◌∷◌, ◌++◌, length, inl, inr, refl, sym, ap, ap₂, subst, arith, append-nil, length-append}
 use Rattle.std.specs.Prelude.{◌==◌, if◌then◌else◌, Bool, true, false}
 use Rattle.std.specs.Option.{option_map}
+use Rattle.std.proofs.lemmas.List.{append_assoc}
+use Rattle.oc_events.specs.Told.{AddsAll}
 use Rattle.oc_events.specs.declared.call.Call.{Call}
 use Rattle.oc_events.specs.declared.counts.Counts.{Counts}
 use Rattle.oc_events.specs.declared.event.Event.TheVariants as events
@@ -14,12 +16,14 @@ use Rattle.oc_server.specs.Deeds.{Deed, Running, Setting, Takes, after_all, call
 use Rattle.oc_server.specs.Parts.{Cuts, Stops}
 use Rattle.oc_server.specs.Runs.{MayRead, ServeEnds, ServesUpTo, TurnStops, due_in, reads_by}
 use Rattle.oc_server.specs.Scenes.{BreaksBehind, Did, running, setting}
+use Rattle.oc_server.specs.Settled.{AreServed, IsSettled, deeds_until, deeds_up_to}
 use Rattle.oc_server.specs.Turns.{Told}
 use Rattle.oc_server.specs.declared.came.Came.TheVariants as comes
 use Rattle.oc_server.specs.declared.ends.TurnEnd.{TurnEnd}
 use Rattle.oc_server.specs.declared.ends.TurnEnd.TheVariants as ends
 use Rattle.oc_server.specs.declared.server.Server.{Server}
 use Rattle.oc_server.specs.declared.turns.Turns.{Turns}
+use Rattle.oc_server.specs.declared.work.Work.{Work}
 use Rattle.oc_updown.specs.declared.measure_lines.Measure.{Measure}
 use Rattle.oc_server.proofs.Chains.{calls_append}
 use Rattle.oc_server.proofs.Parts.{cuts_behind, cuts_more}
@@ -27,8 +31,10 @@ use Rattle.oc_server.proofs.Scenes.{breaks_then, did_then, setting_stays, still_
 use Rattle.oc_service.specs.Measuring.{begins_with}
 use Rattle.oc_service.specs.Running.{Halts, Listens, RunEnds, Runs, machine}
 use Rattle.oc_service.specs.WhatNodeDoes.{Machine, begins, begun, behind_turns, due_at, node_behind, node_deeds, own_measure, own_measures, turn_deeds, turns_deeds}
+use Rattle.oc_service.specs.WhatNodeGives.{ServesFrom}
 use Rattle.oc_service.specs.WhatNodeHears.{AreHeard, MayHear, all_calls_behind, until}
-use Rattle.oc_service.proofs.Machines.{Made, heard_at, machine_of, made, reads_stay}
+use Rattle.oc_service.proofs.Machines.{Made, heard_at, machine_of, made, made_deeds, reads_stay}
+use Rattle.oc_service.proofs.Replies.{begins_quiet, begins_works, serves_behind, serves_front}
 use Rattle.oc_service.proofs.Stories.{Follows, follows_adds, follows_self, follows_then, until_then}
 
 -- taking what was measured makes no call
@@ -80,6 +86,11 @@ module _ {D L K : Type 0} (view : D → DiskView) (takes fails : K → List ℕ 
   honest_listening : IsHonest view old.server.kept → IsHonest view listening.kept
   honest_listening honest = subst (λ (k : KeptView D). IsHonest view k) (sym kept_is) honest
 
+  -- what the law of turns says of deeds since this server
+  abbrev IsServedSince : Server D L K → List Deed → Option (List Call) → Type 0
+  IsServedSince at ds z =
+      (made later : List Call) → IsHonest view at.kept → story at.link ≡ Some made → z ≡ Some later → at.works ≡ [] → IsSettled made at.works → AreServed (setting at) made later ds (running at)
+
   module _ (at : Server D L K) (did : Did view takes faults story counts own listening at) where
     -- the turns begin with this
     abbrev first : Turns D L K
@@ -94,10 +105,30 @@ module _ {D L K : Type 0} (view : D → DiskView) (takes fails : K → List ℕ 
     terms_at : reads_by at ≡ terms
     terms_at = reads_stay listening at did.same did.config ∙ listening_terms
 
+    running_at : IsHonest view old.server.kept → running at ≡ after_all own (running old.server)
+    running_at honest = (did.done (honest_listening honest)).after ∙ ap (λ (r : Running). after_all own r) listening_running
+
     machine_at : IsHonest view old.server.kept → machine first ≡ m
-    machine_at honest =
-        ap (λ (r : Running). machine_of r old.pace old.probing)
-        ((did.done (honest_listening honest)).after ∙ ap (λ (r : Running). after_all own r) listening_running)
+    machine_at honest = ap (λ (r : Running). machine_of r old.pace old.probing) (running_at honest)
+
+    works_at : old.server.works ≡ [] → (after_all own (running old.server)).works ≡ []
+    works_at none = begins_works s old.server.config.measures (node_of old.server.kept) (running old.server) ∙ none
+
+    adds_at : IsHonest view old.server.kept → AddsAll (calls_of s own (running old.server)) (story listening.link) (story at.link)
+    adds_at honest =
+        subst (λ (r : Running). AddsAll (calls_of s own r) (story listening.link) (story at.link)) listening_running
+        (subst (λ (x : Setting). AddsAll (calls_of x own (running listening)) (story listening.link) (story at.link)) listening_setting (did.done (honest_listening honest)).calls)
+
+    -- what is served by deeds since then is so by all since the node listens
+    serves_all : (ds all : List Deed) (z : Option (List Call)) → own ++ ds ≡ all → (IsHonest view old.server.kept → Follows (story at.link) z) → IsServedSince at ds z
+        → IsHonest view old.server.kept → old.server.works ≡ [] → ServesFrom s all (running old.server) (story listening.link) z
+    serves_all ds all z is follows served honest none =
+        subst (λ (es : List Deed). ServesFrom s es (running old.server) (story listening.link) z) is
+        (serves_behind s own (running old.server) (begins_quiet s old.server.config.measures (node_of old.server.kept)) none ds (running at) (story listening.link) (story at.link) z (works_at none) (running_at honest) (adds_at honest) (follows honest)
+        (λ made later told behind settled.
+        let left : at.works ≡ [] = ap (λ (r : Running). r.works) (running_at honest) ∙ works_at none in
+        subst (λ (x : Setting). AreServed x made later ds (running at)) setting_at
+        (served made later (honest_at honest) told behind left (subst (λ (ws : List Work). IsSettled made ws) (sym left) settled))))
 
     -- taking what was measured makes no call
     calls_at : IsHonest view old.server.kept → (all : Option (List Call)) → Follows (story at.link) all → until (story at.link) all ≡ until (story listening.link) all
@@ -142,8 +173,11 @@ module _ {D L K : Type 0} (view : D → DiskView) (takes fails : K → List ℕ 
           ∙ ap₂ (λ (x : Setting) (y : Machine). all_calls_behind x turns.told y (until (story at.link) all)) setting_at (machine_at honest)
           ∙ ap (λ (calls : Option (List Call)). all_calls_behind s turns.told m calls) (calls_at honest all (follows_at honest all follows))
 
-      runs : n ≡ most → Runs view takes faults story counts most old last
-      runs is = record {
+      follows_made : IsHonest view old.server.kept → Follows (story at.link) (story last.server.link)
+      follows_made honest = follows_at honest (story last.server.link) (follows_self (story last.server.link))
+
+      runs : n ≡ most → IsServedSince at turns.deeds (story last.server.link) → Runs view takes faults story counts most old last
+      runs is served = record {
         listening = listening;
         listens = listens;
         told = turns.told;
@@ -152,6 +186,7 @@ module _ {D L K : Type 0} (view : D → DiskView) (takes fails : K → List ℕ 
         did = did_all;
         are = deeds_are;
         heard = λ honest. heard_all honest (story last.server.link) (follows_self (story last.server.link));
+        serves = serves_all turns.deeds all_deeds (story last.server.link) refl follows_made served;
       }
 
       -- what a turn that ended partway through was told
@@ -208,8 +243,8 @@ module _ {D L K : Type 0} (view : D → DiskView) (takes fails : K → List ℕ 
               (subst (λ (x : NodeTerms). MayHear x (until (story last.server.link) (story new.server.link)) (due_at last_told (machine last)) last_told (machine last)) terms_last
               (heard_now (due_in last.server last_told.before) read))))
 
-        halts : Halts view takes fails faults story counts most end old new
-        halts = record {
+        halts : IsServedSince at (turns.deeds ++ stop_deeds) (story new.server.link) → Halts view takes fails faults story counts most end old new
+        halts served = record {
           listening = listening;
           listens = listens;
           told = turns.told;
@@ -221,20 +256,29 @@ module _ {D L K : Type 0} (view : D → DiskView) (takes fails : K → List ℕ 
           cut = cut_all;
           heard = λ honest. heard_all honest (story new.server.link) (follows_last honest);
           last_heard = last_heard;
+          serves = serves_all (turns.deeds ++ stop_deeds) (all_deeds ++ stop_deeds) (story new.server.link) (sym (append_assoc own turns.deeds stop_deeds))
+              (λ honest. follows_at honest (story new.server.link) (follows_last honest)) served;
         }
 
-    halts_of : (end : TurnEnd) (new : Turns D L K) → ServesUpTo view takes fails faults story counts most end first new → Halts view takes fails faults story counts most end old new
-    halts_of end new up = halts up.done up.at (made view takes fails faults story counts takes_nothing takes_then up.done first up.at did.is_open up.serves) end new up.few up.stops
+    halts_of : (end : TurnEnd) (new : Turns D L K) (up : ServesUpTo view takes fails faults story counts most end first new)
+        → IsServedSince at (deeds_up_to view takes fails faults story counts most end first new up) (story new.server.link) → Halts view takes fails faults story counts most end old new
+    halts_of end new up served =
+        halts up.done up.at (made view takes fails faults story counts takes_nothing takes_then up.done first up.at did.is_open up.serves) end new up.few up.stops
+        (subst (λ (ds : List Deed). IsServedSince at (ds ++ up.stops.stops.deeds) (story new.server.link))
+        (sym (made_deeds view takes fails faults story counts takes_nothing takes_then up.done first up.at did.is_open up.serves)) served)
 
     -- how the turns ended
-    pub serve_ends : (end : TurnEnd) (new : Turns D L K) → ServeEnds view takes fails faults story counts most end first new → RunEnds view takes fails faults story counts most end old new
-    serve_ends ends.Served new h = runs most new (made view takes fails faults story counts takes_nothing takes_then most first new did.is_open h) refl
-    serve_ends ends.Quiet new h = absurd h
-    serve_ends ends.Link new h = inr (halts_of ends.Link new h)
-    serve_ends ends.Disk new h = halts_of ends.Disk new h
-    serve_ends ends.Full new h = halts_of ends.Full new h
-    serve_ends ends.Sink new h = halts_of ends.Sink new h
-    serve_ends ends.Memory new h = halts_of ends.Memory new h
+    pub serve_ends : (end : TurnEnd) (new : Turns D L K) (ended : ServeEnds view takes fails faults story counts most end first new)
+        → IsServedSince at (deeds_until view takes fails faults story counts most end first new ended) (story new.server.link) → RunEnds view takes fails faults story counts most end old new
+    serve_ends ends.Served new h served =
+        runs most new (made view takes fails faults story counts takes_nothing takes_then most first new did.is_open h) refl
+        (subst (λ (ds : List Deed). IsServedSince at ds (story new.server.link)) (sym (made_deeds view takes fails faults story counts takes_nothing takes_then most first new did.is_open h)) served)
+    serve_ends ends.Quiet new h served = absurd h
+    serve_ends ends.Link new h served = inr (halts_of ends.Link new h served)
+    serve_ends ends.Disk new h served = halts_of ends.Disk new h served
+    serve_ends ends.Full new h served = halts_of ends.Full new h served
+    serve_ends ends.Sink new h served = halts_of ends.Sink new h served
+    serve_ends ends.Memory new h served = halts_of ends.Memory new h served
 
   -- It ended before its first turn
 
@@ -246,6 +290,14 @@ module _ {D L K : Type 0} (view : D → DiskView) (takes fails : K → List ℕ 
     front : IsHonest view old.server.kept → Cuts own stops.deeds stops.under
     front honest =
         subst (λ (x : Server D L K). Cuts (begins (setting x) old.server.config.measures (node_of x.kept)) stops.deeds stops.under) listens.rest (stops.cut (honest_listening honest))
+
+    calls_stopped : IsHonest view old.server.kept → AddsAll (calls_of s stops.deeds (running old.server)) (story listening.link) (story new.server.link)
+    calls_stopped honest = by_breaks stops.breaks where
+      by_breaks : BreaksBehind view takes fails faults story counts end stops.deeds stops.under listening new.server → AddsAll (calls_of s stops.deeds (running old.server)) (story listening.link) (story new.server.link)
+      by_breaks (x, did, breaks) =
+          subst (λ (y : Option (List Call)). AddsAll (calls_of s stops.deeds (running old.server)) (story listening.link) y) (sym breaks.told)
+          (subst (λ (r : Running). AddsAll (calls_of s stops.deeds r) (story listening.link) (story x.link)) listening_running
+          (subst (λ (y : Setting). AddsAll (calls_of y stops.deeds (running listening)) (story listening.link) (story x.link)) listening_setting (did.done (honest_listening honest)).calls))
 
     early : Halts view takes fails faults story counts most end old new
     early = record {
@@ -262,6 +314,8 @@ module _ {D L K : Type 0} (view : D → DiskView) (takes fails : K → List ℕ 
           (cuts_more own [] stops.deeds stops.under (front honest));
       heard = λ honest. tt;
       last_heard = λ honest. inl (omega (arith, ap length (front honest).front, length-append stops.deeds (front honest).behind, length-append own []));
+      serves = λ honest none.
+          serves_front s own (running old.server) (begins_quiet s old.server.config.measures (node_of old.server.kept)) none stops.deeds (front honest).behind (story listening.link) (story new.server.link) (front honest).front (calls_stopped honest);
     }
 
   pub early_ends : (end : TurnEnd) (new : Turns D L K) → Stops view takes fails faults story counts end (begins_with old.server.config.measures) listening new.server
@@ -277,7 +331,8 @@ module _ {D L K : Type 0} (view : D → DiskView) (takes fails : K → List ℕ 
   -- and told of the measures of the server that listens
 
   pub served_ends : (at : Server D L K) → Did view takes faults story counts (begins (setting listening) listening.config.measures (node_of listening.kept)) listening at
-      → (end : TurnEnd) (new : Turns D L K) → ServeEnds view takes fails faults story counts most end (record old { server = at }) new → RunEnds view takes fails faults story counts most end old new
+      → (end : TurnEnd) (new : Turns D L K) (ended : ServeEnds view takes fails faults story counts most end (record old { server = at }) new)
+      → IsServedSince at (deeds_until view takes fails faults story counts most end (record old { server = at }) new ended) (story new.server.link) → RunEnds view takes fails faults story counts most end old new
   served_ends at did =
       serve_ends at (subst (λ (ds : List Deed). Did view takes faults story counts ds listening at) (ap (λ (x : Server D L K). begins (setting x) x.config.measures (node_of x.kept)) listens.rest) did)
 

@@ -1,5 +1,9 @@
 pub mod WhatNodeDoes
 pub mod WhatNodeHears
+pub mod WhatNodeGives
+pub mod Failures
+pub mod Alike
+pub mod Examples
 pub mod Running
 pub mod OnSite
 pub mod Loading

@@ -1,5 +1,5 @@
 -- What the run of a node does to its three files, its link and its output.
-use Rattle.std.specs.Prelude.{◌≡◌, ◌⊎◌, ℕ, ◌+◌, ◌<◌, Bool, true, false, Option, Some, None, List, [], ◌∷◌, ◌++◌, length, replicate}
+use Rattle.std.specs.Prelude.{◌≡◌, ◌⊎◌, ℕ, ◌+◌, ◌<◌, Bool, true, false, Option, Some, None, List, [], ◌∷◌, ◌++◌, length, replicate, take}
 use Rattle.std.specs.Option.{option_map}
 use Rattle.oc_config.specs.Settings.{Settings}
 use Rattle.oc_events.specs.Counts.{CountsFailure}
@@ -7,6 +7,7 @@ use Rattle.oc_events.specs.Told.{AddsAll}
 use Rattle.oc_events.specs.declared.call.Call.{Call}
 use Rattle.oc_events.specs.declared.call.Call.TheVariants as acts
 use Rattle.oc_events.specs.declared.counts.Counts.{Counts}
+use Rattle.oc_events.specs.declared.event.Event.TheVariants.{Quiet}
 use Rattle.oc_io.specs.DiskView.{DiskView}
 use Rattle.oc_io.specs.Faults.{Rose}
 use Rattle.oc_keep.specs.Files.{Disks, AllGoOn, AreHonest, Leaves, OneRose, SameAsEither, Survives}
@@ -27,8 +28,10 @@ use Rattle.oc_server.specs.Scenes.{CountsAll, IsFront, Idle, Taking, Under, unde
 use Rattle.oc_server.specs.Turns.{Told}
 use Rattle.oc_server.specs.declared.ends.TurnEnd.{TurnEnd}
 use Rattle.oc_server.specs.declared.ends.TurnEnd.TheVariants as ends
+use Rattle.oc_service.specs.Failures.{AreBorneOut}
 use Rattle.oc_service.specs.Running.{listens_at}
 use Rattle.oc_service.specs.WhatNodeDoes.{Machine, at_first, begun, due_at, node_behind, node_deeds, turn_deeds}
+use Rattle.oc_service.specs.WhatNodeGives.{GivesReplies}
 use Rattle.oc_service.specs.WhatNodeHears.{AreHeard, MayHear, all_calls_behind, until}
 use Rattle.oc_service.specs.declared.running.NodeEnd.{NodeEnd}
 use Rattle.oc_service.specs.declared.running.NodeEnd.TheVariants.{Load, Turned}
@@ -72,8 +75,8 @@ heard_before c me old new = option_map (λ (cs : List Call). cs ++ acts.Listen (
 
 -- All turns
 
--- The deeds are those of what a node does, in this many turns, by what its link told. Each made its calls, and every crash leaves the node
--- that took their inputs.
+-- The deeds are those of what a node does, in this many turns, by what its link told. Each made its calls, each connection was given the
+-- replies to its requests, a line of a failure was written only where its link told of one, and every crash leaves the node that took their inputs.
 pub record DidOn {D L : Type 0} (view : D → DiskView) (story : L → Option (List Call)) (counts : L → Counts) (c : Settings) (task : Task) (deeds : List Deed) (old new : Disks D) (link after : L) : Type 0 where
   pub told : List Told
   pub many : length told ≡ task.turns
@@ -81,6 +84,8 @@ pub record DidOn {D L : Type 0} (view : D → DiskView) (story : L → Option (L
   pub heard : AreHonest view old
       → AreHeard (setting_of c task) (terms_in c task.me) (heard_before c task.me (story link) (story after)) told (begun (setting_of c task) c.measures (machine_on view c task old))
   pub calls : AreHonest view old → AddsAll (node_calls c task deeds (machine_on view c task old)) (story link) (story after)
+  pub replies : AreHonest view old → GivesReplies (setting_of c task) deeds (machine_on view c task old).running (heard_before c task.me (story link) (story after)) (story after)
+  pub failures : AreHonest view old → AreBorneOut Quiet deeds
   pub counted : CountsAll deeds (counts link) (counts after)
   pub goes_on : AllGoOn view old new
   pub survives : AreHonest view old → Survives view (header_of_settings c) task.me new (after_inputs (first_node view (header_of_settings c) task.me old) (inputs_of deeds))
@@ -112,7 +117,8 @@ HasCauseOn view ends.Quiet under n old new before behind = ⊥
 HasCauseOn view end under n old new before behind = Unit {0}
 
 -- It ended so behind these deeds, a front of what a node does: behind whole turns, in the midst of one that is told `last`, or before the
--- first. What came in that one was read, where more was done in it than to ask the link.
+-- first. What came in that one was read, where more was done in it than to ask the link. Each connection was given the replies to its requests
+-- until then, and a line of a failure was written, or begun, only where its link told of one.
 pub record StoppedOn {D L : Type 0} (view : D → DiskView) (story : L → Option (List Call)) (counts : L → Counts) (c : Settings) (task : Task) (end : TurnEnd) (deeds : List Deed) (under : Under) (old new : Disks D) (link after : L) : Type 0 where
   pub told : List Told
   pub last : Told
@@ -127,6 +133,8 @@ pub record StoppedOn {D L : Type 0} (view : D → DiskView) (story : L → Optio
       (all_calls_behind (setting_of c task) told (begun (setting_of c task) c.measures (machine_on view c task old)) (heard_before c task.me (story link) (story after)))
       (due_at last (node_behind (setting_of c task) c.measures told (machine_on view c task old))) last (node_behind (setting_of c task) c.measures told (machine_on view c task old))
   pub calls : AreHonest view old → AddsAll (node_calls c task deeds (machine_on view c task old)) (story link) (story after)
+  pub replies : AreHonest view old → GivesReplies (setting_of c task) deeds (machine_on view c task old).running (heard_before c task.me (story link) (story after)) (story after)
+  pub failures : (honest : AreHonest view old) → AreBorneOut Quiet (deeds ++ take 1 (cut honest).behind)
   pub goes_on : AllGoOn view old new
   pub leaves : AreHonest view old → LeavesBehind view (header_of_settings c) task.me new end (after_inputs (first_node view (header_of_settings c) task.me old) (inputs_of deeds)) under
   pub cause : HasCauseOn view end under (after_inputs (first_node view (header_of_settings c) task.me old) (inputs_of deeds)) old new (counts link) (counts after)

@@ -17,6 +17,7 @@ use Rattle.oc_server.specs.declared.ends.TurnEnd.TheVariants as ends
 use Rattle.oc_server.specs.declared.server.Server.{Server}
 use Rattle.oc_server.specs.declared.turns.Turns.{Turns}
 use Rattle.oc_service.specs.WhatNodeDoes.{Machine, begun, due_at, node_behind, node_deeds, turn_deeds}
+use Rattle.oc_service.specs.WhatNodeGives.{ServesFrom}
 use Rattle.oc_service.specs.WhatNodeHears.{AreHeard, MayHear, all_calls_behind, until}
 
 -- a running node as the machine
@@ -51,6 +52,7 @@ pub record Runs {D L K : Type 0} (view : D → DiskView) (takes : K → List ℕ
   pub are : IsHonest view old.server.kept → deeds ≡ node_deeds (setting old.server) old.server.config.measures told (machine old)
   pub heard : IsHonest view old.server.kept
       → AreHeard (setting old.server) (reads_by old.server) (until (story listening.link) (story new.server.link)) told (begun (setting old.server) old.server.config.measures (machine old))
+  pub serves : IsHonest view old.server.kept → old.server.works ≡ [] → ServesFrom (setting old.server) deeds (running old.server) (story listening.link) (story new.server.link)
 
 -- It listened, and ended so behind these deeds: behind whole turns, in the midst of one, or before the first. What came was read, where
 -- more was done in that one than to ask for it.
@@ -72,6 +74,7 @@ pub record Halts {D L K : Type 0} (view : D → DiskView) (takes fails : K → L
       ⊎ MayHear (reads_by old.server)
       (all_calls_behind (setting old.server) told (begun (setting old.server) old.server.config.measures (machine old)) (until (story listening.link) (story new.server.link)))
       (due_at last (node_behind (setting old.server) old.server.config.measures told (machine old))) last (node_behind (setting old.server) old.server.config.measures told (machine old))
+  pub serves : IsHonest view old.server.kept → old.server.works ≡ [] → ServesFrom (setting old.server) deeds (running old.server) (story listening.link) (story new.server.link)
 
 -- how a loaded node ran
 abbrev pub RunEnds : {D L K : Type 0} → (D → DiskView) → (K → List ℕ → K → Type 0) → (K → List ℕ → K → Type 0) → (K → ℕ) → (L → Option (List Call)) → (L → Counts) → ℕ → TurnEnd → Turns D L K → Turns D L K → Type 0

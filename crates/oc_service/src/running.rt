@@ -21,7 +21,7 @@ use oc_config::Config;
 use oc_events::Link;
 use oc_io::{Disk, Sink};
 use oc_keep::{Files, KeepLoad};
-use oc_server::{Log, Server, TurnEnd, Turns};
+use oc_server::{Log, Server, TurnEnd, Turns, turns_are_in_order};
 use std::alloc::Global;
 
 /// What a node is asked to do.
@@ -100,13 +100,14 @@ pub fn run_node<D: Disk, L: Link, K: Sink>(
     }
 }
 
-/// Begins, and makes this many turns.
+/// Begins, and makes this many turns, of which a law says what connections are given.
 fn run<D: Disk, L: Link, K: Sink>(turns: &mut Turns<D, L, K>, most: u64) -> TurnEnd
     requires ready { IsReady turns.old }
     requires listens { length turns.old.server.config.listens ≡ turns.old.server.kept.node.control.nodes }
     requires measures { All (IsMeasure turns.old.server.kept.node.control.nodes) turns.old.server.config.measures }
     ensures { RunEnds D.view K.takes K.fails K.faults L.story L.counts most result turns.old turns.new }
 {
+    turns_are_in_order::<D, L, K>();
     match listen(&mut turns.server) {
         Ok(()) => {}
         Err(end) => return end,

@@ -1,0 +1,483 @@
+-- A line that tells of a failure is written only where the link told of one.
+use Rattle.std.proofs.Common.{◌≡◌, ◌⊎◌, ◌∙◌, ℕ, ◌+◌, ◌-◌, ◌<◌, ◌≤◌, zero, suc, Bool, true, false, Option, None, Some, Result, Ok, Err, List, [], ◌∷◌, ◌++◌, length, take, drop, inl, inr, refl, sym, ap, subst, arith, length-append}
+use Rattle.std.specs.Prelude.{◌==◌, ◌&&◌, if◌then◌else◌, IsTrue, is_some, nat_lt, not, slice_get}
+use Rattle.std.proofs.lemmas.Bool.{false≢true}
+use Rattle.std.proofs.lemmas.List.{append_assoc, take-append-drop}
+use Rattle.oc_base.specs.Groups.{shelf}
+use Rattle.oc_base.specs.declared.shelf.Shelf.{Shelf}
+use Rattle.oc_events.specs.Counts.{CountsEvent}
+use Rattle.oc_events.specs.Failures.{RisesAt, fails_reading, has_failed}
+use Rattle.oc_events.specs.declared.call.Call.{Call}
+use Rattle.oc_events.specs.declared.counts.Counts.{Counts}
+use Rattle.oc_events.specs.declared.event.Arrival.{Arrival}
+use Rattle.oc_events.specs.declared.event.Coming.{Coming}
+use Rattle.oc_events.specs.declared.event.Coming.TheVariants.{Open, Ended, Failed}
+use Rattle.oc_events.specs.declared.event.Event.{Event}
+use Rattle.oc_events.specs.declared.event.Event.TheVariants as events
+use Rattle.oc_events.specs.declared.event.Loss.{Loss}
+use Rattle.oc_events.specs.declared.event.Loss.TheVariants as losses
+use Rattle.oc_http.specs.Answers.{IsDecided}
+use Rattle.oc_http.specs.declared.fault.HttpFault.{HttpFault}
+use Rattle.oc_http.specs.declared.fault.HttpFault.TheVariants as http
+use Rattle.oc_http.specs.declared.head.Head.{Head}
+use Rattle.oc_http.specs.declared.reply.Reply.{Reply}
+use Rattle.oc_model.specs.declared.input.Input.{Input}
+use Rattle.oc_model.specs.declared.input.Input.TheVariants.{Measured}
+use Rattle.oc_model.specs.declared.message.Message.{Message}
+use Rattle.oc_probe.specs.declared.fault.ProbeFault.{ProbeFault}
+use Rattle.oc_probe.specs.declared.probing.Probing.{Probing}
+use Rattle.oc_reply.specs.Conditions.{unmet, unmet_at, unmet_by}
+use Rattle.oc_reply.specs.Hints.{asked_with_hint}
+use Rattle.oc_reply.specs.Macs.{is_forged}
+use Rattle.oc_reply.specs.Verdicts.{IsVerdict, NodeTerms, answered, fault_met, is_none, routed, unfinished, unread, verdict_for, whole, with_body}
+use Rattle.oc_reply.specs.Waits.{holding}
+use Rattle.oc_reply.specs.declared.hint.Asked.{Asked}
+use Rattle.oc_reply.specs.declared.verdict.Request.{Request}
+use Rattle.oc_reply.specs.declared.verdict.Verdict.{Verdict}
+use Rattle.oc_reply.specs.declared.verdict.Verdict.TheVariants as verdicts
+use Rattle.oc_reply.specs.declared.waiting.Prospect.{Prospect}
+use Rattle.oc_reply.specs.declared.waiting.Prospect.TheVariants as prospects
+use Rattle.oc_routes.specs.Connections.{awaits_continue, is_last}
+use Rattle.oc_routes.specs.Routes.{input_asked}
+use Rattle.oc_routes.specs.declared.refused.Refused.{Refused}
+use Rattle.oc_routes.specs.declared.refused.Refused.TheVariants as refusals
+use Rattle.oc_routes.specs.declared.routes.Operation.{Operation}
+use Rattle.oc_routes.specs.declared.routes.Operation.TheVariants as asks
+use Rattle.oc_server.specs.Asks.{has_to_wait, obeys, refuses_or, responds, takes_on, takes_up, waiting}
+use Rattle.oc_server.specs.Brought.{comes_back, fault_of, input_of}
+use Rattle.oc_server.specs.Choices.{due_place, next_to_dial, prospect_of, wait_for}
+use Rattle.oc_server.specs.Deeds.{Deed, Drops, Reads, Refuses, Running, Sees, Setting, Takes, Waits, after, after_all, errand_in}
+use Rattle.oc_server.specs.Hurries.{came_hurries}
+use Rattle.oc_server.specs.Pace.{wait_until}
+use Rattle.oc_server.specs.Parts.{nothing}
+use Rattle.oc_server.specs.Rooms.{goes_on, is_told, moves, room, room_for}
+use Rattle.oc_server.specs.Rooms as rooms
+use Rattle.oc_server.specs.Scenes.{CountsAll}
+use Rattle.oc_server.specs.Sends.{dials_at, dials_it, dials_next, sends}
+use Rattle.oc_server.specs.Turns.{Means, MeansBack, Told, brought, deals, happens, measures, next_peer, probes_it, quickened, takes_at, takes_due, ticked, ticks, ticks_and_sends}
+use Rattle.oc_server.specs.Works.{client_input, pending, work_on}
+use Rattle.oc_server.specs.declared.came.Came.{Came}
+use Rattle.oc_server.specs.declared.came.Came.TheVariants as comes
+use Rattle.oc_server.specs.declared.choosing.TheConstants.{MAX_DIALS}
+use Rattle.oc_server.specs.declared.dials.Errand.{Errand}
+use Rattle.oc_server.specs.declared.dials.Errand.TheVariants as errands
+use Rattle.oc_server.specs.declared.pace.Pace.{Pace}
+use Rattle.oc_server.specs.declared.work.Pending.{Pending}
+use Rattle.oc_server.specs.declared.work.Place.{Place}
+use Rattle.oc_server.specs.declared.work.Work.{Work}
+use Rattle.oc_server.specs.declared.work.Work.TheVariants as works
+use Rattle.oc_updown.specs.declared.measure_lines.Measure.{Measure}
+use Rattle.oc_service.proofs.HeadFaults.{IsOther, IsSpared, body_spared, head_spared}
+use Rattle.oc_service.specs.Failures.{AreBorneOut, IsBorneOut, RiseForLines, RisesFor, told_last}
+use Rattle.oc_service.specs.WhatNodeDoes.{Machine, begins, begun, behind_turn, due_at, node_behind, node_deeds, own_measure, own_measures, turn_deeds, turns_deeds}
+use Rattle.oc_service.specs.WhatNodeHears.{AreHeard, MayHear, calls_behind}
+
+-- Deeds that tell of no failure
+
+abbrev is_mild : Deed → Bool
+is_mild (Refuses c count why) = false
+is_mild (Drops c told) = false
+is_mild d = true
+
+abbrev all_mild : List Deed → Bool
+all_mild [] = true
+all_mild (d ∷ ds) = is_mild d && all_mild ds
+
+both : (a b : Bool) → (a && b) ≡ true → (a ≡ true) × (b ≡ true)
+both true b is = (refl, is)
+both false b is = absurd (false≢true is)
+
+mild_one : (event : Event) (d : Deed) → is_mild d ≡ true → IsBorneOut event d
+mild_one event (Refuses c count why) is = absurd (false≢true is)
+mild_one event (Drops c told) is = absurd (false≢true is)
+mild_one event d is = tt
+
+borne_mild : (event : Event) (ds : List Deed) → all_mild ds ≡ true → AreBorneOut event ds
+borne_mild event [] is = tt
+borne_mild event (d ∷ ds) is =
+    let parts = both (is_mild d) (all_mild ds) is in
+    (mild_one event d (parts.0), borne_mild (told_last event d) ds (parts.1))
+
+mild_then : (ds es : List Deed) → all_mild ds ≡ true → all_mild es ≡ true → all_mild (ds ++ es) ≡ true
+mild_then [] es first second = second
+mild_then (d ∷ ds) es first second =
+    let parts = both (is_mild d) (all_mild ds) first in
+    ap (λ (b : Bool). b && all_mild (ds ++ es)) (parts.0) ∙ mild_then ds es (parts.1) second
+
+one_at_most : (ds : List Deed) → length (take 1 ds) ≤ 1
+one_at_most [] = omega arith
+one_at_most (d ∷ ds) = omega arith
+
+-- deeds behind which any may come
+borne_then : (event : Event) (ds es : List Deed) → AreBorneOut event ds → ((last : Event) → AreBorneOut last es) → AreBorneOut event (ds ++ es)
+borne_then event [] es first more = more event
+borne_then event (d ∷ ds) es first more = (first.0, borne_then (told_last event d) ds es (first.1) more)
+
+borne_front : (event : Event) (ds es : List Deed) → AreBorneOut event (ds ++ es) → AreBorneOut event ds
+borne_front event [] es all = tt
+borne_front event (d ∷ ds) es all = (all.0, borne_front (told_last event d) ds es (all.1))
+
+-- Ticks and messages
+
+mild_ticks : (pace : Pace) (now seconds : ℕ) (s : Setting) (a : Running) → all_mild (ticks pace now seconds s a) ≡ true
+mild_ticks pace now seconds s a = by_test (wait_until pace now == 0)
+  where
+    by_test : (b : Bool) → all_mild ((if b then ticked seconds else nothing) s a) ≡ true
+    by_test true = refl
+    by_test false = refl
+
+mild_dial : (place : ℕ) (m : Option Message) (s : Setting) (a : Running) → all_mild (dials_it place m s a) ≡ true
+mild_dial place None s a = refl
+mild_dial place (Some m) s a = refl
+
+mild_at : (place : Option ℕ) (s : Setting) (a : Running) → all_mild (dials_at place s a) ≡ true
+mild_at None s a = refl
+mild_at (Some place) s a = mild_dial place (slice_get a.outbox place) s a
+
+mild_sends : (n : ℕ) (s : Setting) (a : Running) → all_mild (sends n s a) ≡ true
+unfolding sends
+mild_sends zero s a = refl
+mild_sends (suc n) s a =
+    mild_then (dials_next s a) (sends n s (after_all (dials_next s a) a)) (mild_at (next_to_dial a.outbox a.dials) s a) (mild_sends n s (after_all (dials_next s a) a))
+
+mild_end : (pace : Pace) (now seconds : ℕ) (s : Setting) (a : Running) → all_mild (ticks_and_sends pace now seconds s a) ≡ true
+mild_end pace now seconds s a =
+    let ds : List Deed = ticks pace now seconds s a in
+    mild_then ds (sends MAX_DIALS s (after_all ds a)) (mild_ticks pace now seconds s a) (mild_sends MAX_DIALS s (after_all ds a))
+
+-- What was read of a request
+
+-- it is refused as a call that failed only where one failed
+abbrev FailsBy : Bool → Verdict → Type 0
+FailsBy failed (verdicts.Refuse why) = why ≡ refusals.Source → failed ≡ true
+FailsBy failed v = Unit {0}
+
+other_fails : (failed : Bool) (why : Refused) → IsOther why → FailsBy failed (verdicts.Refuse why)
+other_fails failed why other = λ is. absurd (subst (λ (x : Refused). IsOther x) is other)
+
+unfinished_fails : (coming : Coming) (none : Bool) → FailsBy (has_failed coming) (unfinished coming none)
+unfinished_fails Open none = tt
+unfinished_fails Ended true = tt
+unfinished_fails Ended false = other_fails false refusals.Ended tt
+unfinished_fails Failed none = λ is. refl
+
+answered_fails : (failed : Bool) (request : Request) (input : Result (Option Input) Refused) → IsSpared input → FailsBy failed (answered request input)
+answered_fails failed request (Ok input) spared = tt
+answered_fails failed request (Err why) spared = other_fails failed why spared
+
+body_fails : (t : NodeTerms) (x : Arrival) (came : ℕ) (head : Head) (rest : List ℕ) (said : Asked) → FailsBy (has_failed x.coming) (with_body t x came head rest said)
+body_fails t x came head rest said = by_permit (awaits_continue head && not x.permitted)
+  where
+    request : Request
+    request = record {
+      count = came - length rest + head.length;
+      operation = said.operation;
+      hint = said.hint;
+      input = None;
+      last = is_last head x.number;
+    }
+
+    body : List ℕ
+    body = take head.length rest
+
+    by_mac : (b : Bool) → FailsBy (has_failed x.coming) (if b then verdicts.Refuse refusals.Mac else answered request (input_asked t.nodes t.me said.operation body))
+    by_mac true = other_fails (has_failed x.coming) refusals.Mac tt
+    by_mac false = answered_fails (has_failed x.coming) request (input_asked t.nodes t.me said.operation body) (body_spared t.nodes t.me said.operation body)
+
+    by_length : (b : Bool) → FailsBy (has_failed x.coming) (if b then unfinished x.coming false else whole t head request body)
+    by_length true = unfinished_fails x.coming false
+    by_length false = by_mac (is_forged t.key said.operation head.mac body)
+
+    by_permit : (b : Bool) → FailsBy (has_failed x.coming) (if b then verdicts.Permit else if nat_lt (length rest) head.length then unfinished x.coming false else whole t head request body)
+    by_permit true = tt
+    by_permit false = by_length (nat_lt (length rest) head.length)
+
+routed_fails : (t : NodeTerms) (x : Arrival) (came : ℕ) (head : Head) (rest : List ℕ) (asked : Result Asked Refused) → IsSpared asked → FailsBy (has_failed x.coming) (routed t x came head rest asked)
+routed_fails t x came head rest (Ok said) spared = body_fails t x came head rest said
+routed_fails t x came head rest (Err why) spared = other_fails (has_failed x.coming) why spared
+
+verdict_fails : (t : NodeTerms) (x : Arrival) (bytes rest : List ℕ) (answer : Result Head HttpFault) → IsDecided answer → FailsBy (has_failed x.coming) (verdict_for t x bytes rest answer)
+verdict_fails t x bytes rest (Ok head) decided = routed_fails t x (length bytes) head rest (asked_with_hint head t.rules) (head_spared head t.rules)
+verdict_fails t x bytes rest (Err http.Source) decided = absurd decided
+verdict_fails t x bytes rest (Err http.Ended) decided = unfinished_fails x.coming (is_none bytes)
+verdict_fails t x bytes rest (Err http.Head) decided = other_fails (has_failed x.coming) refusals.Head tt
+verdict_fails t x bytes rest (Err http.HeadLong) decided = other_fails (has_failed x.coming) refusals.HeadLong tt
+verdict_fails t x bytes rest (Err http.Fields) decided = other_fails (has_failed x.coming) refusals.Fields tt
+verdict_fails t x bytes rest (Err http.Host) decided = other_fails (has_failed x.coming) refusals.Host tt
+verdict_fails t x bytes rest (Err (http.Coding both)) decided = other_fails (has_failed x.coming) (refusals.Coding both) tt
+verdict_fails t x bytes rest (Err (http.Length missing)) decided = other_fails (has_failed x.coming) (refusals.Length missing) tt
+verdict_fails t x bytes rest (Err http.BodyLong) decided = other_fails (has_failed x.coming) refusals.BodyLong tt
+verdict_fails t x bytes rest (Err http.Memory) decided = absurd decided
+
+read_fails : (t : NodeTerms) (x : Arrival) (bytes : List ℕ) (v : Verdict) → IsVerdict t x bytes v → FailsBy (has_failed x.coming) v
+read_fails t x bytes v is = subst (λ (w : Verdict). FailsBy (has_failed x.coming) w) (sym is.verdict) (verdict_fails t x bytes is.rest is.answer is.decided)
+
+-- What is done with a request
+
+refused : (event : Event) (c count : ℕ) (why : Refused) → (why ≡ refusals.Source → IsTrue (fails_reading event)) → IsBorneOut event (Refuses c count why)
+refused event c count refusals.Source fails = fails refl
+refused event c count why fails = tt
+
+-- a condition that is not met is no failure
+unmet_by_other : (held : ℕ) (at : Option ℕ) (why : Refused) → unmet_by held at ≡ Some why → IsOther why
+unmet_by_other held None why is = let none : None ≡ Some why = is in absurd (cc none)
+unmet_by_other held (Some at) why is = by_test (held == at) is
+  where
+    by_test : (b : Bool) → (if b then None else Some (refusals.At held)) ≡ Some why → IsOther why
+    by_test true is = let none : None ≡ Some why = is in absurd (cc none)
+    by_test false is =
+        let some : Some (refusals.At held) ≡ Some why = is in
+        let same : refusals.At held ≡ why = cc in
+        subst (λ (x : Refused). IsOther x) same tt
+
+unmet_at_other : (me : ℕ) (group : List ℕ) (at : Option ℕ) (lines : List Shelf) (why : Refused) → unmet_at me group at lines ≡ Some why → IsOther why
+unmet_at_other me group at lines why is = by_test (me == 1) is
+  where
+    by_test : (b : Bool) → (if b then unmet_by (holding group lines).held at else None) ≡ Some why → IsOther why
+    by_test true is = unmet_by_other (holding group lines).held at why is
+    by_test false is = let none : None ≡ Some why = is in absurd (cc none)
+
+unmet_other : (asked : Operation) (me : ℕ) (lines : List Shelf) (why : Refused) → unmet asked me lines ≡ Some why → IsOther why
+unmet_other (asks.Publish group at) me lines why is = unmet_at_other me group at lines why is
+unmet_other (asks.Seal group at) me lines why is = unmet_at_other me group at lines why is
+unmet_other asks.Message me lines why is = let none : None ≡ Some why = is in absurd (cc none)
+unmet_other (asks.Client group area start manner) me lines why is = let none : None ≡ Some why = is in absurd (cc none)
+unmet_other (asks.Probe manner) me lines why is = let none : None ≡ Some why = is in absurd (cc none)
+unmet_other (asks.Report report manner) me lines why is = let none : None ≡ Some why = is in absurd (cc none)
+
+mild_responds : (r : Pending) (input : Option Input) (now : ℕ) (s : Setting) (a : Running) → all_mild (responds r input now s a) ≡ true
+mild_responds r None now s a = refl
+mild_responds r (Some i) now s a = refl
+
+taken_on : (event : Event) (c : ℕ) (request : Request) (now : ℕ) (s : Setting) (a : Running) → AreBorneOut event (takes_on c request now s a)
+taken_on event c request now s a = by_condition (unmet request.operation a.node.control.me (shelf a.node.groups)) refl
+  where
+    by_test : (b : Bool) → AreBorneOut event (if b then Waits (waiting c request now) ∷ [] else responds (pending c request (is_some request.input) false) request.input now s a)
+    by_test true = (tt, tt)
+    by_test false = borne_mild event (responds (pending c request (is_some request.input) false) request.input now s a) (mild_responds (pending c request (is_some request.input) false) request.input now s a)
+
+    by_condition : (why : Option Refused) → unmet request.operation a.node.control.me (shelf a.node.groups) ≡ why → AreBorneOut event (refuses_or why c request now s a)
+    by_condition (Some why) is =
+        (refused event c request.count why (λ source. absurd (subst (λ (x : Refused). IsOther x) source (unmet_other request.operation a.node.control.me (shelf a.node.groups) why is))), tt)
+    by_condition None is = by_test (has_to_wait request a.node)
+
+obeyed : (event : Event) (c count : ℕ) (v : Verdict) (now : ℕ) (s : Setting) (a : Running) → FailsBy (fails_reading event) v → AreBorneOut event (obeys c count v now s a)
+obeyed event c count verdicts.Wait now s a fails = tt
+obeyed event c count verdicts.Leave now s a fails = (tt, tt)
+obeyed event c count verdicts.Permit now s a fails = (tt, tt)
+obeyed event c count (verdicts.Refuse why) now s a fails = (refused event c count why fails, tt)
+obeyed event c count (verdicts.Ask request) now s a fails = taken_on event c request now s a
+
+-- What else came
+
+mild_moves : (p : Place) (now : ℕ) (what : Prospect) → all_mild (moves p now what) ≡ true
+mild_moves p now prospects.Gives = refl
+mild_moves p now prospects.Waits = refl
+mild_moves p now prospects.Breaks = refl
+
+mild_room : (o : Option Work) (now : ℕ) (s : Setting) (a : Running) → all_mild (room_for (rooms.content_in o) now s a) ≡ true
+mild_room None now s a = refl
+mild_room (Some (works.Content p)) now s a = mild_moves p now (prospect_of p (shelf a.node.groups) now)
+mild_room (Some (works.Aside p)) now s a = refl
+mild_room (Some (works.Waits w)) now s a = refl
+
+dropped : (d c : ℕ) (loss : Loss) (told : Bool) → IsBorneOut (events.Gone d loss) (Drops c (rooms.has_failed loss && told))
+dropped d c losses.Failed true = refl
+dropped d c losses.Failed false = tt
+dropped d c losses.GaveWay told = tt
+
+mild_measures : (probing : Option Probing) (peer : ℕ) (fault : Option ProbeFault) (median : ℕ) (s : Setting) (a : Running) → all_mild (measures probing peer fault median s a) ≡ true
+mild_measures None peer None median s a = refl
+mild_measures (Some probing) peer None median s a = refl
+mild_measures probing peer (Some fault) median s a = refl
+
+mild_brought : (input : Option Input) (s : Setting) (a : Running) → all_mild (brought input s a) ≡ true
+mild_brought None s a = refl
+mild_brought (Some i) s a = refl
+
+mild_probe : (peer : Option ℕ) (started : ℕ) (s : Setting) (a : Running) → all_mild (probes_it peer started s a) ≡ true
+mild_probe None started s a = refl
+mild_probe (Some peer) started s a = refl
+
+-- what came back on a dial
+back_borne : (t : NodeTerms) (event : Event) (errand : Errand) (reading : Result Reply HttpFault) (probing : Option Probing) (now median started : ℕ) (s : Setting) (a : Running)
+    → AreBorneOut event (happens probing (comes_back t.me t.nodes t.key errand reading) now median started s a)
+back_borne t event (errands.Message to fetch) reading probing now median started s a = borne_mild event (brought (input_of t.me t.nodes t.key to reading) s a) (mild_brought (input_of t.me t.nodes t.key to reading) s a)
+back_borne t event (errands.Probe peer since) reading probing now median started s a = borne_mild event (measures probing peer (fault_of reading) median s a) (mild_measures probing peer (fault_of reading) median s a)
+
+nothing_borne : (event : Event) (probing : Option Probing) (now median started : ℕ) (s : Setting) (a : Running) → AreBorneOut event (happens probing comes.Nothing now median started s a)
+nothing_borne event probing now median started s a = borne_mild event (probes_it (next_peer probing a.dials) started s a) (mild_probe (next_peer probing a.dials) started s a)
+
+back_means : (t : NodeTerms) (event : Event) (lent : List ℕ) (errand : Option Errand) (coming : Coming) (came : Came) → MeansBack t lent errand coming came
+    → (probing : Option Probing) (now median started : ℕ) (s : Setting) (a : Running) → AreBorneOut event (happens probing came now median started s a)
+back_means t event lent None coming came means probing now median started s a =
+    subst (λ (x : Came). AreBorneOut event (happens probing x now median started s a)) (sym means) (nothing_borne event probing now median started s a)
+back_means t event lent (Some errand) coming came means probing now median started s a =
+    subst (λ (x : Came). AreBorneOut event (happens probing x now median started s a)) (sym (means.3)) (back_borne t event errand (means.0) probing now median started s a)
+
+-- what is done with what an event means
+happened : (t : NodeTerms) (lent : List ℕ) (errand : Option Errand) (event : Event) (came : Came) → Means t lent errand event came
+    → (probing : Option Probing) (now median started : ℕ) (s : Setting) (a : Running) → AreBorneOut event (happens probing came now median started s a)
+happened t lent errand (events.Request x) came means probing now median started s a =
+    subst (λ (y : Came). AreBorneOut (events.Request x) (happens probing y now median started s a)) (sym (means.2))
+    (obeyed (events.Request x) x.connection (length lent) (means.0) now s a (read_fails t x lent (means.0) (means.1)))
+happened t lent errand (events.Room d) came means probing now median started s a =
+    subst (λ (y : Came). AreBorneOut (events.Room d) (happens probing y now median started s a)) (sym means)
+    (borne_mild (events.Room d) (room d now s a) (mild_room (work_on d a.works) now s a))
+happened t lent errand (events.Gone d loss) came means probing now median started s a =
+    subst (λ (y : Came). AreBorneOut (events.Gone d loss) (happens probing y now median started s a)) (sym means) (dropped d d loss (is_told (work_on d a.works)), tt)
+happened t lent errand (events.Reply d coming) came means probing now median started s a = back_means t (events.Reply d coming) lent errand coming came means probing now median started s a
+happened t lent errand events.Quiet came means probing now median started s a =
+    subst (λ (y : Came). AreBorneOut events.Quiet (happens probing y now median started s a)) (sym means) (nothing_borne events.Quiet probing now median started s a)
+
+-- Turns
+
+taken_up : (o : Option Work) (now : ℕ) (s : Setting) (a : Running) → all_mild (takes_up o now s a) ≡ true
+taken_up None now s a = refl
+taken_up (Some (works.Content p)) now s a = refl
+taken_up (Some (works.Aside p)) now s a = mild_moves p now (prospect_of p (shelf a.node.groups) now)
+taken_up (Some (works.Waits w)) now s a =
+    mild_responds (pending w.connection w.request (is_some (client_input w.request.operation w.request.hint)) true) (client_input w.request.operation w.request.hint) now s a
+
+mild_due : (pace : Pace) (o : Option Work) (before seconds : ℕ) (s : Setting) (a : Running) → all_mild (takes_due pace o before seconds s a) ≡ true
+mild_due pace o before seconds s a =
+    let ds : List Deed = takes_up o before s a in
+    mild_then ds (ticks_and_sends pace before seconds s (after_all ds a)) (taken_up o before s a) (mild_end pace before seconds s (after_all ds a))
+
+dealt : (event : Event) (pace : Pace) (probing : Option Probing) (came : Came) (now median started seconds : ℕ) (s : Setting) (a : Running) → AreBorneOut event (happens probing came now median started s a)
+    → AreBorneOut event (deals pace probing came now median started seconds s a)
+dealt event pace probing came now median started seconds s a borne =
+    let ds : List Deed = happens probing came now median started s a in
+    let soon : Pace = quickened (came_hurries came a.node) pace in
+    borne_then event ds (ticks_and_sends soon now seconds s (after_all ds a)) borne
+    (λ last. borne_mild last (ticks_and_sends soon now seconds s (after_all ds a)) (mild_end soon now seconds s (after_all ds a)))
+
+turn_at : (event : Event) (terms : NodeTerms) (calls : Option (List Call)) (due : Option ℕ) (s : Setting) (t : Told) (m : Machine) → MayHear terms calls due t m
+    → AreBorneOut event (Reads t.before ∷ takes_at due m.pace m.probing t s m.running)
+turn_at event terms calls None s t m heard =
+    let behind : Running = after (Sees t.event (wait_for m.pace m.running.works t.before) t.bytes) m.running in
+    (tt, (tt, (tt, dealt t.event m.pace m.probing t.came t.now t.median t.started t.seconds s behind (happened terms heard.lent (errand_in t.event m.running.dials) t.event t.came heard.means m.probing t.now t.median t.started s behind))))
+turn_at event terms calls (Some place) s t m heard =
+    borne_mild event (Reads t.before ∷ takes_due m.pace (slice_get m.running.works place) t.before t.seconds s m.running) (mild_due m.pace (slice_get m.running.works place) t.before t.seconds s m.running)
+
+turn_borne : (event : Event) (terms : NodeTerms) (calls : Option (List Call)) (s : Setting) (t : Told) (m : Machine) → MayHear terms calls (due_at t m) t m → AreBorneOut event (turn_deeds s t m)
+turn_borne event terms calls s t m heard = turn_at event terms calls (due_at t m) s t m heard
+
+turns_borne : (event : Event) (terms : NodeTerms) (calls : Option (List Call)) (s : Setting) (ts : List Told) (m : Machine) → AreHeard s terms calls ts m → AreBorneOut event (turns_deeds s ts m)
+turns_borne event terms calls s [] m heard = tt
+turns_borne event terms calls s (t ∷ ts) m heard =
+    borne_then event (turn_deeds s t m) (turns_deeds s ts (behind_turn s t m)) (turn_borne event terms calls s t m (heard.0))
+    (λ last. turns_borne last terms (calls_behind s t m calls) s ts (behind_turn s t m) (heard.1))
+
+-- All that a node does
+
+mild_own : (i : Input) (b : Bool) (ds : List Deed) → all_mild ds ≡ true → all_mild ((if b then Takes i ∷ [] else []) ++ ds) ≡ true
+mild_own i true ds mild = mild
+mild_own i false ds mild = mild
+
+own_mild : (me : ℕ) (ms : List Measure) → all_mild (own_measures me ms) ≡ true
+own_mild me [] = refl
+own_mild me (x ∷ ms) = mild_own (Measured x.peer x.rate x.hops) (x.from == me) (own_measures me ms) (own_mild me ms)
+
+pub node_borne : (event : Event) (terms : NodeTerms) (calls : Option (List Call)) (s : Setting) (ms : List Measure) (ts : List Told) (m : Machine) → AreHeard s terms calls ts (begun s ms m)
+    → AreBorneOut event (node_deeds s ms ts m)
+node_borne event terms calls s ms ts m heard =
+    borne_then event (begins s ms m.running.node) (turns_deeds s ts (begun s ms m)) (borne_mild event (begins s ms m.running.node) (own_mild s.me ms))
+    (λ last. turns_borne last terms calls s ts (begun s ms m) heard)
+
+-- An early end
+
+-- no more deeds than so many are a front of these
+front_of : (xs ys gs : List Deed) (k : ℕ) → gs ≡ xs ++ ys → length xs ≤ k → (rest : List Deed) × (take k gs ≡ xs ++ rest)
+front_of [] ys gs k is few = (take k gs, refl)
+front_of (x ∷ xs) ys gs zero is few = absurd (omega (arith, few))
+front_of (x ∷ xs) ys [] (suc k) is few = let none : [] ≡ x ∷ (xs ++ ys) = is in absurd (cc none)
+front_of (x ∷ xs) ys (g ∷ gs) (suc k) is few =
+    let all : g ∷ gs ≡ x ∷ (xs ++ ys) = is in
+    let first : g ≡ x = cc in
+    let others : gs ≡ xs ++ ys = cc in
+    let more = front_of xs ys gs k others (omega (arith, few)) in
+    (more.0, ap (λ (y : Deed). y ∷ take k gs) first ∙ ap (λ (zs : List Deed). x ∷ zs) (more.1))
+
+-- the first of some deeds, no more than these and a few more, are a front of these and the few
+front_of_few : (xs ys ds es : List Deed) (k : ℕ) → ds ++ es ≡ xs ++ ys → length xs ≤ length ds + k → (rest : List Deed) × (ds ++ take k es ≡ xs ++ rest)
+front_of_few [] ys ds es k is few = (ds ++ take k es, refl)
+front_of_few (x ∷ xs) ys [] es k is few = front_of (x ∷ xs) ys es k is (omega (arith, few))
+front_of_few (x ∷ xs) ys (d ∷ ds) es k is few =
+    let all : d ∷ (ds ++ es) ≡ x ∷ (xs ++ ys) = is in
+    let first : d ≡ x = cc in
+    let others : ds ++ es ≡ xs ++ ys = cc in
+    let more = front_of_few xs ys ds es k others (omega (arith, few)) in
+    (more.0, ap (λ (y : Deed). y ∷ (ds ++ take k es)) first ∙ ap (λ (zs : List Deed). x ∷ zs) (more.1))
+
+-- where nothing is due a turn begins with three deeds that tell of no failure
+mild_begin : (due : Option ℕ) (s : Setting) (t : Told) (m : Machine) → due ≡ None → all_mild (take 3 (Reads t.before ∷ takes_at due m.pace m.probing t s m.running)) ≡ true
+mild_begin None s t m none = refl
+mild_begin (Some place) s t m none = let no : Some place ≡ None = none in absurd (cc no)
+
+due_or_none : (due : Option ℕ) → (due ≡ None) ⊎ ((place : ℕ) × (due ≡ Some place))
+due_or_none None = inl refl
+due_or_none (Some place) = inr (place, refl)
+
+-- what was done of all, and of one more turn, and the one deed under way
+module _ (event : Event) (terms : NodeTerms) (calls : Option (List Call)) (s : Setting) (ms : List Measure) (ts : List Told) (last : Told) (m : Machine)
+    (heard : AreHeard s terms calls ts (begun s ms m)) where
+  abbrev all : List Deed
+  all = node_deeds s ms ts m
+
+  abbrev turn : List Deed
+  turn = turn_deeds s last (node_behind s ms ts m)
+
+  -- behind a turn that was heard
+  heard_borne : (later : Option (List Call)) → MayHear terms later (due_at last (node_behind s ms ts m)) last (node_behind s ms ts m) → AreBorneOut event (all ++ turn)
+  heard_borne later last_heard =
+      borne_then event all turn (node_borne event terms calls s ms ts m heard) (λ x. turn_borne x terms later s last (node_behind s ms ts m) last_heard)
+
+  -- in the first three deeds of one in which nothing was due
+  begun_borne : due_at last (node_behind s ms ts m) ≡ None → AreBorneOut event (all ++ take 3 turn)
+  begun_borne none =
+      borne_then event all (take 3 turn) (node_borne event terms calls s ms ts m heard)
+      (λ x. borne_mild x (take 3 turn) (mild_begin (due_at last (node_behind s ms ts m)) s last (node_behind s ms ts m) none))
+
+  pub front_borne : (deeds behind : List Deed) (later : Option (List Call)) → all ++ turn ≡ deeds ++ behind
+      → (length deeds < length all + 3) ⊎ MayHear terms later (due_at last (node_behind s ms ts m)) last (node_behind s ms ts m) → AreBorneOut event (deeds ++ take 1 behind)
+  front_borne deeds behind later cut last_heard = by_heard last_heard
+    where
+      split : all ++ turn ≡ (deeds ++ take 1 behind) ++ drop 1 behind
+      split = cut ∙ ap (λ (ds : List Deed). deeds ++ ds) (sym (take-append-drop 1 behind)) ∙ sym (append_assoc deeds (take 1 behind) (drop 1 behind))
+
+      by_whole : AreBorneOut event (all ++ turn) → AreBorneOut event (deeds ++ take 1 behind)
+      by_whole whole = borne_front event (deeds ++ take 1 behind) (drop 1 behind) (subst (λ (ds : List Deed). AreBorneOut event ds) split whole)
+
+      by_few : length deeds < length all + 3 → due_at last (node_behind s ms ts m) ≡ None → AreBorneOut event (deeds ++ take 1 behind)
+      by_few few none =
+          let front = front_of_few (deeds ++ take 1 behind) (drop 1 behind) all turn 3 split (omega (arith, few, length-append deeds (take 1 behind), one_at_most behind)) in
+          borne_front event (deeds ++ take 1 behind) (front.0) (subst (λ (ds : List Deed). AreBorneOut event ds) (front.1) (begun_borne none))
+
+      by_due : length deeds < length all + 3 → (due_at last (node_behind s ms ts m) ≡ None) ⊎ ((place : ℕ) × (due_at last (node_behind s ms ts m) ≡ Some place)) → AreBorneOut event (deeds ++ take 1 behind)
+      by_due few (inl none) = by_few few none
+      by_due few (inr due) =
+          by_whole (heard_borne later (subst (λ (o : Option ℕ). MayHear terms later o last (node_behind s ms ts m)) (sym (due.1)) tt))
+
+      by_heard : (length deeds < length all + 3) ⊎ MayHear terms later (due_at last (node_behind s ms ts m)) last (node_behind s ms ts m) → AreBorneOut event (deeds ++ take 1 behind)
+      by_heard (inl few) = by_due few (due_or_none (due_at last (node_behind s ms ts m)))
+      by_heard (inr heard_last) = by_whole (heard_borne later heard_last)
+
+-- By the counts of the link
+
+rise_one : (event : Event) (wait : ℕ) (old now : Counts) (d : Deed) → CountsEvent event wait old now → IsBorneOut event d → RisesFor d old now
+rise_one event wait old now (Refuses c count refusals.Source) counts borne = subst (λ (b : Bool). RisesAt b old.reading now.reading) borne counts.reading
+rise_one event wait old now (Drops c true) counts borne = subst (λ (b : Bool). RisesAt b old.writing now.writing) borne counts.writing
+rise_one event wait old now d counts borne = tt
+
+rise_since : (event : Event) (wait : ℕ) (ds : List Deed) (old now new : Counts) → CountsEvent event wait old now → AreBorneOut event ds → CountsAll ds now new → RiseForLines old now ds new
+rise_since event wait [] old now new counts borne all = all
+rise_since event wait (Sees next most bytes ∷ ds) old now new counts borne (at, one, all) = (at, one, rise_since next most ds now at new one (borne.1) all)
+rise_since event wait (d ∷ ds) old now new counts borne all = (rise_one event wait old now d counts (borne.0), rise_since event wait ds old now new counts (borne.1) all)
+
+-- nothing rises where nothing happens
+quiet_counts : (old : Counts) → CountsEvent events.Quiet 0 old old
+quiet_counts old = record { listening = refl; reading = refl; writing = refl; dialling = refl; waited = omega arith }
+
+pub rise_for_lines : (ds : List Deed) (old new : Counts) → AreBorneOut events.Quiet ds → CountsAll ds old new → RiseForLines old old ds new
+rise_for_lines ds old new borne all = rise_since events.Quiet 0 ds old old new (quiet_counts old) borne all

@@ -1,0 +1,184 @@
+-- What a node gives its connections, from what its turns did.
+use Rattle.std.proofs.Common.{◌≡◌, ◌⊎◌, ◌∙◌, ℕ, Option, None, Some, List, [], ◌∷◌, ◌++◌, refl, sym, ap, subst}
+use Rattle.std.specs.Prelude.{◌==◌, if◌then◌else◌, Bool, true, false}
+use Rattle.std.proofs.lemmas.List.{append_assoc}
+use Rattle.oc_events.specs.Told.{AddsAll}
+use Rattle.oc_events.specs.declared.call.Call.{Call}
+use Rattle.oc_events.specs.declared.stage.Stage.{Stage}
+use Rattle.oc_events.specs.declared.stage.Stage.TheVariants.{Answering, Awaiting, Whole}
+use Rattle.oc_model.specs.Node.{Node}
+use Rattle.oc_model.specs.declared.answer.Answer.{Answer}
+use Rattle.oc_model.specs.declared.answer.Answer.TheVariants as answers
+use Rattle.oc_model.specs.declared.input.Input.{Input}
+use Rattle.oc_model.specs.declared.input.Input.TheVariants.{Measured}
+use Rattle.oc_model.specs.declared.message.Message.{Message}
+use Rattle.oc_server.proofs.Answered.{turn_answers}
+use Rattle.oc_server.proofs.Chains.{after_append, calls_append}
+use Rattle.oc_server.proofs.RepliedDeeds.{given_front, given_whole}
+use Rattle.oc_server.proofs.Settled.{AllQuiet, all_quiet, ordered_front, ordered_then}
+use Rattle.oc_server.specs.Answered.{AreAnswered, AreAnsweredBy, answer_of, back_of}
+use Rattle.oc_server.specs.Deeds.{Deed, Running, Setting, Takes, after, after_all, calls_of}
+use Rattle.oc_server.specs.Parts.{Cuts}
+use Rattle.oc_server.specs.Replying.{IsOrdered, stage_on}
+use Rattle.oc_server.specs.Scenes.{Under}
+use Rattle.oc_server.specs.Settled.{AreServed, Fits, IsSettled}
+use Rattle.oc_server.specs.Turns.{Told}
+use Rattle.oc_server.specs.declared.work.Work.{Work}
+use Rattle.oc_updown.specs.declared.measure_lines.Measure.{Measure}
+use Rattle.oc_service.specs.WhatNodeDoes.{Machine, begins, begun, behind_turn, behind_turns, node_behind, node_deeds, own_measure, own_measures, turn_deeds, turns_deeds}
+use Rattle.oc_service.specs.WhatNodeGives.{ServesFrom}
+use Rattle.oc_service.specs.WhatNodeHears.{until}
+use Rattle.oc_service.proofs.Stories.{Follows}
+
+-- What was measured touches no connection
+
+quiet_behind : (i : Input) (b : Bool) (ds : List Deed) → AllQuiet ds → AllQuiet ((if b then Takes i ∷ [] else []) ++ ds)
+quiet_behind i true ds quiet = (tt, quiet)
+quiet_behind i false ds quiet = quiet
+
+own_quiet : (me : ℕ) (ms : List Measure) → AllQuiet (own_measures me ms)
+own_quiet me [] = tt
+own_quiet me (x ∷ ms) = quiet_behind (Measured x.peer x.rate x.hops) (x.from == me) (own_measures me ms) (own_quiet me ms)
+
+one_works : (i : Input) (b : Bool) (a : Running) → (after_all (if b then Takes i ∷ [] else []) a).works ≡ a.works
+one_works i true a = refl
+one_works i false a = refl
+
+-- and leaves what is under way
+own_works : (me : ℕ) (ms : List Measure) (a : Running) → (after_all (own_measures me ms) a).works ≡ a.works
+own_works me [] a = refl
+own_works me (x ∷ ms) a =
+    ap (λ (r : Running). r.works) (after_append (own_measure me x) (own_measures me ms) a)
+    ∙ own_works me ms (after_all (own_measure me x) a)
+    ∙ one_works (Measured x.peer x.rate x.hops) (x.from == me) a
+
+-- and so it is with all that it begins with
+pub begins_quiet : (s : Setting) (ms : List Measure) (n : Node) → AllQuiet (begins s ms n)
+begins_quiet s ms n = (tt, own_quiet s.me ms)
+
+pub begins_works : (s : Setting) (ms : List Measure) (n : Node) (a : Running) → (after_all (begins s ms n) a).works ≡ a.works
+begins_works s ms n a = own_works s.me ms a
+
+-- Deeds in order, from nothing under way
+
+-- no reply is under way where nothing is
+none_answering : (made : List Call) (c : ℕ) → IsSettled made [] → stage_on c made ≡ Answering → ⊥
+none_answering made c settled stage =
+    let fits : Fits Answering [] = subst (λ (x : Stage). Fits x []) stage (settled c) in
+    let one : [] ≡ fits.0 ∷ [] = fits.1 in
+    absurd (cc one)
+
+in_order : (s : Setting) (made later : List Call) (deeds : List Deed) (a : Running) → a.works ≡ [] → IsSettled made [] → later ≡ made ++ calls_of s deeds a → IsOrdered s made deeds a → AreServed s made later deeds a
+in_order s made later deeds a none settled calls ordered = record {
+  calls = calls;
+  ordered = ordered;
+  front = λ (c : ℕ). given_front s made deeds a c none (none_answering made c settled) ordered;
+  whole = λ c ended.
+      given_whole s made deeds a c none (none_answering made c settled) ordered
+      (subst (λ (cs : List Call). (stage_on c cs ≡ Awaiting) ⊎ (stage_on c cs ≡ Whole)) calls ended);
+}
+
+settled_with : (made : List Call) (ws : List Work) → ws ≡ [] → IsSettled made [] → IsSettled made ws
+settled_with made ws none settled = subst (λ (x : List Work). IsSettled made x) (sym none) settled
+
+module _ (s : Setting) (own : List Deed) (a : Running) (quiet : AllQuiet own) (none : a.works ≡ []) where
+  -- deeds that touch no connection, and behind them deeds by which connections were served
+  behind_own : (made mid later : List Call) (ds : List Deed) (b : Running) → IsSettled made [] → mid ≡ made ++ calls_of s own a → b ≡ after_all own a → AreServed s mid later ds b
+      → AreServed s made later (own ++ ds) a
+  behind_own made mid later ds b settled calls is served =
+      in_order s made later (own ++ ds) a none settled
+      (served.calls
+      ∙ ap (λ (cs : List Call). cs ++ calls_of s ds b) calls
+      ∙ ap (λ (r : Running). (made ++ calls_of s own a) ++ calls_of s ds r) is
+      ∙ append_assoc made (calls_of s own a) (calls_of s ds (after_all own a))
+      ∙ ap (λ (cs : List Call). made ++ cs) (sym (calls_append s own ds a)))
+      (ordered_then s made own ds a (all_quiet s made own a quiet (settled_with made a.works none settled)).ordered
+      (subst (λ (r : Running). IsOrdered s (made ++ calls_of s own a) ds r) is
+      (subst (λ (cs : List Call). IsOrdered s cs ds b) calls served.ordered)))
+
+  -- nothing is under way behind them
+  still_settled : (made mid : List Call) → IsSettled made [] → mid ≡ made ++ calls_of s own a → (after_all own a).works ≡ [] → IsSettled mid []
+  still_settled made mid settled calls left =
+      subst (λ (cs : List Call). IsSettled cs []) (sym calls)
+      (subst (λ (x : List Work). IsSettled (made ++ calls_of s own a) x) left (all_quiet s made own a quiet (settled_with made a.works none settled)).settled)
+
+  -- told of the stories before, between and behind
+  pub serves_behind : (ds : List Deed) (b : Running) (x y z : Option (List Call)) → (after_all own a).works ≡ [] → b ≡ after_all own a → AddsAll (calls_of s own a) x y → Follows y z
+      → ((made later : List Call) → y ≡ Some made → z ≡ Some later → IsSettled made [] → AreServed s made later ds b) → ServesFrom s (own ++ ds) a x z
+  serves_behind ds b x y None left is adds follows served = tt
+  serves_behind ds b None None (Some z) left is adds follows served = absurd follows
+  serves_behind ds b None (Some y) (Some z) left is adds follows served = absurd adds
+  serves_behind ds b (Some x) None (Some z) left is adds follows served = absurd follows
+  serves_behind ds b (Some x) (Some y) (Some z) left is adds follows served = λ settled.
+      behind_own x y z ds b settled adds is (served y z refl refl (still_settled x y settled adds left))
+
+  -- a front of them
+  pub serves_front : (ds behind : List Deed) (x z : Option (List Call)) → own ≡ ds ++ behind → AddsAll (calls_of s ds a) x z → ServesFrom s ds a x z
+  serves_front ds behind x None front adds = tt
+  serves_front ds behind None (Some z) front adds = absurd adds
+  serves_front ds behind (Some x) (Some z) front adds = λ settled.
+      in_order s x z ds a none settled adds
+      (ordered_front s x ds behind a (subst (λ (es : List Deed). IsOrdered s x es a) front (all_quiet s x own a quiet (settled_with x a.works none settled)).ordered))
+
+-- told of the calls until then
+pub serves_until : (s : Setting) (ds : List Deed) (a : Running) (x z : Option (List Call)) → ServesFrom s ds a x z → ServesFrom s ds a (until x z) z
+serves_until s ds a x None serves = tt
+serves_until s ds a None (Some z) serves = absurd serves
+serves_until s ds a (Some x) (Some z) serves = serves
+
+-- Each request is answered by the step of its input
+
+-- deeds behind which any may come
+answered_then : (answer : Answer) (back : Option Message) (s : Setting) (ds es : List Deed) (a : Running) → AreAnsweredBy answer back s ds a
+    → ((x : Answer) (y : Option Message) → AreAnsweredBy x y s es (after_all ds a)) → AreAnsweredBy answer back s (ds ++ es) a
+answered_then answer back s [] es a first more = more answer back
+answered_then answer back s (d ∷ ds) es a first more = (first.0, answered_then (answer_of answer d a) (back_of back d a) s ds es (after d a) (first.1) more)
+
+answered_front : (answer : Answer) (back : Option Message) (s : Setting) (ds es : List Deed) (a : Running) → AreAnsweredBy answer back s (ds ++ es) a → AreAnsweredBy answer back s ds a
+answered_front answer back s [] es a all = tt
+answered_front answer back s (d ∷ ds) es a all = (all.0, answered_front (answer_of answer d a) (back_of back d a) s ds es (after d a) (all.1))
+
+one_answered : (answer : Answer) (back : Option Message) (s : Setting) (i : Input) (b : Bool) (a : Running) → AreAnsweredBy answer back s (if b then Takes i ∷ [] else []) a
+one_answered answer back s i true a = (tt, tt)
+one_answered answer back s i false a = tt
+
+own_answered : (answer : Answer) (back : Option Message) (s : Setting) (me : ℕ) (ms : List Measure) (a : Running) → AreAnsweredBy answer back s (own_measures me ms) a
+own_answered answer back s me [] a = tt
+own_answered answer back s me (x ∷ ms) a =
+    answered_then answer back s (own_measure me x) (own_measures me ms) a (one_answered answer back s (Measured x.peer x.rate x.hops) (x.from == me) a)
+    (λ p q. own_answered p q s me ms (after_all (own_measure me x) a))
+
+-- a turn begins with a reading of the clock, so it is all the same what was answered before
+turn_answered : (answer : Answer) (back : Option Message) (s : Setting) (t : Told) (m : Machine) → AreAnsweredBy answer back s (turn_deeds s t m) m.running
+turn_answered answer back s t m = turn_answers m.pace m.probing t s m.running
+
+turns_answered : (answer : Answer) (back : Option Message) (s : Setting) (ts : List Told) (m : Machine) → AreAnsweredBy answer back s (turns_deeds s ts m) m.running
+turns_answered answer back s [] m = tt
+turns_answered answer back s (t ∷ ts) m =
+    answered_then answer back s (turn_deeds s t m) (turns_deeds s ts (behind_turn s t m)) m.running (turn_answered answer back s t m)
+    (λ p q. turns_answered p q s ts (behind_turn s t m))
+
+begins_answered : (answer : Answer) (back : Option Message) (s : Setting) (ms : List Measure) (n : Node) (a : Running) → AreAnsweredBy answer back s (begins s ms n) a
+begins_answered answer back s ms n a = (tt, own_answered answer back s s.me ms a)
+
+pub node_answered : (s : Setting) (ms : List Measure) (ts : List Told) (m : Machine) → AreAnswered s (node_deeds s ms ts m) m.running
+node_answered s ms ts m =
+    answered_then answers.Ok None s (begins s ms m.running.node) (turns_deeds s ts (begun s ms m)) m.running (begins_answered answers.Ok None s ms m.running.node m.running)
+    (λ p q. turns_answered p q s ts (begun s ms m))
+
+-- the node behind turns is the one behind their deeds
+turns_behind : (s : Setting) (ts : List Told) (m : Machine) → (behind_turns s ts m).running ≡ after_all (turns_deeds s ts m) m.running
+turns_behind s [] m = refl
+turns_behind s (t ∷ ts) m = turns_behind s ts (behind_turn s t m) ∙ sym (after_append (turn_deeds s t m) (turns_deeds s ts (behind_turn s t m)) m.running)
+
+pub node_behind_deeds : (s : Setting) (ms : List Measure) (ts : List Told) (m : Machine) → (node_behind s ms ts m).running ≡ after_all (node_deeds s ms ts m) m.running
+node_behind_deeds s ms ts m = turns_behind s ts (begun s ms m) ∙ sym (after_append (begins s ms m.running.node) (turns_deeds s ts (begun s ms m)) m.running)
+
+-- a front of all that is done, and of one more turn
+pub front_answered : (s : Setting) (ms : List Measure) (ts : List Told) (last : Told) (m : Machine) (deeds : List Deed) (under : Under)
+    → Cuts (node_deeds s ms ts m ++ turn_deeds s last (node_behind s ms ts m)) deeds under → AreAnswered s deeds m.running
+front_answered s ms ts last m deeds under cut =
+    answered_front answers.Ok None s deeds cut.behind m.running
+    (subst (λ (ds : List Deed). AreAnswered s ds m.running) cut.front
+    (answered_then answers.Ok None s (node_deeds s ms ts m) (turn_deeds s last (node_behind s ms ts m)) m.running (node_answered s ms ts m)
+    (λ p q. subst (λ (r : Running). AreAnsweredBy p q s (turn_deeds s last (node_behind s ms ts m)) r) (node_behind_deeds s ms ts m) (turn_answered p q s last (node_behind s ms ts m)))))

@@ -1,0 +1,18 @@
+-- Turns that do alike with a request.
+use Rattle.std.specs.Prelude.{◌≡◌, ℕ, List}
+use Rattle.oc_events.specs.Traffic.{given}
+use Rattle.oc_events.specs.declared.event.Arrival.{Arrival}
+use Rattle.oc_events.specs.declared.event.Event.TheVariants.{Request}
+use Rattle.oc_server.specs.Deeds.{Deed, Running, Setting, after_all, calls_of, lines}
+use Rattle.oc_server.specs.Turns.{Told}
+use Rattle.oc_server.specs.declared.came.Came.{Came}
+
+-- a turn is told a request, by which these bytes came new, and which means this
+abbrev pub told_request : Told → Arrival → List ℕ → Came → Told
+told_request t a bytes came = record t { event = Request a; bytes = bytes; came = came }
+
+-- From one node two lists of deeds write the same lines, give each connection the same, and leave the same node.
+pub record AreAlike (s : Setting) (ds es : List Deed) (a : Running) : Type 0 where
+  pub lines_are : lines s ds ≡ lines s es
+  pub given_are : (c : ℕ) → given c (calls_of s ds a) ≡ given c (calls_of s es a)
+  pub node_is : after_all ds a ≡ after_all es a
